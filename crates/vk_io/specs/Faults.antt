@@ -1,0 +1,28 @@
+-- Counts of faults, and the calls of an object in memory that is told which of them fail.
+use Rattle.std.specs.Prelude.{ℕ, ◌+◌, ◌-◌, ◌^◌, ◌≤◌, ◌==◌, min, List, Bool, if◌then◌else◌}
+use Rattle.std.specs.List.{list_any}
+
+-- one more, or the greatest u64 where the number stands there
+abbrev pub one_more : ℕ → ℕ
+one_more n = min (n + 1) (2 ^ 64 - 1)
+
+-- a count of faults rose, or it stands at the greatest u64
+abbrev pub Rose : ℕ → ℕ → Type 0
+Rose before now = one_more before ≤ now
+
+-- the calls of an object in memory: how many there were, which are to fail, and how many did
+pub record Calls : Type 0 where
+  pub made : ℕ
+  pub failing : List ℕ
+  pub faults : ℕ
+
+-- whether the next call is one that is to fail
+abbrev pub fails_next : Calls → Bool
+fails_next calls = list_any (λ n. n == one_more calls.made) calls.failing
+
+-- the count after the next call
+abbrev pub after_call : Calls → Calls
+after_call calls = record calls {
+    made = one_more calls.made;
+    faults = if fails_next calls then one_more calls.faults else calls.faults;
+  }

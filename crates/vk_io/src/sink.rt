@@ -1,0 +1,21 @@
+ghost use Rattle.std.specs.Prelude.{◌≡◌, ℕ, ◌≤◌, List, Option, IsErrOf};
+ghost use Rattle.vk_io.specs.Faults.{Rose};
+ghost use Rattle.vk_io.specs.Files.{Told, Takes};
+
+use crate::errors::SinkErr;
+
+/// What is printed goes here. A sink that tells its content has `taken`. No call changes whether it
+/// tells.
+pub trait Sink {
+    /// The bytes taken so far, where they are told.
+    ghost taken: { Self → Option (List ℕ) };
+
+    /// How many faults of the outside were met. It never falls.
+    ghost faults: { Self → ℕ };
+
+    /// Takes the piece. Refused, a prefix of it was taken.
+    fn put(&mut self, piece: &[u8]) -> Result<(), SinkErr>
+        ensures put { Told (Takes piece.now result) (taken self.old) (taken self.new) }
+        ensures later { faults self.old ≤ faults self.new }
+        ensures failed { IsErrOf result SinkErr.Failed → Rose (faults self.old) (faults self.new) };
+}
