@@ -1,4 +1,4 @@
-ghost use Rattle.std.specs.Prelude.{◌≡◌, ◌++◌, [], ◌∷◌, OnOk, OnErr};
+ghost use Rattle.std.specs.Prelude.{◌≡◌, ◌≤◌, ◌++◌, [], ◌∷◌, OnOk, OnErr};
 ghost use Rattle.vk_io.specs.Faults.{fails_next, after_call};
 
 use std::alloc::Global;
@@ -47,6 +47,7 @@ impl CallCount {
     pub fn count(&mut self) -> bool
         ensures fails { result ≡ fails_next self.old }
         ensures counted { self.new ≡ after_call self.old }
+        ensures later { self.old.faults ≤ self.new.faults }
     {
         self.made = self.made.saturating_add(1);
         let fails = self.failing.contains(&self.made);

@@ -1,5 +1,6 @@
 use std::alloc::{AllocError, AllocFailed};
 use thiserror::Error;
+use vk_residue::NoMemory;
 
 /// Why a call of a shelf was refused.
 #[derive(Clone, Copy, Debug, PartialEq, Eq, Error)]
@@ -53,5 +54,16 @@ impl From<AllocError> for SinkErr {
 
     fn from(_refused: AllocError) -> SinkErr {
         SinkErr::NoMemory
+    }
+}
+
+impl From<NoMemory> for ShelfErr {
+    ghost use Rattle.std.specs.Prelude.{◌≡◌};
+    ghost use Rattle.vk_io.specs.declared.errors.ShelfErr.TheVariants.{NoMemory};
+
+    ghost from_gives = { λ _ e. e ≡ NoMemory };
+
+    fn from(_refused: NoMemory) -> ShelfErr {
+        ShelfErr::NoMemory
     }
 }

@@ -4,11 +4,15 @@
 
 mod calls;
 mod errors;
+mod mem_shelf;
+mod mem_sink;
 mod named;
 mod shelf;
 mod sink;
 
 pub use calls::CallCount;
 pub use errors::{ShelfErr, SinkErr};
+pub use mem_shelf::MemShelf;
+pub use mem_sink::MemSink;
 pub use shelf::Shelf;
 pub use sink::Sink;

@@ -1,7 +1,7 @@
-ghost use Rattle.std.specs.Prelude.{◌≡◌, ℕ, ◌<◌, ◌++◌, length, slice_index_or, IfSome, IfNone, None, Some, OnOk, OnErr};
+ghost use Rattle.std.specs.Prelude.{◌≡◌, ℕ, ◌<◌, ◌++◌, length, drop, option_map, slice_index_or, IfSome, IfNone, None, Some, OnOk, OnErr};
 ghost use Rattle.std.specs.FinMap as map;
 ghost use Rattle.std.specs.String.{string_bytes};
-ghost use Rattle.vk_io.specs.Files.{bytes_of};
+ghost use Rattle.vk_io.specs.Files.{bytes_of, part_of};
 ghost use Rattle.vk_io.specs.Named.{files_in, IsPlaceOf};
 ghost use Rattle.vk_io.specs.declared.named.NamedFile.{NamedFile};
 
@@ -94,5 +94,42 @@ pub fn append_to(
             files.push(NamedFile { name, bytes })?;
             Ok(())
         }
+    }
+}
+
+/// How many bytes the named file has. None where no file has the name.
+pub fn length_in(files: &[NamedFile], name: &str) -> Option<u64>
+    ensures { result ≡ option_map length (map.get (files_in files.now) name.now) }
+{
+    match bytes_at(files, name) {
+        Some(bytes) => Some(bytes.len() as u64),
+        None => None,
+    }
+}
+
+/// Puts the bytes from `at` on into the front of `into`, as many as are left or fit, and answers
+/// their number.
+fn put_part(bytes: &[u8], at: u64, into: &mut [u8]) -> usize
+    ensures count { result ≡ length (part_of bytes.now at (length into.old)) }
+    ensures bytes { into.new ≡ part_of bytes.now at (length into.old) ++ drop result into.old }
+{
+    let from = at.min(bytes.len() as u64) as usize;
+    let (_, rest) = bytes.split_at(from);
+    let count = rest.len().min(into.len());
+    let (piece, _) = rest.split_at(count);
+    into[..count].copy_from_slice(piece);
+    count
+}
+
+/// Puts bytes of the named file into the front of `into`, as [`put_part`] does, and none where no
+/// file has the name.
+pub fn read_in(files: &[NamedFile], name: &str, at: u64, into: &mut [u8]) -> usize
+    ensures count { result ≡ length (part_of (bytes_of (files_in files.now) name.now) at (length into.old)) }
+    ensures bytes { into.new
+        ≡ part_of (bytes_of (files_in files.now) name.now) at (length into.old) ++ drop result into.old }
+{
+    match bytes_at(files, name) {
+        Some(bytes) => put_part(bytes, at, into),
+        None => 0,
     }
 }

@@ -1,0 +1,147 @@
+ghost use Rattle.std.specs.Prelude.{◌≡◌, ℕ, ◌+◌, ◌≤◌, ◌++◌, ◌↔◌, [], ◌∷◌, length, drop, Option, Some, Ok, Err, option_map, option_copied, IfSome, IfOk, OnOk, OnErr, IsErrOf, MatchResult, IsTrue, if◌then◌else◌};
+ghost use Rattle.std.specs.FinMap as map;
+ghost use Rattle.vk_io.specs.Faults.{Rose, fails_next, after_call};
+ghost use Rattle.vk_io.specs.Files.{bytes_of, part_of, Told, Creates, Appends};
+ghost use Rattle.vk_io.specs.declared.errors.ShelfErr.TheVariants.{Failed};
+
+use crate::calls::CallCount;
+use crate::errors::ShelfErr;
+use crate::named::{NamedFile, append_to, bytes_at, length_in, read_in, write_over};
+use crate::shelf::Shelf;
+use std::alloc::Global;
+use std::marker::Model;
+use vk_residue::NoMemory;
+
+/// A shelf in memory, which tells its files. The calls of the trait are counted from 1 over its
+/// life, and those that [`MemShelf::fail_at`] named fail and change no file.
+#[derive(Drop)]
+pub struct MemShelf {
+    files: Vec<NamedFile>,
+    calls: CallCount,
+    alloc: Global,
+}
+
+impl Model for MemShelf {
+    ghost use Rattle.vk_io.specs.Memory.{MemoryFiles, files_code};
+
+    ghost Value = { MemoryFiles };
+
+    ghost coded = { files_code };
+
+    ghost use Rattle.vk_io.specs.Named.{files_in};
+
+    ghost view = { λ s. record { files = files_in s.files.items; calls = s.calls } };
+}
+
+impl MemShelf {
+    /// No files, and no call that is to fail. What is held later is made with this allocator.
+    #[tactic(auto, unfolding(crate::specs::Named::files_in))]
+    pub fn new(alloc: Global) -> MemShelf
+        ensures { result ≡ record { files = map.empty; calls = record { made = 0; failing = []; faults = 0 } } }
+    {
+        MemShelf {
+            files: Vec::new(alloc),
+            calls: CallCount::new(alloc),
+            alloc,
+        }
+    }
+
+    /// Makes the named file hold these bytes. It is no call of the trait, and is not counted. Errs
+    /// for want of memory alone, and then nothing changed.
+    pub fn put_file(&mut self, name: &str, bytes: &[u8]) -> Result<(), NoMemory>
+        ensures put { OnOk result (self.new ≡ record self.old { files = map.insert self.old.files name.now bytes.now }) }
+        ensures refused { OnErr result (self.new ≡ self.old) }
+    {
+        let bytes = Vec::from_slice(self.alloc, bytes)?;
+        write_over(self.alloc, &mut self.files, name, bytes)?;
+        Ok(())
+    }
+
+    /// What the named file holds. None where the name isn't held.
+    pub fn file(&self, name: &str) -> Option<&[u8]>
+        ensures { option_copied result ≡ map.get self.now.files name.now }
+    {
+        bytes_at(&self.files, name)
+    }
+
+    /// Has the call of that number fail, counted from 1 over the shelf's life. Errs for want of
+    /// memory alone, and then nothing changed.
+    pub fn fail_at(&mut self, call: u64) -> Result<(), NoMemory>
+        ensures named { OnOk result
+            (self.new ≡ record self.old { calls = record self.old.calls { failing = self.old.calls.failing ++ call ∷ [] } }) }
+        ensures refused { OnErr result (self.new ≡ self.old) }
+    {
+        self.calls.name(call)?;
+        Ok(())
+    }
+}
+
+impl Shelf for MemShelf {
+    ghost use Rattle.std.specs.Prelude.{Some};
+
+    ghost held = { λ s. Some s.files };
+
+    ghost faults = { λ s. s.calls.faults };
+
+    fn length(&mut self, name: &str) -> Result<Option<u64>, ShelfErr>
+        ensures exact { result ≡ (if fails_next self.old.calls then Err Failed
+            else Ok (option_map length (map.get self.old.files name.now))) }
+        ensures files { self.new.files ≡ self.old.files }
+        ensures counted { self.new.calls ≡ after_call self.old.calls }
+        ensures later { self.old.calls.faults ≤ self.new.calls.faults }
+        ensures failed { IsErrOf result ShelfErr.Failed → Rose self.old.calls.faults self.new.calls.faults }
+    {
+        if self.calls.count() {
+            return Err(ShelfErr::Failed);
+        }
+        Ok(length_in(&self.files, name))
+    }
+
+    fn read_at(&mut self, name: &str, at: u64, into: &mut [u8]) -> Result<usize, ShelfErr>
+        ensures exact { result ≡ (if fails_next self.old.calls then Err Failed
+            else Ok (length (part_of (bytes_of self.old.files name.now) at (length into.old)))) }
+        ensures read { IfOk result (λ n. into.new
+            ≡ part_of (bytes_of self.old.files name.now) at (length into.old) ++ drop n into.old) }
+        ensures unread { OnErr result (into.new ≡ into.old) }
+        ensures files { self.new.files ≡ self.old.files }
+        ensures counted { self.new.calls ≡ after_call self.old.calls }
+        ensures later { self.old.calls.faults ≤ self.new.calls.faults }
+        ensures failed { IsErrOf result ShelfErr.Failed → Rose self.old.calls.faults self.new.calls.faults }
+    {
+        if self.calls.count() {
+            return Err(ShelfErr::Failed);
+        }
+        Ok(read_in(&self.files, name, at, into))
+    }
+
+    fn create(&mut self, name: &str) -> Result<(), ShelfErr>
+        ensures fails { IsErrOf result ShelfErr.Failed ↔ IsTrue (fails_next self.old.calls) }
+        ensures created { OnOk result (self.new.files ≡ map.insert self.old.files name.now []) }
+        ensures refused { OnErr result (self.new.files ≡ self.old.files) }
+        ensures counted { self.new.calls ≡ after_call self.old.calls }
+        ensures later { self.old.calls.faults ≤ self.new.calls.faults }
+        ensures failed { IsErrOf result ShelfErr.Failed → Rose self.old.calls.faults self.new.calls.faults }
+    {
+        if self.calls.count() {
+            return Err(ShelfErr::Failed);
+        }
+        write_over(self.alloc, &mut self.files, name, Vec::new(self.alloc))?;
+        Ok(())
+    }
+
+    fn append(&mut self, name: &str, piece: &[u8]) -> Result<(), ShelfErr>
+        ensures fails { IsErrOf result ShelfErr.Failed ↔ IsTrue (fails_next self.old.calls) }
+        ensures appended { OnOk result
+            (self.new.files ≡ map.insert self.old.files name.now (bytes_of self.old.files name.now ++ piece.now)) }
+        ensures refused { OnErr result (self.new.files ≡ self.old.files) }
+        ensures counted { self.new.calls ≡ after_call self.old.calls }
+        ensures later { self.old.calls.faults ≤ self.new.calls.faults }
+        ensures failed { IsErrOf result ShelfErr.Failed → Rose self.old.calls.faults self.new.calls.faults }
+    {
+        if self.calls.count() {
+            return Err(ShelfErr::Failed);
+        }
+        append_to(self.alloc, &mut self.files, name, piece)?;
+        Ok(())
+    }
+}

@@ -1,0 +1,79 @@
+ghost use Rattle.std.specs.Prelude.{◌≡◌, ℕ, ◌≤◌, ◌++◌, ◌↔◌, [], ◌∷◌, OnOk, OnErr, IsErrOf, IsTrue};
+ghost use Rattle.vk_io.specs.Faults.{Rose, fails_next, after_call};
+ghost use Rattle.vk_io.specs.Files.{Told, Takes};
+
+use crate::calls::CallCount;
+use crate::errors::SinkErr;
+use crate::sink::Sink;
+use std::alloc::Global;
+use std::marker::Model;
+use vk_residue::NoMemory;
+
+/// A sink in memory, which tells what it took. Calls of `put` are counted from 1 over its life, and
+/// those that [`MemSink::fail_at`] named fail and take nothing.
+#[derive(Drop)]
+pub struct MemSink {
+    taken: Vec<u8>,
+    calls: CallCount,
+}
+
+impl Model for MemSink {
+    ghost use Rattle.vk_io.specs.Memory.{MemoryBytes};
+
+    ghost Value = { MemoryBytes };
+
+    ghost view = { λ s. record { taken = s.taken.items; calls = s.calls } };
+}
+
+impl MemSink {
+    /// Nothing taken, and no call that is to fail.
+    pub fn new(alloc: Global) -> MemSink
+        ensures { result ≡ record { taken = []; calls = record { made = 0; failing = []; faults = 0 } } }
+    {
+        MemSink {
+            taken: Vec::new(alloc),
+            calls: CallCount::new(alloc),
+        }
+    }
+
+    /// The bytes taken so far.
+    pub fn bytes(&self) -> &[u8]
+        ensures { result.now ≡ self.now.taken }
+    {
+        self.taken.as_slice()
+    }
+
+    /// Has the `put` of that number fail, counted from 1 over the sink's life. Errs for want of
+    /// memory alone, and then nothing changed.
+    pub fn fail_at(&mut self, call: u64) -> Result<(), NoMemory>
+        ensures named { OnOk result
+            (self.new ≡ record self.old { calls = record self.old.calls { failing = self.old.calls.failing ++ call ∷ [] } }) }
+        ensures refused { OnErr result (self.new ≡ self.old) }
+    {
+        self.calls.name(call)?;
+        Ok(())
+    }
+}
+
+impl Sink for MemSink {
+    ghost use Rattle.std.specs.Prelude.{Some};
+
+    ghost taken = { λ s. Some s.taken };
+
+    ghost faults = { λ s. s.calls.faults };
+
+    fn put(&mut self, piece: &[u8]) -> Result<(), SinkErr>
+        ensures fails { IsErrOf result SinkErr.Failed ↔ IsTrue (fails_next self.old.calls) }
+        ensures put { OnOk result (self.new.taken ≡ self.old.taken ++ piece.now) }
+        ensures refused { OnErr result (self.new.taken ≡ self.old.taken) }
+        ensures counted { self.new.calls ≡ after_call self.old.calls }
+        ensures later { self.old.calls.faults ≤ self.new.calls.faults }
+        ensures failed { IsErrOf result SinkErr.Failed → Rose self.old.calls.faults self.new.calls.faults }
+    {
+        if self.calls.count() {
+            return Err(SinkErr::Failed);
+        }
+        self.taken.extend_from_slice(piece)?;
+        Ok(())
+    }
+}
