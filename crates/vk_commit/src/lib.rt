@@ -1,0 +1,14 @@
+//! Commitments to residues: where one stands, its digest, and two openings of one digest.
+#![tactic(auto)]
+
+mod commitment;
+mod laws;
+mod place;
+#[cfg(test)]
+mod tests;
+mod two_openings;
+
+pub use commitment::{commit, opens};
+pub use laws::messages_tell_values_apart;
+pub use place::{Opening, Place};
+pub use two_openings::TwoOpenings;
