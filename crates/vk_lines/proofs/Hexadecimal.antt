@@ -1,0 +1,125 @@
+-- Lower-case hexadecimal: writing byte by byte, and both directions between bytes and their text.
+use Rattle.std.proofs.Common.{◌≡◌, ℕ, suc, ◌+◌, ◌-◌, ◌*◌, ◌/◌, ◌%◌, ◌<◌, ◌≤◌, nat_lt, Bool, true, false, ◌&&◌, if◌then◌else◌, inl, inr, List, [], ◌∷◌, ◌++◌, length, take, get_or, slice_index, Option, Some, None, Result, Ok, Err, refl, ap, sym, ◌∙◌, arith, rules}
+use Rattle.std.specs.List.{list_all}
+use Rattle.std.specs.Result.{result_ok}
+use Rattle.std.proofs.lemmas.Bool.{and_parts, cases_lt}
+use Rattle.std.proofs.lemmas.Bool.Decides.{nat_tests}
+use Rattle.std.proofs.lemmas.List.{take_more}
+use Rattle.hex.specs.Hex.{IsBytes, encode_with, lower_digits, decode_of, decode_pairs, decode_sized, digit_or_error, hex_digit_value, pair_value, value_at}
+use Rattle.hex.specs.declared.error.FromHexError.{FromHexError}
+use Rattle.hex.proofs.HexLemmas.{length-encode_with, decode_of-even, decode_of-ok, decode_sized-ok, decode_sized-twice, decode_sized-encode_lower}
+use Rattle.hex.proofs.Pairs.{cons_byte, decode_pairs-ok_pair}
+use Rattle.vk_lines.specs.Tokens.{hex_text, hex_of, is_lower_digit, ReadsHex}
+
+encode_with-push : (table bytes : List ℕ) (b : ℕ)
+    → encode_with table (bytes ++ b ∷ []) ≡ encode_with table bytes ++ slice_index table (b / 16) ∷ slice_index table (b % 16) ∷ []
+unfolding encode_with
+encode_with-push table [] b = refl
+encode_with-push table (x ∷ bytes) b = ap (λ rest. slice_index table (x / 16) ∷ slice_index table (x % 16) ∷ rest) (encode_with-push table bytes b)
+
+-- one more byte
+pub hex_text_more : (bytes : List ℕ) (i : ℕ) → i < length bytes
+    → hex_text (take (i + 1) bytes) ≡ hex_text (take i bytes) ++ slice_index lower_digits (get_or bytes i 0 / 16) ∷ slice_index lower_digits (get_or bytes i 0 % 16) ∷ []
+hex_text_more bytes i within = ap (encode_with lower_digits) (take_more bytes i 0 within) ∙ encode_with-push lower_digits (take i bytes) (get_or bytes i 0)
+
+-- no bytes have the empty text
+pub hex_text_none : (bytes : List ℕ) → bytes ≡ [] → hex_text bytes ≡ []
+unfolding encode_with
+hex_text_none bytes none = rw none refl
+
+-- ---- both directions between bytes and their text
+
+-- the digit of a value below 16
+digit_of : (v : ℕ) → v < 16 → slice_index lower_digits v ≡ (if nat_lt v 10 then 48 + v else 87 + v)
+digit_of v small = search rules
+
+-- a lower-case digit has a value, and is that value's digit
+lower_value : (c : ℕ) → is_lower_digit c ≡ true → (v : ℕ) × (v < 16) × (hex_digit_value c ≡ Some v) × (slice_index lower_digits v ≡ c)
+lower_value c lower =
+    elim (cases_lt c 58) [
+      | inl digit ↦
+          let value : hex_digit_value c ≡ Some (c - 48) = grind (arith, nat_tests) in
+          let low : 48 ≤ c = grind (arith, nat_tests) in
+          let small : c - 48 < 16 = omega arith in
+          (c - 48, small, value, digit_of (c - 48) small ∙ grind (arith, nat_tests))
+      | inr letter ↦
+          let value : hex_digit_value c ≡ Some (c - 87) = grind (arith, nat_tests) in
+          let low : 97 ≤ c = grind (arith, nat_tests) in
+          let high : c ≤ 102 = grind (arith, nat_tests) in
+          let small : c - 87 < 16 = omega arith in
+          (c - 87, small, value, digit_of (c - 87) small ∙ grind (arith, nat_tests))
+    ]
+
+-- lower-case digits are the text of the bytes that their pairs write
+lower_pairs : (i : ℕ) (text : List ℕ) → length text % 2 ≡ 0 → list_all is_lower_digit text ≡ true
+    → (bytes : List ℕ) × (decode_pairs i text ≡ Ok bytes) × (hex_text bytes ≡ text)
+unfolding decode_pairs encode_with
+lower_pairs i [] even lower = ([], refl, refl)
+lower_pairs i (a ∷ []) even lower = absurd (omega arith)
+lower_pairs i (a ∷ b ∷ text) even lower =
+    let front = and_parts (is_lower_digit a) (is_lower_digit b && list_all is_lower_digit text) lower in
+    let next = and_parts (is_lower_digit b) (list_all is_lower_digit text) front.1 in
+    let high = lower_value a front.0 in
+    let low = lower_value b next.0 in
+    let rest = lower_pairs (i + 2) text (omega arith) next.1 in
+    let ha : value_at a i ≡ Ok high.0 = ap (digit_or_error a i) high.2 in
+    let hb : value_at b (i + 1) ≡ Ok low.0 = ap (digit_or_error b (i + 1)) low.2 in
+    let pair : pair_value a b i ≡ Ok (high.0 * 16 + low.0) = rw (ha, hb) refl in
+    let over : (high.0 * 16 + low.0) / 16 ≡ high.0 = omega arith in
+    let under : (high.0 * 16 + low.0) % 16 ≡ low.0 = omega arith in (
+      (high.0 * 16 + low.0) ∷ rest.0,
+      decode_pairs-ok_pair i a b _ text pair ∙ ap (cons_byte (high.0 * 16 + low.0)) rest.1,
+      rw (over, under, high.3, low.3, rest.2) refl,
+    )
+
+-- the text of bytes has lower-case digits alone
+hex_text-lower : (bytes : List ℕ) → IsBytes bytes → list_all is_lower_digit (hex_text bytes) ≡ true
+unfolding encode_with
+hex_text-lower [] fit = refl
+hex_text-lower (b ∷ bytes) fit =
+    let byte : b < 256 = fit 0 in
+    let high = digit_of (b / 16) (omega arith) in
+    let low = digit_of (b % 16) (omega arith) in
+    let rest = hex_text-lower bytes (λ k. fit (suc k)) in
+    let ha : is_lower_digit (slice_index lower_digits (b / 16)) ≡ true = rw high (grind (arith, nat_tests)) in
+    let hb : is_lower_digit (slice_index lower_digits (b % 16)) ≡ true = rw low (grind (arith, nat_tests)) in
+    rw (ha, hb, rest) refl
+
+ok_of_some : (r : Result (List ℕ) FromHexError) (bytes : List ℕ) → result_ok r ≡ Some bytes → r ≡ Ok bytes
+ok_of_some (Ok xs) bytes h = cc
+ok_of_some (Err e) bytes h = cc
+
+some_where : (test : Bool) (o : Option (List ℕ)) (bytes : List ℕ) → (if test then o else None) ≡ Some bytes → (test ≡ true) × (o ≡ Some bytes)
+some_where true o bytes h = (refl, h)
+some_where false o bytes h = cc
+
+-- what is read as bytes is their text
+pub hex_of-some : (count : ℕ) (text bytes : List ℕ) → hex_of count text ≡ Some bytes → (length bytes ≡ count) × IsBytes bytes × (text ≡ hex_text bytes)
+unfolding hex_of
+hex_of-some count text bytes h =
+    let found = some_where (list_all is_lower_digit text) (result_ok (decode_sized text count)) bytes h in
+    let sized = ok_of_some (decode_sized text count) bytes found.1 in
+    let long = decode_sized-ok text count bytes sized in
+    let even : length text % 2 ≡ 0 = omega arith in
+    let whole : decode_of text ≡ Ok bytes = sym (decode_sized-twice text count long) ∙ sized in
+    let facts = decode_of-ok text bytes whole in
+    let lower = lower_pairs 0 text even found.0 in
+    let same : Ok lower.0 ≡ Ok bytes = sym lower.1 ∙ sym (decode_of-even text even) ∙ whole in
+    let bytes_same : lower.0 ≡ bytes = cc same in
+    (omega (arith, facts.2), facts.3, sym lower.2 ∙ ap hex_text bytes_same)
+
+-- and the text of bytes is read as them
+pub hex_of-hex_text : (count : ℕ) (bytes : List ℕ) → length bytes ≡ count → IsBytes bytes → hex_of count (hex_text bytes) ≡ Some bytes
+unfolding hex_of
+hex_of-hex_text count bytes long fit = rw (hex_text-lower bytes fit, decode_sized-encode_lower bytes count long fit) refl
+
+-- two digits for each byte
+pub length-hex_text : (bytes : List ℕ) → length (hex_text bytes) ≡ 2 * length bytes
+length-hex_text bytes = length-encode_with lower_digits bytes
+
+-- both directions
+pub ReadsHex-hex_of : (count : ℕ) (text : List ℕ) (result : Option (List ℕ)) → result ≡ hex_of count text → ReadsHex count text result
+ReadsHex-hex_of count text result value bytes = (
+  λ some. hex_of-some count text bytes (sym value ∙ some),
+  λ facts. value ∙ ap (hex_of count) facts.2 ∙ hex_of-hex_text count bytes facts.0 facts.1,
+)

@@ -1,0 +1,48 @@
+-- The pieces of a line: numbers, bytes in hexadecimal, and the fields between spaces.
+use Rattle.std.specs.Prelude.{◌≡◌, ◌≤◌, ◌↔◌, ℕ, ◌+◌, ◌-◌, ◌*◌, ◌==◌, ◌&&◌, ◌||◌, nat_le, nat_lt, Bool, if◌then◌else◌, List, length, slice_index, decimal, not, Option, Some, None}
+use Rattle.std.specs.List.{list_all, slice_split}
+use Rattle.std.specs.Str.{all_ascii_digits}
+use Rattle.std.specs.Char.{is_ascii_digit}
+use Rattle.std.specs.Str.Parse.{digits_value}
+use Rattle.std.specs.Result.{result_ok}
+use Rattle.hex.specs.Hex.{IsBytes, encode_lower, decode_sized}
+
+-- the fields of a line: its pieces between single spaces, of which some may be empty
+abbrev pub fields_of : List ℕ → List (List ℕ)
+fields_of text = slice_split (λ byte. byte == 32) text
+
+-- whether a text is not empty and has no zero before another character
+abbrev pub starts_canonical : List ℕ → Bool
+starts_canonical text = length text == 1 || (nat_lt 1 (length text) && not (slice_index text 0 == 48))
+
+-- whether a text is one or more decimal digits, with no zero before another digit
+abbrev pub is_canonical : List ℕ → Bool
+is_canonical text = starts_canonical text && all_ascii_digits text
+
+-- the number whose canonical decimal a text is, if it is at most `most`
+unfoldable pub decimal_of : ℕ → List ℕ → Option ℕ
+decimal_of most text = if is_canonical text && nat_le (digits_value 10 text) most then Some (digits_value 10 text) else None
+
+-- a decimal is read exactly from its text: the canonical decimals of the numbers up to `most`, and no other text
+abbrev pub ReadsDecimal : ℕ → List ℕ → Option ℕ → Type 0
+ReadsDecimal most text result = (n : ℕ) → (result ≡ Some n) ↔ ((n ≤ most) × (text ≡ decimal n))
+
+-- the number whose digits are those of `number` and then this one, if it is one and the number is at most `most`
+abbrev pub next_number : ℕ → ℕ → ℕ → Option ℕ
+next_number most number digit = if is_ascii_digit digit && nat_le (10 * number + (digit - 48)) most then Some (10 * number + (digit - 48)) else None
+
+-- bytes as text: two lower-case hexadecimal digits a byte, the high four bits first
+abbrev pub hex_text : List ℕ → List ℕ
+hex_text bytes = encode_lower bytes
+
+-- whether a byte is one of the characters `0` to `9` and `a` to `f`
+abbrev pub is_lower_digit : ℕ → Bool
+is_lower_digit byte = (nat_le 48 byte && nat_le byte 57) || (nat_le 97 byte && nat_le byte 102)
+
+-- the `count` bytes whose text in lower-case hexadecimal a text is
+unfoldable pub hex_of : ℕ → List ℕ → Option (List ℕ)
+hex_of count text = if list_all is_lower_digit text then result_ok (decode_sized text count) else None
+
+-- bytes are read exactly from their text: that of `count` bytes in lower case, and no other text
+abbrev pub ReadsHex : ℕ → List ℕ → Option (List ℕ) → Type 0
+ReadsHex count text result = (bytes : List ℕ) → (result ≡ Some bytes) ↔ ((length bytes ≡ count) × IsBytes bytes × (text ≡ hex_text bytes))
