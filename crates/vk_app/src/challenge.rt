@@ -1,0 +1,44 @@
+//! Challenges: one bit for each lane.
+
+ghost use Rattle.std.specs.Prelude.{◌≡◌, [], Some};
+ghost use Rattle.vk_app.specs.Pieces.{Gives, Reads};
+ghost use Rattle.vk_app.specs.Reading.{bits_at, challenge_at};
+
+use crate::reader::{ReadFault, Reader};
+use std::alloc::Global;
+use vk_seq::Seq;
+
+/// The bits of the lanes, that of lane 1 first: false asks for first halves, true for second ones.
+#[derive(Debug, Drop)]
+pub struct Challenge {
+    /// 1 to 64 bits.
+    pub bits: Seq<bool>,
+}
+
+/// The characters `0` and `1` before anything else, as bits.
+fn bits(alloc: Global, reader: &mut Reader<'_>) -> Result<Vec<bool>, ReadFault>
+    ensures { Reads (λ x. x.items) result reader.new (Some (bits_at [] reader.old)) }
+{
+    let mut bits = Vec::new(alloc);
+    while let Some(bit) = reader.bit() {
+        bits.push(bit)?;
+    }
+    Ok(bits)
+}
+
+/// The challenge whose text the bytes are.
+#[tactic(auto, unfolding(crate::specs::Reading::challenge_at))]
+pub fn read_challenge(alloc: Global, text: &[u8]) -> Result<Challenge, ReadFault>
+    ensures { Gives (λ x. x) result (challenge_at text.now) }
+{
+    let mut reader = Reader::of(text);
+    reader.tag(b"vickrey-challenge 1\nbits ")?;
+    let bits = bits(alloc, &mut reader)?;
+    reader.tag(b"\n")?;
+    reader.finish()?;
+    if bits.is_empty() || 64 < bits.len() {
+        return Err(ReadFault::NotOfTheForm);
+    }
+    let bits = Seq::from_vec(bits);
+    Ok(Challenge { bits })
+}

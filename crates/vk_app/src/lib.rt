@@ -1,0 +1,7 @@
+//! The top call: what the words of a command line do, over any shelf of files and any sink of text.
+#![tactic(auto)]
+
+mod board;
+mod challenge;
+mod reader;
+mod reply;
