@@ -1,1 +1,3 @@
 pub mod Lanes
+pub mod Texts
+pub mod Files

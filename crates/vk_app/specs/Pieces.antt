@@ -41,13 +41,13 @@ bit_at [] = (None, [])
 bit_at (b ∷ bytes) = if b == 48 || b == 49 then (Some (b == 49), bytes) else (None, b ∷ bytes)
 
 -- that many bytes
-abbrev pub take_at : ℕ → List ℕ → Option (List ℕ × List ℕ)
-take_at count bytes = if nat_lt (length bytes) count then None else Some (take count bytes, drop count bytes)
+abbrev pub bytes_at : ℕ → List ℕ → Option (List ℕ × List ℕ)
+bytes_at count bytes = if nat_lt (length bytes) count then None else Some (take count bytes, drop count bytes)
 
 -- that many bytes, each written as two digits
 unfoldable pub hex_at : ℕ → List ℕ → Option (List ℕ × List ℕ)
 hex_at count bytes = do
-  digits ← take_at (2 * count) bytes
+  digits ← bytes_at (2 * count) bytes
   found ← hex_of count digits.0
   Some (found, digits.1)
 
@@ -59,7 +59,7 @@ digit_count (b ∷ bytes) = if is_ascii_digit b then digit_count bytes + 1 else 
 -- a number of at most `most` that ends its line
 unfoldable pub number_line_at : ℕ → List ℕ → Option (ℕ × List ℕ)
 number_line_at most bytes = do
-  digits ← take_at (digit_count bytes) bytes
+  digits ← bytes_at (digit_count bytes) bytes
   number ← decimal_of most digits.0
   rest ← tag_at (10 ∷ []) digits.1
   Some (number, rest)

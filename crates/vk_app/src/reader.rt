@@ -1,7 +1,7 @@
 //! Reading a text from its front, one piece after another.
 
 ghost use Rattle.std.specs.Prelude.{◌≡◌, ◌≤◌, length, IfOk};
-ghost use Rattle.vk_app.specs.Pieces.{Passes, Reads, bit_at, tag_at, take_at, hex_at, digit_count, number_line_at, count_line_at, residue_line_at, lane_line_at, finished_at};
+ghost use Rattle.vk_app.specs.Pieces.{Passes, Reads, bit_at, tag_at, bytes_at, hex_at, digit_count, number_line_at, count_line_at, residue_line_at, lane_line_at, finished_at};
 ghost use Rattle.vk_app.specs.declared.reader.ReadFault.TheVariants.{NoMemory as MemoryRefused};
 
 use std::alloc::{AllocError, AllocFailed};
@@ -84,7 +84,7 @@ impl<'a> Reader<'a> {
 
     /// Takes that many bytes of the text.
     fn take(&mut self, count: usize) -> Result<&'a [u8], ReadFault>
-        ensures { Reads (λ x. x.now) result self.new (take_at count self.old) }
+        ensures { Reads (λ x. x.now) result self.new (bytes_at count self.old) }
     {
         if self.rest.len() < count {
             return Err(ReadFault::NotOfTheForm);
