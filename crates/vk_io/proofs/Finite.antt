@@ -23,9 +23,9 @@ pub insert_over : (m : Files) (k v w : List ℕ) → insert (insert m k v) k w �
 insert_over m k v w = same_files _ _ (λ q.
     get_inserted (insert m k v) k w q
     ∙ elim (bytes_eq q k) as (λ b. get (insert m k v) q ≡ cond b (Some v) (get m q) → cond b (Some w) (get (insert m k v) q) ≡ cond b (Some w) (get m q)) [
-        | true ↦ λ _. refl
-        | false ↦ λ e. e
-      ] (get_inserted m k v q)
+      | true ↦ λ _. refl
+      | false ↦ λ e. e
+    ] (get_inserted m k v q)
     ∙ sym (get_inserted m k w q))
 
 two_names : (q k l : List ℕ) (a b : Bool) → bytes_eq q k ≡ a → bytes_eq q l ≡ b → k ≢ l → (x y z : Option (List ℕ)) → cond b x (cond a y z) ≡ cond a y (cond b x z)

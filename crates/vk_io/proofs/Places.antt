@@ -43,5 +43,5 @@ unfolding files_in
 push_file files file name none same =
     ap from_entries (map-append entry_of files (file ∷ []))
     ∙ from_entries_push nat_list_cmp_total exact_bytes (map entry_of files) (string_bytes file.name) file.bytes.items
-        (sym (get-from_entries nat_list_cmp_total (map entry_of files) (string_bytes file.name)) ∙ ap (get (files_in files)) same ∙ none)
+    (sym (get-from_entries nat_list_cmp_total (map entry_of files) (string_bytes file.name)) ∙ ap (get (files_in files)) same ∙ none)
     ∙ ap (λ n. insert (files_in files) n file.bytes.items) same

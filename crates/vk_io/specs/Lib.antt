@@ -2,3 +2,4 @@ pub mod Faults
 pub mod Files
 pub mod Memory
 pub mod Named
+pub mod Content

@@ -20,9 +20,9 @@ pub record MemoryBytes : Type 0 where
 abbrev pub calls_code : Coded Calls
 calls_code =
     code_by (ℕ × (List ℕ × ℕ)) (coded× coded_ℕ (coded× (coded_list coded_ℕ) coded_ℕ))
-      (λ c. (c.made, (c.failing, c.faults))) (λ p. record { made = p.0; failing = p.1.0; faults = p.1.1 }) (λ _. refl)
+    (λ c. (c.made, (c.failing, c.faults))) (λ p. record { made = p.0; failing = p.1.0; faults = p.1.1 }) (λ _. refl)
 
 abbrev pub files_code : Coded MemoryFiles
 files_code =
     code_by (Files × Calls) (coded× (finite.code (coded_list coded_ℕ) (coded_list coded_ℕ)) calls_code)
-      (λ m. (m.files, m.calls)) (λ p. record { files = p.0; calls = p.1 }) (λ _. refl)
+    (λ m. (m.files, m.calls)) (λ p. record { files = p.0; calls = p.1 }) (λ _. refl)

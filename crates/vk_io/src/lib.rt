@@ -3,6 +3,7 @@
 #![tactic(auto)]
 
 mod calls;
+mod content;
 mod errors;
 mod mem_shelf;
 mod mem_sink;
@@ -11,6 +12,7 @@ mod shelf;
 mod sink;
 
 pub use calls::CallCount;
+pub use content::{Content, read_whole};
 pub use errors::{ShelfErr, SinkErr};
 pub use mem_shelf::MemShelf;
 pub use mem_sink::MemSink;
