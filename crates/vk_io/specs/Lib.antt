@@ -3,3 +3,4 @@ pub mod Files
 pub mod Memory
 pub mod Named
 pub mod Content
+pub mod Writing

@@ -13,6 +13,7 @@ mod out_sink;
 mod pieces;
 mod shelf;
 mod sink;
+mod writing;
 
 pub use calls::CallCount;
 pub use content::{Content, read_whole};
@@ -23,6 +24,7 @@ pub use mem_sink::MemSink;
 pub use out_sink::OutSink;
 pub use shelf::Shelf;
 pub use sink::Sink;
+pub use writing::{FileText, write_file, write_files};
 
 #[cfg(test)]
 mod tests;
