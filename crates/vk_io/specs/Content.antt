@@ -1,5 +1,5 @@
 -- A file read whole, by a reader that takes at most so many bytes.
-use Rattle.std.specs.Prelude.{ℕ, List, length, Option, Some, None, nat_lt, if◌then◌else◌}
+use Rattle.std.specs.Prelude.{ℕ, ◌≤◌, ⊤, List, length, Option, Some, None, nat_lt, if◌then◌else◌}
 use Rattle.std.specs.FinMap.{get}
 use Rattle.vk_io.specs.declared.content.Content.{Content}
 use Rattle.vk_io.specs.declared.content.Content.TheVariants.{Missing, TooLong, Held}
@@ -13,3 +13,9 @@ content_by most (Some bytes) = if nat_lt most (length bytes) then TooLong else H
 -- what the named file is to such a reader
 abbrev pub content_of : Files → List ℕ → ℕ → Content
 content_of files name most = content_by most (get files name)
+
+-- where bytes were taken, no more than `most`
+abbrev pub IsWithin : ℕ → Content → Type 0
+IsWithin most Missing = ⊤
+IsWithin most TooLong = ⊤
+IsWithin most (Held bytes) = length bytes ≤ most

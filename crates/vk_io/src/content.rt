@@ -1,5 +1,5 @@
 ghost use Rattle.std.specs.Prelude.{◌≡◌, ◌<◌, ◌≤◌, take, vec_len, IfSome, IfOk, IsErrOf};
-ghost use Rattle.vk_io.specs.Content.{content_of};
+ghost use Rattle.vk_io.specs.Content.{content_of, IsWithin};
 ghost use Rattle.vk_io.specs.Faults.{Rose};
 ghost use Rattle.vk_io.specs.Files.{bytes_of};
 
@@ -32,6 +32,7 @@ pub fn read_whole<S: Shelf>(
 ) -> Result<Content, ShelfErr>
     ensures told { IfSome (S.held shelf.old)
         (λ files. IfOk result (λ content. content ≡ content_of files name.now most)) }
+    ensures within { IfOk result (IsWithin most) }
     ensures held { S.held shelf.new ≡ S.held shelf.old }
     ensures later { S.Shelf.faults shelf.old ≤ S.Shelf.faults shelf.new }
     ensures failed { IsErrOf result ShelfErr.Failed → Rose (S.Shelf.faults shelf.old) (S.Shelf.faults shelf.new) }
