@@ -1,10 +1,9 @@
 -- Files that are told, over several calls.
-use Rattle.std.proofs.Common.{◌≡◌, ◌≢◌, ℕ, zero, suc, ◌+◌, ◌<◌, ◌≤◌, List, [], ◌∷◌, ◌++◌, length, take, drop, map, get_or, Option, Some, None, Result, Ok, Err, IsSomeAnd, ◌⊎◌, inl, inr, refl, sym, ap, subst, ◌∙◌, arith}
+use Rattle.std.proofs.Common.{◌≡◌, ℕ, List, [], ◌∷◌, ◌++◌, take, Option, Some, None, Result, Ok, Err, inl, inr, refl, ap, subst, ◌∙◌, arith}
 use Rattle.std.specs.Option.{unwrap_or}
-use Rattle.std.specs.FinMap.{get, insert}
-use Rattle.std.proofs.lemmas.List.{at_drop_more}
+use Rattle.std.specs.FinMap.{insert}
 use Rattle.vk_io.specs.Files.{Files, bytes_of, Told, Creates, Appends}
-use Rattle.vk_io.specs.Writing.{IsPartOf, Writes, written, IsDivided, WritesAll}
+use Rattle.vk_io.specs.Writing.{Writes, written, IsDivided, WritesAll}
 use Rattle.vk_io.proofs.Finite.{get_own, insert_over}
 
 -- two steps in a row, of content that is told or isn't

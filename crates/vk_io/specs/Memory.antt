@@ -1,9 +1,7 @@
 -- A shelf and a sink in memory.
-use Rattle.std.specs.Prelude.{ℕ, List, map, refl}
+use Rattle.std.specs.Prelude.{ℕ, List, refl}
 use Rattle.std.specs.Coded.{Coded, code_by, coded×, coded_ℕ, coded_list}
-use Rattle.std.specs.FinMap.{from_entries}
 use Rattle.std.specs.FinMap as finite
-use Rattle.std.specs.String.{string_bytes}
 use Rattle.vk_io.specs.Faults.{Calls}
 use Rattle.vk_io.specs.Files.{Files}
 

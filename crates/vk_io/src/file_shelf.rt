@@ -5,12 +5,11 @@ use crate::errors::ShelfErr;
 use crate::pieces::{read_fully, write_fully};
 use crate::shelf::Shelf;
 use std::alloc::Global;
-use std::fs;
 use std::fs::OpenOptions;
-use std::io;
 use std::io::{ErrorKind, Seek, SeekFrom};
 use std::os::unix::fs::OpenOptionsExt;
 use std::rt::Files;
+use std::{fs, io};
 
 /// Who may read and write a file that is made anew: its owner alone, since a bidder's secret may be
 /// in it. No umask widens this. A file that is there keeps what it has.

@@ -1,11 +1,10 @@
 use super::*;
 use std::alloc::Global;
-use std::fs;
 use std::fs::Permissions;
-use std::io;
 use std::os::unix::fs::PermissionsExt;
 use std::rt::Files;
 use std::test::Fail;
+use std::{fs, io};
 
 #[test]
 fn a_shelf_in_memory_holds_what_is_put(rt: HostRuntime) -> Result<(), Fail> {
@@ -63,7 +62,11 @@ fn a_file_is_read_whole(rt: HostRuntime) -> Result<(), Fail> {
     let mut shelf = MemShelf::new(rt.alloc());
     shelf.put_file("six", b"abcdef")?;
     shelf.put_file("seven", b"abcdefg")?;
-    for (name, content) in [("six", "abcdef"), ("seven", "too long"), ("none", "missing")] {
+    for (name, content) in [
+        ("six", "abcdef"),
+        ("seven", "too long"),
+        ("none", "missing"),
+    ] {
         let bytes = found(rt.alloc(), &mut shelf, name)?;
         assert_eq!(rt; bytes.as_slice(), content.as_bytes());
     }
@@ -105,9 +108,15 @@ fn real_files_hold_what_is_put(rt: HostRuntime) -> Result<(), Fail> {
     assert_eq!(rt; shelf.length("made")?, Some(3));
     assert_eq!(rt; shelf.read_at("made", 1, &mut into)?, 2);
     assert_eq!(rt; into, *b"bc\0\0");
-    assert_eq!(rt; found(rt.alloc(), &mut shelf, "made")?.as_slice(), b"abc".as_slice());
+    assert_eq!(rt;
+        found(rt.alloc(), &mut shelf, "made")?.as_slice(),
+        b"abc".as_slice()
+    );
     shelf.append("added", b"de")?;
-    assert_eq!(rt; found(rt.alloc(), &mut shelf, "added")?.as_slice(), b"de".as_slice());
+    assert_eq!(rt;
+        found(rt.alloc(), &mut shelf, "added")?.as_slice(),
+        b"de".as_slice()
+    );
     fs::create_dir(&rt, "folder")?;
     assert_eq!(rt; shelf.length("folder"), Err(ShelfErr::Failed));
     assert_eq!(rt; shelf.create("folder"), Err(ShelfErr::Failed));
@@ -115,7 +124,9 @@ fn real_files_hold_what_is_put(rt: HostRuntime) -> Result<(), Fail> {
 }
 
 #[test]
-fn a_new_file_is_its_owners_alone_and_an_old_one_keeps_its_mode(rt: HostRuntime) -> Result<(), Fail> {
+fn a_new_file_is_its_owners_alone_and_an_old_one_keeps_its_mode(
+    rt: HostRuntime,
+) -> Result<(), Fail> {
     let mut shelf = FileShelf::new(&rt, rt.alloc());
     fs::write(&rt, "old", "abc")?;
     fs::set_permissions(&rt, "old", Permissions::from_mode(0o644))?;

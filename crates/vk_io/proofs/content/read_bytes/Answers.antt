@@ -1,4 +1,4 @@
-use Rattle.std.proofs.Common.{◌≡◌, ◌≤◌, ◌+◌, ◌++◌, take, drop, length, sym, ap, ◌∙◌, arith, length-append}
+use Rattle.std.proofs.Common.{take, drop, ◌∙◌, arith}
 use Rattle.std.proofs.lemmas.Grind.{common_steps}
 use Rattle.vk_io.proofs.Reading.{read_more}
 use Rattle.vk_io.proofs.content.read_bytes.Goals as goal

@@ -1,4 +1,4 @@
-use Rattle.std.proofs.Common.{◌≡◌, ◌-◌, ◌≤◌, length, take, IfSome, vec_len}
+use Rattle.std.proofs.Common.{◌≡◌, ◌-◌, ◌≤◌, length, take, IfSome}
 use Rattle.vk_io.specs.Files.{bytes_of}
 use Rattle.vk_io.proofs.content.read_bytes.Given as goal
 

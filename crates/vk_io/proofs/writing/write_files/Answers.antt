@@ -29,11 +29,11 @@ returns-in_err-write_file-clause-written g c =
     let now = g.S.Shelf.held c.loop-file.shelf in
     let new = g.S.Shelf.held c.write_file.new.shelf in
     subst (λ r. Told (WritesAll (texts_of files) r) (g.S.Shelf.held c.args.shelf.now) new) (sym p.1)
-      (c.loop-file.invariant.told (Err p.0) new
-        (subst (λ texts. Told (WritesAll {E = ShelfErr} texts (Err p.0)) now new) (sym next)
-          (told_weaker (Writes {E = ShelfErr} (string_bytes file.name) file.text (Err p.0)) (WritesAll {E = ShelfErr} ((string_bytes file.name, file.text) ∷ texts_of (drop (i + 1) files)) (Err p.0))
-            (all_from_refused (string_bytes file.name) file.text (texts_of (drop (i + 1) files)) p.0) now new
-            (own_call (Err p.0) now new file c.as_str.result.now c.as_slice.result.now c.as_str.ensures.value c.as_slice.ensures c.in_err-write_file.ensures.written))))
+    (c.loop-file.invariant.told (Err p.0) new
+    (subst (λ texts. Told (WritesAll {E = ShelfErr} texts (Err p.0)) now new) (sym next)
+    (told_weaker (Writes {E = ShelfErr} (string_bytes file.name) file.text (Err p.0)) (WritesAll {E = ShelfErr} ((string_bytes file.name, file.text) ∷ texts_of (drop (i + 1) files)) (Err p.0))
+    (all_from_refused (string_bytes file.name) file.text (texts_of (drop (i + 1) files)) p.0) now new
+    (own_call (Err p.0) now new file c.as_str.result.now c.as_slice.result.now c.as_str.ensures.value c.as_slice.ensures c.in_err-write_file.ensures.written))))
 
 pub loop-file-preserved : goal.loop-file-preserved
 loop-file-preserved g c =
@@ -46,10 +46,10 @@ loop-file-preserved g c =
     record {
       told = λ answer new rest.
           c.loop-file.invariant.told answer new
-            (subst (λ texts. Told (WritesAll {E = ShelfErr} texts answer) now new) (sym next)
-              (told_chain (Writes {E = ShelfErr} (string_bytes file.name) file.text (Ok tt)) (WritesAll {E = ShelfErr} (texts_of (drop (i + 1) files)) answer) (WritesAll {E = ShelfErr} ((string_bytes file.name, file.text) ∷ texts_of (drop (i + 1) files)) answer)
-                (all_from_rest (string_bytes file.name) file.text (texts_of (drop (i + 1) files)) answer tt) now first new
-                (own_call (Ok tt) now first file c.as_str.result.now c.as_slice.result.now c.as_str.ensures.value c.as_slice.ensures c.in_ok-write_file.ensures.written) rest));
+          (subst (λ texts. Told (WritesAll {E = ShelfErr} texts answer) now new) (sym next)
+          (told_chain (Writes {E = ShelfErr} (string_bytes file.name) file.text (Ok tt)) (WritesAll {E = ShelfErr} (texts_of (drop (i + 1) files)) answer) (WritesAll {E = ShelfErr} ((string_bytes file.name, file.text) ∷ texts_of (drop (i + 1) files)) answer)
+          (all_from_rest (string_bytes file.name) file.text (texts_of (drop (i + 1) files)) answer tt) now first new
+          (own_call (Ok tt) now first file c.as_str.result.now c.as_slice.result.now c.as_str.ensures.value c.as_slice.ensures c.in_ok-write_file.ensures.written) rest));
       later = omega (arith, c.loop-file.invariant.later, c.in_ok-write_file.ensures.later);
     }
 
@@ -57,5 +57,5 @@ pub returns-clause-written : goal.returns-clause-written
 returns-clause-written g c =
     let h = g.S.Shelf.held c.loop-file.shelf in
     c.loop-file.invariant.told (Ok tt) h
-      (subst (λ texts. Told (WritesAll {E = ShelfErr} texts (Ok tt)) h h) (sym (at_drop_all texts_of c.args.files.now c.loop-file.file-index c.loop-file-test.false))
-        (told_same (WritesAll {E = ShelfErr} [] (Ok tt)) (λ _. refl) h))
+    (subst (λ texts. Told (WritesAll {E = ShelfErr} texts (Ok tt)) h h) (sym (at_drop_all texts_of c.args.files.now c.loop-file.file-index c.loop-file-test.false))
+    (told_same (WritesAll {E = ShelfErr} [] (Ok tt)) (λ _. refl) h))
