@@ -1,2 +1,4 @@
 pub mod Finite
 pub mod Places
+pub mod Reading
+pub mod WritingLemmas
