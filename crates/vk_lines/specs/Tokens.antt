@@ -1,7 +1,7 @@
 -- The pieces of a line: numbers, bytes in hexadecimal, and the fields between spaces.
-use Rattle.std.specs.Prelude.{◌≡◌, ◌≤◌, ◌↔◌, ℕ, ◌+◌, ◌-◌, ◌*◌, ◌==◌, ◌&&◌, ◌||◌, nat_le, nat_lt, Bool, if◌then◌else◌, List, length, slice_index, decimal, not, Option, Some, None}
+use Rattle.std.specs.Prelude.{◌≡◌, ◌≤◌, ◌↔◌, ℕ, ◌+◌, ◌-◌, ◌*◌, ◌==◌, ◌&&◌, ◌||◌, nat_le, nat_lt, Bool, if◌then◌else◌, List, length, slice_index, decimal, not, Option, Some, None, slice_get}
 use Rattle.std.specs.List.{list_all, slice_split}
-use Rattle.std.specs.Str.{all_ascii_digits}
+use Rattle.std.specs.Str.{all_ascii_digits, bytes_eq}
 use Rattle.std.specs.Char.{is_ascii_digit}
 use Rattle.std.specs.Str.Parse.{digits_value}
 use Rattle.std.specs.Result.{result_ok}
@@ -46,3 +46,23 @@ hex_of count text = if list_all is_lower_digit text then result_ok (decode_sized
 -- bytes are read exactly from their text: that of `count` bytes in lower case, and no other text
 abbrev pub ReadsHex : ℕ → List ℕ → Option (List ℕ) → Type 0
 ReadsHex count text result = (bytes : List ℕ) → (result ≡ Some bytes) ↔ ((length bytes ≡ count) × IsBytes bytes × (text ≡ hex_text bytes))
+
+-- ---- lines of fields
+
+-- a value that a text may not have: the first that it hasn't ends it
+infixl 10 ◌>>=◌
+abbrev pub ◌>>=◌ : {A B : Type 0} → Option A → (A → Option B) → Option B
+None >>= f = None
+Some x >>= f = f x
+
+-- whether a text is this word
+abbrev pub word_of : List ℕ → List ℕ → Option Unit
+word_of word text = if bytes_eq text word then Some tt else None
+
+-- the field of that index, from 0
+abbrev pub field_of : List ℕ → ℕ → Option (List ℕ)
+field_of text index = slice_get (fields_of text) index
+
+-- whether a text has so many fields, of which the first is this word
+abbrev pub tagged : List ℕ → ℕ → List ℕ → Option Unit
+tagged word count text = if length (fields_of text) == count then field_of text 0 >>= word_of word else None

@@ -1,6 +1,16 @@
 //! Files as lines, and the tokens of a line: fields, canonical decimals and lower-case hexadecimal.
 #![tactic(auto)]
 
+mod errors;
+mod lines;
+mod step;
 mod tokens;
+mod window;
 
-pub use tokens::{field, fields, push_decimal, push_hex, read_decimal, read_hex16, read_hex32};
+pub use errors::{LineErr, ReadErr, StartErr};
+pub use lines::Lines;
+pub use step::Step;
+pub use tokens::{
+    field, fields, push_decimal, push_hex, read_decimal, read_hex16, read_hex32, read_tag,
+    read_word,
+};

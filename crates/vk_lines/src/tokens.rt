@@ -3,7 +3,7 @@
 ghost use Rattle.std.specs.Prelude.{◌≡◌, ◌↔◌, ◌++◌, List, decimal, length, drop, slice_get, slice_index, option_map, MatchOption, OnErr, OnOk, ℕ, ◌≤◌, ◌<◌, true, false};
 ghost use Rattle.std.specs.List.{list_all};
 ghost use Rattle.hex.specs.Hex.{lower_digits};
-ghost use Rattle.vk_lines.specs.Tokens.{fields_of, decimal_of, hex_of, hex_text, ReadsDecimal, ReadsHex, is_lower_digit, next_number, starts_canonical};
+ghost use Rattle.vk_lines.specs.Tokens.{fields_of, word_of, tagged, decimal_of, hex_of, hex_text, ReadsDecimal, ReadsHex, is_lower_digit, next_number, starts_canonical};
 
 use vk_residue::NoMemory;
 
@@ -19,6 +19,25 @@ pub fn field(text: &[u8], index: usize) -> Option<&[u8]>
     ensures { option_map (λ x. x.now) result ≡ slice_get (fields_of text.now) index }
 {
     text.split(|byte| *byte == b' ').nth(index)
+}
+
+/// Whether the text is this word.
+pub fn read_word(text: &[u8], word: &[u8]) -> Option<()>
+    ensures { result ≡ word_of word.now text.now }
+{
+    if text == word { Some(()) } else { None }
+}
+
+/// Whether the text has so many fields, of which the first is this word.
+pub fn read_tag(text: &[u8], word: &[u8], count: usize) -> Option<()>
+    ensures { result ≡ tagged word.now count text.now }
+{
+    if fields(text) != count {
+        return None;
+    }
+    let first = field(text, 0)?;
+    let found = read_word(first, word);
+    found
 }
 
 /// The number whose canonical decimal the text is: digits alone, and no zero before others.
