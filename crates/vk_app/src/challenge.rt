@@ -4,7 +4,8 @@ ghost use Rattle.std.specs.Prelude.{◌≡◌, [], Some};
 ghost use Rattle.vk_app.specs.Pieces.{Gives, Reads};
 ghost use Rattle.vk_app.specs.Reading.{bits_at, challenge_at};
 
-use crate::reader::{ReadFault, Reader};
+use crate::reader::Reader;
+use crate::refusal::Refusal;
 use std::alloc::Global;
 use vk_seq::Seq;
 
@@ -16,7 +17,7 @@ pub struct Challenge {
 }
 
 /// The characters `0` and `1` before anything else, as bits.
-fn bits(alloc: Global, reader: &mut Reader<'_>) -> Result<Vec<bool>, ReadFault>
+fn bits(alloc: Global, reader: &mut Reader<'_>) -> Result<Vec<bool>, Refusal>
     ensures { Reads (λ x. x.items) result reader.new (Some (bits_at [] reader.old)) }
 {
     let mut bits = Vec::new(alloc);
@@ -28,7 +29,7 @@ fn bits(alloc: Global, reader: &mut Reader<'_>) -> Result<Vec<bool>, ReadFault>
 
 /// The challenge whose text the bytes are.
 #[tactic(auto, unfolding(crate::specs::Reading::challenge_at))]
-pub fn read_challenge(alloc: Global, text: &[u8]) -> Result<Challenge, ReadFault>
+pub fn read_challenge(alloc: Global, text: &[u8]) -> Result<Challenge, Refusal>
     ensures { Gives (λ x. x) result (challenge_at text.now) }
 {
     let mut reader = Reader::of(text);
@@ -37,7 +38,7 @@ pub fn read_challenge(alloc: Global, text: &[u8]) -> Result<Challenge, ReadFault
     reader.tag(b"\n")?;
     reader.finish()?;
     if bits.is_empty() || 64 < bits.len() {
-        return Err(ReadFault::NotOfTheForm);
+        return Err(Refusal::NotAccepted);
     }
     let bits = Seq::from_vec(bits);
     Ok(Challenge { bits })

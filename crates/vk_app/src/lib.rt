@@ -1,7 +1,10 @@
 //! The top call: what the words of a command line do, over any shelf of files and any sink of text.
 #![tactic(auto)]
 
+mod acceptance;
 mod board;
 mod challenge;
+mod extraction;
 mod reader;
+mod refusal;
 mod reply;

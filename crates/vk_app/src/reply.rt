@@ -4,7 +4,8 @@ ghost use Rattle.std.specs.Prelude.{◌≡◌, ◌<◌, ◌^◌};
 ghost use Rattle.vk_app.specs.Pieces.{Gives, Reads, lanes_at};
 ghost use Rattle.vk_app.specs.Reading.{opening_at, reply_lane_at, reply_at};
 
-use crate::reader::{ReadFault, Reader};
+use crate::reader::Reader;
+use crate::refusal::Refusal;
 use std::alloc::Global;
 use vk_commit::Opening;
 use vk_seq::Seq;
@@ -27,7 +28,7 @@ pub struct Reply {
 
 /// The line that opens one half.
 #[tactic(auto, unfolding(crate::specs::Reading::opening_at))]
-fn opening_line(reader: &mut Reader<'_>) -> Result<Opening, ReadFault>
+fn opening_line(reader: &mut Reader<'_>) -> Result<Opening, Refusal>
     ensures { Reads (λ x. x) result reader.new (opening_at reader.old) }
 {
     reader.tag(b"h ")?;
@@ -39,7 +40,7 @@ fn opening_line(reader: &mut Reader<'_>) -> Result<Opening, ReadFault>
 
 /// The lines of the lane with that number.
 #[tactic(auto, unfolding(crate::specs::Reading::reply_lane_at))]
-fn reply_lane(reader: &mut Reader<'_>, number: u64) -> Result<ReplyLane, ReadFault>
+fn reply_lane(reader: &mut Reader<'_>, number: u64) -> Result<ReplyLane, Refusal>
     ensures { Reads (λ x. x) result reader.new (reply_lane_at number reader.old) }
 {
     reader.lane_line(number)?;
@@ -53,7 +54,7 @@ fn reply_lanes(
     alloc: Global,
     reader: &mut Reader<'_>,
     count: u64,
-) -> Result<Vec<ReplyLane>, ReadFault>
+) -> Result<Vec<ReplyLane>, Refusal>
     requires { count < 2 ^ 63 }
     ensures { Reads (λ x. x.items) result reader.new (lanes_at reply_lane_at count 1 reader.old) }
 {
@@ -67,7 +68,7 @@ fn reply_lanes(
 
 /// The reply whose text the bytes are.
 #[tactic(auto, unfolding(crate::specs::Reading::reply_at))]
-pub fn read_reply(alloc: Global, text: &[u8]) -> Result<Reply, ReadFault>
+pub fn read_reply(alloc: Global, text: &[u8]) -> Result<Reply, Refusal>
     ensures { Gives (λ x. x) result (reply_at text.now) }
 {
     let mut reader = Reader::of(text);
