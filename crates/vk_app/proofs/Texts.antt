@@ -1,6 +1,6 @@
 -- What is read is the text of the value, and every value's text is read.
-use Rattle.std.proofs.Common.{◌≡◌, ℕ, zero, suc, ◌+◌, ◌-◌, ◌*◌, ◌<◌, ◌≤◌, ◌^◌, Bool, true, false, cond, List, [], ◌∷◌, ◌++◌, length, take, drop, Option, Some, None, refl, sym, ap, subst, ◌∙◌, append_assoc, arith, codes, ltb, eqb, eq-eqb, lit<}
-use Rattle.std.specs.Prelude.{decimal}
+use Rattle.std.proofs.Common.{◌≡◌, ℕ, zero, suc, ◌+◌, ◌-◌, ◌*◌, ◌<◌, ◌≤◌, ◌^◌, Bool, true, false, cond, List, [], ◌∷◌, ◌++◌, length, take, drop, Option, Some, None, Result, Ok, Err, refl, sym, ap, subst, ◌∙◌, append_assoc, arith, codes, ltb, eqb, eq-eqb, lit<}
+use Rattle.std.specs.Prelude.{decimal, IfOk}
 use Rattle.std.specs.List.{AllByRecursion}
 use Rattle.std.specs.Str.{all_ascii_digits, bytes_eq}
 use Rattle.std.specs.Char.{is_ascii_digit}
@@ -14,7 +14,8 @@ use Rattle.vk_residue.specs.Residue.{modulus, IsResidue}
 use Rattle.vk_lines.specs.Tokens.{decimal_of, hex_of, hex_text}
 use Rattle.vk_lines.proofs.Decimals.{decimal_of-some, decimal_of-decimal}
 use Rattle.vk_lines.proofs.Hexadecimal.{hex_of-some, hex_of-hex_text, length-hex_text}
-use Rattle.vk_app.specs.Pieces.{◌>>=◌, tag_at, bytes_at, hex_at, digit_count, number_line_at, count_line_at, residue_line_at, lane_line_at, finished_at, lanes_at}
+use Rattle.vk_app.specs.declared.refusal.Refusal.{Refusal}
+use Rattle.vk_app.specs.Pieces.{◌>>=◌, Gives, tag_at, bytes_at, hex_at, digit_count, number_line_at, count_line_at, residue_line_at, lane_line_at, finished_at, lanes_at}
 use Rattle.vk_app.specs.Texts.{◌+++◌, line_feed, number_line, lane_line, end_line, AreBytes}
 
 -- ---- steps that may fail
@@ -35,6 +36,15 @@ if_some false x y e = absurd cc
 pub unless_some : {A : Type 0} (b : Bool) (x y : A) → cond b None (Some x) ≡ Some y → (b ≡ false) × (x ≡ y)
 unless_some true x y e = absurd cc
 unless_some false x y e = (refl, cc)
+
+-- ---- what a function that reads a whole text answered
+
+pub IfOk-from_Gives : {X : Type 0} (r : Result X Refusal) (read : Option X) (P : X → Type 0) → Gives (λ x. x) r read → ((x : X) → read ≡ Some x → P x) → IfOk r P
+IfOk-from_Gives (Ok x) read P gives found = found x gives
+IfOk-from_Gives (Err refusal) read P gives found = tt
+
+pub Gives-again : {X : Type 0} (r : Result X Refusal) (read : Option X) (x : X) → Gives (λ x. x) r read → read ≡ Some x → Gives (λ x. x) r (Some x)
+Gives-again r read x gives e = subst (λ o. Gives (λ x. x) r o) e gives
 
 -- ---- what a reader took from the front
 

@@ -3,3 +3,5 @@ pub mod Reading
 pub mod Texts
 pub mod Acceptance
 pub mod Extraction
+pub mod Extract
+pub mod Words

@@ -8,3 +8,5 @@ mod extraction;
 mod reader;
 mod refusal;
 mod reply;
+mod extract;
+mod words;
