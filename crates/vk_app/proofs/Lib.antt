@@ -1,3 +1,4 @@
 pub mod Lanes
 pub mod Texts
-pub mod Files
+pub mod WholeTexts
+pub mod Printing

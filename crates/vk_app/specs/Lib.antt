@@ -5,3 +5,6 @@ pub mod Acceptance
 pub mod Extraction
 pub mod Extract
 pub mod Words
+pub mod Outcome
+pub mod Effect
+pub mod Stops

@@ -5,8 +5,14 @@ mod acceptance;
 mod board;
 mod challenge;
 mod extraction;
+mod files;
+mod outcome;
 mod reader;
 mod refusal;
 mod reply;
 mod extract;
+mod command;
+mod stop;
 mod words;
+
+pub use command::run;

@@ -1,7 +1,7 @@
 use Rattle.std.proofs.Common.{ap, ◌∙◌}
 use Rattle.vk_app.specs.Reading.{board_at}
 use Rattle.vk_app.proofs.Texts.{IfOk-from_Gives, Gives-again}
-use Rattle.vk_app.proofs.Files.{board_found, board_again}
+use Rattle.vk_app.proofs.WholeTexts.{board_found, board_again}
 use Rattle.vk_app.proofs.board.read_board.Goals as goal
 
 pub returns-clause-read : goal.returns-clause-read

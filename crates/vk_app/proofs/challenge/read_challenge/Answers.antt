@@ -1,7 +1,7 @@
 use Rattle.std.proofs.Common.{ap, ◌∙◌}
 use Rattle.vk_app.specs.Reading.{challenge_at}
 use Rattle.vk_app.proofs.Texts.{IfOk-from_Gives, Gives-again}
-use Rattle.vk_app.proofs.Files.{challenge_found, challenge_again}
+use Rattle.vk_app.proofs.WholeTexts.{challenge_found, challenge_again}
 use Rattle.vk_app.proofs.challenge.read_challenge.Goals as goal
 
 pub returns-clause-read : goal.returns-clause-read

@@ -1,7 +1,7 @@
 use Rattle.std.proofs.Common.{ap, ◌∙◌}
 use Rattle.vk_app.specs.Reading.{reply_at}
 use Rattle.vk_app.proofs.Texts.{IfOk-from_Gives, Gives-again}
-use Rattle.vk_app.proofs.Files.{reply_found, reply_again}
+use Rattle.vk_app.proofs.WholeTexts.{reply_found, reply_again}
 use Rattle.vk_app.proofs.reply.read_reply.Goals as goal
 
 pub returns-clause-read : goal.returns-clause-read
