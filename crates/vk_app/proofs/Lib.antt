@@ -2,3 +2,4 @@ pub mod Lanes
 pub mod Texts
 pub mod WholeTexts
 pub mod Printing
+pub mod Accepting

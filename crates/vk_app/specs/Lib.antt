@@ -8,3 +8,4 @@ pub mod Words
 pub mod Outcome
 pub mod Effect
 pub mod Stops
+pub mod Headline
