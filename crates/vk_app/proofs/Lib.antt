@@ -3,3 +3,4 @@ pub mod Texts
 pub mod WholeTexts
 pub mod Printing
 pub mod Accepting
+pub mod Extracting
