@@ -1,6 +1,5 @@
 -- The tests of acceptance say what the relations say.
-use Rattle.std.proofs.Common.{◌≡◌, ℕ, suc, ◌+◌, ◌<◌, ◌≤◌, Bool, true, false, List, [], ◌∷◌, length, Option, Some, None, refl, sym, ap, ◌∙◌, arith, eqb}
-use Rattle.std.specs.Prelude.{◌&&◌}
+use Rattle.std.proofs.Common.{◌≡◌, ℕ, suc, ◌+◌, Bool, true, List, [], ◌∷◌, length, refl, ap}
 use Rattle.std.specs.Cmp.Derive.{both_true}
 use Rattle.std.proofs.lemmas.Bool.{and_parts, eqb-true, eq-eqb}
 use Rattle.std.proofs.lemmas.Slice.Eq.{bytes_eq-Decides}
@@ -34,7 +33,7 @@ lane_from_test board number lane bit reply h =
 pub test_from_lane : (board : Board) (number : ℕ) (lane : BoardLane) (bit : Bool) (reply : ReplyLane) → IsAcceptedLane board number lane bit reply → accepts_lane board number lane bit reply ≡ true
 test_from_lane board number lane bit reply is =
     both_true (both_true (test_from_opens (bid_place board number bit) (half_of bit lane.bid) reply.bid is.bid) (test_from_opens (copy_place board number bit) (half_of bit lane.copy) reply.copy is.copy))
-      (eq-eqb (difference reply.bid.value reply.copy.value) (claimed bit lane.posted) is.posted)
+    (eq-eqb (difference reply.bid.value reply.copy.value) (claimed bit lane.posted) is.posted)
 
 lanes_from_test : (board : Board) (number : ℕ) (lanes : List BoardLane) (bits : List Bool) (replies : List ReplyLane) → accepts_lanes board number lanes bits replies ≡ true → AreAcceptedLanes board number lanes bits replies
 lanes_from_test board number [] [] [] h = tt

@@ -1,11 +1,10 @@
 -- What holds of the lanes whose two bits differ, where both replies are accepted.
-use Rattle.std.proofs.Common.{◌≡◌, ◌≢◌, ℕ, zero, suc, ◌+◌, ◌-◌, ◌<◌, ◌≤◌, Bool, true, false, List, [], ◌∷◌, ◌++◌, length, drop, map, Option, Some, None, refl, sym, ap, subst, ◌∙◌, arith, add-one}
+use Rattle.std.proofs.Common.{◌≡◌, ℕ, zero, suc, ◌+◌, Bool, true, false, List, [], ◌∷◌, drop, map, Some, refl, ap, ◌∙◌, arith, add-one}
 use Rattle.std.specs.Prelude.{slice_get}
 use Rattle.std.specs.List.{AllByRecursion}
 use Rattle.vk_app.specs.declared.board.BoardLane.{BoardLane}
 use Rattle.vk_app.specs.declared.board.Board.{Board}
 use Rattle.vk_app.specs.declared.reply.ReplyLane.{ReplyLane}
-use Rattle.vk_app.specs.declared.extraction.ExtractedLane.{ExtractedLane}
 use Rattle.vk_app.specs.Acceptance.{IsAcceptedLane, AreAcceptedLanes}
 use Rattle.vk_app.specs.Extraction.{joined, extracted_lanes}
 use Rattle.vk_app.specs.Headline.{differing, OpensSeal}

@@ -4,3 +4,5 @@ pub mod WholeTexts
 pub mod Printing
 pub mod Accepting
 pub mod Extracting
+pub mod Lengths
+pub mod Headline

@@ -9,7 +9,7 @@ use Rattle.vk_app.specs.declared.extract.ExtractFiles.{ExtractFiles}
 use Rattle.vk_app.specs.declared.extraction.Extraction.{Extraction}
 use Rattle.vk_app.specs.declared.stop.Stop.{Stop}
 use Rattle.vk_app.specs.Words.{AttemptWords, ExtractWords, extract_words}
-use Rattle.vk_app.specs.Texts.{◌+++◌, line_feed}
+use Rattle.vk_app.specs.Texts.{line_feed}
 use Rattle.vk_app.specs.Extraction.{extraction_text}
 use Rattle.vk_app.specs.Extract.{extraction_of}
 use Rattle.vk_app.specs.Outcome.{Effect}

@@ -1,5 +1,5 @@
 -- What `extract` makes of its five files.
-use Rattle.std.specs.Prelude.{ℕ, ◌==◌, if◌then◌else◌, List, length, Option, Some, None}
+use Rattle.std.specs.Prelude.{◌==◌, if◌then◌else◌, List, length, Option, Some, None}
 use Rattle.vk_app.specs.declared.board.Board.{Board}
 use Rattle.vk_app.specs.declared.extract.Attempt.{Attempt}
 use Rattle.vk_app.specs.declared.extract.AttemptFiles.{AttemptFiles}

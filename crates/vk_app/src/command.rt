@@ -5,6 +5,7 @@ ghost use Rattle.std.specs.List.{flat_map};
 ghost use Rattle.vk_io.specs.Faults.{Rose};
 ghost use Rattle.vk_io.specs.Files.{Told, Takes};
 ghost use Rattle.vk_app.specs.Effect.{effect_of, command_effect, Prints, Ends};
+ghost use Rattle.vk_app.specs.Headline.{WordsAccepted, PutsExtraction};
 ghost use Rattle.vk_app.specs.Outcome.{IsEnd};
 ghost use Rattle.vk_app.specs.Words.{extract_seen};
 
@@ -16,11 +17,7 @@ use std::alloc::Global;
 use vk_io::{Shelf, Sink};
 
 /// What the words answer.
-fn outcome_of<S: Shelf>(
-    alloc: Global,
-    words: &[String],
-    shelf: &mut S,
-) -> Result<Outcome, Stop>
+fn outcome_of<S: Shelf>(alloc: Global, words: &[String], shelf: &mut S) -> Result<Outcome, Stop>
     ensures told { IfSome (S.held shelf.old) (λ files. IfOk result (λ outcome. outcome ≡ effect_of files (map string_bytes words.now))) }
     ensures held { S.held shelf.new ≡ S.held shelf.old }
     ensures later { S.Shelf.faults shelf.old ≤ S.Shelf.faults shelf.new }
@@ -74,16 +71,18 @@ fn answer<S: Shelf, W: Sink>(
 }
 
 /// Does what the words say over the shelf, prints to the sink, and answers the status.
-pub fn run<S: Shelf, W: Sink>(
-    alloc: Global,
-    words: &[String],
-    shelf: &mut S,
-    out: &mut W,
-) -> u8
+pub fn run<S: Shelf, W: Sink>(alloc: Global, words: &[String], shelf: &mut S, out: &mut W) -> u8
     ensures status { IfSome (S.held shelf.old)
         (λ files. result ≢ 6 → result ≢ 9 → result ≡ (effect_of files (map string_bytes words.now)).status) }
     ensures printed { IfSome (S.held shelf.old)
         (λ files. Told (Prints result (effect_of files (map string_bytes words.now)).text) (W.taken out.old) (W.taken out.new)) }
+
+    // What status 0 means: the text is that of the bids which the files give, and it is put wherever they give any.
+    ensures extracted { IfSome (S.held shelf.old)
+        (λ files. result ≡ 0 → Told (PutsExtraction files (map string_bytes words.now)) (W.taken out.old) (W.taken out.new)) }
+    ensures accepted { IfSome (S.held shelf.old)
+        (λ files. WordsAccepted files (map string_bytes words.now) → result ≢ 6 → result ≢ 9 → result ≡ 0) }
+
     ensures held { S.held shelf.new ≡ S.held shelf.old }
     ensures later_shelf { S.Shelf.faults shelf.old ≤ S.Shelf.faults shelf.new }
     ensures later_out { W.Sink.faults out.old ≤ W.Sink.faults out.new }

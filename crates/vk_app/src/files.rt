@@ -28,11 +28,7 @@ fn bytes_in(content: Content) -> Option<Seq<u8>>
 
 /// The bytes of the named file, where it is held and not too long.
 #[tactic(auto, unfolding(crate::specs::Effect::file_at))]
-fn read_file<S: Shelf>(
-    alloc: Global,
-    shelf: &mut S,
-    name: &str,
-) -> Result<Option<Seq<u8>>, Stop>
+fn read_file<S: Shelf>(alloc: Global, shelf: &mut S, name: &str) -> Result<Option<Seq<u8>>, Stop>
     ensures told { IfSome (S.held shelf.old) (λ files. IfOk result (λ bytes. bytes ≡ file_at files name.now)) }
     ensures held { S.held shelf.new ≡ S.held shelf.old }
     ensures later { S.Shelf.faults shelf.old ≤ S.Shelf.faults shelf.new }

@@ -4,14 +4,14 @@
 mod acceptance;
 mod board;
 mod challenge;
+mod command;
+mod extract;
 mod extraction;
 mod files;
 mod outcome;
 mod reader;
 mod refusal;
 mod reply;
-mod extract;
-mod command;
 mod stop;
 mod words;
 

@@ -60,5 +60,9 @@ pub fn extract_names(words: &[String]) -> Option<ExtractNames<'_>>
     let board = name(words, 1)?;
     let first = attempt_names(words, 2)?;
     let second = attempt_names(words, 4)?;
-    Some(ExtractNames { board, first, second })
+    Some(ExtractNames {
+        board,
+        first,
+        second,
+    })
 }
