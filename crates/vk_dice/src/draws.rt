@@ -76,11 +76,9 @@ pub fn draw_bit<W: Words>(words: &mut W) -> bool
 pub fn each_residue_is_drawn_by_eight_words()
     ensures { (residue word : ℕ) → residue < modulus
         → ((word < 2 ^ 64) × (drawn_by word ≡ Some residue) ↔ IsOneOfEight residue word) }
-{
-}
+{}
 
 /// A law: of the words of 64 bits exactly eight are rejected.
 pub fn eight_words_are_rejected()
     ensures { (word : ℕ) → ((word < 2 ^ 64) × (drawn_by word ≡ None) ↔ IsOneOfEight modulus word) }
-{
-}
+{}

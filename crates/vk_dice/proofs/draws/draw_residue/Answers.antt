@@ -1,6 +1,6 @@
-use Rattle.std.proofs.Common.{◌≡◌, ℕ, suc, ◌-◌, ◌+◌, ◌<◌, None, sym, ap, ◌∙◌, arith}
+use Rattle.std.proofs.Common.{◌≡◌, suc, ◌-◌, ◌+◌, None, sym, ap, ◌∙◌, arith}
 use Rattle.vk_dice.specs.Words.{later}
-use Rattle.vk_dice.specs.Draws.{drawn_by, residue_within, looked_at}
+use Rattle.vk_dice.specs.Draws.{drawn_by, looked_at}
 use Rattle.vk_dice.proofs.Within.{later-zero, within_others, looked_others}
 use Rattle.vk_dice.proofs.draws.draw_residue.Goals as goal
 
