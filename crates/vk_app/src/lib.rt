@@ -16,3 +16,6 @@ mod stop;
 mod words;
 
 pub use command::run;
+
+#[cfg(test)]
+mod tests;

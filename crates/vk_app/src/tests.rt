@@ -87,3 +87,33 @@ fn status_and_text_of_worked_files(rt: HostRuntime) -> Result<(), Fail> {
     }
     Ok(())
 }
+
+/// The status and the text of an `extract` whose shelf and sink fail at these calls, from 1; 0 for none.
+fn stopped(alloc: Global, shelf_call: u64, sink_call: u64) -> Result<(u8, MemSink), Fail> {
+    let words = words_of(alloc, &EXTRACT)?;
+    let mut shelf = shelf_with(alloc, BOARD, FIRST_REPLY)?;
+    let mut out = MemSink::new(alloc);
+    shelf.fail_at(shelf_call)?;
+    out.fail_at(sink_call)?;
+    let status = run(alloc, words.as_slice(), &mut shelf, &mut out);
+    Ok((status, out))
+}
+
+#[test]
+fn a_failing_call_stops_with_a_prefix(rt: HostRuntime) -> Result<(), Fail> {
+    for call in 1..=10 {
+        let (status, out) = stopped(rt.alloc(), call, 0)?;
+        assert_eq!(rt; status, 6, "shelf call {call}");
+        assert!(rt; out.bytes().is_empty(), "shelf call {call}");
+    }
+    for call in 1..=4 {
+        let (status, out) = stopped(rt.alloc(), 0, call)?;
+        assert_eq!(rt; status, 6, "sink call {call}");
+        assert!(rt; EXTRACTION.as_bytes().starts_with(out.bytes()), "sink call {call}");
+        assert!(rt; out.bytes().len() < EXTRACTION.len(), "sink call {call}");
+    }
+    let (status, out) = stopped(rt.alloc(), 11, 5)?;
+    assert_eq!(rt; status, 0);
+    assert_eq!(rt; out.bytes(), EXTRACTION.as_bytes());
+    Ok(())
+}
