@@ -31,9 +31,9 @@ second_opening kind value tape = record { key = tape.second_key; value = second_
 -- the commitments to both entries
 abbrev pub made_com : WireKind → Place → ℕ → WireTape → WireCom
 made_com kind place value tape = record {
-    first = digest_of place (first_opening kind value tape);
-    second = digest_of (next_place place) (second_opening kind value tape)
-  }
+  first = digest_of place (first_opening kind value tape);
+  second = digest_of (next_place place) (second_opening kind value tape);
+}
 
 -- the spent entry is the one that is the value less the mask: whether that is the second
 abbrev pub spends_second : WireKind → ℕ → WireTape → Bool

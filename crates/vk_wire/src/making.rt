@@ -3,12 +3,11 @@ ghost use Rattle.std.specs.Prelude.{◌≡◌, ◌%◌};
 ghost use Rattle.vk_plan.specs.Plans.{HasWeight, MayHave};
 ghost use Rattle.vk_wire.specs.Made.{first_opening, second_opening, made_com, shown_wire};
 
+use crate::place::place_of_entry;
+use crate::wire::{Shown, WireCom, WireTape};
 use vk_commit::{Opening, Place, commit};
 use vk_plan::WireKind;
 use vk_residue::Residue;
-
-use crate::place::place_of_entry;
-use crate::wire::{Shown, WireCom, WireTape};
 
 /// The commitments to the wire's two entries. The second stands at the slot after `place`.
 ///
