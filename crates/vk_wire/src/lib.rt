@@ -5,6 +5,8 @@ mod laws;
 mod making;
 mod place;
 mod reading;
+#[cfg(test)]
+mod tests;
 mod wire;
 
 pub use laws::{at_most_one_half_is_read, made_wires_read_their_halves};
