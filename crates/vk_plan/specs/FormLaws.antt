@@ -1,8 +1,7 @@
 -- How the value of a form follows its terms and the values that they name.
-use Rattle.std.specs.Prelude.{ℕ, ◌+◌, ◌*◌, ◌%◌, ◌<◌, ◌≤◌, ◌≡◌, List, [], ◌∷◌, ◌++◌, All, length, take, slice_index, slice_index_or, sum_by}
-use Rattle.std.proofs.Common.{refl, sym, ap, ◌∙◌, arith, get_or, ◌-◌, get_or-take}
-use Rattle.std.proofs.lemmas.List.{get_or_append_left}
-use Rattle.std.proofs.lemmas.Nat.{mul-mod_second}
+use Rattle.std.specs.Prelude.{ℕ, ◌+◌, ◌*◌, ◌%◌, ◌<◌, ◌≤◌, ◌≡◌, List, [], ◌∷◌, ◌++◌, length, take, slice_index, slice_index_or, sum_by}
+use Rattle.std.proofs.Common.{refl, sym, ap, ◌∙◌, subst, arith, drop}
+use Rattle.std.proofs.lemmas.List.{get_or_append_left, length-take-le, take-append-drop}
 use Rattle.std.proofs.lemmas.List.Sums.{sum_by_more, sum_by-append, sum_by-cons}
 use Rattle.std.proofs.lemmas.List.Elements.{All-head, All-tail}
 use Rattle.vk_residue.specs.Residue.{modulus, sum, product}
@@ -46,3 +45,15 @@ linear_part-append terms more values = rw (sum_by-append (term_value values) ter
 pub form_value_below : (form : Form) (values : List ℕ) → form_value form values < modulus
 unfolding form_value
 form_value_below form values = omega arith
+
+-- only the first values count, where the terms name no others
+pub form_value-take : (form : Form) (wires : ℕ) (values : List ℕ) → wires ≤ length values → NamesBelow wires form.terms
+    → form_value form (take wires values) ≡ form_value form values
+form_value-take form wires values enough names =
+    let front = length-take-le wires values enough in
+    sym (form_value_within form (take wires values) (drop wires values) (λ k d h. subst (λ n. (slice_index_or form.terms k d).wire < n) (sym front) (names k d h)))
+    ∙ ap (form_value form) (take-append-drop wires values)
+
+-- terms that name wires of the first few name wires of the first many
+pub NamesBelow-more : (few many : ℕ) (terms : List Term) → few ≤ many → NamesBelow few terms → NamesBelow many terms
+NamesBelow-more few many terms le names k d h = omega (arith, names k d h)

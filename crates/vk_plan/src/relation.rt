@@ -65,6 +65,9 @@ pub fn add_and_fill<R: Relation>(
     requires holds { Holds plan.old values.old.items }
     requires true_of { R.true_of relation.now values.old.items }
     ensures holds { OnOk result (Holds plan.new values.new.items) }
+    ensures added { OnOk result
+        (plan.new ≡ extended plan.old (R.wires relation.now (length plan.old.kinds)) (R.rows relation.now (length plan.old.kinds))) }
+    ensures filled { OnOk result (values.new.items ≡ values.old.items ++ R.filled relation.now values.old.items) }
     ensures plan_as_before { OnErr result (plan.new ≡ plan.old) }
     ensures values_as_before { OnErr result (values.new.items ≡ values.old.items) }
 {
