@@ -1,5 +1,5 @@
 -- What a shown wire reads, and why it reads nothing.
-use Rattle.std.specs.Prelude.{◌≡◌, ◌⊎◌, ℕ, ◌^◌, Bool, true, false, ◌==◌, if◌then◌else◌, List, Result, Ok, Err}
+use Rattle.std.specs.Prelude.{◌≡◌, ◌⊎◌, ℕ, ◌^◌, Bool, true, false, ◌==◌, ◌&&◌, if◌then◌else◌, List, Result, Ok, Err}
 use Rattle.vk_residue.specs.Residue.{IsResidue, difference, negative}
 use Rattle.vk_commit.specs.Commitment.{Opens, opens_test}
 use Rattle.vk_commit.specs.declared.place.Place.{Place}
@@ -61,12 +61,16 @@ abbrev pub entry_read : Place → WireCom → Bool → Opening → Result ℕ Wi
 entry_read place digests second opening =
     if opens_test (entry_place place second) (entry_digest digests second) opening then Ok opening.value else Err (Digest second)
 
+-- the two entries are -h and 2^i - h, in this order
+abbrev pub is_set : ℕ → ℕ → ℕ → ℕ → Bool
+is_set i without with h = (without == negative h) && (with == difference (2 ^ i) h)
+
 -- the half of a pair of weight 2^i with these entries
 abbrev pub set_read : ℕ → ℕ → ℕ → Result ℕ WireFault
 set_read i first second =
-    if difference second first == 2 ^ i
+    if is_set i first second (negative first)
     then Ok (negative first)
-    else (if difference first second == 2 ^ i then Ok (negative second) else Err NotASet)
+    else (if is_set i second first (negative second) then Ok (negative second) else Err NotASet)
 
 -- the half of a pair that is opened whole
 abbrev pub whole_read : ℕ → Place → WireCom → Opening → Opening → Result ℕ WireFault
