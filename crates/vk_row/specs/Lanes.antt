@@ -1,5 +1,5 @@
 -- What it is to accept what is shown of a lane, and why it may be refused.
-use Rattle.std.specs.Prelude.{◌≡◌, ◌≢◌, ◌<◌, ℕ, Bool, List, [], length, slice_index, slice_index_or}
+use Rattle.std.specs.Prelude.{◌≡◌, ◌<◌, ℕ, Bool, List, [], length, slice_index, slice_index_or}
 use Rattle.vk_commit.specs.declared.place.Place.{Place}
 use Rattle.vk_plan.specs.Plans.{PlanValue}
 use Rattle.vk_plan.specs.declared.form.Form.{Form}

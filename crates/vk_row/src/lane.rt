@@ -17,8 +17,9 @@ use vk_wire::{Shown, read, wire_place};
 
 /// The halves of the wires of the lane, if each wire reads one and each row is met.
 ///
-/// The first wire in order that reads nothing is named, else the first row that isn't met.
-#[tactic(auto, unfolding(crate::specs::LaneTests::checked_lane))]
+/// Each wire is to read its half for the bit, and the halves are to meet each row with its posted
+/// number. The first wire in order that reads nothing is named, else the first row that isn't met.
+#[tactic(auto, using(crate::proofs::Whole::ok_accepted, crate::proofs::Whole::err_faulty), unfolding(crate::specs::LaneTests::checked_lane))]
 pub fn check_lane(
     alloc: Global,
     plan: &Plan,
@@ -27,6 +28,10 @@ pub fn check_lane(
     shown: &[Shown],
 ) -> Result<Vec<Residue>, LaneFault>
     requires { HasCounts plan.now case.now shown.now }
+    ensures accepted { IfOk result
+        (λ halves. IsAcceptedLane plan.now case.now bit shown.now halves.items) }
+    ensures refused { IfErr result
+        (λ fault. (fault ≡ NoMemory) ⊎ HasLaneFault plan.now case.now bit shown.now fault) }
     ensures halves { IfOk result
         (λ halves. checked_lane plan.now case.now bit shown.now ≡ Ok halves.items) }
     ensures fault { IfErr result
@@ -49,14 +54,16 @@ fn read_wires(
     shown: &[Shown],
 ) -> Result<Vec<Residue>, LaneFault>
     requires { HasCounts plan.now case.now shown.now }
+    ensures plan { IsPlan plan.now }
     ensures one_each { IfOk result (λ halves. length halves.items ≡ length plan.now.kinds) }
     ensures halves { IfOk result
         (λ halves. halves_from case.now bit [] plan.now.kinds case.now.coms shown.now ≡ Ok halves.items) }
     ensures fault { IfErr result
         (λ fault. (fault ≡ NoMemory) ⊎ (halves_from case.now bit [] plan.now.kinds case.now.coms shown.now ≡ Err fault)) }
 {
-    let mut halves = Vec::with_capacity(alloc, shown.len())?;
-    for wire in 0..plan.wires() {
+    let wires = plan.wires();
+    let mut halves = Vec::with_capacity(alloc, wires as usize)?;
+    for wire in 0..wires {
         let half = read_wire(plan, case, bit, shown, wire)?;
         halves.push(half)?;
     }
