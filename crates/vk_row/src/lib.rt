@@ -5,6 +5,8 @@ mod case;
 mod lane;
 mod laws;
 mod row;
+#[cfg(test)]
+mod tests;
 
 pub use case::{LaneCase, LaneFault};
 pub use lane::check_lane;
