@@ -1,9 +1,9 @@
 -- The sums of accepted halves hold for the plan.
-use Rattle.std.proofs.Common.{◌≡◌, ℕ, zero, suc, ◌+◌, ◌<◌, Bool, true, false, List, [], ◌∷◌, ◌++◌, length, take, get_or, slice_index, slice_index_or, Option, Some, None, refl, sym, ap, subst, ◌∙◌, arith, add-zero}
+use Rattle.std.proofs.Common.{◌≡◌, ℕ, zero, suc, ◌+◌, ◌<◌, true, false, List, [], ◌∷◌, ◌++◌, length, take, slice_index, slice_index_or, Option, Some, None, refl, sym, ap, subst, ◌∙◌, arith, add-zero}
 use Rattle.std.proofs.lemmas.List.{get_or_default, take_more, take_all}
-use Rattle.vk_residue.specs.Residue.{modulus, IsResidue, sum}
+use Rattle.vk_residue.specs.Residue.{sum}
 use Rattle.vk_commit.specs.Commitment.{TwoOpeningsSeen}
-use Rattle.vk_plan.specs.Plans.{PlanValue, IsPlan, Holds, HasWeight, MayHave}
+use Rattle.vk_plan.specs.Plans.{PlanValue, IsPlan, Holds, MayHave}
 use Rattle.vk_plan.specs.Forms.{form_value, NamesBelow}
 use Rattle.vk_plan.specs.declared.form.Form.{Form}
 use Rattle.vk_plan.specs.declared.wire.WireKind.TheVariants.{Split}

@@ -1,5 +1,5 @@
 -- Sums of two lists, wire by wire.
-use Rattle.std.proofs.Common.{◌≡◌, ℕ, zero, suc, ◌<◌, List, [], ◌∷◌, length, get_or, slice_index, slice_index_or, refl, ap, arith}
+use Rattle.std.proofs.Common.{◌≡◌, ℕ, zero, suc, ◌<◌, List, [], ◌∷◌, length, get_or, slice_index, refl, arith}
 use Rattle.vk_residue.specs.Residue.{sum}
 use Rattle.vk_extractor.specs.Accepted.{sums}
 

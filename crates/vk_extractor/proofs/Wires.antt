@@ -1,5 +1,5 @@
 -- What the two halves of one wire come to.
-use Rattle.std.proofs.Common.{◌≡◌, ℕ, ◌+◌, ◌<◌, ◌≤◌, ◌^◌, ◌⊎◌, eq-eqb, Bool, true, false, None, refl, sym, ap, ◌∙◌, arith, rules, inl, inr, cond}
+use Rattle.std.proofs.Common.{◌≡◌, ℕ, ◌<◌, ◌≤◌, ◌^◌, ◌⊎◌, eq-eqb, Bool, true, false, None, arith, inl, inr}
 use Rattle.std.specs.Prelude.{if◌then◌else◌, ◌==◌}
 use Rattle.std.proofs.lemmas.Grind.{common_steps}
 use Rattle.std.proofs.lemmas.Bool.Decides.{nat_tests}
@@ -11,7 +11,7 @@ use Rattle.vk_commit.specs.declared.place.Opening.{Opening}
 use Rattle.vk_plan.specs.declared.wire.WireKind.{WireKind}
 use Rattle.vk_plan.specs.declared.wire.WireKind.TheVariants.{Split, Pair}
 use Rattle.vk_plan.specs.Plans.{HasWeight, MayHave}
-use Rattle.vk_wire.specs.Reads.{Reads, IsSet, OpensEntry}
+use Rattle.vk_wire.specs.Reads.{Reads, OpensEntry}
 use Rattle.vk_wire.specs.declared.wire.WireCom.{WireCom}
 use Rattle.vk_wire.specs.declared.wire.Shown.{Shown}
 use Rattle.vk_wire.specs.declared.wire.Shown.TheVariants.{Half, Whole, Spent}

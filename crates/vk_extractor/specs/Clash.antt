@@ -1,5 +1,5 @@
 -- The first entry of a lane that is opened to two values.
-use Rattle.std.specs.Prelude.{ℕ, ◌+◌, Bool, true, false, ◌==◌, List, [], ◌∷◌, Option, Some, None, if◌then◌else◌}
+use Rattle.std.specs.Prelude.{ℕ, ◌+◌, Bool, true, false, ◌==◌, List, ◌∷◌, Option, Some, None, if◌then◌else◌}
 use Rattle.vk_commit.specs.Commitment.{TwoOpeningsSeen}
 use Rattle.vk_commit.specs.declared.place.Opening.{Opening}
 use Rattle.vk_wire.specs.Places.{entry_place}

@@ -1,5 +1,6 @@
 // The values of the wires of a lane.
 ghost use Rattle.std.specs.Prelude.{◌≡◌, ◌<◌, IfOk, false, true, length, slice_index_or};
+ghost use Rattle.vk_plan.specs.Plans.{IsPlan};
 ghost use Rattle.vk_plan.specs.declared.wire.WireKind.TheVariants.{Split};
 ghost use Rattle.vk_row.specs.Lanes.{nothing_shown};
 ghost use Rattle.vk_extractor.specs.Accepted.{IsAccepted, AreSums};
@@ -21,7 +22,8 @@ pub(crate) fn values_of(
 ) -> Result<Vec<Residue>, NoMemory>
     requires zero { IsAccepted plan.now case.now false zero.now }
     requires one { IsAccepted plan.now case.now true one.now }
-    ensures { IfOk result (λ values. AreSums plan.now case.now zero.now one.now values.items) }
+    ensures plan { IsPlan plan.now }
+    ensures sums { IfOk result (λ values. AreSums plan.now case.now zero.now one.now values.items) }
 {
     let wires = plan.wires();
     let mut values = Vec::with_capacity(alloc, wires as usize)?;
