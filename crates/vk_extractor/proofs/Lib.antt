@@ -1,0 +1,5 @@
+pub mod Holding
+pub mod Linear
+pub mod Steps
+pub mod Sums
+pub mod Wires

@@ -1,0 +1,4 @@
+pub mod Accepted
+pub mod Clash
+pub mod Values
+pub mod Laws

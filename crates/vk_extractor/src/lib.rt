@@ -1,0 +1,10 @@
+//! What two accepted challenges of one lane give: the values of its wires, or two openings of one commitment.
+#![tactic(auto)]
+
+mod clash;
+mod lane;
+mod laws;
+mod values;
+
+pub use lane::{LaneErr, extract_lane};
+pub use laws::extracted_values_hold;
