@@ -2,3 +2,5 @@ pub mod Sets
 pub mod Forms
 pub mod SetLaws
 pub mod Laws
+pub mod Selected
+pub mod SelectedLaws
