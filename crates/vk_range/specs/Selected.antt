@@ -6,7 +6,6 @@ use Rattle.vk_residue.specs.Residue.{modulus, sum, difference, negative}
 use Rattle.vk_plan.specs.declared.wire.WireKind.{WireKind}
 use Rattle.vk_plan.specs.declared.wire.WireKind.TheVariants.{Pair}
 use Rattle.vk_plan.specs.declared.form.Form.{Form}
-use Rattle.vk_plan.specs.Plans.{PlanValue}
 use Rattle.vk_range.specs.declared.selected.SelectedIs.{SelectedIs}
 use Rattle.vk_range.specs.Sets.{listed, joined, IsOfWidth, test_set, plus, set_row, bit_parts}
 
@@ -14,9 +13,9 @@ use Rattle.vk_range.specs.Sets.{listed, joined, IsOfWidth, test_set, plus, set_r
 abbrev pub ones : ℕ → ℕ
 ones width = 2 ^ width - 1
 
--- 1 to 63 wires of the plan, and a width from 1 to 40
-pub record IsSelection (relation : SelectedIs) (plan : PlanValue) : Type 0 where
-  pub names : All (λ wire. wire < length plan.kinds) relation.wires
+-- 1 to 63 wires of the first so many, and a width from 1 to 40
+pub record IsSelection (relation : SelectedIs) (wires : ℕ) : Type 0 where
+  pub names : All (λ wire. wire < wires) relation.wires
   pub one : 1 ≤ length relation.wires
   pub most : length relation.wires ≤ 63
   pub some_width : 1 ≤ relation.width
@@ -26,7 +25,8 @@ pub record IsSelection (relation : SelectedIs) (plan : PlanValue) : Type 0 where
 abbrev pub place_form : SelectedIs → ℕ → ℕ → Form
 place_form relation start place = record {
   terms = record { wire = start + place; factor = negative (ones relation.width) } ∷ plus (slice_index relation.wires place) ∷ [];
-  constant = difference (ones relation.width) relation.value }
+  constant = difference (ones relation.width) relation.value;
+}
 
 -- what that comes to where the selector is 1, and where it is 0
 abbrev pub place_number : SelectedIs → List ℕ → ℕ → Bool → ℕ
@@ -69,8 +69,11 @@ unfoldable pub first_place : SelectedIs → List ℕ → ℕ
 first_place relation values = position_or_len (serves relation values) (range_with_len 0 (length relation.wires))
 
 -- the selector of the first such place is 1, and each set has the value of its place's form
+abbrev pub selector : ℕ → ℕ → ℕ
+selector place other = if other == place then 1 else 0
+
 abbrev pub selectors : ℕ → ℕ → List ℕ
-selectors count place = listed (λ other. if other == place then 1 else 0) count
+selectors count place = listed (selector place) count
 
 abbrev pub place_parts : SelectedIs → List ℕ → ℕ → ℕ → List ℕ
 place_parts relation values place other = bit_parts (place_number relation values other (other == place)) relation.width

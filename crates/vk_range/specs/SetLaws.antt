@@ -17,7 +17,7 @@ use Rattle.vk_plan.specs.Forms.{term_value, linear_part, form_value, NamesBelow}
 use Rattle.vk_plan.specs.FormLaws.{linear_part-append, form_value_within}
 use Rattle.vk_plan.specs.Plans.{HasWeight, MayHave}
 use Rattle.vk_plan.specs.PlanLaws.{FitKinds}
-use Rattle.vk_range.specs.Sets.{listed, joined, test_set, IsOfWidth, minus, minus_set, set_row, set_sum, bit_part, bit_parts}
+use Rattle.vk_range.specs.Sets.{listed, joined, test_set, IsOfWidth, plus, minus, minus_set, set_row, set_sum, bit_part, bit_parts}
 
 -- one more at the end
 pub listed_more : {A : Type 0} (f : ℕ → A) (n : ℕ) → listed f (n + 1) ≡ listed f n ++ f n ∷ []
@@ -68,6 +68,16 @@ linear_minus_set values start (suc n) =
     let terms = sum_by-map-range_with_len_more (term_value values) (λ i. minus (start + i)) 0 n n (omega arith) in
     let sums = sum_listed_more (λ i. slice_index values (start + i)) n in
     subst (λ m. sum_by (term_value values) (minus_set start m) ≡ (modulus - 1) * set_sum values start m) (add-one n) (omega arith)
+
+-- the terms of wires one after another
+pub linear_plus_set : (values : List ℕ) (start count : ℕ)
+    → sum_by (term_value values) (listed (λ i. plus (start + i)) count) ≡ set_sum values start count
+linear_plus_set values start zero = omega arith
+linear_plus_set values start (suc n) =
+    let before = linear_plus_set values start n in
+    let terms = sum_by-map-range_with_len_more (term_value values) (λ i. plus (start + i)) 0 n n (omega arith) in
+    let sums = sum_listed_more (λ i. slice_index values (start + i)) n in
+    subst (λ m. sum_by (term_value values) (listed (λ i. plus (start + i)) m) ≡ set_sum values start m) (add-one n) (omega arith)
 
 -- a row is 0 exactly where the form is what is taken off
 reads_sum : (terms taken constant : ℕ) → taken < modulus
@@ -129,12 +139,15 @@ bit_parts_fit number width w h =
     let inside : w < width = omega (arith, length_listed Pair width) in
     rw (at_listed Pair width w Split inside, at_listed (bit_part number) width w 0 inside) (bit_part_fits number w)
 
+-- the sum of values that stand after others
+pub set_sum-after : (values : List ℕ) (f : ℕ → ℕ) (count : ℕ) → set_sum (values ++ listed f count) (length values) count ≡ sum (listed f count)
+set_sum-after values f count =
+    ap sum (listed-same (λ i. slice_index (values ++ listed f count) (length values + i)) f count
+    (λ i h. get_or-append-add values (listed f count) i 0 ∙ at_listed f count i 0 h))
+
 -- after any values, the values of a set come to the number
 set_sum_filled : (values : List ℕ) (number width : ℕ) → set_sum (values ++ bit_parts number width) (length values) width ≡ number % 2 ^ width
-set_sum_filled values number width =
-    ap sum (listed-same (λ i. slice_index (values ++ bit_parts number width) (length values + i)) (bit_part number) width
-    (λ i h. get_or-append-add values (bit_parts number width) i 0 ∙ at_listed (bit_part number) width i 0 h))
-    ∙ sum_bit_parts number width
+set_sum_filled values number width = set_sum-after values (bit_part number) width ∙ sum_bit_parts number width
 
 -- where the form is a number of the width, the row of a set with the number's values is 0
 pub set_row_filled : (form : Form) (width : ℕ) (values : List ℕ) → width ≤ 60 → NamesBelow (length values) form.terms
@@ -172,8 +185,8 @@ joined_more f n = ap (joined f) (add-one n)
 pub set_row_names : (form : Form) (start width : ℕ) → NamesBelow start form.terms → NamesBelow (start + width) (set_row form start width).terms
 set_row_names form start width names =
     All-append (λ (term : Term). term.wire < start + width) form.terms (minus_set start width)
-      (λ k d h. omega (arith, names k d h))
-      (All-listed (λ (term : Term). term.wire < start + width) (λ i. minus (start + i)) width (λ i h. omega arith))
+    (λ k d h. omega (arith, names k d h))
+    (All-listed (λ (term : Term). term.wire < start + width) (λ i. minus (start + i)) width (λ i h. omega arith))
 
 pub test_set_weights : (width : ℕ) → width ≤ 61 → All HasWeight (test_set width)
 test_set_weights width small = All-listed HasWeight Pair width (λ i h. omega arith)
