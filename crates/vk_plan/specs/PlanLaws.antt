@@ -1,8 +1,8 @@
 -- What holds for a longer plan, and what holds for the plan before.
-use Rattle.std.specs.Prelude.{ℕ, ◌+◌, ◌-◌, ◌<◌, ◌≤◌, ◌≡◌, List, ◌++◌, Some, All, length, take, drop, slice_index, slice_index_or}
-use Rattle.std.proofs.Common.{refl, ap, ◌∙◌, arith, inl, inr, get_or, get_or-take, length-append, get_or-drop, get_or-append-add}
-use Rattle.std.proofs.lemmas.List.{get_or_append_left, get_or-append_right, length-take-le}
-use Rattle.std.proofs.lemmas.List.Elements.{All-append, All-take}
+use Rattle.std.specs.Prelude.{ℕ, ◌+◌, ◌-◌, ◌<◌, ◌≤◌, ◌≡◌, List, ◌++◌, Some, All, length, replicate, take, drop, slice_index, slice_index_or}
+use Rattle.std.proofs.Common.{sym, refl, ap, ◌∙◌, arith, inl, inr, get_or, get_or-take, length-append, get_or-drop, get_or-append-add}
+use Rattle.std.proofs.lemmas.List.{length-replicate, get_or-replicate, get_or_append_left, get_or-append_right, length-take-le}
+use Rattle.std.proofs.lemmas.List.Elements.{All-nil, All-replicate, All-append, All-take}
 use Rattle.std.proofs.lemmas.Bool.{cases_lt}
 use Rattle.std.proofs.lemmas.Option.{slice_get_within, slice_get-get_or, get_or_from_slice_get}
 use Rattle.vk_residue.specs.Residue.{IsResidue}
@@ -11,7 +11,7 @@ use Rattle.vk_plan.specs.declared.wire.WireKind.TheVariants.{Split}
 use Rattle.vk_plan.specs.declared.form.Form.{Form}
 use Rattle.vk_plan.specs.Forms.{form_value, NamesBelow}
 use Rattle.vk_plan.specs.FormLaws.{form_value_within, form_value-take, NamesBelow-more}
-use Rattle.vk_plan.specs.Plans.{PlanValue, NamesOwnWires, IsPlan, Holds, HasWeight, MayHave, extended}
+use Rattle.vk_plan.specs.Plans.{PlanValue, NamesOwnWires, IsPlan, Holds, HasWeight, MayHave, plan_of_inputs, extended}
 
 -- each wire may have its value
 abbrev pub FitKinds : List WireKind → List ℕ → Type 0
@@ -86,8 +86,8 @@ pub names-extended : (plan : PlanValue) (kinds : List WireKind) (rows : List For
 names-extended plan kinds rows own names =
     let total = length-append plan.kinds kinds in
     All-append (λ row. NamesBelow (length (plan.kinds ++ kinds)) row.terms) plan.rows rows
-      (λ k d h. NamesBelow-more (length plan.kinds) (length (plan.kinds ++ kinds)) (get_or plan.rows k d).terms (omega arith) (own k d h))
-      (rw total names)
+    (λ k d h. NamesBelow-more (length plan.kinds) (length (plan.kinds ++ kinds)) (get_or plan.rows k d).terms (omega arith) (own k d h))
+    (rw total names)
 
 -- a plan with wires and rows at its end is one where their weights, names and numbers are those of a plan
 pub IsPlan-extended : (plan : PlanValue) (kinds : List WireKind) (rows : List Form) → IsPlan plan
@@ -107,4 +107,27 @@ IsPlan-extended plan kinds rows is_plan weights names wires few_rows =
       names = names-extended plan kinds rows is_plan.names names;
       wires = omega arith;
       few_rows = omega arith;
+    }
+
+-- inputs alone: a plan, and residues hold for it
+pub IsPlan-inputs : (inputs : ℕ) → inputs ≤ 65536 → IsPlan (plan_of_inputs inputs)
+IsPlan-inputs inputs most =
+    let long = length-replicate inputs Split in
+    record {
+      inputs_are_split = λ w h.
+          slice_get-get_or (replicate inputs Split) w Split (omega arith) ∙ ap Some (get_or-replicate inputs w Split Split h);
+      weights = All-replicate HasWeight inputs Split tt;
+      names = All-nil (λ row. NamesBelow (length (replicate inputs Split)) row.terms);
+      wires = omega arith;
+      few_rows = omega arith;
+    }
+
+pub Holds-inputs : (inputs : ℕ) (values : List ℕ) → length values ≡ inputs → All IsResidue values → Holds (plan_of_inputs inputs) values
+Holds-inputs inputs values same residues =
+    let long = length-replicate inputs Split in
+    record {
+      one_each = same ∙ sym long;
+      residues = residues;
+      pairs = λ w h. rw (get_or-replicate inputs w Split Split (omega arith)) tt;
+      zero_rows = All-nil (λ row. form_value row values ≡ 0);
     }

@@ -4,3 +4,4 @@ pub mod SetLaws
 pub mod Laws
 pub mod Selected
 pub mod SelectedLaws
+pub mod Rooms

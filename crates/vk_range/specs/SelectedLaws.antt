@@ -75,7 +75,7 @@ stage_rows relation start count = selector_row relation start ∷ listed (place_
 abbrev pub stage : SelectedIs → PlanValue → ℕ → PlanValue
 stage relation plan count = extended plan (stage_kinds relation count) (stage_rows relation (length plan.kinds) count)
 
-length_kinds : (relation : SelectedIs) (count : ℕ) → length (stage_kinds relation count) ≡ length relation.wires + count * relation.width
+pub length_kinds : (relation : SelectedIs) (count : ℕ) → length (stage_kinds relation count) ≡ length relation.wires + count * relation.width
 length_kinds relation count =
     length-append (listed (λ _. Pair 0) (length relation.wires)) (joined (λ _. test_set relation.width) count)
     ∙ omega (
@@ -478,25 +478,32 @@ pub stage_none : (relation : SelectedIs) (plan : PlanValue)
     → stage relation plan 0 ≡ extended plan (listed (λ _. Pair 0) (length relation.wires)) (selector_row relation (length plan.kinds) ∷ [])
 stage_none relation plan = ap (λ k. extended plan k (selector_row relation (length plan.kinds) ∷ [])) (append-nil (listed (λ _. Pair 0) (length relation.wires)))
 
--- each such plan is one, where there is room for all
+-- each such plan is one, where there is room
+pub stage_room : (relation : SelectedIs) (plan : PlanValue) (count : ℕ) → IsPlan plan → IsSelection relation (length plan.kinds) → count ≤ length relation.wires
+    → length plan.kinds + length (stage_kinds relation count) ≤ 16777216 → length plan.rows + length (stage_rows relation (length plan.kinds) count) ≤ 16777216
+    → IsPlan (stage relation plan count)
+stage_room relation plan count is_plan fits few wires rows =
+    let width = relation.width in
+    IsPlan-extended plan (stage_kinds relation count) (stage_rows relation (length plan.kinds) count) is_plan
+      (All-append HasWeight (listed (λ _. Pair 0) (length relation.wires)) (joined (λ _. test_set width) count)
+        (All-listed HasWeight (λ _. Pair 0) (length relation.wires) (λ i h. omega arith))
+        (All-joined HasWeight (λ _. test_set width) count (λ i h. test_set_weights width (omega (arith, fits.most_width)))))
+      (stage_names relation plan count fits few) wires rows
+
+-- and where there is room for all
 pub IsPlan-stage : (relation : SelectedIs) (plan : PlanValue) (count : ℕ) → IsPlan plan → IsSelection relation (length plan.kinds)
     → IsPlan (extended plan (selected_wires relation) (selected_rows relation (length plan.kinds))) → count ≤ length relation.wires
     → IsPlan (stage relation plan count)
 IsPlan-stage relation plan count is_plan fits whole few =
     let start = length plan.kinds in
     let n = length relation.wires in
-    let width = relation.width in
-    let products = mul-le-mul_right width few in
+    let products = mul-le-mul_right relation.width few in
     let all = length_stage relation plan n in
     let all_rows = length-append plan.rows (selected_rows relation start) in
     let here = length_kinds relation count in
-    IsPlan-extended plan (stage_kinds relation count) (stage_rows relation start count) is_plan
-    (All-append HasWeight (listed (λ _. Pair 0) n) (joined (λ _. test_set width) count)
-    (All-listed HasWeight (λ _. Pair 0) n (λ i h. omega arith))
-    (All-joined HasWeight (λ _. test_set width) count (λ i h. test_set_weights width (omega (arith, fits.most_width)))))
-    (stage_names relation plan count fits few)
-    (omega (arith, whole.wires))
-    (omega (arith, whole.few_rows, length_listed (place_row relation start) n, length_listed (place_row relation start) count))
+    stage_room relation plan count is_plan fits few
+      (omega (arith, whole.wires))
+      (omega (arith, whole.few_rows, length_listed (place_row relation start) n, length_listed (place_row relation start) count))
 
 -- what the code meets: room for the next place, the plan after it, and the plan cut back
 pub place_room : (relation : SelectedIs) (plan now : PlanValue) (count : ℕ) → IsPlan plan → IsSelection relation (length plan.kinds)
