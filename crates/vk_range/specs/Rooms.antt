@@ -40,7 +40,7 @@ pub copied_room : (plan : PlanValue) (wire : ℕ) → IsPlan plan → wire < len
     → IsPlan (extended plan (Split ∷ []) (difference_form wire (length plan.kinds) false ∷ []))
 copied_room plan wire is_plan h wires rows =
     row_room plan (Split ∷ []) (difference_form wire (length plan.kinds) false) is_plan (All-cons HasWeight Split [] tt (All-nil HasWeight))
-      (difference_names (length plan.kinds + 1) wire (length plan.kinds) false (omega arith) (omega arith)) wires rows
+    (difference_names (length plan.kinds + 1) wire (length plan.kinds) false (omega arith) (omega arith)) wires rows
 
 pub in_range_room : (plan : PlanValue) (form : Form) (width : ℕ) → IsPlan plan → IsRange form width plan
     → length plan.kinds + width ≤ 16777216 → length plan.rows + 1 ≤ 16777216
@@ -48,9 +48,9 @@ pub in_range_room : (plan : PlanValue) (form : Form) (width : ℕ) → IsPlan pl
 in_range_room plan form width is_plan fits wires rows =
     let set = length_listed Pair width in
     row_room plan (test_set width) (set_row form (length plan.kinds) width) is_plan (test_set_weights width (omega (arith, fits.most)))
-      (NamesBelow-more (length plan.kinds + width) (length plan.kinds + length (test_set width)) (set_row form (length plan.kinds) width).terms (omega arith)
-        (set_row_names form (length plan.kinds) width fits.names))
-      (omega arith) rows
+    (NamesBelow-more (length plan.kinds + width) (length plan.kinds + length (test_set width)) (set_row form (length plan.kinds) width).terms (omega arith)
+    (set_row_names form (length plan.kinds) width fits.names))
+    (omega arith) rows
 
 pub at_least_room : (plan : PlanValue) (left right : ℕ) (strict : Bool) (width : ℕ) → IsPlan plan
     → left < length plan.kinds → right < length plan.kinds → 1 ≤ width → width ≤ 40
@@ -58,7 +58,7 @@ pub at_least_room : (plan : PlanValue) (left right : ℕ) (strict : Bool) (width
     → IsPlan (extended plan (test_set width) (set_row (difference_form left right strict) (length plan.kinds) width ∷ []))
 at_least_room plan left right strict width is_plan l r some most wires rows =
     in_range_room plan (difference_form left right strict) width is_plan
-      (record { names = difference_names (length plan.kinds) left right strict l r; some = some; most = most }) wires rows
+    (record { names = difference_names (length plan.kinds) left right strict l r; some = some; most = most }) wires rows
 
 pub selected_room : (plan : PlanValue) (relation : SelectedIs) → IsPlan plan → IsSelection relation (length plan.kinds)
     → length plan.kinds + length relation.wires + length relation.wires * relation.width ≤ 16777216
@@ -66,5 +66,5 @@ pub selected_room : (plan : PlanValue) (relation : SelectedIs) → IsPlan plan �
     → IsPlan (extended plan (selected_wires relation) (selected_rows relation (length plan.kinds)))
 selected_room plan relation is_plan fits wires rows =
     stage_room relation plan (length relation.wires) is_plan fits (omega arith)
-      (omega (arith, length_kinds relation (length relation.wires)))
-      (omega (arith, length_listed (place_row relation (length plan.kinds)) (length relation.wires)))
+    (omega (arith, length_kinds relation (length relation.wires)))
+    (omega (arith, length_listed (place_row relation (length plan.kinds)) (length relation.wires)))

@@ -410,6 +410,18 @@ selected_from relation values place inside test =
       others = λ other h ne. subst (λ b. IsOfWidth relation.width (place_number relation values other b)) (ne_eqb other place ne) (stands other h);
     }
 
+-- the first place that may be selected, where there is one
+pub first_place_is_selected : (relation : SelectedIs) (values : List ℕ) → first_place relation values < length relation.wires
+    → IsSelected relation values (first_place relation values)
+unfolding first_place
+first_place_is_selected relation values inside =
+    let n = length relation.wires in
+    let test = serves relation values in
+    let first = first_place relation values in
+    selected_from relation values first inside
+    (subst (λ p. serves relation values p ≡ true) (at_range n first 0 inside)
+    (passes_at_first test (range_with_len 0 n) 0 (omega (arith, length-range_with_len 0 n))))
+
 -- where some place may be selected, the first such place may be
 first_is_selected : (relation : SelectedIs) (values : List ℕ) (place : ℕ) → IsSelected relation values place → IsSelected relation values (first_place relation values)
 unfolding first_place
@@ -420,8 +432,7 @@ first_is_selected relation values place selected =
     let long = length-range_with_len 0 n in
     let first = position_or_len test xs in
     elim (cases_lt first (length xs)) [
-      | inl q ↦ selected_from relation values first (omega arith)
-          (subst (λ p. serves relation values p ≡ true) (at_range n first 0 (omega arith)) (passes_at_first test xs 0 q))
+      | inl q ↦ first_place_is_selected relation values (omega arith)
       | inr q ↦
           (let fails = subst (λ p. serves relation values p ≡ false) (at_range n place 0 selected.is_place) (fails_before_first test xs place 0 (omega (arith, selected.is_place))) in
           absurd (false≢true (sym fails ∙ serves_from relation values place selected)))
@@ -485,10 +496,10 @@ pub stage_room : (relation : SelectedIs) (plan : PlanValue) (count : ℕ) → Is
 stage_room relation plan count is_plan fits few wires rows =
     let width = relation.width in
     IsPlan-extended plan (stage_kinds relation count) (stage_rows relation (length plan.kinds) count) is_plan
-      (All-append HasWeight (listed (λ _. Pair 0) (length relation.wires)) (joined (λ _. test_set width) count)
-        (All-listed HasWeight (λ _. Pair 0) (length relation.wires) (λ i h. omega arith))
-        (All-joined HasWeight (λ _. test_set width) count (λ i h. test_set_weights width (omega (arith, fits.most_width)))))
-      (stage_names relation plan count fits few) wires rows
+    (All-append HasWeight (listed (λ _. Pair 0) (length relation.wires)) (joined (λ _. test_set width) count)
+    (All-listed HasWeight (λ _. Pair 0) (length relation.wires) (λ i h. omega arith))
+    (All-joined HasWeight (λ _. test_set width) count (λ i h. test_set_weights width (omega (arith, fits.most_width)))))
+    (stage_names relation plan count fits few) wires rows
 
 -- and where there is room for all
 pub IsPlan-stage : (relation : SelectedIs) (plan : PlanValue) (count : ℕ) → IsPlan plan → IsSelection relation (length plan.kinds)
@@ -502,8 +513,8 @@ IsPlan-stage relation plan count is_plan fits whole few =
     let all_rows = length-append plan.rows (selected_rows relation start) in
     let here = length_kinds relation count in
     stage_room relation plan count is_plan fits few
-      (omega (arith, whole.wires))
-      (omega (arith, whole.few_rows, length_listed (place_row relation start) n, length_listed (place_row relation start) count))
+    (omega (arith, whole.wires))
+    (omega (arith, whole.few_rows, length_listed (place_row relation start) n, length_listed (place_row relation start) count))
 
 -- what the code meets: room for the next place, the plan after it, and the plan cut back
 pub place_room : (relation : SelectedIs) (plan now : PlanValue) (count : ℕ) → IsPlan plan → IsSelection relation (length plan.kinds)

@@ -10,3 +10,6 @@ mod sets;
 pub use equal::{Copied, Equal, SumIs};
 pub use range::{AtLeast, InRange};
 pub use selected::SelectedIs;
+
+#[cfg(test)]
+mod tests;
