@@ -1,6 +1,6 @@
 -- The two laws of each relation: what its rows show, and that its own values make them 0.
-use Rattle.std.specs.Prelude.{ℕ, ◌+◌, ◌-◌, ◌*◌, ◌%◌, ◌^◌, ◌<◌, ◌≤◌, ◌≡◌, Bool, false, List, [], ◌∷◌, ◌++◌, All, length, take, slice_index, slice_index_or}
-use Rattle.std.proofs.Common.{refl, zero, suc, sym, ap, ◌∙◌, subst, arith, drop, get_or, get_or-take, get_or-drop, length-append}
+use Rattle.std.specs.Prelude.{ℕ, ◌+◌, ◌-◌, ◌*◌, ◌%◌, ◌<◌, ◌≤◌, ◌≡◌, Bool, false, List, [], ◌∷◌, ◌++◌, length, take, slice_index, slice_index_or}
+use Rattle.std.proofs.Common.{refl, zero, suc, sym, ◌∙◌, subst, arith, get_or-drop, length-append}
 use Rattle.std.proofs.lemmas.List.{length-take-le, get_or_append_left, get_or_at}
 use Rattle.std.proofs.lemmas.List.Elements.{All-cons, All-nil, All-head, All-take}
 use Rattle.vk_residue.specs.Residue.{modulus, IsResidue}
@@ -8,11 +8,11 @@ use Rattle.vk_plan.specs.declared.wire.WireKind.{WireKind}
 use Rattle.vk_plan.specs.declared.wire.WireKind.TheVariants.{Split, Pair}
 use Rattle.vk_plan.specs.declared.form.Term.{Term}
 use Rattle.vk_plan.specs.declared.form.Form.{Form}
-use Rattle.vk_plan.specs.Forms.{term_value, linear_part, form_value, NamesBelow}
+use Rattle.vk_plan.specs.Forms.{linear_part, form_value, NamesBelow}
 use Rattle.vk_plan.specs.FormLaws.{form_value-take, form_value_within}
-use Rattle.vk_plan.specs.Plans.{PlanValue, NamesOwnWires, Holds, HasWeight, MayHave, extended}
-use Rattle.vk_plan.specs.PlanLaws.{FitKinds, AreZero, Holds-extended, FitKinds-appended, AreZero-appended}
-use Rattle.vk_range.specs.Sets.{listed, IsOfWidth, test_set, set_row, bit_part, bit_parts, plus, minus}
+use Rattle.vk_plan.specs.Plans.{PlanValue, NamesOwnWires, Holds, MayHave, extended}
+use Rattle.vk_plan.specs.PlanLaws.{AreZero, Holds-extended, FitKinds-appended, AreZero-appended}
+use Rattle.vk_range.specs.Sets.{IsOfWidth, test_set, set_row, bit_part, bit_parts, plus, minus}
 use Rattle.vk_range.specs.Forms.{difference_form, IsRange}
 use Rattle.vk_range.specs.SetLaws.{length_listed, at_listed, bit_parts_below, bit_parts_fit, set_row_sound, set_row_filled}
 

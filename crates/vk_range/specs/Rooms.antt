@@ -1,7 +1,7 @@
 -- That a plan with a relation at its end is one: its own rows name wires that are there, and there is room.
-use Rattle.std.specs.Prelude.{ℕ, ◌+◌, ◌*◌, ◌<◌, ◌≤◌, ◌≡◌, Bool, false, List, [], ◌∷◌, ◌++◌, All, length}
-use Rattle.std.proofs.Common.{arith, length-append}
-use Rattle.std.proofs.lemmas.List.Elements.{All-nil, All-cons, All-append}
+use Rattle.std.specs.Prelude.{ℕ, ◌+◌, ◌*◌, ◌<◌, ◌≤◌, Bool, false, List, [], ◌∷◌, All, length}
+use Rattle.std.proofs.Common.{arith}
+use Rattle.std.proofs.lemmas.List.Elements.{All-nil, All-cons}
 use Rattle.vk_plan.specs.declared.wire.WireKind.{WireKind}
 use Rattle.vk_plan.specs.declared.wire.WireKind.TheVariants.{Split, Pair}
 use Rattle.vk_plan.specs.declared.form.Form.{Form}
@@ -10,7 +10,7 @@ use Rattle.vk_plan.specs.FormLaws.{NamesBelow-more}
 use Rattle.vk_plan.specs.Plans.{PlanValue, IsPlan, HasWeight, extended}
 use Rattle.vk_plan.specs.PlanLaws.{IsPlan-extended}
 use Rattle.vk_range.specs.declared.selected.SelectedIs.{SelectedIs}
-use Rattle.vk_range.specs.Sets.{listed, joined, test_set, set_row}
+use Rattle.vk_range.specs.Sets.{test_set, set_row}
 use Rattle.vk_range.specs.Forms.{difference_form, IsRange}
 use Rattle.vk_range.specs.SetLaws.{length_listed, set_row_names, test_set_weights}
 use Rattle.vk_range.specs.Laws.{difference_names}

@@ -1,9 +1,9 @@
 -- The two laws of a selection.
-use Rattle.std.specs.Prelude.{ℕ, ◌+◌, ◌-◌, ◌*◌, ◌%◌, ◌^◌, ◌<◌, ◌≤◌, ◌≡◌, ◌≢◌, ◌⊎◌, ◌==◌, Bool, true, false, if◌then◌else◌, nat_lt, List, [], ◌∷◌, ◌++◌, All, length, take, slice_index, slice_index_or, sum_by}
+use Rattle.std.specs.Prelude.{ℕ, ◌+◌, ◌-◌, ◌*◌, ◌%◌, ◌^◌, ◌<◌, ◌≤◌, ◌≡◌, ◌≢◌, ◌⊎◌, ◌==◌, Bool, true, false, if◌then◌else◌, List, [], ◌∷◌, ◌++◌, All, length, take, slice_index, slice_index_or}
 use Rattle.std.specs.Prelude.{sum as total}
-use Rattle.std.specs.List.{range_with_len, list_all, position_or_len}
+use Rattle.std.specs.List.{range_with_len, position_or_len}
 use Rattle.std.proofs.Common.{refl, sym, ap, ◌∙◌, subst, arith, inl, inr, zero, suc, add-one, length-append, append_assoc, mul-le-mul_right, suc-mul, get_or-take, get_or-drop}
-use Rattle.std.proofs.lemmas.List.{length-take-le, get_or_append_left, append-nil, get_or-append-add, take_all, take_at, take-take}
+use Rattle.std.proofs.lemmas.List.{get_or_append_left, append-nil, get_or-append-add, take_all, take_at, take-take}
 use Rattle.std.proofs.lemmas.List.Elements.{All-nil, All-cons, All-append, All-head}
 use Rattle.std.proofs.lemmas.List.Sums.{sum_by-le, list_all-from_AllPass, AllPass-from_list_all, passes_at_first, fails_before_first, position_or_len_is}
 use Rattle.std.proofs.lemmas.List.FromFn.{length-range_with_len, get_or-range_with_len}
@@ -15,12 +15,12 @@ use Rattle.vk_plan.specs.declared.wire.WireKind.{WireKind}
 use Rattle.vk_plan.specs.declared.wire.WireKind.TheVariants.{Split, Pair}
 use Rattle.vk_plan.specs.declared.form.Term.{Term}
 use Rattle.vk_plan.specs.declared.form.Form.{Form}
-use Rattle.vk_plan.specs.Forms.{term_value, linear_part, form_value, NamesBelow}
-use Rattle.vk_plan.specs.FormLaws.{form_value-take, form_value_within, NamesBelow-more}
-use Rattle.vk_plan.specs.Plans.{PlanValue, NamesOwnWires, IsPlan, Holds, HasWeight, MayHave, extended, shortened}
-use Rattle.vk_plan.specs.PlanLaws.{FitKinds, AreZero, Holds-extended, Holds-before, FitKinds-appended, AreZero-appended, names-extended, IsPlan-extended}
+use Rattle.vk_plan.specs.Forms.{linear_part, form_value, NamesBelow}
+use Rattle.vk_plan.specs.FormLaws.{form_value-take, NamesBelow-more}
+use Rattle.vk_plan.specs.Plans.{PlanValue, NamesOwnWires, IsPlan, Holds, HasWeight, extended, shortened}
+use Rattle.vk_plan.specs.PlanLaws.{Holds-extended, Holds-before, FitKinds-appended, AreZero-appended, names-extended, IsPlan-extended}
 use Rattle.vk_range.specs.declared.selected.SelectedIs.{SelectedIs}
-use Rattle.vk_range.specs.Sets.{listed, joined, IsOfWidth, test_set, set_sum, set_row, bit_parts, plus, minus}
+use Rattle.vk_range.specs.Sets.{listed, joined, IsOfWidth, test_set, set_sum, set_row, bit_parts, plus}
 use Rattle.vk_range.specs.Forms.{IsRange}
 use Rattle.vk_range.specs.SetLaws.{sum_listed_more, linear_plus_set, set_sum-after, listed_more, joined_more, length_listed, length_joined, at_listed, All-listed, All-joined, set_row_names, test_set_weights}
 use Rattle.vk_range.specs.Laws.{in_range_sound, in_range_complete}

@@ -1,4 +1,4 @@
-use Rattle.std.proofs.Common.{◌<◌, ◌≡◌, length, sym, subst, arith, lit<}
+use Rattle.std.proofs.Common.{◌<◌, ◌≡◌, [], length, sym, subst, arith, lit<}
 use Rattle.std.proofs.lemmas.List.Elements.{All-cons, All-nil}
 use Rattle.vk_plan.specs.declared.form.Term.{Term}
 use Rattle.vk_plan.specs.declared.form.Form.{Form}

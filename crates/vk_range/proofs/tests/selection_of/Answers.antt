@@ -11,7 +11,10 @@ three wires value same =
     let Below : ℕ → Type 0 = λ wire. wire < 3 in
     subst (λ (w : List ℕ). IsSelection (record { wires = w; value = value; width = 4 }) 3) (sym same) (record {
       names = All-cons Below 0 (1 ∷ 2 ∷ []) (lit< tt) (All-cons Below 1 (2 ∷ []) (lit< tt) (All-cons Below 2 [] (lit< tt) (All-nil Below)));
-      one = lit≤ tt; most = lit≤ tt; some_width = lit≤ tt; most_width = lit≤ tt;
+      one = lit≤ tt;
+      most = lit≤ tt;
+      some_width = lit≤ tt;
+      most_width = lit≤ tt;
     })
 
 pub fill-requires-clause-fits : goal.fill-requires-clause-fits
