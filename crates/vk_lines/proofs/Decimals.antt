@@ -88,7 +88,7 @@ unfolding decimal_of
 decimal_of-other most text h = rw h refl
 
 -- std's words for digits and their value
-own : IsNumeralModel (λ ds. all_ascii_digits ds ≡ true) (digits_value 10)
+pub own : IsNumeralModel (λ ds. all_ascii_digits ds ≡ true) (digits_value 10)
 own = numerals_by_value _ tells_all_ascii_digits
 
 -- what a canonical start tells
