@@ -9,7 +9,7 @@ use Rattle.std.proofs.lemmas.List.Folds.{list_all-append}
 use Rattle.std.proofs.lemmas.List.Splits.{join_with_byte-slice_split}
 use Rattle.std.proofs.lemmas.Slice.Eq.{bytes_eq-Decides}
 use Rattle.hex.specs.Hex.{IsBytes}
-use Rattle.vk_lines.specs.Tokens.{decimal_of, fields_of, hex_of, hex_text, is_lower_digit, meets, one_by, one_field, tagged_by, two_by, two_fields, three_by, three_fields, four_by, four_fields, word_of, ◌>>=◌}
+use Rattle.vk_lines.specs.Tokens.{number_line, number_token, id_line, digests_line, decimal_of, fields_of, hex_of, hex_text, is_lower_digit, meets, one_by, one_field, tagged_by, two_by, two_fields, three_by, three_fields, four_by, four_fields, word_of, ◌>>=◌}
 use Rattle.vk_lines.specs.Forms.{IsLine, IsToken, is_plain, is_word, spaced}
 use Rattle.vk_lines.proofs.Decimals.{own, decimal_of-some, decimal_of-decimal}
 use Rattle.vk_lines.proofs.Hexadecimal.{hex_text-lower, hex_of-some, hex_of-hex_text, length-hex_text}
@@ -368,3 +368,18 @@ four_line {X = X} {IsA = IsA} {IsB = IsB} {IsC = IsC} {IsD = IsD} {text_a = text
           let tail = 32 ∷ text_b (b x) ++ last in
           omega (arith, length-append word (32 ∷ text_a (a x) ++ tail), length-append (text_a (a x)) tail, length-append (text_b (b x)) last, length-append (text_c (c x)) (32 ∷ text_d (d x)));
     }
+
+-- ---- the lines that several forms have
+
+pub number_line_is : (word : List ℕ) (least most : ℕ) → is_word word ≡ true → length word ≤ 200 → most < 2 ^ 64
+    → IsLine (λ number. (number ≤ most) × (nat_le least number ≡ true)) (λ number. spaced (word ∷ decimal number ∷ [])) (number_line word least most)
+number_line_is word least most is_a_word short fits = one_line word is_a_word (meeting_token (λ number. nat_le least number) (decimal_token most fits)) (omega arith)
+
+pub id_line_is : (word : List ℕ) → is_word word ≡ true → length word ≤ 200
+    → IsLine (λ id. (length id ≡ 16) × IsBytes id) (λ id. spaced (word ∷ hex_text id ∷ [])) (id_line word)
+id_line_is word is_a_word short = one_line word is_a_word (hex_token 16) (omega arith)
+
+pub digests_line_is : (word : List ℕ) → is_word word ≡ true → length word ≤ 100
+    → IsLine {X = List ℕ × List ℕ} (λ two. ((length two.0 ≡ 32) × IsBytes two.0) × ((length two.1 ≡ 32) × IsBytes two.1)) (λ two. spaced (word ∷ hex_text two.0 ∷ hex_text two.1 ∷ [])) (digests_line word)
+digests_line_is word is_a_word short =
+    two_line word is_a_word (hex_token 32) (hex_token 32) (omega arith) (λ a b. (a, b)) (λ two. two.0) (λ two. two.1) (λ two. refl) (λ a b. refl) (λ a b. refl)

@@ -114,3 +114,20 @@ four_by word first second third fourth make fields =
 
 abbrev pub four_fields : {A B C D X : Type 0} → List ℕ → (List ℕ → Option A) → (List ℕ → Option B) → (List ℕ → Option C) → (List ℕ → Option D) → (A → B → C → D → X) → List ℕ → Option X
 four_fields word first second third fourth make text = four_by word first second third fourth make (fields_of text)
+
+-- ---- the lines that several forms have
+
+-- a line of a word and a number from `least` to `most`
+abbrev pub number_token : ℕ → ℕ → List ℕ → Option ℕ
+number_token least most text = decimal_of most text >>= meets (λ number. nat_le least number)
+
+abbrev pub number_line : List ℕ → ℕ → ℕ → List ℕ → Option ℕ
+number_line word least most text = one_field word (number_token least most) text
+
+-- a line of a word and an id of 16 bytes
+abbrev pub id_line : List ℕ → List ℕ → Option (List ℕ)
+id_line word text = one_field word (hex_of 16) text
+
+-- a line of a word and two digests of 32 bytes
+abbrev pub digests_line : List ℕ → List ℕ → Option (List ℕ × List ℕ)
+digests_line word text = two_fields word (hex_of 32) (hex_of 32) (λ first second. (first, second)) text

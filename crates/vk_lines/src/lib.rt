@@ -6,6 +6,7 @@ mod lines;
 mod step;
 mod tokens;
 mod window;
+mod writing;
 
 pub use errors::{LineErr, ReadErr, StartErr};
 pub use lines::Lines;
@@ -14,3 +15,6 @@ pub use tokens::{
     field, fields, push_decimal, push_hex, read_decimal, read_hex16, read_hex32, read_tag,
     read_word,
 };
+
+#[cfg(test)]
+mod tests;

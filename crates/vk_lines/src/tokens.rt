@@ -3,7 +3,7 @@
 ghost use Rattle.std.specs.Prelude.{◌≡◌, ◌↔◌, ◌++◌, List, decimal, length, drop, slice_get, slice_index, option_map, MatchOption, OnErr, OnOk, ℕ, ◌≤◌, ◌<◌, true, false};
 ghost use Rattle.std.specs.List.{list_all};
 ghost use Rattle.hex.specs.Hex.{lower_digits};
-ghost use Rattle.vk_lines.specs.Tokens.{fields_of, word_of, tagged, decimal_of, hex_of, hex_text, ReadsDecimal, ReadsHex, is_lower_digit, next_number, starts_canonical};
+ghost use Rattle.vk_lines.specs.Tokens.{fields_of, word_of, tagged, number_line, id_line, digests_line, decimal_of, hex_of, hex_text, ReadsDecimal, ReadsHex, is_lower_digit, next_number, starts_canonical};
 
 use vk_residue::NoMemory;
 
@@ -110,6 +110,34 @@ pub fn read_hex32(text: &[u8]) -> Option<[u8; 32]>
     } else {
         None
     }
+}
+
+/// The number of a line of this word and a number from `least` to `most`.
+pub fn read_number(text: &[u8], word: &[u8], least: u64, most: u64) -> Option<u64>
+    ensures { result ≡ number_line word.now least most text.now }
+{
+    read_tag(text, word, 2)?;
+    let number = read_decimal(field(text, 1)?, most)?;
+    if least <= number { Some(number) } else { None }
+}
+
+/// The id of a line of this word and 16 bytes in hexadecimal.
+pub fn read_id(text: &[u8], word: &[u8]) -> Option<[u8; 16]>
+    ensures { result ≡ id_line word.now text.now }
+{
+    read_tag(text, word, 2)?;
+    let id = read_hex16(field(text, 1)?);
+    id
+}
+
+/// The digests of a line of this word and twice 32 bytes in hexadecimal.
+pub fn read_digests(text: &[u8], word: &[u8]) -> Option<([u8; 32], [u8; 32])>
+    ensures { result ≡ digests_line word.now text.now }
+{
+    read_tag(text, word, 3)?;
+    let first = read_hex32(field(text, 1)?)?;
+    let second = read_hex32(field(text, 2)?)?;
+    Some((first, second))
 }
 
 /// Appends the canonical decimal of a number. After `NoMemory`, `out` is as before.
