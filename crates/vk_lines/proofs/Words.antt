@@ -1,5 +1,5 @@
 -- Words, and lines of words between single spaces.
-use Rattle.std.proofs.Common.{◌≡◌, if◌then◌else◌, ℕ, suc, ◌+◌, ◌*◌, ◌^◌, ◌<◌, ◌≤◌, ◌==◌, nat_lt, Bool, true, false, List, [], ◌∷◌, ◌++◌, length, decimal, Option, Some, None, refl, ap, sym, ◌∙◌, arith, length-append}
+use Rattle.std.proofs.Common.{nat_le, ◌≡◌, if◌then◌else◌, ℕ, suc, ◌+◌, ◌*◌, ◌^◌, ◌<◌, ◌≤◌, ◌==◌, nat_lt, Bool, true, false, List, [], ◌∷◌, ◌++◌, length, decimal, Option, Some, None, refl, ap, sym, ◌∙◌, arith, length-append}
 use Rattle.std.specs.List.{list_all, join_with_byte, slice_get}
 use Rattle.std.specs.Str.{bytes_eq, all_ascii_digits}
 use Rattle.std.proofs.lemmas.Bool.{and_parts}
@@ -9,7 +9,7 @@ use Rattle.std.proofs.lemmas.List.Folds.{list_all-append}
 use Rattle.std.proofs.lemmas.List.Splits.{join_with_byte-slice_split}
 use Rattle.std.proofs.lemmas.Slice.Eq.{bytes_eq-Decides}
 use Rattle.hex.specs.Hex.{IsBytes}
-use Rattle.vk_lines.specs.Tokens.{number_line, number_token, id_line, digests_line, decimal_of, fields_of, hex_of, hex_text, is_lower_digit, meets, one_by, one_field, tagged_by, two_by, two_fields, three_by, three_fields, four_by, four_fields, word_of, ◌>>=◌}
+use Rattle.vk_lines.specs.Tokens.{number_line, id_line, digests_line, decimal_of, fields_of, hex_of, hex_text, is_lower_digit, meets, one_by, one_field, tagged_by, two_by, two_fields, three_by, three_fields, four_by, four_fields, word_of, ◌>>=◌}
 use Rattle.vk_lines.specs.Forms.{IsLine, IsToken, is_plain, is_word, spaced}
 use Rattle.vk_lines.proofs.Decimals.{own, decimal_of-some, decimal_of-decimal}
 use Rattle.vk_lines.proofs.Hexadecimal.{hex_text-lower, hex_of-some, hex_of-hex_text, length-hex_text}
