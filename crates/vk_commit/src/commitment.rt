@@ -1,5 +1,6 @@
 // The message of a commitment and its digest.
 ghost use Rattle.std.specs.Prelude.{◌≡◌, ◌+◌, ◌≤◌, ◌++◌, ◌↔◌, IsTrue, length, take};
+ghost use Rattle.vk_residue.specs.Residue.{IsResidue};
 ghost use Rattle.vk_commit.specs.Commitment.{message, digest_of, opens_test, Opens};
 
 use crate::place::{Opening, Place};
@@ -10,7 +11,8 @@ use sha2::{Digest, Sha256};
 /// The message has, with numbers big-endian, the letters `VKC1`, the auction, the seat, the lane,
 /// the slot, the key and the value.
 pub fn commit(place: &Place, opening: &Opening) -> [u8; 32]
-    ensures { result ≡ digest_of place.now opening.now }
+    ensures digest { result ≡ digest_of place.now opening.now }
+    ensures residue { IsResidue opening.now.value }
 {
     let message = message_of(place, opening);
     Sha256::digest(message.as_slice())
@@ -20,6 +22,7 @@ pub fn commit(place: &Place, opening: &Opening) -> [u8; 32]
 pub fn opens(place: &Place, digest: &[u8; 32], opening: &Opening) -> bool
     ensures exactly { IsTrue result ↔ Opens place.now digest.now opening.now }
     ensures test { result ≡ opens_test place.now digest.now opening.now }
+    ensures residue { IsResidue opening.now.value }
 {
     let committed = commit(place, opening);
     committed.as_slice() == digest.as_slice()
@@ -27,7 +30,8 @@ pub fn opens(place: &Place, digest: &[u8; 32], opening: &Opening) -> bool
 
 /// The 68 bytes that are hashed.
 pub(crate) fn message_of(place: &Place, opening: &Opening) -> [u8; 68]
-    ensures { result ≡ message place.now opening.now }
+    ensures message { result ≡ message place.now opening.now }
+    ensures residue { IsResidue opening.now.value }
 {
     let mut bytes = [0u8; 68];
     put(&mut bytes, 0, b"VKC1");

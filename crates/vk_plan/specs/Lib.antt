@@ -1,0 +1,4 @@
+pub mod Forms
+pub mod FormLaws
+pub mod Plans
+pub mod PlanLaws

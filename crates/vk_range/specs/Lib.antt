@@ -1,0 +1,4 @@
+pub mod Sets
+pub mod Forms
+pub mod SetLaws
+pub mod Laws

@@ -1,0 +1,137 @@
+ghost use Rattle.std.specs.Prelude.{◌≡◌, ◌+◌, ◌<◌, ◌≤◌, ◌++◌, [], ◌∷◌, length, IfOk, OnOk, OnErr};
+ghost use Rattle.vk_plan.specs.Plans.{IsPlan, extended};
+ghost use Rattle.vk_range.specs.Sets.{test_set, minus_set, set_row, bit_part, bit_parts, plus, minus};
+ghost use Rattle.vk_range.specs.Forms.{difference_form, less_one};
+
+use std::alloc::Global;
+use vk_plan::{Form, Plan, Term, WireKind};
+use vk_residue::{NoMemory, Residue};
+use vk_seq::Seq;
+
+/// The wire as it is.
+pub(crate) fn plus_wire(wire: u32) -> Term
+    ensures { result ≡ plus wire }
+{
+    Term {
+        wire,
+        factor: Residue::ONE,
+    }
+}
+
+/// The wire taken off.
+pub(crate) fn minus_wire(wire: u32) -> Term
+    ensures { result ≡ minus wire }
+{
+    Term {
+        wire,
+        factor: Residue::ONE.neg(),
+    }
+}
+
+/// Minus 1 where strict, else 0.
+pub(crate) fn constant_of(strict: bool) -> Residue
+    ensures { result ≡ less_one strict }
+{
+    if strict {
+        Residue::ONE.neg()
+    } else {
+        Residue::ZERO
+    }
+}
+
+/// Left less right, less 1 where strict.
+pub(crate) fn difference(
+    alloc: Global,
+    left: u32,
+    right: u32,
+    strict: bool,
+) -> Result<Form, NoMemory>
+    ensures { IfOk result (λ form. form ≡ difference_form left right strict) }
+{
+    let mut terms = Vec::new(alloc);
+    terms.push(plus_wire(left))?;
+    terms.push(minus_wire(right))?;
+    Ok(Form {
+        terms: Seq::from_vec(terms),
+        constant: constant_of(strict),
+    })
+}
+
+/// The pairs of the weights 2^0 to 2^(width - 1).
+fn pairs(alloc: Global, width: u32) -> Result<Vec<WireKind>, NoMemory>
+    ensures { IfOk result (λ kinds. kinds.items ≡ test_set width) }
+{
+    let mut kinds = Vec::new(alloc);
+    for i in 0..width {
+        kinds.push(WireKind::Pair(i))?;
+    }
+    Ok(kinds)
+}
+
+/// The form minus each pair of the set that begins at that wire.
+fn row_of_set(form: Form, start: u32, width: u32) -> Result<Form, NoMemory>
+    requires { start + width < 4294967296 }
+    ensures { IfOk result (λ row. row ≡ set_row form start width) }
+{
+    let constant = form.constant;
+    let mut terms = form.terms.into_vec();
+    for i in 0..width {
+        terms.push(minus_wire(start + i))?;
+    }
+    Ok(Form {
+        terms: Seq::from_vec(terms),
+        constant,
+    })
+}
+
+/// Appends a test set and the row that makes the form its sum. After a refusal the plan is as before.
+pub(crate) fn add_set(
+    alloc: Global,
+    plan: &mut Plan,
+    form: Form,
+    width: u32,
+) -> Result<(), NoMemory>
+    requires width { width ≤ 40 }
+    requires room { IsPlan (extended plan.old (test_set width) (set_row form (length plan.old.kinds) width ∷ [])) }
+    ensures added { OnOk result
+        (plan.new ≡ extended plan.old (test_set width) (set_row form (length plan.old.kinds) width ∷ [])) }
+    ensures as_before { OnErr result (plan.new ≡ plan.old) }
+{
+    let start = plan.wires();
+    let kinds = pairs(alloc, width)?;
+    let row = row_of_set(form, start, width)?;
+    plan.append(kinds.as_slice(), Some(row))?;
+    Ok(())
+}
+
+/// The weight 2^i where that bit of the number is set, else 0.
+fn part(number: Residue, i: u32) -> Residue
+    requires { i < 61 }
+    ensures { result ≡ bit_part number i }
+{
+    if (number.get() >> i) % 2 == 1 {
+        Residue::pow2(i)
+    } else {
+        Residue::ZERO
+    }
+}
+
+/// Appends the values of a test set that come to the number. After a refusal the values are as before.
+pub(crate) fn push_parts(
+    values: &mut Vec<Residue>,
+    number: Residue,
+    width: u32,
+) -> Result<(), NoMemory>
+    requires { width ≤ 40 }
+    ensures pushed { OnOk result (values.new.items ≡ values.old.items ++ bit_parts number width) }
+    ensures as_before { OnErr result (values.new.items ≡ values.old.items) }
+{
+    let before = values.len();
+    for i in 0..width {
+        if let Err(_refused) = values.push(part(number, i)) {
+            values.truncate(before);
+            return Err(NoMemory);
+        }
+    }
+    Ok(())
+}

@@ -1,0 +1,47 @@
+-- What definitions compute of a lane: its halves, or its first fault.
+use Rattle.std.specs.Prelude.{ℕ, ◌+◌, Bool, List, [], ◌∷◌, ◌++◌, length, Option, Some, None, Result, Ok, Err, if◌then◌else◌}
+use Rattle.vk_plan.specs.Plans.{PlanValue}
+use Rattle.vk_plan.specs.declared.form.Form.{Form}
+use Rattle.vk_plan.specs.declared.wire.WireKind.{WireKind}
+use Rattle.vk_wire.specs.Reads.{read_of}
+use Rattle.vk_wire.specs.declared.wire.WireCom.{WireCom}
+use Rattle.vk_wire.specs.declared.wire.Shown.{Shown}
+use Rattle.vk_wire.specs.declared.wire.WireFault.{WireFault}
+use Rattle.vk_row.specs.declared.case.LaneCase.{LaneCase}
+use Rattle.vk_row.specs.declared.case.LaneFault.{LaneFault}
+use Rattle.vk_row.specs.declared.case.LaneFault.TheVariants.{Wire, Row}
+use Rattle.vk_row.specs.Rows.{has_side}
+use Rattle.vk_row.specs.Lanes.{place_in}
+
+infixl 10 ◌>>=◌
+abbrev pub ◌>>=◌ : {A B E : Type 0} → Result A E → (A → Result B E) → Result B E
+(Ok x) >>= f = f x
+(Err e) >>= f = Err e
+
+-- a fault is that of the wire
+abbrev pub at_wire : ℕ → Result ℕ WireFault → Result ℕ LaneFault
+at_wire wire (Ok half) = Ok half
+at_wire wire (Err fault) = Err (Wire wire fault)
+
+-- the halves so far and those of the wires that are left, or the first wire that reads nothing
+unfoldable pub halves_from : LaneCase → Bool → List ℕ → List WireKind → List WireCom → List Shown → Result (List ℕ) LaneFault
+halves_from case bit halves (kind ∷ kinds) (digests ∷ coms) (shown ∷ others) = do
+  half ← at_wire (length halves) (read_of kind (place_in case (length halves)) digests shown bit)
+  halves_from case bit (halves ++ half ∷ []) kinds coms others
+halves_from case bit halves _ _ _ = Ok halves
+
+-- the first row from that one on that the halves don't meet
+unfoldable pub first_false_row : Bool → List ℕ → ℕ → List Form → List ℕ → Option ℕ
+first_false_row bit halves row (form ∷ forms) (number ∷ numbers) =
+    if has_side form bit halves number then first_false_row bit halves (row + 1) forms numbers else Some row
+first_false_row bit halves row _ _ = None
+
+abbrev pub judged : List ℕ → Option ℕ → Result (List ℕ) LaneFault
+judged halves None = Ok halves
+judged halves (Some row) = Err (Row row)
+
+-- the halves of the lane, or its first fault
+unfoldable pub checked_lane : PlanValue → LaneCase → Bool → List Shown → Result (List ℕ) LaneFault
+checked_lane plan case bit shown = do
+  halves ← halves_from case bit [] plan.kinds case.coms shown
+  judged halves (first_false_row bit halves 0 plan.rows case.posted)

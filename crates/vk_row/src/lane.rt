@@ -1,0 +1,120 @@
+// The check of what is shown of a lane.
+ghost use Rattle.std.specs.Prelude.{◌≡◌, ◌≢◌, ◌⊎◌, ◌<◌, ◌≤◌, [], length, slice_index, slice_index_or, IfOk, IfErr, Ok, Err, option_map};
+ghost use Rattle.vk_plan.specs.Plans.{IsPlan};
+ghost use Rattle.vk_plan.specs.declared.wire.WireKind.TheVariants.{Split};
+ghost use Rattle.vk_wire.specs.Reads.{read_of};
+ghost use Rattle.vk_row.specs.Lanes.{HasCounts, IsAcceptedLane, HasLaneFault, place_in, no_digests, nothing_shown, no_row};
+ghost use Rattle.vk_row.specs.Rows.{has_side};
+ghost use Rattle.vk_row.specs.LaneTests.{at_wire, halves_from, first_false_row, checked_lane};
+ghost use Rattle.vk_row.specs.declared.case.LaneFault.TheVariants.{NoMemory};
+
+use crate::case::{LaneCase, LaneFault};
+use crate::row::check;
+use std::alloc::Global;
+use vk_plan::Plan;
+use vk_residue::Residue;
+use vk_wire::{Shown, read, wire_place};
+
+/// The halves of the wires of the lane, if each wire reads one and each row is met.
+///
+/// Each wire is to read its half for the bit, and the halves are to meet each row with its posted
+/// number. The first wire in order that reads nothing is named, else the first row that isn't met.
+#[tactic(auto, using(crate::proofs::Whole::ok_accepted, crate::proofs::Whole::err_faulty), unfolding(crate::specs::LaneTests::checked_lane))]
+pub fn check_lane(
+    alloc: Global,
+    plan: &Plan,
+    case: &LaneCase,
+    bit: bool,
+    shown: &[Shown],
+) -> Result<Vec<Residue>, LaneFault>
+    requires { HasCounts plan.now case.now shown.now }
+    ensures accepted { IfOk result
+        (λ halves. IsAcceptedLane plan.now case.now bit shown.now halves.items) }
+    ensures refused { IfErr result
+        (λ fault. (fault ≡ NoMemory) ⊎ HasLaneFault plan.now case.now bit shown.now fault) }
+    ensures halves { IfOk result
+        (λ halves. checked_lane plan.now case.now bit shown.now ≡ Ok halves.items) }
+    ensures fault { IfErr result
+        (λ fault. (fault ≡ NoMemory) ⊎ (checked_lane plan.now case.now bit shown.now ≡ Err fault)) }
+{
+    let halves = read_wires(alloc, plan, case, bit, shown)?;
+    match first_unmet_row(plan, case, bit, halves.as_slice()) {
+        Some(row) => Err(LaneFault::Row { row }),
+        None => Ok(halves),
+    }
+}
+
+/// The halves of all wires.
+#[tactic(auto, using(crate::proofs::Steps::halves_from_step), unfolding(crate::specs::LaneTests::halves_from))]
+fn read_wires(
+    alloc: Global,
+    plan: &Plan,
+    case: &LaneCase,
+    bit: bool,
+    shown: &[Shown],
+) -> Result<Vec<Residue>, LaneFault>
+    requires { HasCounts plan.now case.now shown.now }
+    ensures plan { IsPlan plan.now }
+    ensures one_each { IfOk result (λ halves. length halves.items ≡ length plan.now.kinds) }
+    ensures halves { IfOk result
+        (λ halves. halves_from case.now bit [] plan.now.kinds case.now.coms shown.now ≡ Ok halves.items) }
+    ensures fault { IfErr result
+        (λ fault. (fault ≡ NoMemory) ⊎ (halves_from case.now bit [] plan.now.kinds case.now.coms shown.now ≡ Err fault)) }
+{
+    let wires = plan.wires();
+    let mut halves = Vec::with_capacity(alloc, wires as usize)?;
+    for wire in 0..wires {
+        let half = read_wire(plan, case, bit, shown, wire)?;
+        halves.push(half)?;
+    }
+    Ok(halves)
+}
+
+/// The half of one wire.
+fn read_wire(
+    plan: &Plan,
+    case: &LaneCase,
+    bit: bool,
+    shown: &[Shown],
+    wire: u32,
+) -> Result<Residue, LaneFault>
+    requires plan { IsPlan plan.now }
+    requires counts { HasCounts plan.now case.now shown.now }
+    requires wire { wire < length plan.now.kinds }
+    ensures { result ≡ at_wire wire (read_of (slice_index_or plan.now.kinds wire Split) (place_in case.now wire)
+        (slice_index_or case.now.coms wire no_digests) (slice_index_or shown.now wire nothing_shown) bit) }
+{
+    let place = wire_place(&case.auction, case.lane, case.seats.as_slice(), wire);
+    let digests = &case.coms.as_slice()[wire as usize];
+    let shown = &shown[wire as usize];
+    match read(plan.kind(wire), &place, digests, shown, bit) {
+        Ok(half) => Ok(half),
+        Err(fault) => Err(LaneFault::Wire { wire, fault }),
+    }
+}
+
+/// The first row that the halves don't meet.
+#[tactic(auto, using(crate::proofs::Steps::first_false_row_step), unfolding(crate::specs::LaneTests::first_false_row))]
+fn first_unmet_row(plan: &Plan, case: &LaneCase, bit: bool, halves: &[Residue]) -> Option<u32>
+    requires halves { length halves.now ≡ length plan.now.kinds }
+    requires posted { length case.now.posted ≡ length plan.now.rows }
+    ensures { result ≡ first_false_row bit halves.now 0 plan.now.rows case.now.posted }
+{
+    for row in 0..plan.rows() {
+        if !is_row_met(plan, case, bit, halves, row) {
+            return Some(row);
+        }
+    }
+    None
+}
+
+/// Whether the halves meet one row.
+fn is_row_met(plan: &Plan, case: &LaneCase, bit: bool, halves: &[Residue], row: u32) -> bool
+    requires halves { length halves.now ≡ length plan.now.kinds }
+    requires posted { length case.now.posted ≡ length plan.now.rows }
+    requires row { row < length plan.now.rows }
+    ensures { result ≡ has_side (slice_index_or plan.now.rows row no_row) bit halves.now (slice_index case.now.posted row) }
+{
+    let posted = case.posted.as_slice()[row as usize];
+    check(plan.row(row), bit, halves, posted)
+}

@@ -1,0 +1,14 @@
+//! Whole lanes: posted differences, the check of a row, and the check of what is shown of a lane.
+#![tactic(auto)]
+
+mod case;
+mod lane;
+mod laws;
+mod row;
+#[cfg(test)]
+mod tests;
+
+pub use case::{LaneCase, LaneFault};
+pub use lane::check_lane;
+pub use laws::checked_lanes_are_those_accepted;
+pub use row::{check, posted};

@@ -1,0 +1,4 @@
+pub mod Places
+pub mod Made
+pub mod Reads
+pub mod Laws

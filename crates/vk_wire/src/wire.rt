@@ -1,0 +1,43 @@
+// The parts of a wire.
+
+use vk_commit::Opening;
+use vk_residue::Residue;
+
+/// The commitments to the two entries of a wire.
+#[derive(Clone, Copy, Debug, PartialEq, Eq)]
+pub struct WireCom {
+    pub first: [u8; 32],
+    pub second: [u8; 32],
+}
+
+/// The secret choices behind a wire: its mask, whether the entries of a pair are exchanged, and the
+/// keys of the two commitments.
+#[derive(Clone, Copy, Debug, PartialEq, Eq)]
+pub struct WireTape {
+    pub mask: Residue,
+    pub swap: bool,
+    pub first_key: [u8; 32],
+    pub second_key: [u8; 32],
+}
+
+/// What is shown of a wire for a challenge bit.
+#[derive(Clone, Copy, Debug, PartialEq, Eq)]
+pub enum Shown {
+    /// The half of a split value that the bit names.
+    Half(Opening),
+    /// Both entries of a pair, for bit 0.
+    Whole(Opening, Opening),
+    /// The entry of a pair that is spent on the proof, for bit 1.
+    Spent { second: bool, opening: Opening },
+}
+
+/// Why a shown wire reads nothing.
+#[derive(Clone, Copy, Debug, PartialEq, Eq)]
+pub enum WireFault {
+    /// It isn't of the form for its kind and bit.
+    Form,
+    /// An opening doesn't open its digest.
+    Digest { second: bool },
+    /// Neither entry of a pair is the other plus the weight.
+    NotASet,
+}
