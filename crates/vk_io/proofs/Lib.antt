@@ -2,3 +2,4 @@ pub mod Finite
 pub mod Places
 pub mod Reading
 pub mod WritingLemmas
+pub mod Transfers
