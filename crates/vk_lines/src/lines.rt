@@ -188,6 +188,7 @@ impl Lines {
     ) -> Result<u64, ReadErr>
         ensures told { IfSome (S.held shelf.old) (λ files.
             Reads (λ x. x) result (rest_of self.new files) (line_by (number_line word.now least most) (rest_of self.old files))) }
+        ensures within { IfOk result (λ number. (least ≤ number) × (number ≤ most)) }
         ensures held { S.held shelf.new ≡ S.held shelf.old }
         ensures later { S.Shelf.faults shelf.old ≤ S.Shelf.faults shelf.new }
         ensures failed { IsErrOf result ReadErr.Failed → Rose (S.Shelf.faults shelf.old) (S.Shelf.faults shelf.new) }
