@@ -1,4 +1,4 @@
-use std::alloc::AllocError;
+use std::alloc::{AllocError, AllocFailed};
 use vk_io::ShelfErr;
 
 /// The most bytes of a file that is read as lines.
@@ -87,5 +87,27 @@ impl From<LineErr> for ReadErr {
             LineErr::Failed => ReadErr::Failed,
             LineErr::NoMemory => ReadErr::NoMemory,
         }
+    }
+}
+
+impl From<AllocError> for ReadErr {
+    ghost use Rattle.std.specs.Prelude.{◌≡◌};
+    ghost use Rattle.vk_lines.specs.declared.errors.ReadErr.TheVariants.{NoMemory};
+
+    ghost from_gives = { λ _ e. e ≡ NoMemory };
+
+    fn from(_refused: AllocError) -> ReadErr {
+        ReadErr::NoMemory
+    }
+}
+
+impl<T: Drop> From<AllocFailed<T>> for ReadErr {
+    ghost use Rattle.std.specs.Prelude.{◌≡◌};
+    ghost use Rattle.vk_lines.specs.declared.errors.ReadErr.TheVariants.{NoMemory};
+
+    ghost from_gives = { λ _ e. e ≡ NoMemory };
+
+    fn from(_refused: AllocFailed<T>) -> ReadErr {
+        ReadErr::NoMemory
     }
 }

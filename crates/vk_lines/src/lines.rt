@@ -2,11 +2,12 @@ ghost use Rattle.std.specs.Prelude.{◌≡◌, ◌≢◌, ◌+◌, ◌-◌, ◌^
 ghost use Rattle.std.specs.FinMap as map;
 ghost use Rattle.vk_io.specs.Faults.{Rose};
 ghost use Rattle.vk_io.specs.Files.{Files, bytes_of, part_of};
-ghost use Rattle.vk_lines.specs.Lines.{Starts, Reads, IsNext, text_at, rest_of, window_of, after_step, step_of, none_left, value_at, end_answer, end_at, LinesValue};
+ghost use Rattle.vk_lines.specs.Tokens.{word_of, number_line, id_line, digests_line};
+ghost use Rattle.vk_lines.specs.Lines.{Starts, Reads, IsNext, line_by, text_at, rest_of, window_of, after_step, step_of, none_left, value_at, end_answer, end_at, LinesValue};
 
 use crate::errors::{LineErr, MOST_BYTES, ReadErr, StartErr};
 use crate::step::Step;
-use crate::tokens::read_word;
+use crate::tokens::{read_digests, read_id, read_number, read_word};
 use crate::window::{MOST_LINE, Window};
 use std::alloc::Global;
 use std::marker::Model;
@@ -71,6 +72,7 @@ impl Lines {
     pub fn next_line<S: Shelf>(&mut self, shelf: &mut S) -> Result<Step, LineErr>
         ensures told { IfSome (S.held shelf.old) (λ files. IfOk result (λ step. IsNext step self.old self.new files)) }
         ensures same { IfOk result (λ step. step ≢ Step.Text → self.new ≡ self.old) }
+        ensures taken { IfOk result (λ step. step ≡ Step.Text → self.new.taken ≡ self.old.taken + 1) }
         ensures refused { OnErr result (self.new ≡ self.old) }
         ensures held { S.held shelf.new ≡ S.held shelf.old }
         ensures later { S.Shelf.faults shelf.old ≤ S.Shelf.faults shelf.new }
@@ -94,6 +96,7 @@ impl Lines {
     fn take_next(&mut self, window: Window) -> Step
         requires { length window ≤ self.old.size - self.old.at }
         ensures same { result ≢ Step.Text → self.new ≡ self.old }
+        ensures taken { result ≡ Step.Text → self.new.taken ≡ self.old.taken + 1 }
         ensures next { (files : Files) → window ≡ window_of self.old files → IsNext result self.old self.new files }
     {
         let step = self.take_line(window);
@@ -158,6 +161,73 @@ impl Lines {
         let step = self.next_line(shelf)?;
         let ended = nothing_left(step, before);
         ended
+    }
+
+    /// Reads a line that is this text. Malformed, with its number, where the next line is another.
+    #[tactic(auto, unfolding(crate::specs::Lines::line_by))]
+    pub fn read_fixed<S: Shelf>(&mut self, shelf: &mut S, line: &[u8]) -> Result<(), ReadErr>
+        ensures told { IfSome (S.held shelf.old) (λ files.
+            Reads (λ x. x) result (rest_of self.new files) (line_by (word_of line.now) (rest_of self.old files))) }
+        ensures held { S.held shelf.new ≡ S.held shelf.old }
+        ensures later { S.Shelf.faults shelf.old ≤ S.Shelf.faults shelf.new }
+        ensures failed { IsErrOf result ReadErr.Failed → Rose (S.Shelf.faults shelf.old) (S.Shelf.faults shelf.new) }
+    {
+        self.read_text(shelf)?;
+        let value = self.found(read_word(self.text(), line));
+        value
+    }
+
+    /// Reads a line of this word and a number from `least` to `most`. Malformed, with its number, where the next line is another.
+    #[tactic(auto, unfolding(crate::specs::Lines::line_by))]
+    pub fn read_number<S: Shelf>(
+        &mut self,
+        shelf: &mut S,
+        word: &[u8],
+        least: u64,
+        most: u64,
+    ) -> Result<u64, ReadErr>
+        ensures told { IfSome (S.held shelf.old) (λ files.
+            Reads (λ x. x) result (rest_of self.new files) (line_by (number_line word.now least most) (rest_of self.old files))) }
+        ensures within { IfOk result (λ number. (least ≤ number) × (number ≤ most)) }
+        ensures held { S.held shelf.new ≡ S.held shelf.old }
+        ensures later { S.Shelf.faults shelf.old ≤ S.Shelf.faults shelf.new }
+        ensures failed { IsErrOf result ReadErr.Failed → Rose (S.Shelf.faults shelf.old) (S.Shelf.faults shelf.new) }
+    {
+        self.read_text(shelf)?;
+        let value = self.found(read_number(self.text(), word, least, most));
+        value
+    }
+
+    /// Reads a line of this word and an id. Malformed, with its number, where the next line is another.
+    #[tactic(auto, unfolding(crate::specs::Lines::line_by))]
+    pub fn read_id<S: Shelf>(&mut self, shelf: &mut S, word: &[u8]) -> Result<[u8; 16], ReadErr>
+        ensures told { IfSome (S.held shelf.old) (λ files.
+            Reads (λ x. x) result (rest_of self.new files) (line_by (id_line word.now) (rest_of self.old files))) }
+        ensures held { S.held shelf.new ≡ S.held shelf.old }
+        ensures later { S.Shelf.faults shelf.old ≤ S.Shelf.faults shelf.new }
+        ensures failed { IsErrOf result ReadErr.Failed → Rose (S.Shelf.faults shelf.old) (S.Shelf.faults shelf.new) }
+    {
+        self.read_text(shelf)?;
+        let value = self.found(read_id(self.text(), word));
+        value
+    }
+
+    /// Reads a line of this word and two digests. Malformed, with its number, where the next line is another.
+    #[tactic(auto, unfolding(crate::specs::Lines::line_by))]
+    pub fn read_digests<S: Shelf>(
+        &mut self,
+        shelf: &mut S,
+        word: &[u8],
+    ) -> Result<([u8; 32], [u8; 32]), ReadErr>
+        ensures told { IfSome (S.held shelf.old) (λ files.
+            Reads (λ x. x) result (rest_of self.new files) (line_by (digests_line word.now) (rest_of self.old files))) }
+        ensures held { S.held shelf.new ≡ S.held shelf.old }
+        ensures later { S.Shelf.faults shelf.old ≤ S.Shelf.faults shelf.new }
+        ensures failed { IsErrOf result ReadErr.Failed → Rose (S.Shelf.faults shelf.old) (S.Shelf.faults shelf.new) }
+    {
+        self.read_text(shelf)?;
+        let value = self.found(read_digests(self.text(), word));
+        value
     }
 
     /// The line last taken, without its line feed; empty before the first.
