@@ -18,8 +18,10 @@ use Rattle.vk_app.specs.Acceptance.{accepts}
 use Rattle.vk_app.specs.Extraction.{extraction_text}
 use Rattle.vk_app.specs.Extract.{attempt_of, lanes_between, extraction_of}
 use Rattle.vk_app.specs.Words.{AttemptWords, ExtractWords, extract_words}
-use Rattle.vk_app.specs.Effect.{largest_file, held_bytes, file_at, attempt_files, extract_files, extraction_effect, command_effect, effect_of, Ends}
-use Rattle.vk_app.specs.Headline.{AcceptsFiles, BothAccepted, Extracts, WordsExtract, WordsAccepted, PutsExtraction}
+use Rattle.vk_app.specs.Effect.{largest_file, held_bytes, file_at, attempt_files, extract_files, extraction_effect, extract_effect, effect_of}
+use Rattle.vk_app.specs.Outcome.{Effect, Ends}
+use Rattle.vk_app.proofs.Effects.{effect_of-extract}
+use Rattle.vk_app.specs.Headline.{AcceptsFiles, BothAccepted, Extracts, PutsExtraction}
 use Rattle.vk_app.proofs.Texts.{after, if_some, unless_some}
 use Rattle.vk_app.proofs.WholeTexts.{board_found, board_again, challenge_found, challenge_again, reply_found, reply_again}
 use Rattle.vk_app.proofs.Accepting.{are_from_accepts, accepts_from_are}
@@ -117,36 +119,36 @@ extraction_to files names both =
       ) refl,
     )
 
--- ---- the words
-
-effect_from_extraction : (files : Files) (names : ExtractWords) (extraction : Option Extraction) → extraction_of (extract_files files names) ≡ extraction → (extraction_effect extraction).status ≡ 0 → Extracts files names (extraction_effect extraction).text
-effect_from_extraction files names None is h = absurd (omega arith)
-effect_from_extraction files names (Some extraction) is h = extraction_from files names extraction is
-
-effect_from : (files : Files) (names : Option ExtractWords) → (command_effect files names).status ≡ 0 → (found : ExtractWords) × (names ≡ Some found) × Extracts files found (command_effect files names).text
-effect_from files None h = absurd (omega arith)
-effect_from files (Some names) h = (names, refl, effect_from_extraction files names (extraction_of (extract_files files names)) refl h)
-
--- the words give status 0 only where they extract, and wherever both replies are accepted and the challenges differ
-pub words_extract : (files : Files) (words : List (List ℕ)) → (effect_of files words).status ≡ 0 → WordsExtract files words (effect_of files words).text
-words_extract files words h = effect_from files (extract_words words) h
-
-pub words_accepted : (files : Files) (words : List (List ℕ)) → WordsAccepted files words → (effect_of files words).status ≡ 0
-words_accepted files words is =
-    ap (λ names. (command_effect files names).status) is.1 ∙ ap (λ extraction. (extraction_effect extraction).status) (extraction_to files is.0 is.2).1
-
 -- ---- a whole run
 
-ended_told : (files : Files) (words : List (List ℕ)) (status : ℕ) (old new : Option (List ℕ)) → status ≡ (effect_of files words).status → Told (Ends (Ok status) (effect_of files words)) old new → status ≡ 0 → Told (PutsExtraction files words) old new
-ended_told files words status None new is ends zero_is = ends
-ended_told files words status (Some old) None is ends zero_is = ends
-ended_told files words status (Some old) (Some new) is ends zero_is =
-    ((effect_of files words).text, ends, words_extract files words (sym is ∙ zero_is))
+-- status 0 only where the files give bids, and wherever both replies are accepted and the challenges differ
+effect_from : (files : Files) (names : ExtractWords) (extraction : Option Extraction) → extraction_of (extract_files files names) ≡ extraction → (extraction_effect extraction).status ≡ 0 → Extracts files names (extraction_effect extraction).text
+effect_from files names None is h = absurd (omega arith)
+effect_from files names (Some extraction) is h = extraction_from files names extraction is
 
-pub ended_extracts : (held : Option Files) (words : List (List ℕ)) (status : ℕ) (old new : Option (List ℕ)) → IfSome held (λ files. status ≡ (effect_of files words).status) → IfSome held (λ files. Told (Ends (Ok status) (effect_of files words)) old new) → IfSome held (λ files. status ≡ 0 → Told (PutsExtraction files words) old new)
+effect_to : (files : Files) (names : ExtractWords) → BothAccepted files names → (extract_effect files names).status ≡ 0
+effect_to files names both = ap (λ extraction. (extraction_effect extraction).status) (extraction_to files names both).1
+
+put_told : (files : Files) (names : ExtractWords) (status : ℕ) (old new : Option (List ℕ)) → status ≡ (extract_effect files names).status → Told (Ends (Ok status) (extract_effect files names)) old new → status ≡ 0 → Told (PutsExtraction files names) old new
+put_told files names status None new is ends zero_is = ends
+put_told files names status (Some old) None is ends zero_is = ends
+put_told files names status (Some old) (Some new) is ends zero_is =
+    ((extract_effect files names).text, ends, effect_from files names (extraction_of (extract_files files names)) refl (sym is ∙ zero_is))
+
+puts_extraction : (files : Files) (words : List (List ℕ)) (names : Option ExtractWords) → extract_words words ≡ names → (status : ℕ) (old new : Option (List ℕ)) → status ≡ (effect_of files words).status → Told (Ends (Ok status) (effect_of files words)) old new → IfSome names (λ found. status ≡ 0 → Told (PutsExtraction files found) old new)
+puts_extraction files words None is status old new status_is ends = tt
+puts_extraction files words (Some names) is status old new status_is ends =
+    let effect_is = effect_of-extract files words names is in
+    put_told files names status old new (status_is ∙ ap (λ (effect : Effect). effect.status) effect_is) (subst (λ effect. Told (Ends (Ok status) effect) old new) effect_is ends)
+
+pub ended_extracts : (held : Option Files) (words : List (List ℕ)) (status : ℕ) (old new : Option (List ℕ)) → IfSome held (λ files. status ≡ (effect_of files words).status) → IfSome held (λ files. Told (Ends (Ok status) (effect_of files words)) old new) → IfSome held (λ files. IfSome (extract_words words) (λ names. status ≡ 0 → Told (PutsExtraction files names) old new))
 ended_extracts None words status old new is ends = tt
-ended_extracts (Some files) words status old new is ends = ended_told files words status old new is ends
+ended_extracts (Some files) words status old new is ends = puts_extraction files words (extract_words words) refl status old new is ends
 
-pub ended_accepted : (held : Option Files) (words : List (List ℕ)) (status : ℕ) → IfSome held (λ files. status ≡ (effect_of files words).status) → IfSome held (λ files. WordsAccepted files words → status ≢ 6 → status ≢ 9 → status ≡ 0)
+accepts_words : (files : Files) (words : List (List ℕ)) (names : Option ExtractWords) → extract_words words ≡ names → (status : ℕ) → status ≡ (effect_of files words).status → IfSome names (λ found. BothAccepted files found → status ≢ 6 → status ≢ 9 → status ≡ 0)
+accepts_words files words None is status status_is = tt
+accepts_words files words (Some names) is status status_is = λ both _ _. status_is ∙ ap (λ (effect : Effect). effect.status) (effect_of-extract files words names is) ∙ effect_to files names both
+
+pub ended_accepted : (held : Option Files) (words : List (List ℕ)) (status : ℕ) → IfSome held (λ files. status ≡ (effect_of files words).status) → IfSome held (λ files. IfSome (extract_words words) (λ names. BothAccepted files names → status ≢ 6 → status ≢ 9 → status ≡ 0))
 ended_accepted None words status is = tt
-ended_accepted (Some files) words status is = λ accepted _ _. is ∙ words_accepted files words accepted
+ended_accepted (Some files) words status is = accepts_words files words (extract_words words) refl status is

@@ -5,4 +5,5 @@ pub mod Printing
 pub mod Accepting
 pub mod Extracting
 pub mod Lengths
+pub mod Effects
 pub mod Headline

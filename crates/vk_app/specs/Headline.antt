@@ -10,7 +10,7 @@ use Rattle.vk_app.specs.declared.board.Board.{Board}
 use Rattle.vk_app.specs.declared.challenge.Challenge.{Challenge}
 use Rattle.vk_app.specs.declared.reply.Reply.{Reply}
 use Rattle.vk_app.specs.declared.extraction.ExtractedLane.{ExtractedLane}
-use Rattle.vk_app.specs.Words.{AttemptWords, ExtractWords, extract_words}
+use Rattle.vk_app.specs.Words.{AttemptWords, ExtractWords}
 use Rattle.vk_app.specs.Acceptance.{Accepts, bid_place}
 use Rattle.vk_app.specs.Extraction.{extraction_text}
 
@@ -54,13 +54,6 @@ pub record Extracts (files : Files) (names : ExtractWords) (text : List ℕ) : T
   pub opened : AllByRecursion (OpensSeal accepted.board) lanes
   pub printed : text ≡ extraction_text (record { seat = accepted.board.seat; lanes = lanes })
 
--- the same, of the words of a command line
-abbrev pub WordsExtract : Files → List (List ℕ) → List ℕ → Type 0
-WordsExtract files words text = (names : ExtractWords) × (extract_words words ≡ Some names) × Extracts files names text
-
-abbrev pub WordsAccepted : Files → List (List ℕ) → Type 0
-WordsAccepted files words = (names : ExtractWords) × (extract_words words ≡ Some names) × BothAccepted files names
-
 -- what is put is such a text
-abbrev pub PutsExtraction : Files → List (List ℕ) → List ℕ → List ℕ → Type 0
-PutsExtraction files words old new = (text : List ℕ) × (new ≡ old ++ text) × WordsExtract files words text
+abbrev pub PutsExtraction : Files → ExtractWords → List ℕ → List ℕ → Type 0
+PutsExtraction files names old new = (text : List ℕ) × (new ≡ old ++ text) × Extracts files names text

@@ -1,7 +1,9 @@
 -- The words of a command line.
-use Rattle.std.specs.Prelude.{ℕ, ◌+◌, ◌==◌, ◌&&◌, nat_le, nat_lt, Bool, if◌then◌else◌, List, [], length, slice_index_or, codes, Option, Some, None}
+use Rattle.std.specs.Prelude.{ℕ, ◌+◌, ◌==◌, ◌&&◌, nat_le, nat_lt, Bool, if◌then◌else◌, List, [], length, slice_index_or, codes, Option, Some, None, option_map}
 use Rattle.std.specs.Str.{bytes_eq}
 use Rattle.vk_app.specs.Pieces.{◌>>=◌}
+use Rattle.vk_app.specs.declared.words.Command.{Command}
+use Rattle.vk_app.specs.declared.words.Command.TheVariants as commands
 use Rattle.vk_app.specs.declared.words.AttemptNames.{AttemptNames}
 use Rattle.vk_app.specs.declared.words.ExtractNames.{ExtractNames}
 
@@ -47,3 +49,15 @@ extract_words words =
       second ← attempt_words words 4
       Some (record { board = board; first = first; second = second }))
     else None
+
+-- ---- the command
+
+pub data CommandWords : Type 0 where
+  Extract : ExtractWords → CommandWords
+
+abbrev pub command_seen : Command → CommandWords
+command_seen (commands.Extract names) = Extract (extract_seen names)
+
+-- the command that the words are, if they are one
+abbrev pub command_words : List (List ℕ) → Option CommandWords
+command_words words = option_map Extract (extract_words words)

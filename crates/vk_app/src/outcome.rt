@@ -1,7 +1,8 @@
 //! What a command that came to its end answers: a status and the lines that it prints.
 
-ghost use Rattle.std.specs.Prelude.{◌≡◌, IfOk, Some, string_bytes};
+ghost use Rattle.std.specs.Prelude.{◌≡◌, [], IfOk, Some, string_bytes};
 ghost use Rattle.std.specs.List.{flat_map};
+ghost use Rattle.vk_io.specs.Writing.{texts_of};
 ghost use Rattle.vk_app.specs.Effect.{usage_effect, not_accepted_effect, extraction_effect};
 ghost use Rattle.vk_app.specs.Extract.{extraction_of};
 ghost use Rattle.vk_app.specs.Outcome.{IsEnd};
@@ -11,23 +12,27 @@ use crate::extraction::{Extraction, lines_of};
 use crate::refusal::Refusal;
 use std::alloc::Global;
 use std::marker::Model;
+use vk_io::FileText;
 use vk_residue::NoMemory;
 
-/// The status of a command, neither 6 nor 9, and its lines, each with its line feed.
+/// The status of a command, neither 6 nor 9, the lines that it prints, each with its line feed, and
+/// the files that it writes before it prints.
 #[derive(Drop)]
 pub struct Outcome {
     status: u8,
     lines: Vec<String>,
+    files: Vec<FileText>,
 }
 
 impl Model for Outcome {
     ghost use Rattle.std.specs.Prelude.{string_bytes};
     ghost use Rattle.std.specs.List.{flat_map};
+    ghost use Rattle.vk_io.specs.Writing.{texts_of};
     ghost use Rattle.vk_app.specs.Outcome.{Effect, IsEnd};
 
     ghost Value = { Effect };
 
-    ghost view = { λ o. record { status = o.status; text = flat_map string_bytes o.lines.items } };
+    ghost view = { λ o. record { status = o.status; text = flat_map string_bytes o.lines.items; writes = texts_of o.files.items } };
 
     ghost invariant = { λ o. IsEnd o.status };
 }
@@ -46,15 +51,26 @@ impl Outcome {
         self.lines.as_slice()
     }
 
-    /// One line.
+    pub fn files(&self) -> &[FileText]
+        ensures { texts_of result.now ≡ self.now.writes }
+    {
+        self.files.as_slice()
+    }
+
+    /// One line, and no files.
     fn of_line(alloc: Global, status: u8, line: &str) -> Result<Outcome, NoMemory>
         requires { IsEnd status }
-        ensures { IfOk result (λ outcome. outcome ≡ record { status = status; text = line.now }) }
+        ensures { IfOk result (λ outcome. outcome ≡ record { status = status; text = line.now; writes = [] }) }
     {
         let mut lines = Vec::new(alloc);
         let line = String::from_str(alloc, line)?;
         lines.push(line)?;
-        Ok(Outcome { status, lines })
+        let files = Vec::new(alloc);
+        Ok(Outcome {
+            status,
+            lines,
+            files,
+        })
     }
 }
 
@@ -83,7 +99,12 @@ fn extracted(alloc: Global, extraction: &Extraction) -> Result<Outcome, NoMemory
     ensures { IfOk result (λ outcome. outcome ≡ extraction_effect (Some extraction.now)) }
 {
     let lines = lines_of(alloc, extraction)?;
-    Ok(Outcome { status: 0, lines })
+    let files = Vec::new(alloc);
+    Ok(Outcome {
+        status: 0,
+        lines,
+        files,
+    })
 }
 
 /// Of the files of an `extract`.

@@ -1,7 +1,7 @@
 //! The words of a command line.
 
 ghost use Rattle.std.specs.Prelude.{◌≡◌, ◌+◌, ◌<◌, [], length, map, option_map, string_bytes, slice_index_or};
-ghost use Rattle.vk_app.specs.Words.{attempt_seen, extract_seen, is_name, name_at, attempt_words, extract_words};
+ghost use Rattle.vk_app.specs.Words.{attempt_seen, extract_seen, is_name, name_at, attempt_words, extract_words, command_seen, command_words};
 
 /// The names of the files of one reply and its challenge.
 #[derive(Clone, Copy, Debug)]
@@ -51,7 +51,7 @@ fn attempt_names(words: &[String], place: usize) -> Option<AttemptNames<'_>>
 
 /// The names, where the words are `extract` and five names.
 #[tactic(auto, unfolding(crate::specs::Words::extract_words))]
-pub fn extract_names(words: &[String]) -> Option<ExtractNames<'_>>
+fn extract_names(words: &[String]) -> Option<ExtractNames<'_>>
     ensures { option_map extract_seen result ≡ extract_words (map string_bytes words.now) }
 {
     if words.len() != 6 || word(words, 0) != "extract" {
@@ -65,4 +65,18 @@ pub fn extract_names(words: &[String]) -> Option<ExtractNames<'_>>
         first,
         second,
     })
+}
+
+/// A command.
+#[derive(Clone, Copy, Debug)]
+pub enum Command<'a> {
+    Extract(ExtractNames<'a>),
+}
+
+/// The command that the words are, if they are one.
+pub fn command_of(words: &[String]) -> Option<Command<'_>>
+    ensures { option_map command_seen result ≡ command_words (map string_bytes words.now) }
+{
+    let names = extract_names(words)?;
+    Some(Command::Extract(names))
 }
