@@ -6,6 +6,7 @@ pub mod Extraction
 pub mod Extract
 pub mod Words
 pub mod Outcome
+pub mod Sealing
 pub mod Effect
 pub mod Stops
 pub mod Headline

@@ -11,6 +11,7 @@ ghost use Rattle.vk_app.specs.Words.{extract_words};
 
 use crate::files::read_extract_files;
 use crate::outcome::{Outcome, extract, usage};
+use crate::sealing::seal;
 use crate::stop::Stop;
 use crate::words::{Command, command_of};
 use std::alloc::Global;
@@ -31,6 +32,10 @@ fn outcome_of<S: Shelf>(alloc: Global, words: &[String], shelf: &mut S) -> Resul
         Some(Command::Extract(names)) => {
             let files = read_extract_files(alloc, shelf, &names)?;
             let outcome = extract(alloc, &files)?;
+            Ok(outcome)
+        }
+        Some(Command::Seal(order)) => {
+            let outcome = seal(alloc, &order)?;
             Ok(outcome)
         }
     }

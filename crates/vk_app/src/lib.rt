@@ -12,6 +12,7 @@ mod outcome;
 mod reader;
 mod refusal;
 mod reply;
+mod sealing;
 mod stop;
 mod words;
 

@@ -57,8 +57,21 @@ impl Outcome {
         self.files.as_slice()
     }
 
+    /// Status 0 with one line, and files.
+    pub fn of_files(alloc: Global, line: String, files: Vec<FileText>) -> Result<Outcome, NoMemory>
+        ensures { IfOk result (λ outcome. outcome ≡ record { status = 0; text = string_bytes line; writes = texts_of files.items }) }
+    {
+        let mut lines = Vec::new(alloc);
+        lines.push(line)?;
+        Ok(Outcome {
+            status: 0,
+            lines,
+            files,
+        })
+    }
+
     /// One line, and no files.
-    fn of_line(alloc: Global, status: u8, line: &str) -> Result<Outcome, NoMemory>
+    pub fn of_line(alloc: Global, status: u8, line: &str) -> Result<Outcome, NoMemory>
         requires { IsEnd status }
         ensures { IfOk result (λ outcome. outcome ≡ record { status = status; text = line.now; writes = [] }) }
     {
