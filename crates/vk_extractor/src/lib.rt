@@ -4,6 +4,8 @@
 mod clash;
 mod lane;
 mod laws;
+#[cfg(test)]
+mod tests;
 mod values;
 
 pub use lane::{LaneErr, extract_lane};
