@@ -18,5 +18,5 @@ sums _ _ = []
 -- the values are the sums of the halves that are accepted for bit 0 and for bit 1
 abbrev pub AreSums : PlanValue → LaneCase → List Shown → List Shown → List ℕ → Type 0
 AreSums plan case zero one values =
-    (firsts seconds : List ℕ) → IsAcceptedLane plan case false zero firsts → IsAcceptedLane plan case true one seconds
-    → values ≡ sums firsts seconds
+    (firsts seconds : List ℕ) → IsAcceptedLane plan case false zero firsts
+    → IsAcceptedLane plan case true one seconds → values ≡ sums firsts seconds
