@@ -1,9 +1,9 @@
 -- Reading lanes one after another, as a loop does.
-use Rattle.std.proofs.Common.{◌≡◌, ℕ, zero, suc, ◌+◌, ◌-◌, ◌<◌, ◌≤◌, List, [], ◌∷◌, ◌++◌, Option, Some, None, Result, Ok, Err, refl, sym, ap, ◌∙◌, append_assoc, arith}
+use Rattle.std.proofs.Common.{◌≡◌, ℕ, zero, suc, ◌+◌, ◌-◌, ◌<◌, ◌≤◌, List, [], ◌∷◌, ◌++◌, Option, Some, None, refl, sym, ap, ◌∙◌, append_assoc, arith}
 use Rattle.std.proofs.lemmas.List.{append-nil}
-use Rattle.vk_app.specs.declared.reader.ReadFault.{ReadFault}
-use Rattle.vk_app.specs.declared.reader.ReadFault.TheVariants as faults
-use Rattle.vk_app.specs.Pieces.{◌>>=◌, GivesNo, lanes_at}
+use Rattle.vk_app.specs.declared.refusal.Refusal.{Refusal}
+use Rattle.vk_app.specs.declared.refusal.Refusal.TheVariants as faults
+use Rattle.vk_app.specs.Pieces.{◌>>=◌, RefusedBy, lanes_at}
 
 -- what was read before, and what is still read
 abbrev pub with_front : {X : Type 0} → List X → Option (List X × List ℕ) → Option (List X × List ℕ)
@@ -25,9 +25,9 @@ module _ {X : Type 0} (lane_at : ℕ → List ℕ → Option (X × List ℕ)) (f
       sym (regroup front x (lanes_at lane_at (total - (before + 1)) (before + 1 + 1) rest)) ∙ sym (ap (λ r. with_front front (r >>= λ lane. lanes_at lane_at (total - (before + 1)) (before + 1 + 1) lane.1 >>= λ others. Some (lane.0 ∷ others.0, others.1))) read) ∙ one_less
 
   -- the next lane could not be read
-  pub stops : (fault : ReadFault) → before < total → GivesNo fault (lane_at (before + 1) bytes) → with_front front (lanes_at lane_at (total - before) (before + 1) bytes) ≡ whole → GivesNo fault whole
+  pub stops : (fault : Refusal) → before < total → RefusedBy fault (lane_at (before + 1) bytes) → with_front front (lanes_at lane_at (total - before) (before + 1) bytes) ≡ whole → RefusedBy fault whole
   unfolding lanes_at
-  stops faults.NotOfTheForm lt none h =
+  stops faults.NotAccepted lt none h =
       let left : total - before ≡ suc (total - (before + 1)) = omega arith in
       let one_less = rw left at h in
       sym one_less ∙ ap (λ r. with_front front (r >>= λ lane. lanes_at lane_at (total - (before + 1)) (before + 1 + 1) lane.1 >>= λ others. Some (lane.0 ∷ others.0, others.1))) none

@@ -1,2 +1,11 @@
 pub mod Pieces
 pub mod Reading
+pub mod Texts
+pub mod Acceptance
+pub mod Extraction
+pub mod Extract
+pub mod Words
+pub mod Outcome
+pub mod Effect
+pub mod Stops
+pub mod Headline

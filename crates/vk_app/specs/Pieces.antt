@@ -4,32 +4,32 @@ use Rattle.vk_residue.specs.Residue.{modulus}
 use Rattle.std.specs.Char.{is_ascii_digit}
 use Rattle.std.specs.Str.{bytes_eq}
 use Rattle.vk_lines.specs.Tokens.{decimal_of, hex_of}
-use Rattle.vk_app.specs.declared.reader.ReadFault.{ReadFault}
-use Rattle.vk_app.specs.declared.reader.ReadFault.TheVariants.{NotOfTheForm, NoMemory}
+use Rattle.vk_app.specs.declared.refusal.Refusal.{Refusal}
+use Rattle.vk_app.specs.declared.refusal.Refusal.TheVariants.{NotAccepted, NoMemory}
 
 infixl 10 ◌>>=◌
 abbrev pub ◌>>=◌ : {A B : Type 0} → Option A → (A → Option B) → Option B
 o >>= f = option_and_then f o
 
 -- A reader that refused had nothing to read, unless memory ran out.
-abbrev pub GivesNo : {Y : Type 0} → ReadFault → Option Y → Type 0
-GivesNo NotOfTheForm read = read ≡ None
-GivesNo NoMemory read = Unit {0}
+abbrev pub RefusedBy : {Y : Type 0} → Refusal → Option Y → Type 0
+RefusedBy NotAccepted read = read ≡ None
+RefusedBy NoMemory read = Unit {0}
 
 -- What a reader answered, seen by view, and what is left, are what reading gives.
-abbrev pub Reads : {X Y : Type 0} → (X → Y) → Result X ReadFault → List ℕ → Option (Y × List ℕ) → Type 0
+abbrev pub Reads : {X Y : Type 0} → (X → Y) → Result X Refusal → List ℕ → Option (Y × List ℕ) → Type 0
 Reads view (Ok x) rest read = read ≡ Some (view x, rest)
-Reads view (Err fault) rest read = GivesNo fault read
+Reads view (Err fault) rest read = RefusedBy fault read
 
 -- The same where there is no value.
-abbrev pub Passes : Result Unit ReadFault → List ℕ → Option (List ℕ) → Type 0
+abbrev pub Passes : Result Unit Refusal → List ℕ → Option (List ℕ) → Type 0
 Passes (Ok done) rest read = read ≡ Some rest
-Passes (Err fault) rest read = GivesNo fault read
+Passes (Err fault) rest read = RefusedBy fault read
 
 -- The same where nothing is left to read.
-abbrev pub Gives : {X Y : Type 0} → (X → Y) → Result X ReadFault → Option Y → Type 0
+abbrev pub Gives : {X Y : Type 0} → (X → Y) → Result X Refusal → Option Y → Type 0
 Gives view (Ok x) read = read ≡ Some (view x)
-Gives view (Err fault) read = GivesNo fault read
+Gives view (Err fault) read = RefusedBy fault read
 
 -- what stands behind the tag
 abbrev pub tag_at : List ℕ → List ℕ → Option (List ℕ)
@@ -41,13 +41,13 @@ bit_at [] = (None, [])
 bit_at (b ∷ bytes) = if b == 48 || b == 49 then (Some (b == 49), bytes) else (None, b ∷ bytes)
 
 -- that many bytes
-abbrev pub take_at : ℕ → List ℕ → Option (List ℕ × List ℕ)
-take_at count bytes = if nat_lt (length bytes) count then None else Some (take count bytes, drop count bytes)
+abbrev pub bytes_at : ℕ → List ℕ → Option (List ℕ × List ℕ)
+bytes_at count bytes = if nat_lt (length bytes) count then None else Some (take count bytes, drop count bytes)
 
 -- that many bytes, each written as two digits
 unfoldable pub hex_at : ℕ → List ℕ → Option (List ℕ × List ℕ)
 hex_at count bytes = do
-  digits ← take_at (2 * count) bytes
+  digits ← bytes_at (2 * count) bytes
   found ← hex_of count digits.0
   Some (found, digits.1)
 
@@ -59,7 +59,7 @@ digit_count (b ∷ bytes) = if is_ascii_digit b then digit_count bytes + 1 else 
 -- a number of at most `most` that ends its line
 unfoldable pub number_line_at : ℕ → List ℕ → Option (ℕ × List ℕ)
 number_line_at most bytes = do
-  digits ← take_at (digit_count bytes) bytes
+  digits ← bytes_at (digit_count bytes) bytes
   number ← decimal_of most digits.0
   rest ← tag_at (10 ∷ []) digits.1
   Some (number, rest)

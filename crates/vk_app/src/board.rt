@@ -1,10 +1,12 @@
 //! Boards of version 0: one seal, and for each lane its commitments and the posted difference.
 
-ghost use Rattle.std.specs.Prelude.{◌≡◌, ◌<◌, ◌^◌};
+ghost use Rattle.std.specs.Prelude.{◌<◌, ◌^◌, IfOk};
 ghost use Rattle.vk_app.specs.Pieces.{Gives, Reads, lanes_at};
 ghost use Rattle.vk_app.specs.Reading.{digests_at, board_lane_at, board_at};
+ghost use Rattle.vk_app.specs.Texts.{board_text, IsBoard, IsTextOf, IsReadAgain};
 
-use crate::reader::{ReadFault, Reader};
+use crate::reader::Reader;
+use crate::refusal::Refusal;
 use std::alloc::Global;
 use vk_residue::Residue;
 use vk_seq::Seq;
@@ -39,7 +41,7 @@ pub struct Board {
 
 /// Two digests, to the end of their line.
 #[tactic(auto, unfolding(crate::specs::Reading::digests_at))]
-fn digests_line(reader: &mut Reader<'_>) -> Result<Digests, ReadFault>
+fn digests_line(reader: &mut Reader<'_>) -> Result<Digests, Refusal>
     ensures { Reads (λ x. x) result reader.new (digests_at reader.old) }
 {
     let first = reader.hex32()?;
@@ -51,7 +53,7 @@ fn digests_line(reader: &mut Reader<'_>) -> Result<Digests, ReadFault>
 
 /// The lines of the lane with that number.
 #[tactic(auto, unfolding(crate::specs::Reading::board_lane_at))]
-fn board_lane(reader: &mut Reader<'_>, number: u64) -> Result<BoardLane, ReadFault>
+fn board_lane(reader: &mut Reader<'_>, number: u64) -> Result<BoardLane, Refusal>
     ensures { Reads (λ x. x) result reader.new (board_lane_at number reader.old) }
 {
     reader.lane_line(number)?;
@@ -69,7 +71,7 @@ fn board_lanes(
     alloc: Global,
     reader: &mut Reader<'_>,
     count: u64,
-) -> Result<Vec<BoardLane>, ReadFault>
+) -> Result<Vec<BoardLane>, Refusal>
     requires { count < 2 ^ 63 }
     ensures { Reads (λ x. x.items) result reader.new (lanes_at board_lane_at count 1 reader.old) }
 {
@@ -83,7 +85,7 @@ fn board_lanes(
 
 /// The board whose text the bytes are.
 #[tactic(auto, unfolding(crate::specs::Reading::board_at))]
-pub fn read_board(alloc: Global, text: &[u8]) -> Result<Board, ReadFault>
+fn board_in(alloc: Global, text: &[u8]) -> Result<Board, Refusal>
     ensures { Gives (λ x. x) result (board_at text.now) }
 {
     let mut reader = Reader::of(text);
@@ -100,4 +102,13 @@ pub fn read_board(alloc: Global, text: &[u8]) -> Result<Board, ReadFault>
         seat: seat as u16,
         lanes: Seq::from_vec(lanes),
     })
+}
+
+/// The board whose text the bytes are.
+pub fn read_board(alloc: Global, text: &[u8]) -> Result<Board, Refusal>
+    ensures read { Gives (λ x. x) result (board_at text.now) }
+    ensures found { IfOk result (λ board. IsTextOf board_text IsBoard text.now board) }
+    ensures only { IsReadAgain board_text IsBoard text.now (Gives (λ x. x) result) }
+{
+    board_in(alloc, text)
 }

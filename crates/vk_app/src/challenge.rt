@@ -1,10 +1,12 @@
 //! Challenges: one bit for each lane.
 
-ghost use Rattle.std.specs.Prelude.{◌≡◌, [], Some};
+ghost use Rattle.std.specs.Prelude.{[], Some, IfOk};
 ghost use Rattle.vk_app.specs.Pieces.{Gives, Reads};
 ghost use Rattle.vk_app.specs.Reading.{bits_at, challenge_at};
+ghost use Rattle.vk_app.specs.Texts.{challenge_text, IsChallenge, IsTextOf, IsReadAgain};
 
-use crate::reader::{ReadFault, Reader};
+use crate::reader::Reader;
+use crate::refusal::Refusal;
 use std::alloc::Global;
 use vk_seq::Seq;
 
@@ -16,7 +18,7 @@ pub struct Challenge {
 }
 
 /// The characters `0` and `1` before anything else, as bits.
-fn bits(alloc: Global, reader: &mut Reader<'_>) -> Result<Vec<bool>, ReadFault>
+fn bits(alloc: Global, reader: &mut Reader<'_>) -> Result<Vec<bool>, Refusal>
     ensures { Reads (λ x. x.items) result reader.new (Some (bits_at [] reader.old)) }
 {
     let mut bits = Vec::new(alloc);
@@ -28,7 +30,7 @@ fn bits(alloc: Global, reader: &mut Reader<'_>) -> Result<Vec<bool>, ReadFault>
 
 /// The challenge whose text the bytes are.
 #[tactic(auto, unfolding(crate::specs::Reading::challenge_at))]
-pub fn read_challenge(alloc: Global, text: &[u8]) -> Result<Challenge, ReadFault>
+fn challenge_in(alloc: Global, text: &[u8]) -> Result<Challenge, Refusal>
     ensures { Gives (λ x. x) result (challenge_at text.now) }
 {
     let mut reader = Reader::of(text);
@@ -37,8 +39,17 @@ pub fn read_challenge(alloc: Global, text: &[u8]) -> Result<Challenge, ReadFault
     reader.tag(b"\n")?;
     reader.finish()?;
     if bits.is_empty() || 64 < bits.len() {
-        return Err(ReadFault::NotOfTheForm);
+        return Err(Refusal::NotAccepted);
     }
     let bits = Seq::from_vec(bits);
     Ok(Challenge { bits })
+}
+
+/// The challenge whose text the bytes are.
+pub fn read_challenge(alloc: Global, text: &[u8]) -> Result<Challenge, Refusal>
+    ensures read { Gives (λ x. x) result (challenge_at text.now) }
+    ensures found { IfOk result (λ challenge. IsTextOf challenge_text IsChallenge text.now challenge) }
+    ensures only { IsReadAgain challenge_text IsChallenge text.now (Gives (λ x. x) result) }
+{
+    challenge_in(alloc, text)
 }

@@ -1,10 +1,12 @@
 //! Replies of version 0: for each lane one opened half of the bid and one of its copy.
 
-ghost use Rattle.std.specs.Prelude.{◌≡◌, ◌<◌, ◌^◌};
+ghost use Rattle.std.specs.Prelude.{◌<◌, ◌^◌, IfOk};
 ghost use Rattle.vk_app.specs.Pieces.{Gives, Reads, lanes_at};
 ghost use Rattle.vk_app.specs.Reading.{opening_at, reply_lane_at, reply_at};
+ghost use Rattle.vk_app.specs.Texts.{reply_text, IsReply, IsTextOf, IsReadAgain};
 
-use crate::reader::{ReadFault, Reader};
+use crate::reader::Reader;
+use crate::refusal::Refusal;
 use std::alloc::Global;
 use vk_commit::Opening;
 use vk_seq::Seq;
@@ -27,7 +29,7 @@ pub struct Reply {
 
 /// The line that opens one half.
 #[tactic(auto, unfolding(crate::specs::Reading::opening_at))]
-fn opening_line(reader: &mut Reader<'_>) -> Result<Opening, ReadFault>
+fn opening_line(reader: &mut Reader<'_>) -> Result<Opening, Refusal>
     ensures { Reads (λ x. x) result reader.new (opening_at reader.old) }
 {
     reader.tag(b"h ")?;
@@ -39,7 +41,7 @@ fn opening_line(reader: &mut Reader<'_>) -> Result<Opening, ReadFault>
 
 /// The lines of the lane with that number.
 #[tactic(auto, unfolding(crate::specs::Reading::reply_lane_at))]
-fn reply_lane(reader: &mut Reader<'_>, number: u64) -> Result<ReplyLane, ReadFault>
+fn reply_lane(reader: &mut Reader<'_>, number: u64) -> Result<ReplyLane, Refusal>
     ensures { Reads (λ x. x) result reader.new (reply_lane_at number reader.old) }
 {
     reader.lane_line(number)?;
@@ -53,7 +55,7 @@ fn reply_lanes(
     alloc: Global,
     reader: &mut Reader<'_>,
     count: u64,
-) -> Result<Vec<ReplyLane>, ReadFault>
+) -> Result<Vec<ReplyLane>, Refusal>
     requires { count < 2 ^ 63 }
     ensures { Reads (λ x. x.items) result reader.new (lanes_at reply_lane_at count 1 reader.old) }
 {
@@ -67,7 +69,7 @@ fn reply_lanes(
 
 /// The reply whose text the bytes are.
 #[tactic(auto, unfolding(crate::specs::Reading::reply_at))]
-pub fn read_reply(alloc: Global, text: &[u8]) -> Result<Reply, ReadFault>
+fn reply_in(alloc: Global, text: &[u8]) -> Result<Reply, Refusal>
     ensures { Gives (λ x. x) result (reply_at text.now) }
 {
     let mut reader = Reader::of(text);
@@ -77,4 +79,13 @@ pub fn read_reply(alloc: Global, text: &[u8]) -> Result<Reply, ReadFault>
     reader.finish()?;
     let lanes = Seq::from_vec(lanes);
     Ok(Reply { lanes })
+}
+
+/// The reply whose text the bytes are.
+pub fn read_reply(alloc: Global, text: &[u8]) -> Result<Reply, Refusal>
+    ensures read { Gives (λ x. x) result (reply_at text.now) }
+    ensures found { IfOk result (λ reply. IsTextOf reply_text IsReply text.now reply) }
+    ensures only { IsReadAgain reply_text IsReply text.now (Gives (λ x. x) result) }
+{
+    reply_in(alloc, text)
 }

@@ -1,7 +1,5 @@
 -- Files as a finite map: what is held after one or two changes.
-use Rattle.std.proofs.Common.{◌≡◌, ◌≢◌, ℕ, Bool, true, false, cond, List, Option, Some, None, refl, sym, ap, subst, ◌∙◌}
-use Rattle.std.specs.Ordering.{nat_cmp, eq_by_cmp}
-use Rattle.std.specs.Cmp.Lexicographic.{slice_cmp}
+use Rattle.std.proofs.Common.{◌≡◌, ◌≢◌, ℕ, Bool, true, false, cond, List, Option, Some, refl, sym, ap, ◌∙◌}
 use Rattle.std.specs.Str.{bytes_eq}
 use Rattle.std.specs.FinMap.{get, insert, get-insert, same_map}
 use Rattle.std.proofs.lemmas.Cmp.{nat_list_cmp_total}
@@ -23,9 +21,9 @@ pub insert_over : (m : Files) (k v w : List ℕ) → insert (insert m k v) k w �
 insert_over m k v w = same_files _ _ (λ q.
     get_inserted (insert m k v) k w q
     ∙ elim (bytes_eq q k) as (λ b. get (insert m k v) q ≡ cond b (Some v) (get m q) → cond b (Some w) (get (insert m k v) q) ≡ cond b (Some w) (get m q)) [
-        | true ↦ λ _. refl
-        | false ↦ λ e. e
-      ] (get_inserted m k v q)
+      | true ↦ λ _. refl
+      | false ↦ λ e. e
+    ] (get_inserted m k v q)
     ∙ sym (get_inserted m k w q))
 
 two_names : (q k l : List ℕ) (a b : Bool) → bytes_eq q k ≡ a → bytes_eq q l ≡ b → k ≢ l → (x y z : Option (List ℕ)) → cond b x (cond a y z) ≡ cond a y (cond b x z)

@@ -1,2 +1,5 @@
 pub mod Finite
 pub mod Places
+pub mod Reading
+pub mod WritingLemmas
+pub mod Transfers

@@ -1,14 +1,12 @@
 -- The files of a shelf in memory as they lie there: reads and writes at a place are those of the map.
-use Rattle.std.proofs.Common.{◌≡◌, ◌≢◌, ℕ, map, zero, suc, ◌+◌, ◌<◌, ◌≤◌, Bool, true, false, cond, List, [], ◌∷◌, ◌++◌, length, get_or, set, drop, Option, Some, None, refl, sym, ap, ◌∙◌, arith}
+use Rattle.std.proofs.Common.{◌≡◌, ◌≢◌, ℕ, map, zero, suc, ◌+◌, ◌<◌, ◌≤◌, Bool, cond, List, [], ◌∷◌, ◌++◌, length, get_or, set, drop, Some, None, sym, ap, ◌∙◌, arith}
 use Rattle.std.specs.Str.{bytes_eq}
 use Rattle.std.specs.String.{string_bytes}
 use Rattle.std.specs.FinMap.{get, insert, get-empty, from_entries, from_entries_push, get-from_entries}
 use Rattle.std.proofs.lemmas.Cmp.{nat_list_cmp_total}
 use Rattle.std.proofs.lemmas.Map.Lookups.{exact_bytes}
 use Rattle.std.proofs.lemmas.List.{at_drop_more, at_drop_all, map-append}
-use Rattle.std.proofs.lemmas.Slice.Eq.{bytes_eq-Decides}
 use Rattle.vk_io.specs.declared.named.NamedFile.{NamedFile}
-use Rattle.vk_io.specs.Files.{Files}
 use Rattle.vk_io.specs.Named.{files_in, entry_of}
 use Rattle.vk_io.proofs.Finite.{get_inserted, insert_over, insert_swap}
 
@@ -43,5 +41,5 @@ unfolding files_in
 push_file files file name none same =
     ap from_entries (map-append entry_of files (file ∷ []))
     ∙ from_entries_push nat_list_cmp_total exact_bytes (map entry_of files) (string_bytes file.name) file.bytes.items
-        (sym (get-from_entries nat_list_cmp_total (map entry_of files) (string_bytes file.name)) ∙ ap (get (files_in files)) same ∙ none)
+    (sym (get-from_entries nat_list_cmp_total (map entry_of files) (string_bytes file.name)) ∙ ap (get (files_in files)) same ∙ none)
     ∙ ap (λ n. insert (files_in files) n file.bytes.items) same

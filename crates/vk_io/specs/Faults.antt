@@ -23,6 +23,6 @@ fails_next calls = list_any (λ n. n == one_more calls.made) calls.failing
 -- the count after the next call
 abbrev pub after_call : Calls → Calls
 after_call calls = record calls {
-    made = one_more calls.made;
-    faults = if fails_next calls then one_more calls.faults else calls.faults;
-  }
+  made = one_more calls.made;
+  faults = if fails_next calls then one_more calls.faults else calls.faults;
+}

@@ -2,3 +2,5 @@ pub mod Faults
 pub mod Files
 pub mod Memory
 pub mod Named
+pub mod Content
+pub mod Writing

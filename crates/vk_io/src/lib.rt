@@ -3,16 +3,28 @@
 #![tactic(auto)]
 
 mod calls;
+mod content;
 mod errors;
+mod file_shelf;
 mod mem_shelf;
 mod mem_sink;
 mod named;
+mod out_sink;
+mod pieces;
 mod shelf;
 mod sink;
+mod writing;
 
 pub use calls::CallCount;
+pub use content::{Content, read_whole};
 pub use errors::{ShelfErr, SinkErr};
+pub use file_shelf::FileShelf;
 pub use mem_shelf::MemShelf;
 pub use mem_sink::MemSink;
+pub use out_sink::OutSink;
 pub use shelf::Shelf;
 pub use sink::Sink;
+pub use writing::{FileText, write_file, write_files};
+
+#[cfg(test)]
+mod tests;

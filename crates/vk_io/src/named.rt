@@ -80,7 +80,7 @@ pub fn append_to(
 ) -> Result<(), NoMemory>
     ensures appended { OnOk result
         (files_in files.new.items
-          ≡ map.insert (files_in files.old.items) name.now (bytes_of (files_in files.old.items) name.now ++ piece.now)) }
+        ≡ map.insert (files_in files.old.items) name.now (bytes_of (files_in files.old.items) name.now ++ piece.now)) }
     ensures refused { OnErr result (files_in files.new.items ≡ files_in files.old.items) }
 {
     match place_of(files, name) {

@@ -28,10 +28,10 @@ pub trait Shelf {
         ensures bound { IfOk result (λ n. n ≤ length into.old) }
         ensures count { IfSome (held self.old)
             (λ files. IfOk result (λ n.
-              n ≡ length (part_of (bytes_of files name.now) at (length into.old)))) }
+            n ≡ length (part_of (bytes_of files name.now) at (length into.old)))) }
         ensures bytes { IfSome (held self.old)
             (λ files. IfOk result (λ n.
-              into.new ≡ part_of (bytes_of files name.now) at (length into.old) ++ drop n into.old)) }
+            into.new ≡ part_of (bytes_of files name.now) at (length into.old) ++ drop n into.old)) }
         ensures held { held self.new ≡ held self.old }
         ensures later { faults self.old ≤ faults self.new }
         ensures failed { IsErrOf result ShelfErr.Failed → Rose (faults self.old) (faults self.new) };

@@ -1,7 +1,7 @@
 -- Canonical decimals: reading digit by digit, and both directions between a number and its text.
 use Rattle.std.proofs.Common.{◌≡◌, ℕ, ◌+◌, ◌-◌, ◌*◌, ◌^◌, ◌/◌, ◌%◌, ◌<◌, ◌≤◌, Bool, true, false, ◌&&◌, if◌then◌else◌, nat_le, List, [], ◌∷◌, length, get_or, decimal, Option, Some, None, refl, ap, sym, ◌∙◌, arith, ◌⊎◌, inl, inr}
 use Rattle.std.specs.Char.{is_ascii_digit, digit_value}
-use Rattle.std.specs.Option.{option_and_then}
+use Rattle.std.specs.Option.{IfSome, option_and_then}
 use Rattle.std.specs.Str.{all_ascii_digits}
 use Rattle.std.specs.Str.Parse.{digits_value, digits_value_after}
 use Rattle.std.proofs.lemmas.Bool.{and_parts, cases_Bool, cases_eq, cases_lt, le-leb, lt-leb, leb-true}
@@ -88,7 +88,7 @@ unfolding decimal_of
 decimal_of-other most text h = rw h refl
 
 -- std's words for digits and their value
-own : IsNumeralModel (λ ds. all_ascii_digits ds ≡ true) (digits_value 10)
+pub own : IsNumeralModel (λ ds. all_ascii_digits ds ≡ true) (digits_value 10)
 own = numerals_by_value _ tells_all_ascii_digits
 
 -- what a canonical start tells
@@ -139,3 +139,8 @@ ReadsDecimal-decimal_of most text result fits value n = (
   λ some. decimal_of-some most n text fits (sym value ∙ some),
   λ facts. value ∙ ap (decimal_of most) facts.1 ∙ decimal_of-decimal most n fits facts.0,
 )
+
+-- what is read is at most `most`
+pub within_most : (most : ℕ) (text : List ℕ) (result : Option ℕ) → ReadsDecimal most text result → IfSome result (λ number. number ≤ most)
+within_most most text (Some n) exact = ((exact n).0 refl).0
+within_most most text None exact = tt

@@ -73,7 +73,7 @@ lower_pairs i (a ∷ b ∷ text) even lower =
     )
 
 -- the text of bytes has lower-case digits alone
-hex_text-lower : (bytes : List ℕ) → IsBytes bytes → list_all is_lower_digit (hex_text bytes) ≡ true
+pub hex_text-lower : (bytes : List ℕ) → IsBytes bytes → list_all is_lower_digit (hex_text bytes) ≡ true
 unfolding encode_with
 hex_text-lower [] fit = refl
 hex_text-lower (b ∷ bytes) fit =

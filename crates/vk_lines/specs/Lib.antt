@@ -1,1 +1,4 @@
+pub mod Causes
+pub mod Forms
+pub mod Lines
 pub mod Tokens

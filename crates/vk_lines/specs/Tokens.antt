@@ -1,7 +1,7 @@
 -- The pieces of a line: numbers, bytes in hexadecimal, and the fields between spaces.
-use Rattle.std.specs.Prelude.{◌≡◌, ◌≤◌, ◌↔◌, ℕ, ◌+◌, ◌-◌, ◌*◌, ◌==◌, ◌&&◌, ◌||◌, nat_le, nat_lt, Bool, if◌then◌else◌, List, length, slice_index, decimal, not, Option, Some, None}
+use Rattle.std.specs.Prelude.{◌≡◌, ◌≤◌, ◌↔◌, ℕ, ◌+◌, ◌-◌, ◌*◌, ◌==◌, ◌&&◌, ◌||◌, nat_le, nat_lt, Bool, if◌then◌else◌, List, length, slice_index, decimal, not, Option, Some, None, slice_get}
 use Rattle.std.specs.List.{list_all, slice_split}
-use Rattle.std.specs.Str.{all_ascii_digits}
+use Rattle.std.specs.Str.{all_ascii_digits, bytes_eq}
 use Rattle.std.specs.Char.{is_ascii_digit}
 use Rattle.std.specs.Str.Parse.{digits_value}
 use Rattle.std.specs.Result.{result_ok}
@@ -46,3 +46,88 @@ hex_of count text = if list_all is_lower_digit text then result_ok (decode_sized
 -- bytes are read exactly from their text: that of `count` bytes in lower case, and no other text
 abbrev pub ReadsHex : ℕ → List ℕ → Option (List ℕ) → Type 0
 ReadsHex count text result = (bytes : List ℕ) → (result ≡ Some bytes) ↔ ((length bytes ≡ count) × IsBytes bytes × (text ≡ hex_text bytes))
+
+-- ---- lines of fields
+
+-- a value that a text may not have: the first that it hasn't ends it
+infixl 10 ◌>>=◌
+abbrev pub ◌>>=◌ : {A B : Type 0} → Option A → (A → Option B) → Option B
+None >>= f = None
+Some x >>= f = f x
+
+-- whether a text is this word
+abbrev pub word_of : List ℕ → List ℕ → Option Unit
+word_of word text = if bytes_eq text word then Some tt else None
+
+-- the field of that index, from 0
+abbrev pub field_of : List ℕ → ℕ → Option (List ℕ)
+field_of text index = slice_get (fields_of text) index
+
+-- whether there are so many fields, of which the first is this word
+abbrev pub tagged_by : List ℕ → ℕ → List (List ℕ) → Option Unit
+tagged_by word count fields = if length fields == count then slice_get fields 0 >>= word_of word else None
+
+-- whether a text has so many fields, of which the first is this word
+abbrev pub tagged : List ℕ → ℕ → List ℕ → Option Unit
+tagged word count text = tagged_by word count (fields_of text)
+
+-- a value that meets a test
+abbrev pub meets : {X : Type 0} → (X → Bool) → X → Option X
+meets test x = if test x then Some x else None
+
+-- a line of a word and one field, a word and two, and so on, each field read by itself
+abbrev pub one_by : {X : Type 0} → List ℕ → (List ℕ → Option X) → List (List ℕ) → Option X
+one_by word parse fields = tagged_by word 2 fields >>= λ _. slice_get fields 1 >>= parse
+
+abbrev pub one_field : {X : Type 0} → List ℕ → (List ℕ → Option X) → List ℕ → Option X
+one_field word parse text = one_by word parse (fields_of text)
+
+abbrev pub two_by : {A B X : Type 0} → List ℕ → (List ℕ → Option A) → (List ℕ → Option B) → (A → B → X) → List (List ℕ) → Option X
+two_by word first second make fields =
+    tagged_by word 3 fields >>= λ _.
+    slice_get fields 1 >>= first >>= λ a.
+    slice_get fields 2 >>= second >>= λ b.
+    Some (make a b)
+
+abbrev pub two_fields : {A B X : Type 0} → List ℕ → (List ℕ → Option A) → (List ℕ → Option B) → (A → B → X) → List ℕ → Option X
+two_fields word first second make text = two_by word first second make (fields_of text)
+
+abbrev pub three_by : {A B C X : Type 0} → List ℕ → (List ℕ → Option A) → (List ℕ → Option B) → (List ℕ → Option C) → (A → B → C → X) → List (List ℕ) → Option X
+three_by word first second third make fields =
+    tagged_by word 4 fields >>= λ _.
+    slice_get fields 1 >>= first >>= λ a.
+    slice_get fields 2 >>= second >>= λ b.
+    slice_get fields 3 >>= third >>= λ c.
+    Some (make a b c)
+
+abbrev pub three_fields : {A B C X : Type 0} → List ℕ → (List ℕ → Option A) → (List ℕ → Option B) → (List ℕ → Option C) → (A → B → C → X) → List ℕ → Option X
+three_fields word first second third make text = three_by word first second third make (fields_of text)
+
+abbrev pub four_by : {A B C D X : Type 0} → List ℕ → (List ℕ → Option A) → (List ℕ → Option B) → (List ℕ → Option C) → (List ℕ → Option D) → (A → B → C → D → X) → List (List ℕ) → Option X
+four_by word first second third fourth make fields =
+    tagged_by word 5 fields >>= λ _.
+    slice_get fields 1 >>= first >>= λ a.
+    slice_get fields 2 >>= second >>= λ b.
+    slice_get fields 3 >>= third >>= λ c.
+    slice_get fields 4 >>= fourth >>= λ d.
+    Some (make a b c d)
+
+abbrev pub four_fields : {A B C D X : Type 0} → List ℕ → (List ℕ → Option A) → (List ℕ → Option B) → (List ℕ → Option C) → (List ℕ → Option D) → (A → B → C → D → X) → List ℕ → Option X
+four_fields word first second third fourth make text = four_by word first second third fourth make (fields_of text)
+
+-- ---- the lines that several forms have
+
+-- a line of a word and a number from `least` to `most`
+abbrev pub number_token : ℕ → ℕ → List ℕ → Option ℕ
+number_token least most text = decimal_of most text >>= meets (λ number. nat_le least number)
+
+abbrev pub number_line : List ℕ → ℕ → ℕ → List ℕ → Option ℕ
+number_line word least most text = one_field word (number_token least most) text
+
+-- a line of a word and an id of 16 bytes
+abbrev pub id_line : List ℕ → List ℕ → Option (List ℕ)
+id_line word text = one_field word (hex_of 16) text
+
+-- a line of a word and two digests of 32 bytes
+abbrev pub digests_line : List ℕ → List ℕ → Option (List ℕ × List ℕ)
+digests_line word text = two_fields word (hex_of 32) (hex_of 32) (λ first second. (first, second)) text

@@ -1,9 +1,9 @@
 //! What a line is made of: fields between single spaces, numbers and bytes as text.
 
-ghost use Rattle.std.specs.Prelude.{◌≡◌, ◌↔◌, ◌++◌, List, decimal, length, drop, slice_get, slice_index, option_map, MatchOption, OnErr, OnOk, ℕ, ◌≤◌, ◌<◌, true, false};
+ghost use Rattle.std.specs.Prelude.{◌≡◌, ◌↔◌, ◌++◌, List, decimal, length, drop, slice_get, slice_index, option_map, MatchOption, IfSome, OnErr, OnOk, ℕ, ◌≤◌, ◌<◌, true, false};
 ghost use Rattle.std.specs.List.{list_all};
 ghost use Rattle.hex.specs.Hex.{lower_digits};
-ghost use Rattle.vk_lines.specs.Tokens.{fields_of, decimal_of, hex_of, hex_text, ReadsDecimal, ReadsHex, is_lower_digit, next_number, starts_canonical};
+ghost use Rattle.vk_lines.specs.Tokens.{fields_of, word_of, tagged, number_line, id_line, digests_line, decimal_of, hex_of, hex_text, ReadsDecimal, ReadsHex, is_lower_digit, next_number, starts_canonical};
 
 use vk_residue::NoMemory;
 
@@ -21,11 +21,31 @@ pub fn field(text: &[u8], index: usize) -> Option<&[u8]>
     text.split(|byte| *byte == b' ').nth(index)
 }
 
+/// Whether the text is this word.
+pub fn read_word(text: &[u8], word: &[u8]) -> Option<()>
+    ensures { result ≡ word_of word.now text.now }
+{
+    if text == word { Some(()) } else { None }
+}
+
+/// Whether the text has so many fields, of which the first is this word.
+pub fn read_tag(text: &[u8], word: &[u8], count: usize) -> Option<()>
+    ensures { result ≡ tagged word.now count text.now }
+{
+    if fields(text) != count {
+        return None;
+    }
+    let first = field(text, 0)?;
+    let found = read_word(first, word);
+    found
+}
+
 /// The number whose canonical decimal the text is: digits alone, and no zero before others.
 /// `None` where the text is no such decimal or the number is above `most`.
 pub fn read_decimal(text: &[u8], most: u64) -> Option<u64>
     ensures value { result ≡ decimal_of most text.now }
     ensures exact { ReadsDecimal most text.now result }
+    ensures within { IfSome result (λ number. number ≤ most) }
 {
     let number = number_of(text, most);
     number
@@ -91,6 +111,35 @@ pub fn read_hex32(text: &[u8]) -> Option<[u8; 32]>
     } else {
         None
     }
+}
+
+/// The number of a line of this word and a number from `least` to `most`.
+pub fn read_number(text: &[u8], word: &[u8], least: u64, most: u64) -> Option<u64>
+    ensures value { result ≡ number_line word.now least most text.now }
+    ensures within { IfSome result (λ number. (least ≤ number) × (number ≤ most)) }
+{
+    read_tag(text, word, 2)?;
+    let number = read_decimal(field(text, 1)?, most)?;
+    if least <= number { Some(number) } else { None }
+}
+
+/// The id of a line of this word and 16 bytes in hexadecimal.
+pub fn read_id(text: &[u8], word: &[u8]) -> Option<[u8; 16]>
+    ensures { result ≡ id_line word.now text.now }
+{
+    read_tag(text, word, 2)?;
+    let id = read_hex16(field(text, 1)?);
+    id
+}
+
+/// The digests of a line of this word and twice 32 bytes in hexadecimal.
+pub fn read_digests(text: &[u8], word: &[u8]) -> Option<([u8; 32], [u8; 32])>
+    ensures { result ≡ digests_line word.now text.now }
+{
+    read_tag(text, word, 3)?;
+    let first = read_hex32(field(text, 1)?)?;
+    let second = read_hex32(field(text, 2)?)?;
+    Some((first, second))
 }
 
 /// Appends the canonical decimal of a number. After `NoMemory`, `out` is as before.

@@ -1,5 +1,5 @@
 -- The forms that the relations put into rows.
-use Rattle.std.specs.Prelude.{ℕ, ◌+◌, ◌-◌, ◌%◌, ◌^◌, ◌<◌, ◌≤◌, Bool, if◌then◌else◌, List, [], ◌∷◌, map, slice_index, length}
+use Rattle.std.specs.Prelude.{ℕ, ◌-◌, ◌≤◌, Bool, if◌then◌else◌, [], ◌∷◌, length}
 use Rattle.vk_residue.specs.Residue.{modulus}
 use Rattle.vk_plan.specs.declared.form.Form.{Form}
 use Rattle.vk_plan.specs.Forms.{NamesBelow}

@@ -1,4 +1,4 @@
-use Rattle.std.proofs.Common.{◌++◌, [], Some, sym, ap, ◌∙◌}
+use Rattle.std.proofs.Common.{◌++◌, [], sym, ap, ◌∙◌}
 use Rattle.std.specs.Option.{unwrap_or}
 use Rattle.std.specs.FinMap.{insert, get}
 use Rattle.vk_io.specs.Named.{files_in}

@@ -1,4 +1,4 @@
-use Rattle.std.proofs.Common.{◌≡◌, ◌≢◌, ℕ, ◌<◌, [], length, get_or, true, false, refl, sym, ap, ◌∙◌, arith, below_more}
+use Rattle.std.proofs.Common.{◌≡◌, ◌≢◌, [], get_or, true, false, sym, ap, ◌∙◌, arith, below_more}
 use Rattle.std.specs.Option.{unwrap_or}
 use Rattle.std.specs.Str.{bytes_eq}
 use Rattle.std.specs.String.{string_bytes}
@@ -28,12 +28,12 @@ returns-then-eq-clause-held c = λ d.
 
 pub loop-i-preserved : goal.loop-i-preserved
 loop-i-preserved c = record {
-    rest = c.loop-i.invariant.rest ∙ get-next c.args.files.now c.loop-i.i c.index-files-i.result c.args.name.now false (omega arith) c.index-files-i.is (sym c.if-eq.false ∙ c.eq.ensures ∙ ap (bytes_eq c.args.name.now) c.as_str.ensures.value);
-    others = λ k d h. below_more (λ j. string_bytes (get_or c.args.files.now j d).name ≢ c.args.name.now) c.loop-i.i (λ j l. c.loop-i.invariant.others j d l)
-        (λ same. true≢false (sym ((bytes_eq-Decides c.args.name.now c.as_str.result.now).1
-            (sym same ∙ ap (λ f. string_bytes f.name) (sym (get_or_read c.args.files.now c.loop-i.i _ (omega arith) c.index-files-i.is d)) ∙ sym c.as_str.ensures.value))
-            ∙ sym c.eq.ensures ∙ c.if-eq.false)) k h;
-  }
+  rest = c.loop-i.invariant.rest ∙ get-next c.args.files.now c.loop-i.i c.index-files-i.result c.args.name.now false (omega arith) c.index-files-i.is (sym c.if-eq.false ∙ c.eq.ensures ∙ ap (bytes_eq c.args.name.now) c.as_str.ensures.value);
+  others = λ k d h. below_more (λ j. string_bytes (get_or c.args.files.now j d).name ≢ c.args.name.now) c.loop-i.i (λ j l. c.loop-i.invariant.others j d l)
+      (λ same. true≢false (sym ((bytes_eq-Decides c.args.name.now c.as_str.result.now).1
+      (sym same ∙ ap (λ f. string_bytes f.name) (sym (get_or_read c.args.files.now c.loop-i.i _ (omega arith) c.index-files-i.is d)) ∙ sym c.as_str.ensures.value))
+      ∙ sym c.eq.ensures ∙ c.if-eq.false)) k h;
+}
 
 pub returns-clause-absent : goal.returns-clause-absent
 returns-clause-absent c = c.loop-i.invariant.rest ∙ get-end _ _ _ c.loop-i-test.false

@@ -1,0 +1,141 @@
+-- Files as lines: what is left of a file, its next line, and how a form is read line by line.
+use Rattle.std.specs.Prelude.{◌≡◌, ℕ, ◌+◌, ◌-◌, ◌^◌, ◌==◌, ◌<◌, ◌≤◌, nat_lt, min, if◌then◌else◌, List, length, take, drop, Option, Some, None, Result, Ok, Err, codes, IsSome}
+use Rattle.std.specs.List.{position_or_len}
+use Rattle.std.specs.FinMap.{get}
+use Rattle.vk_io.specs.Files.{Files, bytes_of, part_of}
+use Rattle.vk_lines.specs.declared.errors.ReadErr.{ReadErr}
+use Rattle.vk_lines.specs.declared.errors.ReadErr.TheVariants.{Malformed, Failed, NoMemory}
+use Rattle.vk_lines.specs.declared.errors.StartErr.{StartErr}
+use Rattle.vk_lines.specs.declared.errors.StartErr.TheVariants.{Missing, TooLong}
+use Rattle.vk_lines.specs.declared.errors.StartErr.TheVariants as refused
+use Rattle.vk_lines.specs.declared.step.Step.{Step}
+use Rattle.vk_lines.specs.declared.step.Step.TheVariants.{Text, End, Long, Cut}
+use Rattle.vk_lines.specs.Tokens.{word_of}
+
+-- what is left of a file: how many lines of it were taken, and the bytes after them
+pub record Rest : Type 0 where
+  pub taken : ℕ
+  pub left : List ℕ
+
+-- where the first line feed stands, or how many bytes there are if there is none
+abbrev pub feed_at : List ℕ → ℕ
+feed_at left = position_or_len (λ byte. byte == 10) left
+
+-- by where the first line feed stands among how many bytes
+abbrev pub step_by : ℕ → ℕ → Step
+step_by feed count =
+    if nat_lt feed (min 256 count) then Text
+    else if count == 0 then End
+    else if nat_lt count 256 then Cut
+    else Long
+
+-- what stands next: a line, which has its line feed within 256 bytes; nothing; 256 bytes without a
+-- line feed; or fewer, without one, and then the end
+abbrev pub step_of : List ℕ → Step
+step_of left = step_by (feed_at left) (length left)
+
+-- the next line without its line feed, with what is left after it; or the number of the line that isn't there
+abbrev pub text_by : Step → Rest → Result (List ℕ × Rest) ℕ
+text_by Text rest = Ok (take (feed_at rest.left) rest.left, record { taken = rest.taken + 1; left = drop (feed_at rest.left + 1) rest.left })
+text_by End rest = Err (rest.taken + 1)
+text_by Long rest = Err (rest.taken + 1)
+text_by Cut rest = Err (rest.taken + 1)
+
+unfoldable pub text_at : Rest → Result (List ℕ × Rest) ℕ
+text_at rest = text_by (step_of rest.left) rest
+
+-- ---- a reader of lines
+
+-- a reader: the file's name and its length as it was told, how many bytes and lines were taken of it, and the last line taken
+pub record LinesValue : Type 0 where
+  pub name : List ℕ
+  pub size : ℕ
+  pub at : ℕ
+  pub taken : ℕ
+  pub text : List ℕ
+
+-- what is left of the file for a reader
+unfoldable pub rest_of : LinesValue → Files → Rest
+rest_of lines files = record { taken = lines.taken; left = part_of (bytes_of files lines.name) lines.at (lines.size - lines.at) }
+
+-- a reader starts before the first line of a file that is held and has at most 2^30 bytes
+abbrev pub Starts : Files → List ℕ → Result LinesValue StartErr → Type 0
+Starts files name (Ok lines) = IsSome (get files name) × (length (bytes_of files name) ≤ 2 ^ 30) × (rest_of lines files ≡ record { taken = 0; left = bytes_of files name })
+Starts files name (Err Missing) = get files name ≡ None
+Starts files name (Err TooLong) = IsSome (get files name) × (2 ^ 30 < length (bytes_of files name))
+Starts files name (Err refused.Failed) = Unit {0}
+Starts files name (Err refused.NoMemory) = Unit {0}
+
+-- the bytes among which a reader looks for the next line
+abbrev pub window_of : LinesValue → Files → List ℕ
+window_of lines files = part_of (bytes_of files lines.name) lines.at (min 256 (lines.size - lines.at))
+
+-- a reader after this step within these bytes
+abbrev pub after_step : Step → List ℕ → LinesValue → LinesValue
+after_step Text window lines = record lines { at = lines.at + (feed_at window + 1); taken = lines.taken + 1; text = take (feed_at window) window }
+after_step End window lines = lines
+after_step Long window lines = lines
+after_step Cut window lines = lines
+
+-- the line that a reader took, with what is left after it; or the number of the line that isn't there
+abbrev pub line_taken : Step → LinesValue → LinesValue → Files → Result (List ℕ × Rest) ℕ
+line_taken Text old new files = Ok (new.text, rest_of new files)
+line_taken End old new files = Err (old.taken + 1)
+line_taken Long old new files = Err (old.taken + 1)
+line_taken Cut old new files = Err (old.taken + 1)
+
+-- a step is the next one of what was left, and the reader took the line
+pub record IsNext (step : Step) (old new : LinesValue) (files : Files) : Type 0 where
+  pub next : step ≡ step_of (rest_of old files).left
+  pub line : text_at (rest_of old files) ≡ line_taken step old new files
+
+-- ---- reading a form
+
+-- a reader's answer is what the definition gives: the value with what is left, or the fault line.
+-- After a failure of the outside or want of memory nothing is said
+abbrev pub Reads : {T X : Type 0} → (T → X) → Result T ReadErr → Rest → Result (X × Rest) ℕ → Type 0
+Reads value (Ok x) rest expected = expected ≡ Ok (value x, rest)
+Reads value (Err (Malformed line)) rest expected = expected ≡ Err line
+Reads value (Err Failed) rest expected = Unit {0}
+Reads value (Err NoMemory) rest expected = Unit {0}
+
+-- one reading after another: the first fault is the fault
+infixl 10 ◌>>=◌
+abbrev pub ◌>>=◌ : {A B : Type 0} → Result A ℕ → (A → Result B ℕ) → Result B ℕ
+Ok x >>= f = f x
+Err line >>= f = Err line
+
+-- the value of a line, or the line's number where it has none
+abbrev pub value_at : {X : Type 0} → Option X → Rest → Result (X × Rest) ℕ
+value_at (Some x) rest = Ok (x, rest)
+value_at None rest = Err rest.taken
+
+-- a line of a form that `parse` tells
+unfoldable pub line_by : {X : Type 0} → (List ℕ → Option X) → Rest → Result (X × Rest) ℕ
+line_by parse rest = do
+  line ← text_at rest
+  value_at (parse line.0) line.1
+
+-- nothing is left
+abbrev pub none_left : Rest → Result (Unit × Rest) ℕ
+none_left rest = if length rest.left == 0 then Ok (tt, rest) else Err (rest.taken + 1)
+
+-- the same, by what stands next
+abbrev pub ended : Step → Rest → Result (Unit × Rest) ℕ
+ended End rest = Ok (tt, rest)
+ended Text rest = Err (rest.taken + 1)
+ended Long rest = Err (rest.taken + 1)
+ended Cut rest = Err (rest.taken + 1)
+
+-- what is answered where the end is to stand next
+abbrev pub end_answer : Step → ℕ → Result Unit ReadErr
+end_answer End before = Ok tt
+end_answer Text before = Err (Malformed (before + 1))
+end_answer Long before = Err (Malformed (before + 1))
+end_answer Cut before = Err (Malformed (before + 1))
+
+-- the line `end`, and nothing after it
+unfoldable pub end_at : Rest → Result (Unit × Rest) ℕ
+end_at rest = do
+  last ← line_by (word_of (codes "end")) rest
+  none_left last.1

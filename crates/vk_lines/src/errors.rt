@@ -1,0 +1,113 @@
+use std::alloc::{AllocError, AllocFailed};
+use vk_io::ShelfErr;
+
+/// The most bytes of a file that is read as lines.
+pub const MOST_BYTES: u64 = 1 << 30;
+
+/// Why no reader of lines was made.
+#[derive(Clone, Copy, Debug, PartialEq, Eq)]
+pub enum StartErr {
+    /// The name isn't held.
+    Missing,
+    /// The file has more than 2^30 bytes.
+    TooLong,
+    /// The outside failed. The shelf's count of faults rose in this call.
+    Failed,
+    /// Want of memory.
+    NoMemory,
+}
+
+/// Why a line was not taken.
+#[derive(Clone, Copy, Debug, PartialEq, Eq)]
+pub enum LineErr {
+    /// The outside failed. The shelf's count of faults rose in this call.
+    Failed,
+    /// Want of memory.
+    NoMemory,
+}
+
+/// Why a form was not read.
+#[derive(Clone, Copy, Debug, PartialEq, Eq)]
+pub enum ReadErr {
+    /// The number of the first line, from 1, that isn't what its place demands.
+    Malformed { line: u64 },
+    /// The outside failed. The shelf's count of faults rose in this call.
+    Failed,
+    /// Want of memory.
+    NoMemory,
+}
+
+impl From<AllocError> for StartErr {
+    ghost use Rattle.std.specs.Prelude.{◌≡◌};
+    ghost use Rattle.vk_lines.specs.declared.errors.StartErr.TheVariants.{NoMemory};
+
+    ghost from_gives = { λ _ e. e ≡ NoMemory };
+
+    fn from(_refused: AllocError) -> StartErr {
+        StartErr::NoMemory
+    }
+}
+
+impl From<ShelfErr> for StartErr {
+    ghost use Rattle.std.specs.Prelude.{◌≡◌};
+    ghost use Rattle.vk_lines.specs.Causes.{start_err_of};
+
+    ghost from_gives = { λ refused e. e ≡ start_err_of refused };
+
+    fn from(refused: ShelfErr) -> StartErr {
+        match refused {
+            ShelfErr::Failed => StartErr::Failed,
+            ShelfErr::NoMemory => StartErr::NoMemory,
+        }
+    }
+}
+
+impl From<ShelfErr> for LineErr {
+    ghost use Rattle.std.specs.Prelude.{◌≡◌};
+    ghost use Rattle.vk_lines.specs.Causes.{line_err_of};
+
+    ghost from_gives = { λ refused e. e ≡ line_err_of refused };
+
+    fn from(refused: ShelfErr) -> LineErr {
+        match refused {
+            ShelfErr::Failed => LineErr::Failed,
+            ShelfErr::NoMemory => LineErr::NoMemory,
+        }
+    }
+}
+
+impl From<LineErr> for ReadErr {
+    ghost use Rattle.std.specs.Prelude.{◌≡◌};
+    ghost use Rattle.vk_lines.specs.Causes.{read_err_of};
+
+    ghost from_gives = { λ refused e. e ≡ read_err_of refused };
+
+    fn from(refused: LineErr) -> ReadErr {
+        match refused {
+            LineErr::Failed => ReadErr::Failed,
+            LineErr::NoMemory => ReadErr::NoMemory,
+        }
+    }
+}
+
+impl From<AllocError> for ReadErr {
+    ghost use Rattle.std.specs.Prelude.{◌≡◌};
+    ghost use Rattle.vk_lines.specs.declared.errors.ReadErr.TheVariants.{NoMemory};
+
+    ghost from_gives = { λ _ e. e ≡ NoMemory };
+
+    fn from(_refused: AllocError) -> ReadErr {
+        ReadErr::NoMemory
+    }
+}
+
+impl<T: Drop> From<AllocFailed<T>> for ReadErr {
+    ghost use Rattle.std.specs.Prelude.{◌≡◌};
+    ghost use Rattle.vk_lines.specs.declared.errors.ReadErr.TheVariants.{NoMemory};
+
+    ghost from_gives = { λ _ e. e ≡ NoMemory };
+
+    fn from(_refused: AllocFailed<T>) -> ReadErr {
+        ReadErr::NoMemory
+    }
+}
