@@ -1,4 +1,4 @@
-pub mod Accepted
+pub mod Sums
 pub mod Clash
 pub mod Refused
 pub mod Values

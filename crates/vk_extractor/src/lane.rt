@@ -1,7 +1,8 @@
 // The extraction of one lane.
 ghost use Rattle.std.specs.Prelude.{◌≡◌, IfOk, IfErr, OnOk, None, false, true};
 ghost use Rattle.vk_plan.specs.Plans.{Holds};
-ghost use Rattle.vk_extractor.specs.Accepted.{IsAccepted, AreSums};
+ghost use Rattle.vk_row.specs.Lanes.{IsAccepted};
+ghost use Rattle.vk_extractor.specs.Sums.{AreSums};
 ghost use Rattle.vk_extractor.specs.Clash.{clash_of_lane};
 ghost use Rattle.vk_extractor.specs.declared.lane.LaneErr.TheVariants.{NoMemory};
 ghost use Rattle.vk_extractor.specs.Refused.{IsRefusalOf};
