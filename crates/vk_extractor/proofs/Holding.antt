@@ -11,7 +11,7 @@ use Rattle.vk_wire.specs.declared.wire.WireCom.{WireCom}
 use Rattle.vk_wire.specs.declared.wire.Shown.{Shown}
 use Rattle.vk_row.specs.declared.case.LaneCase.{LaneCase}
 use Rattle.vk_row.specs.Lanes.{IsAcceptedLane, place_in, no_digests, nothing_shown, no_row}
-use Rattle.vk_extractor.specs.Accepted.{sums}
+use Rattle.vk_extractor.specs.Sums.{sums}
 use Rattle.vk_extractor.specs.Clash.{clash_at, clash_from, clash_of_lane, or_else}
 use Rattle.vk_extractor.specs.Values.{wire_value}
 use Rattle.vk_extractor.proofs.Sums.{get_or-sums, length-sums}

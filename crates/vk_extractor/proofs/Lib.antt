@@ -1,3 +1,4 @@
+pub mod Clashes
 pub mod Holding
 pub mod Linear
 pub mod Steps

@@ -8,7 +8,7 @@ use Rattle.vk_residue.specs.Residue.{modulus, sum, negative}
 use Rattle.vk_plan.specs.declared.form.Term.{Term}
 use Rattle.vk_plan.specs.declared.form.Form.{Form}
 use Rattle.vk_plan.specs.Forms.{term_value, linear_part, form_value, NamesBelow}
-use Rattle.vk_extractor.specs.Accepted.{sums}
+use Rattle.vk_extractor.specs.Sums.{sums}
 use Rattle.vk_extractor.proofs.Sums.{get_or-sums}
 
 -- a factor times a sum

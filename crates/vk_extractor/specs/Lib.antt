@@ -1,4 +1,5 @@
-pub mod Accepted
+pub mod Sums
 pub mod Clash
+pub mod Refused
 pub mod Values
 pub mod Laws

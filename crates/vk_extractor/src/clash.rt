@@ -1,8 +1,7 @@
 // The first entry that the two challenges open to different values.
 ghost use Rattle.std.specs.Prelude.{◌≡◌, ◌<◌, ◌≤◌, ◌^◌, false, true, length, slice_index_or};
-ghost use Rattle.vk_row.specs.Lanes.{no_digests, nothing_shown};
+ghost use Rattle.vk_row.specs.Lanes.{IsAccepted, no_digests, nothing_shown};
 ghost use Rattle.vk_extractor.specs.Clash.{clash_at, clash_of_lane};
-ghost use Rattle.vk_extractor.specs.Accepted.{IsAccepted};
 
 use vk_commit::{Place, TwoOpenings};
 use vk_plan::Plan;

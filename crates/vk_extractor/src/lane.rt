@@ -1,10 +1,11 @@
 // The extraction of one lane.
-ghost use Rattle.std.specs.Prelude.{◌≡◌, ◌⊎◌, IfOk, IfErr, OnOk, Some, None, false, true};
+ghost use Rattle.std.specs.Prelude.{◌≡◌, IfOk, IfErr, OnOk, None, false, true};
 ghost use Rattle.vk_plan.specs.Plans.{Holds};
-ghost use Rattle.vk_commit.specs.Commitment.{TwoOpeningsSeen};
-ghost use Rattle.vk_extractor.specs.Accepted.{IsAccepted, AreSums};
+ghost use Rattle.vk_row.specs.Lanes.{IsAccepted};
+ghost use Rattle.vk_extractor.specs.Sums.{AreSums};
 ghost use Rattle.vk_extractor.specs.Clash.{clash_of_lane};
-ghost use Rattle.vk_extractor.specs.declared.lane.LaneErr.TheVariants.{Clash, NoMemory};
+ghost use Rattle.vk_extractor.specs.declared.lane.LaneErr.TheVariants.{NoMemory};
+ghost use Rattle.vk_extractor.specs.Refused.{IsRefusalOf};
 
 use crate::clash::first_clash;
 use crate::values::values_of;
@@ -48,8 +49,7 @@ pub fn extract_lane(
     ensures sums { IfOk result (λ values. AreSums plan.now case.now zero.now one.now values.items) }
     ensures holds { IfOk result (λ values. Holds plan.now values.items) }
     ensures agree { OnOk result (clash_of_lane case.now zero.now one.now ≡ None) }
-    ensures clash { IfErr result (λ refused. (refused ≡ NoMemory)
-        ⊎ ((two : TwoOpeningsSeen) × (refused ≡ Clash two) × (clash_of_lane case.now zero.now one.now ≡ Some two))) }
+    ensures clash { IfErr result (λ refused. IsRefusalOf refused case.now zero.now one.now) }
 {
     match first_clash(plan, case, zero, one) {
         Some(two) => Err(LaneErr::Clash(two)),

@@ -4,7 +4,9 @@
 mod clash;
 mod lane;
 mod laws;
+#[cfg(test)]
+mod tests;
 mod values;
 
 pub use lane::{LaneErr, extract_lane};
-pub use laws::extracted_values_hold;
+pub use laws::{clashes_are_two_openings, extracted_values_hold};

@@ -2,8 +2,8 @@
 ghost use Rattle.std.specs.Prelude.{◌≡◌, ◌<◌, IfOk, false, true, length, slice_index_or};
 ghost use Rattle.vk_plan.specs.Plans.{IsPlan};
 ghost use Rattle.vk_plan.specs.declared.wire.WireKind.TheVariants.{Split};
-ghost use Rattle.vk_row.specs.Lanes.{nothing_shown};
-ghost use Rattle.vk_extractor.specs.Accepted.{IsAccepted, AreSums};
+ghost use Rattle.vk_row.specs.Lanes.{IsAccepted, nothing_shown};
+ghost use Rattle.vk_extractor.specs.Sums.{AreSums};
 ghost use Rattle.vk_extractor.specs.Values.{wire_value};
 
 use std::alloc::Global;

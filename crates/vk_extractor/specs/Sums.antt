@@ -1,14 +1,10 @@
--- Lanes that were accepted for some halves, and the sums of halves.
-use Rattle.std.specs.Prelude.{◌≡◌, ℕ, Bool, false, true, List, [], ◌∷◌}
+-- The sums of the halves of a lane.
+use Rattle.std.specs.Prelude.{◌≡◌, ℕ, false, true, List, [], ◌∷◌}
 use Rattle.vk_residue.specs.Residue.{sum}
 use Rattle.vk_plan.specs.Plans.{PlanValue}
 use Rattle.vk_wire.specs.declared.wire.Shown.{Shown}
 use Rattle.vk_row.specs.declared.case.LaneCase.{LaneCase}
 use Rattle.vk_row.specs.Lanes.{IsAcceptedLane}
-
--- what is shown of the lane is accepted for the bit
-abbrev pub IsAccepted : PlanValue → LaneCase → Bool → List Shown → Type 0
-IsAccepted plan case bit shown = (halves : List ℕ) × IsAcceptedLane plan case bit shown halves
 
 -- first and second halves, added wire by wire
 abbrev pub sums : List ℕ → List ℕ → List ℕ
@@ -18,5 +14,5 @@ sums _ _ = []
 -- the values are the sums of the halves that are accepted for bit 0 and for bit 1
 abbrev pub AreSums : PlanValue → LaneCase → List Shown → List Shown → List ℕ → Type 0
 AreSums plan case zero one values =
-    (firsts seconds : List ℕ) → IsAcceptedLane plan case false zero firsts → IsAcceptedLane plan case true one seconds
-    → values ≡ sums firsts seconds
+    (firsts seconds : List ℕ) → IsAcceptedLane plan case false zero firsts
+    → IsAcceptedLane plan case true one seconds → values ≡ sums firsts seconds
