@@ -19,7 +19,7 @@ use Rattle.vk_range.specs.Sets.{listed, IsOfWidth, plus, minus}
 use Rattle.vk_range.specs.Forms.{difference_form, less_one}
 use Rattle.vk_range.specs.SetLaws.{length_listed, at_listed, All-listed}
 use Rattle.vk_range.specs.Laws.{difference_value, difference_names, same_from_zero, zero_from_same}
-use Rattle.vk_range.specs.Series.{same_plan, series, series_rows, IsSeries, length_series, series_sound_within, series_complete, names_series}
+use Rattle.vk_range.specs.Series.{same_plan, series, series_rows, series_values, IsSeries, length_series, series_sound_within, series_complete, names_series}
 use Rattle.vk_range.specs.Selected.{IsSelection, IsSelected, selected_wires, selected_rows, selected_values}
 use Rattle.vk_range.specs.SelectedLaws.{selected_sound, selected_complete}
 use Rattle.vk_vickrey.specs.Outcomes.{bid_at, IsPosition, IsBidElsewhere, IsVickreyOutcome}
@@ -387,3 +387,146 @@ vickrey_sound seals width position price values case holds =
          let shown = prices_shown seals width winner price values w case.some_width case.most_width holds'.residues enough before in
          claim_shown seals width position price values case (omega arith) shown
            (λ _. selection_held seals width winner price values selected.0 case.most_width w case.within_width enough shown selected.1)) ]
+
+-- values that begin with the bids and their copies
+record BeginsWith (bids values : List ℕ) : Type 0 where
+  enough : length bids + length bids ≤ length values
+  copied : (j : ℕ) → j < length bids → slice_index values (length bids + j) ≡ slice_index bids j
+
+begins_alone : (bids : List ℕ) → BeginsWith bids (bids ++ bids)
+begins_alone bids = record {
+  enough = omega (arith, length-append bids bids);
+  copied = λ j h. get_or-append-add bids bids j 0 }
+
+begins_longer : (bids values more : List ℕ) → BeginsWith bids values → BeginsWith bids (values ++ more)
+begins_longer bids values more begins = record {
+  enough = omega (arith, begins.enough, length-append values more);
+  copied = λ j h. get_or_append_left values more 0 (length bids + j) (omega (arith, begins.enough)) ∙ begins.copied j h }
+
+-- a place below the number of seals is a position, one higher
+position_of : (bids : List ℕ) (place : ℕ) → place < length bids → IsPosition bids (place + 1)
+position_of bids place h = record { some = omega arith; within = omega arith }
+
+bid_at_place : (bids : List ℕ) (place : ℕ) → bid_at bids (place + 1) ≡ slice_index bids place
+bid_at_place bids place = let back : place + 1 - 1 ≡ place = omega arith in ap (slice_index bids) back
+
+copies_complete : (bids : List ℕ) → All IsResidue bids → Holds (copies (length bids) (length bids)) (bids ++ bids)
+copies_complete bids residues =
+    let n = length bids in
+    Holds-extended (plan_of_inputs n) (copies_kinds n) (copies_rows n n) bids bids (All-nil (λ row. NamesBelow (length (replicate n Split)) row.terms))
+      (Holds-inputs n bids refl residues) (sym (length_listed (λ _. Split) n)) residues
+      (λ j h. let inside : j < n = omega (arith, length_listed (λ _. Split) n) in rw (at_listed (λ _. Split) n j Split inside) tt)
+      (All-listed (λ row. form_value row (bids ++ bids) ≡ 0) (λ j. difference_form j (n + j) false) n
+        (λ j h. difference_value j (n + j) false (bids ++ bids)
+          ∙ zero_from_same (slice_index (bids ++ bids) j) (slice_index (bids ++ bids) (n + j))
+              (get_or_append_left bids bids 0 j h ∙ sym (get_or-append-add bids bids j 0))))
+
+module _ (seals width position price : ℕ) (bids values : List ℕ) (case : IsVickreyCase seals width position price)
+  (claim : IsVickreyClaim seals width position price bids) (begins : BeginsWith bids values) where
+
+  bid_small : (j : ℕ) → j < seals → slice_index bids j < 2 ^ width
+  bid_small j h = claim.within_width j 0 (omega (arith, claim.one_each))
+
+  bid_of : (j : ℕ) → j < seals → slice_index values (seals + j) ≡ slice_index bids j
+  bid_of j h = subst (λ n. slice_index values (n + j) ≡ slice_index bids j) claim.one_each (begins.copied j (omega (arith, claim.one_each)))
+
+  bids_fit : (j : ℕ) → j < seals → IsOfWidth width (form_value (bid_form seals j) values)
+  bids_fit j h =
+      let small = subst (λ b. b < 2 ^ width) (sym (bid_of j h)) (bid_small j h) in
+      subst (IsOfWidth width) (sym (bid_value seals j values (omega (arith, width_small width case.most_width)))) small
+
+  wins_fit : (k : ℕ) → k < seals - 1 → IsOfWidth width (form_value (win_form seals (position - 1) k) values)
+  wins_fit k h =
+      let winner = position - 1 in
+      let w : winner < seals = omega (arith, case.some_position, case.within_seals) in
+      let place = other winner k in
+      let inside = other_within seals winner k w h in
+      let winning = slice_index values (seals + winner) in
+      let losing = slice_index values (seals + place) in
+      let small = width_small width case.most_width in
+      let top = subst (λ b. b < 2 ^ width) (sym (bid_of winner w)) (bid_small winner w) in
+      let at = position_of bids place (omega (arith, claim.one_each)) in
+      let above : losing ≤ winning = omega (arith, claim.outcome.none_bids_more (place + 1) at, bid_at_place bids place, bid_of place inside, bid_of winner w) in
+      let form = difference_value (seals + winner) (seals + place) (nat_lt k winner) values in
+      subst (IsOfWidth width) (sym form) (elim (cases_lt k winner) [
+          inl q ↦
+            (let strictly : losing < winning = omega (arith, claim.outcome.first_of_the_greatest (place + 1) at (omega (arith, other_before winner k q)), bid_at_place bids place, bid_of place inside, bid_of winner w) in
+             subst (λ s. (winning + (modulus - 1) * losing + less_one s) % modulus < 2 ^ width) (sym (lt-ltb k winner q)) (above_fits winning losing (2 ^ width) top small strictly))
+        | inr q ↦
+            subst (λ s. (winning + (modulus - 1) * losing + less_one s) % modulus < 2 ^ width) (sym (le-ltb k winner q)) (at_least_fits winning losing (2 ^ width) top small above) ])
+
+  within_price : (k : ℕ) → k < seals - 1 → slice_index values (seals + other (position - 1) k) ≤ price
+  within_price k h =
+      let winner = position - 1 in
+      let w : winner < seals = omega (arith, case.some_position, case.within_seals) in
+      let place = other winner k in
+      let inside = other_within seals winner k w h in
+      let at = position_of bids place (omega (arith, claim.one_each)) in
+      omega (arith, claim.outcome.others_within_price (omega (arith, claim.one_each)) (place + 1) at (λ e. other_not winner k (omega arith)), bid_at_place bids place, bid_of place inside)
+
+  prices_fit : (k : ℕ) → k < seals - 1 → IsOfWidth width (form_value (price_form seals (position - 1) price k) values)
+  prices_fit k h =
+      subst (IsOfWidth width) (sym (price_value seals (position - 1) price k values))
+        (within_fits (slice_index values (seals + other (position - 1) k)) price (2 ^ width) case.within_width (width_small width case.most_width) (within_price k h))
+
+  -- a place of another that holds the price may be selected
+  may_be_selected : 2 ≤ seals → (p : ℕ) × IsSelected (price_selection seals width (position - 1) price) values p
+  may_be_selected many =
+      let winner = position - 1 in
+      let w : winner < seals = omega (arith, case.some_position, case.within_seals) in
+      let relation = price_selection seals width winner price in
+      let small = width_small width case.most_width in
+      let f : ℕ → ℕ = λ k. seals + other winner k in
+      let long = length_listed f (seals - 1) in
+      let held = claim.outcome.price_is_bid (omega (arith, claim.one_each)) in
+      let inside : held.holder - 1 < seals = omega (arith, held.is_position.some, held.is_position.within, claim.one_each) in
+      let found = other_of seals winner (held.holder - 1) inside w (λ e. held.is_other (omega (arith, held.is_position.some, case.some_position))) in
+      let holds : slice_index values (f found.0) ≡ price = ap (λ p. slice_index values (seals + p)) found.2 ∙ bid_of (held.holder - 1) inside ∙ held.bids_price in
+      (found.0, record {
+        is_place = omega (arith, found.1);
+        here = subst (λ at. difference (slice_index values at) price < 2 ^ width) (sym (at_listed f (seals - 1) found.0 0 found.1))
+          (equal_fits (slice_index values (f found.0)) price (2 ^ width) holds case.within_width small);
+        others = λ q h ne.
+          let listed_place : q < seals - 1 = omega arith in
+          subst (λ at. sum (slice_index values at) (difference (2 ^ width - 1) price) < 2 ^ width) (sym (at_listed f (seals - 1) q 0 listed_place))
+            (below_fits (slice_index values (f q)) price (2 ^ width) (within_price q listed_place) case.within_width small);
+      })
+
+claim_residues : (seals width position price : ℕ) (bids : List ℕ) → width ≤ 40 → IsVickreyClaim seals width position price bids → All IsResidue bids
+claim_residues seals width position price bids most claim j d h = omega (arith, claim.within_width j d h, width_small width most)
+
+pub vickrey_complete : (seals width position price : ℕ) (bids : List ℕ) → IsVickreyCase seals width position price
+    → IsVickreyClaim seals width position price bids → Holds (vickrey_plan seals width position price) (honest_values seals width position price bids)
+unfolding honest_values
+vickrey_complete seals width position price bids case claim =
+    let winner = position - 1 in
+    let w : winner < seals = omega (arith, case.some_position, case.within_seals) in
+    let some = case.some_width in
+    let most = case.most_width in
+    let relation = price_selection seals width winner price in
+    let v0 = bids ++ bids in
+    let v1 = v0 ++ series_values v0 (bid_form seals) width seals in
+    let v2 = v1 ++ series_values v1 (win_form seals winner) width (seals - 1) in
+    let v3 = v2 ++ series_values v2 (price_form seals winner price) width (seals - 1) in
+    let b0 = begins_alone bids in
+    let b1 = begins_longer bids v0 (series_values v0 (bid_form seals) width seals) b0 in
+    let b2 = begins_longer bids v1 (series_values v1 (win_form seals winner) width (seals - 1)) b1 in
+    let b3 = begins_longer bids v2 (series_values v2 (price_form seals winner price) width (seals - 1)) b2 in
+    let h0 = subst (λ n. Holds (copies n n) v0) claim.one_each (copies_complete bids (claim_residues seals width position price bids most claim)) in
+    let h1 = series_complete (copies seals seals) (bid_form seals) width (seals + seals) seals v0 (copies_names seals seals (omega arith)) (bids_series seals width some most) h0
+      (bids_fit seals width position price bids v0 case claim b0) in
+    let h2 = series_complete (with_bids seals width) (win_form seals winner) width (seals + seals) (seals - 1) v1 (names_bids seals width some most) (wins_series seals width winner w some most) h1
+      (wins_fit seals width position price bids v1 case claim b1) in
+    let h3 = series_complete (with_wins seals width winner) (price_form seals winner price) width (seals + seals) (seals - 1) v2 (names_wins seals width winner w some most)
+      (prices_series seals width winner price w some most) h2 (prices_fit seals width position price bids v2 case claim b2) in
+    elim (eqb_tells seals 1) [
+      inl one ↦
+        subst (λ p. Holds p (if seals == 1 then v3 else v3 ++ selected_values relation v3)) (sym (plan_alone seals width position price one.0))
+          (subst (λ b. Holds (with_prices seals width winner price) (if b then v3 else v3 ++ selected_values relation v3)) (sym one.0) h3)
+    | inr many ↦
+        (let two : 2 ≤ seals = omega (arith, case.some_seals, many.1) in
+         let chosen = may_be_selected seals width position price bids v3 case claim b3 two in
+         let h4 = selected_complete relation (with_prices seals width winner price) v3 chosen.0 (names_prices seals width winner price w some most)
+           (selection seals width winner price two case.most_seals w some most) h3 chosen.1 in
+         subst (λ p. Holds p (if seals == 1 then v3 else v3 ++ selected_values relation v3)) (sym (plan_many seals width position price many.0))
+           (subst (λ b. Holds (with_selection seals width winner price) (if b then v3 else v3 ++ selected_values relation v3)) (sym many.0) h4)) ]
