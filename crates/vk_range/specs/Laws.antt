@@ -17,7 +17,7 @@ use Rattle.vk_range.specs.Forms.{difference_form, IsRange}
 use Rattle.vk_range.specs.SetLaws.{length_listed, at_listed, bit_parts_below, bit_parts_fit, set_row_sound, set_row_filled}
 
 -- one appended row is 0
-one_row : (plan : PlanValue) (kinds : List WireKind) (row : Form) (values : List ℕ)
+pub one_row : (plan : PlanValue) (kinds : List WireKind) (row : Form) (values : List ℕ)
     → Holds (extended plan kinds (row ∷ [])) values → form_value row values ≡ 0
 one_row plan kinds row values holds = All-head (λ form. form_value form values ≡ 0) row [] (AreZero-appended plan kinds (row ∷ []) values holds)
 
@@ -25,7 +25,7 @@ one_zero : (row : Form) (values : List ℕ) → form_value row values ≡ 0 → 
 one_zero row values zero' = All-cons (λ form. form_value form values ≡ 0) row [] zero' (All-nil (λ form. form_value form values ≡ 0))
 
 -- there are values of the wires before
-long_enough : (plan : PlanValue) (kinds : List WireKind) (rows : List Form) (values : List ℕ)
+pub long_enough : (plan : PlanValue) (kinds : List WireKind) (rows : List Form) (values : List ℕ)
     → Holds (extended plan kinds rows) values → length plan.kinds ≤ length values
 long_enough plan kinds rows values holds = omega (arith, holds.one_each, length-append plan.kinds kinds)
 
@@ -78,10 +78,10 @@ pub difference_value : (left right : ℕ) (strict : Bool) (values : List ℕ)
 unfolding form_value linear_part
 difference_value left right strict values = omega arith
 
-same_from_zero : (a b : ℕ) → a < modulus → b < modulus → (a + (modulus - 1) * b + 0) % modulus ≡ 0 → a ≡ b
+pub same_from_zero : (a b : ℕ) → a < modulus → b < modulus → (a + (modulus - 1) * b + 0) % modulus ≡ 0 → a ≡ b
 same_from_zero a b ha hb h = omega arith
 
-zero_from_same : (a b : ℕ) → a ≡ b → (a + (modulus - 1) * b + 0) % modulus ≡ 0
+pub zero_from_same : (a b : ℕ) → a ≡ b → (a + (modulus - 1) * b + 0) % modulus ≡ 0
 zero_from_same a b h = omega arith
 
 -- both wires of a difference are there

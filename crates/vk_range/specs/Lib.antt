@@ -5,3 +5,4 @@ pub mod Laws
 pub mod Selected
 pub mod SelectedLaws
 pub mod Rooms
+pub mod Series

@@ -1,7 +1,6 @@
 ghost use Rattle.std.specs.Prelude.{◌≡◌, ◌<◌, [], ◌∷◌, false, length, slice_index};
-ghost use Rattle.vk_plan.specs.declared.wire.WireKind.TheVariants.{Split as Any};
 ghost use Rattle.vk_plan.specs.Forms.{form_value, NamesBelow};
-ghost use Rattle.vk_range.specs.Forms.{difference_form};
+ghost use Rattle.vk_range.specs.Forms.{difference_form, one_wire};
 ghost use Rattle.vk_range.specs.Laws.{sum_is_sound, sum_is_complete, equal_sound, equal_complete, copied_complete};
 
 use crate::sets::difference;
@@ -85,7 +84,7 @@ pub struct Copied {
 impl Relation for Copied {
     ghost fits = { λ r plan. r.wire < length plan.kinds };
 
-    ghost wires = { λ _ _. Any ∷ [] };
+    ghost wires = { λ _ _. one_wire };
 
     ghost rows = { λ r start. difference_form r.wire start false ∷ [] };
 

@@ -1,0 +1,4 @@
+pub mod Outcomes
+pub mod OutcomeLaws
+pub mod VickreyPlans
+pub mod VickreyLaws
