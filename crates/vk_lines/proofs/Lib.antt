@@ -4,3 +4,4 @@ pub mod Feeds
 pub mod Words
 pub mod Parts
 pub mod Faults
+pub mod Loops

@@ -235,3 +235,18 @@ many_more before (suc count) read rest some = let less : suc count - 1 ≡ count
 pub many_none : {X : Type 0} (before : List X) (count : ℕ) (read : List X → Rest → Result (X × Rest) ℕ) (rest : Rest) → count ≡ 0 → many_onto before count read rest ≡ Ok (before, rest)
 unfolding many_onto
 many_none before count read rest none = rw none refl
+
+-- the same form in other words
+pub whole_same : {X : Type 0} {IsValue Is : X → Type 0} {text words : X → List ℕ} {read : Rest → Result (X × Rest) ℕ} → IsWhole IsValue text read
+    → ((x : X) → IsValue x → Is x) → ((x : X) → Is x → IsValue x) → ((x : X) → text x ≡ words x) → IsWhole Is words read
+whole_same form to from same = record {
+  found = λ rest x is left. form.found rest x (from x is) (left ∙ sym (same x));
+  shown = λ rest x after some. let shown = form.shown rest x after some in (to x shown.0, shown.1 ∙ same x);
+}
+
+pub part_same : {X : Type 0} {IsValue Is : X → Type 0} {text words : X → List ℕ} {read : Rest → Result (X × Rest) ℕ} → IsPart IsValue text read
+    → ((x : X) → IsValue x → Is x) → ((x : X) → Is x → IsValue x) → ((x : X) → text x ≡ words x) → IsPart Is words read
+part_same form to from same = record {
+  found = λ rest x more is left. form.found rest x more (from x is) (left ∙ ap (λ t. t ++ more) (sym (same x)));
+  shown = λ rest x after some. let shown = form.shown rest x after some in (to x shown.0, shown.1 ∙ ap (λ t. t ++ after.left) (same x));
+}

@@ -1,0 +1,29 @@
+use Rattle.std.proofs.Common.{◌≡◌, ◌-◌, ◌+◌, Err, arith, rules, sym, ◌∙◌}
+use Rattle.vk_lines.specs.Forms.{many_at}
+use Rattle.vk_lines.specs.Lines.{line_by, rest_of}
+use Rattle.vk_lines.proofs.Loops.{many_turn, many_stop, many_done}
+use Rattle.vk_seal.specs.Reading.{tape_line}
+use Rattle.vk_seal.proofs.reading.read_tapes.Goals as goal
+
+pub returns-in_err-tape-clause-told : goal.returns-in_err-tape-clause-told
+returns-in_err-tape-clause-told g c =
+    many_stop (g.S.Shelf.held c.args.shelf.now) (g.S.Shelf.held c.loop-lane.shelf) (λ _. line_by tape_line)
+    (λ files. many_at c.args.count (λ _. line_by tape_line) (rest_of c.args.lines.now files))
+    c.loop-lane.tapes c.in_err-tape.field-0.0 _ (c.args.count - c.loop-lane.lane) (λ files. rest_of c.loop-lane.lines files) (λ files. rest_of c.read_tape.new.lines files)
+    c.loop-lane.invariant.held (omega arith) (search rules) c.loop-lane.invariant.told c.in_err-tape.ensures.told
+
+pub loop-lane-preserved : goal.loop-lane-preserved
+loop-lane-preserved g c = record {
+  told = many_turn (g.S.Shelf.held c.args.shelf.now) (g.S.Shelf.held c.loop-lane.shelf) (λ _. line_by tape_line)
+      (λ files. many_at c.args.count (λ _. line_by tape_line) (rest_of c.args.lines.now files))
+      c.loop-lane.tapes _ c.in_ok-tape.tape (c.args.count - c.loop-lane.lane) (c.args.count - (c.loop-lane.lane + 1)) (λ files. rest_of c.loop-lane.lines files) (λ files. rest_of c.read_tape.new.lines files)
+      c.loop-lane.invariant.held (omega arith) c.in_ok-push.ensures.pushed c.loop-lane.invariant.told c.in_ok-tape.ensures.told;
+  held = c.in_ok-tape.ensures.held ∙ c.loop-lane.invariant.held;
+  later = omega (arith, c.in_ok-tape.ensures.later, c.loop-lane.invariant.later);
+}
+
+pub returns-clause-told : goal.returns-clause-told
+returns-clause-told g c =
+    many_done (g.S.Shelf.held c.args.shelf.now) (λ _. line_by tape_line)
+    (λ files. many_at c.args.count (λ _. line_by tape_line) (rest_of c.args.lines.now files))
+    c.loop-lane.tapes (c.args.count - c.loop-lane.lane) (λ files. rest_of c.loop-lane.lines files) (omega arith) c.loop-lane.invariant.told

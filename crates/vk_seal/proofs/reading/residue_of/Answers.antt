@@ -1,0 +1,7 @@
+use Rattle.std.proofs.Common.{arith, ◌∙◌}
+use Rattle.std.proofs.lemmas.Grind.{common_steps}
+use Rattle.vk_seal.proofs.Residues.{residue_read}
+use Rattle.vk_seal.proofs.reading.residue_of.Goals as goal
+
+pub returns : goal.returns
+returns c = residue_read c.in_ok-number.number c.new-residue.result c.new-residue.ensures.refused c.new-residue.ensures.value c.in_ok-number.ensures.within ∙ c.in_ok-number.ensures.value

@@ -1,0 +1,15 @@
+//! What a bidder makes: a secret with the bid, and the seal that is handed in for it.
+#![tactic(auto)]
+
+mod laws;
+mod reading;
+mod secret;
+mod writing;
+
+pub use laws::{
+    reading_a_seal_stops_at_the_fault_line, reading_a_secret_stops_at_the_fault_line,
+    seals_are_read_from_their_texts_alone, secrets_are_read_from_their_texts_alone,
+};
+pub use reading::{read_seal, read_secret};
+pub use secret::{Seal, Secret, XTape};
+pub use writing::{seal_text, secret_text};

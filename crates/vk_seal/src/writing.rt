@@ -1,0 +1,78 @@
+ghost use Rattle.std.specs.Prelude.{◌≡◌, ◌++◌, IfOk, OnOk};
+ghost use Rattle.std.specs.List.{flat_map};
+ghost use Rattle.vk_lines.specs.Forms.{line};
+ghost use Rattle.vk_seal.specs.Texts.{com_text, tape_text, seal_text, secret_text};
+
+use crate::secret::{Seal, Secret, XTape};
+use std::alloc::Global;
+use vk_lines::{
+    end_line, push_decimal, push_digests_line, push_hex, push_hex_line, push_line,
+    push_number_line, push_space,
+};
+use vk_residue::NoMemory;
+use vk_wire::WireCom;
+
+/// The text of a seal's file.
+#[tactic(auto, unfolding(crate::specs::Texts::seal_text))]
+pub fn seal_text(alloc: Global, seal: &Seal) -> Result<Vec<u8>, NoMemory>
+    ensures { IfOk result (λ text. text.items ≡ seal_text seal.now) }
+{
+    let mut text = Vec::new(alloc);
+    push_line(&mut text, b"vickrey-seal 1")?;
+    push_hex_line(&mut text, b"auction", &seal.auction)?;
+    push_number_line(&mut text, b"seat", u64::from(seal.seat))?;
+    push_number_line(&mut text, b"lanes", seal.lanes.len() as u64)?;
+    push_coms(&mut text, seal.lanes.as_slice())?;
+    push_line(&mut text, b"end")?;
+    Ok(text)
+}
+
+/// Appends the line of each lane of a seal.
+fn push_coms(out: &mut Vec<u8>, coms: &[WireCom]) -> Result<(), NoMemory>
+    ensures { OnOk result (out.new.items ≡ out.old.items ++ flat_map (λ digests. line (com_text digests)) coms.now) }
+{
+    for com in coms {
+        push_digests_line(out, b"x", &com.first, &com.second)?;
+    }
+    Ok(())
+}
+
+/// The text of a secret's file.
+#[tactic(auto, unfolding(crate::specs::Texts::secret_text))]
+pub fn secret_text(alloc: Global, secret: &Secret) -> Result<Vec<u8>, NoMemory>
+    ensures { IfOk result (λ text. text.items ≡ secret_text secret.now) }
+{
+    let mut text = Vec::new(alloc);
+    push_line(&mut text, b"vickrey-secret 1")?;
+    push_hex_line(&mut text, b"auction", &secret.auction)?;
+    push_number_line(&mut text, b"seat", u64::from(secret.seat))?;
+    push_number_line(&mut text, b"bid", secret.bid)?;
+    push_number_line(&mut text, b"lanes", secret.lanes.len() as u64)?;
+    push_tapes(&mut text, secret.lanes.as_slice())?;
+    push_line(&mut text, b"end")?;
+    Ok(text)
+}
+
+/// Appends the line of each lane of a secret.
+fn push_tapes(out: &mut Vec<u8>, tapes: &[XTape]) -> Result<(), NoMemory>
+    ensures { OnOk result (out.new.items ≡ out.old.items ++ flat_map (λ tape. line (tape_text tape)) tapes.now) }
+{
+    for tape in tapes {
+        push_tape_line(out, tape)?;
+    }
+    Ok(())
+}
+
+/// Appends the line of one lane of a secret.
+fn push_tape_line(out: &mut Vec<u8>, tape: &XTape) -> Result<(), NoMemory>
+    ensures { OnOk result (out.new.items ≡ out.old.items ++ line (tape_text tape.now)) }
+{
+    out.extend_from_slice(b"x ")?;
+    push_decimal(out, tape.mask.get())?;
+    push_space(out)?;
+    push_hex(out, &tape.first_key)?;
+    push_space(out)?;
+    push_hex(out, &tape.second_key)?;
+    end_line(out)?;
+    Ok(())
+}
