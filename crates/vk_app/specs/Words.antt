@@ -67,8 +67,14 @@ pub record SealWords : Type 0 where
 
 abbrev pub seal_seen : SealOrder → SealWords
 seal_seen order = record {
-  auction = order.auction; seat = order.seat; bid = order.bid; width = order.width; lanes = order.lanes; seed = order.seed;
-  secret = order.secret.now; seal = order.seal.now;
+  auction = order.auction;
+  seat = order.seat;
+  bid = order.bid;
+  width = order.width;
+  lanes = order.lanes;
+  seed = order.seed;
+  secret = order.secret.now;
+  seal = order.seal.now;
 }
 
 -- a number from 1 to `most`

@@ -78,12 +78,7 @@ fn answer<S: Shelf, W: Sink>(
 
 /// Does what the words say over the shelf, prints to the sink, and answers the status: that of the
 /// command, 6 where the outside failed, or 9 for want of memory.
-pub fn run<S: Shelf, W: Sink>(
-    alloc: Global,
-    words: &[String],
-    shelf: &mut S,
-    out: &mut W,
-) -> u8
+pub fn run<S: Shelf, W: Sink>(alloc: Global, words: &[String], shelf: &mut S, out: &mut W) -> u8
     ensures status { IfSome (S.held shelf.old)
         (λ files. result ≢ 6 → result ≢ 9 → result ≡ (effect_of files (map string_bytes words.now)).status) }
     ensures printed { IfSome (S.held shelf.old)

@@ -30,7 +30,8 @@ h 4444444444444444444444444444444444444444444444444444444444444444 2305843009213
 end
 ";
 
-const EXTRACTION: &str = "lane 1 seat 7 bid 5 u 1111111111111111111111111111111111111111111111111111111111111111 3 v 2222222222222222222222222222222222222222222222222222222222222222 2
+const EXTRACTION: &str =
+    "lane 1 seat 7 bid 5 u 1111111111111111111111111111111111111111111111111111111111111111 3 v 2222222222222222222222222222222222222222222222222222222222222222 2
 winner 7 price 0
 seat 7 same
 end
@@ -109,7 +110,10 @@ fn a_failing_call_stops_with_a_prefix(rt: HostRuntime) -> Result<(), Fail> {
     for call in 1..=4 {
         let (status, out) = stopped(rt.alloc(), 0, call)?;
         assert_eq!(rt; status, 6, "sink call {call}");
-        assert!(rt; EXTRACTION.as_bytes().starts_with(out.bytes()), "sink call {call}");
+        assert!(rt;
+            EXTRACTION.as_bytes().starts_with(out.bytes()),
+            "sink call {call}"
+        );
         assert!(rt; out.bytes().len() < EXTRACTION.len(), "sink call {call}");
     }
     let (status, out) = stopped(rt.alloc(), 11, 5)?;
