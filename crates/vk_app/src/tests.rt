@@ -121,3 +121,56 @@ fn a_failing_call_stops_with_a_prefix(rt: HostRuntime) -> Result<(), Fail> {
     assert_eq!(rt; out.bytes(), EXTRACTION.as_bytes());
     Ok(())
 }
+
+const SECRET: &str = "vickrey-secret 1
+auction 82c225ed713705de399dba655bb75c8c
+seat 7
+bid 15
+lanes 2
+x 193964253655623769 64285e161fa6b6d60944d476b24c95df586d30665cf4480e0dfe263664beb13b f519ac3e7e4d6e4e0181a713734f356e7a0b1e7db00c30259a47e9012136904a
+x 1470082618544223223 6a6f261a0ca494b383f41509a2b2908f582f01f9d07ebe9ee0b299e0fa1161fa cd4d44b1bd1a11f90c3eebad606dbdc18c78fb8522649e046c6871dfac4e77c9
+end
+";
+
+const SEAL: &str = "vickrey-seal 1
+auction 82c225ed713705de399dba655bb75c8c
+seat 7
+lanes 2
+x 1635c9814067ec2a58866d656b5ca0502f2fe0f2bf01a46023915ccc0fe40d42 d2f3850d1501cf8381a79ac79eaf4564b15aa27e3180791e5b706f0f526b8b0b
+x 6e639ca0fb67b4bb6734abb7208b29973327ef977c54d7befc15db6208c7538c 57fca8127e6ea2dd4712632fc9537615d997e294f26988899352fa27862fe03e
+end
+";
+
+const ID: &str = "82c225ed713705de399dba655bb75c8c";
+
+const SEED: &str = "a430c6f756ddaf7654be41bb940729b29645518c6b8e0486731f01a17573a857";
+
+/// The words of a `seal` at seat 7 for two lanes of width 4.
+fn seal_words<'a>(bid: &'a str, secret: &'a str, seal: &'a str) -> [&'a str; 9] {
+    ["seal", ID, "7", bid, "4", "2", SEED, secret, seal]
+}
+
+#[test]
+fn a_seal_is_written_or_refused(rt: HostRuntime) -> Result<(), Fail> {
+    let table = [
+        ("15", "a", "b", 0, "sealed seat 7 lanes 2\n"),
+        ("16", "a", "b", 8, "seal bid too large\n"),
+        ("15", "a", "a", 2, USAGE),
+        ("15", "", "b", 2, USAGE),
+    ];
+    for (bid, secret, seal, status, text) in table {
+        let words = words_of(rt.alloc(), &seal_words(bid, secret, seal))?;
+        let mut shelf = MemShelf::new(rt.alloc());
+        let mut out = MemSink::new(rt.alloc());
+        let answer = run(rt.alloc(), words.as_slice(), &mut shelf, &mut out);
+        assert_eq!(rt; answer, status);
+        assert_eq!(rt; out.bytes(), text.as_bytes());
+        let sealed = status == 0;
+        assert_eq!(rt; shelf.file("a"), sealed.then_some(SECRET.as_bytes()));
+        assert_eq!(rt; shelf.file("b"), sealed.then_some(SEAL.as_bytes()));
+    }
+    Ok(())
+}
+
+const USAGE: &str = "usage: vickrey seal|announce|submit|prove|answer|show|verify|extract|confront|report|sample|ceremony
+";
