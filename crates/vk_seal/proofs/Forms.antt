@@ -1,11 +1,11 @@
 -- Seals and secrets are read from their texts alone, and reading stops at the fault line.
-use Rattle.std.proofs.Common.{◌≡◌, ℕ, zero, suc, ◌+◌, ◌-◌, ◌^◌, ◌<◌, ◌≤◌, nat_le, true, List, [], ◌∷◌, ◌++◌, length, codes, decimal, flat_map, Result, Ok, refl, ap, sym, ◌∙◌, arith}
+use Rattle.std.proofs.Common.{◌≡◌, ℕ, zero, suc, ◌-◌, ◌^◌, ◌<◌, ◌≤◌, nat_le, true, List, [], ◌∷◌, ◌++◌, length, codes, decimal, flat_map, Result, refl, ap, arith}
 use Rattle.std.proofs.lemmas.Bool.{le-leb, leb-true}
 use Rattle.std.specs.Result.{result_err}
 use Rattle.std.specs.List.{AllByRecursion}
-use Rattle.vk_lines.specs.Lines.{Rest, ◌>>=◌, line_by, end_at}
+use Rattle.vk_lines.specs.Lines.{Rest, ◌>>=◌, line_by}
 use Rattle.hex.specs.Hex.{IsBytes}
-use Rattle.vk_lines.specs.Forms.{line, spaced, IsLine, IsWhole, EachAfter, Ends, Follows, fault_line, whole}
+use Rattle.vk_lines.specs.Forms.{line, spaced, IsLine, IsWhole, EachAfter, Ends, fault_line, whole}
 use Rattle.vk_lines.specs.Tokens.{hex_text, id_line, number_line}
 use Rattle.vk_lines.proofs.Words.{decimal_token, hex_token, fixed_line, number_line_is, id_line_is, two_line, three_line}
 use Rattle.vk_lines.proofs.Parts.{line_part, many_part, whole_then, whole_end, whole_same, each_from_all, all_from_each}
@@ -18,7 +18,7 @@ use Rattle.vk_seal.specs.declared.secret.Seal.{Seal}
 use Rattle.vk_seal.specs.Values.{IsCom, IsSeal, IsSecret, IsXTape}
 use Rattle.vk_seal.specs.Texts.{com_text, tape_text, seal_text, secret_text}
 use Rattle.vk_seal.specs.Reading.{com_by, com_line, tape_by, tape_line, seal_at, seal_lanes_at, secret_at, secret_lanes_at}
-use Rattle.vk_seal.specs.Tables.{Place, Heading, Auction, Seat, Bid, Count, Lanes, Over, seal_table, secret_table}
+use Rattle.vk_seal.specs.Tables.{Heading, Auction, Seat, Bid, Count, Lanes, Over, seal_table, secret_table}
 
 -- ---- lines
 
@@ -109,13 +109,13 @@ unfolding seal_text seal_at
 seal_is_whole =
     whole_same seal_whole
     (λ seal is. record {
-        id = is.1.0;
-        some_seat = from_test 1 seal.seat is.1.1.0.1;
-        last_seat = is.1.1.0.0;
-        some_lane = from_test 1 (length seal.lanes) is.1.1.1.0.1;
-        few_lanes = is.1.1.1.0.0;
-        coms = all_from_each IsCom [] seal.lanes is.1.1.1.1.0.1;
-      })
+      id = is.1.0;
+      some_seat = from_test 1 seal.seat is.1.1.0.1;
+      last_seat = is.1.1.0.0;
+      some_lane = from_test 1 (length seal.lanes) is.1.1.1.0.1;
+      few_lanes = is.1.1.1.0.0;
+      coms = all_from_each IsCom [] seal.lanes is.1.1.1.1.0.1;
+    })
     (λ seal is. (tt, (is.id, ((is.last_seat, to_test 1 seal.seat is.some_seat), ((is.few_lanes, to_test 1 (length seal.lanes) is.some_lane), ((refl, each_from_all IsCom [] seal.lanes is.coms), refl))))))
     (λ seal. refl)
 
@@ -220,16 +220,30 @@ unfolding secret_text secret_at
 secret_is_whole =
     whole_same secret_whole
     (λ secret is. record {
-        id = is.1.0;
-        some_seat = from_test 1 secret.seat is.1.1.0.1;
-        last_seat = is.1.1.0.0;
-        small_bid = below_from is.1.1.1.0.0;
-        some_lane = from_test 1 (length secret.lanes) is.1.1.1.1.0.1;
-        few_lanes = is.1.1.1.1.0.0;
-        tapes = to_tapes secret.lanes (all_from_each TapeFacts [] secret.lanes is.1.1.1.1.1.0.1);
-      })
-    (λ secret is. (tt, (is.id, ((is.last_seat, to_test 1 secret.seat is.some_seat), ((below_to is.small_bid, to_test 0 secret.bid (omega arith)), ((is.few_lanes, to_test 1 (length secret.lanes) is.some_lane),
-      ((refl, each_from_all TapeFacts [] secret.lanes (from_tapes secret.lanes is.tapes)), refl)))))))
+      id = is.1.0;
+      some_seat = from_test 1 secret.seat is.1.1.0.1;
+      last_seat = is.1.1.0.0;
+      small_bid = below_from is.1.1.1.0.0;
+      some_lane = from_test 1 (length secret.lanes) is.1.1.1.1.0.1;
+      few_lanes = is.1.1.1.1.0.0;
+      tapes = to_tapes secret.lanes (all_from_each TapeFacts [] secret.lanes is.1.1.1.1.1.0.1);
+    })
+    (λ secret is. (
+      tt,
+      (
+        is.id,
+        (
+          (is.last_seat, to_test 1 secret.seat is.some_seat),
+          (
+            (below_to is.small_bid, to_test 0 secret.bid (omega arith)),
+            (
+              (is.few_lanes, to_test 1 (length secret.lanes) is.some_lane),
+              ((refl, each_from_all TapeFacts [] secret.lanes (from_tapes secret.lanes is.tapes)), refl),
+            ),
+          ),
+        ),
+      ),
+    ))
     (λ secret. refl)
 
 -- ---- the fault lines

@@ -1,2 +1,4 @@
 pub mod Residues
 pub mod Forms
+pub mod Tapes
+pub mod SealsMatch

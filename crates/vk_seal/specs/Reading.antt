@@ -1,6 +1,6 @@
 -- How a seal and a secret are read, line by line. The laws say that this is exactly their texts, and
 -- stops at the fault line.
-use Rattle.std.specs.Prelude.{ℕ, ◌^◌, ◌-◌, List, length, codes, Option, Result, Ok}
+use Rattle.std.specs.Prelude.{ℕ, ◌^◌, ◌-◌, List, codes, Option, Result, Ok}
 use Rattle.vk_lines.specs.Lines.{Rest, ◌>>=◌, line_by, end_at}
 use Rattle.vk_lines.specs.Forms.{many_at}
 use Rattle.vk_lines.specs.Tokens.{decimal_of, hex_of, word_of, number_line, id_line, two_fields, three_fields}

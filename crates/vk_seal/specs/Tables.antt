@@ -1,5 +1,5 @@
 -- What may stand next in a seal and in a secret, place by place.
-use Rattle.std.specs.Prelude.{ℕ, zero, suc, Bool, true, false, List, codes, Option, Some, None, option_map, ◌^◌, ◌-◌}
+use Rattle.std.specs.Prelude.{ℕ, zero, suc, Bool, true, false, List, codes, Option, None, option_map, ◌^◌, ◌-◌}
 use Rattle.vk_lines.specs.Forms.{Table}
 use Rattle.vk_lines.specs.Tokens.{word_of, number_line, id_line}
 use Rattle.vk_seal.specs.Reading.{com_line, tape_line}

@@ -2,6 +2,8 @@
 #![tactic(auto)]
 
 mod laws;
+mod making;
+mod matching;
 mod reading;
 mod secret;
 mod writing;
@@ -10,6 +12,8 @@ pub use laws::{
     reading_a_seal_stops_at_the_fault_line, reading_a_secret_stops_at_the_fault_line,
     seals_are_read_from_their_texts_alone, secrets_are_read_from_their_texts_alone,
 };
+pub use making::{SealErr, make_seal};
+pub use matching::{Mismatch, matches};
 pub use reading::{read_seal, read_secret};
 pub use secret::{Seal, Secret, XTape};
 pub use writing::{seal_text, secret_text};

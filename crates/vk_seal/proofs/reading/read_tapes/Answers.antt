@@ -1,4 +1,4 @@
-use Rattle.std.proofs.Common.{◌≡◌, ◌-◌, ◌+◌, Err, arith, rules, sym, ◌∙◌}
+use Rattle.std.proofs.Common.{◌-◌, ◌+◌, arith, rules, ◌∙◌}
 use Rattle.vk_lines.specs.Forms.{many_at}
 use Rattle.vk_lines.specs.Lines.{line_by, rest_of}
 use Rattle.vk_lines.proofs.Loops.{many_turn, many_stop, many_done}

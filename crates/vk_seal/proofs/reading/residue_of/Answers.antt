@@ -1,5 +1,4 @@
-use Rattle.std.proofs.Common.{arith, ◌∙◌}
-use Rattle.std.proofs.lemmas.Grind.{common_steps}
+use Rattle.std.proofs.Common.{◌∙◌}
 use Rattle.vk_seal.proofs.Residues.{residue_read}
 use Rattle.vk_seal.proofs.reading.residue_of.Goals as goal
 

@@ -1,0 +1,12 @@
+use Rattle.std.proofs.Common.{◌≡◌, ◌+◌, ◌++◌, drop}
+use Rattle.std.specs.List.{All}
+use Rattle.vk_seal.specs.Made.{lane_coms}
+use Rattle.vk_seal.specs.Values.{IsCom}
+use Rattle.vk_seal.proofs.making.commit_lanes.Given as goal
+
+-- the commitments so far and those of the lanes left are those of all lanes
+abbrev pub invariant-loop-index : goal.invariant-loop-index
+invariant-loop-index l = record {
+  made : l.coms ++ lane_coms l.auction l.seat l.bid (l.index + 1) (drop l.index l.tapes) ≡ lane_coms l.auction l.seat l.bid 1 l.tapes;
+  right : All IsCom l.coms;
+}
