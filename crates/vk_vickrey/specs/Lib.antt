@@ -2,3 +2,4 @@ pub mod Outcomes
 pub mod OutcomeLaws
 pub mod VickreyPlans
 pub mod VickreyLaws
+pub mod VickreySteps

@@ -70,7 +70,7 @@ with_selection seals width winner price =
     let relation = price_selection seals width winner price in
     extended (with_prices seals width winner price) (selected_wires relation) (selected_rows relation (length (with_prices seals width winner price).kinds))
 
-length_copies : (seals count : ℕ) → length (copies seals count).kinds ≡ seals + count
+pub length_copies : (seals count : ℕ) → length (copies seals count).kinds ≡ seals + count
 length_copies seals count = length-append (replicate seals Split) (copies_kinds count) ∙ omega (arith, length-replicate seals Split, length_listed (λ _. Split) count)
 
 length_bids : (seals width : ℕ) → length (with_bids seals width).kinds ≡ 2 * seals + seals * width
@@ -79,7 +79,7 @@ length_bids seals width = length_series (copies seals seals) (bid_form seals) wi
 length_wins : (seals width winner : ℕ) → length (with_wins seals width winner).kinds ≡ 2 * seals + seals * width + (seals - 1) * width
 length_wins seals width winner = length_series (with_bids seals width) (win_form seals winner) width (seals - 1) ∙ omega (arith, length_bids seals width)
 
-length_prices : (seals width winner price : ℕ) → length (with_prices seals width winner price).kinds ≡ 2 * seals + seals * width + (seals - 1) * width + (seals - 1) * width
+pub length_prices : (seals width winner price : ℕ) → length (with_prices seals width winner price).kinds ≡ 2 * seals + seals * width + (seals - 1) * width + (seals - 1) * width
 length_prices seals width winner price =
     length_series (with_wins seals width winner) (price_form seals winner price) width (seals - 1) ∙ omega (arith, length_wins seals width winner)
 
@@ -94,24 +94,24 @@ copies_names seals count few =
 one_name : (wires : ℕ) (term : Term) → term.wire < wires → NamesBelow wires (term ∷ [])
 one_name wires term h = All-cons (λ (t : Term). t.wire < wires) term [] h (All-nil (λ (t : Term). t.wire < wires))
 
-bids_series : (seals width : ℕ) → 1 ≤ width → width ≤ 40 → IsSeries (copies seals seals) (bid_form seals) width (seals + seals) seals
+pub bids_series : (seals width : ℕ) → 1 ≤ width → width ≤ 40 → IsSeries (copies seals seals) (bid_form seals) width (seals + seals) seals
 bids_series seals width some most = record {
   names = λ j h. one_name (seals + seals) (plus (seals + j)) (omega arith);
   base_within = omega (arith, length_copies seals seals); some = some; most = most }
 
-wins_series : (seals width winner : ℕ) → winner < seals → 1 ≤ width → width ≤ 40
+pub wins_series : (seals width winner : ℕ) → winner < seals → 1 ≤ width → width ≤ 40
     → IsSeries (with_bids seals width) (win_form seals winner) width (seals + seals) (seals - 1)
 wins_series seals width winner w some most = record {
   names = λ k h. difference_names (seals + seals) (seals + winner) (seals + other winner k) (nat_lt k winner) (omega arith) (omega (arith, other_within seals winner k w h));
   base_within = omega (arith, length_bids seals width); some = some; most = most }
 
-prices_series : (seals width winner price : ℕ) → winner < seals → 1 ≤ width → width ≤ 40
+pub prices_series : (seals width winner price : ℕ) → winner < seals → 1 ≤ width → width ≤ 40
     → IsSeries (with_wins seals width winner) (price_form seals winner price) width (seals + seals) (seals - 1)
 prices_series seals width winner price w some most = record {
   names = λ k h. one_name (seals + seals) (minus (seals + other winner k)) (omega (arith, other_within seals winner k w h));
   base_within = omega (arith, length_wins seals width winner); some = some; most = most }
 
-selection : (seals width winner price : ℕ) → 2 ≤ seals → seals ≤ 64 → winner < seals → 1 ≤ width → width ≤ 40
+pub selection : (seals width winner price : ℕ) → 2 ≤ seals → seals ≤ 64 → winner < seals → 1 ≤ width → width ≤ 40
     → IsSelection (price_selection seals width winner price) (length (with_prices seals width winner price).kinds)
 selection seals width winner price many few w some most =
     let long = length_listed (λ k. seals + other winner k) (seals - 1) in

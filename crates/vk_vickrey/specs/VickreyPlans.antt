@@ -82,14 +82,23 @@ vickrey_plan seals width position price =
         ++ (if seals == 1 then [] else selected_rows (price_selection seals width winner price) selectors);
     }
 
--- The bids twice; then, set by set, the weights where that bit of the set's form is set; and the selector
--- of the first other place that holds the price is 1.
+-- values with those of the next sets behind them: each pair has its weight where that bit of its set's form is set
+abbrev pub after_bids : ℕ → ℕ → List ℕ → List ℕ
+after_bids seals width values = values ++ series_values values (bid_form seals) width seals
+
+abbrev pub after_wins : ℕ → ℕ → ℕ → List ℕ → List ℕ
+after_wins seals width winner values = values ++ series_values values (win_form seals winner) width (seals - 1)
+
+abbrev pub after_prices : ℕ → ℕ → ℕ → ℕ → List ℕ → List ℕ
+after_prices seals width winner price values = values ++ series_values values (price_form seals winner price) width (seals - 1)
+
+-- and where there are others, the selector of the first of them that holds the price is 1
+abbrev pub after_selection : ℕ → ℕ → ℕ → ℕ → List ℕ → List ℕ
+after_selection seals width winner price values =
+    if seals == 1 then values else values ++ selected_values (price_selection seals width winner price) values
+
+-- the bids, their copies, and the values of the sets in the order of the plan
 unfoldable pub honest_values : ℕ → ℕ → ℕ → ℕ → List ℕ → List ℕ
 honest_values seals width position price bids =
     let winner = position - 1 in
-    let others = seals - 1 in
-    let copied = bids ++ bids in
-    let with_bids = copied ++ series_values copied (bid_form seals) width seals in
-    let with_wins = with_bids ++ series_values with_bids (win_form seals winner) width others in
-    let with_prices = with_wins ++ series_values with_wins (price_form seals winner price) width others in
-    if seals == 1 then with_prices else with_prices ++ selected_values (price_selection seals width winner price) with_prices
+    after_selection seals width winner price (after_prices seals width winner price (after_wins seals width winner (after_bids seals width (bids ++ bids))))

@@ -3,4 +3,6 @@
 
 mod outcomes;
 
+
 pub use outcomes::{VickreyOutcome, outcome};
+
