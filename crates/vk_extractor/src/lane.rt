@@ -1,10 +1,10 @@
 // The extraction of one lane.
-ghost use Rattle.std.specs.Prelude.{◌≡◌, IfOk, IfErr, OnOk, None, false, true};
+ghost use Rattle.std.specs.Prelude.{◌≡◌, IfOk, IfErr, IfSome, OnOk, Err, None, false, true};
 ghost use Rattle.vk_plan.specs.Plans.{Holds};
 ghost use Rattle.vk_row.specs.Lanes.{IsAccepted};
 ghost use Rattle.vk_extractor.specs.Sums.{AreSums};
 ghost use Rattle.vk_extractor.specs.Clash.{clash_of_lane};
-ghost use Rattle.vk_extractor.specs.declared.lane.LaneErr.TheVariants.{NoMemory};
+ghost use Rattle.vk_extractor.specs.declared.lane.LaneErr.TheVariants.{Clash, NoMemory};
 ghost use Rattle.vk_extractor.specs.Refused.{IsRefusalOf};
 
 use crate::clash::first_clash;
@@ -36,7 +36,7 @@ impl From<OutOfMemory> for LaneErr {
 /// for each wire the sum of its two halves. They hold for the plan.
 ///
 /// Where an entry of a pair was spent with another value than it was opened whole with, the answer is
-/// the first such entry's two openings, that of bit 0 first.
+/// the first such entry's two openings, that of bit 0 first. It takes no memory.
 pub fn extract_lane(
     alloc: Global,
     plan: &Plan,
@@ -49,7 +49,8 @@ pub fn extract_lane(
     ensures sums { IfOk result (λ values. AreSums plan.now case.now zero.now one.now values.items) }
     ensures holds { IfOk result (λ values. Holds plan.now values.items) }
     ensures agree { OnOk result (clash_of_lane case.now zero.now one.now ≡ None) }
-    ensures clash { IfErr result (λ refused. IsRefusalOf refused case.now zero.now one.now) }
+    ensures clash { IfSome (clash_of_lane case.now zero.now one.now) (λ two. result ≡ Err (Clash two)) }
+    ensures refused { IfErr result (λ refused. IsRefusalOf refused case.now zero.now one.now) }
 {
     match first_clash(plan, case, zero, one) {
         Some(two) => Err(LaneErr::Clash(two)),
