@@ -41,16 +41,17 @@ attempt_words words place = do
   reply ← name_at words (place + 1)
   Some (record { challenge = challenge; reply = reply })
 
+-- the names that six words give, the first of them aside
+unfoldable pub names_in : List (List ℕ) → Option ExtractWords
+names_in words = do
+  board ← name_at words 1
+  first ← attempt_words words 2
+  second ← attempt_words words 4
+  Some (record { board = board; first = first; second = second })
+
 -- the names, where the words are `extract` and five names
 unfoldable pub extract_words : List (List ℕ) → Option ExtractWords
-extract_words words =
-    if length words == 6 && bytes_eq (slice_index_or words 0 []) (codes "extract")
-    then (do
-      board ← name_at words 1
-      first ← attempt_words words 2
-      second ← attempt_words words 4
-      Some (record { board = board; first = first; second = second }))
-    else None
+extract_words words = if length words == 6 && bytes_eq (slice_index_or words 0 []) (codes "extract") then names_in words else None
 
 -- ---- `seal`
 
@@ -83,22 +84,26 @@ count_of most text = do
   number ← decimal_of most text
   if nat_lt number 1 then None else Some number
 
+-- two names that differ
+abbrev pub or_same : List ℕ → SealWords → Option SealWords
+or_same secret order = if bytes_eq secret order.seal then None else Some order
+
+-- the order that nine words give, the first of them aside
+unfoldable pub order_in : List (List ℕ) → Option SealWords
+order_in words = do
+  auction ← hex_of 16 (slice_index_or words 1 [])
+  seat ← count_of 65535 (slice_index_or words 2 [])
+  bid ← decimal_of (2 ^ 64 - 1) (slice_index_or words 3 [])
+  width ← count_of 40 (slice_index_or words 4 [])
+  lanes ← count_of 64 (slice_index_or words 5 [])
+  seed ← hex_of 32 (slice_index_or words 6 [])
+  secret ← name_at words 7
+  seal ← name_at words 8
+  or_same secret (record { auction = auction; seat = seat; bid = bid; width = width; lanes = lanes; seed = seed; secret = secret; seal = seal })
+
 -- the order, where the words are `seal`, its numbers and two different names
 unfoldable pub seal_words : List (List ℕ) → Option SealWords
-seal_words words =
-    if length words == 9 && bytes_eq (slice_index_or words 0 []) (codes "seal")
-    then (do
-      auction ← hex_of 16 (slice_index_or words 1 [])
-      seat ← count_of 65535 (slice_index_or words 2 [])
-      bid ← decimal_of (2 ^ 64 - 1) (slice_index_or words 3 [])
-      width ← count_of 40 (slice_index_or words 4 [])
-      lanes ← count_of 64 (slice_index_or words 5 [])
-      seed ← hex_of 32 (slice_index_or words 6 [])
-      secret ← name_at words 7
-      seal ← name_at words 8
-      if bytes_eq secret seal then None
-      else Some (record { auction = auction; seat = seat; bid = bid; width = width; lanes = lanes; seed = seed; secret = secret; seal = seal }))
-    else None
+seal_words words = if length words == 9 && bytes_eq (slice_index_or words 0 []) (codes "seal") then order_in words else None
 
 -- what making a seal asks of its numbers
 pub record IsSealOrder (order : SealWords) : Type 0 where

@@ -1,7 +1,7 @@
 //! The words of a command line.
 
 ghost use Rattle.std.specs.Prelude.{◌≡◌, ◌+◌, ◌<◌, ◌≤◌, [], length, map, option_map, string_bytes, slice_index_or, IfSome};
-ghost use Rattle.vk_app.specs.Words.{attempt_seen, extract_seen, is_name, name_at, attempt_words, extract_words, seal_seen, count_of, seal_words, IsSealOrder, command_seen, IsCommand, command_words};
+ghost use Rattle.vk_app.specs.Words.{attempt_seen, extract_seen, is_name, name_at, attempt_words, names_in, extract_words, seal_seen, count_of, order_in, seal_words, IsSealOrder, command_seen, IsCommand, command_words};
 
 use vk_lines::{read_decimal, read_hex16, read_hex32};
 
@@ -51,14 +51,12 @@ fn attempt_names(words: &[String], place: usize) -> Option<AttemptNames<'_>>
     Some(AttemptNames { challenge, reply })
 }
 
-/// The names, where the words are `extract` and five names.
-#[tactic(auto, unfolding(crate::specs::Words::extract_words))]
-fn extract_names(words: &[String]) -> Option<ExtractNames<'_>>
-    ensures { option_map extract_seen result ≡ extract_words (map string_bytes words.now) }
+/// The names that six words give.
+#[tactic(auto, unfolding(crate::specs::Words::names_in))]
+fn names_in(words: &[String]) -> Option<ExtractNames<'_>>
+    requires { length words.now ≡ 6 }
+    ensures { option_map extract_seen result ≡ names_in (map string_bytes words.now) }
 {
-    if words.len() != 6 || word(words, 0) != "extract" {
-        return None;
-    }
     let board = name(words, 1)?;
     let first = attempt_names(words, 2)?;
     let second = attempt_names(words, 4)?;
@@ -67,6 +65,17 @@ fn extract_names(words: &[String]) -> Option<ExtractNames<'_>>
         first,
         second,
     })
+}
+
+/// The names, where the words are `extract` and five names.
+#[tactic(auto, unfolding(crate::specs::Words::extract_words))]
+fn extract_names(words: &[String]) -> Option<ExtractNames<'_>>
+    ensures { option_map extract_seen result ≡ extract_words (map string_bytes words.now) }
+{
+    if words.len() != 6 || word(words, 0) != "extract" {
+        return None;
+    }
+    names_in(words)
 }
 
 /// What `seal` is to make, and the names of its files.
@@ -100,15 +109,13 @@ fn count(word: &str, most: u64) -> Option<u64>
     Some(number)
 }
 
-/// The order, where the words are `seal`, its numbers and two different names.
-#[tactic(auto, unfolding(crate::specs::Words::seal_words))]
-fn seal_order(words: &[String]) -> Option<SealOrder<'_>>
-    ensures value { option_map seal_seen result ≡ seal_words (map string_bytes words.now) }
+/// The order that nine words give.
+#[tactic(auto, unfolding(crate::specs::Words::order_in))]
+fn order_in(words: &[String]) -> Option<SealOrder<'_>>
+    requires { length words.now ≡ 9 }
+    ensures value { option_map seal_seen result ≡ order_in (map string_bytes words.now) }
     ensures limits { IfSome result (λ order. IsSealOrder (seal_seen order)) }
 {
-    if words.len() != 9 || word(words, 0) != "seal" {
-        return None;
-    }
     let auction = read_hex16(word(words, 1).as_bytes())?;
     let seat = count(word(words, 2), 65535)?;
     let bid = read_decimal(word(words, 3).as_bytes(), u64::MAX)?;
@@ -130,6 +137,18 @@ fn seal_order(words: &[String]) -> Option<SealOrder<'_>>
         secret,
         seal,
     })
+}
+
+/// The order, where the words are `seal`, its numbers and two different names.
+#[tactic(auto, unfolding(crate::specs::Words::seal_words))]
+fn seal_order(words: &[String]) -> Option<SealOrder<'_>>
+    ensures value { option_map seal_seen result ≡ seal_words (map string_bytes words.now) }
+    ensures limits { IfSome result (λ order. IsSealOrder (seal_seen order)) }
+{
+    if words.len() != 9 || word(words, 0) != "seal" {
+        return None;
+    }
+    order_in(words)
 }
 
 /// A command.

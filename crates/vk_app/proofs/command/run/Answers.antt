@@ -1,5 +1,7 @@
 use Rattle.std.proofs.Common.{map, string_bytes}
+use Rattle.vk_app.specs.Effect.{effect_of}
 use Rattle.vk_app.proofs.Headline.{ended_extracts, ended_accepted}
+use Rattle.vk_app.proofs.Leaving.{left_at_end}
 use Rattle.vk_app.proofs.command.run.Goals as goal
 
 pub returns-in-Ok-clause-extracted : goal.returns-in-Ok-clause-extracted
@@ -9,3 +11,7 @@ returns-in-Ok-clause-extracted g c =
 pub returns-in-Ok-clause-accepted : goal.returns-in-Ok-clause-accepted
 returns-in-Ok-clause-accepted g c =
     ended_accepted (g.S.Shelf.held c.args.shelf.now) (map string_bytes c.args.words.now) c.in-Ok.status c.in-Ok.ensures.status
+
+pub returns-in-Ok-clause-left : goal.returns-in-Ok-clause-left
+returns-in-Ok-clause-left g c =
+    left_at_end (λ files. effect_of files (map string_bytes c.args.words.now)) c.in-Ok.status (g.S.Shelf.held c.args.shelf.now) (g.S.Shelf.held c.answer.new.shelf) c.in-Ok.ensures.left
