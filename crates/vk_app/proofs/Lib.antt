@@ -1,3 +1,9 @@
 pub mod Lanes
 pub mod Texts
-pub mod Files
+pub mod WholeTexts
+pub mod Printing
+pub mod Accepting
+pub mod Extracting
+pub mod Lengths
+pub mod Effects
+pub mod Headline

@@ -1,5 +1,5 @@
 -- When a reply is accepted with a board and a challenge.
-use Rattle.std.specs.Prelude.{◌≡◌, ℕ, ◌+◌, ◌==◌, ◌&&◌, Bool, true, false, if◌then◌else◌, List, [], ◌∷◌, length, Option, Some, None}
+use Rattle.std.specs.Prelude.{◌≡◌, ℕ, ◌+◌, ◌==◌, ◌&&◌, Bool, true, false, if◌then◌else◌, List, [], ◌∷◌, length, Option, Some}
 use Rattle.vk_residue.specs.Residue.{difference, negative}
 use Rattle.vk_commit.specs.Commitment.{Opens, opens_test}
 use Rattle.vk_commit.specs.declared.place.Place.{Place}

@@ -3,3 +3,10 @@ pub mod Reading
 pub mod Texts
 pub mod Acceptance
 pub mod Extraction
+pub mod Extract
+pub mod Words
+pub mod Outcome
+pub mod Sealing
+pub mod Effect
+pub mod Stops
+pub mod Headline

@@ -1,5 +1,5 @@
 -- The files of version 0 and challenges: the whole text of each value, and which values have one.
-use Rattle.std.specs.Prelude.{◌≡◌, ℕ, ◌+◌, ◌^◌, ◌<◌, ◌≤◌, ◌==◌, Bool, if◌then◌else◌, List, [], ◌∷◌, ◌++◌, length, map, codes, decimal}
+use Rattle.std.specs.Prelude.{◌≡◌, ℕ, ◌+◌, ◌^◌, ◌<◌, ◌≤◌, Bool, if◌then◌else◌, List, [], ◌∷◌, ◌++◌, length, map, codes, decimal, Option, Some}
 use Rattle.std.specs.List.{AllByRecursion}
 use Rattle.hex.specs.Hex.{IsBytes}
 use Rattle.vk_residue.specs.Residue.{IsResidue}
@@ -117,3 +117,13 @@ IsChallenge challenge = (0 < length challenge.bits) × (length challenge.bits �
 
 abbrev pub IsReply : Reply → Type 0
 IsReply reply = AreLanes IsReplyLane reply.lanes
+
+-- ---- a text and its value
+
+-- the text is that of the value, which is of the form
+abbrev pub IsTextOf : {X : Type 0} → (X → List ℕ) → (X → Type 0) → List ℕ → X → Type 0
+IsTextOf text_of IsOfForm text x = (text ≡ text_of x) × IsOfForm x
+
+-- where the text is that of a value of the form, a reader gives that value
+abbrev pub IsReadAgain : {X : Type 0} → (X → List ℕ) → (X → Type 0) → List ℕ → (Option X → Type 0) → Type 0
+IsReadAgain {X} text_of IsOfForm text Gives = (x : X) → IsOfForm x → text ≡ text_of x → Gives (Some x)

@@ -13,11 +13,7 @@ use vk_residue::Residue;
 fn half(bit: bool, digests: &Digests) -> &[u8; 32]
     ensures { result.now ≡ half_of bit digests.now }
 {
-    if bit {
-        &digests.second
-    } else {
-        &digests.first
-    }
+    if bit { &digests.second } else { &digests.first }
 }
 
 /// Where that half of the bid stands in the lane with that number.

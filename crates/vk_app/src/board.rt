@@ -1,8 +1,9 @@
 //! Boards of version 0: one seal, and for each lane its commitments and the posted difference.
 
-ghost use Rattle.std.specs.Prelude.{◌≡◌, ◌<◌, ◌^◌};
+ghost use Rattle.std.specs.Prelude.{◌<◌, ◌^◌, IfOk};
 ghost use Rattle.vk_app.specs.Pieces.{Gives, Reads, lanes_at};
 ghost use Rattle.vk_app.specs.Reading.{digests_at, board_lane_at, board_at};
+ghost use Rattle.vk_app.specs.Texts.{board_text, IsBoard, IsTextOf, IsReadAgain};
 
 use crate::reader::Reader;
 use crate::refusal::Refusal;
@@ -84,7 +85,7 @@ fn board_lanes(
 
 /// The board whose text the bytes are.
 #[tactic(auto, unfolding(crate::specs::Reading::board_at))]
-pub fn read_board(alloc: Global, text: &[u8]) -> Result<Board, Refusal>
+fn board_in(alloc: Global, text: &[u8]) -> Result<Board, Refusal>
     ensures { Gives (λ x. x) result (board_at text.now) }
 {
     let mut reader = Reader::of(text);
@@ -101,4 +102,13 @@ pub fn read_board(alloc: Global, text: &[u8]) -> Result<Board, Refusal>
         seat: seat as u16,
         lanes: Seq::from_vec(lanes),
     })
+}
+
+/// The board whose text the bytes are.
+pub fn read_board(alloc: Global, text: &[u8]) -> Result<Board, Refusal>
+    ensures read { Gives (λ x. x) result (board_at text.now) }
+    ensures found { IfOk result (λ board. IsTextOf board_text IsBoard text.now board) }
+    ensures only { IsReadAgain board_text IsBoard text.now (Gives (λ x. x) result) }
+{
+    board_in(alloc, text)
 }

@@ -1,8 +1,9 @@
 //! Challenges: one bit for each lane.
 
-ghost use Rattle.std.specs.Prelude.{◌≡◌, [], Some};
+ghost use Rattle.std.specs.Prelude.{[], Some, IfOk};
 ghost use Rattle.vk_app.specs.Pieces.{Gives, Reads};
 ghost use Rattle.vk_app.specs.Reading.{bits_at, challenge_at};
+ghost use Rattle.vk_app.specs.Texts.{challenge_text, IsChallenge, IsTextOf, IsReadAgain};
 
 use crate::reader::Reader;
 use crate::refusal::Refusal;
@@ -29,7 +30,7 @@ fn bits(alloc: Global, reader: &mut Reader<'_>) -> Result<Vec<bool>, Refusal>
 
 /// The challenge whose text the bytes are.
 #[tactic(auto, unfolding(crate::specs::Reading::challenge_at))]
-pub fn read_challenge(alloc: Global, text: &[u8]) -> Result<Challenge, Refusal>
+fn challenge_in(alloc: Global, text: &[u8]) -> Result<Challenge, Refusal>
     ensures { Gives (λ x. x) result (challenge_at text.now) }
 {
     let mut reader = Reader::of(text);
@@ -42,4 +43,13 @@ pub fn read_challenge(alloc: Global, text: &[u8]) -> Result<Challenge, Refusal>
     }
     let bits = Seq::from_vec(bits);
     Ok(Challenge { bits })
+}
+
+/// The challenge whose text the bytes are.
+pub fn read_challenge(alloc: Global, text: &[u8]) -> Result<Challenge, Refusal>
+    ensures read { Gives (λ x. x) result (challenge_at text.now) }
+    ensures found { IfOk result (λ challenge. IsTextOf challenge_text IsChallenge text.now challenge) }
+    ensures only { IsReadAgain challenge_text IsChallenge text.now (Gives (λ x. x) result) }
+{
+    challenge_in(alloc, text)
 }

@@ -77,7 +77,13 @@ pub fn differing_lanes(
     let mut found = Vec::new(alloc);
     for (before, bit) in bits.iter().enumerate() {
         let number = before as u64 + 1;
-        let lane = differing_lane(number, *bit, other_bits[before], &lanes[before], &others[before]);
+        let lane = differing_lane(
+            number,
+            *bit,
+            other_bits[before],
+            &lanes[before],
+            &others[before],
+        );
         if let Some(lane) = lane {
             found.push(lane)?;
         }
@@ -127,11 +133,7 @@ fn lane_line(alloc: Global, seat: u16, lane: &ExtractedLane) -> Result<String, A
 }
 
 /// The lines of the lanes, in order.
-fn lane_lines(
-    alloc: Global,
-    seat: u16,
-    lanes: &[ExtractedLane],
-) -> Result<Vec<String>, AllocError>
+fn lane_lines(alloc: Global, seat: u16, lanes: &[ExtractedLane]) -> Result<Vec<String>, AllocError>
     ensures { IfOk result (λ lines. flat_map string_bytes lines.items ≡ flat_map (extracted_line seat) lanes.now) }
 {
     let mut lines = Vec::new(alloc);

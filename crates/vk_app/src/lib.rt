@@ -4,7 +4,19 @@
 mod acceptance;
 mod board;
 mod challenge;
+mod command;
+mod extract;
 mod extraction;
+mod files;
+mod outcome;
 mod reader;
 mod refusal;
 mod reply;
+mod sealing;
+mod stop;
+mod words;
+
+pub use command::run;
+
+#[cfg(test)]
+mod tests;

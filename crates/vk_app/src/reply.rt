@@ -1,8 +1,9 @@
 //! Replies of version 0: for each lane one opened half of the bid and one of its copy.
 
-ghost use Rattle.std.specs.Prelude.{◌≡◌, ◌<◌, ◌^◌};
+ghost use Rattle.std.specs.Prelude.{◌<◌, ◌^◌, IfOk};
 ghost use Rattle.vk_app.specs.Pieces.{Gives, Reads, lanes_at};
 ghost use Rattle.vk_app.specs.Reading.{opening_at, reply_lane_at, reply_at};
+ghost use Rattle.vk_app.specs.Texts.{reply_text, IsReply, IsTextOf, IsReadAgain};
 
 use crate::reader::Reader;
 use crate::refusal::Refusal;
@@ -68,7 +69,7 @@ fn reply_lanes(
 
 /// The reply whose text the bytes are.
 #[tactic(auto, unfolding(crate::specs::Reading::reply_at))]
-pub fn read_reply(alloc: Global, text: &[u8]) -> Result<Reply, Refusal>
+fn reply_in(alloc: Global, text: &[u8]) -> Result<Reply, Refusal>
     ensures { Gives (λ x. x) result (reply_at text.now) }
 {
     let mut reader = Reader::of(text);
@@ -78,4 +79,13 @@ pub fn read_reply(alloc: Global, text: &[u8]) -> Result<Reply, Refusal>
     reader.finish()?;
     let lanes = Seq::from_vec(lanes);
     Ok(Reply { lanes })
+}
+
+/// The reply whose text the bytes are.
+pub fn read_reply(alloc: Global, text: &[u8]) -> Result<Reply, Refusal>
+    ensures read { Gives (λ x. x) result (reply_at text.now) }
+    ensures found { IfOk result (λ reply. IsTextOf reply_text IsReply text.now reply) }
+    ensures only { IsReadAgain reply_text IsReply text.now (Gives (λ x. x) result) }
+{
+    reply_in(alloc, text)
 }

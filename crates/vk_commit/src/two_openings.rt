@@ -36,8 +36,8 @@ impl TwoOpenings {
         second: Opening,
     ) -> Option<TwoOpenings>
         ensures exactly { IsSome result ↔ AreTwoOpenings place digest first second }
-        ensures made { IfSome result
-            (λ two. two ≡ record { place = place; digest = digest; first = first; second = second }) }
+        ensures made { IfSome result (λ two. two
+            ≡ record { place = place; digest = digest; first = first; second = second }) }
     {
         if first.value == second.value
             || !opens(&place, &digest, &first)

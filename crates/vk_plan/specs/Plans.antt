@@ -17,11 +17,15 @@ abbrev pub HasWeight : WireKind → Type 0
 HasWeight Split = Unit {0}
 HasWeight (Pair i) = i < 61
 
+-- each term of a row names a wire of the plan
+abbrev pub NamesOwnWires : PlanValue → Type 0
+NamesOwnWires plan = All (λ row. NamesBelow (length plan.kinds) row.terms) plan.rows
+
 -- what every plan keeps
 pub record IsPlan (plan : PlanValue) : Type 0 where
   pub inputs_are_split : (w : ℕ) → w < plan.inputs → slice_get plan.kinds w ≡ Some Split
   pub weights : All HasWeight plan.kinds
-  pub names : All (λ row. NamesBelow (length plan.kinds) row.terms) plan.rows
+  pub names : NamesOwnWires plan
   pub wires : length plan.kinds ≤ 16777216
   pub few_rows : length plan.rows ≤ 16777216
 

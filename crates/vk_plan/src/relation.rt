@@ -1,5 +1,5 @@
 ghost use Rattle.std.specs.Prelude.{◌≡◌, ◌++◌, List, ℕ, length, take, OnOk, OnErr};
-ghost use Rattle.vk_plan.specs.Plans.{PlanValue, IsPlan, Holds, extended};
+ghost use Rattle.vk_plan.specs.Plans.{PlanValue, NamesOwnWires, IsPlan, Holds, extended};
 ghost use Rattle.vk_plan.specs.declared.wire.WireKind.{WireKind as Kind};
 ghost use Rattle.vk_plan.specs.declared.form.Form.{Form as Row};
 
@@ -41,12 +41,12 @@ pub trait Relation {
         ensures as_before { OnErr result (values.new.items ≡ values.old.items) };
 
     /// Where values hold for the longer plan, it is true of those before.
-    ghost sound: { (relation : Self) (plan : PlanValue) (values : List ℕ) → IsPlan plan → fits relation plan
+    ghost sound: { (relation : Self) (plan : PlanValue) (values : List ℕ) → NamesOwnWires plan → fits relation plan
         → Holds (extended plan (wires relation (length plan.kinds)) (rows relation (length plan.kinds))) values
         → true_of relation (take (length plan.kinds) values) };
 
     /// Where values hold for a plan and it is true of them, its own values make them hold for the longer plan.
-    ghost complete: { (relation : Self) (plan : PlanValue) (values : List ℕ) → IsPlan plan → fits relation plan
+    ghost complete: { (relation : Self) (plan : PlanValue) (values : List ℕ) → NamesOwnWires plan → fits relation plan
         → Holds plan values → true_of relation values
         → Holds (extended plan (wires relation (length plan.kinds)) (rows relation (length plan.kinds)))
         (values ++ filled relation values) };

@@ -1,10 +1,16 @@
 -- The forms that the relations put into rows.
-use Rattle.std.specs.Prelude.{ℕ, ◌+◌, ◌-◌, ◌%◌, ◌^◌, ◌<◌, ◌≤◌, Bool, if◌then◌else◌, List, [], ◌∷◌, map, slice_index, length}
+use Rattle.std.specs.Prelude.{List, ℕ, ◌-◌, ◌≤◌, Bool, if◌then◌else◌, [], ◌∷◌, length}
 use Rattle.vk_residue.specs.Residue.{modulus}
+use Rattle.vk_plan.specs.declared.wire.WireKind.{WireKind}
+use Rattle.vk_plan.specs.declared.wire.WireKind.TheVariants.{Split}
 use Rattle.vk_plan.specs.declared.form.Form.{Form}
 use Rattle.vk_plan.specs.Forms.{NamesBelow}
 use Rattle.vk_plan.specs.Plans.{PlanValue}
 use Rattle.vk_range.specs.Sets.{plus, minus}
+
+-- one wire of any value
+abbrev pub one_wire : List WireKind
+one_wire = Split ∷ []
 
 -- minus 1 where strict
 abbrev pub less_one : Bool → ℕ

@@ -1,6 +1,6 @@
 -- The two laws of each relation: what its rows show, and that its own values make them 0.
-use Rattle.std.specs.Prelude.{ℕ, ◌+◌, ◌-◌, ◌*◌, ◌%◌, ◌^◌, ◌<◌, ◌≤◌, ◌≡◌, Bool, false, List, [], ◌∷◌, ◌++◌, All, length, take, slice_index, slice_index_or}
-use Rattle.std.proofs.Common.{refl, zero, suc, sym, ap, ◌∙◌, subst, arith, drop, get_or, get_or-take, get_or-drop, length-append}
+use Rattle.std.specs.Prelude.{ℕ, ◌+◌, ◌-◌, ◌*◌, ◌%◌, ◌<◌, ◌≤◌, ◌≡◌, Bool, false, List, [], ◌∷◌, ◌++◌, length, take, slice_index, slice_index_or}
+use Rattle.std.proofs.Common.{refl, zero, suc, sym, ◌∙◌, subst, arith, get_or-drop, length-append}
 use Rattle.std.proofs.lemmas.List.{length-take-le, get_or_append_left, get_or_at}
 use Rattle.std.proofs.lemmas.List.Elements.{All-cons, All-nil, All-head, All-take}
 use Rattle.vk_residue.specs.Residue.{modulus, IsResidue}
@@ -8,16 +8,16 @@ use Rattle.vk_plan.specs.declared.wire.WireKind.{WireKind}
 use Rattle.vk_plan.specs.declared.wire.WireKind.TheVariants.{Split, Pair}
 use Rattle.vk_plan.specs.declared.form.Term.{Term}
 use Rattle.vk_plan.specs.declared.form.Form.{Form}
-use Rattle.vk_plan.specs.Forms.{term_value, linear_part, form_value, NamesBelow}
+use Rattle.vk_plan.specs.Forms.{linear_part, form_value, NamesBelow}
 use Rattle.vk_plan.specs.FormLaws.{form_value-take, form_value_within}
-use Rattle.vk_plan.specs.Plans.{PlanValue, IsPlan, Holds, HasWeight, MayHave, extended}
-use Rattle.vk_plan.specs.PlanLaws.{FitKinds, AreZero, Holds-extended, FitKinds-appended, AreZero-appended}
-use Rattle.vk_range.specs.Sets.{listed, IsOfWidth, test_set, set_row, bit_part, bit_parts, plus, minus}
+use Rattle.vk_plan.specs.Plans.{PlanValue, NamesOwnWires, Holds, MayHave, extended}
+use Rattle.vk_plan.specs.PlanLaws.{AreZero, Holds-extended, FitKinds-appended, AreZero-appended}
+use Rattle.vk_range.specs.Sets.{IsOfWidth, test_set, set_row, bit_part, bit_parts, plus, minus}
 use Rattle.vk_range.specs.Forms.{difference_form, IsRange}
 use Rattle.vk_range.specs.SetLaws.{length_listed, at_listed, bit_parts_below, bit_parts_fit, set_row_sound, set_row_filled}
 
 -- one appended row is 0
-one_row : (plan : PlanValue) (kinds : List WireKind) (row : Form) (values : List ℕ)
+pub one_row : (plan : PlanValue) (kinds : List WireKind) (row : Form) (values : List ℕ)
     → Holds (extended plan kinds (row ∷ [])) values → form_value row values ≡ 0
 one_row plan kinds row values holds = All-head (λ form. form_value form values ≡ 0) row [] (AreZero-appended plan kinds (row ∷ []) values holds)
 
@@ -25,7 +25,7 @@ one_zero : (row : Form) (values : List ℕ) → form_value row values ≡ 0 → 
 one_zero row values zero' = All-cons (λ form. form_value form values ≡ 0) row [] zero' (All-nil (λ form. form_value form values ≡ 0))
 
 -- there are values of the wires before
-long_enough : (plan : PlanValue) (kinds : List WireKind) (rows : List Form) (values : List ℕ)
+pub long_enough : (plan : PlanValue) (kinds : List WireKind) (rows : List Form) (values : List ℕ)
     → Holds (extended plan kinds rows) values → length plan.kinds ≤ length values
 long_enough plan kinds rows values holds = omega (arith, holds.one_each, length-append plan.kinds kinds)
 
@@ -35,10 +35,10 @@ pub sum_is_sound : (plan : PlanValue) (form : Form) (values : List ℕ) → Name
 sum_is_sound plan form values names holds =
     form_value-take form (length plan.kinds) values (long_enough plan [] (form ∷ []) values holds) names ∙ one_row plan [] form values holds
 
-pub sum_is_complete : (plan : PlanValue) (form : Form) (values : List ℕ) → IsPlan plan → NamesBelow (length plan.kinds) form.terms
+pub sum_is_complete : (plan : PlanValue) (form : Form) (values : List ℕ) → NamesOwnWires plan → NamesBelow (length plan.kinds) form.terms
     → Holds plan values → form_value form values ≡ 0 → Holds (extended plan [] (form ∷ [])) (values ++ [])
-sum_is_complete plan form values is_plan names holds zero' =
-    Holds-extended plan [] (form ∷ []) values [] is_plan holds refl (All-nil IsResidue) (λ w h. omega arith)
+sum_is_complete plan form values own names holds zero' =
+    Holds-extended plan [] (form ∷ []) values [] own holds refl (All-nil IsResidue) (λ w h. omega arith)
     (one_zero form (values ++ []) (form_value_within form values [] (subst (λ n. NamesBelow n form.terms) (sym holds.one_each) names) ∙ zero'))
 
 -- a form of a width
@@ -56,15 +56,15 @@ in_range_sound plan form width values fits holds =
     subst (IsOfWidth width) (sym (form_value-take form start values enough fits.names))
     (set_row_sound form start width values (omega (arith, fits.most)) fit (one_row plan (test_set width) row values holds))
 
-pub in_range_complete : (plan : PlanValue) (form : Form) (width : ℕ) (values : List ℕ) → IsPlan plan → IsRange form width plan
+pub in_range_complete : (plan : PlanValue) (form : Form) (width : ℕ) (values : List ℕ) → NamesOwnWires plan → IsRange form width plan
     → Holds plan values → IsOfWidth width (form_value form values)
     → Holds (extended plan (test_set width) (set_row form (length plan.kinds) width ∷ [])) (values ++ bit_parts (form_value form values) width)
-in_range_complete plan form width values is_plan fits holds below =
+in_range_complete plan form width values own fits holds below =
     let number = form_value form values in
     let small : width ≤ 60 = omega (arith, fits.most) in
     let names = subst (λ n. NamesBelow n form.terms) (sym holds.one_each) fits.names in
     let filled = set_row_filled form width values small names below in
-    Holds-extended plan (test_set width) (set_row form (length plan.kinds) width ∷ []) values (bit_parts number width) is_plan holds
+    Holds-extended plan (test_set width) (set_row form (length plan.kinds) width ∷ []) values (bit_parts number width) own holds
     (length_listed (bit_part number) width ∙ sym (length_listed Pair width))
     (bit_parts_below number width small)
     (bit_parts_fit number width)
@@ -78,10 +78,10 @@ pub difference_value : (left right : ℕ) (strict : Bool) (values : List ℕ)
 unfolding form_value linear_part
 difference_value left right strict values = omega arith
 
-same_from_zero : (a b : ℕ) → a < modulus → b < modulus → (a + (modulus - 1) * b + 0) % modulus ≡ 0 → a ≡ b
+pub same_from_zero : (a b : ℕ) → a < modulus → b < modulus → (a + (modulus - 1) * b + 0) % modulus ≡ 0 → a ≡ b
 same_from_zero a b ha hb h = omega arith
 
-zero_from_same : (a b : ℕ) → a ≡ b → (a + (modulus - 1) * b + 0) % modulus ≡ 0
+pub zero_from_same : (a b : ℕ) → a ≡ b → (a + (modulus - 1) * b + 0) % modulus ≡ 0
 zero_from_same a b h = omega arith
 
 -- both wires of a difference are there
@@ -103,11 +103,11 @@ equal_sound plan left right values l r holds =
     same_from_zero (slice_index (take start values) left) (slice_index (take start values) right)
     (residues left 0 (omega arith)) (residues right 0 (omega arith)) (sym (difference_value left right false (take start values)) ∙ nothing)
 
-pub equal_complete : (plan : PlanValue) (left right : ℕ) (values : List ℕ) → IsPlan plan → left < length plan.kinds → right < length plan.kinds
+pub equal_complete : (plan : PlanValue) (left right : ℕ) (values : List ℕ) → NamesOwnWires plan → left < length plan.kinds → right < length plan.kinds
     → Holds plan values → slice_index values left ≡ slice_index values right
     → Holds (extended plan [] (difference_form left right false ∷ [])) (values ++ [])
-equal_complete plan left right values is_plan l r holds same =
-    sum_is_complete plan (difference_form left right false) values is_plan (difference_names (length plan.kinds) left right false l r) holds
+equal_complete plan left right values own l r holds same =
+    sum_is_complete plan (difference_form left right false) values own (difference_names (length plan.kinds) left right false l r) holds
     (difference_value left right false values ∙ zero_from_same (slice_index values left) (slice_index values right) same)
 
 -- a wire of any value fits
@@ -115,16 +115,16 @@ split_fits : (value w : ℕ) → MayHave (slice_index_or (Split ∷ []) w Split)
 split_fits value zero = tt
 split_fits value (suc w) = tt
 
-pub copied_complete : (plan : PlanValue) (wire : ℕ) (values : List ℕ) → IsPlan plan → wire < length plan.kinds → Holds plan values
+pub copied_complete : (plan : PlanValue) (wire : ℕ) (values : List ℕ) → NamesOwnWires plan → wire < length plan.kinds → Holds plan values
     → Holds (extended plan (Split ∷ []) (difference_form wire (length plan.kinds) false ∷ [])) (values ++ slice_index values wire ∷ [])
-copied_complete plan wire values is_plan l holds =
+copied_complete plan wire values own l holds =
     let start = length plan.kinds in
     let value = slice_index values wire in
     let whole = values ++ value ∷ [] in
     let here = get_or_append_left values (value ∷ []) 0 wire (omega (arith, holds.one_each)) in
     let there = get_or_at values value [] 0 start holds.one_each in
     let residue : IsResidue value = holds.residues wire 0 (omega (arith, holds.one_each)) in
-    Holds-extended plan (Split ∷ []) (difference_form wire start false ∷ []) values (value ∷ []) is_plan holds refl
+    Holds-extended plan (Split ∷ []) (difference_form wire start false ∷ []) values (value ∷ []) own holds refl
     (All-cons IsResidue value [] residue (All-nil IsResidue))
     (λ w h. split_fits value w)
     (one_zero (difference_form wire start false) whole
@@ -138,11 +138,11 @@ at_least_sound plan left right strict width values l r some most holds =
     in_range_sound plan (difference_form left right strict) width values
     (record { names = difference_names (length plan.kinds) left right strict l r; some = some; most = most }) holds
 
-pub at_least_complete : (plan : PlanValue) (left right : ℕ) (strict : Bool) (width : ℕ) (values : List ℕ) → IsPlan plan
+pub at_least_complete : (plan : PlanValue) (left right : ℕ) (strict : Bool) (width : ℕ) (values : List ℕ) → NamesOwnWires plan
     → left < length plan.kinds → right < length plan.kinds → 1 ≤ width → width ≤ 40
     → Holds plan values → IsOfWidth width (form_value (difference_form left right strict) values)
     → Holds (extended plan (test_set width) (set_row (difference_form left right strict) (length plan.kinds) width ∷ []))
     (values ++ bit_parts (form_value (difference_form left right strict) values) width)
-at_least_complete plan left right strict width values is_plan l r some most holds below =
-    in_range_complete plan (difference_form left right strict) width values is_plan
+at_least_complete plan left right strict width values own l r some most holds below =
+    in_range_complete plan (difference_form left right strict) width values own
     (record { names = difference_names (length plan.kinds) left right strict l r; some = some; most = most }) holds below

@@ -1,22 +1,21 @@
 -- The sums of a test set are the numbers of its width, each of them and no others.
-use Rattle.std.specs.Prelude.{ℕ, ◌+◌, ◌-◌, ◌*◌, ◌/◌, ◌%◌, ◌^◌, ◌<◌, ◌≤◌, ◌≡◌, ◌⊎◌, List, [], ◌∷◌, ◌++◌, All, length, map, sum, sum_by, slice_index, slice_index_or}
-use Rattle.std.specs.List.{range_with_len}
-use Rattle.std.proofs.Common.{refl, sym, ap, ◌∙◌, subst, arith, inl, inr, zero, suc, add-one, get_or, length-append, add_comm, append_assoc, mod-eq_of_lt}
+use Rattle.std.specs.Prelude.{ℕ, ◌+◌, ◌-◌, ◌*◌, ◌/◌, ◌%◌, ◌^◌, ◌<◌, ◌≤◌, ◌≡◌, List, [], ◌∷◌, ◌++◌, All, length, sum, sum_by, slice_index, slice_index_or}
+use Rattle.std.proofs.Common.{refl, sym, ap, ◌∙◌, subst, arith, inl, inr, zero, suc, add-one, length-append, add_comm, append_assoc, suc-mul, mod-eq_of_lt}
 use Rattle.std.proofs.lemmas.List.{get_or-append-add}
+use Rattle.std.proofs.lemmas.List.Elements.{All-nil, All-append}
 use Rattle.std.proofs.lemmas.List.FromFn.{map-range_with_len_more, length-map-range_with_len, get_or-map-range_with_len, sum_by-map-range_with_len_more}
 use Rattle.std.proofs.lemmas.Nat.{mod-pow-add, pow-add}
 use Rattle.std.proofs.Math.Pow.{pow_mono}
 use Rattle.std.proofs.lemmas.Bool.{cases_lt}
 use Rattle.vk_residue.specs.Residue.{modulus, IsResidue}
-use Rattle.vk_plan.specs.declared.wire.WireKind.{WireKind}
 use Rattle.vk_plan.specs.declared.wire.WireKind.TheVariants.{Split, Pair}
 use Rattle.vk_plan.specs.declared.form.Term.{Term}
 use Rattle.vk_plan.specs.declared.form.Form.{Form}
 use Rattle.vk_plan.specs.Forms.{term_value, linear_part, form_value, NamesBelow}
 use Rattle.vk_plan.specs.FormLaws.{linear_part-append, form_value_within}
-use Rattle.vk_plan.specs.Plans.{MayHave}
+use Rattle.vk_plan.specs.Plans.{HasWeight, MayHave}
 use Rattle.vk_plan.specs.PlanLaws.{FitKinds}
-use Rattle.vk_range.specs.Sets.{listed, test_set, IsOfWidth, minus, minus_set, set_row, set_sum, bit_part, bit_parts}
+use Rattle.vk_range.specs.Sets.{listed, joined, test_set, IsOfWidth, plus, minus, minus_set, set_row, set_sum, bit_part, bit_parts}
 
 -- one more at the end
 pub listed_more : {A : Type 0} (f : ℕ → A) (n : ℕ) → listed f (n + 1) ≡ listed f n ++ f n ∷ []
@@ -29,7 +28,7 @@ listed_push f front items all value n pushed before here =
     pushed ∙ (cc (before, here, append_assoc front (listed f n) (f n ∷ [])) ∙ ap (λ more. front ++ more) (sym (listed_more f n)))
 
 -- one more at the end of a sum
-sum_listed_more : (f : ℕ → ℕ) (n : ℕ) → sum (listed f (n + 1)) ≡ sum (listed f n) + f n
+pub sum_listed_more : (f : ℕ → ℕ) (n : ℕ) → sum (listed f (n + 1)) ≡ sum (listed f n) + f n
 sum_listed_more f n = sum_by-map-range_with_len_more (λ x. x) f 0 n n (omega arith)
 
 -- lists that agree at each place are one
@@ -67,6 +66,16 @@ linear_minus_set values start (suc n) =
     let terms = sum_by-map-range_with_len_more (term_value values) (λ i. minus (start + i)) 0 n n (omega arith) in
     let sums = sum_listed_more (λ i. slice_index values (start + i)) n in
     subst (λ m. sum_by (term_value values) (minus_set start m) ≡ (modulus - 1) * set_sum values start m) (add-one n) (omega arith)
+
+-- the terms of wires one after another
+pub linear_plus_set : (values : List ℕ) (start count : ℕ)
+    → sum_by (term_value values) (listed (λ i. plus (start + i)) count) ≡ set_sum values start count
+linear_plus_set values start zero = omega arith
+linear_plus_set values start (suc n) =
+    let before = linear_plus_set values start n in
+    let terms = sum_by-map-range_with_len_more (term_value values) (λ i. plus (start + i)) 0 n n (omega arith) in
+    let sums = sum_listed_more (λ i. slice_index values (start + i)) n in
+    subst (λ m. sum_by (term_value values) (listed (λ i. plus (start + i)) m) ≡ set_sum values start m) (add-one n) (omega arith)
 
 -- a row is 0 exactly where the form is what is taken off
 reads_sum : (terms taken constant : ℕ) → taken < modulus
@@ -128,12 +137,15 @@ bit_parts_fit number width w h =
     let inside : w < width = omega (arith, length_listed Pair width) in
     rw (at_listed Pair width w Split inside, at_listed (bit_part number) width w 0 inside) (bit_part_fits number w)
 
+-- the sum of values that stand after others
+pub set_sum-after : (values : List ℕ) (f : ℕ → ℕ) (count : ℕ) → set_sum (values ++ listed f count) (length values) count ≡ sum (listed f count)
+set_sum-after values f count =
+    ap sum (listed-same (λ i. slice_index (values ++ listed f count) (length values + i)) f count
+    (λ i h. get_or-append-add values (listed f count) i 0 ∙ at_listed f count i 0 h))
+
 -- after any values, the values of a set come to the number
 set_sum_filled : (values : List ℕ) (number width : ℕ) → set_sum (values ++ bit_parts number width) (length values) width ≡ number % 2 ^ width
-set_sum_filled values number width =
-    ap sum (listed-same (λ i. slice_index (values ++ bit_parts number width) (length values + i)) (bit_part number) width
-    (λ i h. get_or-append-add values (bit_parts number width) i 0 ∙ at_listed (bit_part number) width i 0 h))
-    ∙ sum_bit_parts number width
+set_sum_filled values number width = set_sum-after values (bit_part number) width ∙ sum_bit_parts number width
 
 -- where the form is a number of the width, the row of a set with the number's values is 0
 pub set_row_filled : (form : Form) (width : ℕ) (values : List ℕ) → width ≤ 60 → NamesBelow (length values) form.terms
@@ -147,3 +159,32 @@ set_row_filled form width values small names below =
     let same = form_value_within form values (bit_parts number width) names in
     set_row_is form (length values) width whole
     ∙ takes_sum (sum_by (term_value whole) form.terms) (set_sum whole (length values) width) form.constant bound (sym (form_is form whole) ∙ same ∙ sym set)
+
+-- what each f i is, each element is
+pub All-listed : {A : Type 0} (P : A → Type 0) (f : ℕ → A) (n : ℕ) → ((i : ℕ) → i < n → P (f i)) → All P (listed f n)
+All-listed P f n h k d inside =
+    let here : k < n = omega (arith, length_listed f n) in
+    subst P (sym (at_listed f n k d here)) (h k here)
+
+pub All-joined : {A : Type 0} (P : A → Type 0) (f : ℕ → List A) (n : ℕ) → ((i : ℕ) → i < n → All P (f i)) → All P (joined f n)
+All-joined P f zero h = All-nil P
+All-joined P f (suc n) h = All-append P (joined f n) (f n) (All-joined P f n (λ i l. h i (omega arith))) (h n (omega arith))
+
+-- lists of one length, one after another
+pub length_joined : {A : Type 0} (f : ℕ → List A) (each n : ℕ) → ((i : ℕ) → length (f i) ≡ each) → length (joined f n) ≡ n * each
+length_joined f each zero h = omega arith
+length_joined f each (suc n) h =
+    length-append (joined f n) (f n) ∙ omega (arith, length_joined f each n h, h n, suc-mul n each)
+
+pub joined_more : {A : Type 0} (f : ℕ → List A) (n : ℕ) → joined f (n + 1) ≡ joined f n ++ f n
+joined_more f n = ap (joined f) (add-one n)
+
+-- the row of a set names the wires of its form and those of the set
+pub set_row_names : (form : Form) (start width : ℕ) → NamesBelow start form.terms → NamesBelow (start + width) (set_row form start width).terms
+set_row_names form start width names =
+    All-append (λ (term : Term). term.wire < start + width) form.terms (minus_set start width)
+    (λ k d h. omega (arith, names k d h))
+    (All-listed (λ (term : Term). term.wire < start + width) (λ i. minus (start + i)) width (λ i h. omega arith))
+
+pub test_set_weights : (width : ℕ) → width ≤ 61 → All HasWeight (test_set width)
+test_set_weights width small = All-listed HasWeight Pair width (λ i h. omega arith)

@@ -1,5 +1,5 @@
 -- Test sets: pairs of the weights 1, 2, 4 and so on, whose sums are the numbers of a width.
-use Rattle.std.specs.Prelude.{ℕ, ◌+◌, ◌-◌, ◌*◌, ◌/◌, ◌%◌, ◌^◌, ◌<◌, List, ◌++◌, map, slice_index, sum}
+use Rattle.std.specs.Prelude.{ℕ, zero, suc, ◌+◌, ◌-◌, ◌*◌, ◌/◌, ◌%◌, ◌^◌, ◌<◌, List, [], ◌++◌, map, slice_index, sum}
 use Rattle.std.specs.List.{range_with_len}
 use Rattle.vk_residue.specs.Residue.{modulus}
 use Rattle.vk_plan.specs.declared.wire.WireKind.{WireKind}
@@ -10,6 +10,11 @@ use Rattle.vk_plan.specs.declared.form.Form.{Form}
 -- f 0, f 1, .. up to f (n - 1)
 abbrev pub listed : {A : Type 0} → (ℕ → A) → ℕ → List A
 listed f n = map f (range_with_len 0 n)
+
+-- f 0 ++ f 1 ++ .. up to f (n - 1)
+abbrev pub joined : {A : Type 0} → (ℕ → List A) → ℕ → List A
+joined f zero = []
+joined f (suc n) = joined f n ++ f n
 
 -- a number of that many bits
 abbrev pub IsOfWidth : ℕ → ℕ → Type 0

@@ -1,7 +1,6 @@
 ghost use Rattle.std.specs.Prelude.{◌≡◌, ◌<◌, [], ◌∷◌, false, length, slice_index};
-ghost use Rattle.vk_plan.specs.declared.wire.WireKind.TheVariants.{Split as Any};
 ghost use Rattle.vk_plan.specs.Forms.{form_value, NamesBelow};
-ghost use Rattle.vk_range.specs.Forms.{difference_form};
+ghost use Rattle.vk_range.specs.Forms.{difference_form, one_wire};
 ghost use Rattle.vk_range.specs.Laws.{sum_is_sound, sum_is_complete, equal_sound, equal_complete, copied_complete};
 
 use crate::sets::difference;
@@ -29,8 +28,8 @@ impl Relation for Equal {
 
     ghost sound = { λ r plan values _ fits holds. equal_sound plan r.left r.right values fits.0 fits.1 holds };
 
-    ghost complete = { λ r plan values is_plan fits holds same.
-        equal_complete plan r.left r.right values is_plan fits.0 fits.1 holds same };
+    ghost complete = { λ r plan values own fits holds same.
+        equal_complete plan r.left r.right values own fits.0 fits.1 holds same };
 
     fn add(&self, alloc: Global, plan: &mut Plan) -> Result<(), NoMemory> {
         let form = difference(alloc, self.left, self.right, false)?;
@@ -62,8 +61,8 @@ impl Relation for SumIs {
 
     ghost sound = { λ r plan values _ fits holds. sum_is_sound plan r.form values fits holds };
 
-    ghost complete = { λ r plan values is_plan fits holds nothing.
-        sum_is_complete plan r.form values is_plan fits holds nothing };
+    ghost complete = { λ r plan values own fits holds nothing.
+        sum_is_complete plan r.form values own fits holds nothing };
 
     fn add(&self, alloc: Global, plan: &mut Plan) -> Result<(), NoMemory> {
         let form = self.form.copy(alloc)?;
@@ -85,7 +84,7 @@ pub struct Copied {
 impl Relation for Copied {
     ghost fits = { λ r plan. r.wire < length plan.kinds };
 
-    ghost wires = { λ _ _. Any ∷ [] };
+    ghost wires = { λ _ _. one_wire };
 
     ghost rows = { λ r start. difference_form r.wire start false ∷ [] };
 
@@ -95,8 +94,8 @@ impl Relation for Copied {
 
     ghost sound = { λ _ _ _ _ _ _. tt };
 
-    ghost complete = { λ r plan values is_plan fits holds _.
-        copied_complete plan r.wire values is_plan fits holds };
+    ghost complete = { λ r plan values own fits holds _.
+        copied_complete plan r.wire values own fits holds };
 
     fn add(&self, alloc: Global, plan: &mut Plan) -> Result<(), NoMemory> {
         let form = difference(alloc, self.wire, plan.wires(), false)?;

@@ -4,7 +4,12 @@
 
 mod equal;
 mod range;
+mod selected;
 mod sets;
 
 pub use equal::{Copied, Equal, SumIs};
 pub use range::{AtLeast, InRange};
+pub use selected::SelectedIs;
+
+#[cfg(test)]
+mod tests;

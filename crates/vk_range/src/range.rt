@@ -29,8 +29,8 @@ impl Relation for InRange {
 
     ghost sound = { λ r plan values _ fits holds. in_range_sound plan r.form r.width values fits holds };
 
-    ghost complete = { λ r plan values is_plan fits holds below.
-        in_range_complete plan r.form r.width values is_plan fits holds below };
+    ghost complete = { λ r plan values own fits holds below.
+        in_range_complete plan r.form r.width values own fits holds below };
 
     fn add(&self, alloc: Global, plan: &mut Plan) -> Result<(), NoMemory> {
         let form = self.form.copy(alloc)?;
@@ -68,8 +68,8 @@ impl Relation for AtLeast {
     ghost sound = { λ r plan values _ fits holds.
         at_least_sound plan r.left r.right r.strict r.width values fits.0 fits.1 fits.2 fits.3 holds };
 
-    ghost complete = { λ r plan values is_plan fits holds below.
-        at_least_complete plan r.left r.right r.strict r.width values is_plan fits.0 fits.1 fits.2 fits.3 holds below };
+    ghost complete = { λ r plan values own fits holds below.
+        at_least_complete plan r.left r.right r.strict r.width values own fits.0 fits.1 fits.2 fits.3 holds below };
 
     fn add(&self, alloc: Global, plan: &mut Plan) -> Result<(), NoMemory> {
         let form = difference(alloc, self.left, self.right, self.strict)?;

@@ -2,11 +2,20 @@ ghost use Rattle.std.specs.Prelude.{◌≡◌, ◌+◌, ◌<◌, ◌≤◌, ◌+
 ghost use Rattle.vk_plan.specs.Plans.{IsPlan, extended};
 ghost use Rattle.vk_range.specs.Sets.{test_set, minus_set, set_row, bit_part, bit_parts, plus, minus};
 ghost use Rattle.vk_range.specs.Forms.{difference_form, less_one};
+ghost use Rattle.vk_range.specs.Selected.{ones};
 
 use std::alloc::Global;
 use vk_plan::{Form, Plan, Term, WireKind};
 use vk_residue::{NoMemory, Residue};
 use vk_seq::Seq;
+
+/// The greatest number of the width, 1 to 40.
+pub(crate) fn all_ones(width: u32) -> Residue
+    requires { width ≤ 40 }
+    ensures { result ≡ ones width }
+{
+    Residue::pow2(width).sub(Residue::ONE)
+}
 
 /// The wire as it is.
 pub(crate) fn plus_wire(wire: u32) -> Term

@@ -59,11 +59,15 @@ pub record AreHalves (plan : PlanValue) (case : LaneCase) (bit : Bool) (shown : 
   pub one_each : length halves ≡ length plan.kinds
   pub each : (wire : ℕ) → wire < length plan.kinds → WireReads plan case bit shown wire (slice_index halves wire)
 
--- what is shown of the lane is accepted for the bit, and these are the halves
+-- what is shown of the lane is accepted for the bit with these halves
 pub record IsAcceptedLane (plan : PlanValue) (case : LaneCase) (bit : Bool) (shown : List Shown) (halves : List ℕ) : Type 0 where
   pub counts : HasCounts plan case shown
   pub wires : AreHalves plan case bit shown halves
   pub rows : (row : ℕ) → row < length plan.rows → RowHolds plan case bit halves row
+
+-- what is shown of the lane is accepted for the bit
+abbrev pub IsAccepted : PlanValue → LaneCase → Bool → List Shown → Type 0
+IsAccepted plan case bit shown = (halves : List ℕ) × IsAcceptedLane plan case bit shown halves
 
 -- the wire is the first that reads nothing, and why
 pub record IsFirstWire (plan : PlanValue) (case : LaneCase) (bit : Bool) (shown : List Shown) (wire : ℕ) (fault : WireFault) : Type 0 where

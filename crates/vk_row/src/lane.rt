@@ -1,5 +1,5 @@
 // The check of what is shown of a lane.
-ghost use Rattle.std.specs.Prelude.{◌≡◌, ◌≢◌, ◌⊎◌, ◌<◌, ◌≤◌, [], length, slice_index, slice_index_or, IfOk, IfErr, Ok, Err, option_map};
+ghost use Rattle.std.specs.Prelude.{◌≡◌, ◌⊎◌, ◌<◌, [], length, slice_index, slice_index_or, IfOk, IfErr, Ok, Err};
 ghost use Rattle.vk_plan.specs.Plans.{IsPlan};
 ghost use Rattle.vk_plan.specs.declared.wire.WireKind.TheVariants.{Split};
 ghost use Rattle.vk_wire.specs.Reads.{read_of};
@@ -57,9 +57,11 @@ fn read_wires(
     ensures plan { IsPlan plan.now }
     ensures one_each { IfOk result (λ halves. length halves.items ≡ length plan.now.kinds) }
     ensures halves { IfOk result
-        (λ halves. halves_from case.now bit [] plan.now.kinds case.now.coms shown.now ≡ Ok halves.items) }
+        (λ halves. halves_from case.now bit [] plan.now.kinds case.now.coms shown.now
+        ≡ Ok halves.items) }
     ensures fault { IfErr result
-        (λ fault. (fault ≡ NoMemory) ⊎ (halves_from case.now bit [] plan.now.kinds case.now.coms shown.now ≡ Err fault)) }
+        (λ fault. (fault ≡ NoMemory)
+        ⊎ (halves_from case.now bit [] plan.now.kinds case.now.coms shown.now ≡ Err fault)) }
 {
     let wires = plan.wires();
     let mut halves = Vec::with_capacity(alloc, wires as usize)?;
@@ -81,7 +83,8 @@ fn read_wire(
     requires plan { IsPlan plan.now }
     requires counts { HasCounts plan.now case.now shown.now }
     requires wire { wire < length plan.now.kinds }
-    ensures { result ≡ at_wire wire (read_of (slice_index_or plan.now.kinds wire Split) (place_in case.now wire)
+    ensures { result ≡ at_wire wire (read_of
+        (slice_index_or plan.now.kinds wire Split) (place_in case.now wire)
         (slice_index_or case.now.coms wire no_digests) (slice_index_or shown.now wire nothing_shown) bit) }
 {
     let place = wire_place(&case.auction, case.lane, case.seats.as_slice(), wire);
@@ -113,7 +116,8 @@ fn is_row_met(plan: &Plan, case: &LaneCase, bit: bool, halves: &[Residue], row: 
     requires halves { length halves.now ≡ length plan.now.kinds }
     requires posted { length case.now.posted ≡ length plan.now.rows }
     requires row { row < length plan.now.rows }
-    ensures { result ≡ has_side (slice_index_or plan.now.rows row no_row) bit halves.now (slice_index case.now.posted row) }
+    ensures { result ≡ has_side (slice_index_or plan.now.rows row no_row) bit halves.now
+        (slice_index case.now.posted row) }
 {
     let posted = case.posted.as_slice()[row as usize];
     check(plan.row(row), bit, halves, posted)

@@ -1,11 +1,10 @@
 // What a shown wire reads.
-ghost use Rattle.std.specs.Prelude.{◌≡◌, ◌↔◌, ◌<◌, ◌%◌, Ok, Err, ℕ};
+ghost use Rattle.std.specs.Prelude.{◌≡◌, ◌↔◌, ◌<◌, ◌%◌, false, Ok, Err, ℕ};
 ghost use Rattle.vk_plan.specs.Plans.{HasWeight};
 ghost use Rattle.vk_residue.specs.Residue.{IsResidue};
 ghost use Rattle.vk_wire.specs.Reads.{Reads, HasFault, IsSet, read_of, entry_read, whole_read, set_read};
 ghost use Rattle.vk_plan.specs.declared.wire.WireKind.TheVariants.{Pair};
 ghost use Rattle.vk_wire.specs.declared.wire.Shown.TheVariants.{Whole};
-ghost use Rattle.std.specs.Prelude.{false};
 ghost use Rattle.vk_wire.specs.declared.wire.WireFault.{WireFault};
 ghost use Rattle.vk_wire.specs.declared.wire.WireFault.TheVariants.{NotASet};
 

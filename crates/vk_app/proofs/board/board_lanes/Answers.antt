@@ -1,4 +1,3 @@
-use Rattle.std.proofs.Common.{◌≡◌}
 use Rattle.std.proofs.lemmas.Result.{err_from_is_err_and}
 use Rattle.vk_app.specs.Pieces.{lanes_at}
 use Rattle.vk_app.specs.Reading.{board_lane_at}

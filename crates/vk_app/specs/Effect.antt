@@ -1,0 +1,61 @@
+-- What a command does, over told files, where nothing outside fails and memory is given.
+use Rattle.std.specs.Prelude.{ℕ, List, [], ◌++◌, codes, Option, Some, None}
+use Rattle.vk_io.specs.Files.{Files}
+use Rattle.vk_io.specs.Content.{content_of}
+use Rattle.vk_io.specs.declared.content.Content.{Content}
+use Rattle.vk_io.specs.declared.content.Content.TheVariants.{Missing, TooLong, Held}
+use Rattle.vk_app.specs.declared.extract.AttemptFiles.{AttemptFiles}
+use Rattle.vk_app.specs.declared.extract.ExtractFiles.{ExtractFiles}
+use Rattle.vk_app.specs.declared.extraction.Extraction.{Extraction}
+use Rattle.vk_app.specs.Words.{AttemptWords, ExtractWords, CommandWords, Extract, Seal, command_words}
+use Rattle.vk_app.specs.Texts.{line_feed}
+use Rattle.vk_app.specs.Extraction.{extraction_text}
+use Rattle.vk_app.specs.Extract.{extraction_of}
+use Rattle.vk_app.specs.Outcome.{Effect}
+use Rattle.vk_app.specs.Sealing.{seal_effect}
+
+-- the bytes of a file that is held and not too long
+abbrev pub held_bytes : Content → Option (List ℕ)
+held_bytes Missing = None
+held_bytes TooLong = None
+held_bytes (Held bytes) = Some bytes
+
+-- the most bytes that a file may have, 2^30
+abbrev pub largest_file : ℕ
+largest_file = 1073741824
+
+unfoldable pub file_at : Files → List ℕ → Option (List ℕ)
+file_at files name = held_bytes (content_of files name largest_file)
+
+unfoldable pub attempt_files : Files → AttemptWords → AttemptFiles
+attempt_files files names = record { challenge = file_at files names.challenge; reply = file_at files names.reply }
+
+unfoldable pub extract_files : Files → ExtractWords → ExtractFiles
+extract_files files names = record { board = file_at files names.board; first = attempt_files files names.first; second = attempt_files files names.second }
+
+-- the line that a command line of no form is answered with
+abbrev pub usage_text : List ℕ
+usage_text = codes "usage: vickrey seal|announce|submit|prove|answer|show|verify|extract|confront|report|sample|ceremony" ++ line_feed
+
+abbrev pub usage_effect : Effect
+usage_effect = record { status = 2; text = usage_text; writes = [] }
+
+abbrev pub not_accepted_effect : Effect
+not_accepted_effect = record { status = 1; text = codes "not accepted" ++ line_feed; writes = [] }
+
+-- of what was extracted, if anything was
+abbrev pub extraction_effect : Option Extraction → Effect
+extraction_effect None = not_accepted_effect
+extraction_effect (Some extraction) = record { status = 0; text = extraction_text extraction; writes = [] }
+
+abbrev pub extract_effect : Files → ExtractWords → Effect
+extract_effect files names = extraction_effect (extraction_of (extract_files files names))
+
+-- of a command, if the words are one
+abbrev pub command_effect : Files → Option CommandWords → Effect
+command_effect files None = usage_effect
+command_effect files (Some (Extract names)) = extract_effect files names
+command_effect files (Some (Seal order)) = seal_effect order
+
+abbrev pub effect_of : Files → List (List ℕ) → Effect
+effect_of files words = command_effect files (command_words words)

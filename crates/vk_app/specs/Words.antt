@@ -1,0 +1,131 @@
+-- The words of a command line.
+use Rattle.std.specs.Prelude.{ℕ, ◌+◌, ◌-◌, ◌^◌, ◌<◌, ◌≤◌, ◌==◌, ◌&&◌, nat_le, nat_lt, Bool, if◌then◌else◌, List, [], length, slice_index_or, codes, Option, Some, None, option_map}
+use Rattle.std.specs.Str.{bytes_eq}
+use Rattle.vk_lines.specs.Tokens.{decimal_of, hex_of}
+use Rattle.vk_app.specs.Pieces.{◌>>=◌}
+use Rattle.vk_app.specs.declared.words.SealOrder.{SealOrder}
+use Rattle.vk_app.specs.declared.words.Command.{Command}
+use Rattle.vk_app.specs.declared.words.Command.TheVariants as commands
+use Rattle.vk_app.specs.declared.words.AttemptNames.{AttemptNames}
+use Rattle.vk_app.specs.declared.words.ExtractNames.{ExtractNames}
+
+-- the names of the files of one reply and its challenge, as bytes
+pub record AttemptWords : Type 0 where
+  pub challenge : List ℕ
+  pub reply : List ℕ
+
+-- the names of the files of `extract`
+pub record ExtractWords : Type 0 where
+  pub board : List ℕ
+  pub first : AttemptWords
+  pub second : AttemptWords
+
+abbrev pub attempt_seen : AttemptNames → AttemptWords
+attempt_seen names = record { challenge = names.challenge.now; reply = names.reply.now }
+
+abbrev pub extract_seen : ExtractNames → ExtractWords
+extract_seen names = record { board = names.board.now; first = attempt_seen names.first; second = attempt_seen names.second }
+
+-- a name has 1 to 255 bytes
+abbrev pub is_name : List ℕ → Bool
+is_name word = nat_lt 0 (length word) && nat_le (length word) 255
+
+-- the name that stands at that place of the words
+abbrev pub name_at : List (List ℕ) → ℕ → Option (List ℕ)
+name_at words place = if is_name (slice_index_or words place []) then Some (slice_index_or words place []) else None
+
+-- the names of a challenge, at that place, and of the reply behind it
+unfoldable pub attempt_words : List (List ℕ) → ℕ → Option AttemptWords
+attempt_words words place = do
+  challenge ← name_at words place
+  reply ← name_at words (place + 1)
+  Some (record { challenge = challenge; reply = reply })
+
+-- the names, where the words are `extract` and five names
+unfoldable pub extract_words : List (List ℕ) → Option ExtractWords
+extract_words words =
+    if length words == 6 && bytes_eq (slice_index_or words 0 []) (codes "extract")
+    then (do
+      board ← name_at words 1
+      first ← attempt_words words 2
+      second ← attempt_words words 4
+      Some (record { board = board; first = first; second = second }))
+    else None
+
+-- ---- `seal`
+
+-- what `seal` is to make: the id of an auction, a seat, a bid, the width, the lanes and the seed, and the names of its files
+pub record SealWords : Type 0 where
+  pub auction : List ℕ
+  pub seat : ℕ
+  pub bid : ℕ
+  pub width : ℕ
+  pub lanes : ℕ
+  pub seed : List ℕ
+  pub secret : List ℕ
+  pub seal : List ℕ
+
+abbrev pub seal_seen : SealOrder → SealWords
+seal_seen order = record {
+  auction = order.auction;
+  seat = order.seat;
+  bid = order.bid;
+  width = order.width;
+  lanes = order.lanes;
+  seed = order.seed;
+  secret = order.secret.now;
+  seal = order.seal.now;
+}
+
+-- a number from 1 to `most`
+unfoldable pub count_of : ℕ → List ℕ → Option ℕ
+count_of most text = do
+  number ← decimal_of most text
+  if nat_lt number 1 then None else Some number
+
+-- the order, where the words are `seal`, its numbers and two different names
+unfoldable pub seal_words : List (List ℕ) → Option SealWords
+seal_words words =
+    if length words == 9 && bytes_eq (slice_index_or words 0 []) (codes "seal")
+    then (do
+      auction ← hex_of 16 (slice_index_or words 1 [])
+      seat ← count_of 65535 (slice_index_or words 2 [])
+      bid ← decimal_of (2 ^ 64 - 1) (slice_index_or words 3 [])
+      width ← count_of 40 (slice_index_or words 4 [])
+      lanes ← count_of 64 (slice_index_or words 5 [])
+      seed ← hex_of 32 (slice_index_or words 6 [])
+      secret ← name_at words 7
+      seal ← name_at words 8
+      if bytes_eq secret seal then None
+      else Some (record { auction = auction; seat = seat; bid = bid; width = width; lanes = lanes; seed = seed; secret = secret; seal = seal }))
+    else None
+
+-- what making a seal asks of its numbers
+pub record IsSealOrder (order : SealWords) : Type 0 where
+  pub seat : 0 < order.seat
+  pub width : (0 < order.width) × (order.width ≤ 40)
+  pub lanes : (0 < order.lanes) × (order.lanes ≤ 64)
+
+-- ---- the command
+
+pub data CommandWords : Type 0 where
+  Extract : ExtractWords → CommandWords
+  Seal : SealWords → CommandWords
+
+abbrev pub command_seen : Command → CommandWords
+command_seen (commands.Extract names) = Extract (extract_seen names)
+command_seen (commands.Seal order) = Seal (seal_seen order)
+
+-- the order of a `seal` is one of which it can be made
+abbrev pub IsCommand : Command → Type 0
+IsCommand (commands.Extract names) = Unit {0}
+IsCommand (commands.Seal order) = IsSealOrder (seal_seen order)
+
+-- one of two, the first where there is one
+abbrev pub or_else : Option CommandWords → Option CommandWords → Option CommandWords
+or_else (Some command) other = Some command
+or_else None other = other
+
+-- the command that the words are, if they are one
+abbrev pub command_words : List (List ℕ) → Option CommandWords
+command_words words = or_else (option_map Extract (extract_words words)) (option_map Seal (seal_words words))

@@ -1,0 +1,5 @@
+pub mod Sums
+pub mod Clash
+pub mod Refused
+pub mod Values
+pub mod Laws

@@ -1,0 +1,5 @@
+pub mod Outcomes
+pub mod OutcomeLaws
+pub mod VickreyPlans
+pub mod VickreyLaws
+pub mod VickreySteps

@@ -1,0 +1,262 @@
+-- What the code meets on its way: plans that are plans, and room for the next set.
+use Rattle.std.specs.Prelude.{ℕ, ◌+◌, ◌-◌, ◌*◌, ◌^◌, ◌<◌, ◌≤◌, ◌≡◌, ◌≢◌, ◌==◌, Bool, true, false, if◌then◌else◌, nat_lt, List, [], ◌∷◌, ◌++◌, All, length, take, replicate, slice_index}
+use Rattle.std.proofs.Common.{refl, sym, ap, ◌∙◌, subst, arith, inl, inr, length-append, mul-le-mul_left, mul-le-mul_right, append_assoc, lit≤}
+use Rattle.std.proofs.lemmas.List.{append-nil, length-replicate, take-append-le, take_at}
+use Rattle.std.proofs.lemmas.List.Elements.{All-cons, All-nil}
+use Rattle.std.proofs.lemmas.Bool.{cases_lt, eq-eqb, ne_eqb}
+use Rattle.std.proofs.lemmas.Bool.Decides.{eqb_tells}
+use Rattle.vk_plan.specs.declared.wire.WireKind.{WireKind}
+use Rattle.vk_plan.specs.declared.wire.WireKind.TheVariants.{Split}
+use Rattle.vk_plan.specs.declared.form.Term.{Term}
+use Rattle.vk_plan.specs.declared.form.Form.{Form}
+use Rattle.vk_plan.specs.Forms.{form_value, NamesBelow}
+use Rattle.vk_plan.specs.FormLaws.{form_value_within, NamesBelow-more}
+use Rattle.vk_plan.specs.Plans.{PlanValue, IsPlan, Holds, HasWeight, plan_of_inputs, extended}
+use Rattle.vk_plan.specs.PlanLaws.{IsPlan-inputs, IsPlan-extended}
+use Rattle.vk_range.specs.declared.selected.SelectedIs.{SelectedIs}
+use Rattle.vk_range.specs.Sets.{listed, IsOfWidth, test_set, set_row, bit_parts, plus, minus}
+use Rattle.vk_range.specs.Forms.{difference_form, IsRange}
+use Rattle.vk_range.specs.SetLaws.{length_listed, listed_more, All-listed}
+use Rattle.vk_range.specs.Laws.{difference_names}
+use Rattle.vk_range.specs.Series.{same_plan, series, series_values, IsSeries, length_series, series_more, series_room, next_range}
+use Rattle.vk_range.specs.Selected.{IsSelection, selected_wires, selected_rows, selected_values}
+use Rattle.vk_range.specs.Rooms.{selected_room}
+use Rattle.vk_vickrey.specs.Outcomes.{IsVickreyOutcome}
+use Rattle.vk_vickrey.specs.VickreyPlans.{IsVickreyCase, IsVickreyClaim, other, copies_kinds, copies_rows, bid_form, win_form, price_form, price_selection, vickrey_plan, after_bids, after_wins, after_prices, after_selection, honest_values}
+use Rattle.vk_vickrey.specs.VickreyLaws.{copies, with_bids, with_wins, with_prices, with_selection, selection, vickrey_sound, other_within, length_copies, bids_series, wins_series, prices_series}
+
+-- one copy more
+pub copies_more : (seals count : ℕ) → copies seals (count + 1) ≡ extended (copies seals count) (Split ∷ []) (difference_form count (length (copies seals count).kinds) false ∷ [])
+copies_more seals count =
+    let row : ℕ → Form = λ j. difference_form j (seals + j) false in
+    let at = ap (λ n. difference_form count n false) (length_copies seals count) in
+    let kinds = listed_more (λ _. Split) count in
+    let rows = listed_more row count in
+    let kinds' : replicate seals Split ++ copies_kinds (count + 1) ≡ replicate seals Split ++ copies_kinds count ++ Split ∷ [] =
+      ap (λ more. replicate seals Split ++ more) kinds ∙ sym (append_assoc (replicate seals Split) (copies_kinds count) (Split ∷ [])) in
+    same_plan seals (replicate seals Split ++ copies_kinds (count + 1)) (replicate seals Split ++ copies_kinds count ++ Split ∷ [])
+      (copies_rows seals (count + 1)) (copies_rows seals count ++ difference_form count (length (copies seals count).kinds) false ∷ [])
+      kinds' (rows ∙ ap (λ r. copies_rows seals count ++ r ∷ []) (sym at))
+
+pub copies_none : (seals : ℕ) → copies seals 0 ≡ plan_of_inputs seals
+copies_none seals = same_plan seals (replicate seals Split ++ []) (replicate seals Split) [] [] (append-nil (replicate seals Split)) refl
+
+-- each plan on the way is a plan
+pub IsPlan-copies : (seals count : ℕ) → seals ≤ 64 → count ≤ seals → IsPlan (copies seals count)
+IsPlan-copies seals count few some =
+    IsPlan-extended (plan_of_inputs seals) (copies_kinds count) (copies_rows seals count) (IsPlan-inputs seals (omega arith))
+      (All-listed HasWeight (λ _. Split) count (λ j h. tt))
+      (All-listed (λ row. NamesBelow (length (replicate seals Split) + length (copies_kinds count)) row.terms) (λ j. difference_form j (seals + j) false) count
+        (λ j h. difference_names (length (replicate seals Split) + length (copies_kinds count)) j (seals + j) false
+          (omega (arith, length-replicate seals Split)) (omega (arith, length-replicate seals Split, length_listed (λ _. Split) count))))
+      (omega (arith, length-replicate seals Split, length_listed (λ _. Split) count))
+      (omega (arith, length_listed (λ j. difference_form j (seals + j) false) count))
+
+products : (count width : ℕ) → count ≤ 64 → width ≤ 40 → count * width ≤ 2560
+products count width few small = omega (arith, mul-le-mul_right width few, mul-le-mul_left 64 small)
+
+-- a plan that is small, with sets at its end
+record IsSmall (plan : PlanValue) (wires rows : ℕ) : Type 0 where
+  is_plan : IsPlan plan
+  wires_within : length plan.kinds ≤ wires
+  rows_within : length plan.rows ≤ rows
+
+small_series : (plan : PlanValue) (form : ℕ → Form) (width base most count wires rows : ℕ) → IsSmall plan wires rows → IsSeries plan form width base most
+    → count ≤ most → most ≤ 64 → wires ≤ 16000000 → rows ≤ 16000000 → IsSmall (series plan form width count) (wires + 2560) (rows + 64)
+small_series plan form width base most count wires rows small is_series few many room_wires room_rows =
+    let product = products count width (omega arith) is_series.most in
+    let fewer : IsSeries plan form width base count = record { names = λ i h. is_series.names i (omega arith); base_within = is_series.base_within; some = is_series.some; most = is_series.most } in
+    let rows' = length_listed (λ i. set_row (form i) (length plan.kinds + i * width) width) count in
+    record {
+      is_plan = series_room plan form width base count small.is_plan fewer (omega (arith, small.wires_within)) (omega (arith, small.rows_within));
+      wires_within = omega (arith, length_series plan form width count, small.wires_within);
+      rows_within = omega (arith, length-append plan.rows (listed (λ i. set_row (form i) (length plan.kinds + i * width) width) count), small.rows_within);
+    }
+
+small_copies : (seals : ℕ) → seals ≤ 64 → IsSmall (copies seals seals) 128 64
+small_copies seals few = record {
+  is_plan = IsPlan-copies seals seals few (omega arith);
+  wires_within = omega (arith, length_copies seals seals);
+  rows_within = omega (arith, length_listed (λ j. difference_form j (seals + j) false) seals) }
+
+small_bids : (seals width count : ℕ) → seals ≤ 64 → 1 ≤ width → width ≤ 40 → count ≤ seals → IsSmall (series (copies seals seals) (bid_form seals) width count) 2688 128
+small_bids seals width count few some most le =
+    small_series (copies seals seals) (bid_form seals) width (seals + seals) seals count 128 64 (small_copies seals few) (bids_series seals width some most) le few (lit≤ tt) (lit≤ tt)
+
+small_wins : (seals width winner count : ℕ) → seals ≤ 64 → winner < seals → 1 ≤ width → width ≤ 40 → count ≤ seals - 1
+    → IsSmall (series (with_bids seals width) (win_form seals winner) width count) 5248 192
+small_wins seals width winner count few w some most le =
+    small_series (with_bids seals width) (win_form seals winner) width (seals + seals) (seals - 1) count 2688 128 (small_bids seals width seals few some most (omega arith))
+      (wins_series seals width winner w some most) le (omega arith) (lit≤ tt) (lit≤ tt)
+
+small_prices : (seals width winner price count : ℕ) → seals ≤ 64 → winner < seals → 1 ≤ width → width ≤ 40 → count ≤ seals - 1
+    → IsSmall (series (with_wins seals width winner) (price_form seals winner price) width count) 7808 256
+small_prices seals width winner price count few w some most le =
+    small_series (with_wins seals width winner) (price_form seals winner price) width (seals + seals) (seals - 1) count 5248 192
+      (small_wins seals width winner (seals - 1) few w some most (omega arith)) (prices_series seals width winner price w some most) le (omega arith) (lit≤ tt) (lit≤ tt)
+
+-- room for the next set of each part
+next_room : (plan now : PlanValue) (form : ℕ → Form) (width count : ℕ) → now ≡ series plan form width count → IsPlan (series plan form width (count + 1))
+    → IsPlan (extended now (test_set width) (set_row (form count) (length now.kinds) width ∷ []))
+next_room plan now form width count same is_plan =
+    subst (λ p. IsPlan (extended p (test_set width) (set_row (form count) (length p.kinds) width ∷ []))) (sym same)
+      (subst IsPlan (series_more plan form width count) is_plan)
+
+next_fits : (plan now : PlanValue) (form : ℕ → Form) (width base most count : ℕ) → now ≡ series plan form width count → IsSeries plan form width base most → count < most
+    → IsRange (form count) width now
+next_fits plan now form width base most count same is_series h = subst (IsRange (form count) width) (sym same) (next_range plan form width base most count h is_series)
+
+module _ (seals width position price : ℕ) (case : IsVickreyCase seals width position price) where
+  is_winner : position - 1 < seals
+  is_winner = omega (arith, case.some_position, case.within_seals)
+
+  pub bids_room : (now : PlanValue) (count : ℕ) → now ≡ series (copies seals seals) (bid_form seals) width count → count < seals
+      → IsPlan (extended now (test_set width) (set_row (bid_form seals count) (length now.kinds) width ∷ []))
+  bids_room now count same h =
+      next_room (copies seals seals) now (bid_form seals) width count same (small_bids seals width (count + 1) case.most_seals case.some_width case.most_width (omega arith)).is_plan
+
+  pub bids_fits : (now : PlanValue) (count : ℕ) → now ≡ series (copies seals seals) (bid_form seals) width count → count < seals → IsRange (bid_form seals count) width now
+  bids_fits now count same h = next_fits (copies seals seals) now (bid_form seals) width (seals + seals) seals count same (bids_series seals width case.some_width case.most_width) h
+
+  pub wins_room : (now : PlanValue) (count : ℕ) → now ≡ series (with_bids seals width) (win_form seals (position - 1)) width count → count < seals - 1
+      → IsPlan (extended now (test_set width) (set_row (win_form seals (position - 1) count) (length now.kinds) width ∷ []))
+  wins_room now count same h =
+      next_room (with_bids seals width) now (win_form seals (position - 1)) width count same
+        (small_wins seals width (position - 1) (count + 1) case.most_seals is_winner case.some_width case.most_width (omega arith)).is_plan
+
+  pub wins_long : (now : PlanValue) (count : ℕ) → now ≡ series (with_bids seals width) (win_form seals (position - 1)) width count → seals + seals ≤ length now.kinds
+  wins_long now count same =
+      let series' = wins_series seals width (position - 1) is_winner case.some_width case.most_width in
+      omega (arith, ap (λ p. length p.kinds) same, length_series (with_bids seals width) (win_form seals (position - 1)) width count, series'.base_within)
+
+  pub prices_room : (now : PlanValue) (count : ℕ) → now ≡ series (with_wins seals width (position - 1)) (price_form seals (position - 1) price) width count → count < seals - 1
+      → IsPlan (extended now (test_set width) (set_row (price_form seals (position - 1) price count) (length now.kinds) width ∷ []))
+  prices_room now count same h =
+      next_room (with_wins seals width (position - 1)) now (price_form seals (position - 1) price) width count same
+        (small_prices seals width (position - 1) price (count + 1) case.most_seals is_winner case.some_width case.most_width (omega arith)).is_plan
+
+  pub prices_fits : (now : PlanValue) (count : ℕ) → now ≡ series (with_wins seals width (position - 1)) (price_form seals (position - 1) price) width count → count < seals - 1
+      → IsRange (price_form seals (position - 1) price count) width now
+  prices_fits now count same h =
+      next_fits (with_wins seals width (position - 1)) now (price_form seals (position - 1) price) width (seals + seals) (seals - 1) count same
+        (prices_series seals width (position - 1) price is_winner case.some_width case.most_width) h
+
+-- the values begin with the bids
+pub honest_begins : (seals width position price : ℕ) (bids : List ℕ) → length bids ≡ seals → take seals (honest_values seals width position price bids) ≡ bids
+unfolding honest_values
+honest_begins seals width position price bids same =
+    let winner = position - 1 in
+    let v0 = bids ++ bids in
+    let s1 = series_values v0 (bid_form seals) width seals in
+    let v1 = v0 ++ s1 in
+    let s2 = series_values v1 (win_form seals winner) width (seals - 1) in
+    let v2 = v1 ++ s2 in
+    let s3 = series_values v2 (price_form seals winner price) width (seals - 1) in
+    let v3 = v2 ++ s3 in
+    let relation = price_selection seals width winner price in
+    let e0 : take seals v0 ≡ bids = take_at bids bids seals same in
+    let l0 : seals ≤ length v0 = omega (arith, length-append bids bids) in
+    let l1 : seals ≤ length v1 = omega (arith, length-append v0 s1) in
+    let l2 : seals ≤ length v2 = omega (arith, length-append v1 s2) in
+    let l3 : seals ≤ length v3 = omega (arith, length-append v2 s3) in
+    let e3 : take seals v3 ≡ bids = take-append-le seals v2 s3 l2 ∙ (take-append-le seals v1 s2 l1 ∙ (take-append-le seals v0 s1 l0 ∙ e0)) in
+    elim (eqb_tells seals 1) [
+      inl one ↦ ap (λ b. take seals (if b then v3 else v3 ++ selected_values relation v3)) one.0 ∙ e3
+    | inr many ↦ ap (λ b. take seals (if b then v3 else v3 ++ selected_values relation v3)) many.0 ∙ (take-append-le seals v3 (selected_values relation v3) l3 ∙ e3) ]
+
+-- the two laws, at the plan's own number of inputs
+pub circuit_begins : (seals width position price : ℕ) (bids : List ℕ) → IsVickreyClaim seals width position price bids
+    → take (vickrey_plan seals width position price).inputs (honest_values seals width position price bids) ≡ bids
+unfolding vickrey_plan
+circuit_begins seals width position price bids claim = honest_begins seals width position price bids claim.one_each
+
+pub circuit_sound : (seals width position price : ℕ) (values : List ℕ) → IsVickreyCase seals width position price
+    → Holds (vickrey_plan seals width position price) values → IsVickreyClaim seals width position price (take (vickrey_plan seals width position price).inputs values)
+unfolding vickrey_plan
+circuit_sound seals width position price values case holds = vickrey_sound seals width position price values case holds
+
+-- copies
+pub copies_room : (seals count : ℕ) (now : PlanValue) → seals ≤ 64 → now ≡ copies seals count → count < seals
+    → IsPlan (extended now (Split ∷ []) (difference_form count (length now.kinds) false ∷ []))
+copies_room seals count now few same h =
+    subst (λ p. IsPlan (extended p (Split ∷ []) (difference_form count (length p.kinds) false ∷ []))) (sym same)
+      (subst IsPlan (copies_more seals count) (IsPlan-copies seals (count + 1) few (omega arith)))
+
+pub copies_added : (seals count : ℕ) (now next : PlanValue) → now ≡ copies seals count
+    → next ≡ extended now (Split ∷ []) (difference_form count (length now.kinds) false ∷ []) → next ≡ copies seals (count + 1)
+copies_added seals count now next same added =
+    added ∙ ap (λ p. extended p (Split ∷ []) (difference_form count (length p.kinds) false ∷ [])) same ∙ sym (copies_more seals count)
+
+-- a range over as many values as there are
+pub range_over : (form : Form) (width : ℕ) (values : List ℕ) → NamesBelow (length values) form.terms → 1 ≤ width → width ≤ 40
+    → (plan : PlanValue) × (IsRange form width plan × (length plan.kinds ≡ length values))
+range_over form width values names some most =
+    let same = length-replicate (length values) Split in
+    (plan_of_inputs (length values), (record { names = subst (λ n. NamesBelow n form.terms) (sym same) names; some = some; most = most }, same))
+
+pub still_of_width : (form : Form) (width : ℕ) (values more now : List ℕ) → now ≡ values ++ more → NamesBelow (length values) form.terms
+    → IsOfWidth width (form_value form values) → IsOfWidth width (form_value form now)
+still_of_width form width values more now same names below =
+    subst (IsOfWidth width) (sym (ap (form_value form) same ∙ form_value_within form values more names)) below
+
+pub longer_names : (form : Form) (few : ℕ) (values more now : List ℕ) → now ≡ values ++ more → few ≤ length values → NamesBelow few form.terms → NamesBelow (length now) form.terms
+longer_names form few values more now same enough names =
+    NamesBelow-more few (length now) form.terms (omega (arith, ap length same, length-append values more)) names
+
+module _ (seals width position price : ℕ) (case : IsVickreyCase seals width position price) where
+  pub bid_names : (j : ℕ) → j < seals → NamesBelow (seals + seals) (bid_form seals j).terms
+  bid_names j h = (bids_series seals width case.some_width case.most_width).names j h
+
+  pub win_names : (k : ℕ) → k < seals - 1 → NamesBelow (seals + seals) (win_form seals (position - 1) k).terms
+  win_names k h = (wins_series seals width (position - 1) (is_winner seals width position price case) case.some_width case.most_width).names k h
+
+  pub price_names : (k : ℕ) → k < seals - 1 → NamesBelow (seals + seals) (price_form seals (position - 1) price k).terms
+  price_names k h = (prices_series seals width (position - 1) price (is_winner seals width position price case) case.some_width case.most_width).names k h
+
+  pub wins_fits : (wires count : ℕ) → seals + seals ≤ wires → count < seals - 1
+      → (seals + (position - 1) < wires) × (seals + other (position - 1) count < wires) × (1 ≤ width) × (width ≤ 40)
+  wins_fits wires count enough h =
+      let w = is_winner seals width position price case in
+      (omega arith, omega (arith, other_within seals (position - 1) count w h), case.some_width, case.most_width)
+
+  -- the selection
+  pub prices_plan : IsPlan (with_prices seals width (position - 1) price)
+  prices_plan = (small_prices seals width (position - 1) price (seals - 1) case.most_seals (is_winner seals width position price case) case.some_width case.most_width (omega arith)).is_plan
+
+  pub selection_fits : seals ≢ 1 → IsSelection (price_selection seals width (position - 1) price) (length (with_prices seals width (position - 1) price).kinds)
+  selection_fits many =
+      selection seals width (position - 1) price (omega (arith, case.some_seals, many)) case.most_seals (is_winner seals width position price case) case.some_width case.most_width
+
+  pub selection_room : seals ≢ 1
+      → IsPlan (extended (with_prices seals width (position - 1) price) (selected_wires (price_selection seals width (position - 1) price))
+          (selected_rows (price_selection seals width (position - 1) price) (length (with_prices seals width (position - 1) price).kinds)))
+  selection_room many =
+      let relation = price_selection seals width (position - 1) price in
+      let small = small_prices seals width (position - 1) price (seals - 1) case.most_seals (is_winner seals width position price case) case.some_width case.most_width (omega arith) in
+      let long = length_listed (λ k. seals + other (position - 1) k) (seals - 1) in
+      let few : length relation.wires ≤ 64 = omega (arith, case.most_seals) in
+      selected_room (with_prices seals width (position - 1) price) relation prices_plan (selection_fits many)
+        (omega (arith, products (length relation.wires) width few case.most_width, small.wires_within)) (omega (arith, small.rows_within))
+
+  -- the values on the way, and at the end
+  values_before : (bids v0 v1 v2 v3 : List ℕ) → v0 ≡ bids ++ bids → v1 ≡ after_bids seals width v0
+      → v2 ≡ after_wins seals width (position - 1) v1 → v3 ≡ after_prices seals width (position - 1) price v2
+      → v3 ≡ after_prices seals width (position - 1) price (after_wins seals width (position - 1) (after_bids seals width (bids ++ bids)))
+  values_before bids v0 v1 v2 v3 e0 e1 e2 e3 =
+      e3 ∙ ap (after_prices seals width (position - 1) price) (e2 ∙ ap (after_wins seals width (position - 1)) (e1 ∙ ap (after_bids seals width) e0))
+
+  pub honest_alone : (bids v0 v1 v2 v3 : List ℕ) → seals ≡ 1 → v0 ≡ bids ++ bids → v1 ≡ after_bids seals width v0
+      → v2 ≡ after_wins seals width (position - 1) v1 → v3 ≡ after_prices seals width (position - 1) price v2
+      → v3 ≡ honest_values seals width position price bids
+  unfolding honest_values
+  honest_alone bids v0 v1 v2 v3 one e0 e1 e2 e3 =
+      sym (ap (λ b. if b then v3 else v3 ++ selected_values (price_selection seals width (position - 1) price) v3) (eq-eqb seals 1 one))
+        ∙ ap (after_selection seals width (position - 1) price) (values_before bids v0 v1 v2 v3 e0 e1 e2 e3)
+
+  pub honest_many : (bids v0 v1 v2 v3 v4 : List ℕ) → seals ≢ 1 → v0 ≡ bids ++ bids → v1 ≡ after_bids seals width v0
+      → v2 ≡ after_wins seals width (position - 1) v1 → v3 ≡ after_prices seals width (position - 1) price v2
+      → v4 ≡ v3 ++ selected_values (price_selection seals width (position - 1) price) v3 → v4 ≡ honest_values seals width position price bids
+  unfolding honest_values
+  honest_many bids v0 v1 v2 v3 v4 many e0 e1 e2 e3 e4 =
+      e4 ∙ (sym (ap (λ b. if b then v3 else v3 ++ selected_values (price_selection seals width (position - 1) price) v3) (ne_eqb seals 1 many))
+        ∙ ap (after_selection seals width (position - 1) price) (values_before bids v0 v1 v2 v3 e0 e1 e2 e3))
