@@ -1,6 +1,7 @@
 -- Lower-case hexadecimal: writing byte by byte, and both directions between bytes and their text.
 use Rattle.std.proofs.Common.{◌≡◌, ℕ, suc, ◌+◌, ◌-◌, ◌*◌, ◌/◌, ◌%◌, ◌<◌, ◌≤◌, nat_lt, Bool, true, false, ◌&&◌, if◌then◌else◌, inl, inr, List, [], ◌∷◌, ◌++◌, length, take, get_or, slice_index, Option, Some, None, Result, Ok, Err, refl, ap, sym, ◌∙◌, arith, rules}
 use Rattle.std.specs.List.{list_all}
+use Rattle.std.specs.Option.{IfSome}
 use Rattle.std.specs.Result.{result_ok}
 use Rattle.std.proofs.lemmas.Bool.{and_parts, cases_lt}
 use Rattle.std.proofs.lemmas.Bool.Decides.{nat_tests}
@@ -123,3 +124,8 @@ ReadsHex-hex_of count text result value bytes = (
   λ some. hex_of-some count text bytes (sym value ∙ some),
   λ facts. value ∙ ap (hex_of count) facts.2 ∙ hex_of-hex_text count bytes facts.0 facts.1,
 )
+
+-- what is read is so many bytes
+pub read_bytes : (count : ℕ) (text : List ℕ) (result : Option (List ℕ)) → ReadsHex count text result → IfSome result (λ bytes. (length bytes ≡ count) × IsBytes bytes)
+read_bytes count text (Some bytes) exact = let is = (exact bytes).0 refl in (is.0, is.1)
+read_bytes count text None exact = tt

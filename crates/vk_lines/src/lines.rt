@@ -1,5 +1,6 @@
 ghost use Rattle.std.specs.Prelude.{◌≡◌, ◌≢◌, ◌+◌, ◌-◌, ◌^◌, ◌<◌, ◌≤◌, [], length, take, drop, min, Ok, option_map, ok_or, IfSome, IfOk, OnErr, IsErrOf};
 ghost use Rattle.std.specs.FinMap as map;
+ghost use Rattle.hex.specs.Hex.{IsBytes};
 ghost use Rattle.vk_io.specs.Faults.{Rose};
 ghost use Rattle.vk_io.specs.Files.{Files, bytes_of, part_of};
 ghost use Rattle.vk_lines.specs.Tokens.{word_of, number_line, id_line, digests_line};
@@ -203,6 +204,7 @@ impl Lines {
     pub fn read_id<S: Shelf>(&mut self, shelf: &mut S, word: &[u8]) -> Result<[u8; 16], ReadErr>
         ensures told { IfSome (S.held shelf.old) (λ files.
             Reads (λ x. x) result (rest_of self.new files) (line_by (id_line word.now) (rest_of self.old files))) }
+        ensures bytes { IfOk result (λ id. (length id ≡ 16) × IsBytes id) }
         ensures held { S.held shelf.new ≡ S.held shelf.old }
         ensures later { S.Shelf.faults shelf.old ≤ S.Shelf.faults shelf.new }
         ensures failed { IsErrOf result ReadErr.Failed → Rose (S.Shelf.faults shelf.old) (S.Shelf.faults shelf.new) }

@@ -2,7 +2,7 @@
 
 ghost use Rattle.std.specs.Prelude.{◌≡◌, ◌↔◌, ◌++◌, List, decimal, length, drop, slice_get, slice_index, option_map, MatchOption, IfSome, OnErr, OnOk, ℕ, ◌≤◌, ◌<◌, true, false};
 ghost use Rattle.std.specs.List.{list_all};
-ghost use Rattle.hex.specs.Hex.{lower_digits};
+ghost use Rattle.hex.specs.Hex.{IsBytes, lower_digits};
 ghost use Rattle.vk_lines.specs.Tokens.{fields_of, word_of, tagged, number_line, id_line, digests_line, decimal_of, hex_of, hex_text, ReadsDecimal, ReadsHex, is_lower_digit, next_number, starts_canonical};
 
 use vk_residue::NoMemory;
@@ -125,7 +125,8 @@ pub fn read_number(text: &[u8], word: &[u8], least: u64, most: u64) -> Option<u6
 
 /// The id of a line of this word and 16 bytes in hexadecimal.
 pub fn read_id(text: &[u8], word: &[u8]) -> Option<[u8; 16]>
-    ensures { result ≡ id_line word.now text.now }
+    ensures value { result ≡ id_line word.now text.now }
+    ensures bytes { IfSome result (λ id. (length id ≡ 16) × IsBytes id) }
 {
     read_tag(text, word, 2)?;
     let id = read_hex16(field(text, 1)?);

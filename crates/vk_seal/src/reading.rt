@@ -1,5 +1,7 @@
-ghost use Rattle.std.specs.Prelude.{◌≡◌, ◌≤◌, ◌-◌, ◌^◌, ℕ, IfSome, IfOk, IsErrOf};
+ghost use Rattle.std.specs.Prelude.{length, ◌≡◌, ◌<◌, ◌≤◌, ◌-◌, ◌^◌, ℕ, IfSome, IfOk, IsErrOf};
+ghost use Rattle.std.specs.List.{All};
 ghost use Rattle.vk_io.specs.Faults.{Rose};
+ghost use Rattle.vk_seal.specs.Values.{AreBytes, IsCom, IsSeal, IsSecret, IsXTape};
 ghost use Rattle.vk_lines.specs.Forms.{many_at};
 ghost use Rattle.vk_lines.specs.Lines.{Reads, line_by, rest_of};
 ghost use Rattle.vk_lines.specs.declared.errors.ReadErr.TheVariants.{Failed};
@@ -24,6 +26,7 @@ const MOST_BID: u64 = (1 << 40) - 1;
 pub fn read_seal<S: Shelf>(alloc: Global, shelf: &mut S, lines: &mut Lines) -> Result<Seal, ReadErr>
     ensures told { IfSome (S.held shelf.old) (λ files.
         Reads (λ x. x) result (rest_of lines.new files) (seal_at (rest_of lines.old files))) }
+    ensures right { IfOk result IsSeal }
     ensures held { S.held shelf.new ≡ S.held shelf.old }
     ensures later { S.Shelf.faults shelf.old ≤ S.Shelf.faults shelf.new }
     ensures failed { IsErrOf result ReadErr.Failed → Rose (S.Shelf.faults shelf.old) (S.Shelf.faults shelf.new) }
@@ -34,11 +37,25 @@ pub fn read_seal<S: Shelf>(alloc: Global, shelf: &mut S, lines: &mut Lines) -> R
     let count = lines.read_number(shelf, b"lanes", 1, 64)?;
     let lanes = read_coms(alloc, shelf, lines, count)?;
     lines.read_end(shelf)?;
-    Ok(Seal {
-        auction,
+    Ok(seal_from(&auction, seat, lanes))
+}
+
+/// A seal of what was read.
+fn seal_from(auction: &[u8; 16], seat: u64, lanes: Seq<WireCom>) -> Seal
+    requires id { AreBytes 16 auction.now }
+    requires some_seat { 1 ≤ seat }
+    requires last_seat { seat ≤ 65535 }
+    requires some_lane { 1 ≤ length lanes }
+    requires few_lanes { length lanes ≤ 64 }
+    requires digests { All IsCom lanes }
+    ensures value { result ≡ record { auction = auction.now; seat = seat; lanes = lanes } }
+    ensures right { IsSeal result }
+{
+    Seal {
+        auction: *auction,
         seat: seat as u16,
         lanes,
-    })
+    }
 }
 
 /// Reads the lines of a seal's lanes.
@@ -50,6 +67,8 @@ fn read_coms<S: Shelf>(
 ) -> Result<Seq<WireCom>, ReadErr>
     ensures told { IfSome (S.held shelf.old) (λ files.
         Reads (λ x. x) result (rest_of lines.new files) (many_at count (λ _. line_by com_line) (rest_of lines.old files))) }
+    ensures number { IfOk result (λ coms. length coms ≡ count) }
+    ensures digests { IfOk result (All IsCom) }
     ensures held { S.held shelf.new ≡ S.held shelf.old }
     ensures later { S.Shelf.faults shelf.old ≤ S.Shelf.faults shelf.new }
     ensures failed { IsErrOf result ReadErr.Failed → Rose (S.Shelf.faults shelf.old) (S.Shelf.faults shelf.new) }
@@ -67,6 +86,7 @@ fn read_coms<S: Shelf>(
 fn read_com<S: Shelf>(shelf: &mut S, lines: &mut Lines) -> Result<WireCom, ReadErr>
     ensures told { IfSome (S.held shelf.old) (λ files.
         Reads (λ x. x) result (rest_of lines.new files) (line_by com_line (rest_of lines.old files))) }
+    ensures digests { IfOk result IsCom }
     ensures held { S.held shelf.new ≡ S.held shelf.old }
     ensures later { S.Shelf.faults shelf.old ≤ S.Shelf.faults shelf.new }
     ensures failed { IsErrOf result ReadErr.Failed → Rose (S.Shelf.faults shelf.old) (S.Shelf.faults shelf.new) }
@@ -78,7 +98,8 @@ fn read_com<S: Shelf>(shelf: &mut S, lines: &mut Lines) -> Result<WireCom, ReadE
 
 /// The commitments of a seal's line.
 fn com_of(text: &[u8]) -> Option<WireCom>
-    ensures { result ≡ com_line text.now }
+    ensures value { result ≡ com_line text.now }
+    ensures digests { IfSome result IsCom }
 {
     let (first, second) = read_digests(text, b"x")?;
     Some(WireCom { first, second })
@@ -94,6 +115,7 @@ pub fn read_secret<S: Shelf>(
 ) -> Result<Secret, ReadErr>
     ensures told { IfSome (S.held shelf.old) (λ files.
         Reads (λ x. x) result (rest_of lines.new files) (secret_at (rest_of lines.old files))) }
+    ensures right { IfOk result IsSecret }
     ensures held { S.held shelf.new ≡ S.held shelf.old }
     ensures later { S.Shelf.faults shelf.old ≤ S.Shelf.faults shelf.new }
     ensures failed { IsErrOf result ReadErr.Failed → Rose (S.Shelf.faults shelf.old) (S.Shelf.faults shelf.new) }
@@ -105,12 +127,27 @@ pub fn read_secret<S: Shelf>(
     let count = lines.read_number(shelf, b"lanes", 1, 64)?;
     let lanes = read_tapes(alloc, shelf, lines, count)?;
     lines.read_end(shelf)?;
-    Ok(Secret {
-        auction,
+    Ok(secret_from(&auction, seat, bid, lanes))
+}
+
+/// A secret of what was read.
+fn secret_from(auction: &[u8; 16], seat: u64, bid: u64, lanes: Seq<XTape>) -> Secret
+    requires id { AreBytes 16 auction.now }
+    requires some_seat { 1 ≤ seat }
+    requires last_seat { seat ≤ 65535 }
+    requires small_bid { bid < 2 ^ 40 }
+    requires some_lane { 1 ≤ length lanes }
+    requires few_lanes { length lanes ≤ 64 }
+    requires tapes { All IsXTape lanes }
+    ensures value { result ≡ record { auction = auction.now; seat = seat; bid = bid; lanes = lanes } }
+    ensures right { IsSecret result }
+{
+    Secret {
+        auction: *auction,
         seat: seat as u16,
         bid,
         lanes,
-    })
+    }
 }
 
 /// Reads the lines of a secret's lanes.
@@ -122,6 +159,8 @@ fn read_tapes<S: Shelf>(
 ) -> Result<Seq<XTape>, ReadErr>
     ensures told { IfSome (S.held shelf.old) (λ files.
         Reads (λ x. x) result (rest_of lines.new files) (many_at count (λ _. line_by tape_line) (rest_of lines.old files))) }
+    ensures number { IfOk result (λ tapes. length tapes ≡ count) }
+    ensures right { IfOk result (All IsXTape) }
     ensures held { S.held shelf.new ≡ S.held shelf.old }
     ensures later { S.Shelf.faults shelf.old ≤ S.Shelf.faults shelf.new }
     ensures failed { IsErrOf result ReadErr.Failed → Rose (S.Shelf.faults shelf.old) (S.Shelf.faults shelf.new) }
@@ -139,6 +178,7 @@ fn read_tapes<S: Shelf>(
 fn read_tape<S: Shelf>(shelf: &mut S, lines: &mut Lines) -> Result<XTape, ReadErr>
     ensures told { IfSome (S.held shelf.old) (λ files.
         Reads (λ x. x) result (rest_of lines.new files) (line_by tape_line (rest_of lines.old files))) }
+    ensures right { IfOk result IsXTape }
     ensures held { S.held shelf.new ≡ S.held shelf.old }
     ensures later { S.Shelf.faults shelf.old ≤ S.Shelf.faults shelf.new }
     ensures failed { IsErrOf result ReadErr.Failed → Rose (S.Shelf.faults shelf.old) (S.Shelf.faults shelf.new) }
@@ -150,7 +190,8 @@ fn read_tape<S: Shelf>(shelf: &mut S, lines: &mut Lines) -> Result<XTape, ReadEr
 
 /// The tape of a secret's line.
 fn tape_of(text: &[u8]) -> Option<XTape>
-    ensures { result ≡ tape_line text.now }
+    ensures value { result ≡ tape_line text.now }
+    ensures right { IfSome result IsXTape }
 {
     read_tag(text, b"x", 4)?;
     let mask = residue_of(field(text, 1)?)?;

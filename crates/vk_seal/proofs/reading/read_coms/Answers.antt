@@ -1,4 +1,7 @@
-use Rattle.std.proofs.Common.{◌-◌, ◌+◌, arith, rules, ◌∙◌}
+use Rattle.std.proofs.lemmas.Grind.{common_steps}
+use Rattle.std.proofs.lemmas.List.Elements.{All-push}
+use Rattle.vk_seal.specs.Values.{IsCom}
+use Rattle.std.proofs.Common.{length-append, ◌-◌, ◌+◌, arith, rules, ◌∙◌}
 use Rattle.vk_lines.specs.Forms.{many_at}
 use Rattle.vk_lines.specs.Lines.{line_by, rest_of}
 use Rattle.vk_lines.proofs.Loops.{many_turn, many_stop, many_done}
@@ -18,6 +21,8 @@ loop-lane-preserved g c = record {
       (λ files. many_at c.args.count (λ _. line_by com_line) (rest_of c.args.lines.now files))
       c.loop-lane.coms _ c.in_ok-com.com (c.args.count - c.loop-lane.lane) (c.args.count - (c.loop-lane.lane + 1)) (λ files. rest_of c.loop-lane.lines files) (λ files. rest_of c.read_com.new.lines files)
       c.loop-lane.invariant.held (omega arith) c.in_ok-push.ensures.pushed c.loop-lane.invariant.told c.in_ok-com.ensures.told;
+  count = grind (arith, common_steps, length-append);
+  right = rw c.in_ok-push.ensures.pushed (All-push IsCom c.loop-lane.coms c.in_ok-com.com c.loop-lane.invariant.right c.in_ok-com.ensures.digests);
   held = c.in_ok-com.ensures.held ∙ c.loop-lane.invariant.held;
   later = omega (arith, c.in_ok-com.ensures.later, c.loop-lane.invariant.later);
 }

@@ -1,4 +1,6 @@
-use Rattle.std.proofs.Common.{◌≡◌, ◌-◌, ◌≤◌, [], IfSome}
+use Rattle.std.specs.List.{All}
+use Rattle.vk_seal.specs.Values.{IsXTape}
+use Rattle.std.proofs.Common.{length, ◌≡◌, ◌-◌, ◌≤◌, [], IfSome}
 use Rattle.vk_lines.specs.Forms.{many_onto}
 use Rattle.vk_lines.specs.Lines.{line_by, rest_of}
 use Rattle.vk_seal.specs.Reading.{tape_line}
@@ -9,6 +11,8 @@ abbrev pub invariant-loop-lane : goal.invariant-loop-lane
 invariant-loop-lane g l = record {
   told : IfSome (g.S.Shelf.held l.fn.shelf) (λ files.
       many_onto l.tapes (l.count - l.lane) (λ _. line_by tape_line) (rest_of l.lines files) ≡ many_onto [] l.count (λ _. line_by tape_line) (rest_of l.fn.lines files));
+  count : length l.tapes ≡ l.lane;
+  right : All IsXTape l.tapes;
   held : g.S.Shelf.held l.shelf ≡ g.S.Shelf.held l.fn.shelf;
   later : g.S.Shelf.faults l.fn.shelf ≤ g.S.Shelf.faults l.shelf;
 }
