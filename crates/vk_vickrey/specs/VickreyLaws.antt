@@ -190,7 +190,7 @@ rows_are seals width winner price =
       ∙ ap (λ n. rows_from seals width winner price (length (copies seals seals).kinds) (length (with_bids seals width).kinds) n) (sym (length_wins seals width winner))
 
 -- the listed plan is that of the relations one after another
-plan_alone : (seals width position price : ℕ) → (seals == 1) ≡ true → vickrey_plan seals width position price ≡ with_prices seals width (position - 1) price
+pub plan_alone : (seals width position price : ℕ) → (seals == 1) ≡ true → vickrey_plan seals width position price ≡ with_prices seals width (position - 1) price
 unfolding vickrey_plan
 plan_alone seals width position price one =
     let winner = position - 1 in
@@ -203,7 +203,7 @@ plan_alone seals width position price one =
       (ap (λ b. rows_from seals width winner price (2 * seals) (2 * seals + seals * width) (2 * seals + seals * width + (seals - 1) * width) ++ (if b then [] else selected_rows relation selectors)) one
         ∙ (append-nil (rows_from seals width winner price (2 * seals) (2 * seals + seals * width) (2 * seals + seals * width + (seals - 1) * width)) ∙ rows_are seals width winner price))
 
-plan_many : (seals width position price : ℕ) → (seals == 1) ≡ false → vickrey_plan seals width position price ≡ with_selection seals width (position - 1) price
+pub plan_many : (seals width position price : ℕ) → (seals == 1) ≡ false → vickrey_plan seals width position price ≡ with_selection seals width (position - 1) price
 unfolding vickrey_plan
 plan_many seals width position price many =
     let winner = position - 1 in
@@ -389,16 +389,16 @@ vickrey_sound seals width position price values case holds =
            (λ _. selection_held seals width winner price values selected.0 case.most_width w case.within_width enough shown selected.1)) ]
 
 -- values that begin with the bids and their copies
-record BeginsWith (bids values : List ℕ) : Type 0 where
-  enough : length bids + length bids ≤ length values
-  copied : (j : ℕ) → j < length bids → slice_index values (length bids + j) ≡ slice_index bids j
+pub record BeginsWith (bids values : List ℕ) : Type 0 where
+  pub enough : length bids + length bids ≤ length values
+  pub copied : (j : ℕ) → j < length bids → slice_index values (length bids + j) ≡ slice_index bids j
 
-begins_alone : (bids : List ℕ) → BeginsWith bids (bids ++ bids)
+pub begins_alone : (bids : List ℕ) → BeginsWith bids (bids ++ bids)
 begins_alone bids = record {
   enough = omega (arith, length-append bids bids);
   copied = λ j h. get_or-append-add bids bids j 0 }
 
-begins_longer : (bids values more : List ℕ) → BeginsWith bids values → BeginsWith bids (values ++ more)
+pub begins_longer : (bids values more : List ℕ) → BeginsWith bids values → BeginsWith bids (values ++ more)
 begins_longer bids values more begins = record {
   enough = omega (arith, begins.enough, length-append values more);
   copied = λ j h. get_or_append_left values more 0 (length bids + j) (omega (arith, begins.enough)) ∙ begins.copied j h }
@@ -430,12 +430,12 @@ module _ (seals width position price : ℕ) (bids values : List ℕ) (case : IsV
   bid_of : (j : ℕ) → j < seals → slice_index values (seals + j) ≡ slice_index bids j
   bid_of j h = subst (λ n. slice_index values (n + j) ≡ slice_index bids j) claim.one_each (begins.copied j (omega (arith, claim.one_each)))
 
-  bids_fit : (j : ℕ) → j < seals → IsOfWidth width (form_value (bid_form seals j) values)
+  pub bids_fit : (j : ℕ) → j < seals → IsOfWidth width (form_value (bid_form seals j) values)
   bids_fit j h =
       let small = subst (λ b. b < 2 ^ width) (sym (bid_of j h)) (bid_small j h) in
       subst (IsOfWidth width) (sym (bid_value seals j values (omega (arith, width_small width case.most_width)))) small
 
-  wins_fit : (k : ℕ) → k < seals - 1 → IsOfWidth width (form_value (win_form seals (position - 1) k) values)
+  pub wins_fit : (k : ℕ) → k < seals - 1 → IsOfWidth width (form_value (win_form seals (position - 1) k) values)
   wins_fit k h =
       let winner = position - 1 in
       let w : winner < seals = omega (arith, case.some_position, case.within_seals) in
@@ -464,13 +464,13 @@ module _ (seals width position price : ℕ) (bids values : List ℕ) (case : IsV
       let at = position_of bids place (omega (arith, claim.one_each)) in
       omega (arith, claim.outcome.others_within_price (omega (arith, claim.one_each)) (place + 1) at (λ e. other_not winner k (omega arith)), bid_at_place bids place, bid_of place inside)
 
-  prices_fit : (k : ℕ) → k < seals - 1 → IsOfWidth width (form_value (price_form seals (position - 1) price k) values)
+  pub prices_fit : (k : ℕ) → k < seals - 1 → IsOfWidth width (form_value (price_form seals (position - 1) price k) values)
   prices_fit k h =
       subst (IsOfWidth width) (sym (price_value seals (position - 1) price k values))
         (within_fits (slice_index values (seals + other (position - 1) k)) price (2 ^ width) case.within_width (width_small width case.most_width) (within_price k h))
 
   -- a place of another that holds the price may be selected
-  may_be_selected : 2 ≤ seals → (p : ℕ) × IsSelected (price_selection seals width (position - 1) price) values p
+  pub may_be_selected : 2 ≤ seals → (p : ℕ) × IsSelected (price_selection seals width (position - 1) price) values p
   may_be_selected many =
       let winner = position - 1 in
       let w : winner < seals = omega (arith, case.some_position, case.within_seals) in

@@ -1,10 +1,12 @@
 -- What the code meets on its way: plans that are plans, and room for the next set.
-use Rattle.std.specs.Prelude.{ℕ, ◌+◌, ◌-◌, ◌*◌, ◌^◌, ◌<◌, ◌≤◌, ◌≡◌, ◌≢◌, ◌==◌, Bool, true, false, if◌then◌else◌, nat_lt, List, [], ◌∷◌, ◌++◌, All, length, take, replicate, slice_index}
+use Rattle.std.specs.Prelude.{Option, Some, None, IsNone, IfSome, unwrap_or, ℕ, ◌+◌, ◌-◌, ◌*◌, ◌^◌, ◌<◌, ◌≤◌, ◌≡◌, ◌≢◌, ◌==◌, Bool, true, false, if◌then◌else◌, nat_lt, List, [], ◌∷◌, ◌++◌, All, length, take, replicate, slice_index}
 use Rattle.std.proofs.Common.{refl, sym, ap, ◌∙◌, subst, arith, inl, inr, length-append, mul-le-mul_left, mul-le-mul_right, append_assoc, lit≤}
 use Rattle.std.proofs.lemmas.List.{append-nil, length-replicate, take-append-le, take_at}
 use Rattle.std.proofs.lemmas.List.Elements.{All-cons, All-nil}
 use Rattle.std.proofs.lemmas.Bool.{cases_lt, eq-eqb, ne_eqb}
 use Rattle.std.proofs.lemmas.Bool.Decides.{eqb_tells}
+use Rattle.std.proofs.Math.Pow.{pow_mono}
+use Rattle.vk_residue.specs.Residue.{modulus}
 use Rattle.vk_plan.specs.declared.wire.WireKind.{WireKind}
 use Rattle.vk_plan.specs.declared.wire.WireKind.TheVariants.{Split}
 use Rattle.vk_plan.specs.declared.form.Term.{Term}
@@ -23,7 +25,7 @@ use Rattle.vk_range.specs.Selected.{IsSelection, selected_wires, selected_rows, 
 use Rattle.vk_range.specs.Rooms.{selected_room}
 use Rattle.vk_vickrey.specs.Outcomes.{IsVickreyOutcome}
 use Rattle.vk_vickrey.specs.VickreyPlans.{IsVickreyCase, IsVickreyClaim, other, copies_kinds, copies_rows, bid_form, win_form, price_form, price_selection, vickrey_plan, after_bids, after_wins, after_prices, after_selection, honest_values}
-use Rattle.vk_vickrey.specs.VickreyLaws.{copies, with_bids, with_wins, with_prices, with_selection, selection, vickrey_sound, other_within, length_copies, bids_series, wins_series, prices_series}
+use Rattle.vk_vickrey.specs.VickreyLaws.{BeginsWith, begins_alone, begins_longer, copies, with_bids, with_wins, with_prices, with_selection, selection, vickrey_sound, other_within, length_copies, bids_series, wins_series, prices_series}
 
 -- one copy more
 pub copies_more : (seals count : ℕ) → copies seals (count + 1) ≡ extended (copies seals count) (Split ∷ []) (difference_form count (length (copies seals count).kinds) false ∷ [])
@@ -260,3 +262,37 @@ module _ (seals width position price : ℕ) (case : IsVickreyCase seals width po
   honest_many bids v0 v1 v2 v3 v4 many e0 e1 e2 e3 e4 =
       e4 ∙ (sym (ap (λ b. if b then v3 else v3 ++ selected_values (price_selection seals width (position - 1) price) v3) (ne_eqb seals 1 many))
         ∙ ap (after_selection seals width (position - 1) price) (values_before bids v0 v1 v2 v3 e0 e1 e2 e3))
+
+  pub wins_over : (values : List ℕ) (count : ℕ) → seals + seals ≤ length values → count < seals - 1
+      → (plan : PlanValue) × (((seals + (position - 1) < length plan.kinds) × (seals + other (position - 1) count < length plan.kinds) × (1 ≤ width) × (width ≤ 40))
+          × (length plan.kinds ≡ length values))
+  wins_over values count enough h =
+      let same = length-replicate (length values) Split in
+      (plan_of_inputs (length values), (wins_fits (length (replicate (length values) Split)) count (omega arith) h, same))
+
+  pub selection_over : (values : List ℕ) → seals ≢ 1 → seals + seals ≤ length values
+      → (plan : PlanValue) × (IsSelection (price_selection seals width (position - 1) price) (length plan.kinds) × (length plan.kinds ≡ length values))
+  selection_over values many enough =
+      let same = length-replicate (length values) Split in
+      let w = is_winner seals width position price case in
+      let long = length_listed (λ k. seals + other (position - 1) k) (seals - 1) in
+      (plan_of_inputs (length values), (record {
+        names = All-listed (λ wire. wire < length (replicate (length values) Split)) (λ k. seals + other (position - 1) k) (seals - 1)
+          (λ k h. omega (arith, other_within seals (position - 1) k w h));
+        one = omega (arith, case.some_seals, many); most = omega (arith, case.most_seals); some_width = case.some_width; most_width = case.most_width }, same))
+
+-- values that begin with the bids and their copies
+pub begins_here : (bids values : List ℕ) → values ≡ bids ++ bids → BeginsWith bids values
+begins_here bids values same = subst (BeginsWith bids) (sym same) (begins_alone bids)
+
+pub begins_next : (bids values more next : List ℕ) → next ≡ values ++ more → BeginsWith bids values → BeginsWith bids next
+begins_next bids values more next same begins = subst (BeginsWith bids) (sym same) (begins_longer bids values more begins)
+
+pub twice : (none once both bids : List ℕ) → none ≡ [] → once ≡ none ++ bids → both ≡ once ++ bids → both ≡ bids ++ bids
+twice none once both bids e0 e1 e2 = e2 ∙ ap (λ v. v ++ bids) (e1 ∙ ap (λ v. v ++ bids) e0)
+
+-- a price of at most 40 bits is a residue
+pub price_is_residue : (made : Option ℕ) (width price : ℕ) → width ≤ 40 → price < 2 ^ width → (IsNone made → modulus ≤ price) → IfSome made (λ r. r ≡ price)
+    → unwrap_or made 0 ≡ price
+price_is_residue None width price most small refused value = absurd (omega (arith, refused refl, pow_mono {i = width} {j = 40} most))
+price_is_residue (Some r) width price most small refused value = value

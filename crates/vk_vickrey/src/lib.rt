@@ -2,7 +2,7 @@
 #![tactic(auto)]
 
 mod outcomes;
-
+mod plan;
 
 pub use outcomes::{VickreyOutcome, outcome};
-
+pub use plan::VickreyPlan;
