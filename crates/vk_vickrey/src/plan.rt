@@ -3,18 +3,16 @@ ghost use Rattle.vk_plan.specs.Plans.{PlanValue, Holds};
 ghost use Rattle.vk_range.specs.Sets.{IsOfWidth};
 ghost use Rattle.vk_range.specs.Series.{series_values};
 ghost use Rattle.vk_plan.specs.Forms.{form_value};
-ghost use Rattle.vk_vickrey.specs.VickreyPlans.{IsVickreyCase, IsVickreyClaim, vickrey_plan, honest_values, bid_form, win_form, price_form, price_selection, other};
+ghost use Rattle.vk_vickrey.specs.VickreyPlans.{IsVickreyCase, IsVickreyClaim, vickrey_plan, wire_count, row_count, honest_values, bid_form, win_form, price_form, price_selection, other};
 ghost use Rattle.vk_vickrey.specs.VickreyLaws.{copies, with_bids, with_wins, with_prices, vickrey_complete};
 ghost use Rattle.vk_vickrey.specs.VickreySteps.{circuit_begins, circuit_sound};
 
+use crate::outcomes::VickreyOutcome;
 use std::alloc::Global;
-
 use vk_plan::{Circuit, Form, Plan, Relation, Term};
 use vk_range::{AtLeast, Copied, InRange, SelectedIs};
 use vk_residue::{NoMemory, Residue};
 use vk_seq::Seq;
-
-use crate::outcomes::VickreyOutcome;
 
 /// The plan that shows, of hidden bids, that a published position wins at a published price.
 #[derive(Clone, Copy, Debug)]
@@ -73,7 +71,13 @@ impl Circuit for VickreyPlan {
         self.seals
     }
 
-    fn plan(&self, alloc: Global) -> Result<Plan, NoMemory> {
+    /// Its wires are `2n + (n - 1) + t(4n - 3)`, its rows `5n - 2`, or 2 where there is one bid.
+    fn plan(&self, alloc: Global) -> Result<Plan, NoMemory>
+        ensures plan { IfOk result
+            (λ plan. plan ≡ vickrey_plan self.now.seals self.now.width self.now.position self.now.price) }
+        ensures wires { IfOk result (λ plan. length plan.kinds ≡ wire_count self.now.seals self.now.width) }
+        ensures rows { IfOk result (λ plan. length plan.rows ≡ row_count self.now.seals) }
+    {
         let mut plan = Plan::new(alloc, self.seals)?;
         self.add_copies(alloc, &mut plan)?;
         self.add_bids(alloc, &mut plan)?;
@@ -153,10 +157,11 @@ impl VickreyPlan {
     fn win(&self, k: u32) -> AtLeast
         requires { k < self.now.seals - 1 }
         ensures { result ≡ record {
-            left = self.now.seals + (self.now.position - 1);
-            right = self.now.seals + other (self.now.position - 1) k;
-            strict = nat_lt k (self.now.position - 1);
-            width = self.now.width } }
+          left = self.now.seals + (self.now.position - 1);
+          right = self.now.seals + other (self.now.position - 1) k;
+          strict = nat_lt k (self.now.position - 1);
+          width = self.now.width;
+        } }
     {
         AtLeast {
             left: self.seals + self.winner(),

@@ -19,4 +19,4 @@ pub loop-j-preserved : goal.loop-j-preserved
 loop-j-preserved c =
     let s = c.args.self.now in
     series_added (copies s.seals s.seals) c.loop-j.plan c.add.new.plan (bid_form s.seals) s.width c.loop-j.j c.loop-j.invariant
-      (rw c.in_ok-range.ensures at c.in_ok-add.ensures.added)
+    (rw c.in_ok-range.ensures at c.in_ok-add.ensures.added)

@@ -19,4 +19,4 @@ pub loop-k-preserved : goal.loop-k-preserved
 loop-k-preserved c =
     let s = c.args.self.now in
     series_added (with_wins s.seals s.width (s.position - 1)) c.loop-k.plan c.add.new.plan (price_form s.seals (s.position - 1) s.price) s.width c.loop-k.k c.loop-k.invariant
-      (rw c.in_ok-range.ensures at c.in_ok-add.ensures.added)
+    (rw c.in_ok-range.ensures at c.in_ok-add.ensures.added)

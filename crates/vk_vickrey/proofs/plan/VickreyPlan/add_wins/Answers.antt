@@ -20,4 +20,4 @@ pub loop-k-preserved : goal.loop-k-preserved
 loop-k-preserved c =
     let s = c.args.self.now in
     series_added (with_bids s.seals s.width) c.loop-k.plan c.add.new.plan (win_form s.seals (s.position - 1)) s.width c.loop-k.k c.loop-k.invariant
-      (rw c.win-at_least.ensures at c.in_ok-add.ensures.added)
+    (rw c.win-at_least.ensures at c.in_ok-add.ensures.added)

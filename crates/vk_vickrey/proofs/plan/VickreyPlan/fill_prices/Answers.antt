@@ -14,8 +14,8 @@ fill-requires-clause-fits c =
     let names = price_names s.seals s.width s.position s.price s.in_limits c.loop-k.k (omega arith) in
     let more = series_values values (price_form s.seals (s.position - 1) s.price) s.width c.loop-k.k in
     rw c.in_ok-range.ensures (range_over (form c.loop-k.k) s.width c.loop-k.values.items
-      (longer_names (form c.loop-k.k) (s.seals + s.seals) values more c.loop-k.values.items c.loop-k.invariant c.requires.enough names)
-      s.in_limits.some_width s.in_limits.most_width)
+    (longer_names (form c.loop-k.k) (s.seals + s.seals) values more c.loop-k.values.items c.loop-k.invariant c.requires.enough names)
+    s.in_limits.some_width s.in_limits.most_width)
 
 pub fill-requires-clause-true_of : goal.fill-requires-clause-true_of
 fill-requires-clause-true_of c =
@@ -25,7 +25,7 @@ fill-requires-clause-true_of c =
     let names = price_names s.seals s.width s.position s.price s.in_limits c.loop-k.k (omega arith) in
     let more = series_values values (price_form s.seals (s.position - 1) s.price) s.width c.loop-k.k in
     rw c.in_ok-range.ensures (still_of_width (form c.loop-k.k) s.width values more c.loop-k.values.items c.loop-k.invariant
-      (NamesBelow-more (s.seals + s.seals) (length values) (form c.loop-k.k).terms c.requires.enough names) (c.requires.each c.loop-k.k (omega arith)))
+    (NamesBelow-more (s.seals + s.seals) (length values) (form c.loop-k.k).terms c.requires.enough names) (c.requires.each c.loop-k.k (omega arith)))
 
 pub loop-k-preserved : goal.loop-k-preserved
 loop-k-preserved c =
@@ -34,5 +34,5 @@ loop-k-preserved c =
     let form = price_form s.seals (s.position - 1) s.price in
     let names = price_names s.seals s.width s.position s.price s.in_limits c.loop-k.k (omega arith) in
     series_pushed values c.loop-k.values.items c.fill.new.values.items (price_form s.seals (s.position - 1) s.price) s.width c.loop-k.k
-      (NamesBelow-more (s.seals + s.seals) (length values) (form c.loop-k.k).terms c.requires.enough names) c.loop-k.invariant
-      (rw c.in_ok-range.ensures at c.in_ok-fill.ensures.filled)
+    (NamesBelow-more (s.seals + s.seals) (length values) (form c.loop-k.k).terms c.requires.enough names) c.loop-k.invariant
+    (rw c.in_ok-range.ensures at c.in_ok-fill.ensures.filled)

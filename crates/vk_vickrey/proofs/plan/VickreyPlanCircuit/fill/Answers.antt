@@ -91,4 +91,4 @@ returns c =
     let v3 = c.fill_prices.new.values.items in
     let e0 : v0 ≡ bids ++ bids = twice c.new-values.result.items c.extend_from_slice.new.self.items v0 bids c.new-values.ensures.items c.in_ok-extend_from_slice.ensures.items c.in_ok-extend_from_slice-2.ensures.items in
     honest_many s.seals s.width s.position s.price s.in_limits bids v0 v1 v2 v3 c.fill.new.values.items c.if-self-eq1.false e0 c.in_ok-fill_bids.ensures c.in_ok-fill_wins.ensures c.in_ok-fill_prices.ensures
-      (rw c.in_ok-selection.ensures at c.in_ok-fill.ensures.filled)
+    (rw c.in_ok-selection.ensures at c.in_ok-fill.ensures.filled)
