@@ -1,14 +1,14 @@
 -- Test sets one after another, each with the row that makes a form of the wires before them its sum.
-use Rattle.std.specs.Prelude.{ℕ, ◌+◌, ◌*◌, ◌<◌, ◌≤◌, ◌≡◌, List, [], ◌∷◌, ◌++◌, All, length, take, slice_index}
-use Rattle.std.proofs.Common.{refl, sym, ap, ◌∙◌, subst, arith, inl, inr, zero, suc, add-one, length-append, append_assoc, mul-le-mul_right, suc-mul}
-use Rattle.std.proofs.lemmas.List.{append-nil, take_all, take_at, take-take}
+use Rattle.std.specs.Prelude.{ℕ, ◌+◌, ◌*◌, ◌<◌, ◌≤◌, ◌≡◌, List, [], ◌∷◌, ◌++◌, All, length, take}
+use Rattle.std.proofs.Common.{sym, ap, ◌∙◌, subst, arith, inl, inr, zero, suc, add-one, length-append, append_assoc, mul-le-mul_right, suc-mul}
+use Rattle.std.proofs.lemmas.List.{append-nil, take_all, take-take}
 use Rattle.std.proofs.lemmas.Bool.{cases_lt}
 use Rattle.vk_plan.specs.declared.wire.WireKind.{WireKind}
 use Rattle.vk_plan.specs.declared.wire.WireKind.TheVariants.{Pair}
 use Rattle.vk_plan.specs.declared.form.Form.{Form}
 use Rattle.vk_plan.specs.Forms.{form_value, NamesBelow}
 use Rattle.vk_plan.specs.FormLaws.{form_value-take, form_value_within, NamesBelow-more}
-use Rattle.vk_plan.specs.Plans.{PlanValue, NamesOwnWires, IsPlan, Holds, HasWeight, extended, shortened}
+use Rattle.vk_plan.specs.Plans.{PlanValue, NamesOwnWires, IsPlan, Holds, HasWeight, extended}
 use Rattle.vk_plan.specs.PlanLaws.{Holds-before, names-extended, IsPlan-extended}
 use Rattle.vk_range.specs.Sets.{listed, joined, IsOfWidth, test_set, set_row, bit_parts}
 use Rattle.vk_range.specs.Forms.{IsRange}
@@ -51,16 +51,16 @@ length_series plan form width count = length-append plan.kinds (series_kinds wid
 
 pub series_more : (plan : PlanValue) (form : ℕ → Form) (width count : ℕ)
     → series plan form width (count + 1)
-      ≡ extended (series plan form width count) (test_set width) (set_row (form count) (length (series plan form width count).kinds) width ∷ [])
+    ≡ extended (series plan form width count) (test_set width) (set_row (form count) (length (series plan form width count).kinds) width ∷ [])
 series_more plan form width count =
     let start = length plan.kinds in
     let at = ap (λ n. set_row (form count) n width) (length_series plan form width count) in
     same_plan plan.inputs (plan.kinds ++ series_kinds width (count + 1)) (plan.kinds ++ series_kinds width count ++ test_set width)
-      (plan.rows ++ series_rows form start width (count + 1))
-      (plan.rows ++ series_rows form start width count ++ set_row (form count) (length (series plan form width count).kinds) width ∷ [])
-      (ap (λ more. plan.kinds ++ more) (joined_more (λ _. test_set width) count) ∙ sym (append_assoc plan.kinds (series_kinds width count) (test_set width)))
-      (ap (λ more. plan.rows ++ more) (listed_more (λ i. set_row (form i) (start + i * width) width) count)
-        ∙ cc (append_assoc plan.rows (series_rows form start width count) (set_row (form count) (start + count * width) width ∷ []), at))
+    (plan.rows ++ series_rows form start width (count + 1))
+    (plan.rows ++ series_rows form start width count ++ set_row (form count) (length (series plan form width count).kinds) width ∷ [])
+    (ap (λ more. plan.kinds ++ more) (joined_more (λ _. test_set width) count) ∙ sym (append_assoc plan.kinds (series_kinds width count) (test_set width)))
+    (ap (λ more. plan.rows ++ more) (listed_more (λ i. set_row (form i) (start + i * width) width) count)
+    ∙ cc (append_assoc plan.rows (series_rows form start width count) (set_row (form count) (start + count * width) width ∷ []), at))
 
 -- the appended rows name wires of the plan with them
 series_names : (plan : PlanValue) (form : ℕ → Form) (width base count : ℕ) → IsSeries plan form width base count
@@ -68,11 +68,11 @@ series_names : (plan : PlanValue) (form : ℕ → Form) (width base count : ℕ)
 series_names plan form width base count is_series =
     let start = length plan.kinds in
     All-listed (λ row. NamesBelow (start + length (series_kinds width count)) row.terms) (λ i. set_row (form i) (start + i * width) width) count
-      (λ i h.
-        let steps : suc i * width ≤ count * width = mul-le-mul_right width h in
-        NamesBelow-more (start + i * width + width) (start + length (series_kinds width count)) (set_row (form i) (start + i * width) width).terms
-          (omega (arith, length_kinds width count, suc-mul i width))
-          (set_row_names (form i) (start + i * width) width (NamesBelow-more base (start + i * width) (form i).terms (omega (arith, is_series.base_within)) (is_series.names i h))))
+    (λ i h.
+    let steps : suc i * width ≤ count * width = mul-le-mul_right width h in
+    NamesBelow-more (start + i * width + width) (start + length (series_kinds width count)) (set_row (form i) (start + i * width) width).terms
+    (omega (arith, length_kinds width count, suc-mul i width))
+    (set_row_names (form i) (start + i * width) width (NamesBelow-more base (start + i * width) (form i).terms (omega (arith, is_series.base_within)) (is_series.names i h))))
 
 pub names_series : (plan : PlanValue) (form : ℕ → Form) (width base count : ℕ) → NamesOwnWires plan → IsSeries plan form width base count
     → NamesOwnWires (series plan form width count)
@@ -84,10 +84,10 @@ pub series_room : (plan : PlanValue) (form : ℕ → Form) (width base count : �
     → length plan.kinds + count * width ≤ 16777216 → length plan.rows + count ≤ 16777216 → IsPlan (series plan form width count)
 series_room plan form width base count is_plan is_series wires rows =
     IsPlan-extended plan (series_kinds width count) (series_rows form (length plan.kinds) width count) is_plan
-      (All-joined HasWeight (λ _. test_set width) count (λ i h. test_set_weights width (omega (arith, is_series.most))))
-      (series_names plan form width base count is_series)
-      (omega (arith, length_kinds width count))
-      (omega (arith, length_listed (λ i. set_row (form i) (length plan.kinds + i * width) width) count))
+    (All-joined HasWeight (λ _. test_set width) count (λ i h. test_set_weights width (omega (arith, is_series.most))))
+    (series_names plan form width base count is_series)
+    (omega (arith, length_kinds width count))
+    (omega (arith, length_listed (λ i. set_row (form i) (length plan.kinds + i * width) width) count))
 
 IsSeries-fewer : (plan : PlanValue) (form : ℕ → Form) (width base few many : ℕ) → few ≤ many → IsSeries plan form width base many → IsSeries plan form width base few
 IsSeries-fewer plan form width base few many le is_series =
@@ -98,8 +98,10 @@ pub next_range : (plan : PlanValue) (form : ℕ → Form) (width base count next
     → IsRange (form next) width (series plan form width next)
 next_range plan form width base count next h is_series = record {
   names = NamesBelow-more base (length (series plan form width next).kinds) (form next).terms
-    (omega (arith, length_series plan form width next, is_series.base_within)) (is_series.names next h);
-  some = is_series.some; most = is_series.most }
+      (omega (arith, length_series plan form width next, is_series.base_within)) (is_series.names next h);
+  some = is_series.some;
+  most = is_series.most;
+}
 
 -- what holds for the longer plan: the values before hold, and each form is of the width
 pub series_sound : (plan : PlanValue) (form : ℕ → Form) (width base count : ℕ) (values : List ℕ) → NamesOwnWires plan → IsSeries plan form width base count
@@ -125,12 +127,14 @@ series_sound plan form width base (suc count) values own is_series holds =
     let own_names = NamesBelow-more base start (form count).terms is_series.base_within (is_series.names count (omega arith)) in
     let same = form_value-take (form count) start (take m values) (omega (arith, before.one_each)) own_names in
     let here' : IsOfWidth width (form_value (form count) (take start values)) =
-      subst (λ v. IsOfWidth width (form_value (form count) v)) front (subst (IsOfWidth width) (sym same) here) in
-    (subst (Holds plan) front earlier.0,
-     λ i h. elim (cases_lt i count) [
-       inl q ↦ subst (λ v. IsOfWidth width (form_value (form i) v)) front (earlier.1 i q)
-     | inr q ↦ (let this : i ≡ count = omega arith in
-                subst (λ k. IsOfWidth width (form_value (form k) (take start values))) (sym this) here') ])
+    subst (λ v. IsOfWidth width (form_value (form count) v)) front (subst (IsOfWidth width) (sym same) here) in (
+      subst (Holds plan) front earlier.0,
+      λ i h. elim (cases_lt i count) [
+        | inl q ↦ subst (λ v. IsOfWidth width (form_value (form i) v)) front (earlier.1 i q)
+        | inr q ↦ (let this : i ≡ count = omega arith in
+            subst (λ k. IsOfWidth width (form_value (form k) (take start values))) (sym this) here')
+      ],
+    )
 
 -- values that hold, and the sets' own values behind them
 pub series_complete : (plan : PlanValue) (form : ℕ → Form) (width base count : ℕ) (values : List ℕ) → NamesOwnWires plan → IsSeries plan form width base count
@@ -150,9 +154,9 @@ series_complete plan form width base (suc count) values own is_series holds each
     let longer = in_range_complete before_plan (form count) width (values ++ parts) names range before (subst (IsOfWidth width) (sym same) (each count (omega arith))) in
     let longer' = subst (λ x. Holds (extended before_plan (test_set width) (set_row (form count) (length before_plan.kinds) width ∷ [])) (values ++ parts ++ bit_parts x width)) same longer in
     subst (λ p. Holds p (values ++ (parts ++ bit_parts (form_value (form count) values) width)))
-      (sym (series_more plan form width count) ∙ ap (series plan form width) (add-one count))
-      (subst (Holds (extended before_plan (test_set width) (set_row (form count) (length before_plan.kinds) width ∷ [])))
-        (append_assoc values parts (bit_parts (form_value (form count) values) width)) longer')
+    (sym (series_more plan form width count) ∙ ap (series plan form width) (add-one count))
+    (subst (Holds (extended before_plan (test_set width) (set_row (form count) (length before_plan.kinds) width ∷ [])))
+    (append_assoc values parts (bit_parts (form_value (form count) values) width)) longer')
 
 -- what the code meets: the plan after the next set, and the values after its parts
 pub series_added : (plan now next : PlanValue) (form : ℕ → Form) (width count : ℕ) → now ≡ series plan form width count
@@ -178,8 +182,9 @@ series_sound_within plan form width base count values own is_series enough holds
     let m = length (series plan form width count).kinds in
     let long = length_series plan form width count in
     let front = take-take start m values (omega arith) in
-    let found = series_sound plan form width base count (take m values) own is_series holds in
-    (subst (Holds plan) front found.0,
-     λ i h.
-       let names = NamesBelow-more base start (form i).terms is_series.base_within (is_series.names i h) in
-       subst (IsOfWidth width) (ap (form_value (form i)) front ∙ form_value-take (form i) start values (omega arith) names) (found.1 i h))
+    let found = series_sound plan form width base count (take m values) own is_series holds in (
+      subst (Holds plan) front found.0,
+      λ i h.
+          let names = NamesBelow-more base start (form i).terms is_series.base_within (is_series.names i h) in
+          subst (IsOfWidth width) (ap (form_value (form i)) front ∙ form_value-take (form i) start values (omega arith) names) (found.1 i h),
+    )

@@ -1,17 +1,19 @@
 -- One list of bids has one outcome, and one pass finds it.
-use Rattle.std.specs.Prelude.{ℕ, ◌+◌, ◌-◌, ◌<◌, ◌≤◌, ◌≡◌, ◌≢◌, ◌⊎◌, List, length, slice_index}
+use Rattle.std.specs.Prelude.{ℕ, ◌+◌, ◌-◌, ◌<◌, ◌≤◌, ◌≡◌, ◌≢◌, List, length, slice_index}
 use Rattle.std.proofs.Common.{refl, sym, ap, ◌∙◌, subst, arith, inl, inr}
-use Rattle.std.proofs.lemmas.Bool.{cases_lt, cases_order, cases_eq}
-use Rattle.vk_vickrey.specs.Outcomes.{bid_at, IsPosition, IsBidElsewhere, IsVickreyOutcome}
+use Rattle.std.proofs.lemmas.Bool.{cases_lt}
+use Rattle.vk_vickrey.specs.Outcomes.{bid_at, IsVickreyOutcome}
 
 -- two outcomes of the same bids are one
 same_winner : (bids : List ℕ) (winner price winner' price' : ℕ) → IsVickreyOutcome bids winner price → IsVickreyOutcome bids winner' price' → winner ≡ winner'
 same_winner bids winner price winner' price' a b =
     elim (cases_lt winner winner') [
-      inl lower ↦ absurd (omega (arith, b.first_of_the_greatest winner a.is_position lower, a.none_bids_more winner' b.is_position))
-    | inr upper ↦ elim (cases_lt winner' winner) [
-        inl lower ↦ absurd (omega (arith, a.first_of_the_greatest winner' b.is_position lower, b.none_bids_more winner a.is_position))
-      | inr same ↦ omega arith ] ]
+      | inl lower ↦ absurd (omega (arith, b.first_of_the_greatest winner a.is_position lower, a.none_bids_more winner' b.is_position))
+      | inr upper ↦ elim (cases_lt winner' winner) [
+        | inl lower ↦ absurd (omega (arith, a.first_of_the_greatest winner' b.is_position lower, b.none_bids_more winner a.is_position))
+        | inr same ↦ omega arith
+      ]
+    ]
 
 price_within : (bids : List ℕ) (winner price price' : ℕ) → 2 ≤ length bids → IsVickreyOutcome bids winner price → IsVickreyOutcome bids winner price' → price ≤ price'
 price_within bids winner price price' many a b =
@@ -22,16 +24,18 @@ pub outcome_is_one : (bids : List ℕ) (winner price winner' price' : ℕ) → I
     → (winner ≡ winner') × (price ≡ price')
 outcome_is_one bids winner price winner' price' a b =
     let same = same_winner bids winner price winner' price' a b in
-    let b' = subst (λ w. IsVickreyOutcome bids w price') (sym same) b in
-    (same,
-     elim (cases_lt 1 (length bids)) [
-       inl many ↦
-         (let up = price_within bids winner price price' (omega arith) a b' in
-          let down = price_within bids winner price' price (omega arith) b' a in
-          omega arith)
-     | inr one ↦
-         (let alone : length bids ≡ 1 = omega (arith, a.is_position.some, a.is_position.within) in
-          a.alone_pays_0 alone ∙ sym (b.alone_pays_0 alone)) ])
+    let b' = subst (λ w. IsVickreyOutcome bids w price') (sym same) b in (
+      same,
+      elim (cases_lt 1 (length bids)) [
+        | inl many ↦
+            (let up = price_within bids winner price price' (omega arith) a b' in
+            let down = price_within bids winner price' price (omega arith) b' a in
+            omega arith)
+        | inr one ↦
+            (let alone : length bids ≡ 1 = omega (arith, a.is_position.some, a.is_position.within) in
+            a.alone_pays_0 alone ∙ sym (b.alone_pays_0 alone))
+      ],
+    )
 
 -- the outcome of the first bids, the winner counted from 0
 pub record IsOutcomeOfFirst (bids : List ℕ) (count winner best price : ℕ) : Type 0 where
@@ -61,8 +65,9 @@ next_wins bids count winner best price some above so_far = record {
   inside = omega arith;
   is_best = refl;
   most = λ j h. elim (cases_lt j count) [
-      inl q ↦ omega (arith, so_far.most j q)
-    | inr q ↦ (let e : j ≡ count = omega arith in omega (arith, ap (slice_index bids) e)) ];
+    | inl q ↦ omega (arith, so_far.most j q)
+    | inr q ↦ (let e : j ≡ count = omega arith in omega (arith, ap (slice_index bids) e))
+  ];
   first = λ j h. omega (arith, so_far.most j h);
   alone = λ h. absurd (omega arith);
   within = λ j h ne. so_far.most j (omega (arith, ne));
@@ -76,13 +81,15 @@ next_is_price bids count winner best price below above so_far = record {
   inside = omega (arith, so_far.inside);
   is_best = so_far.is_best;
   most = λ j h. elim (cases_lt j count) [
-      inl q ↦ so_far.most j q
-    | inr q ↦ (let e : j ≡ count = omega arith in omega (arith, ap (slice_index bids) e)) ];
+    | inl q ↦ so_far.most j q
+    | inr q ↦ (let e : j ≡ count = omega arith in omega (arith, ap (slice_index bids) e))
+  ];
   first = so_far.first;
   alone = λ h. absurd (omega (arith, so_far.inside));
   within = λ j h ne. elim (cases_lt j count) [
-      inl q ↦ omega (arith, so_far.within j q ne)
-    | inr q ↦ (let e : j ≡ count = omega arith in omega (arith, ap (slice_index bids) e)) ];
+    | inl q ↦ omega (arith, so_far.within j q ne)
+    | inr q ↦ (let e : j ≡ count = omega arith in omega (arith, ap (slice_index bids) e))
+  ];
   held = λ h. (count, omega arith, (λ e. omega (arith, so_far.inside)), refl);
 }
 
@@ -93,19 +100,22 @@ next_is_lower bids count winner best price below low so_far = record {
   inside = omega (arith, so_far.inside);
   is_best = so_far.is_best;
   most = λ j h. elim (cases_lt j count) [
-      inl q ↦ so_far.most j q
-    | inr q ↦ (let e : j ≡ count = omega arith in omega (arith, ap (slice_index bids) e)) ];
+    | inl q ↦ so_far.most j q
+    | inr q ↦ (let e : j ≡ count = omega arith in omega (arith, ap (slice_index bids) e))
+  ];
   first = so_far.first;
   alone = λ h. absurd (omega (arith, so_far.inside));
   within = λ j h ne. elim (cases_lt j count) [
-      inl q ↦ so_far.within j q ne
-    | inr q ↦ (let e : j ≡ count = omega arith in omega (arith, ap (slice_index bids) e)) ];
+    | inl q ↦ so_far.within j q ne
+    | inr q ↦ (let e : j ≡ count = omega arith in omega (arith, ap (slice_index bids) e))
+  ];
   held = λ h. elim (cases_lt 1 count) [
-      inl q ↦ (let before = so_far.held (omega arith) in (before.0, omega (arith, before.1), before.2, before.3))
+    | inl q ↦ (let before = so_far.held (omega arith) in (before.0, omega (arith, before.1), before.2, before.3))
     | inr q ↦
         (let one : count ≡ 1 = omega (arith, so_far.inside) in
-         let nothing = so_far.alone one in
-         (count, omega arith, (λ e. omega (arith, so_far.inside)), omega arith)) ];
+        let nothing = so_far.alone one in
+        (count, omega arith, (λ e. omega (arith, so_far.inside)), omega arith))
+  ];
 }
 
 -- the outcome of all bids
@@ -120,11 +130,11 @@ all_first bids winner best price found =
       alone_pays_0 = found.alone;
       others_within_price = λ many other at ne. found.within (other - 1) (omega (arith, at.some, at.within)) (λ e. ne (omega (arith, at.some)));
       price_is_bid = λ many.
-        let held = found.held many in
-        record {
-          holder = held.0 + 1;
-          is_position = record { some = omega arith; within = omega (arith, held.1) };
-          is_other = λ e. held.2 (omega arith);
-          bids_price = (let e : held.0 + 1 - 1 ≡ held.0 = omega arith in ap (slice_index bids) e) ∙ held.3;
-        };
+          let held = found.held many in
+          record {
+            holder = held.0 + 1;
+            is_position = record { some = omega arith; within = omega (arith, held.1) };
+            is_other = λ e. held.2 (omega arith);
+            bids_price = (let e : held.0 + 1 - 1 ≡ held.0 = omega arith in ap (slice_index bids) e) ∙ held.3;
+          };
     }

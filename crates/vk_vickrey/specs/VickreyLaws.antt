@@ -1,5 +1,5 @@
 -- The plan of a second-price auction shows its outcome, and every outcome can be shown.
-use Rattle.std.specs.Prelude.{ℕ, ◌+◌, ◌-◌, ◌*◌, ◌%◌, ◌^◌, ◌<◌, ◌≤◌, ◌≡◌, ◌≢◌, ◌⊎◌, ◌==◌, Bool, true, false, if◌then◌else◌, nat_lt, List, [], ◌∷◌, ◌++◌, All, length, take, replicate, slice_index, slice_index_or}
+use Rattle.std.specs.Prelude.{ℕ, ◌+◌, ◌-◌, ◌*◌, ◌%◌, ◌^◌, ◌<◌, ◌≤◌, ◌≡◌, ◌≢◌, ◌==◌, true, false, if◌then◌else◌, nat_lt, List, [], ◌∷◌, ◌++◌, All, length, take, replicate, slice_index}
 use Rattle.std.proofs.Common.{refl, sym, ap, ◌∙◌, subst, arith, inl, inr, length-append, get_or-take}
 use Rattle.std.proofs.lemmas.List.{append-nil, get_or_default, length-replicate, get_or_append_left, get_or-append-add, length-take-le, take_all}
 use Rattle.std.proofs.lemmas.List.Elements.{All-cons, All-nil}
@@ -7,22 +7,20 @@ use Rattle.std.proofs.lemmas.Bool.{cases_lt, cases_eq, lt-ltb, le-ltb}
 use Rattle.std.proofs.lemmas.Bool.Decides.{eqb_tells}
 use Rattle.std.proofs.Math.Pow.{pow_mono}
 use Rattle.vk_residue.specs.Residue.{modulus, IsResidue, sum, difference}
-use Rattle.vk_plan.specs.declared.wire.WireKind.{WireKind}
 use Rattle.vk_plan.specs.declared.wire.WireKind.TheVariants.{Split}
 use Rattle.vk_plan.specs.declared.form.Term.{Term}
 use Rattle.vk_plan.specs.declared.form.Form.{Form}
 use Rattle.vk_plan.specs.Forms.{linear_part, form_value, NamesBelow}
-use Rattle.vk_plan.specs.Plans.{PlanValue, NamesOwnWires, IsPlan, Holds, plan_of_inputs, extended}
-use Rattle.vk_plan.specs.PlanLaws.{Holds-extended, Holds-before, Holds-inputs, IsPlan-inputs, AreZero-appended, IsPlan-extended, names-extended}
-use Rattle.vk_range.specs.declared.selected.SelectedIs.{SelectedIs}
-use Rattle.vk_range.specs.Sets.{listed, IsOfWidth, plus, minus}
+use Rattle.vk_plan.specs.Plans.{PlanValue, NamesOwnWires, Holds, plan_of_inputs, extended}
+use Rattle.vk_plan.specs.PlanLaws.{Holds-extended, Holds-before, Holds-inputs, AreZero-appended, names-extended}
+use Rattle.vk_range.specs.Sets.{IsOfWidth, plus, minus}
 use Rattle.vk_range.specs.Forms.{difference_form, less_one}
 use Rattle.vk_range.specs.SetLaws.{length_listed, at_listed, All-listed}
 use Rattle.vk_range.specs.Laws.{difference_value, difference_names, same_from_zero, zero_from_same}
 use Rattle.vk_range.specs.Series.{same_plan, series, series_rows, series_values, IsSeries, length_series, series_sound_within, series_complete, names_series}
 use Rattle.vk_range.specs.Selected.{IsSelection, IsSelected, selected_wires, selected_rows, selected_values}
 use Rattle.vk_range.specs.SelectedLaws.{selected_sound, selected_complete}
-use Rattle.vk_vickrey.specs.Outcomes.{bid_at, IsPosition, IsBidElsewhere, IsVickreyOutcome}
+use Rattle.vk_vickrey.specs.Outcomes.{bid_at, IsPosition}
 use Rattle.vk_vickrey.specs.VickreyPlans.{IsVickreyCase, IsVickreyClaim, other, copies_kinds, copies_rows, bid_form, win_form, price_form, price_selection, vickrey_plan, honest_values}
 
 -- the other places
@@ -34,23 +32,27 @@ other_after winner k h = ap (λ b. if b then k else k + 1) (le-ltb k winner h)
 
 pub other_within : (seals winner k : ℕ) → winner < seals → k < seals - 1 → other winner k < seals
 other_within seals winner k w h = elim (cases_lt k winner) [
-    inl q ↦ omega (arith, other_before winner k q)
-  | inr q ↦ omega (arith, other_after winner k q) ]
+  | inl q ↦ omega (arith, other_before winner k q)
+  | inr q ↦ omega (arith, other_after winner k q)
+]
 
 other_not : (winner k : ℕ) → other winner k ≢ winner
 other_not winner k e = elim (cases_lt k winner) [
-    inl q ↦ omega (arith, other_before winner k q)
-  | inr q ↦ omega (arith, other_after winner k q) ]
+  | inl q ↦ omega (arith, other_before winner k q)
+  | inr q ↦ omega (arith, other_after winner k q)
+]
 
 other_of : (seals winner place : ℕ) → place < seals → winner < seals → place ≢ winner → (k : ℕ) × (k < seals - 1) × (other winner k ≡ place)
 other_of seals winner place h w ne = elim (cases_lt place winner) [
-    inl q ↦ (place, omega arith, other_before winner place q)
-  | inr q ↦ (place - 1, omega (arith, ne), other_after winner (place - 1) (omega (arith, ne)) ∙ omega (arith, ne)) ]
+  | inl q ↦ (place, omega arith, other_before winner place q)
+  | inr q ↦ (place - 1, omega (arith, ne), other_after winner (place - 1) (omega (arith, ne)) ∙ omega (arith, ne))
+]
 
 other_index : (winner k place : ℕ) → other winner k ≡ place → place < winner → k < winner
 other_index winner k place e before = elim (cases_lt k winner) [
-    inl q ↦ q
-  | inr q ↦ omega (arith, other_after winner k q) ]
+  | inl q ↦ q
+  | inr q ↦ omega (arith, other_after winner k q)
+]
 
 -- the plans on the way
 abbrev pub copies : ℕ → ℕ → PlanValue
@@ -87,9 +89,9 @@ length_prices seals width winner price =
 copies_names : (seals count : ℕ) → count ≤ seals → NamesOwnWires (copies seals count)
 copies_names seals count few =
     names-extended (plan_of_inputs seals) (copies_kinds count) (copies_rows seals count) (All-nil (λ row. NamesBelow (length (replicate seals Split)) row.terms))
-      (All-listed (λ row. NamesBelow (length (replicate seals Split) + length (copies_kinds count)) row.terms) (λ j. difference_form j (seals + j) false) count
-        (λ j h. difference_names (length (replicate seals Split) + length (copies_kinds count)) j (seals + j) false
-          (omega (arith, length-replicate seals Split)) (omega (arith, length-replicate seals Split, length_listed (λ _. Split) count))))
+    (All-listed (λ row. NamesBelow (length (replicate seals Split) + length (copies_kinds count)) row.terms) (λ j. difference_form j (seals + j) false) count
+    (λ j h. difference_names (length (replicate seals Split) + length (copies_kinds count)) j (seals + j) false
+    (omega (arith, length-replicate seals Split)) (omega (arith, length-replicate seals Split, length_listed (λ _. Split) count))))
 
 one_name : (wires : ℕ) (term : Term) → term.wire < wires → NamesBelow wires (term ∷ [])
 one_name wires term h = All-cons (λ (t : Term). t.wire < wires) term [] h (All-nil (λ (t : Term). t.wire < wires))
@@ -97,19 +99,28 @@ one_name wires term h = All-cons (λ (t : Term). t.wire < wires) term [] h (All-
 pub bids_series : (seals width : ℕ) → 1 ≤ width → width ≤ 40 → IsSeries (copies seals seals) (bid_form seals) width (seals + seals) seals
 bids_series seals width some most = record {
   names = λ j h. one_name (seals + seals) (plus (seals + j)) (omega arith);
-  base_within = omega (arith, length_copies seals seals); some = some; most = most }
+  base_within = omega (arith, length_copies seals seals);
+  some = some;
+  most = most;
+}
 
 pub wins_series : (seals width winner : ℕ) → winner < seals → 1 ≤ width → width ≤ 40
     → IsSeries (with_bids seals width) (win_form seals winner) width (seals + seals) (seals - 1)
 wins_series seals width winner w some most = record {
   names = λ k h. difference_names (seals + seals) (seals + winner) (seals + other winner k) (nat_lt k winner) (omega arith) (omega (arith, other_within seals winner k w h));
-  base_within = omega (arith, length_bids seals width); some = some; most = most }
+  base_within = omega (arith, length_bids seals width);
+  some = some;
+  most = most;
+}
 
 pub prices_series : (seals width winner price : ℕ) → winner < seals → 1 ≤ width → width ≤ 40
     → IsSeries (with_wins seals width winner) (price_form seals winner price) width (seals + seals) (seals - 1)
 prices_series seals width winner price w some most = record {
   names = λ k h. one_name (seals + seals) (minus (seals + other winner k)) (omega (arith, other_within seals winner k w h));
-  base_within = omega (arith, length_wins seals width winner); some = some; most = most }
+  base_within = omega (arith, length_wins seals width winner);
+  some = some;
+  most = most;
+}
 
 pub selection : (seals width winner price : ℕ) → 2 ≤ seals → seals ≤ 64 → winner < seals → 1 ≤ width → width ≤ 40
     → IsSelection (price_selection seals width winner price) (length (with_prices seals width winner price).kinds)
@@ -117,8 +128,12 @@ selection seals width winner price many few w some most =
     let long = length_listed (λ k. seals + other winner k) (seals - 1) in
     record {
       names = All-listed (λ wire. wire < length (with_prices seals width winner price).kinds) (λ k. seals + other winner k) (seals - 1)
-        (λ k h. omega (arith, other_within seals winner k w h, length_prices seals width winner price));
-      one = omega arith; most = omega arith; some_width = some; most_width = most }
+          (λ k h. omega (arith, other_within seals winner k w h, length_prices seals width winner price));
+      one = omega arith;
+      most = omega arith;
+      some_width = some;
+      most_width = most;
+    }
 
 names_bids : (seals width : ℕ) → 1 ≤ width → width ≤ 40 → NamesOwnWires (with_bids seals width)
 names_bids seals width some most =
@@ -131,7 +146,7 @@ names_wins seals width winner w some most =
 names_prices : (seals width winner price : ℕ) → winner < seals → 1 ≤ width → width ≤ 40 → NamesOwnWires (with_prices seals width winner price)
 names_prices seals width winner price w some most =
     names_series (with_wins seals width winner) (price_form seals winner price) width (seals + seals) (seals - 1) (names_wins seals width winner w some most)
-      (prices_series seals width winner price w some most)
+    (prices_series seals width winner price w some most)
 
 -- what the forms come to, in whole numbers
 bid_value : (seals j : ℕ) (values : List ℕ) → slice_index values (seals + j) < modulus → form_value (bid_form seals j) values ≡ slice_index values (seals + j)
@@ -178,19 +193,19 @@ width_small width most = pow_mono {i = width} {j = 40} most
 abbrev rows_from : ℕ → ℕ → ℕ → ℕ → ℕ → ℕ → ℕ → List Form
 rows_from seals width winner price bids wins prices =
     copies_rows seals seals ++ series_rows (bid_form seals) bids width seals ++ series_rows (win_form seals winner) wins width (seals - 1)
-      ++ series_rows (price_form seals winner price) prices width (seals - 1)
+    ++ series_rows (price_form seals winner price) prices width (seals - 1)
 
 rows_are : (seals width winner price : ℕ)
     → rows_from seals width winner price (2 * seals) (2 * seals + seals * width) (2 * seals + seals * width + (seals - 1) * width)
-      ≡ rows_from seals width winner price (length (copies seals seals).kinds) (length (with_bids seals width).kinds) (length (with_wins seals width winner).kinds)
+    ≡ rows_from seals width winner price (length (copies seals seals).kinds) (length (with_bids seals width).kinds) (length (with_wins seals width winner).kinds)
 rows_are seals width winner price =
     let bids : 2 * seals ≡ length (copies seals seals).kinds = omega (arith, length_copies seals seals) in
     ap (λ n. rows_from seals width winner price n (2 * seals + seals * width) (2 * seals + seals * width + (seals - 1) * width)) bids
-      ∙ ap (λ n. rows_from seals width winner price (length (copies seals seals).kinds) n (2 * seals + seals * width + (seals - 1) * width)) (sym (length_bids seals width))
-      ∙ ap (λ n. rows_from seals width winner price (length (copies seals seals).kinds) (length (with_bids seals width).kinds) n) (sym (length_wins seals width winner))
+    ∙ ap (λ n. rows_from seals width winner price (length (copies seals seals).kinds) n (2 * seals + seals * width + (seals - 1) * width)) (sym (length_bids seals width))
+    ∙ ap (λ n. rows_from seals width winner price (length (copies seals seals).kinds) (length (with_bids seals width).kinds) n) (sym (length_wins seals width winner))
 
 -- the listed plan is that of the relations one after another
-plan_alone : (seals width position price : ℕ) → (seals == 1) ≡ true → vickrey_plan seals width position price ≡ with_prices seals width (position - 1) price
+pub plan_alone : (seals width position price : ℕ) → (seals == 1) ≡ true → vickrey_plan seals width position price ≡ with_prices seals width (position - 1) price
 unfolding vickrey_plan
 plan_alone seals width position price one =
     let winner = position - 1 in
@@ -198,12 +213,12 @@ plan_alone seals width position price one =
     let relation = price_selection seals width winner price in
     let selectors = 2 * seals + seals * width + (seals - 1) * width + (seals - 1) * width in
     same_plan seals (plan.kinds ++ (if seals == 1 then [] else selected_wires relation)) plan.kinds
-      (rows_from seals width winner price (2 * seals) (2 * seals + seals * width) (2 * seals + seals * width + (seals - 1) * width) ++ (if seals == 1 then [] else selected_rows relation selectors)) plan.rows
-      (ap (λ b. plan.kinds ++ (if b then [] else selected_wires relation)) one ∙ append-nil plan.kinds)
-      (ap (λ b. rows_from seals width winner price (2 * seals) (2 * seals + seals * width) (2 * seals + seals * width + (seals - 1) * width) ++ (if b then [] else selected_rows relation selectors)) one
-        ∙ (append-nil (rows_from seals width winner price (2 * seals) (2 * seals + seals * width) (2 * seals + seals * width + (seals - 1) * width)) ∙ rows_are seals width winner price))
+    (rows_from seals width winner price (2 * seals) (2 * seals + seals * width) (2 * seals + seals * width + (seals - 1) * width) ++ (if seals == 1 then [] else selected_rows relation selectors)) plan.rows
+    (ap (λ b. plan.kinds ++ (if b then [] else selected_wires relation)) one ∙ append-nil plan.kinds)
+    (ap (λ b. rows_from seals width winner price (2 * seals) (2 * seals + seals * width) (2 * seals + seals * width + (seals - 1) * width) ++ (if b then [] else selected_rows relation selectors)) one
+    ∙ (append-nil (rows_from seals width winner price (2 * seals) (2 * seals + seals * width) (2 * seals + seals * width + (seals - 1) * width)) ∙ rows_are seals width winner price))
 
-plan_many : (seals width position price : ℕ) → (seals == 1) ≡ false → vickrey_plan seals width position price ≡ with_selection seals width (position - 1) price
+pub plan_many : (seals width position price : ℕ) → (seals == 1) ≡ false → vickrey_plan seals width position price ≡ with_selection seals width (position - 1) price
 unfolding vickrey_plan
 plan_many seals width position price many =
     let winner = position - 1 in
@@ -211,12 +226,12 @@ plan_many seals width position price many =
     let relation = price_selection seals width winner price in
     let selectors = 2 * seals + seals * width + (seals - 1) * width + (seals - 1) * width in
     same_plan seals (plan.kinds ++ (if seals == 1 then [] else selected_wires relation)) (plan.kinds ++ selected_wires relation)
-      (rows_from seals width winner price (2 * seals) (2 * seals + seals * width) (2 * seals + seals * width + (seals - 1) * width) ++ (if seals == 1 then [] else selected_rows relation selectors))
-      (plan.rows ++ selected_rows relation (length plan.kinds))
-      (ap (λ b. plan.kinds ++ (if b then [] else selected_wires relation)) many)
-      (ap (λ b. rows_from seals width winner price (2 * seals) (2 * seals + seals * width) (2 * seals + seals * width + (seals - 1) * width) ++ (if b then [] else selected_rows relation selectors)) many
-        ∙ ap (λ rows. rows ++ selected_rows relation selectors) (rows_are seals width winner price)
-        ∙ ap (λ start. plan.rows ++ selected_rows relation start) (sym (length_prices seals width winner price)))
+    (rows_from seals width winner price (2 * seals) (2 * seals + seals * width) (2 * seals + seals * width + (seals - 1) * width) ++ (if seals == 1 then [] else selected_rows relation selectors))
+    (plan.rows ++ selected_rows relation (length plan.kinds))
+    (ap (λ b. plan.kinds ++ (if b then [] else selected_wires relation)) many)
+    (ap (λ b. rows_from seals width winner price (2 * seals) (2 * seals + seals * width) (2 * seals + seals * width + (seals - 1) * width) ++ (if b then [] else selected_rows relation selectors)) many
+    ∙ ap (λ rows. rows ++ selected_rows relation selectors) (rows_are seals width winner price)
+    ∙ ap (λ start. plan.rows ++ selected_rows relation start) (sym (length_prices seals width winner price)))
 
 -- what holds for the plan before the selection, in whole numbers
 record IsShown (seals width winner price : ℕ) (values : List ℕ) : Type 0 where
@@ -233,7 +248,7 @@ copied_sound seals j values h holds =
     let nothing = subst (λ f. form_value f values ≡ 0) (at_listed (λ i. difference_form i (seals + i) false) seals j form h) (row j form (omega arith)) in
     let enough : length values ≡ seals + seals = holds.one_each ∙ length_copies seals seals in
     same_from_zero (slice_index values j) (slice_index values (seals + j)) (holds.residues j 0 (omega arith)) (holds.residues (seals + j) 0 (omega arith))
-      (sym (difference_value j (seals + j) false values) ∙ nothing)
+    (sym (difference_value j (seals + j) false values) ∙ nothing)
 
 prices_shown : (seals width winner price : ℕ) (values : List ℕ) → winner < seals → 1 ≤ width → width ≤ 40 → All IsResidue values
     → length (with_prices seals width winner price).kinds ≤ length values
@@ -245,18 +260,18 @@ prices_shown seals width winner price values w some most residues enough holds =
     let to_bids = length_bids seals width in
     let to_copies = length_copies seals seals in
     let prices = series_sound_within (with_wins seals width winner) (price_form seals winner price) width (seals + seals) (seals - 1) values
-      (names_wins seals width winner w some most) (prices_series seals width winner price w some most) enough holds in
+    (names_wins seals width winner w some most) (prices_series seals width winner price w some most) enough holds in
     let wins = series_sound_within (with_bids seals width) (win_form seals winner) width (seals + seals) (seals - 1) values
-      (names_bids seals width some most) (wins_series seals width winner w some most) (omega arith) prices.0 in
+    (names_bids seals width some most) (wins_series seals width winner w some most) (omega arith) prices.0 in
     let bids = series_sound_within (copies seals seals) (bid_form seals) width (seals + seals) seals values
-      (copies_names seals seals (omega arith)) (bids_series seals width some most) (omega arith) wins.0 in
+    (copies_names seals seals (omega arith)) (bids_series seals width some most) (omega arith) wins.0 in
     record {
       copied = λ j h.
-        let front = copied_sound seals j (take (length (copies seals seals).kinds) values) h bids.0 in
-        sym (get_or-take (length (copies seals seals).kinds) values j 0 (omega arith)) ∙ front
+          let front = copied_sound seals j (take (length (copies seals seals).kinds) values) h bids.0 in
+          sym (get_or-take (length (copies seals seals).kinds) values j 0 (omega arith)) ∙ front
           ∙ get_or-take (length (copies seals seals).kinds) values (seals + j) 0 (omega arith);
       bids = λ j h.
-        subst (IsOfWidth width) (bid_value seals j values (residues (seals + j) 0 (omega arith))) (bids.1 j h);
+          subst (IsOfWidth width) (bid_value seals j values (residues (seals + j) 0 (omega arith))) (bids.1 j h);
       wins = wins.1;
       prices = prices.1;
     }
@@ -264,7 +279,7 @@ prices_shown seals width winner price values w some most residues enough holds =
 -- so no other's bid is above the winner's or the price, nor as high as the winner's where it stands before
 not_above : (seals width winner price k : ℕ) (values : List ℕ) → width ≤ 40 → winner < seals → k < seals - 1 → IsShown seals width winner price values
     → (slice_index values (seals + other winner k) ≤ slice_index values (seals + winner))
-      × (k < winner → slice_index values (seals + other winner k) < slice_index values (seals + winner))
+    × (k < winner → slice_index values (seals + other winner k) < slice_index values (seals + winner))
 not_above seals width winner price k values most w h shown =
     let small = width_small width most in
     let a = shown.bids winner w in
@@ -274,20 +289,21 @@ not_above seals width winner price k values most w h shown =
     let winning = slice_index values (seals + winner) in
     let losing = slice_index values (seals + other winner k) in
     elim (cases_lt k winner) [
-      inl q ↦
-        (let strict = subst (λ s. (winning + (modulus - 1) * losing + less_one s) % modulus < 2 ^ width) (lt-ltb k winner q) wins in
-         let above = above_means winning losing (2 ^ width) a b small strict in
-         (omega arith, λ _. above))
-    | inr q ↦
-        (let loose = subst (λ s. (winning + (modulus - 1) * losing + less_one s) % modulus < 2 ^ width) (le-ltb k winner q) wins in
-         let least = at_least_means winning losing (2 ^ width) a b small loose in
-         (least, λ before. omega arith)) ]
+      | inl q ↦
+          (let strict = subst (λ s. (winning + (modulus - 1) * losing + less_one s) % modulus < 2 ^ width) (lt-ltb k winner q) wins in
+          let above = above_means winning losing (2 ^ width) a b small strict in
+          (omega arith, λ _. above))
+      | inr q ↦
+          (let loose = subst (λ s. (winning + (modulus - 1) * losing + less_one s) % modulus < 2 ^ width) (le-ltb k winner q) wins in
+          let least = at_least_means winning losing (2 ^ width) a b small loose in
+          (least, λ before. omega arith))
+    ]
 
 not_above_price : (seals width winner price k : ℕ) (values : List ℕ) → width ≤ 40 → winner < seals → k < seals - 1 → price < 2 ^ width → IsShown seals width winner price values
     → slice_index values (seals + other winner k) ≤ price
 not_above_price seals width winner price k values most w h below shown =
     within_means (slice_index values (seals + other winner k)) price (2 ^ width) (shown.bids (other winner k) (other_within seals winner k w h)) below (width_small width most)
-      (subst (IsOfWidth width) (price_value seals winner price k values) (shown.prices k h))
+    (subst (IsOfWidth width) (price_value seals winner price k values) (shown.prices k h))
 
 -- a place of another holds the price
 record IsHeld (seals winner price : ℕ) (values : List ℕ) : Type 0 where
@@ -306,40 +322,41 @@ claim_shown seals width position price values case enough shown held =
     let bid : (j : ℕ) → j < seals → slice_index bids j ≡ slice_index values (seals + j) = λ j h. get_or-take seals values j 0 h ∙ shown.copied j h in
     let winning = bid winner w in
     let one_other : (place : ℕ) → place < seals → place ≢ winner
-        → (slice_index bids place ≤ slice_index bids winner) × (place < winner → slice_index bids place < slice_index bids winner) × (slice_index bids place ≤ price) =
-      λ place h ne.
-        let k = other_of seals winner place h w ne in
-        let above = not_above seals width winner price k.0 values case.most_width w k.1 shown in
-        let within = not_above_price seals width winner price k.0 values case.most_width w k.1 case.within_width shown in
-        let here : slice_index bids place ≡ slice_index values (seals + other winner k.0) = bid place h ∙ ap (λ p. slice_index values (seals + p)) (sym k.2) in
-        (omega (arith, above.0), (λ before. omega (arith, above.1 (other_index winner k.0 place k.2 before))), omega arith) in
+    → (slice_index bids place ≤ slice_index bids winner) × (place < winner → slice_index bids place < slice_index bids winner) × (slice_index bids place ≤ price) =
+    λ place h ne.
+    let k = other_of seals winner place h w ne in
+    let above = not_above seals width winner price k.0 values case.most_width w k.1 shown in
+    let within = not_above_price seals width winner price k.0 values case.most_width w k.1 case.within_width shown in
+    let here : slice_index bids place ≡ slice_index values (seals + other winner k.0) = bid place h ∙ ap (λ p. slice_index values (seals + p)) (sym k.2) in
+    (omega (arith, above.0), (λ before. omega (arith, above.1 (other_index winner k.0 place k.2 before))), omega arith) in
     record {
       one_each = long;
       within_width = λ j d h.
-        let inside : j < seals = omega arith in
-        let small = shown.bids j inside in
-        rw (get_or_default bids j d 0 h, bid j inside) small;
+          let inside : j < seals = omega arith in
+          let small = shown.bids j inside in
+          rw (get_or_default bids j d 0 h, bid j inside) small;
       outcome = record {
         is_position = record { some = case.some_position; within = omega (arith, case.within_seals) };
         none_bids_more = λ j at. elim (cases_eq (j - 1) winner) [
-            inl e ↦ omega (arith, ap (slice_index bids) e)
-          | inr ne ↦ (one_other (j - 1) (omega (arith, at.some, at.within)) ne).0 ];
+          | inl e ↦ omega (arith, ap (slice_index bids) e)
+          | inr ne ↦ (one_other (j - 1) (omega (arith, at.some, at.within)) ne).0
+        ];
         first_of_the_greatest = λ j at before.
-          (one_other (j - 1) (omega (arith, at.some, at.within)) (λ e. omega (arith, at.some))).1 (omega (arith, at.some));
+            (one_other (j - 1) (omega (arith, at.some, at.within)) (λ e. omega (arith, at.some))).1 (omega (arith, at.some));
         alone_pays_0 = λ one. case.alone (sym long ∙ one);
         others_within_price = λ many j at ne.
-          (one_other (j - 1) (omega (arith, at.some, at.within)) (λ e. ne (omega (arith, at.some, case.some_position)))).2;
+            (one_other (j - 1) (omega (arith, at.some, at.within)) (λ e. ne (omega (arith, at.some, case.some_position)))).2;
         price_is_bid = λ many.
-          let found = held (omega arith) in
-          let place = other winner found.place in
-          let back : place + 1 - 1 ≡ place = omega arith in
-          let inside = other_within seals winner found.place w found.inside in
-          record {
-            holder = place + 1;
-            is_position = record { some = omega arith; within = omega arith };
-            is_other = λ e. other_not winner found.place (omega arith);
-            bids_price = ap (slice_index bids) back ∙ (bid place inside ∙ found.holds);
-          };
+            let found = held (omega arith) in
+            let place = other winner found.place in
+            let back : place + 1 - 1 ≡ place = omega arith in
+            let inside = other_within seals winner found.place w found.inside in
+            record {
+              holder = place + 1;
+              is_position = record { some = omega arith; within = omega arith };
+              is_other = λ e. other_not winner found.place (omega arith);
+              bids_price = ap (slice_index bids) back ∙ (bid place inside ∙ found.holds);
+            };
       };
     }
 
@@ -355,10 +372,11 @@ selection_held seals width winner price values place most w below enough shown s
     let wire = at_listed f (seals - 1) place 0 inside in
     let long = length_prices seals width winner price in
     let at : slice_index (take start values) (slice_index (price_selection seals width winner price).wires place) ≡ slice_index values (f place) =
-      ap (slice_index (take start values)) wire ∙ get_or-take start values (f place) 0 (omega (arith, other_within seals winner place w inside)) in
+    ap (slice_index (take start values)) wire ∙ get_or-take start values (f place) 0 (omega (arith, other_within seals winner place w inside)) in
     let here = subst (λ b. difference b price < 2 ^ width) at selected.here in
     record {
-      place = place; inside = inside;
+      place = place;
+      inside = inside;
       holds = reaches_means (slice_index values (f place)) price (2 ^ width) (not_above_price seals width winner price place values most w inside below shown) below (width_small width most) here;
     }
 
@@ -371,37 +389,40 @@ vickrey_sound seals width position price values case holds =
     let start = length plan.kinds in
     let long = length_prices seals width winner price in
     elim (eqb_tells seals 1) [
-      inl one ↦
-        (let holds' = subst (λ p. Holds p values) (plan_alone seals width position price one.0) holds in
-         let all = sym (take_all start values (omega (arith, holds'.one_each))) in
-         let shown = prices_shown seals width winner price values w case.some_width case.most_width holds'.residues (omega (arith, holds'.one_each)) (subst (Holds plan) all holds') in
-         claim_shown seals width position price values case (omega (arith, holds'.one_each)) shown (λ many. absurd (omega (arith, one.1))))
-    | inr many ↦
-        (let holds' = subst (λ p. Holds p values) (plan_many seals width position price many.0) holds in
-         let relation = price_selection seals width winner price in
-         let own = names_prices seals width winner price w case.some_width case.most_width in
-         let fits = selection seals width winner price (omega (arith, case.some_seals, many.1)) case.most_seals w case.some_width case.most_width in
-         let selected = selected_sound relation plan values own fits holds' in
-         let before = Holds-before plan (selected_wires relation) (selected_rows relation start) values own holds' in
-         let enough : start ≤ length values = omega (arith, holds'.one_each, length-append plan.kinds (selected_wires relation)) in
-         let shown = prices_shown seals width winner price values w case.some_width case.most_width holds'.residues enough before in
-         claim_shown seals width position price values case (omega arith) shown
-           (λ _. selection_held seals width winner price values selected.0 case.most_width w case.within_width enough shown selected.1)) ]
+      | inl one ↦
+          (let holds' = subst (λ p. Holds p values) (plan_alone seals width position price one.0) holds in
+          let all = sym (take_all start values (omega (arith, holds'.one_each))) in
+          let shown = prices_shown seals width winner price values w case.some_width case.most_width holds'.residues (omega (arith, holds'.one_each)) (subst (Holds plan) all holds') in
+          claim_shown seals width position price values case (omega (arith, holds'.one_each)) shown (λ many. absurd (omega (arith, one.1))))
+      | inr many ↦
+          (let holds' = subst (λ p. Holds p values) (plan_many seals width position price many.0) holds in
+          let relation = price_selection seals width winner price in
+          let own = names_prices seals width winner price w case.some_width case.most_width in
+          let fits = selection seals width winner price (omega (arith, case.some_seals, many.1)) case.most_seals w case.some_width case.most_width in
+          let selected = selected_sound relation plan values own fits holds' in
+          let before = Holds-before plan (selected_wires relation) (selected_rows relation start) values own holds' in
+          let enough : start ≤ length values = omega (arith, holds'.one_each, length-append plan.kinds (selected_wires relation)) in
+          let shown = prices_shown seals width winner price values w case.some_width case.most_width holds'.residues enough before in
+          claim_shown seals width position price values case (omega arith) shown
+          (λ _. selection_held seals width winner price values selected.0 case.most_width w case.within_width enough shown selected.1))
+    ]
 
 -- values that begin with the bids and their copies
-record BeginsWith (bids values : List ℕ) : Type 0 where
-  enough : length bids + length bids ≤ length values
-  copied : (j : ℕ) → j < length bids → slice_index values (length bids + j) ≡ slice_index bids j
+pub record BeginsWith (bids values : List ℕ) : Type 0 where
+  pub enough : length bids + length bids ≤ length values
+  pub copied : (j : ℕ) → j < length bids → slice_index values (length bids + j) ≡ slice_index bids j
 
-begins_alone : (bids : List ℕ) → BeginsWith bids (bids ++ bids)
+pub begins_alone : (bids : List ℕ) → BeginsWith bids (bids ++ bids)
 begins_alone bids = record {
   enough = omega (arith, length-append bids bids);
-  copied = λ j h. get_or-append-add bids bids j 0 }
+  copied = λ j h. get_or-append-add bids bids j 0;
+}
 
-begins_longer : (bids values more : List ℕ) → BeginsWith bids values → BeginsWith bids (values ++ more)
+pub begins_longer : (bids values more : List ℕ) → BeginsWith bids values → BeginsWith bids (values ++ more)
 begins_longer bids values more begins = record {
   enough = omega (arith, begins.enough, length-append values more);
-  copied = λ j h. get_or_append_left values more 0 (length bids + j) (omega (arith, begins.enough)) ∙ begins.copied j h }
+  copied = λ j h. get_or_append_left values more 0 (length bids + j) (omega (arith, begins.enough)) ∙ begins.copied j h;
+}
 
 -- a place below the number of seals is a position, one higher
 position_of : (bids : List ℕ) (place : ℕ) → place < length bids → IsPosition bids (place + 1)
@@ -414,28 +435,27 @@ copies_complete : (bids : List ℕ) → All IsResidue bids → Holds (copies (le
 copies_complete bids residues =
     let n = length bids in
     Holds-extended (plan_of_inputs n) (copies_kinds n) (copies_rows n n) bids bids (All-nil (λ row. NamesBelow (length (replicate n Split)) row.terms))
-      (Holds-inputs n bids refl residues) (sym (length_listed (λ _. Split) n)) residues
-      (λ j h. let inside : j < n = omega (arith, length_listed (λ _. Split) n) in rw (at_listed (λ _. Split) n j Split inside) tt)
-      (All-listed (λ row. form_value row (bids ++ bids) ≡ 0) (λ j. difference_form j (n + j) false) n
-        (λ j h. difference_value j (n + j) false (bids ++ bids)
-          ∙ zero_from_same (slice_index (bids ++ bids) j) (slice_index (bids ++ bids) (n + j))
-              (get_or_append_left bids bids 0 j h ∙ sym (get_or-append-add bids bids j 0))))
+    (Holds-inputs n bids refl residues) (sym (length_listed (λ _. Split) n)) residues
+    (λ j h. let inside : j < n = omega (arith, length_listed (λ _. Split) n) in rw (at_listed (λ _. Split) n j Split inside) tt)
+    (All-listed (λ row. form_value row (bids ++ bids) ≡ 0) (λ j. difference_form j (n + j) false) n
+    (λ j h. difference_value j (n + j) false (bids ++ bids)
+    ∙ zero_from_same (slice_index (bids ++ bids) j) (slice_index (bids ++ bids) (n + j))
+    (get_or_append_left bids bids 0 j h ∙ sym (get_or-append-add bids bids j 0))))
 
 module _ (seals width position price : ℕ) (bids values : List ℕ) (case : IsVickreyCase seals width position price)
-  (claim : IsVickreyClaim seals width position price bids) (begins : BeginsWith bids values) where
-
+    (claim : IsVickreyClaim seals width position price bids) (begins : BeginsWith bids values) where
   bid_small : (j : ℕ) → j < seals → slice_index bids j < 2 ^ width
   bid_small j h = claim.within_width j 0 (omega (arith, claim.one_each))
 
   bid_of : (j : ℕ) → j < seals → slice_index values (seals + j) ≡ slice_index bids j
   bid_of j h = subst (λ n. slice_index values (n + j) ≡ slice_index bids j) claim.one_each (begins.copied j (omega (arith, claim.one_each)))
 
-  bids_fit : (j : ℕ) → j < seals → IsOfWidth width (form_value (bid_form seals j) values)
+  pub bids_fit : (j : ℕ) → j < seals → IsOfWidth width (form_value (bid_form seals j) values)
   bids_fit j h =
       let small = subst (λ b. b < 2 ^ width) (sym (bid_of j h)) (bid_small j h) in
       subst (IsOfWidth width) (sym (bid_value seals j values (omega (arith, width_small width case.most_width)))) small
 
-  wins_fit : (k : ℕ) → k < seals - 1 → IsOfWidth width (form_value (win_form seals (position - 1) k) values)
+  pub wins_fit : (k : ℕ) → k < seals - 1 → IsOfWidth width (form_value (win_form seals (position - 1) k) values)
   wins_fit k h =
       let winner = position - 1 in
       let w : winner < seals = omega (arith, case.some_position, case.within_seals) in
@@ -449,11 +469,12 @@ module _ (seals width position price : ℕ) (bids values : List ℕ) (case : IsV
       let above : losing ≤ winning = omega (arith, claim.outcome.none_bids_more (place + 1) at, bid_at_place bids place, bid_of place inside, bid_of winner w) in
       let form = difference_value (seals + winner) (seals + place) (nat_lt k winner) values in
       subst (IsOfWidth width) (sym form) (elim (cases_lt k winner) [
-          inl q ↦
+        | inl q ↦
             (let strictly : losing < winning = omega (arith, claim.outcome.first_of_the_greatest (place + 1) at (omega (arith, other_before winner k q)), bid_at_place bids place, bid_of place inside, bid_of winner w) in
-             subst (λ s. (winning + (modulus - 1) * losing + less_one s) % modulus < 2 ^ width) (sym (lt-ltb k winner q)) (above_fits winning losing (2 ^ width) top small strictly))
+            subst (λ s. (winning + (modulus - 1) * losing + less_one s) % modulus < 2 ^ width) (sym (lt-ltb k winner q)) (above_fits winning losing (2 ^ width) top small strictly))
         | inr q ↦
-            subst (λ s. (winning + (modulus - 1) * losing + less_one s) % modulus < 2 ^ width) (sym (le-ltb k winner q)) (at_least_fits winning losing (2 ^ width) top small above) ])
+            subst (λ s. (winning + (modulus - 1) * losing + less_one s) % modulus < 2 ^ width) (sym (le-ltb k winner q)) (at_least_fits winning losing (2 ^ width) top small above)
+      ])
 
   within_price : (k : ℕ) → k < seals - 1 → slice_index values (seals + other (position - 1) k) ≤ price
   within_price k h =
@@ -464,13 +485,13 @@ module _ (seals width position price : ℕ) (bids values : List ℕ) (case : IsV
       let at = position_of bids place (omega (arith, claim.one_each)) in
       omega (arith, claim.outcome.others_within_price (omega (arith, claim.one_each)) (place + 1) at (λ e. other_not winner k (omega arith)), bid_at_place bids place, bid_of place inside)
 
-  prices_fit : (k : ℕ) → k < seals - 1 → IsOfWidth width (form_value (price_form seals (position - 1) price k) values)
+  pub prices_fit : (k : ℕ) → k < seals - 1 → IsOfWidth width (form_value (price_form seals (position - 1) price k) values)
   prices_fit k h =
       subst (IsOfWidth width) (sym (price_value seals (position - 1) price k values))
-        (within_fits (slice_index values (seals + other (position - 1) k)) price (2 ^ width) case.within_width (width_small width case.most_width) (within_price k h))
+      (within_fits (slice_index values (seals + other (position - 1) k)) price (2 ^ width) case.within_width (width_small width case.most_width) (within_price k h))
 
   -- a place of another that holds the price may be selected
-  may_be_selected : 2 ≤ seals → (p : ℕ) × IsSelected (price_selection seals width (position - 1) price) values p
+  pub may_be_selected : 2 ≤ seals → (p : ℕ) × IsSelected (price_selection seals width (position - 1) price) values p
   may_be_selected many =
       let winner = position - 1 in
       let w : winner < seals = omega (arith, case.some_position, case.within_seals) in
@@ -481,16 +502,18 @@ module _ (seals width position price : ℕ) (bids values : List ℕ) (case : IsV
       let held = claim.outcome.price_is_bid (omega (arith, claim.one_each)) in
       let inside : held.holder - 1 < seals = omega (arith, held.is_position.some, held.is_position.within, claim.one_each) in
       let found = other_of seals winner (held.holder - 1) inside w (λ e. held.is_other (omega (arith, held.is_position.some, case.some_position))) in
-      let holds : slice_index values (f found.0) ≡ price = ap (λ p. slice_index values (seals + p)) found.2 ∙ bid_of (held.holder - 1) inside ∙ held.bids_price in
-      (found.0, record {
-        is_place = omega (arith, found.1);
-        here = subst (λ at. difference (slice_index values at) price < 2 ^ width) (sym (at_listed f (seals - 1) found.0 0 found.1))
-          (equal_fits (slice_index values (f found.0)) price (2 ^ width) holds case.within_width small);
-        others = λ q h ne.
-          let listed_place : q < seals - 1 = omega arith in
-          subst (λ at. sum (slice_index values at) (difference (2 ^ width - 1) price) < 2 ^ width) (sym (at_listed f (seals - 1) q 0 listed_place))
-            (below_fits (slice_index values (f q)) price (2 ^ width) (within_price q listed_place) case.within_width small);
-      })
+      let holds : slice_index values (f found.0) ≡ price = ap (λ p. slice_index values (seals + p)) found.2 ∙ bid_of (held.holder - 1) inside ∙ held.bids_price in (
+        found.0,
+        record {
+          is_place = omega (arith, found.1);
+          here = subst (λ at. difference (slice_index values at) price < 2 ^ width) (sym (at_listed f (seals - 1) found.0 0 found.1))
+              (equal_fits (slice_index values (f found.0)) price (2 ^ width) holds case.within_width small);
+          others = λ q h ne.
+              let listed_place : q < seals - 1 = omega arith in
+              subst (λ at. sum (slice_index values at) (difference (2 ^ width - 1) price) < 2 ^ width) (sym (at_listed f (seals - 1) q 0 listed_place))
+              (below_fits (slice_index values (f q)) price (2 ^ width) (within_price q listed_place) case.within_width small);
+        },
+      )
 
 claim_residues : (seals width position price : ℕ) (bids : List ℕ) → width ≤ 40 → IsVickreyClaim seals width position price bids → All IsResidue bids
 claim_residues seals width position price bids most claim j d h = omega (arith, claim.within_width j d h, width_small width most)
@@ -514,19 +537,20 @@ vickrey_complete seals width position price bids case claim =
     let b3 = begins_longer bids v2 (series_values v2 (price_form seals winner price) width (seals - 1)) b2 in
     let h0 = subst (λ n. Holds (copies n n) v0) claim.one_each (copies_complete bids (claim_residues seals width position price bids most claim)) in
     let h1 = series_complete (copies seals seals) (bid_form seals) width (seals + seals) seals v0 (copies_names seals seals (omega arith)) (bids_series seals width some most) h0
-      (bids_fit seals width position price bids v0 case claim b0) in
+    (bids_fit seals width position price bids v0 case claim b0) in
     let h2 = series_complete (with_bids seals width) (win_form seals winner) width (seals + seals) (seals - 1) v1 (names_bids seals width some most) (wins_series seals width winner w some most) h1
-      (wins_fit seals width position price bids v1 case claim b1) in
+    (wins_fit seals width position price bids v1 case claim b1) in
     let h3 = series_complete (with_wins seals width winner) (price_form seals winner price) width (seals + seals) (seals - 1) v2 (names_wins seals width winner w some most)
-      (prices_series seals width winner price w some most) h2 (prices_fit seals width position price bids v2 case claim b2) in
+    (prices_series seals width winner price w some most) h2 (prices_fit seals width position price bids v2 case claim b2) in
     elim (eqb_tells seals 1) [
-      inl one ↦
-        subst (λ p. Holds p (if seals == 1 then v3 else v3 ++ selected_values relation v3)) (sym (plan_alone seals width position price one.0))
+      | inl one ↦
+          subst (λ p. Holds p (if seals == 1 then v3 else v3 ++ selected_values relation v3)) (sym (plan_alone seals width position price one.0))
           (subst (λ b. Holds (with_prices seals width winner price) (if b then v3 else v3 ++ selected_values relation v3)) (sym one.0) h3)
-    | inr many ↦
-        (let two : 2 ≤ seals = omega (arith, case.some_seals, many.1) in
-         let chosen = may_be_selected seals width position price bids v3 case claim b3 two in
-         let h4 = selected_complete relation (with_prices seals width winner price) v3 chosen.0 (names_prices seals width winner price w some most)
-           (selection seals width winner price two case.most_seals w some most) h3 chosen.1 in
-         subst (λ p. Holds p (if seals == 1 then v3 else v3 ++ selected_values relation v3)) (sym (plan_many seals width position price many.0))
-           (subst (λ b. Holds (with_selection seals width winner price) (if b then v3 else v3 ++ selected_values relation v3)) (sym many.0) h4)) ]
+      | inr many ↦
+          (let two : 2 ≤ seals = omega (arith, case.some_seals, many.1) in
+          let chosen = may_be_selected seals width position price bids v3 case claim b3 two in
+          let h4 = selected_complete relation (with_prices seals width winner price) v3 chosen.0 (names_prices seals width winner price w some most)
+          (selection seals width winner price two case.most_seals w some most) h3 chosen.1 in
+          subst (λ p. Holds p (if seals == 1 then v3 else v3 ++ selected_values relation v3)) (sym (plan_many seals width position price many.0))
+          (subst (λ b. Holds (with_selection seals width winner price) (if b then v3 else v3 ++ selected_values relation v3)) (sym many.0) h4))
+    ]

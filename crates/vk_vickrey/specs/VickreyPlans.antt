@@ -1,14 +1,14 @@
 -- The plan that shows a second-price outcome, and the values that hold for it. Wires, rows and the
 -- places below count from 0; the published position counts from 1.
-use Rattle.std.specs.Prelude.{ℕ, ◌+◌, ◌-◌, ◌*◌, ◌^◌, ◌<◌, ◌≤◌, ◌≡◌, ◌==◌, Bool, true, false, if◌then◌else◌, nat_lt, List, [], ◌∷◌, ◌++◌, All, length, replicate, slice_index}
+use Rattle.std.specs.Prelude.{ℕ, ◌+◌, ◌-◌, ◌*◌, ◌^◌, ◌<◌, ◌≤◌, ◌≡◌, ◌==◌, false, if◌then◌else◌, nat_lt, List, [], ◌∷◌, ◌++◌, All, length, replicate}
 use Rattle.vk_plan.specs.declared.wire.WireKind.{WireKind}
 use Rattle.vk_plan.specs.declared.wire.WireKind.TheVariants.{Split}
 use Rattle.vk_plan.specs.declared.form.Form.{Form}
-use Rattle.vk_plan.specs.Plans.{PlanValue, plan_of_inputs, extended}
+use Rattle.vk_plan.specs.Plans.{PlanValue}
 use Rattle.vk_range.specs.declared.selected.SelectedIs.{SelectedIs}
 use Rattle.vk_range.specs.Sets.{listed, plus, minus}
 use Rattle.vk_range.specs.Forms.{difference_form}
-use Rattle.vk_range.specs.Series.{series, series_kinds, series_rows, series_values}
+use Rattle.vk_range.specs.Series.{series_kinds, series_rows, series_values}
 use Rattle.vk_range.specs.Selected.{selected_wires, selected_rows, selected_values}
 use Rattle.vk_vickrey.specs.Outcomes.{IsVickreyOutcome}
 
@@ -71,16 +71,23 @@ vickrey_plan seals width position price =
     record {
       inputs = seals;
       kinds = replicate seals Split ++ copies_kinds seals
-        ++ series_kinds width seals
-        ++ series_kinds width others
-        ++ series_kinds width others
-        ++ (if seals == 1 then [] else selected_wires (price_selection seals width winner price));
+          ++ series_kinds width seals
+          ++ series_kinds width others
+          ++ series_kinds width others
+          ++ (if seals == 1 then [] else selected_wires (price_selection seals width winner price));
       rows = copies_rows seals seals
-        ++ series_rows (bid_form seals) bids width seals
-        ++ series_rows (win_form seals winner) wins width others
-        ++ series_rows (price_form seals winner price) prices width others
-        ++ (if seals == 1 then [] else selected_rows (price_selection seals width winner price) selectors);
+          ++ series_rows (bid_form seals) bids width seals
+          ++ series_rows (win_form seals winner) wins width others
+          ++ series_rows (price_form seals winner price) prices width others
+          ++ (if seals == 1 then [] else selected_rows (price_selection seals width winner price) selectors);
     }
+
+-- how many wires it has, and how many rows
+abbrev pub wire_count : ℕ → ℕ → ℕ
+wire_count seals width = 2 * seals + (seals - 1) + width * (4 * seals - 3)
+
+abbrev pub row_count : ℕ → ℕ
+row_count seals = if seals == 1 then 2 else 5 * seals - 2
 
 -- values with those of the next sets behind them: each pair has its weight where that bit of its set's form is set
 abbrev pub after_bids : ℕ → ℕ → List ℕ → List ℕ

@@ -1,29 +1,29 @@
 -- What the code meets on its way: plans that are plans, and room for the next set.
-use Rattle.std.specs.Prelude.{ℕ, ◌+◌, ◌-◌, ◌*◌, ◌^◌, ◌<◌, ◌≤◌, ◌≡◌, ◌≢◌, ◌==◌, Bool, true, false, if◌then◌else◌, nat_lt, List, [], ◌∷◌, ◌++◌, All, length, take, replicate, slice_index}
-use Rattle.std.proofs.Common.{refl, sym, ap, ◌∙◌, subst, arith, inl, inr, length-append, mul-le-mul_left, mul-le-mul_right, append_assoc, lit≤}
+use Rattle.std.specs.Prelude.{Option, Some, None, IsNone, IfSome, unwrap_or, ℕ, ◌+◌, ◌-◌, ◌*◌, ◌^◌, ◌<◌, ◌≤◌, ◌≡◌, ◌≢◌, false, if◌then◌else◌, List, [], ◌∷◌, ◌++◌, length, take, replicate}
+use Rattle.std.proofs.Common.{suc, suc-mul, refl, sym, ap, ◌∙◌, subst, arith, inl, inr, length-append, mul-le-mul_left, mul-le-mul_right, append_assoc, lit≤}
 use Rattle.std.proofs.lemmas.List.{append-nil, length-replicate, take-append-le, take_at}
-use Rattle.std.proofs.lemmas.List.Elements.{All-cons, All-nil}
-use Rattle.std.proofs.lemmas.Bool.{cases_lt, eq-eqb, ne_eqb}
+use Rattle.std.proofs.lemmas.Bool.{eq-eqb, ne_eqb}
 use Rattle.std.proofs.lemmas.Bool.Decides.{eqb_tells}
-use Rattle.vk_plan.specs.declared.wire.WireKind.{WireKind}
+use Rattle.std.proofs.Math.Pow.{pow_mono}
+use Rattle.vk_residue.specs.Residue.{modulus}
 use Rattle.vk_plan.specs.declared.wire.WireKind.TheVariants.{Split}
-use Rattle.vk_plan.specs.declared.form.Term.{Term}
 use Rattle.vk_plan.specs.declared.form.Form.{Form}
 use Rattle.vk_plan.specs.Forms.{form_value, NamesBelow}
 use Rattle.vk_plan.specs.FormLaws.{form_value_within, NamesBelow-more}
 use Rattle.vk_plan.specs.Plans.{PlanValue, IsPlan, Holds, HasWeight, plan_of_inputs, extended}
 use Rattle.vk_plan.specs.PlanLaws.{IsPlan-inputs, IsPlan-extended}
 use Rattle.vk_range.specs.declared.selected.SelectedIs.{SelectedIs}
-use Rattle.vk_range.specs.Sets.{listed, IsOfWidth, test_set, set_row, bit_parts, plus, minus}
+use Rattle.vk_range.specs.Sets.{listed, IsOfWidth, test_set, set_row}
 use Rattle.vk_range.specs.Forms.{difference_form, IsRange}
 use Rattle.vk_range.specs.SetLaws.{length_listed, listed_more, All-listed}
 use Rattle.vk_range.specs.Laws.{difference_names}
-use Rattle.vk_range.specs.Series.{same_plan, series, series_values, IsSeries, length_series, series_more, series_room, next_range}
+use Rattle.vk_range.specs.Series.{same_plan, series, series_rows, series_values, IsSeries, length_series, series_more, series_room, next_range}
 use Rattle.vk_range.specs.Selected.{IsSelection, selected_wires, selected_rows, selected_values}
 use Rattle.vk_range.specs.Rooms.{selected_room}
-use Rattle.vk_vickrey.specs.Outcomes.{IsVickreyOutcome}
-use Rattle.vk_vickrey.specs.VickreyPlans.{IsVickreyCase, IsVickreyClaim, other, copies_kinds, copies_rows, bid_form, win_form, price_form, price_selection, vickrey_plan, after_bids, after_wins, after_prices, after_selection, honest_values}
-use Rattle.vk_vickrey.specs.VickreyLaws.{copies, with_bids, with_wins, with_prices, with_selection, selection, vickrey_sound, other_within, length_copies, bids_series, wins_series, prices_series}
+use Rattle.vk_range.specs.Selected.{place_row}
+use Rattle.vk_range.specs.SelectedLaws.{length_kinds}
+use Rattle.vk_vickrey.specs.VickreyPlans.{IsVickreyCase, IsVickreyClaim, other, copies_kinds, copies_rows, bid_form, win_form, price_form, price_selection, vickrey_plan, wire_count, row_count, after_bids, after_wins, after_prices, after_selection, honest_values}
+use Rattle.vk_vickrey.specs.VickreyLaws.{length_prices, plan_alone, plan_many, BeginsWith, begins_alone, begins_longer, copies, with_bids, with_wins, with_prices, selection, vickrey_sound, other_within, length_copies, bids_series, wins_series, prices_series}
 
 -- one copy more
 pub copies_more : (seals count : ℕ) → copies seals (count + 1) ≡ extended (copies seals count) (Split ∷ []) (difference_form count (length (copies seals count).kinds) false ∷ [])
@@ -33,10 +33,10 @@ copies_more seals count =
     let kinds = listed_more (λ _. Split) count in
     let rows = listed_more row count in
     let kinds' : replicate seals Split ++ copies_kinds (count + 1) ≡ replicate seals Split ++ copies_kinds count ++ Split ∷ [] =
-      ap (λ more. replicate seals Split ++ more) kinds ∙ sym (append_assoc (replicate seals Split) (copies_kinds count) (Split ∷ [])) in
+    ap (λ more. replicate seals Split ++ more) kinds ∙ sym (append_assoc (replicate seals Split) (copies_kinds count) (Split ∷ [])) in
     same_plan seals (replicate seals Split ++ copies_kinds (count + 1)) (replicate seals Split ++ copies_kinds count ++ Split ∷ [])
-      (copies_rows seals (count + 1)) (copies_rows seals count ++ difference_form count (length (copies seals count).kinds) false ∷ [])
-      kinds' (rows ∙ ap (λ r. copies_rows seals count ++ r ∷ []) (sym at))
+    (copies_rows seals (count + 1)) (copies_rows seals count ++ difference_form count (length (copies seals count).kinds) false ∷ [])
+    kinds' (rows ∙ ap (λ r. copies_rows seals count ++ r ∷ []) (sym at))
 
 pub copies_none : (seals : ℕ) → copies seals 0 ≡ plan_of_inputs seals
 copies_none seals = same_plan seals (replicate seals Split ++ []) (replicate seals Split) [] [] (append-nil (replicate seals Split)) refl
@@ -45,12 +45,12 @@ copies_none seals = same_plan seals (replicate seals Split ++ []) (replicate sea
 pub IsPlan-copies : (seals count : ℕ) → seals ≤ 64 → count ≤ seals → IsPlan (copies seals count)
 IsPlan-copies seals count few some =
     IsPlan-extended (plan_of_inputs seals) (copies_kinds count) (copies_rows seals count) (IsPlan-inputs seals (omega arith))
-      (All-listed HasWeight (λ _. Split) count (λ j h. tt))
-      (All-listed (λ row. NamesBelow (length (replicate seals Split) + length (copies_kinds count)) row.terms) (λ j. difference_form j (seals + j) false) count
-        (λ j h. difference_names (length (replicate seals Split) + length (copies_kinds count)) j (seals + j) false
-          (omega (arith, length-replicate seals Split)) (omega (arith, length-replicate seals Split, length_listed (λ _. Split) count))))
-      (omega (arith, length-replicate seals Split, length_listed (λ _. Split) count))
-      (omega (arith, length_listed (λ j. difference_form j (seals + j) false) count))
+    (All-listed HasWeight (λ _. Split) count (λ j h. tt))
+    (All-listed (λ row. NamesBelow (length (replicate seals Split) + length (copies_kinds count)) row.terms) (λ j. difference_form j (seals + j) false) count
+    (λ j h. difference_names (length (replicate seals Split) + length (copies_kinds count)) j (seals + j) false
+    (omega (arith, length-replicate seals Split)) (omega (arith, length-replicate seals Split, length_listed (λ _. Split) count))))
+    (omega (arith, length-replicate seals Split, length_listed (λ _. Split) count))
+    (omega (arith, length_listed (λ j. difference_form j (seals + j) false) count))
 
 products : (count width : ℕ) → count ≤ 64 → width ≤ 40 → count * width ≤ 2560
 products count width few small = omega (arith, mul-le-mul_right width few, mul-le-mul_left 64 small)
@@ -77,7 +77,8 @@ small_copies : (seals : ℕ) → seals ≤ 64 → IsSmall (copies seals seals) 1
 small_copies seals few = record {
   is_plan = IsPlan-copies seals seals few (omega arith);
   wires_within = omega (arith, length_copies seals seals);
-  rows_within = omega (arith, length_listed (λ j. difference_form j (seals + j) false) seals) }
+  rows_within = omega (arith, length_listed (λ j. difference_form j (seals + j) false) seals);
+}
 
 small_bids : (seals width count : ℕ) → seals ≤ 64 → 1 ≤ width → width ≤ 40 → count ≤ seals → IsSmall (series (copies seals seals) (bid_form seals) width count) 2688 128
 small_bids seals width count few some most le =
@@ -87,20 +88,20 @@ small_wins : (seals width winner count : ℕ) → seals ≤ 64 → winner < seal
     → IsSmall (series (with_bids seals width) (win_form seals winner) width count) 5248 192
 small_wins seals width winner count few w some most le =
     small_series (with_bids seals width) (win_form seals winner) width (seals + seals) (seals - 1) count 2688 128 (small_bids seals width seals few some most (omega arith))
-      (wins_series seals width winner w some most) le (omega arith) (lit≤ tt) (lit≤ tt)
+    (wins_series seals width winner w some most) le (omega arith) (lit≤ tt) (lit≤ tt)
 
 small_prices : (seals width winner price count : ℕ) → seals ≤ 64 → winner < seals → 1 ≤ width → width ≤ 40 → count ≤ seals - 1
     → IsSmall (series (with_wins seals width winner) (price_form seals winner price) width count) 7808 256
 small_prices seals width winner price count few w some most le =
     small_series (with_wins seals width winner) (price_form seals winner price) width (seals + seals) (seals - 1) count 5248 192
-      (small_wins seals width winner (seals - 1) few w some most (omega arith)) (prices_series seals width winner price w some most) le (omega arith) (lit≤ tt) (lit≤ tt)
+    (small_wins seals width winner (seals - 1) few w some most (omega arith)) (prices_series seals width winner price w some most) le (omega arith) (lit≤ tt) (lit≤ tt)
 
 -- room for the next set of each part
 next_room : (plan now : PlanValue) (form : ℕ → Form) (width count : ℕ) → now ≡ series plan form width count → IsPlan (series plan form width (count + 1))
     → IsPlan (extended now (test_set width) (set_row (form count) (length now.kinds) width ∷ []))
 next_room plan now form width count same is_plan =
     subst (λ p. IsPlan (extended p (test_set width) (set_row (form count) (length p.kinds) width ∷ []))) (sym same)
-      (subst IsPlan (series_more plan form width count) is_plan)
+    (subst IsPlan (series_more plan form width count) is_plan)
 
 next_fits : (plan now : PlanValue) (form : ℕ → Form) (width base most count : ℕ) → now ≡ series plan form width count → IsSeries plan form width base most → count < most
     → IsRange (form count) width now
@@ -122,7 +123,7 @@ module _ (seals width position price : ℕ) (case : IsVickreyCase seals width po
       → IsPlan (extended now (test_set width) (set_row (win_form seals (position - 1) count) (length now.kinds) width ∷ []))
   wins_room now count same h =
       next_room (with_bids seals width) now (win_form seals (position - 1)) width count same
-        (small_wins seals width (position - 1) (count + 1) case.most_seals is_winner case.some_width case.most_width (omega arith)).is_plan
+      (small_wins seals width (position - 1) (count + 1) case.most_seals is_winner case.some_width case.most_width (omega arith)).is_plan
 
   pub wins_long : (now : PlanValue) (count : ℕ) → now ≡ series (with_bids seals width) (win_form seals (position - 1)) width count → seals + seals ≤ length now.kinds
   wins_long now count same =
@@ -133,13 +134,13 @@ module _ (seals width position price : ℕ) (case : IsVickreyCase seals width po
       → IsPlan (extended now (test_set width) (set_row (price_form seals (position - 1) price count) (length now.kinds) width ∷ []))
   prices_room now count same h =
       next_room (with_wins seals width (position - 1)) now (price_form seals (position - 1) price) width count same
-        (small_prices seals width (position - 1) price (count + 1) case.most_seals is_winner case.some_width case.most_width (omega arith)).is_plan
+      (small_prices seals width (position - 1) price (count + 1) case.most_seals is_winner case.some_width case.most_width (omega arith)).is_plan
 
   pub prices_fits : (now : PlanValue) (count : ℕ) → now ≡ series (with_wins seals width (position - 1)) (price_form seals (position - 1) price) width count → count < seals - 1
       → IsRange (price_form seals (position - 1) price count) width now
   prices_fits now count same h =
       next_fits (with_wins seals width (position - 1)) now (price_form seals (position - 1) price) width (seals + seals) (seals - 1) count same
-        (prices_series seals width (position - 1) price is_winner case.some_width case.most_width) h
+      (prices_series seals width (position - 1) price is_winner case.some_width case.most_width) h
 
 -- the values begin with the bids
 pub honest_begins : (seals width position price : ℕ) (bids : List ℕ) → length bids ≡ seals → take seals (honest_values seals width position price bids) ≡ bids
@@ -161,8 +162,9 @@ honest_begins seals width position price bids same =
     let l3 : seals ≤ length v3 = omega (arith, length-append v2 s3) in
     let e3 : take seals v3 ≡ bids = take-append-le seals v2 s3 l2 ∙ (take-append-le seals v1 s2 l1 ∙ (take-append-le seals v0 s1 l0 ∙ e0)) in
     elim (eqb_tells seals 1) [
-      inl one ↦ ap (λ b. take seals (if b then v3 else v3 ++ selected_values relation v3)) one.0 ∙ e3
-    | inr many ↦ ap (λ b. take seals (if b then v3 else v3 ++ selected_values relation v3)) many.0 ∙ (take-append-le seals v3 (selected_values relation v3) l3 ∙ e3) ]
+      | inl one ↦ ap (λ b. take seals (if b then v3 else v3 ++ selected_values relation v3)) one.0 ∙ e3
+      | inr many ↦ ap (λ b. take seals (if b then v3 else v3 ++ selected_values relation v3)) many.0 ∙ (take-append-le seals v3 (selected_values relation v3) l3 ∙ e3)
+    ]
 
 -- the two laws, at the plan's own number of inputs
 pub circuit_begins : (seals width position price : ℕ) (bids : List ℕ) → IsVickreyClaim seals width position price bids
@@ -180,7 +182,7 @@ pub copies_room : (seals count : ℕ) (now : PlanValue) → seals ≤ 64 → now
     → IsPlan (extended now (Split ∷ []) (difference_form count (length now.kinds) false ∷ []))
 copies_room seals count now few same h =
     subst (λ p. IsPlan (extended p (Split ∷ []) (difference_form count (length p.kinds) false ∷ []))) (sym same)
-      (subst IsPlan (copies_more seals count) (IsPlan-copies seals (count + 1) few (omega arith)))
+    (subst IsPlan (copies_more seals count) (IsPlan-copies seals (count + 1) few (omega arith)))
 
 pub copies_added : (seals count : ℕ) (now next : PlanValue) → now ≡ copies seals count
     → next ≡ extended now (Split ∷ []) (difference_form count (length now.kinds) false ∷ []) → next ≡ copies seals (count + 1)
@@ -229,14 +231,14 @@ module _ (seals width position price : ℕ) (case : IsVickreyCase seals width po
 
   pub selection_room : seals ≢ 1
       → IsPlan (extended (with_prices seals width (position - 1) price) (selected_wires (price_selection seals width (position - 1) price))
-          (selected_rows (price_selection seals width (position - 1) price) (length (with_prices seals width (position - 1) price).kinds)))
+      (selected_rows (price_selection seals width (position - 1) price) (length (with_prices seals width (position - 1) price).kinds)))
   selection_room many =
       let relation = price_selection seals width (position - 1) price in
       let small = small_prices seals width (position - 1) price (seals - 1) case.most_seals (is_winner seals width position price case) case.some_width case.most_width (omega arith) in
       let long = length_listed (λ k. seals + other (position - 1) k) (seals - 1) in
       let few : length relation.wires ≤ 64 = omega (arith, case.most_seals) in
       selected_room (with_prices seals width (position - 1) price) relation prices_plan (selection_fits many)
-        (omega (arith, products (length relation.wires) width few case.most_width, small.wires_within)) (omega (arith, small.rows_within))
+      (omega (arith, products (length relation.wires) width few case.most_width, small.wires_within)) (omega (arith, small.rows_within))
 
   -- the values on the way, and at the end
   values_before : (bids v0 v1 v2 v3 : List ℕ) → v0 ≡ bids ++ bids → v1 ≡ after_bids seals width v0
@@ -251,7 +253,7 @@ module _ (seals width position price : ℕ) (case : IsVickreyCase seals width po
   unfolding honest_values
   honest_alone bids v0 v1 v2 v3 one e0 e1 e2 e3 =
       sym (ap (λ b. if b then v3 else v3 ++ selected_values (price_selection seals width (position - 1) price) v3) (eq-eqb seals 1 one))
-        ∙ ap (after_selection seals width (position - 1) price) (values_before bids v0 v1 v2 v3 e0 e1 e2 e3)
+      ∙ ap (after_selection seals width (position - 1) price) (values_before bids v0 v1 v2 v3 e0 e1 e2 e3)
 
   pub honest_many : (bids v0 v1 v2 v3 v4 : List ℕ) → seals ≢ 1 → v0 ≡ bids ++ bids → v1 ≡ after_bids seals width v0
       → v2 ≡ after_wins seals width (position - 1) v1 → v3 ≡ after_prices seals width (position - 1) price v2
@@ -259,4 +261,109 @@ module _ (seals width position price : ℕ) (case : IsVickreyCase seals width po
   unfolding honest_values
   honest_many bids v0 v1 v2 v3 v4 many e0 e1 e2 e3 e4 =
       e4 ∙ (sym (ap (λ b. if b then v3 else v3 ++ selected_values (price_selection seals width (position - 1) price) v3) (ne_eqb seals 1 many))
-        ∙ ap (after_selection seals width (position - 1) price) (values_before bids v0 v1 v2 v3 e0 e1 e2 e3))
+      ∙ ap (after_selection seals width (position - 1) price) (values_before bids v0 v1 v2 v3 e0 e1 e2 e3))
+
+  pub wins_over : (values : List ℕ) (count : ℕ) → seals + seals ≤ length values → count < seals - 1
+      → (plan : PlanValue) × (((seals + (position - 1) < length plan.kinds) × (seals + other (position - 1) count < length plan.kinds) × (1 ≤ width) × (width ≤ 40))
+      × (length plan.kinds ≡ length values))
+  wins_over values count enough h =
+      let same = length-replicate (length values) Split in
+      (plan_of_inputs (length values), (wins_fits (length (replicate (length values) Split)) count (omega arith) h, same))
+
+  pub selection_over : (values : List ℕ) → seals ≢ 1 → seals + seals ≤ length values
+      → (plan : PlanValue) × (IsSelection (price_selection seals width (position - 1) price) (length plan.kinds) × (length plan.kinds ≡ length values))
+  selection_over values many enough =
+      let same = length-replicate (length values) Split in
+      let w = is_winner seals width position price case in
+      let long = length_listed (λ k. seals + other (position - 1) k) (seals - 1) in (
+        plan_of_inputs (length values),
+        (
+          record {
+            names = All-listed (λ wire. wire < length (replicate (length values) Split)) (λ k. seals + other (position - 1) k) (seals - 1)
+                (λ k h. omega (arith, other_within seals (position - 1) k w h));
+            one = omega (arith, case.some_seals, many);
+            most = omega (arith, case.most_seals);
+            some_width = case.some_width;
+            most_width = case.most_width;
+          },
+          same,
+        ),
+      )
+
+-- values that begin with the bids and their copies
+pub begins_here : (bids values : List ℕ) → values ≡ bids ++ bids → BeginsWith bids values
+begins_here bids values same = subst (BeginsWith bids) (sym same) (begins_alone bids)
+
+pub begins_next : (bids values more next : List ℕ) → next ≡ values ++ more → BeginsWith bids values → BeginsWith bids next
+begins_next bids values more next same begins = subst (BeginsWith bids) (sym same) (begins_longer bids values more begins)
+
+pub twice : (none once both bids : List ℕ) → none ≡ [] → once ≡ none ++ bids → both ≡ once ++ bids → both ≡ bids ++ bids
+twice none once both bids e0 e1 e2 = e2 ∙ ap (λ v. v ++ bids) (e1 ∙ ap (λ v. v ++ bids) e0)
+
+-- a price of at most 40 bits is a residue
+pub price_is_residue : (made : Option ℕ) (width price : ℕ) → width ≤ 40 → price < 2 ^ width → (IsNone made → modulus ≤ price) → IfSome made (λ r. r ≡ price)
+    → unwrap_or made 0 ≡ price
+price_is_residue None width price most small refused value = absurd (omega (arith, refused refl, pow_mono {i = width} {j = 40} most))
+price_is_residue (Some r) width price most small refused value = value
+
+-- how many wires and rows the plan has
+selected_count : (relation : SelectedIs) → length (selected_wires relation) ≡ length relation.wires + length relation.wires * relation.width
+selected_count relation = length_kinds relation (length relation.wires)
+
+four_sets : (k width : ℕ) → width * (4 * k + 1) ≡ 4 * (k * width) + width
+four_sets k width = omega arith
+
+prices_count : (seals width winner price : ℕ) → 1 ≤ seals
+    → length (with_prices seals width winner price).kinds + (seals - 1) * width ≡ 2 * seals + width * (4 * seals - 3)
+prices_count seals width winner price some =
+    let one_more : seals ≡ suc (seals - 1) = omega arith in
+    let all : seals * width ≡ (seals - 1) * width + width = ap (λ n. n * width) one_more ∙ suc-mul (seals - 1) width in
+    let sets : 4 * seals - 3 ≡ 4 * (seals - 1) + 1 = omega arith in
+    let product : width * (4 * seals - 3) ≡ 4 * ((seals - 1) * width) + width = ap (λ n. width * n) sets ∙ four_sets (seals - 1) width in
+    omega (arith, length_prices seals width winner price)
+
+pub wires_alone : (seals width position price : ℕ) → seals ≡ 1 → length (vickrey_plan seals width position price).kinds ≡ wire_count seals width
+wires_alone seals width position price one =
+    let here : (seals - 1) * width ≡ 0 = (let e : seals - 1 ≡ 0 = omega arith in ap (λ n. n * width) e ∙ omega arith) in
+    ap (λ p. length p.kinds) (plan_alone seals width position price (eq-eqb seals 1 one)) ∙ omega (arith, prices_count seals width (position - 1) price (omega arith))
+
+pub wires_many : (seals width position price : ℕ) → 1 ≤ seals → seals ≢ 1 → length (vickrey_plan seals width position price).kinds ≡ wire_count seals width
+wires_many seals width position price some many =
+    let relation = price_selection seals width (position - 1) price in
+    let plan = with_prices seals width (position - 1) price in
+    let long = length_listed (λ k. seals + other (position - 1) k) (seals - 1) in
+    let sets = ap (λ n. n * width) long in
+    ap (λ p. length p.kinds) (plan_many seals width position price (ne_eqb seals 1 many))
+    ∙ (length-append plan.kinds (selected_wires relation) ∙ omega (arith, selected_count relation, prices_count seals width (position - 1) price some))
+
+rows_before : (seals width winner price : ℕ) → length (with_prices seals width winner price).rows ≡ seals + seals + (seals - 1) + (seals - 1)
+rows_before seals width winner price =
+    let a = copies_rows seals seals in
+    let b = series_rows (bid_form seals) (length (copies seals seals).kinds) width seals in
+    let c = series_rows (win_form seals winner) (length (with_bids seals width).kinds) width (seals - 1) in
+    let d = series_rows (price_form seals winner price) (length (with_wins seals width winner).kinds) width (seals - 1) in
+    length-append (a ++ b ++ c) d ∙ omega (
+      arith,
+      length-append (a ++ b) c,
+      length-append a b,
+      length_listed (λ j. difference_form j (seals + j) false) seals,
+      length_listed (λ i. set_row (bid_form seals i) (length (copies seals seals).kinds + i * width) width) seals,
+      length_listed (λ i. set_row (win_form seals winner i) (length (with_bids seals width).kinds + i * width) width) (seals - 1),
+      length_listed (λ i. set_row (price_form seals winner price i) (length (with_wins seals width winner).kinds + i * width) width) (seals - 1),
+    )
+
+pub rows_alone : (seals width position price : ℕ) → seals ≡ 1 → length (vickrey_plan seals width position price).rows ≡ row_count seals
+rows_alone seals width position price one =
+    ap (λ p. length p.rows) (plan_alone seals width position price (eq-eqb seals 1 one))
+    ∙ (rows_before seals width (position - 1) price ∙ (omega arith ∙ sym (ap (λ b. if b then 2 else 5 * seals - 2) (eq-eqb seals 1 one))))
+
+pub rows_many : (seals width position price : ℕ) → 1 ≤ seals → seals ≢ 1 → length (vickrey_plan seals width position price).rows ≡ row_count seals
+rows_many seals width position price some many =
+    let relation = price_selection seals width (position - 1) price in
+    let plan = with_prices seals width (position - 1) price in
+    let start = length plan.kinds in
+    let long = length_listed (λ k. seals + other (position - 1) k) (seals - 1) in
+    let sum : length (plan.rows ++ selected_rows relation start) ≡ 5 * seals - 2 =
+    length-append plan.rows (selected_rows relation start) ∙ omega (arith, rows_before seals width (position - 1) price, length_listed (place_row relation start) (length relation.wires)) in
+    ap (λ p. length p.rows) (plan_many seals width position price (ne_eqb seals 1 many))
+    ∙ (sum ∙ sym (ap (λ b. if b then 2 else 5 * seals - 2) (ne_eqb seals 1 many)))

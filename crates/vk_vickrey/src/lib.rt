@@ -2,7 +2,10 @@
 #![tactic(auto)]
 
 mod outcomes;
-
+mod plan;
 
 pub use outcomes::{VickreyOutcome, outcome};
+pub use plan::VickreyPlan;
 
+#[cfg(test)]
+mod tests;

@@ -1,4 +1,4 @@
-use Rattle.std.proofs.Common.{◌≡◌, ◌+◌, length, sym, subst, arith}
+use Rattle.std.proofs.Common.{◌≡◌, ◌+◌, length, subst, arith}
 use Rattle.vk_vickrey.specs.Outcomes.{IsVickreyOutcome}
 use Rattle.vk_vickrey.specs.OutcomeLaws.{IsOutcomeOfFirst, all_first, outcome_is_one}
 use Rattle.vk_vickrey.proofs.outcomes.outcome.Goals as goal
@@ -8,7 +8,7 @@ found : (c : After-loop-i) → IsVickreyOutcome c.args.bids.now (c.loop-i.winner
 found c =
     let all : c.loop-i.i ≡ length c.args.bids.now = omega arith in
     all_first c.args.bids.now c.loop-i.winner c.loop-i.best c.loop-i.price
-      (subst (λ n. IsOutcomeOfFirst c.args.bids.now n c.loop-i.winner c.loop-i.best c.loop-i.price) all c.loop-i.invariant)
+    (subst (λ n. IsOutcomeOfFirst c.args.bids.now n c.loop-i.winner c.loop-i.best c.loop-i.price) all c.loop-i.invariant)
 
 pub returns-clause-outcome : goal.returns-clause-outcome
 returns-clause-outcome c = found c

@@ -1,0 +1,293 @@
+ghost use Rattle.std.specs.Prelude.{◌≡◌, ◌+◌, ◌-◌, ◌*◌, ◌<◌, ◌≤◌, ◌↔◌, ◌++◌, List, ℕ, length, take, IsSome, IfSome, IfOk, OnOk, nat_lt};
+ghost use Rattle.vk_plan.specs.Plans.{PlanValue, Holds};
+ghost use Rattle.vk_range.specs.Sets.{IsOfWidth};
+ghost use Rattle.vk_range.specs.Series.{series_values};
+ghost use Rattle.vk_plan.specs.Forms.{form_value};
+ghost use Rattle.vk_vickrey.specs.VickreyPlans.{IsVickreyCase, IsVickreyClaim, vickrey_plan, wire_count, row_count, honest_values, bid_form, win_form, price_form, price_selection, other};
+ghost use Rattle.vk_vickrey.specs.VickreyLaws.{copies, with_bids, with_wins, with_prices, vickrey_complete};
+ghost use Rattle.vk_vickrey.specs.VickreySteps.{circuit_begins, circuit_sound};
+
+use crate::outcomes::VickreyOutcome;
+use std::alloc::Global;
+use vk_plan::{Circuit, Form, Plan, Relation, Term};
+use vk_range::{AtLeast, Copied, InRange, SelectedIs};
+use vk_residue::{NoMemory, Residue};
+use vk_seq::Seq;
+
+/// The plan that shows, of hidden bids, that a published position wins at a published price.
+#[derive(Clone, Copy, Debug)]
+pub struct VickreyPlan {
+    /// How many bids there are, 1 to 64.
+    pub seals: u32,
+    /// Each bid is below 2^width, for a width of 1 to 40.
+    pub width: u32,
+    /// The winner's place among the bids, counted from 1.
+    pub position: u32,
+    /// What the winner pays, below 2^width, and 0 where there is one bid.
+    pub price: u64,
+    pub ghost in_limits: { IsVickreyCase seals width position price },
+}
+
+impl VickreyPlan {
+    /// None where a number is not within its limits. Takes no memory.
+    pub fn new(seals: u32, width: u32, outcome: VickreyOutcome) -> Option<VickreyPlan>
+        ensures admitted { IsSome result ↔ IsVickreyCase seals width outcome.position outcome.price }
+        ensures numbers { IfSome result (λ plan.
+            (plan.seals ≡ seals) × (plan.width ≡ width) × (plan.position ≡ outcome.position) × (plan.price ≡ outcome.price)) }
+    {
+        if seals == 0 || seals > 64 || width == 0 || width > 40 {
+            return None;
+        }
+        if outcome.position == 0 || outcome.position > seals {
+            return None;
+        }
+        if outcome.price >= Residue::pow2(width).get() || (seals == 1 && outcome.price != 0) {
+            return None;
+        }
+        Some(VickreyPlan {
+            seals,
+            width,
+            position: outcome.position,
+            price: outcome.price,
+        })
+    }
+}
+
+impl Circuit for VickreyPlan {
+    ghost plan_of = { λ c. vickrey_plan c.seals c.width c.position c.price };
+
+    ghost claim = { λ c bids. IsVickreyClaim c.seals c.width c.position c.price bids };
+
+    ghost filled = { λ c bids. honest_values c.seals c.width c.position c.price bids };
+
+    ghost begins = { λ c bids claim. circuit_begins c.seals c.width c.position c.price bids claim };
+
+    ghost sound = { λ c values holds. circuit_sound c.seals c.width c.position c.price values c.in_limits holds };
+
+    ghost complete = { λ c bids claim. vickrey_complete c.seals c.width c.position c.price bids c.in_limits claim };
+
+    #[tactic(auto, unfolding(crate::specs::VickreyPlans::vickrey_plan))]
+    fn inputs(&self) -> u32 {
+        self.seals
+    }
+
+    /// Its wires are `2n + (n - 1) + t(4n - 3)`, its rows `5n - 2`, or 2 where there is one bid.
+    fn plan(&self, alloc: Global) -> Result<Plan, NoMemory>
+        ensures plan { IfOk result
+            (λ plan. plan ≡ vickrey_plan self.now.seals self.now.width self.now.position self.now.price) }
+        ensures wires { IfOk result (λ plan. length plan.kinds ≡ wire_count self.now.seals self.now.width) }
+        ensures rows { IfOk result (λ plan. length plan.rows ≡ row_count self.now.seals) }
+    {
+        let mut plan = Plan::new(alloc, self.seals)?;
+        self.add_copies(alloc, &mut plan)?;
+        self.add_bids(alloc, &mut plan)?;
+        self.add_wins(alloc, &mut plan)?;
+        self.add_prices(alloc, &mut plan)?;
+        if self.seals == 1 {
+            return Ok(plan);
+        }
+        let selection = self.price_selection(alloc)?;
+        selection.add(alloc, &mut plan)?;
+        Ok(plan)
+    }
+
+    fn fill(&self, alloc: Global, inputs: &[Residue]) -> Result<Vec<Residue>, NoMemory> {
+        let mut values = Vec::new(alloc);
+        values.extend_from_slice(inputs)?;
+        values.extend_from_slice(inputs)?;
+        self.fill_bids(alloc, &mut values)?;
+        self.fill_wins(&mut values)?;
+        self.fill_prices(alloc, &mut values)?;
+        if self.seals == 1 {
+            return Ok(values);
+        }
+        let selection = self.price_selection(alloc)?;
+        selection.fill(&mut values)?;
+        Ok(values)
+    }
+}
+
+impl VickreyPlan {
+    /// The winner's place, counted from 0.
+    fn winner(&self) -> u32
+        ensures value { result ≡ self.now.position - 1 }
+        ensures inside { result < self.now.seals }
+    {
+        self.position - 1
+    }
+
+    /// The copy of the bid at the k-th place other than the winner's.
+    fn other_copy(&self, k: u32) -> u32
+        requires { k < self.now.seals - 1 }
+        ensures { result ≡ self.now.seals + other (self.now.position - 1) k }
+    {
+        if k < self.winner() {
+            self.seals + k
+        } else {
+            self.seals + (k + 1)
+        }
+    }
+
+    fn price_residue(&self) -> Residue
+        ensures { result ≡ self.now.price }
+    {
+        Residue::new(self.price).unwrap_or(Residue::ZERO)
+    }
+
+    /// The copy of a bid.
+    fn bid_range(&self, alloc: Global, j: u32) -> Result<InRange, NoMemory>
+        requires { j < self.now.seals }
+        ensures { IfOk result (λ relation. relation ≡ record { form = bid_form self.now.seals j; width = self.now.width }) }
+    {
+        let mut terms = Vec::new(alloc);
+        terms.push(Term {
+            wire: self.seals + j,
+            factor: Residue::ONE,
+        })?;
+        Ok(InRange {
+            form: Form {
+                terms: Seq::from_vec(terms),
+                constant: Residue::ZERO,
+            },
+            width: self.width,
+        })
+    }
+
+    /// The winner's copy is at least another's, and more than it where the other stands before.
+    fn win(&self, k: u32) -> AtLeast
+        requires { k < self.now.seals - 1 }
+        ensures { result ≡ record {
+          left = self.now.seals + (self.now.position - 1);
+          right = self.now.seals + other (self.now.position - 1) k;
+          strict = nat_lt k (self.now.position - 1);
+          width = self.now.width;
+        } }
+    {
+        AtLeast {
+            left: self.seals + self.winner(),
+            right: self.other_copy(k),
+            strict: k < self.winner(),
+            width: self.width,
+        }
+    }
+
+    /// The price less another's copy.
+    fn price_range(&self, alloc: Global, k: u32) -> Result<InRange, NoMemory>
+        requires { k < self.now.seals - 1 }
+        ensures { IfOk result (λ relation.
+            relation ≡ record { form = price_form self.now.seals (self.now.position - 1) self.now.price k; width = self.now.width }) }
+    {
+        let mut terms = Vec::new(alloc);
+        terms.push(Term {
+            wire: self.other_copy(k),
+            factor: Residue::ONE.neg(),
+        })?;
+        Ok(InRange {
+            form: Form {
+                terms: Seq::from_vec(terms),
+                constant: self.price_residue(),
+            },
+            width: self.width,
+        })
+    }
+
+    /// One of the others' copies is the price.
+    fn price_selection(&self, alloc: Global) -> Result<SelectedIs, NoMemory>
+        ensures { IfOk result (λ relation.
+            relation ≡ price_selection self.now.seals self.now.width (self.now.position - 1) self.now.price) }
+    {
+        let mut wires = Vec::new(alloc);
+        for k in 0..self.seals - 1 {
+            wires.push(self.other_copy(k))?;
+        }
+        Ok(SelectedIs {
+            wires: Seq::from_vec(wires),
+            value: self.price_residue(),
+            width: self.width,
+        })
+    }
+
+    fn add_copies(&self, alloc: Global, plan: &mut Plan) -> Result<(), NoMemory>
+        requires { plan.old ≡ copies self.now.seals 0 }
+        ensures { OnOk result (plan.new ≡ copies self.now.seals self.now.seals) }
+    {
+        for j in 0..self.seals {
+            Copied { wire: j }.add(alloc, plan)?;
+        }
+        Ok(())
+    }
+
+    fn add_bids(&self, alloc: Global, plan: &mut Plan) -> Result<(), NoMemory>
+        requires { plan.old ≡ copies self.now.seals self.now.seals }
+        ensures { OnOk result (plan.new ≡ with_bids self.now.seals self.now.width) }
+    {
+        for j in 0..self.seals {
+            let range = self.bid_range(alloc, j)?;
+            range.add(alloc, plan)?;
+        }
+        Ok(())
+    }
+
+    fn add_wins(&self, alloc: Global, plan: &mut Plan) -> Result<(), NoMemory>
+        requires { plan.old ≡ with_bids self.now.seals self.now.width }
+        ensures { OnOk result (plan.new ≡ with_wins self.now.seals self.now.width (self.now.position - 1)) }
+    {
+        for k in 0..self.seals - 1 {
+            let at_least = self.win(k);
+            at_least.add(alloc, plan)?;
+        }
+        Ok(())
+    }
+
+    fn add_prices(&self, alloc: Global, plan: &mut Plan) -> Result<(), NoMemory>
+        requires { plan.old ≡ with_wins self.now.seals self.now.width (self.now.position - 1) }
+        ensures { OnOk result (plan.new ≡ with_prices self.now.seals self.now.width (self.now.position - 1) self.now.price) }
+    {
+        for k in 0..self.seals - 1 {
+            let range = self.price_range(alloc, k)?;
+            range.add(alloc, plan)?;
+        }
+        Ok(())
+    }
+
+    fn fill_bids(&self, alloc: Global, values: &mut Vec<Residue>) -> Result<(), NoMemory>
+        requires enough { self.now.seals + self.now.seals ≤ length values.old.items }
+        requires each { (j : ℕ) → j < self.now.seals → IsOfWidth self.now.width (form_value (bid_form self.now.seals j) values.old.items) }
+        ensures { OnOk result (values.new.items ≡ values.old.items
+            ++ series_values values.old.items (bid_form self.now.seals) self.now.width self.now.seals) }
+    {
+        for j in 0..self.seals {
+            let range = self.bid_range(alloc, j)?;
+            range.fill(values)?;
+        }
+        Ok(())
+    }
+
+    fn fill_wins(&self, values: &mut Vec<Residue>) -> Result<(), NoMemory>
+        requires enough { self.now.seals + self.now.seals ≤ length values.old.items }
+        requires each { (k : ℕ) → k < self.now.seals - 1
+            → IsOfWidth self.now.width (form_value (win_form self.now.seals (self.now.position - 1) k) values.old.items) }
+        ensures { OnOk result (values.new.items ≡ values.old.items
+            ++ series_values values.old.items (win_form self.now.seals (self.now.position - 1)) self.now.width (self.now.seals - 1)) }
+    {
+        for k in 0..self.seals - 1 {
+            let at_least = self.win(k);
+            at_least.fill(values)?;
+        }
+        Ok(())
+    }
+
+    fn fill_prices(&self, alloc: Global, values: &mut Vec<Residue>) -> Result<(), NoMemory>
+        requires enough { self.now.seals + self.now.seals ≤ length values.old.items }
+        requires each { (k : ℕ) → k < self.now.seals - 1
+            → IsOfWidth self.now.width (form_value (price_form self.now.seals (self.now.position - 1) self.now.price k) values.old.items) }
+        ensures { OnOk result (values.new.items ≡ values.old.items
+            ++ series_values values.old.items (price_form self.now.seals (self.now.position - 1) self.now.price) self.now.width (self.now.seals - 1)) }
+    {
+        for k in 0..self.seals - 1 {
+            let range = self.price_range(alloc, k)?;
+            range.fill(values)?;
+        }
+        Ok(())
+    }
+}
