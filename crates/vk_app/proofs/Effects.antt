@@ -1,8 +1,8 @@
 -- Which effect the words have.
-use Rattle.std.proofs.Common.{◌≡◌, ℕ, List, Option, Some, None, refl, ap, ◌∙◌}
+use Rattle.std.proofs.Common.{◌≡◌, ℕ, List, Some, ap}
 use Rattle.std.specs.Prelude.{option_map}
 use Rattle.vk_io.specs.Files.{Files}
-use Rattle.vk_app.specs.Words.{ExtractWords, Extract, Seal, extract_words, seal_words, or_else, command_words}
+use Rattle.vk_app.specs.Words.{ExtractWords, Extract, Seal, extract_words, seal_words, or_else}
 use Rattle.vk_app.specs.Effect.{extract_effect, command_effect, effect_of}
 
 pub effect_of-extract : (files : Files) (words : List (List ℕ)) (names : ExtractWords) → extract_words words ≡ Some names → effect_of files words ≡ extract_effect files names

@@ -145,32 +145,41 @@ const ID: &str = "82c225ed713705de399dba655bb75c8c";
 
 const SEED: &str = "a430c6f756ddaf7654be41bb940729b29645518c6b8e0486731f01a17573a857";
 
-/// The words of a `seal` at seat 7 for two lanes of width 4.
-fn seal_words<'a>(bid: &'a str, secret: &'a str, seal: &'a str) -> [&'a str; 9] {
-    ["seal", ID, "7", bid, "4", "2", SEED, secret, seal]
+const SEALED: [&str; 9] = ["seal", ID, "7", "15", "4", "2", SEED, "a", "b"];
+
+const TOO_LARGE: [&str; 9] = ["seal", ID, "7", "16", "4", "2", SEED, "a", "b"];
+
+const ONE_NAME: [&str; 9] = ["seal", ID, "7", "15", "4", "2", SEED, "a", "a"];
+
+const USAGE: &str =
+    "usage: vickrey seal|announce|submit|prove|answer|show|verify|extract|confront|report|sample|ceremony
+";
+
+#[test]
+fn a_seal_is_written(rt: HostRuntime) -> Result<(), Fail> {
+    let words = words_of(rt.alloc(), &SEALED)?;
+    let mut shelf = MemShelf::new(rt.alloc());
+    let mut out = MemSink::new(rt.alloc());
+    let status = run(rt.alloc(), words.as_slice(), &mut shelf, &mut out);
+    assert_eq!(rt; status, 0);
+    assert_eq!(rt; out.bytes(), b"sealed seat 7 lanes 2\n".as_slice());
+    let secret = shelf.file("a").ok_or("the secret is held")?;
+    assert_eq!(rt; secret, SECRET.as_bytes());
+    let seal = shelf.file("b").ok_or("the seal is held")?;
+    assert_eq!(rt; seal, SEAL.as_bytes());
+    Ok(())
 }
 
 #[test]
-fn a_seal_is_written_or_refused(rt: HostRuntime) -> Result<(), Fail> {
-    let table = [
-        ("15", "a", "b", 0, "sealed seat 7 lanes 2\n"),
-        ("16", "a", "b", 8, "seal bid too large\n"),
-        ("15", "a", "a", 2, USAGE),
-        ("15", "", "b", 2, USAGE),
-    ];
-    for (bid, secret, seal, status, text) in table {
-        let words = words_of(rt.alloc(), &seal_words(bid, secret, seal))?;
+fn a_refused_seal_writes_nothing(rt: HostRuntime) -> Result<(), Fail> {
+    for (words, status, text) in [(TOO_LARGE, 8, "seal bid too large\n"), (ONE_NAME, 2, USAGE)] {
+        let words = words_of(rt.alloc(), &words)?;
         let mut shelf = MemShelf::new(rt.alloc());
         let mut out = MemSink::new(rt.alloc());
         let answer = run(rt.alloc(), words.as_slice(), &mut shelf, &mut out);
         assert_eq!(rt; answer, status);
         assert_eq!(rt; out.bytes(), text.as_bytes());
-        let sealed = status == 0;
-        assert_eq!(rt; shelf.file("a"), sealed.then_some(SECRET.as_bytes()));
-        assert_eq!(rt; shelf.file("b"), sealed.then_some(SEAL.as_bytes()));
+        assert!(rt; shelf.file("a").is_none());
     }
     Ok(())
 }
-
-const USAGE: &str = "usage: vickrey seal|announce|submit|prove|answer|show|verify|extract|confront|report|sample|ceremony
-";

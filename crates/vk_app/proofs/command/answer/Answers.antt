@@ -15,5 +15,5 @@ pub returns-in_err-print-clause-left : goal.returns-in_err-print-clause-left
 returns-in_err-print-clause-left g c =
     let p = err_from_is_err_and c.from_residual-in_err-print.result c.from_residual-in_err-print.ensures.1 in
     rw p.1 (left_whole ShelfErr (λ files. effect_of files (map string_bytes c.args.words.now)) p.0 c.in_ok-outcome.outcome (texts_of c.files.result.now)
-      (g.S.Shelf.held c.args.shelf.now) (g.S.Shelf.held c.outcome_of.new.shelf) (g.S.Shelf.held c.write_files.new.shelf)
-      c.in_ok-outcome.ensures.told c.files.ensures c.in_ok-outcome.ensures.held c.in_ok-write_files.ensures.written)
+    (g.S.Shelf.held c.args.shelf.now) (g.S.Shelf.held c.outcome_of.new.shelf) (g.S.Shelf.held c.write_files.new.shelf)
+    c.in_ok-outcome.ensures.told c.files.ensures c.in_ok-outcome.ensures.held c.in_ok-write_files.ensures.written)
