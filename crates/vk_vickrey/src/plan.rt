@@ -67,11 +67,14 @@ impl Circuit for VickreyPlan {
     ghost complete = { λ c bids claim. vickrey_complete c.seals c.width c.position c.price bids c.in_limits claim };
 
     #[tactic(auto, unfolding(crate::specs::VickreyPlans::vickrey_plan))]
-    fn inputs(&self) -> u32 {
+    fn inputs(&self) -> u32
+        ensures inputs { result ≡ (vickrey_plan self.now.seals self.now.width self.now.position self.now.price).inputs }
+        ensures seals { result ≡ self.now.seals }
+    {
         self.seals
     }
 
-    /// Its wires are `2n + (n - 1) + t(4n - 3)`, its rows `5n - 2`, or 2 where there is one bid.
+    /// For n bids of width t it has `2n + (n - 1) + t(4n - 3)` wires and `5n - 2` rows, or 2 rows for one bid.
     fn plan(&self, alloc: Global) -> Result<Plan, NoMemory>
         ensures plan { IfOk result
             (λ plan. plan ≡ vickrey_plan self.now.seals self.now.width self.now.position self.now.price) }
