@@ -3,3 +3,4 @@ pub mod OutcomeLaws
 pub mod VickreyPlans
 pub mod VickreyLaws
 pub mod VickreySteps
+pub mod VickreySelectors

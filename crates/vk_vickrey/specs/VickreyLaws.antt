@@ -21,7 +21,7 @@ use Rattle.vk_range.specs.Series.{same_plan, series, series_rows, series_values,
 use Rattle.vk_range.specs.Selected.{IsSelection, IsSelected, selected_wires, selected_rows, selected_values}
 use Rattle.vk_range.specs.SelectedLaws.{selected_sound, selected_complete}
 use Rattle.vk_vickrey.specs.Outcomes.{bid_at, IsPosition}
-use Rattle.vk_vickrey.specs.VickreyPlans.{IsVickreyCase, IsVickreyClaim, other, copies_kinds, copies_rows, bid_form, win_form, price_form, price_selection, vickrey_plan, honest_values}
+use Rattle.vk_vickrey.specs.VickreyPlans.{IsVickreyCase, IsVickreyClaim, other, copies_kinds, copies_rows, bid_form, win_form, price_form, price_selection, vickrey_plan, after_bids, after_wins, after_prices, after_selection, honest_values}
 
 -- the other places
 other_before : (winner k : ℕ) → k < winner → other winner k ≡ k
@@ -168,7 +168,7 @@ above_means a b bound ha hb small h = omega arith
 within_means : (b price bound : ℕ) → b < bound → price < bound → bound ≤ 1099511627776 → ((modulus - 1) * b + price) % modulus < bound → b ≤ price
 within_means b price bound hb hp small h = omega arith
 
-reaches_means : (b price bound : ℕ) → b ≤ price → price < bound → bound ≤ 1099511627776 → difference b price < bound → b ≡ price
+pub reaches_means : (b price bound : ℕ) → b ≤ price → price < bound → bound ≤ 1099511627776 → difference b price < bound → b ≡ price
 reaches_means b price bound le hp small h = omega arith
 
 at_least_fits : (a b bound : ℕ) → a < bound → bound ≤ 1099511627776 → b ≤ a → (a + (modulus - 1) * b + 0) % modulus < bound
@@ -180,13 +180,13 @@ above_fits a b bound ha small h = omega arith
 within_fits : (b price bound : ℕ) → price < bound → bound ≤ 1099511627776 → b ≤ price → ((modulus - 1) * b + price) % modulus < bound
 within_fits b price bound hp small h = omega arith
 
-equal_fits : (b price bound : ℕ) → b ≡ price → price < bound → bound ≤ 1099511627776 → difference b price < bound
+pub equal_fits : (b price bound : ℕ) → b ≡ price → price < bound → bound ≤ 1099511627776 → difference b price < bound
 equal_fits b price bound same hp small = omega arith
 
-below_fits : (b price bound : ℕ) → b ≤ price → price < bound → bound ≤ 1099511627776 → sum b (difference (bound - 1) price) < bound
+pub below_fits : (b price bound : ℕ) → b ≤ price → price < bound → bound ≤ 1099511627776 → sum b (difference (bound - 1) price) < bound
 below_fits b price bound le hp small = omega arith
 
-width_small : (width : ℕ) → width ≤ 40 → 2 ^ width ≤ 1099511627776
+pub width_small : (width : ℕ) → width ≤ 40 → 2 ^ width ≤ 1099511627776
 width_small width most = pow_mono {i = width} {j = 40} most
 
 -- the rows before the selection, each part beginning at its own wire
@@ -447,7 +447,7 @@ module _ (seals width position price : ℕ) (bids values : List ℕ) (case : IsV
   bid_small : (j : ℕ) → j < seals → slice_index bids j < 2 ^ width
   bid_small j h = claim.within_width j 0 (omega (arith, claim.one_each))
 
-  bid_of : (j : ℕ) → j < seals → slice_index values (seals + j) ≡ slice_index bids j
+  pub bid_of : (j : ℕ) → j < seals → slice_index values (seals + j) ≡ slice_index bids j
   bid_of j h = subst (λ n. slice_index values (n + j) ≡ slice_index bids j) claim.one_each (begins.copied j (omega (arith, claim.one_each)))
 
   pub bids_fit : (j : ℕ) → j < seals → IsOfWidth width (form_value (bid_form seals j) values)
@@ -476,7 +476,7 @@ module _ (seals width position price : ℕ) (bids values : List ℕ) (case : IsV
             subst (λ s. (winning + (modulus - 1) * losing + less_one s) % modulus < 2 ^ width) (sym (le-ltb k winner q)) (at_least_fits winning losing (2 ^ width) top small above)
       ])
 
-  within_price : (k : ℕ) → k < seals - 1 → slice_index values (seals + other (position - 1) k) ≤ price
+  pub within_price : (k : ℕ) → k < seals - 1 → slice_index values (seals + other (position - 1) k) ≤ price
   within_price k h =
       let winner = position - 1 in
       let w : winner < seals = omega (arith, case.some_position, case.within_seals) in
@@ -518,39 +518,58 @@ module _ (seals width position price : ℕ) (bids values : List ℕ) (case : IsV
 claim_residues : (seals width position price : ℕ) (bids : List ℕ) → width ≤ 40 → IsVickreyClaim seals width position price bids → All IsResidue bids
 claim_residues seals width position price bids most claim j d h = omega (arith, claim.within_width j d h, width_small width most)
 
+-- the values before the selection begin with the bids and hold for the plan before it
+pub begins_prices : (seals width winner price : ℕ) (bids : List ℕ)
+    → BeginsWith bids (after_prices seals width winner price (after_wins seals width winner (after_bids seals width (bids ++ bids))))
+begins_prices seals width winner price bids =
+    let v0 = bids ++ bids in
+    let v1 = after_bids seals width v0 in
+    let v2 = after_wins seals width winner v1 in
+    begins_longer bids v2 (series_values v2 (price_form seals winner price) width (seals - 1))
+    (begins_longer bids v1 (series_values v1 (win_form seals winner) width (seals - 1))
+    (begins_longer bids v0 (series_values v0 (bid_form seals) width seals) (begins_alone bids)))
+
+pub before_selection : (seals width position price : ℕ) (bids : List ℕ) → IsVickreyCase seals width position price
+    → IsVickreyClaim seals width position price bids
+    → Holds (with_prices seals width (position - 1) price)
+    (after_prices seals width (position - 1) price (after_wins seals width (position - 1) (after_bids seals width (bids ++ bids))))
+before_selection seals width position price bids case claim =
+    let winner = position - 1 in
+    let w : winner < seals = omega (arith, case.some_position, case.within_seals) in
+    let some = case.some_width in
+    let most = case.most_width in
+    let v0 = bids ++ bids in
+    let v1 = after_bids seals width v0 in
+    let v2 = after_wins seals width winner v1 in
+    let b0 = begins_alone bids in
+    let b1 = begins_longer bids v0 (series_values v0 (bid_form seals) width seals) b0 in
+    let b2 = begins_longer bids v1 (series_values v1 (win_form seals winner) width (seals - 1)) b1 in
+    let h0 = subst (λ n. Holds (copies n n) v0) claim.one_each (copies_complete bids (claim_residues seals width position price bids most claim)) in
+    let h1 = series_complete (copies seals seals) (bid_form seals) width (seals + seals) seals v0 (copies_names seals seals (omega arith)) (bids_series seals width some most) h0
+    (bids_fit seals width position price bids v0 case claim b0) in
+    let h2 = series_complete (with_bids seals width) (win_form seals winner) width (seals + seals) (seals - 1) v1 (names_bids seals width some most) (wins_series seals width winner w some most) h1
+    (wins_fit seals width position price bids v1 case claim b1) in
+    series_complete (with_wins seals width winner) (price_form seals winner price) width (seals + seals) (seals - 1) v2 (names_wins seals width winner w some most)
+    (prices_series seals width winner price w some most) h2 (prices_fit seals width position price bids v2 case claim b2)
+
 pub vickrey_complete : (seals width position price : ℕ) (bids : List ℕ) → IsVickreyCase seals width position price
     → IsVickreyClaim seals width position price bids → Holds (vickrey_plan seals width position price) (honest_values seals width position price bids)
 unfolding honest_values
 vickrey_complete seals width position price bids case claim =
     let winner = position - 1 in
     let w : winner < seals = omega (arith, case.some_position, case.within_seals) in
-    let some = case.some_width in
-    let most = case.most_width in
     let relation = price_selection seals width winner price in
-    let v0 = bids ++ bids in
-    let v1 = v0 ++ series_values v0 (bid_form seals) width seals in
-    let v2 = v1 ++ series_values v1 (win_form seals winner) width (seals - 1) in
-    let v3 = v2 ++ series_values v2 (price_form seals winner price) width (seals - 1) in
-    let b0 = begins_alone bids in
-    let b1 = begins_longer bids v0 (series_values v0 (bid_form seals) width seals) b0 in
-    let b2 = begins_longer bids v1 (series_values v1 (win_form seals winner) width (seals - 1)) b1 in
-    let b3 = begins_longer bids v2 (series_values v2 (price_form seals winner price) width (seals - 1)) b2 in
-    let h0 = subst (λ n. Holds (copies n n) v0) claim.one_each (copies_complete bids (claim_residues seals width position price bids most claim)) in
-    let h1 = series_complete (copies seals seals) (bid_form seals) width (seals + seals) seals v0 (copies_names seals seals (omega arith)) (bids_series seals width some most) h0
-    (bids_fit seals width position price bids v0 case claim b0) in
-    let h2 = series_complete (with_bids seals width) (win_form seals winner) width (seals + seals) (seals - 1) v1 (names_bids seals width some most) (wins_series seals width winner w some most) h1
-    (wins_fit seals width position price bids v1 case claim b1) in
-    let h3 = series_complete (with_wins seals width winner) (price_form seals winner price) width (seals + seals) (seals - 1) v2 (names_wins seals width winner w some most)
-    (prices_series seals width winner price w some most) h2 (prices_fit seals width position price bids v2 case claim b2) in
+    let v3 = after_prices seals width winner price (after_wins seals width winner (after_bids seals width (bids ++ bids))) in
+    let h3 = before_selection seals width position price bids case claim in
     elim (eqb_tells seals 1) [
       | inl one ↦
-          subst (λ p. Holds p (if seals == 1 then v3 else v3 ++ selected_values relation v3)) (sym (plan_alone seals width position price one.0))
+          subst (λ p. Holds p (after_selection seals width winner price v3)) (sym (plan_alone seals width position price one.0))
           (subst (λ b. Holds (with_prices seals width winner price) (if b then v3 else v3 ++ selected_values relation v3)) (sym one.0) h3)
       | inr many ↦
           (let two : 2 ≤ seals = omega (arith, case.some_seals, many.1) in
-          let chosen = may_be_selected seals width position price bids v3 case claim b3 two in
-          let h4 = selected_complete relation (with_prices seals width winner price) v3 chosen.0 (names_prices seals width winner price w some most)
-          (selection seals width winner price two case.most_seals w some most) h3 chosen.1 in
-          subst (λ p. Holds p (if seals == 1 then v3 else v3 ++ selected_values relation v3)) (sym (plan_many seals width position price many.0))
+          let chosen = may_be_selected seals width position price bids v3 case claim (begins_prices seals width winner price bids) two in
+          let h4 = selected_complete relation (with_prices seals width winner price) v3 chosen.0 (names_prices seals width winner price w case.some_width case.most_width)
+          (selection seals width winner price two case.most_seals w case.some_width case.most_width) h3 chosen.1 in
+          subst (λ p. Holds p (after_selection seals width winner price v3)) (sym (plan_many seals width position price many.0))
           (subst (λ b. Holds (with_selection seals width winner price) (if b then v3 else v3 ++ selected_values relation v3)) (sym many.0) h4))
     ]

@@ -5,6 +5,7 @@ ghost use Rattle.vk_range.specs.Series.{series_values};
 ghost use Rattle.vk_plan.specs.Forms.{form_value};
 ghost use Rattle.vk_vickrey.specs.VickreyPlans.{IsVickreyCase, IsVickreyClaim, vickrey_plan, wire_count, row_count, honest_values, bid_form, win_form, price_form, price_selection, other};
 ghost use Rattle.vk_vickrey.specs.VickreyLaws.{copies, with_bids, with_wins, with_prices, vickrey_complete};
+ghost use Rattle.vk_vickrey.specs.VickreySelectors.{IsFirstHolder, SelectsAt, selectors_start};
 ghost use Rattle.vk_vickrey.specs.VickreySteps.{circuit_begins, circuit_sound};
 
 use crate::outcomes::VickreyOutcome;
@@ -67,11 +68,14 @@ impl Circuit for VickreyPlan {
     ghost complete = { λ c bids claim. vickrey_complete c.seals c.width c.position c.price bids c.in_limits claim };
 
     #[tactic(auto, unfolding(crate::specs::VickreyPlans::vickrey_plan))]
-    fn inputs(&self) -> u32 {
+    fn inputs(&self) -> u32
+        ensures inputs { result ≡ (vickrey_plan self.now.seals self.now.width self.now.position self.now.price).inputs }
+        ensures seals { result ≡ self.now.seals }
+    {
         self.seals
     }
 
-    /// Its wires are `2n + (n - 1) + t(4n - 3)`, its rows `5n - 2`, or 2 where there is one bid.
+    /// For n bids of width t it has `2n + (n - 1) + t(4n - 3)` wires and `5n - 2` rows, or 2 rows for one bid.
     fn plan(&self, alloc: Global) -> Result<Plan, NoMemory>
         ensures plan { IfOk result
             (λ plan. plan ≡ vickrey_plan self.now.seals self.now.width self.now.position self.now.price) }
@@ -91,7 +95,15 @@ impl Circuit for VickreyPlan {
         Ok(plan)
     }
 
-    fn fill(&self, alloc: Global, inputs: &[Residue]) -> Result<Vec<Residue>, NoMemory> {
+    /// The selector of the first other place that holds the price is 1, and the other selectors are 0.
+    fn fill(&self, alloc: Global, inputs: &[Residue]) -> Result<Vec<Residue>, NoMemory>
+        requires { IsVickreyClaim self.now.seals self.now.width self.now.position self.now.price inputs.now }
+        ensures filled { IfOk result (λ values.
+            values.items ≡ honest_values self.now.seals self.now.width self.now.position self.now.price inputs.now) }
+        ensures selector { IfOk result (λ values.
+            (place : ℕ) → place < self.now.seals - 1 → IsFirstHolder inputs.now (self.now.position - 1) self.now.price place
+            → SelectsAt values.items (selectors_start self.now.seals self.now.width) (self.now.seals - 1) place) }
+    {
         let mut values = Vec::new(alloc);
         values.extend_from_slice(inputs)?;
         values.extend_from_slice(inputs)?;
