@@ -1,7 +1,7 @@
 -- Status 0 and the relation on files are one.
 use Rattle.std.proofs.Common.{◌≡◌, ◌≢◌, ℕ, ◌≤◌, Bool, true, false, cond, List, length, Option, Some, None, Ok, refl, sym, ap, subst, ◌∙◌, arith, ltb, eqb}
 use Rattle.std.specs.FinMap.{get}
-use Rattle.std.proofs.lemmas.Bool.{le-ltb, eqb-true, eq-eqb}
+use Rattle.std.proofs.lemmas.Bool.{false_from_ne_true, le-ltb, eqb-true, eq-eqb}
 use Rattle.std.proofs.lemmas.List.{nil_from_length}
 use Rattle.std.specs.Prelude.{IfSome}
 use Rattle.vk_io.specs.Files.{Files, Told}
@@ -45,10 +45,6 @@ file_from files name bytes h = held_from (get files name) bytes h
 file_to : (files : Files) (name bytes : List ℕ) → get files name ≡ Some bytes → length bytes ≤ largest_file → file_at files name ≡ Some bytes
 unfolding file_at
 file_to files name bytes h le = rw (h, le-ltb _ _ le) refl
-
-not_true : (b : Bool) → (b ≡ true → ⊥) → b ≡ false
-not_true true h = absurd (h refl)
-not_true false h = refl
 
 -- ---- one attempt
 
@@ -108,7 +104,7 @@ extraction_to files names both =
     let first : Attempt = record { challenge = both.first_challenge; reply = both.first_reply } in
     let second : Attempt = record { challenge = both.second_challenge; reply = both.second_reply } in
     let found = lanes_of files names both in
-    let some : eqb (length (lanes_between first second)) 0 ≡ false = not_true (eqb (length (lanes_between first second)) 0) (λ e. both.differ (found.equal_if_none (nil_from_length (lanes_between first second) (eqb-true _ _ e)))) in (
+    let some : eqb (length (lanes_between first second)) 0 ≡ false = false_from_ne_true (eqb (length (lanes_between first second)) 0) (λ e. both.differ (found.equal_if_none (nil_from_length (lanes_between first second) (eqb-true _ _ e)))) in (
       record { seat = both.board.seat; lanes = lanes_between first second },
       rw (
         file_to files names.board (board_text both.board) both.first.board_is.0 (length-board_text both.board both.first.board_is.1),

@@ -1,9 +1,9 @@
 -- The files of version 0 and challenges: the whole text of each value, and which values have one.
 use Rattle.std.specs.Prelude.{◌≡◌, ℕ, ◌+◌, ◌^◌, ◌<◌, ◌≤◌, Bool, if◌then◌else◌, List, [], ◌∷◌, ◌++◌, length, map, codes, decimal, Option, Some}
 use Rattle.std.specs.List.{AllByRecursion}
-use Rattle.hex.specs.Hex.{IsBytes}
 use Rattle.vk_residue.specs.Residue.{IsResidue}
 use Rattle.vk_lines.specs.Tokens.{hex_text}
+use Rattle.vk_seal.specs.Values.{AreBytes}
 use Rattle.vk_commit.specs.declared.place.Opening.{Opening}
 use Rattle.vk_app.specs.declared.board.Digests.{Digests}
 use Rattle.vk_app.specs.declared.board.BoardLane.{BoardLane}
@@ -83,9 +83,6 @@ reply_text reply =
     +++ end_line
 
 -- ---- what has a text
-
-abbrev pub AreBytes : ℕ → List ℕ → Type 0
-AreBytes count bytes = (length bytes ≡ count) × IsBytes bytes
 
 abbrev pub AreDigests : Digests → Type 0
 AreDigests digests = AreBytes 32 digests.first × AreBytes 32 digests.second
