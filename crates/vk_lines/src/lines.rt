@@ -76,6 +76,7 @@ impl Lines {
     pub fn next_line<S: Shelf>(&mut self, shelf: &mut S) -> Result<Step, LineErr>
         ensures told { IfSome (S.held shelf.old) (λ files. IfOk result (λ step. IsNext step self.old self.new files)) }
         ensures same { IfOk result (λ step. step ≢ Step.Text → self.new.taken ≡ self.old.taken) }
+        ensures text { IfOk result (λ step. step ≢ Step.Text → self.new.text ≡ self.old.text) }
         ensures taken { IfOk result (λ step. step ≡ Step.Text → self.new.taken ≡ self.old.taken + 1) }
         ensures refused { OnErr result (self.new ≡ self.old) }
         ensures held { S.held shelf.new ≡ S.held shelf.old }
@@ -91,6 +92,7 @@ impl Lines {
     fn look_ahead<S: Shelf>(&mut self, shelf: &mut S) -> Result<(), LineErr>
         ensures told { IfSome (S.held shelf.old) (λ files. IfOk result (λ _. HasLooked self.old self.new files)) }
         ensures taken { self.new.taken ≡ self.old.taken }
+        ensures text { self.new.text ≡ self.old.text }
         ensures refused { OnErr result (self.new ≡ self.old) }
         ensures held { S.held shelf.new ≡ S.held shelf.old }
         ensures later { S.Shelf.faults shelf.old ≤ S.Shelf.faults shelf.new }
