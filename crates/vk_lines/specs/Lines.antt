@@ -1,5 +1,5 @@
 -- Files as lines: what is left of a file, its next line, and how a form is read line by line.
-use Rattle.std.specs.Prelude.{◌≡◌, ℕ, ◌+◌, ◌-◌, ◌^◌, ◌==◌, ◌<◌, ◌≤◌, nat_lt, min, if◌then◌else◌, List, length, take, drop, Option, Some, None, Result, Ok, Err, codes, IsSome}
+use Rattle.std.specs.Prelude.{◌≡◌, ◌≢◌, ℕ, ◌+◌, ◌-◌, ◌^◌, ◌==◌, ◌<◌, ◌≤◌, nat_lt, min, if◌then◌else◌, List, length, take, drop, Option, Some, None, Result, Ok, Err, codes, IsSome, ◌++◌}
 use Rattle.std.specs.List.{position_or_len}
 use Rattle.std.specs.FinMap.{get}
 use Rattle.vk_io.specs.Files.{Files, bytes_of, part_of}
@@ -46,17 +46,27 @@ text_at rest = text_by (step_of rest.left) rest
 
 -- ---- a reader of lines
 
--- a reader: the file's name and its length as it was told, how many bytes and lines were taken of it, and the last line taken
+-- a reader: the file's name and its length as it was told, how many bytes and lines were taken of it, the
+-- bytes that were read and not yet taken, and the last line taken
 pub record LinesValue : Type 0 where
   pub name : List ℕ
   pub size : ℕ
   pub at : ℕ
   pub taken : ℕ
+  pub ahead : List ℕ
   pub text : List ℕ
+
+-- the place of the first byte that was not yet read
+abbrev pub unread : LinesValue → ℕ
+unread lines = lines.at + length lines.ahead
+
+-- the bytes of the file that were not yet read
+abbrev pub unread_of : LinesValue → Files → List ℕ
+unread_of lines files = part_of (bytes_of files lines.name) (unread lines) (lines.size - unread lines)
 
 -- what is left of the file for a reader
 unfoldable pub rest_of : LinesValue → Files → Rest
-rest_of lines files = record { taken = lines.taken; left = part_of (bytes_of files lines.name) lines.at (lines.size - lines.at) }
+rest_of lines files = record { taken = lines.taken; left = lines.ahead ++ unread_of lines files }
 
 -- a reader starts before the first line of a file that is held and has at most 2^30 bytes
 abbrev pub Starts : Files → List ℕ → Result LinesValue StartErr → Type 0
@@ -66,16 +76,32 @@ Starts files name (Err TooLong) = IsSome (get files name) × (2 ^ 30 < length (b
 Starts files name (Err refused.Failed) = Unit {0}
 Starts files name (Err refused.NoMemory) = Unit {0}
 
--- the bytes among which a reader looks for the next line
-abbrev pub window_of : LinesValue → Files → List ℕ
-window_of lines files = part_of (bytes_of files lines.name) lines.at (min 256 (lines.size - lines.at))
+-- how many bytes are to be read before the next line is looked for: none where 256 are ahead
+abbrev pub room_of : LinesValue → ℕ
+room_of lines = if nat_lt (length lines.ahead) 256 then min 3840 (lines.size - unread lines) else 0
 
--- a reader after this step within these bytes
-abbrev pub after_step : Step → List ℕ → LinesValue → LinesValue
-after_step Text window lines = record lines { at = lines.at + (feed_at window + 1); taken = lines.taken + 1; text = take (feed_at window) window }
-after_step End window lines = lines
-after_step Long window lines = lines
-after_step Cut window lines = lines
+-- a reader that has read so many bytes more
+abbrev pub with_piece : List ℕ → LinesValue → LinesValue
+with_piece piece lines = record lines { ahead = lines.ahead ++ piece }
+
+-- nothing but what is ahead has changed, and what is left is the same; the bytes ahead show what stands next
+pub record HasLooked (old new : LinesValue) (files : Files) : Type 0 where
+  pub rest : rest_of new files ≡ rest_of old files
+  pub taken : new.taken ≡ old.taken
+  pub text : new.text ≡ old.text
+  pub near : take 256 (rest_of new files).left ≡ take 256 new.ahead
+
+-- a reader after this step among the bytes ahead
+abbrev pub after_step : Step → LinesValue → LinesValue
+after_step Text lines = record lines {
+  at = lines.at + (feed_at lines.ahead + 1);
+  taken = lines.taken + 1;
+  ahead = drop (feed_at lines.ahead + 1) lines.ahead;
+  text = take (feed_at lines.ahead) lines.ahead;
+}
+after_step End lines = lines
+after_step Long lines = lines
+after_step Cut lines = lines
 
 -- the line that a reader took, with what is left after it; or the number of the line that isn't there
 abbrev pub line_taken : Step → LinesValue → LinesValue → Files → Result (List ℕ × Rest) ℕ
@@ -88,6 +114,7 @@ line_taken Cut old new files = Err (old.taken + 1)
 pub record IsNext (step : Step) (old new : LinesValue) (files : Files) : Type 0 where
   pub next : step ≡ step_of (rest_of old files).left
   pub line : text_at (rest_of old files) ≡ line_taken step old new files
+  pub other : step ≢ Text → rest_of new files ≡ rest_of old files
 
 -- ---- reading a form
 

@@ -1,6 +1,7 @@
 //! Files as lines, and the tokens of a line: fields, canonical decimals and lower-case hexadecimal.
 #![tactic(auto)]
 
+mod ahead;
 mod errors;
 mod lines;
 mod step;

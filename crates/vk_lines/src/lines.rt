@@ -4,12 +4,13 @@ ghost use Rattle.hex.specs.Hex.{IsBytes};
 ghost use Rattle.vk_io.specs.Faults.{Rose};
 ghost use Rattle.vk_io.specs.Files.{Files, bytes_of, part_of};
 ghost use Rattle.vk_lines.specs.Tokens.{word_of, number_line, id_line, digests_line};
-ghost use Rattle.vk_lines.specs.Lines.{Starts, Reads, IsNext, line_by, text_at, rest_of, window_of, after_step, step_of, none_left, value_at, end_answer, end_at, LinesValue};
+ghost use Rattle.vk_lines.specs.Lines.{Starts, Reads, IsNext, line_by, text_at, rest_of, room_of, unread, with_piece, HasLooked, after_step, step_of, none_left, value_at, end_answer, end_at, LinesValue};
 
+use crate::ahead::{Ahead, MOST_PIECE, Piece};
 use crate::errors::{LineErr, MOST_BYTES, ReadErr, StartErr};
 use crate::step::Step;
 use crate::tokens::{read_digests, read_id, read_number, read_word};
-use crate::window::{MOST_LINE, Window};
+use crate::window::{MOST_LINE, Window, feed_place, step_among};
 use std::alloc::Global;
 use std::marker::Model;
 use vk_io::Shelf;
@@ -21,18 +22,19 @@ pub struct Lines {
     size: u64,
     at: u64,
     taken: u64,
+    ahead: Ahead,
     text: Window,
 }
 
 impl Model for Lines {
-    ghost use Rattle.std.specs.Prelude.{◌^◌, ◌≤◌, string_bytes};
+    ghost use Rattle.std.specs.Prelude.{◌+◌, ◌^◌, ◌≤◌, length, string_bytes};
     ghost use Rattle.vk_lines.specs.Lines.{LinesValue};
 
     ghost Value = { LinesValue };
 
-    ghost view = { λ l. record { name = string_bytes l.name; size = l.size; at = l.at; taken = l.taken; text = l.text } };
+    ghost view = { λ l. record { name = string_bytes l.name; size = l.size; at = l.at; taken = l.taken; ahead = l.ahead; text = l.text } };
 
-    ghost invariant = { λ l. record { within : l.at ≤ l.size; small : l.size ≤ 2 ^ 30; fewer : l.taken ≤ l.at } };
+    ghost invariant = { λ l. record { within : l.at + length l.ahead ≤ l.size; small : l.size ≤ 2 ^ 30; fewer : l.taken ≤ l.at } };
 }
 
 impl Lines {
@@ -65,6 +67,7 @@ impl Lines {
             size,
             at: 0,
             taken: 0,
+            ahead: Ahead::new(),
             text: Window::new(),
         })
     }
@@ -72,51 +75,109 @@ impl Lines {
     /// Takes the next line, where one stands there. After a refusal the value is as before.
     pub fn next_line<S: Shelf>(&mut self, shelf: &mut S) -> Result<Step, LineErr>
         ensures told { IfSome (S.held shelf.old) (λ files. IfOk result (λ step. IsNext step self.old self.new files)) }
-        ensures same { IfOk result (λ step. step ≢ Step.Text → self.new ≡ self.old) }
+        ensures same { IfOk result (λ step. step ≢ Step.Text → self.new.taken ≡ self.old.taken) }
+        ensures text { IfOk result (λ step. step ≢ Step.Text → self.new.text ≡ self.old.text) }
         ensures taken { IfOk result (λ step. step ≡ Step.Text → self.new.taken ≡ self.old.taken + 1) }
         ensures refused { OnErr result (self.new ≡ self.old) }
         ensures held { S.held shelf.new ≡ S.held shelf.old }
         ensures later { S.Shelf.faults shelf.old ≤ S.Shelf.faults shelf.new }
         ensures failed { IsErrOf result LineErr.Failed → Rose (S.Shelf.faults shelf.old) (S.Shelf.faults shelf.new) }
     {
-        let room = self.room();
-        let window = read_window(shelf, &self.name, self.at, room)?;
-        let step = self.take_next(window);
+        self.look_ahead(shelf)?;
+        let step = self.take_next();
         Ok(step)
     }
 
-    /// How many bytes are to be looked at for the next line.
-    fn room(&self) -> usize
-        ensures { result ≡ min 256 (self.now.size - self.now.at) }
+    /// Reads on where fewer bytes are ahead than a line may have.
+    fn look_ahead<S: Shelf>(&mut self, shelf: &mut S) -> Result<(), LineErr>
+        ensures told { IfSome (S.held shelf.old) (λ files. IfOk result (λ _. HasLooked self.old self.new files)) }
+        ensures taken { self.new.taken ≡ self.old.taken }
+        ensures text { self.new.text ≡ self.old.text }
+        ensures refused { OnErr result (self.new ≡ self.old) }
+        ensures held { S.held shelf.new ≡ S.held shelf.old }
+        ensures later { S.Shelf.faults shelf.old ≤ S.Shelf.faults shelf.new }
+        ensures failed { IsErrOf result LineErr.Failed → Rose (S.Shelf.faults shelf.old) (S.Shelf.faults shelf.new) }
     {
-        let left = self.size - self.at;
-        if left < 256 { left as usize } else { MOST_LINE }
+        let room = self.room();
+        if room == 0 {
+            return Ok(());
+        }
+        let piece = read_piece(shelf, &self.name, self.unread(), room)?;
+        self.add(&piece);
+        Ok(())
     }
 
-    /// Takes the line that begins these bytes, where they are the next ones of the file.
-    fn take_next(&mut self, window: Window) -> Step
-        requires { length window ≤ self.old.size - self.old.at }
+    /// The place of the first byte that was not yet read.
+    fn unread(&self) -> u64
+        ensures { result ≡ unread self.now }
+    {
+        self.at + self.ahead.as_slice().len() as u64
+    }
+
+    /// How many bytes are to be read before the next line is looked for.
+    fn room(&self) -> usize
+        ensures room { result ≡ room_of self.now }
+        ensures none { (files : Files) → result ≡ 0 → HasLooked self.now self.now files }
+        ensures few { result ≤ 3840 }
+        ensures some { 0 < result → length self.now.ahead < 256 }
+        ensures left { result ≤ self.now.size - unread self.now }
+    {
+        let room = self.room_left();
+        room
+    }
+
+    /// The same, by its value alone.
+    fn room_left(&self) -> usize
+        ensures room { result ≡ room_of self.now }
+        ensures few { result ≤ 3840 }
+        ensures some { 0 < result → length self.now.ahead < 256 }
+        ensures left { result ≤ self.now.size - unread self.now }
+    {
+        let ahead = self.ahead.as_slice().len();
+        let left = self.size - self.unread();
+        if ahead >= MOST_LINE {
+            0
+        } else if left < MOST_PIECE as u64 {
+            left as usize
+        } else {
+            MOST_PIECE
+        }
+    }
+
+    /// Puts the bytes that were read behind those ahead.
+    fn add(&mut self, piece: &Piece)
+        requires near { length self.old.ahead < 256 }
+        requires few { length piece.now ≤ 3840 }
+        requires within { unread self.old + length piece.now ≤ self.old.size }
+        ensures added { self.new ≡ with_piece piece.now self.old }
+        ensures looked { (files : Files) → piece.now ≡ part_of (bytes_of files self.old.name) (unread self.old) (room_of self.old) → 0 < room_of self.old
+            → HasLooked self.old (with_piece piece.now self.old) files }
+    {
+        self.ahead = self.ahead.joined(piece.as_slice());
+    }
+
+    /// Takes the line that begins the bytes ahead.
+    fn take_next(&mut self) -> Step
         ensures same { result ≢ Step.Text → self.new ≡ self.old }
         ensures taken { result ≡ Step.Text → self.new.taken ≡ self.old.taken + 1 }
-        ensures next { (files : Files) → window ≡ window_of self.old files → IsNext result self.old self.new files }
+        ensures next { (files : Files) (before : LinesValue) → HasLooked before self.old files → IsNext result before self.new files }
     {
-        let step = self.take_line(window);
+        let step = self.take_line();
         step
     }
 
-    /// Takes the line that begins these bytes, where they hold one.
-    fn take_line(&mut self, window: Window) -> Step
-        requires { length window ≤ self.old.size - self.old.at }
-        ensures step { result ≡ step_of window }
-        ensures taken { self.new ≡ after_step (step_of window) window self.old }
+    /// Takes the line that begins the bytes ahead, where they hold one.
+    fn take_line(&mut self) -> Step
+        ensures step { result ≡ step_of self.old.ahead }
+        ensures taken { self.new ≡ after_step (step_of self.old.ahead) self.old }
     {
-        let step = window.step();
+        let step = step_among(self.ahead.as_slice());
         if step == Step::Text {
-            let feed = window.feed();
+            let feed = feed_place(self.ahead.as_slice());
+            self.text = Window::copied(&self.ahead.as_slice()[..feed]);
+            self.ahead.skip(feed + 1);
             self.at += feed as u64 + 1;
             self.taken += 1;
-            self.text = window;
-            self.text.keep(feed);
         }
         step
     }
@@ -249,17 +310,17 @@ impl Lines {
 }
 
 /// The bytes of a file from a place on, as many as are left or there is room for.
-fn read_window<S: Shelf>(shelf: &mut S, name: &str, at: u64, room: usize) -> Result<Window, LineErr>
-    requires { room ≤ 256 }
-    ensures within { IfOk result (λ window. length window ≤ room) }
-    ensures told { IfSome (S.held shelf.old) (λ files. IfOk result (λ window. window ≡ part_of (bytes_of files name.now) at room)) }
+fn read_piece<S: Shelf>(shelf: &mut S, name: &str, at: u64, room: usize) -> Result<Piece, LineErr>
+    requires { room ≤ 3840 }
+    ensures within { IfOk result (λ piece. length piece ≤ room) }
+    ensures told { IfSome (S.held shelf.old) (λ files. IfOk result (λ piece. piece ≡ part_of (bytes_of files name.now) at room)) }
     ensures held { S.held shelf.new ≡ S.held shelf.old }
     ensures later { S.Shelf.faults shelf.old ≤ S.Shelf.faults shelf.new }
     ensures failed { IsErrOf result LineErr.Failed → Rose (S.Shelf.faults shelf.old) (S.Shelf.faults shelf.new) }
 {
-    let mut bytes = [0; MOST_LINE];
+    let mut bytes = [0; MOST_PIECE];
     let count = shelf.read_at(name, at, &mut bytes[..room])?;
-    Ok(Window::of(bytes, count))
+    Ok(Piece::of(bytes, count))
 }
 
 /// Whether a line was taken, after so many before.
@@ -278,7 +339,7 @@ fn line_found(step: Step, before: u64) -> Result<(), ReadErr>
 /// Whether the file has ended, after so many lines.
 fn nothing_left(step: Step, before: u64) -> Result<(), ReadErr>
     requires { before ≤ 2 ^ 30 }
-    ensures told { (files : Files) (old new : LinesValue) → before ≡ old.taken → (step ≢ Step.Text → new ≡ old) → IsNext step old new files
+    ensures told { (files : Files) (old new : LinesValue) → before ≡ old.taken → IsNext step old new files
         → Reads (λ x. x) result (rest_of new files) (none_left (rest_of old files)) }
     ensures inside { IsErrOf result ReadErr.Failed → ⊥ }
 {

@@ -36,12 +36,17 @@ impl Window {
         }
     }
 
-    /// The first `len` of these bytes.
-    pub fn of(bytes: [u8; 256], len: usize) -> Window
-        requires { len ≤ 256 }
-        ensures { result ≡ take len bytes }
+    /// A copy of these bytes.
+    pub fn copied(text: &[u8]) -> Window
+        requires { length text.now ≤ 256 }
+        ensures { result ≡ text.now }
     {
-        Window { bytes, len }
+        let mut bytes = [0; MOST_LINE];
+        bytes[..text.len()].copy_from_slice(text);
+        Window {
+            bytes,
+            len: text.len(),
+        }
     }
 
     /// The bytes.
@@ -51,43 +56,27 @@ impl Window {
     {
         &self.bytes[..self.len]
     }
+}
 
-    /// Keeps the first bytes.
-    pub fn keep(&mut self, count: usize)
-        requires { count ≤ length self.old }
-        ensures { self.new ≡ take count self.old }
-    {
-        self.len = count;
-    }
-
-    /// What stands next, seen from these bytes, where they are the next ones of a file.
-    pub fn step(&self) -> Step
-        ensures { result ≡ step_of self.now }
-    {
-        let text = self.as_slice();
-        let feed = feed_place(text);
-        if feed < text.len() {
-            Step::Text
-        } else if text.is_empty() {
-            Step::End
-        } else if text.len() < MOST_LINE {
-            Step::Cut
-        } else {
-            Step::Long
-        }
-    }
-
-    /// Where the first line feed stands, or the number of bytes where there is none.
-    pub fn feed(&self) -> usize
-        ensures { result ≡ feed_at self.now }
-    {
-        feed_place(self.as_slice())
+/// What stands next, seen from the next bytes of a file, of which there are 256 or all.
+pub fn step_among(text: &[u8]) -> Step
+    ensures { result ≡ step_of text.now }
+{
+    let feed = feed_place(text);
+    if feed < text.len() && feed < MOST_LINE {
+        Step::Text
+    } else if text.is_empty() {
+        Step::End
+    } else if text.len() < MOST_LINE {
+        Step::Cut
+    } else {
+        Step::Long
     }
 }
 
 /// Where the first line feed stands, or the number of bytes where there is none.
 #[tactic(auto, using(crate::proofs::Feeds::found_or_length))]
-fn feed_place(text: &[u8]) -> usize
+pub fn feed_place(text: &[u8]) -> usize
     ensures { result ≡ feed_at text.now }
 {
     let found = feed_found(text);
