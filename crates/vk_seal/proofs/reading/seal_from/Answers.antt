@@ -1,4 +1,3 @@
-use Rattle.std.proofs.Common.{arith}
 use Rattle.std.proofs.lemmas.List.Elements.{recursion_from_All}
 use Rattle.vk_seal.specs.Values.{IsCom}
 use Rattle.vk_seal.proofs.reading.seal_from.Goals as goal

@@ -1,4 +1,3 @@
-use Rattle.std.proofs.Common.{arith}
 use Rattle.std.proofs.lemmas.List.Elements.{recursion_from_All}
 use Rattle.vk_seal.specs.Values.{IsXTape}
 use Rattle.vk_seal.proofs.reading.secret_from.Goals as goal
