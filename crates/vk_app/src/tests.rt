@@ -1,5 +1,6 @@
 use super::*;
 use std::alloc::{AllocError, Global};
+use std::process::Abort;
 use std::test::Fail;
 use vk_io::{MemShelf, MemSink};
 
@@ -122,7 +123,22 @@ fn a_failing_call_stops_with_a_prefix(rt: HostRuntime) -> Result<(), Fail> {
     Ok(())
 }
 
-const SECRET: &str = "vickrey-secret 1
+const FIRST_WORDS: [&str; 9] = [
+    "seal",
+    "82c225ed713705de399dba655bb75c8c",
+    "7",
+    "15",
+    "4",
+    "2",
+    "a430c6f756ddaf7654be41bb940729b29645518c6b8e0486731f01a17573a857",
+    "a",
+    "b",
+];
+
+const FIRST_LINE: &str = "sealed seat 7 lanes 2
+";
+
+const FIRST_SECRET: &str = "vickrey-secret 1
 auction 82c225ed713705de399dba655bb75c8c
 seat 7
 bid 15
@@ -132,7 +148,7 @@ x 1470082618544223223 6a6f261a0ca494b383f41509a2b2908f582f01f9d07ebe9ee0b299e0fa
 end
 ";
 
-const SEAL: &str = "vickrey-seal 1
+const FIRST_SEAL: &str = "vickrey-seal 1
 auction 82c225ed713705de399dba655bb75c8c
 seat 7
 lanes 2
@@ -141,32 +157,151 @@ x 6e639ca0fb67b4bb6734abb7208b29973327ef977c54d7befc15db6208c7538c 57fca8127e6ea
 end
 ";
 
-const ID: &str = "82c225ed713705de399dba655bb75c8c";
+const SECOND_WORDS: [&str; 9] = [
+    "seal",
+    "0f2e573ebe4da7d6bdc4908077d7628d",
+    "7",
+    "0",
+    "1",
+    "1",
+    "b6bc74291c11ff3e699e3bd275475dfe92ff3c3b0f3525d5e268658daf937e41",
+    "a",
+    "b",
+];
 
-const SEED: &str = "a430c6f756ddaf7654be41bb940729b29645518c6b8e0486731f01a17573a857";
+const SECOND_LINE: &str = "sealed seat 7 lanes 1
+";
 
-const SEALED: [&str; 9] = ["seal", ID, "7", "15", "4", "2", SEED, "a", "b"];
+const SECOND_SECRET: &str = "vickrey-secret 1
+auction 0f2e573ebe4da7d6bdc4908077d7628d
+seat 7
+bid 0
+lanes 1
+x 1536227386385706451 769c4eb7edb00a69c4363a87159b5a3cbdd569a899bdc8a68f4ba951235adec8 bb6a7c5323f1357a407318de87163ec96ff342ceb615d99352d8857e1609c660
+end
+";
 
-const TOO_LARGE: [&str; 9] = ["seal", ID, "7", "16", "4", "2", SEED, "a", "b"];
+const SECOND_SEAL: &str = "vickrey-seal 1
+auction 0f2e573ebe4da7d6bdc4908077d7628d
+seat 7
+lanes 1
+x 52efb7f55b148f6e228296429df3357011834059942c42b7ca82bd8a8c9aa5f3 6b46dbaf383cac4707d70852d5dafc7a48ef9cd7894ab1f257dc916f5f93d022
+end
+";
 
-const ONE_NAME: [&str; 9] = ["seal", ID, "7", "15", "4", "2", SEED, "a", "a"];
+const THIRD_WORDS: [&str; 9] = [
+    "seal",
+    "456f015eb593f472eb4022c919451bcb",
+    "101",
+    "1",
+    "1",
+    "3",
+    "80332aed173a24db06251ac3813b10a6367f7b3114d1a7c39c3ba2c28c958b07",
+    "a",
+    "b",
+];
+
+const THIRD_LINE: &str = "sealed seat 101 lanes 3
+";
+
+const THIRD_SECRET: &str = "vickrey-secret 1
+auction 456f015eb593f472eb4022c919451bcb
+seat 101
+bid 1
+lanes 3
+x 1721965571360904845 708753c6a5a09202489e482d28672959d4c320d3466aed145016c78fc68df946 773ea0df550835178acb2d04638be78efca2f8d083232ed5693a1e62a18d989b
+x 2292240493654270685 5c086a7b2f0882cb300fb1b4a4c62d3677ec411265b4640dd20f7a22c06d5dec fd825a242428aa58b127ddd4cc4f953088c7ea9500a97efa3a51783f5d2ce82e
+x 1216475077654813362 1bb6c9b9d7132a489479791e25361269c98d0f96ab4a2b84d2b56286b8d06655 e874ae60143f051298e999a85a79caaeb6bf558b9767ba563f2e4cd8750c59f9
+end
+";
+
+const THIRD_SEAL: &str = "vickrey-seal 1
+auction 456f015eb593f472eb4022c919451bcb
+seat 101
+lanes 3
+x 58fd661171d16958edf24188fa7d323dab7b71bcc98611117f62809035337cae cdcb948fdd2b4248d319ae45db6ff64f44c5321e49ff012c5616634484c76a47
+x 44b48fcfb30138567bebb83b29cb2bc995f8839aae5cbeb85b04d8dd267e19e7 dd8a6e8af40a53218f9b796baf2ddfcd4eb0ac705294c4aa81010c7cd293664a
+x 172ffd43f89c9c9e8dc0d7b125fdd48e025143a0ffd1c01f49642e1046cb8f9e b3a28536a314757ec92b6028b55d512ae6043d3728f6628c60e720c27f5526fa
+end
+";
+
+const TOO_LARGE: [&str; 9] = [
+    "seal",
+    "82c225ed713705de399dba655bb75c8c",
+    "7",
+    "16",
+    "4",
+    "2",
+    "a430c6f756ddaf7654be41bb940729b29645518c6b8e0486731f01a17573a857",
+    "a",
+    "b",
+];
+
+const ONE_NAME: [&str; 9] = [
+    "seal",
+    "82c225ed713705de399dba655bb75c8c",
+    "7",
+    "15",
+    "4",
+    "2",
+    "a430c6f756ddaf7654be41bb940729b29645518c6b8e0486731f01a17573a857",
+    "a",
+    "a",
+];
 
 const USAGE: &str =
     "usage: vickrey seal|announce|submit|prove|answer|show|verify|extract|confront|report|sample|ceremony
 ";
 
-#[test]
-fn a_seal_is_written(rt: HostRuntime) -> Result<(), Fail> {
-    let words = words_of(rt.alloc(), &SEALED)?;
-    let mut shelf = MemShelf::new(rt.alloc());
-    let mut out = MemSink::new(rt.alloc());
-    let status = run(rt.alloc(), words.as_slice(), &mut shelf, &mut out);
+/// Runs a `seal`, and compares what it prints and writes.
+fn check_seal(
+    rt: &impl Abort,
+    alloc: Global,
+    words: &[&str],
+    line: &str,
+    secret: &str,
+    seal: &str,
+) -> Result<(), Fail> {
+    let words = words_of(alloc, words)?;
+    let mut shelf = MemShelf::new(alloc);
+    let mut out = MemSink::new(alloc);
+    let status = run(alloc, words.as_slice(), &mut shelf, &mut out);
     assert_eq!(rt; status, 0);
-    assert_eq!(rt; out.bytes(), b"sealed seat 7 lanes 2\n".as_slice());
-    let secret = shelf.file("a").ok_or("the secret is held")?;
-    assert_eq!(rt; secret, SECRET.as_bytes());
-    let seal = shelf.file("b").ok_or("the seal is held")?;
-    assert_eq!(rt; seal, SEAL.as_bytes());
+    assert_eq!(rt; out.bytes(), line.as_bytes());
+    let written = shelf.file("a").ok_or("the secret is held")?;
+    assert_eq!(rt; written, secret.as_bytes());
+    let written = shelf.file("b").ok_or("the seal is held")?;
+    assert_eq!(rt; written, seal.as_bytes());
+    Ok(())
+}
+
+#[test]
+fn seals_are_written_as_elsewhere(rt: HostRuntime) -> Result<(), Fail> {
+    let alloc = rt.alloc();
+    check_seal(
+        &rt,
+        alloc,
+        &FIRST_WORDS,
+        FIRST_LINE,
+        FIRST_SECRET,
+        FIRST_SEAL,
+    )?;
+    check_seal(
+        &rt,
+        alloc,
+        &SECOND_WORDS,
+        SECOND_LINE,
+        SECOND_SECRET,
+        SECOND_SEAL,
+    )?;
+    check_seal(
+        &rt,
+        alloc,
+        &THIRD_WORDS,
+        THIRD_LINE,
+        THIRD_SECRET,
+        THIRD_SEAL,
+    )?;
     Ok(())
 }
 
