@@ -57,12 +57,16 @@ fn range_values(alloc: Global, width: u32, number: u64) -> Result<Option<Vec<Res
 
 #[test]
 fn a_range_is_filled_at_its_ends(rt: HostRuntime) -> Result<(), Fail> {
+    let none = range_values(rt.alloc(), 1, 0)?.ok_or("of the width")?;
+    assert_eq!(rt; none.as_slice(), [Residue::ZERO; 2].as_slice());
     let bit = range_values(rt.alloc(), 1, 1)?.ok_or("of the width")?;
     assert_eq!(rt; bit.as_slice(), [residue(1), residue(1)].as_slice());
     let low = range_values(rt.alloc(), 4, 0)?.ok_or("of the width")?;
     assert_eq!(rt; low.as_slice(), [Residue::ZERO; 5].as_slice());
     let high = range_values(rt.alloc(), 4, 15)?.ok_or("of the width")?;
     assert_eq!(rt; high.as_slice(), [15, 1, 2, 4, 8].map(residue).as_slice());
+    let least = range_values(rt.alloc(), 40, 0)?.ok_or("of the width")?;
+    assert_eq!(rt; least.as_slice(), [Residue::ZERO; 41].as_slice());
     let wide = range_values(rt.alloc(), 40, 1099511627775)?.ok_or("of the width")?;
     assert_eq!(rt; wide.len(), 41);
     assert_eq!(rt; wide[40].get(), 549755813888);

@@ -63,6 +63,22 @@ fn what_was_written_is_read_and_matches(rt: HostRuntime) -> Result<(), Fail> {
     Ok(())
 }
 
+// A text of 64 lanes has more bytes than a reader takes ahead at once.
+#[test]
+fn a_seal_of_64_lanes_is_read_back(rt: HostRuntime) -> Result<(), Fail> {
+    let mut words = ChaChaWords::of(&SEED, &ID, 65543);
+    let (secret, seal) = make_seal(rt.alloc(), 15, 7, &ID, 4, 64, &mut words)?;
+    let mut shelf = MemShelf::new(rt.alloc());
+    shelf.put_file("a", secret_text(rt.alloc(), &secret)?.as_slice())?;
+    shelf.put_file("b", seal_text(rt.alloc(), &seal)?.as_slice())?;
+    let mut lines = Lines::start(rt.alloc(), &mut shelf, "a")?;
+    let secret = read_secret(rt.alloc(), &mut shelf, &mut lines)?;
+    let mut lines = Lines::start(rt.alloc(), &mut shelf, "b")?;
+    let seal = read_seal(rt.alloc(), &mut shelf, &mut lines)?;
+    assert_eq!(rt; (lines.number(), matches(&secret, &seal)), (69, Ok(())));
+    Ok(())
+}
+
 /// The line that is named as the first that may not stand there, 0 for none.
 fn fault_of(alloc: Global, bytes: &[u8], is_secret: bool) -> Result<u64, Fail> {
     let mut shelf = MemShelf::new(alloc);
