@@ -14,8 +14,8 @@ use Rattle.vk_app.specs.declared.board.Board.{Board}
 use Rattle.vk_app.specs.declared.challenge.Challenge.{Challenge}
 use Rattle.vk_app.specs.declared.reply.ReplyLane.{ReplyLane}
 use Rattle.vk_app.specs.declared.reply.Reply.{Reply}
-use Rattle.vk_seal.specs.Values.{AreBytes}
-use Rattle.vk_app.specs.Texts.{◌+++◌, line_feed, number_line, lane_line, digests_line, opening_line, board_lane_text, reply_lane_text, lanes_text, end_line, board_text, bit_text, challenge_text, reply_text, AreDigests, IsOpening, IsBoardLane, IsReplyLane, IsBoard, IsChallenge, IsReply}
+use Rattle.vk_commit.specs.Values.{AreBytes, IsOpening}
+use Rattle.vk_app.specs.Texts.{◌+++◌, line_feed, number_line, lane_line, digests_line, opening_line, board_lane_text, reply_lane_text, lanes_text, end_line, board_text, bit_text, challenge_text, reply_text, AreDigests, IsBoardLane, IsReplyLane, IsBoard, IsChallenge, IsReply}
 use Rattle.vk_app.specs.Effect.{largest_file}
 
 length-number_line : (n : ℕ) → n < 2 ^ 64 → length (number_line n) ≤ 21

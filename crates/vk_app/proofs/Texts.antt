@@ -15,7 +15,7 @@ use Rattle.vk_lines.proofs.Decimals.{decimal_of-some, decimal_of-decimal}
 use Rattle.vk_lines.proofs.Hexadecimal.{hex_of-some, hex_of-hex_text, length-hex_text}
 use Rattle.vk_app.specs.declared.refusal.Refusal.{Refusal}
 use Rattle.vk_app.specs.Pieces.{◌>>=◌, Gives, tag_at, bytes_at, hex_at, digit_count, number_line_at, count_line_at, residue_line_at, lane_line_at, finished_at}
-use Rattle.vk_seal.specs.Values.{AreBytes}
+use Rattle.vk_commit.specs.Values.{AreBytes}
 use Rattle.vk_app.specs.Texts.{◌+++◌, line_feed, number_line, lane_line, end_line}
 
 -- ---- steps that may fail

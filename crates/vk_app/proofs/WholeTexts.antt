@@ -15,7 +15,8 @@ use Rattle.vk_app.specs.declared.reply.ReplyLane.{ReplyLane}
 use Rattle.vk_app.specs.declared.reply.Reply.{Reply}
 use Rattle.vk_app.specs.Pieces.{◌>>=◌, tag_at, hex_at, count_line_at, residue_line_at, lane_line_at, finished_at, lanes_at}
 use Rattle.vk_app.specs.Reading.{digests_at, board_lane_at, board_at, bits_at, challenge_at, opening_at, reply_lane_at, reply_at}
-use Rattle.vk_app.specs.Texts.{◌+++◌, line_feed, number_line, lane_line, digests_line, opening_line, board_lane_text, reply_lane_text, lanes_text, end_line, board_text, bit_text, challenge_text, reply_text, AreDigests, IsOpening, IsBoardLane, IsReplyLane, IsBoard, IsChallenge, IsReply}
+use Rattle.vk_commit.specs.Values.{IsOpening}
+use Rattle.vk_app.specs.Texts.{◌+++◌, line_feed, number_line, lane_line, digests_line, opening_line, board_lane_text, reply_lane_text, lanes_text, end_line, board_text, bit_text, challenge_text, reply_text, AreDigests, IsBoardLane, IsReplyLane, IsBoard, IsChallenge, IsReply}
 use Rattle.vk_app.proofs.Texts.{after, some_is, if_some, Takes, ◌then◌, IsReader, tag_found, hex_reader, count_reader, residue_reader, lane_found, lane_again, end_found, end_again}
 
 -- the steps of a text in two parts, of which the first is read

@@ -3,7 +3,7 @@ use Rattle.std.specs.Prelude.{◌≡◌, ℕ, ◌+◌, ◌^◌, ◌<◌, ◌≤�
 use Rattle.std.specs.List.{AllByRecursion}
 use Rattle.vk_residue.specs.Residue.{IsResidue}
 use Rattle.vk_lines.specs.Tokens.{hex_text}
-use Rattle.vk_seal.specs.Values.{AreBytes}
+use Rattle.vk_commit.specs.Values.{AreBytes, IsOpening}
 use Rattle.vk_commit.specs.declared.place.Opening.{Opening}
 use Rattle.vk_app.specs.declared.board.Digests.{Digests}
 use Rattle.vk_app.specs.declared.board.BoardLane.{BoardLane}
@@ -86,10 +86,6 @@ reply_text reply =
 
 abbrev pub AreDigests : Digests → Type 0
 AreDigests digests = AreBytes 32 digests.first × AreBytes 32 digests.second
-
-pub record IsOpening (opening : Opening) : Type 0 where
-  pub key : AreBytes 32 opening.key
-  pub value : IsResidue opening.value
 
 pub record IsBoardLane (lane : BoardLane) : Type 0 where
   pub bid : AreDigests lane.bid

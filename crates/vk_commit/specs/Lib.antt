@@ -1,1 +1,2 @@
 pub mod Commitment
+pub mod Values

@@ -15,7 +15,8 @@ use Rattle.vk_wire.specs.declared.wire.WireCom.{WireCom}
 use Rattle.vk_seal.specs.declared.secret.XTape.{XTape}
 use Rattle.vk_seal.specs.declared.secret.Secret.{Secret}
 use Rattle.vk_seal.specs.declared.secret.Seal.{Seal}
-use Rattle.vk_seal.specs.Values.{IsCom, IsSeal, IsSecret, IsXTape}
+use Rattle.vk_wire.specs.Values.{IsCom}
+use Rattle.vk_seal.specs.Values.{IsSeal, IsSecret, IsXTape}
 use Rattle.vk_seal.specs.Texts.{com_text, tape_text, seal_text, secret_text}
 use Rattle.vk_seal.specs.Reading.{com_by, com_line, tape_by, tape_line, seal_at, seal_lanes_at, secret_at, secret_lanes_at}
 use Rattle.vk_seal.specs.Tables.{Heading, Auction, Seat, Bid, Count, Lanes, Over, seal_table, secret_table}

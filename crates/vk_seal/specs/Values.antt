@@ -1,25 +1,17 @@
 -- Secrets and seals: what a bidder keeps and what a bidder hands in.
-use Rattle.std.specs.Prelude.{◌≡◌, ℕ, ◌^◌, ◌<◌, ◌≤◌, List, length, false}
+use Rattle.std.specs.Prelude.{ℕ, ◌^◌, ◌<◌, ◌≤◌, length, false}
 use Rattle.std.specs.List.{AllByRecursion}
-use Rattle.hex.specs.Hex.{IsBytes}
 use Rattle.vk_residue.specs.Residue.{IsResidue}
-use Rattle.vk_wire.specs.declared.wire.WireCom.{WireCom}
+use Rattle.vk_commit.specs.Values.{AreBytes}
+use Rattle.vk_wire.specs.Values.{IsCom}
 use Rattle.vk_wire.specs.declared.wire.WireTape.{WireTape}
 use Rattle.vk_seal.specs.declared.secret.XTape.{XTape}
 use Rattle.vk_seal.specs.declared.secret.Secret.{Secret}
 use Rattle.vk_seal.specs.declared.secret.Seal.{Seal}
 
--- so many bytes
-abbrev pub AreBytes : ℕ → List ℕ → Type 0
-AreBytes count bytes = (length bytes ≡ count) × IsBytes bytes
-
 -- a residue and two keys
 abbrev pub IsXTape : XTape → Type 0
 IsXTape tape = IsResidue tape.mask × AreBytes 32 tape.first_key × AreBytes 32 tape.second_key
-
--- two digests
-abbrev pub IsCom : WireCom → Type 0
-IsCom digests = AreBytes 32 digests.first × AreBytes 32 digests.second
 
 -- a secret: the id of an auction, a bidder's seat, a bid below 2^40, and the tape of each of up to 64 lanes
 pub record IsSecret (secret : Secret) : Type 0 where

@@ -2,7 +2,8 @@ ghost use Rattle.std.specs.Prelude.{◌≡◌, ◌<◌, ◌≤◌, ◌^◌, [], 
 ghost use Rattle.std.specs.List.{All};
 ghost use Rattle.vk_seal.specs.Made.{Answers, TapesAnswer, made_seal, sealed_tapes, tapes_onto, drawn_tape, after_tape, lane_com, lane_coms};
 ghost use Rattle.vk_seal.specs.Match.{match_of};
-ghost use Rattle.vk_seal.specs.Values.{IsSeal, IsSecret, IsXTape, IsCom};
+ghost use Rattle.vk_wire.specs.Values.{IsCom};
+ghost use Rattle.vk_seal.specs.Values.{IsSeal, IsSecret, IsXTape};
 ghost use Rattle.vk_residue.specs.Residue.{modulus};
 
 use crate::secret::{Seal, Secret, XTape};

@@ -1,7 +1,9 @@
 ghost use Rattle.std.specs.Prelude.{length, ◌≡◌, ◌<◌, ◌≤◌, ◌-◌, ◌^◌, ℕ, IfSome, IfOk, IsErrOf};
 ghost use Rattle.std.specs.List.{All};
 ghost use Rattle.vk_io.specs.Faults.{Rose};
-ghost use Rattle.vk_seal.specs.Values.{AreBytes, IsCom, IsSeal, IsSecret, IsXTape};
+ghost use Rattle.vk_commit.specs.Values.{AreBytes};
+ghost use Rattle.vk_wire.specs.Values.{IsCom};
+ghost use Rattle.vk_seal.specs.Values.{IsSeal, IsSecret, IsXTape};
 ghost use Rattle.vk_lines.specs.Forms.{many_at};
 ghost use Rattle.vk_lines.specs.Lines.{Reads, line_by, rest_of};
 ghost use Rattle.vk_lines.specs.declared.errors.ReadErr.TheVariants.{Failed};

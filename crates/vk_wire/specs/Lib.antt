@@ -1,4 +1,5 @@
 pub mod Places
+pub mod Values
 pub mod Made
 pub mod Reads
 pub mod Laws

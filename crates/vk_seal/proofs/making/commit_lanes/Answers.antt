@@ -1,7 +1,7 @@
 use Rattle.std.proofs.Common.{arith}
 use Rattle.std.proofs.lemmas.List.Elements.{All-push}
 use Rattle.vk_seal.specs.Made.{lane_coms}
-use Rattle.vk_seal.specs.Values.{IsCom}
+use Rattle.vk_wire.specs.Values.{IsCom}
 use Rattle.vk_seal.proofs.Tapes.{coms_turn}
 use Rattle.vk_seal.proofs.making.commit_lanes.Goals as goal
 

@@ -1,7 +1,7 @@
 use Rattle.std.proofs.Common.{◌≡◌, ◌+◌, ◌++◌, drop}
 use Rattle.std.specs.List.{All}
 use Rattle.vk_seal.specs.Made.{lane_coms}
-use Rattle.vk_seal.specs.Values.{IsCom}
+use Rattle.vk_wire.specs.Values.{IsCom}
 use Rattle.vk_seal.proofs.making.commit_lanes.Given as goal
 
 -- the commitments so far and those of the lanes left are those of all lanes

@@ -1,6 +1,6 @@
 use Rattle.std.proofs.lemmas.Grind.{common_steps}
 use Rattle.std.proofs.lemmas.List.Elements.{All-push}
-use Rattle.vk_seal.specs.Values.{IsCom}
+use Rattle.vk_wire.specs.Values.{IsCom}
 use Rattle.std.proofs.Common.{length-append, ◌-◌, ◌+◌, arith, rules, ◌∙◌}
 use Rattle.vk_lines.specs.Forms.{many_at}
 use Rattle.vk_lines.specs.Lines.{line_by, rest_of}

@@ -1,5 +1,5 @@
 use Rattle.std.specs.List.{All}
-use Rattle.vk_seal.specs.Values.{IsCom}
+use Rattle.vk_wire.specs.Values.{IsCom}
 use Rattle.std.proofs.Common.{length, ◌≡◌, ◌-◌, ◌≤◌, [], IfSome}
 use Rattle.vk_lines.specs.Forms.{many_onto}
 use Rattle.vk_lines.specs.Lines.{line_by, rest_of}

@@ -1,5 +1,5 @@
 use Rattle.std.proofs.lemmas.List.Elements.{recursion_from_All}
-use Rattle.vk_seal.specs.Values.{IsCom}
+use Rattle.vk_wire.specs.Values.{IsCom}
 use Rattle.vk_seal.proofs.reading.seal_from.Goals as goal
 
 pub returns-clause-right : goal.returns-clause-right
