@@ -1,6 +1,6 @@
 -- What a command that came to its end answers.
-use Rattle.std.specs.Prelude.{◌≡◌, ◌≢◌, ℕ, ◌≤◌, List, ◌++◌, length, take, Result, Ok, Err}
-use Rattle.vk_io.specs.Files.{Files}
+use Rattle.std.specs.Prelude.{◌≡◌, ◌≢◌, ℕ, ◌≤◌, List, ◌++◌, length, take, Option, Result, Ok, Err, ◌⊎◌}
+use Rattle.vk_io.specs.Files.{Files, Told}
 use Rattle.vk_io.specs.Writing.{written, IsDivided}
 use Rattle.vk_app.specs.declared.stop.Stop.{Stop}
 
@@ -37,3 +37,13 @@ Leaves (Err stop) effect old new = IsDivided effect.writes old new
 pub record LeavesFiles (status : ℕ) (effect : Effect) (old new : Files) : Type 0 where
   pub divided : IsDivided effect.writes old new
   pub whole : status ≢ 6 → status ≢ 9 → new ≡ written effect.writes old
+
+-- ---- in which order
+
+-- nothing was printed, or each file that is written has its text
+abbrev pub IsPrintedLast : Effect → Files → Files → List ℕ → List ℕ → Type 0
+IsPrintedLast effect old new taken taken_now = (taken_now ≡ taken) ⊎ (new ≡ written effect.writes old)
+
+-- the same of a told shelf and a told sink
+abbrev pub PrintsLast : (Files → Effect) → Option Files → Option Files → Option (List ℕ) → Option (List ℕ) → Type 0
+PrintsLast effect held held_now taken taken_now = Told (λ old new. Told (IsPrintedLast (effect old) old new) taken taken_now) held held_now

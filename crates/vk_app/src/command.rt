@@ -6,7 +6,7 @@ ghost use Rattle.vk_io.specs.Faults.{Rose};
 ghost use Rattle.vk_io.specs.Files.{Told, Takes};
 ghost use Rattle.vk_app.specs.Effect.{effect_of};
 ghost use Rattle.vk_app.specs.Headline.{BothAccepted, PutsExtraction};
-ghost use Rattle.vk_app.specs.Outcome.{IsEnd, Ends, Prints, Leaves, LeavesFiles};
+ghost use Rattle.vk_app.specs.Outcome.{IsEnd, Ends, Prints, Leaves, LeavesFiles, PrintsLast};
 ghost use Rattle.vk_app.specs.Words.{extract_words};
 
 use crate::files::read_extract_files;
@@ -65,6 +65,7 @@ fn answer<S: Shelf, W: Sink>(
     ensures printed { IfSome (S.held shelf.old)
         (λ files. Told (Ends result (effect_of files (map string_bytes words.now))) (W.taken out.old) (W.taken out.new)) }
     ensures left { Told (λ old new. Leaves result (effect_of old (map string_bytes words.now)) old new) (S.held shelf.old) (S.held shelf.new) }
+    ensures last { PrintsLast (λ files. effect_of files (map string_bytes words.now)) (S.held shelf.old) (S.held shelf.new) (W.taken out.old) (W.taken out.new) }
     ensures later_shelf { S.Shelf.faults shelf.old ≤ S.Shelf.faults shelf.new }
     ensures later_out { W.Sink.faults out.old ≤ W.Sink.faults out.new }
     ensures failed { IsErrOf result Stop.Failed
@@ -84,6 +85,7 @@ pub fn run<S: Shelf, W: Sink>(alloc: Global, words: &[String], shelf: &mut S, ou
     ensures printed { IfSome (S.held shelf.old)
         (λ files. Told (Prints result (effect_of files (map string_bytes words.now))) (W.taken out.old) (W.taken out.new)) }
     ensures left { Told (λ old new. LeavesFiles result (effect_of old (map string_bytes words.now)) old new) (S.held shelf.old) (S.held shelf.new) }
+    ensures last { PrintsLast (λ files. effect_of files (map string_bytes words.now)) (S.held shelf.old) (S.held shelf.new) (W.taken out.old) (W.taken out.new) }
 
     // What status 0 of an `extract` means: the text is that of the bids which the files give, and it
     // is put wherever they give any.

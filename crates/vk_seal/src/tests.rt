@@ -96,163 +96,17 @@ fn fault_of(alloc: Global, bytes: &[u8], is_secret: bool) -> Result<u64, Fail> {
     }
 }
 
-const CHANGED_SEAL_1: &[u8] = b"vickrey-seal 1\n\
-auction 000102030405060708090a0b0c0d0e0f\n\
-seat 70\n\
-lanes 3\n\
-x 95dd93ea8976343596b4ec8e4bda5a20fa7abd4c09a635cd4d6a1ad16a135aa6 b6c14358a32a13c96be8d6b96bf302400574c9f5408d39cb9a89270b7914e5f3\n\
-x cc006e553eb0e4750a0afc55fe8e6ef6aaaa79010e02330ef35e3e3c906548cb eb454f41c8ca4016a6d71ec34d7d5834d82194c800a312399b0a79410ddd2c2d\n\
-x 20880a15b3788910346ec0ce32dddc09ff2a1d6409cb866f2ee503acbdfbb7b1 50d1656575d8a57b4bc9cdd485ce94950e64cf5a7eaca0a2d1acaf67de0cbd4d\n\
-end\n";
-
-const CHANGED_SEAL_2: &[u8] = b"vickrey-seal 1\n\
+const CUT_SEAL: &[u8] = b"vickrey-seal 1\n\
 auction 00010203040506070";
 
-const CHANGED_SEAL_3: &[u8] = b"vickrey-seal 1\n\
-auction 000102030405060708090a0b0c0d0e0f\n seat 7\n\
-lanes 3\n\
-x 95dd93ea8976343596b4ec8e4bda5a20fa7abd4c09a635cd4d6a1ad16a135aa6 b6c14358a32a13c96be8d6b96bf302400574c9f5408d39cb9a89270b7914e5f3\n\
-x cc006e553eb0e4750a0afc55fe8e6ef6aaaa79010e02330ef35e3e3c906548cb eb454f41c8ca4016a6d71ec34d7d5834d82194c800a312399b0a79410ddd2c2d\n\
-x 20880a15b3788910346ec0ce32dddc09ff2a1d6409cb866f2ee503acbdfbb7b1 50d1656575d8a57b4bc9cdd485ce94950e64cf5a7eaca0a2d1acaf67de0cbd4d\n\
-end\n";
-
-const CHANGED_SEAL_4: &[u8] = b"vickrey-seal 1\n\
-auction 000102030405060708090a0b0c0d0e0f\n\
-seat 7\n lanes 3\n\
-x 95dd93ea8976343596b4ec8e4bda5a20fa7abd4c09a635cd4d6a1ad16a135aa6 b6c14358a32a13c96be8d6b96bf302400574c9f5408d39cb9a89270b7914e5f3\n\
-x cc006e553eb0e4750a0afc55fe8e6ef6aaaa79010e02330ef35e3e3c906548cb eb454f41c8ca4016a6d71ec34d7d5834d82194c800a312399b0a79410ddd2c2d\n\
-x 20880a15b3788910346ec0ce32dddc09ff2a1d6409cb866f2ee503acbdfbb7b1 50d1656575d8a57b4bc9cdd485ce94950e64cf5a7eaca0a2d1acaf67de0cbd4d\n\
-end\n";
-
-const CHANGED_SEAL_5: &[u8] = b"vickrey-seal 1\n\
-auction 000102030405060708090a0b0c0d0e0f\n\
-seat 7\n\
-lanes 3\n\
-x  95dd93ea8976343596b4ec8e4bda5a20fa7abd4c09a635cd4d6a1ad16a135aa6 b6c14358a32a13c96be8d6b96bf302400574c9f5408d39cb9a89270b7914e5f3\n\
-x cc006e553eb0e4750a0afc55fe8e6ef6aaaa79010e02330ef35e3e3c906548cb eb454f41c8ca4016a6d71ec34d7d5834d82194c800a312399b0a79410ddd2c2d\n\
-x 20880a15b3788910346ec0ce32dddc09ff2a1d6409cb866f2ee503acbdfbb7b1 50d1656575d8a57b4bc9cdd485ce94950e64cf5a7eaca0a2d1acaf67de0cbd4d\n\
-end\n";
-
-const CHANGED_SEAL_6: &[u8] = b"vickrey-seal 1\n\
-auction 000102030405060708090a0b0c0d0e0f\n\
-seat 7\n\
-lanes 3\n\
-x 95dd93ea8976343596b4ec8e4bda5a20fa7abd4c09a635cd4d6a1ad16a135aa6 b6c14358a32a13c96be8d6b96bf302400574c9f5408d39cb9a89270b7914e5f3\n x cc006e553eb0e4750a0afc55fe8e6ef6aaaa79010e02330ef35e3e3c906548cb eb454f41c8ca4016a6d71ec34d7d5834d82194c800a312399b0a79410ddd2c2d\n\
-x 20880a15b3788910346ec0ce32dddc09ff2a1d6409cb866f2ee503acbdfbb7b1 50d1656575d8a57b4bc9cdd485ce94950e64cf5a7eaca0a2d1acaf67de0cbd4d\n\
-end\n";
-
-const CHANGED_SEAL_7: &[u8] = b"vickrey-seal 1\n\
-auction 000102030405060708090a0b0c0d0e0f\n\
-seat 7\n\
-lanes 3\n\
-x 95dd93ea8976343596b4ec8e4bda5a20fa7abd4c09a635cd4d6a1ad16a135aa6 b6c14358a32a13c96be8d6b96bf302400574c9f5408d39cb9a89270b7914e5f3\n\
-x cc006e553eb0e4750a0afc55fe8e6ef6aaaa79010e02330ef35e3e3c906548cb eb454f41c8ca4016a6d71ec34d7d5834d82194c800a312399b0a79410ddd2c2d\n\
-x 20880a15b3788910346ec0ce32dddc09ff2a1d6409cb866f2ee503acbdfbb7b1 50d1656575d8a57b4bc9cdd485ce94950e64cf5a7eaca0a2d1acaf67de0cbd4d\n";
-
-const CHANGED_SEAL_8: &[u8] = b"vickrey-seal 1\n\
-auction 000102030405060708090a0b0c0d0e0f\n\
-seat 7\n\
-lanes 3\n\
-x 95dd93ea8976343596b4ec8e4bda5a20fa7abd4c09a635cd4d6a1ad16a135aa6 b6c14358a32a13c96be8d6b96bf302400574c9f5408d39cb9a89270b7914e5f3\n\
-x cc006e553eb0e4750a0afc55fe8e6ef6aaaa79010e02330ef35e3e3c906548cb eb454f41c8ca4016a6d71ec34d7d5834d82194c800a312399b0a79410ddd2c2d\n\
-x 20880a15b3788910346ec0ce32dddc09ff2a1d6409cb866f2ee503acbdfbb7b1 50d1656575d8a57b4bc9cdd485ce94950e64cf5a7eaca0a2d1acaf67de0cbd4d\n\
-end\n\
-end\n";
-
-const CHANGED_SECRET_1: &[u8] = b"vickrey-secret 1\n\
-auction 000102030405060708090a0b0c0d0e0f\n\
-seat 7\n\
-bid 11\n\
-lanes 3\n\
-x 2305843009213693950 354d57965414718809e94fea3a59dead29bce590ecf6f6f1cb7b4e75854e62ae c1a84ebcb408393259b4e22a7297cb752f2c04c570bfbfa27eb30ce260be3a15\n\
-x 986594317129009500 fef00302bbdd2867442c8789e41e4809b7aa0af78e1022f065d704b3901a6733 ab165a8a598313c7a2352044e861b5eed47c9b08b5e3d34692e53456b6dc9402\n\
-x 186550644519370331 bc5c1eebeb2d9c572ed02a73493d4d20a442df7bce50311ff68a335a8173e23e ada3e67f908004239481864acf271df1ade96937e0ffca67864883d525295cec\n\
-end\n";
-
-const CHANGED_SECRET_2: &[u8] = b"vickrey-secret 1\n\
+const CUT_SECRET: &[u8] = b"vickrey-secret 1\n\
 auction 000102030405060";
 
-const CHANGED_SECRET_3: &[u8] = b"vickrey-secret 1\n\
-auction 000102030405060708090a0b0c0d0e0f\n\
-seat 7\n bid 11\n\
-lanes 3\n\
-x 1328186215552272629 354d57965414718809e94fea3a59dead29bce590ecf6f6f1cb7b4e75854e62ae c1a84ebcb408393259b4e22a7297cb752f2c04c570bfbfa27eb30ce260be3a15\n\
-x 986594317129009500 fef00302bbdd2867442c8789e41e4809b7aa0af78e1022f065d704b3901a6733 ab165a8a598313c7a2352044e861b5eed47c9b08b5e3d34692e53456b6dc9402\n\
-x 186550644519370331 bc5c1eebeb2d9c572ed02a73493d4d20a442df7bce50311ff68a335a8173e23e ada3e67f908004239481864acf271df1ade96937e0ffca67864883d525295cec\n\
-end\n";
-
-const CHANGED_SECRET_4: &[u8] = b"vickrey-secret 1\n\
-auction 000102030405060708090a0b0c0d0e0f\n\
-seat 7\n\
-bid 11\n\
-lanes 3\n\n\
-x 986594317129009500 fef00302bbdd2867442c8789e41e4809b7aa0af78e1022f065d704b3901a6733 ab165a8a598313c7a2352044e861b5eed47c9b08b5e3d34692e53456b6dc9402\n\
-x 186550644519370331 bc5c1eebeb2d9c572ed02a73493d4d20a442df7bce50311ff68a335a8173e23e ada3e67f908004239481864acf271df1ade96937e0ffca67864883d525295cec\n\
-end\n";
-
-const CHANGED_SECRET_5: &[u8] = b"vickrey-secret 1\n\
-auction 000102030405060708090a0b0c0d0e0f\n\
-seat 7\n\
-bid 11\n\
-lanes 3\n\
-x 1328186215552272629 354d57965414718809e94fea3a59dead29bce590ecf6f6f1cb7b4e75854e62ae c1a84ebcb408393259b4e22a7297cb752f2c04c570bfbfa27eb30ce260be3a15\n\n\
-x 186550644519370331 bc5c1eebeb2d9c572ed02a73493d4d20a442df7bce50311ff68a335a8173e23e ada3e67f908004239481864acf271df1ade96937e0ffca67864883d525295cec\n\
-end\n";
-
-const CHANGED_SECRET_6: &[u8] = b"vickrey-secret 1\n\
-auction 000102030405060708090a0b0c0d0e0f\n\
-seat 7\n\
-bid 11\n\
-lanes 2\n\
-x 1328186215552272629 354d57965414718809e94fea3a59dead29bce590ecf6f6f1cb7b4e75854e62ae c1a84ebcb408393259b4e22a7297cb752f2c04c570bfbfa27eb30ce260be3a15\n\
-x 986594317129009500 fef00302bbdd2867442c8789e41e4809b7aa0af78e1022f065d704b3901a6733 ab165a8a598313c7a2352044e861b5eed47c9b08b5e3d34692e53456b6dc9402\n\
-x 186550644519370331 bc5c1eebeb2d9c572ed02a73493d4d20a442df7bce50311ff68a335a8173e23e ada3e67f908004239481864acf271df1ade96937e0ffca67864883d525295cec\n\
-end\n";
-
-const CHANGED_SECRET_7: &[u8] = b"vickrey-secret 1\n\
-auction 000102030405060708090a0b0c0d0e0f\n\
-seat 7\n\
-bid 11\n\
-lanes 3\n\
-x 1328186215552272629 354d57965414718809e94fea3a59dead29bce590ecf6f6f1cb7b4e75854e62ae c1a84ebcb408393259b4e22a7297cb752f2c04c570bfbfa27eb30ce260be3a15\n\
-x 986594317129009500 fef00302bbdd2867442c8789e41e4809b7aa0af78e1022f065d704b3901a6733 ab165a8a598313c7a2352044e861b5eed47c9b08b5e3d34692e53456b6dc9402\n\
-x 186550644519370331 bc5c1eebeb2d9c572ed02a73493d4d20a442df7bce50311ff68a335a8173e23e ada3e67f908004239481864acf271df1ade96937e0ffca67864883d525295cec\n\
-end \n";
-
-const CHANGED_SECRET_8: &[u8] = b"vickrey-secret 1\n\
-auction 000102030405060708090a0b0c0d0e0f\n\
-seat 7\n\
-bid 11\n\
-lanes 3\n\
-x 1328186215552272629 354d57965414718809e94fea3a59dead29bce590ecf6f6f1cb7b4e75854e62ae c1a84ebcb408393259b4e22a7297cb752f2c04c570bfbfa27eb30ce260be3a15\n\
-x 986594317129009500 fef00302bbdd2867442c8789e41e4809b7aa0af78e1022f065d704b3901a6733 ab165a8a598313c7a2352044e861b5eed47c9b08b5e3d34692e53456b6dc9402\n\
-x 186550644519370331 bc5c1eebeb2d9c572ed02a73493d4d20a442df7bce50311ff68a335a8173e23e ada3e67f908004239481864acf271df1ade96937e0ffca67864883d525295cec\n\
-end\n\
-end\n";
-
+// Many more of them are replayed by the program `conformance`.
 #[test]
-fn the_fault_line_of_a_changed_seal_is_named(rt: HostRuntime) -> Result<(), Fail> {
-    assert_eq!(rt; fault_of(rt.alloc(), CHANGED_SEAL_1, false)?, 0);
-    assert_eq!(rt; fault_of(rt.alloc(), CHANGED_SEAL_2, false)?, 2);
-    assert_eq!(rt; fault_of(rt.alloc(), CHANGED_SEAL_3, false)?, 3);
-    assert_eq!(rt; fault_of(rt.alloc(), CHANGED_SEAL_4, false)?, 4);
-    assert_eq!(rt; fault_of(rt.alloc(), CHANGED_SEAL_5, false)?, 5);
-    assert_eq!(rt; fault_of(rt.alloc(), CHANGED_SEAL_6, false)?, 6);
-    assert_eq!(rt; fault_of(rt.alloc(), CHANGED_SEAL_7, false)?, 8);
-    assert_eq!(rt; fault_of(rt.alloc(), CHANGED_SEAL_8, false)?, 9);
-    Ok(())
-}
-
-#[test]
-fn the_fault_line_of_a_changed_secret_is_named(rt: HostRuntime) -> Result<(), Fail> {
-    assert_eq!(rt; fault_of(rt.alloc(), CHANGED_SECRET_1, true)?, 0);
-    assert_eq!(rt; fault_of(rt.alloc(), CHANGED_SECRET_2, true)?, 2);
-    assert_eq!(rt; fault_of(rt.alloc(), CHANGED_SECRET_3, true)?, 4);
-    assert_eq!(rt; fault_of(rt.alloc(), CHANGED_SECRET_4, true)?, 6);
-    assert_eq!(rt; fault_of(rt.alloc(), CHANGED_SECRET_5, true)?, 7);
-    assert_eq!(rt; fault_of(rt.alloc(), CHANGED_SECRET_6, true)?, 8);
-    assert_eq!(rt; fault_of(rt.alloc(), CHANGED_SECRET_7, true)?, 9);
-    assert_eq!(rt; fault_of(rt.alloc(), CHANGED_SECRET_8, true)?, 10);
+fn the_fault_line_of_a_cut_file_is_named(rt: HostRuntime) -> Result<(), Fail> {
+    assert_eq!(rt; fault_of(rt.alloc(), CUT_SEAL, false)?, 2);
+    assert_eq!(rt; fault_of(rt.alloc(), CUT_SECRET, true)?, 2);
     Ok(())
 }
 
