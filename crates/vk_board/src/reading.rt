@@ -84,7 +84,7 @@ pub fn read_seals<S: Shelf>(
 {
     let mut seals = Seq::new(alloc);
     for index in 0..head.seals {
-        let seal = read_seal(alloc, shelf, lines, head.lanes, seals.as_slice())?;
+        let seal = read_seal(alloc, shelf, lines, head.lanes, &seals)?;
         seals.push(seal)?;
     }
     Ok(seals)
@@ -97,7 +97,7 @@ fn read_seal<S: Shelf>(
     shelf: &mut S,
     lines: &mut Lines,
     lanes: u32,
-    before: &[SealLines],
+    before: &Seq<SealLines>,
 ) -> Result<SealLines, ReadErr>
     ensures told { IfSome (S.held shelf.old) (λ files.
         Reads (λ x. x) result (rest_of lines.new files) (seal_at lanes before.now (rest_of lines.old files))) }
@@ -112,7 +112,7 @@ fn read_seal<S: Shelf>(
 }
 
 /// A seal of what was read.
-fn seal_from(seat: u16, coms: Seq<WireCom>, lanes: u32, before: &[SealLines]) -> SealLines
+fn seal_from(seat: u16, coms: Seq<WireCom>, lanes: u32, before: &Seq<SealLines>) -> SealLines
     requires some_seat { 1 ≤ seat }
     requires new_seat { is_new_seat (seats_of before.now) seat ≡ true }
     requires count { length coms ≡ lanes }
@@ -128,7 +128,7 @@ fn seal_from(seat: u16, coms: Seq<WireCom>, lanes: u32, before: &[SealLines]) ->
 fn read_seat<S: Shelf>(
     shelf: &mut S,
     lines: &mut Lines,
-    before: &[SealLines],
+    before: &Seq<SealLines>,
 ) -> Result<u16, ReadErr>
     ensures told { IfSome (S.held shelf.old) (λ files.
         Reads (λ x. x) result (rest_of lines.new files) (line_by (seat_line (seats_of before.now)) (rest_of lines.old files))) }
@@ -144,7 +144,7 @@ fn read_seat<S: Shelf>(
 }
 
 /// The seat of a seal's first line.
-fn seat_of(text: &[u8], before: &[SealLines]) -> Option<u16>
+fn seat_of(text: &[u8], before: &Seq<SealLines>) -> Option<u16>
     ensures value { result ≡ seat_line (seats_of before.now) text.now }
     ensures some { IfSome result (λ seat. 1 ≤ seat) }
     ensures new { IfSome result (λ seat. is_new_seat (seats_of before.now) seat ≡ true) }
@@ -155,7 +155,7 @@ fn seat_of(text: &[u8], before: &[SealLines]) -> Option<u16>
         return None;
     }
     let seat = seat as u16;
-    if is_new_seat(before, seat) {
+    if is_new_seat(before.as_slice(), seat) {
         Some(seat)
     } else {
         None
@@ -166,7 +166,12 @@ fn seat_of(text: &[u8], before: &[SealLines]) -> Option<u16>
 fn is_new_seat(before: &[SealLines], seat: u16) -> bool
     ensures { result ≡ is_new_seat (seats_of before.now) seat }
 {
-    before.iter().all(|earlier| earlier.seat != seat)
+    for earlier in before {
+        if earlier.seat == seat {
+            return false;
+        }
+    }
+    true
 }
 
 /// Reads what a board says of the lane of that number, from 1: this many wires' commitments and this
