@@ -14,3 +14,6 @@ pub use laws::{
 };
 pub use reading::{read_head, read_lane, read_seals};
 pub use writing::{head_text, lane_text, seal_lines_text};
+
+#[cfg(test)]
+mod tests;
