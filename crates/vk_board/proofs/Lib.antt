@@ -1,0 +1,5 @@
+pub mod Seats
+pub mod Lines
+pub mod Forms
+pub mod Boards
+pub mod Faults

@@ -1,0 +1,34 @@
+use Rattle.std.proofs.lemmas.Grind.{common_steps}
+use Rattle.vk_board.proofs.Seats.{each_push}
+use Rattle.vk_board.specs.Values.{IsSealAfter}
+use Rattle.std.proofs.Common.{length-append, ◌-◌, ◌+◌, arith, rules, ◌∙◌, []}
+use Rattle.vk_lines.specs.Forms.{many_at}
+use Rattle.vk_lines.specs.Lines.{rest_of}
+use Rattle.vk_lines.proofs.Loops.{many_turn, many_stop, many_done}
+use Rattle.vk_board.specs.Reading.{seal_at}
+use Rattle.vk_board.proofs.reading.read_seals.Goals as goal
+
+pub returns-in_err-seal-clause-told : goal.returns-in_err-seal-clause-told
+returns-in_err-seal-clause-told g c =
+    many_stop (g.S.Shelf.held c.args.shelf.now) (g.S.Shelf.held c.loop-index.shelf) (seal_at c.args.head.now.lanes)
+    (λ files. many_at c.args.head.now.seals (seal_at c.args.head.now.lanes) (rest_of c.args.lines.now files))
+    c.loop-index.seals c.in_err-seal.field-0.0 _ (c.args.head.now.seals - c.loop-index.index) (λ files. rest_of c.loop-index.lines files) (λ files. rest_of c.read_seal.new.lines files)
+    c.loop-index.invariant.held (omega arith) (search rules) c.loop-index.invariant.told c.in_err-seal.ensures.told
+
+pub loop-index-preserved : goal.loop-index-preserved
+loop-index-preserved g c = record {
+  told = many_turn (g.S.Shelf.held c.args.shelf.now) (g.S.Shelf.held c.loop-index.shelf) (seal_at c.args.head.now.lanes)
+      (λ files. many_at c.args.head.now.seals (seal_at c.args.head.now.lanes) (rest_of c.args.lines.now files))
+      c.loop-index.seals _ c.in_ok-seal.seal (c.args.head.now.seals - c.loop-index.index) (c.args.head.now.seals - (c.loop-index.index + 1)) (λ files. rest_of c.loop-index.lines files) (λ files. rest_of c.read_seal.new.lines files)
+      c.loop-index.invariant.held (omega arith) c.in_ok-push.ensures.pushed c.loop-index.invariant.told c.in_ok-seal.ensures.told;
+  count = grind (arith, common_steps, length-append);
+  right = rw c.in_ok-push.ensures.pushed (each_push (IsSealAfter c.args.head.now.lanes) [] c.loop-index.seals c.in_ok-seal.seal c.loop-index.invariant.right c.in_ok-seal.ensures.right);
+  held = c.in_ok-seal.ensures.held ∙ c.loop-index.invariant.held;
+  later = omega (arith, c.in_ok-seal.ensures.later, c.loop-index.invariant.later);
+}
+
+pub returns-clause-told : goal.returns-clause-told
+returns-clause-told g c =
+    many_done (g.S.Shelf.held c.args.shelf.now) (seal_at c.args.head.now.lanes)
+    (λ files. many_at c.args.head.now.seals (seal_at c.args.head.now.lanes) (rest_of c.args.lines.now files))
+    c.loop-index.seals (c.args.head.now.seals - c.loop-index.index) (λ files. rest_of c.loop-index.lines files) (omega arith) c.loop-index.invariant.told

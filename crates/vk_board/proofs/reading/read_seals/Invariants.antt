@@ -1,0 +1,17 @@
+use Rattle.vk_lines.specs.Forms.{EachAfter, many_onto}
+use Rattle.vk_board.specs.Values.{IsSealAfter}
+use Rattle.std.proofs.Common.{length, ◌≡◌, ◌-◌, ◌≤◌, [], IfSome}
+use Rattle.vk_lines.specs.Lines.{rest_of}
+use Rattle.vk_board.specs.Reading.{seal_at}
+use Rattle.vk_board.proofs.reading.read_seals.Given as goal
+
+-- what is left gives the rest of the seals
+abbrev pub invariant-loop-index : goal.invariant-loop-index
+invariant-loop-index g l = record {
+  told : IfSome (g.S.Shelf.held l.fn.shelf) (λ files.
+      many_onto l.seals (l.head.seals - l.index) (seal_at l.head.lanes) (rest_of l.lines files) ≡ many_onto [] l.head.seals (seal_at l.head.lanes) (rest_of l.fn.lines files));
+  count : length l.seals ≡ l.index;
+  right : EachAfter (IsSealAfter l.head.lanes) [] l.seals;
+  held : g.S.Shelf.held l.shelf ≡ g.S.Shelf.held l.fn.shelf;
+  later : g.S.Shelf.faults l.fn.shelf ≤ g.S.Shelf.faults l.shelf;
+}

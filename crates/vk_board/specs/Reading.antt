@@ -1,0 +1,86 @@
+-- How a board is read, line by line. The laws say that this is exactly its text, and stops at the fault
+-- line.
+use Rattle.std.specs.Prelude.{ℕ, ◌+◌, ◌^◌, ◌-◌, ◌==◌, not, Bool, List, length, map, codes, Option, Result, Ok}
+use Rattle.std.specs.List.{list_all}
+use Rattle.vk_lines.specs.Lines.{Rest, ◌>>=◌, line_by, end_at}
+use Rattle.vk_lines.specs.Forms.{many_at}
+use Rattle.vk_lines.specs.Tokens.{decimal_of, hex_of, word_of, number_token, number_line, id_line, one_field, two_fields, meets}
+use Rattle.vk_lines.specs.Tokens as tokens
+use Rattle.vk_residue.specs.Residue.{modulus}
+use Rattle.vk_wire.specs.declared.wire.WireCom.{WireCom}
+use Rattle.vk_board.specs.declared.board.Head.{Head}
+use Rattle.vk_board.specs.declared.board.SealLines.{SealLines}
+use Rattle.vk_board.specs.declared.board.LaneLines.{LaneLines}
+use Rattle.vk_board.specs.Values.{Board, Shape}
+
+-- ---- lines
+
+abbrev pub com_by : List ℕ → List ℕ → WireCom
+com_by first second = record { first = first; second = second }
+
+abbrev pub com_line : List ℕ → List ℕ → Option WireCom
+com_line word text = two_fields word (hex_of 32) (hex_of 32) com_by text
+
+abbrev pub posted_line : List ℕ → Option ℕ
+posted_line text = one_field (codes "d") (decimal_of (modulus - 1)) text
+
+abbrev pub seats_of : List SealLines → List ℕ
+seats_of seals = map (λ seal. seal.seat) seals
+
+-- whether a seat is none of these
+abbrev pub is_new_seat : List ℕ → ℕ → Bool
+is_new_seat seats seat = list_all (λ earlier. not (earlier == seat)) seats
+
+-- a bidder's seat that is none of these
+abbrev pub seat_token : List ℕ → List ℕ → Option ℕ
+seat_token seats text = tokens.◌>>=◌ (number_token 1 65535 text) (meets (is_new_seat seats))
+
+abbrev pub seat_line : List ℕ → List ℕ → Option ℕ
+seat_line seats text = one_field (codes "seal") (seat_token seats) text
+
+-- ---- parts
+
+-- the head of a board
+unfoldable pub head_at : Rest → Result (Head × Rest) ℕ
+head_at rest =
+    line_by (word_of (codes "vickrey-board 1")) rest >>= λ heading.
+    line_by (id_line (codes "auction")) heading.1 >>= λ auction.
+    line_by (number_line (codes "width") 1 40) auction.1 >>= λ width.
+    line_by (number_line (codes "lanes") 1 64) width.1 >>= λ lanes.
+    line_by (number_line (codes "seals") 1 64) lanes.1 >>= λ seals.
+    line_by (number_line (codes "winner") 1 65535) seals.1 >>= λ winner.
+    line_by (number_line (codes "price") 0 (2 ^ 64 - 1)) winner.1 >>= λ price.
+    Ok (record { auction = auction.0; width = width.0; lanes = lanes.0; seals = seals.0; winner = winner.0; price = price.0 }, price.1)
+
+-- a seal of so many lanes after these
+unfoldable pub seal_at : ℕ → List SealLines → Rest → Result (SealLines × Rest) ℕ
+seal_at lanes before rest =
+    line_by (seat_line (seats_of before)) rest >>= λ seat.
+    many_at lanes (λ _. line_by (com_line (codes "x"))) seat.1 >>= λ coms.
+    Ok (record { seat = seat.0; coms = coms.0 }, coms.1)
+
+-- the seals of a board with this head
+abbrev pub seals_at : Head → Rest → Result (List SealLines × Rest) ℕ
+seals_at head rest = many_at head.seals (seal_at head.lanes) rest
+
+-- the lane of that number, with so many wires after the inputs and so many rows
+unfoldable pub lane_at : ℕ → ℕ → ℕ → Rest → Result (LaneLines × Rest) ℕ
+lane_at lane wires rows rest =
+    line_by (number_line (codes "lane") lane lane) rest >>= λ number.
+    many_at wires (λ _. line_by (com_line (codes "w"))) number.1 >>= λ coms.
+    many_at rows (λ _. line_by posted_line) coms.1 >>= λ posted.
+    Ok (record { coms = coms.0; posted = posted.0 }, posted.1)
+
+-- the lanes of a board with this head, numbered from 1
+abbrev pub lanes_at : (Head → Shape) → Head → Rest → Result (List LaneLines × Rest) ℕ
+lanes_at shape head rest =
+    many_at head.lanes (λ before. lane_at (length before + 1) (shape head).wires (shape head).rows) rest
+
+-- a board whose head tells the shape of its lanes
+unfoldable pub board_at : (Head → Shape) → Rest → Result (Board × Rest) ℕ
+board_at shape rest =
+    head_at rest >>= λ head.
+    seals_at head.0 head.1 >>= λ seals.
+    lanes_at shape head.0 seals.1 >>= λ lanes.
+    end_at lanes.1 >>= λ over.
+    Ok (record { head = head.0; seals = seals.0; lanes = lanes.0 }, over.1)

@@ -1,0 +1,52 @@
+-- The text of a board, part by part and line by line.
+use Rattle.std.specs.Prelude.{ℕ, ◌+◌, List, [], ◌∷◌, ◌++◌, codes, decimal}
+use Rattle.std.specs.List.{flat_map}
+use Rattle.vk_lines.specs.Forms.{line, spaced}
+use Rattle.vk_lines.specs.Tokens.{hex_text}
+use Rattle.vk_wire.specs.declared.wire.WireCom.{WireCom}
+use Rattle.vk_board.specs.declared.board.Head.{Head}
+use Rattle.vk_board.specs.declared.board.SealLines.{SealLines}
+use Rattle.vk_board.specs.declared.board.LaneLines.{LaneLines}
+use Rattle.vk_board.specs.Values.{Board}
+
+-- the word, the digests of the first and the second commitment
+abbrev pub com_text : List ℕ → WireCom → List ℕ
+com_text word digests = spaced (word ∷ hex_text digests.first ∷ hex_text digests.second ∷ [])
+
+-- `d`, the number of a row
+abbrev pub posted_text : ℕ → List ℕ
+posted_text number = spaced (codes "d" ∷ decimal number ∷ [])
+
+unfoldable pub head_text : Head → List ℕ
+head_text head =
+    line (codes "vickrey-board 1")
+    ++ (line (spaced (codes "auction" ∷ hex_text head.auction ∷ []))
+    ++ (line (spaced (codes "width" ∷ decimal head.width ∷ []))
+    ++ (line (spaced (codes "lanes" ∷ decimal head.lanes ∷ []))
+    ++ (line (spaced (codes "seals" ∷ decimal head.seals ∷ []))
+    ++ (line (spaced (codes "winner" ∷ decimal head.winner ∷ []))
+    ++ line (spaced (codes "price" ∷ decimal head.price ∷ [])))))))
+
+unfoldable pub seal_lines_text : SealLines → List ℕ
+seal_lines_text seal =
+    line (spaced (codes "seal" ∷ decimal seal.seat ∷ []))
+    ++ flat_map (λ digests. line (com_text (codes "x") digests)) seal.coms
+
+-- of the lane of that number
+unfoldable pub lane_text : ℕ → LaneLines → List ℕ
+lane_text lane lines =
+    line (spaced (codes "lane" ∷ decimal lane ∷ []))
+    ++ (flat_map (λ digests. line (com_text (codes "w") digests)) lines.coms
+    ++ flat_map (λ number. line (posted_text number)) lines.posted)
+
+-- of lanes one after another, of which the first has that number
+abbrev pub lanes_text : ℕ → List LaneLines → List ℕ
+lanes_text lane [] = []
+lanes_text lane (lines ∷ more) = lane_text lane lines ++ lanes_text (lane + 1) more
+
+unfoldable pub board_text : Board → List ℕ
+board_text board =
+    head_text board.head
+    ++ (flat_map seal_lines_text board.seals
+    ++ (lanes_text 1 board.lanes
+    ++ line (codes "end")))

@@ -1,0 +1,66 @@
+-- Boards: what an auctioneer publishes of an auction.
+use Rattle.std.specs.Prelude.{◌≡◌, ◌≢◌, ℕ, ◌^◌, ◌<◌, ◌≤◌, List, [], length}
+use Rattle.std.specs.List.{AllByRecursion}
+use Rattle.vk_residue.specs.Residue.{IsResidue}
+use Rattle.vk_commit.specs.Values.{AreBytes}
+use Rattle.vk_wire.specs.Values.{IsCom}
+use Rattle.vk_lines.specs.Forms.{EachAfter}
+use Rattle.vk_board.specs.declared.board.Head.{Head}
+use Rattle.vk_board.specs.declared.board.SealLines.{SealLines}
+use Rattle.vk_board.specs.declared.board.LaneLines.{LaneLines}
+
+-- the head of a board: the id of an auction, the width of its bids, how many lanes and seals there are,
+-- the seat that won, and the price
+pub record IsHead (head : Head) : Type 0 where
+  pub id : AreBytes 16 head.auction
+  pub some_width : 1 ≤ head.width
+  pub last_width : head.width ≤ 40
+  pub some_lane : 1 ≤ head.lanes
+  pub few_lanes : head.lanes ≤ 64
+  pub some_seal : 1 ≤ head.seals
+  pub few_seals : head.seals ≤ 64
+  pub some_winner : 1 ≤ head.winner
+  pub last_winner : head.winner ≤ 65535
+  pub price : head.price < 2 ^ 64
+
+-- a seal on a board of so many lanes: a bidder's seat, and the two commitments of each lane
+pub record IsSealLines (lanes : ℕ) (seal : SealLines) : Type 0 where
+  pub some_seat : 1 ≤ seal.seat
+  pub last_seat : seal.seat ≤ 65535
+  pub count : length seal.coms ≡ lanes
+  pub coms : AllByRecursion IsCom seal.coms
+
+-- the same after these seals: its seat is that of none of them
+pub record IsSealAfter (lanes : ℕ) (before : List SealLines) (seal : SealLines) : Type 0 where
+  pub right : IsSealLines lanes seal
+  pub new_seat : AllByRecursion (λ earlier. earlier.seat ≢ seal.seat) before
+
+-- the seals of a board with this head: as many as it says, and their seats are all different
+pub record AreSeals (head : Head) (seals : List SealLines) : Type 0 where
+  pub count : length seals ≡ head.seals
+  pub each : EachAfter (IsSealAfter head.lanes) [] seals
+
+-- what stands on a board of one lane: so many wires' commitments and so many rows' posted numbers
+pub record IsLaneLines (wires rows : ℕ) (lines : LaneLines) : Type 0 where
+  pub wire_count : length lines.coms ≡ wires
+  pub row_count : length lines.posted ≡ rows
+  pub coms : AllByRecursion IsCom lines.coms
+  pub posted : AllByRecursion IsResidue lines.posted
+
+-- a whole board
+pub record Board : Type 0 where
+  pub head : Head
+  pub seals : List SealLines
+  pub lanes : List LaneLines
+
+-- how many wires after the inputs, and how many rows, a lane has
+pub record Shape : Type 0 where
+  pub wires : ℕ
+  pub rows : ℕ
+
+-- a board whose head tells the shape of each of its lanes
+pub record IsBoard (shape : Head → Shape) (board : Board) : Type 0 where
+  pub head : IsHead board.head
+  pub seals : AreSeals board.head board.seals
+  pub count : length board.lanes ≡ board.head.lanes
+  pub lanes : AllByRecursion (IsLaneLines (shape board.head).wires (shape board.head).rows) board.lanes

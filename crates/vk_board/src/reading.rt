@@ -1,0 +1,318 @@
+ghost use Rattle.std.specs.Prelude.{length, true, ◌≡◌, ◌<◌, ◌≤◌, ◌-◌, ◌^◌, ℕ, codes, IfSome, IfOk, IsErrOf};
+ghost use Rattle.std.specs.List.{All};
+ghost use Rattle.vk_io.specs.Faults.{Rose};
+ghost use Rattle.vk_commit.specs.Values.{AreBytes};
+ghost use Rattle.vk_wire.specs.Values.{IsCom};
+ghost use Rattle.vk_residue.specs.Residue.{modulus, IsResidue};
+ghost use Rattle.vk_lines.specs.Forms.{many_at};
+ghost use Rattle.vk_lines.specs.Lines.{Reads, line_by, rest_of};
+ghost use Rattle.vk_lines.specs.Tokens.{decimal_of};
+ghost use Rattle.vk_lines.specs.declared.errors.ReadErr.TheVariants.{Failed};
+ghost use Rattle.vk_board.specs.Values.{IsHead, IsSealLines, IsSealAfter, AreSeals, IsLaneLines};
+ghost use Rattle.vk_board.specs.Reading.{com_line, posted_line, seats_of, is_new_seat, seat_line, head_at, seal_at, seals_at, lane_at};
+
+use crate::board::{Head, LaneLines, SealLines};
+use std::alloc::Global;
+use vk_io::Shelf;
+use vk_lines::{Lines, ReadErr, field, read_decimal, read_digests, read_tag};
+use vk_residue::{MODULUS, Residue};
+use vk_seq::Seq;
+use vk_wire::WireCom;
+
+/// Reads the head of a board, its first seven lines. Malformed carries the number of the first line
+/// that isn't what its place demands.
+#[tactic(auto, unfolding(crate::specs::Reading::head_at))]
+pub fn read_head<S: Shelf>(shelf: &mut S, lines: &mut Lines) -> Result<Head, ReadErr>
+    ensures told { IfSome (S.held shelf.old) (λ files.
+        Reads (λ x. x) result (rest_of lines.new files) (head_at (rest_of lines.old files))) }
+    ensures right { IfOk result IsHead }
+    ensures held { S.held shelf.new ≡ S.held shelf.old }
+    ensures later { S.Shelf.faults shelf.old ≤ S.Shelf.faults shelf.new }
+    ensures failed { IsErrOf result ReadErr.Failed → Rose (S.Shelf.faults shelf.old) (S.Shelf.faults shelf.new) }
+{
+    lines.read_fixed(shelf, b"vickrey-board 1")?;
+    let auction = lines.read_id(shelf, b"auction")?;
+    let width = lines.read_number(shelf, b"width", 1, 40)?;
+    let lanes = lines.read_number(shelf, b"lanes", 1, 64)?;
+    let seals = lines.read_number(shelf, b"seals", 1, 64)?;
+    let winner = lines.read_number(shelf, b"winner", 1, 65535)?;
+    let price = lines.read_number(shelf, b"price", 0, u64::MAX)?;
+    Ok(head_from(&auction, width, lanes, seals, winner, price))
+}
+
+/// A head of what was read.
+fn head_from(
+    auction: &[u8; 16],
+    width: u64,
+    lanes: u64,
+    seals: u64,
+    winner: u64,
+    price: u64,
+) -> Head
+    requires id { AreBytes 16 auction.now }
+    requires width { (1 ≤ width) × (width ≤ 40) }
+    requires lanes { (1 ≤ lanes) × (lanes ≤ 64) }
+    requires seals { (1 ≤ seals) × (seals ≤ 64) }
+    requires winner { (1 ≤ winner) × (winner ≤ 65535) }
+    ensures value { result ≡ record { auction = auction.now; width = width; lanes = lanes; seals = seals; winner = winner; price = price } }
+    ensures right { IsHead result }
+{
+    Head {
+        auction: *auction,
+        width: width as u32,
+        lanes: lanes as u32,
+        seals: seals as u32,
+        winner: winner as u16,
+        price,
+    }
+}
+
+/// Reads the seals of a board with this head. Malformed carries the number of the first line that
+/// isn't what its place demands; a seat that an earlier seal has is a fault at its line.
+pub fn read_seals<S: Shelf>(
+    alloc: Global,
+    shelf: &mut S,
+    lines: &mut Lines,
+    head: &Head,
+) -> Result<Seq<SealLines>, ReadErr>
+    ensures told { IfSome (S.held shelf.old) (λ files.
+        Reads (λ x. x) result (rest_of lines.new files) (seals_at head.now (rest_of lines.old files))) }
+    ensures right { IfOk result (AreSeals head.now) }
+    ensures held { S.held shelf.new ≡ S.held shelf.old }
+    ensures later { S.Shelf.faults shelf.old ≤ S.Shelf.faults shelf.new }
+    ensures failed { IsErrOf result ReadErr.Failed → Rose (S.Shelf.faults shelf.old) (S.Shelf.faults shelf.new) }
+{
+    let mut seals = Seq::new(alloc);
+    for index in 0..head.seals {
+        let seal = read_seal(alloc, shelf, lines, head.lanes, &seals)?;
+        seals.push(seal)?;
+    }
+    Ok(seals)
+}
+
+/// Reads a seal of so many lanes after those before it.
+#[tactic(auto, unfolding(crate::specs::Reading::seal_at))]
+fn read_seal<S: Shelf>(
+    alloc: Global,
+    shelf: &mut S,
+    lines: &mut Lines,
+    lanes: u32,
+    before: &Seq<SealLines>,
+) -> Result<SealLines, ReadErr>
+    ensures told { IfSome (S.held shelf.old) (λ files.
+        Reads (λ x. x) result (rest_of lines.new files) (seal_at lanes before.now (rest_of lines.old files))) }
+    ensures right { IfOk result (IsSealAfter lanes before.now) }
+    ensures held { S.held shelf.new ≡ S.held shelf.old }
+    ensures later { S.Shelf.faults shelf.old ≤ S.Shelf.faults shelf.new }
+    ensures failed { IsErrOf result ReadErr.Failed → Rose (S.Shelf.faults shelf.old) (S.Shelf.faults shelf.new) }
+{
+    let seat = read_seat(shelf, lines, before)?;
+    let coms = read_coms(alloc, shelf, lines, b"x", lanes)?;
+    Ok(seal_from(seat, coms, lanes, before))
+}
+
+/// A seal of what was read.
+fn seal_from(seat: u16, coms: Seq<WireCom>, lanes: u32, before: &Seq<SealLines>) -> SealLines
+    requires some_seat { 1 ≤ seat }
+    requires new_seat { is_new_seat (seats_of before.now) seat ≡ true }
+    requires count { length coms ≡ lanes }
+    requires digests { All IsCom coms }
+    ensures value { result ≡ record { seat = seat; coms = coms } }
+    ensures right { IsSealAfter lanes before.now result }
+{
+    SealLines { seat, coms }
+}
+
+/// Reads the first line of a seal: a seat that none of those before has.
+#[tactic(auto, unfolding(vk_lines::specs::Lines::line_by))]
+fn read_seat<S: Shelf>(
+    shelf: &mut S,
+    lines: &mut Lines,
+    before: &Seq<SealLines>,
+) -> Result<u16, ReadErr>
+    ensures told { IfSome (S.held shelf.old) (λ files.
+        Reads (λ x. x) result (rest_of lines.new files) (line_by (seat_line (seats_of before.now)) (rest_of lines.old files))) }
+    ensures some { IfOk result (λ seat. 1 ≤ seat) }
+    ensures new { IfOk result (λ seat. is_new_seat (seats_of before.now) seat ≡ true) }
+    ensures held { S.held shelf.new ≡ S.held shelf.old }
+    ensures later { S.Shelf.faults shelf.old ≤ S.Shelf.faults shelf.new }
+    ensures failed { IsErrOf result ReadErr.Failed → Rose (S.Shelf.faults shelf.old) (S.Shelf.faults shelf.new) }
+{
+    lines.read_text(shelf)?;
+    let seat = lines.found(seat_of(lines.text(), before));
+    seat
+}
+
+/// The seat of a seal's first line.
+fn seat_of(text: &[u8], before: &Seq<SealLines>) -> Option<u16>
+    ensures value { result ≡ seat_line (seats_of before.now) text.now }
+    ensures some { IfSome result (λ seat. 1 ≤ seat) }
+    ensures new { IfSome result (λ seat. is_new_seat (seats_of before.now) seat ≡ true) }
+{
+    read_tag(text, b"seal", 2)?;
+    let seat = read_decimal(field(text, 1)?, 65535)?;
+    if seat < 1 {
+        return None;
+    }
+    let seat = seat as u16;
+    if is_new_seat(before.as_slice(), seat) {
+        Some(seat)
+    } else {
+        None
+    }
+}
+
+/// Whether none of the seals has this seat.
+fn is_new_seat(before: &[SealLines], seat: u16) -> bool
+    ensures { result ≡ is_new_seat (seats_of before.now) seat }
+{
+    for earlier in before {
+        if earlier.seat == seat {
+            return false;
+        }
+    }
+    true
+}
+
+/// Reads what a board says of the lane of that number, from 1: this many wires' commitments and this
+/// many rows' numbers. Malformed carries the number of the first line that isn't what its place
+/// demands.
+#[tactic(auto, unfolding(crate::specs::Reading::lane_at))]
+pub fn read_lane<S: Shelf>(
+    alloc: Global,
+    shelf: &mut S,
+    lines: &mut Lines,
+    lane: u32,
+    wires: u32,
+    rows: u32,
+) -> Result<LaneLines, ReadErr>
+    ensures told { IfSome (S.held shelf.old) (λ files.
+        Reads (λ x. x) result (rest_of lines.new files) (lane_at lane wires rows (rest_of lines.old files))) }
+    ensures right { IfOk result (IsLaneLines wires rows) }
+    ensures held { S.held shelf.new ≡ S.held shelf.old }
+    ensures later { S.Shelf.faults shelf.old ≤ S.Shelf.faults shelf.new }
+    ensures failed { IsErrOf result ReadErr.Failed → Rose (S.Shelf.faults shelf.old) (S.Shelf.faults shelf.new) }
+{
+    lines.read_number(shelf, b"lane", u64::from(lane), u64::from(lane))?;
+    let coms = read_coms(alloc, shelf, lines, b"w", wires)?;
+    let posted = read_posted(alloc, shelf, lines, rows)?;
+    Ok(lane_from(coms, posted, wires, rows))
+}
+
+/// A lane of what was read.
+fn lane_from(coms: Seq<WireCom>, posted: Seq<Residue>, wires: u32, rows: u32) -> LaneLines
+    requires wires { length coms ≡ wires }
+    requires rows { length posted ≡ rows }
+    requires digests { All IsCom coms }
+    requires posted { All IsResidue posted }
+    ensures value { result ≡ record { coms = coms; posted = posted } }
+    ensures right { IsLaneLines wires rows result }
+{
+    LaneLines { coms, posted }
+}
+
+/// Reads so many lines of this word and two commitments.
+fn read_coms<S: Shelf>(
+    alloc: Global,
+    shelf: &mut S,
+    lines: &mut Lines,
+    word: &[u8],
+    count: u32,
+) -> Result<Seq<WireCom>, ReadErr>
+    ensures told { IfSome (S.held shelf.old) (λ files.
+        Reads (λ x. x) result (rest_of lines.new files) (many_at count (λ _. line_by (com_line word.now)) (rest_of lines.old files))) }
+    ensures number { IfOk result (λ coms. length coms ≡ count) }
+    ensures digests { IfOk result (All IsCom) }
+    ensures held { S.held shelf.new ≡ S.held shelf.old }
+    ensures later { S.Shelf.faults shelf.old ≤ S.Shelf.faults shelf.new }
+    ensures failed { IsErrOf result ReadErr.Failed → Rose (S.Shelf.faults shelf.old) (S.Shelf.faults shelf.new) }
+{
+    let mut coms = Seq::new(alloc);
+    for index in 0..count {
+        let com = read_com(shelf, lines, word)?;
+        coms.push(com)?;
+    }
+    Ok(coms)
+}
+
+/// Reads a line of this word and two commitments.
+#[tactic(auto, unfolding(vk_lines::specs::Lines::line_by))]
+fn read_com<S: Shelf>(shelf: &mut S, lines: &mut Lines, word: &[u8]) -> Result<WireCom, ReadErr>
+    ensures told { IfSome (S.held shelf.old) (λ files.
+        Reads (λ x. x) result (rest_of lines.new files) (line_by (com_line word.now) (rest_of lines.old files))) }
+    ensures digests { IfOk result IsCom }
+    ensures held { S.held shelf.new ≡ S.held shelf.old }
+    ensures later { S.Shelf.faults shelf.old ≤ S.Shelf.faults shelf.new }
+    ensures failed { IsErrOf result ReadErr.Failed → Rose (S.Shelf.faults shelf.old) (S.Shelf.faults shelf.new) }
+{
+    lines.read_text(shelf)?;
+    let com = lines.found(com_of(lines.text(), word));
+    com
+}
+
+/// The commitments of a line of this word.
+fn com_of(text: &[u8], word: &[u8]) -> Option<WireCom>
+    ensures value { result ≡ com_line word.now text.now }
+    ensures digests { IfSome result IsCom }
+{
+    let (first, second) = read_digests(text, word)?;
+    Some(WireCom { first, second })
+}
+
+/// Reads the lines of so many rows.
+fn read_posted<S: Shelf>(
+    alloc: Global,
+    shelf: &mut S,
+    lines: &mut Lines,
+    count: u32,
+) -> Result<Seq<Residue>, ReadErr>
+    ensures told { IfSome (S.held shelf.old) (λ files.
+        Reads (λ x. x) result (rest_of lines.new files) (many_at count (λ _. line_by posted_line) (rest_of lines.old files))) }
+    ensures number { IfOk result (λ posted. length posted ≡ count) }
+    ensures right { IfOk result (All IsResidue) }
+    ensures held { S.held shelf.new ≡ S.held shelf.old }
+    ensures later { S.Shelf.faults shelf.old ≤ S.Shelf.faults shelf.new }
+    ensures failed { IsErrOf result ReadErr.Failed → Rose (S.Shelf.faults shelf.old) (S.Shelf.faults shelf.new) }
+{
+    let mut posted = Seq::new(alloc);
+    for index in 0..count {
+        let number = read_row(shelf, lines)?;
+        posted.push(number)?;
+    }
+    Ok(posted)
+}
+
+/// Reads the line of a row.
+#[tactic(auto, unfolding(vk_lines::specs::Lines::line_by))]
+fn read_row<S: Shelf>(shelf: &mut S, lines: &mut Lines) -> Result<Residue, ReadErr>
+    ensures told { IfSome (S.held shelf.old) (λ files.
+        Reads (λ x. x) result (rest_of lines.new files) (line_by posted_line (rest_of lines.old files))) }
+    ensures right { IfOk result IsResidue }
+    ensures held { S.held shelf.new ≡ S.held shelf.old }
+    ensures later { S.Shelf.faults shelf.old ≤ S.Shelf.faults shelf.new }
+    ensures failed { IsErrOf result ReadErr.Failed → Rose (S.Shelf.faults shelf.old) (S.Shelf.faults shelf.new) }
+{
+    lines.read_text(shelf)?;
+    let number = lines.found(posted_of(lines.text()));
+    number
+}
+
+/// The number of a row's line.
+fn posted_of(text: &[u8]) -> Option<Residue>
+    ensures value { result ≡ posted_line text.now }
+    ensures right { IfSome result IsResidue }
+{
+    read_tag(text, b"d", 2)?;
+    let number = residue_of(field(text, 1)?)?;
+    Some(number)
+}
+
+/// The residue whose canonical decimal the text is.
+fn residue_of(text: &[u8]) -> Option<Residue>
+    ensures value { result ≡ decimal_of (modulus - 1) text.now }
+    ensures right { IfSome result IsResidue }
+{
+    let number = read_decimal(text, MODULUS - 1)?;
+    let residue = Residue::new(number);
+    residue
+}
