@@ -1,9 +1,7 @@
 -- Each value of a list is right after those before it, or at its place: two ways to say the same.
-use Rattle.std.proofs.Common.{◌≡◌, ℕ, zero, suc, ◌+◌, List, [], ◌∷◌, ◌++◌, length, slice_get, Option, Some, refl, sym, arith, subst, append_assoc, append-nil, length-append}
+use Rattle.std.proofs.Common.{◌≡◌, ℕ, zero, suc, ◌+◌, List, [], ◌∷◌, ◌++◌, length, slice_get, Some, refl, sym, arith, subst, append_assoc, append-nil, length-append}
+use Rattle.std.proofs.lemmas.Option.{same_Some}
 use Rattle.vk_lines.specs.Forms.{EachAfter}
-
-some_same : {X : Type 0} (x y : X) → Some x ≡ Some y → x ≡ y
-some_same x y same = cc
 
 -- a value more
 pub each_push : {X : Type 0} (P : List X → X → Type 0) (before xs : List X) (x : X) → EachAfter P before xs → P (before ++ xs) x → EachAfter P before (xs ++ x ∷ [])
@@ -21,7 +19,7 @@ at_from_each {X} P before (y ∷ xs) each zero x some =
     let Q : ℕ → Type 0 = λ n. P n x in
     let R : X → Type 0 = λ v. P (length before) v in
     let same : length before ≡ length before + 0 = omega arith in
-    subst Q same (subst R (some_same y x some) each.0)
+    subst Q same (subst R (same_Some y x some) each.0)
 at_from_each P before (y ∷ xs) each (suc i) x some =
     let Q : ℕ → Type 0 = λ n. P n x in
     let same : length (before ++ y ∷ []) + i ≡ length before + suc i = omega (arith, length-append before (y ∷ [])) in

@@ -1,6 +1,7 @@
 -- The lines of a challenge and a reply are read from their texts alone.
-use Rattle.std.proofs.Common.{◌≡◌, ℕ, suc, ◌+◌, ◌-◌, ◌<◌, ◌≤◌, ◌==◌, ◌&&◌, ◌||◌, nat_le, nat_lt, Bool, true, false, if◌then◌else◌, List, [], ◌∷◌, ◌++◌, length, map, codes, decimal, Option, Some, None, option_map, ◌⊎◌, inl, inr, refl, ap, sym, ◌∙◌, arith, subst}
+use Rattle.std.proofs.Common.{◌≡◌, ℕ, ◌-◌, ◌≤◌, ◌==◌, ◌&&◌, nat_le, nat_lt, Bool, true, false, if◌then◌else◌, List, [], ◌∷◌, length, map, codes, decimal, Option, Some, None, option_map, ◌⊎◌, inl, inr, refl, ap, sym, ◌∙◌, arith, subst}
 use Rattle.std.proofs.lemmas.List.{length-map}
+use Rattle.std.proofs.lemmas.Option.{cond_some, same_Some}
 use Rattle.std.specs.List.{list_all}
 use Rattle.std.specs.Str.{bytes_eq}
 use Rattle.std.proofs.lemmas.Bool.{and_parts, cases_Bool, le-leb, leb-true, eqb-true}
@@ -9,8 +10,8 @@ use Rattle.std.proofs.lemmas.Slice.Eq.{bytes_eq-Decides}
 use Rattle.hex.specs.Hex.{IsBytes}
 use Rattle.vk_commit.specs.declared.place.Opening.{Opening}
 use Rattle.vk_commit.specs.Values.{IsOpening}
-use Rattle.vk_lines.specs.Forms.{IsLine, IsToken, is_plain, is_word, line, spaced}
-use Rattle.vk_lines.specs.Tokens.{hex_text, hex_of, decimal_of, two_fields, three_fields, four_fields}
+use Rattle.vk_lines.specs.Forms.{IsLine, IsToken, is_plain, is_word, spaced}
+use Rattle.vk_lines.specs.Tokens.{hex_text, hex_of, two_fields, three_fields, four_fields}
 use Rattle.vk_lines.proofs.Words.{decimal_token, hex_token, one_line, two_line, three_line, four_line}
 use Rattle.vk_plan.specs.declared.wire.WireKind.{WireKind}
 use Rattle.vk_plan.specs.declared.wire.WireKind.TheVariants.{Split, Pair}
@@ -21,13 +22,6 @@ use Rattle.vk_reply.specs.Values.{IsShown}
 use Rattle.vk_reply.specs.Texts.{bit_character, bits_text, shown_text}
 use Rattle.vk_reply.specs.Tokens.{is_bit, are_bits, bits_of, bits_line, entry_of, residue_of, opening_by}
 use Rattle.vk_reply.specs.Reading.{openings_by, whole_by, entry_by, spent_by, half_line, whole_line, spent_line, shown_line}
-
-if_some : {A : Type 0} (test : Bool) (o : Option A) (y : A) → (if test then o else None) ≡ Some y → (test ≡ true) × (o ≡ Some y)
-if_some true o y h = (refl, h)
-if_some false o y h = cc
-
-some_same : {X : Type 0} (x y : X) → Some x ≡ Some y → x ≡ y
-some_same x y same = cc
 
 -- ---- bits
 
@@ -76,14 +70,13 @@ bits_token : IsToken 64 (λ bits. (1 ≤ length bits) × (length bits ≤ 64)) b
 bits_token = record {
   found = λ bits is. rw (are_bits_is bits is.0 is.1) (ap Some (bits_back bits));
   shown = λ word bits some.
-      let read = if_some (are_bits word) (Some (map (λ character. character == 49) word)) bits some in
+      let read = cond_some (are_bits word) (map (λ character. character == 49) word) bits some in
       let tests = and_parts (nat_le 1 (length word)) (nat_le (length word) 64 && list_all is_bit word) read.0 in
       let more = and_parts (nat_le (length word) 64) (list_all is_bit word) tests.1 in
-      let is = some_same (map (λ character. character == 49) word) bits read.1 in
-      let long : length word ≡ length bits = sym (length-map word (λ character. character == 49)) ∙ ap length is in
+      let long : length word ≡ length bits = sym (length-map word (λ character. character == 49)) ∙ ap length read.1 in
       let least = leb-true 1 (length word) tests.0 in
       let most = leb-true (length word) 64 more.0 in
-      ((omega arith, omega arith), sym (text_back word more.1) ∙ ap bits_text is);
+      ((omega arith, omega arith), sym (text_back word more.1) ∙ ap bits_text read.1);
   word = λ bits is. bits_word bits;
   short = λ bits is. let long = length-map bits bit_character in omega arith;
 }
@@ -94,8 +87,8 @@ bits_line_is = one_line (codes "bits") refl bits_token (omega arith)
 -- ---- the entry of a pair
 
 entry_by_tests : (zero one x : Bool) → ◌≡◌ {A = Option Bool} (if zero then Some false else (if one then Some true else None)) (Some x) → ((zero ≡ true) × (false ≡ x)) ⊎ ((one ≡ true) × (true ≡ x))
-entry_by_tests true one x some = inl (refl, some_same false x some)
-entry_by_tests false true x some = inr (refl, some_same true x some)
+entry_by_tests true one x some = inl (refl, same_Some false x some)
+entry_by_tests false true x some = inr (refl, same_Some true x some)
 entry_by_tests false false x some = cc
 
 entry_found : (second : Bool) → entry_of (bit_character second ∷ []) ≡ Some second
@@ -124,7 +117,7 @@ entry_token = record {
 -- ---- a line whose value is made of another
 
 map_some : {X Y : Type 0} (make : X → Y) (o : Option X) (y : Y) → option_map make o ≡ Some y → (x : X) × (o ≡ Some x) × (make x ≡ y)
-map_some make (Some x) y some = (x, refl, some_same (make x) y some)
+map_some make (Some x) y some = (x, refl, same_Some (make x) y some)
 map_some make None y some = cc
 
 made_line : {X Y : Type 0} {IsX : X → Type 0} {text : X → List ℕ} {parse : List ℕ → Option X} → IsLine IsX text parse

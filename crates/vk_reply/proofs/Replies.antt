@@ -2,9 +2,8 @@
 use Rattle.std.proofs.Common.{◌≡◌, ℕ, zero, suc, ◌+◌, ◌^◌, ◌<◌, ◌≤◌, nat_le, true, Bool, List, [], ◌∷◌, ◌++◌, length, drop, codes, decimal, flat_map, get_or, slice_get, slice_index_or, Some, option_map, Result, Ok, refl, ap, sym, ◌∙◌, arith, subst, length-append}
 use Rattle.std.proofs.lemmas.Bool.{le-leb, leb-true}
 use Rattle.std.specs.Result.{result_err}
-use Rattle.vk_lines.specs.Lines.{Rest, ◌>>=◌, line_by, end_at}
+use Rattle.vk_lines.specs.Lines.{Rest, ◌>>=◌, end_at}
 use Rattle.vk_lines.specs.Forms.{line, spaced, EachAfter, IsPart, IsWhole, Follows, Ends, Table, fault_at, fault_line, many_onto, whole}
-use Rattle.vk_lines.specs.Tokens.{number_line}
 use Rattle.vk_lines.proofs.Words.{fixed_line, number_line_is}
 use Rattle.vk_lines.proofs.Parts.{line_part, many_part, part_then, part_same, whole_then, whole_end, whole_same}
 use Rattle.vk_lines.proofs.Faults.{line_follows, follows_then, follows_done, many_follows, ends_then, end_ends, ends_done, fault_line_is}
