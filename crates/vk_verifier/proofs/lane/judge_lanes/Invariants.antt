@@ -1,0 +1,14 @@
+use Rattle.std.proofs.Common.{◌≡◌, ◌+◌, ◌≤◌, drop, IfSome}
+use Rattle.vk_lines.specs.Lines.{rest_of}
+use Rattle.vk_verifier.specs.Verdicts.{lanes_judged}
+use Rattle.vk_verifier.proofs.lane.judge_lanes.Given as goal
+
+-- the lanes that are left give the verdict on all
+abbrev pub invariant-loop-index : goal.invariant-loop-index
+invariant-loop-index g l = record {
+  told : IfSome (g.S.Shelf.held l.fn.shelf) (λ files.
+      lanes_judged l.front l.plan (l.index + 1) (drop l.index l.bits) (rest_of l.board files) (rest_of l.reply files)
+      ≡ lanes_judged l.front l.plan 1 l.bits (rest_of l.fn.board files) (rest_of l.fn.reply files));
+  held : g.S.Shelf.held l.shelf ≡ g.S.Shelf.held l.fn.shelf;
+  later : g.S.Shelf.faults l.fn.shelf ≤ g.S.Shelf.faults l.shelf;
+}

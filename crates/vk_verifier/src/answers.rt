@@ -1,0 +1,51 @@
+use vk_wire::WireFault;
+
+/// A file that a verdict is given on.
+#[derive(Clone, Copy, Debug, PartialEq, Eq)]
+pub enum Part {
+    Board,
+    Challenge,
+    Reply,
+}
+
+/// The first fault of a board, a challenge and a reply, or that there is none.
+#[derive(Clone, Copy, Debug, PartialEq, Eq)]
+pub enum BoardVerdict {
+    Accepted,
+    /// The file is not of its form. The line, counted from 1, is the first that isn't what its place demands.
+    Malformed {
+        part: Part,
+        line: u64,
+    },
+    /// The price isn't below 2^width, or there is one seal and the price isn't 0.
+    Price,
+    /// No seal has the winner's seat.
+    Winner,
+    /// The challenge's bits, or the reply's lanes, aren't as many as the board's lanes.
+    Lanes,
+    /// In the lane, counted from 1, the wire, counted from 0, is the first that reads nothing.
+    Wire {
+        lane: u32,
+        wire: u32,
+        fault: WireFault,
+    },
+    /// In the lane, counted from 1, every wire reads its half, and the row, counted from 0, is the first
+    /// that these don't meet.
+    Row {
+        lane: u32,
+        row: u32,
+    },
+}
+
+/// Why no verdict was given.
+#[derive(Clone, Copy, Debug, PartialEq, Eq)]
+pub enum VErr {
+    /// The file isn't held, and those named before it are held and not too long.
+    Missing(Part),
+    /// The file has more than 2^30 bytes, and those named before it are held and not too long.
+    TooLong(Part),
+    /// The outside failed. The shelf's count of faults rose in this call.
+    Failed,
+    /// Want of memory.
+    NoMemory,
+}
