@@ -2,3 +2,4 @@ pub mod Values
 pub mod Texts
 pub mod Reading
 pub mod Tables
+pub mod Published

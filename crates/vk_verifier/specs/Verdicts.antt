@@ -1,5 +1,5 @@
 -- The verdict on a board, a challenge and a reply: the first test that fails.
-use Rattle.std.specs.Prelude.{◌≡◌, ℕ, ◌+◌, ◌-◌, ◌^◌, ◌==◌, ◌&&◌, ◌||◌, nat_lt, not, Bool, if◌then◌else◌, List, [], ◌∷◌, ◌++◌, length, map, slice_index_or, Option, Some, None, Result, Ok, Err}
+use Rattle.std.specs.Prelude.{◌≡◌, ℕ, ◌+◌, ◌-◌, ◌^◌, ◌==◌, ◌&&◌, nat_lt, Bool, if◌then◌else◌, List, [], ◌∷◌, ◌++◌, length, map, slice_index_or, Option, Some, None, Result, Ok, Err}
 use Rattle.std.specs.FinMap.{get}
 use Rattle.vk_io.specs.Files.{Files}
 use Rattle.vk_lines.specs.Lines.{Rest, end_at}
@@ -15,6 +15,7 @@ use Rattle.vk_board.specs.declared.board.SealLines.{SealLines}
 use Rattle.vk_board.specs.declared.board.LaneLines.{LaneLines}
 use Rattle.vk_board.specs.Values.{IsHead, AreSeals}
 use Rattle.vk_board.specs.Reading.{head_at, seals_at, lane_at, seats_of}
+use Rattle.vk_board.specs.Published.{price_stands, position_of}
 use Rattle.vk_reply.specs.declared.challenge.Challenge.{Challenge}
 use Rattle.vk_reply.specs.Reading.{challenge_at, reply_head_at, reply_lane_at}
 use Rattle.vk_vickrey.specs.VickreyPlans.{vickrey_plan, IsVickreyCase}
@@ -42,19 +43,6 @@ in_part file (Ok x) = Ok x
 in_part file (Err line) = Err (Malformed file line)
 
 -- ---- before the first lane
-
--- the price is below 2^width, and 0 where there is one seal
-abbrev pub price_stands : Head → Bool
-price_stands head = nat_lt head.price (2 ^ head.width) && (not (head.seals == 1) || head.price == 0)
-
--- the place of the first seal with that seat, where the first of these has that place
-abbrev pub position_from : ℕ → ℕ → List SealLines → Option ℕ
-position_from seat place [] = None
-position_from seat place (seal ∷ seals) = if seal.seat == seat then Some place else position_from seat (place + 1) seals
-
--- the same, counted from 1
-abbrev pub position_of : ℕ → List SealLines → Option ℕ
-position_of seat seals = position_from seat 1 seals
 
 abbrev pub front_at_position : Head → List SealLines → Option ℕ → Result Front BoardVerdict
 front_at_position head seals None = Err Winner

@@ -1,18 +1,17 @@
 // What stands on a board before its first lane.
-ghost use Rattle.std.specs.Prelude.{◌≡◌, ◌≤◌, length, IfSome, IfOk, IfErr, IsErrOf};
+ghost use Rattle.std.specs.Prelude.{◌≡◌, ◌≤◌, IfSome, IfOk, IfErr, IsErrOf};
 ghost use Rattle.vk_io.specs.Faults.{Rose};
 ghost use Rattle.vk_board.specs.Values.{IsHead, AreSeals};
 ghost use Rattle.vk_lines.specs.Lines.{rest_of};
-ghost use Rattle.vk_verifier.specs.Verdicts.{Judges, IsFront, price_stands, position_of, front_of, front_at, plan_of};
+ghost use Rattle.vk_verifier.specs.Verdicts.{Judges, IsFront, front_of, front_at, plan_of};
 
 use crate::answers::{BoardVerdict, Part};
 use crate::halt::{Halt, in_part};
 use std::alloc::Global;
-use vk_board::{Head, SealLines, read_head, read_seals};
+use vk_board::{Head, SealLines, position_of, price_stands, read_head, read_seals};
 use vk_io::Shelf;
 use vk_lines::Lines;
 use vk_plan::{Circuit, Plan};
-use vk_residue::Residue;
 use vk_seq::Seq;
 use vk_vickrey::{VickreyOutcome, VickreyPlan};
 
@@ -61,28 +60,6 @@ fn front_from(head: Head, seals: Seq<SealLines>) -> Result<Front, Halt>
             position,
         }),
     }
-}
-
-/// Whether the price is below 2^width, and 0 where there is one seal.
-fn price_stands(head: &Head) -> bool
-    requires { IsHead head.now }
-    ensures { result ≡ price_stands head.now }
-{
-    head.price < Residue::pow2(head.width).get() && (head.seals != 1 || head.price == 0)
-}
-
-/// The place, from 1, of the first seal with that seat.
-fn position_of(seat: u16, seals: &[SealLines]) -> Option<u32>
-    requires { length seals.now ≤ 64 }
-    ensures place { result ≡ position_of seat seals.now }
-    ensures within { IfSome result (λ position. (1 ≤ position) × (position ≤ length seals.now)) }
-{
-    for index in 0..seals.len() {
-        if seals[index].seat == seat {
-            return Some(index as u32 + 1);
-        }
-    }
-    None
 }
 
 /// The circuit that the board's lanes are held to.

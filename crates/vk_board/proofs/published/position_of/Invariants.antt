@@ -1,6 +1,6 @@
 use Rattle.std.proofs.Common.{◌≡◌, ◌+◌, drop}
-use Rattle.vk_verifier.specs.Verdicts.{position_from}
-use Rattle.vk_verifier.proofs.front.position_of.Given as goal
+use Rattle.vk_board.specs.Published.{position_from}
+use Rattle.vk_board.proofs.published.position_of.Given as goal
 
 -- none of the seals so far has the seat
 abbrev pub invariant-loop-index : goal.invariant-loop-index
