@@ -1,0 +1,37 @@
+-- The law of honest replies.
+use Rattle.std.specs.Prelude.{◌≡◌, ℕ, Bool, List, length, drop, Ok}
+use Rattle.std.specs.List.{All}
+use Rattle.vk_residue.specs.Residue.{IsResidue}
+use Rattle.vk_plan.specs.Plans.{PlanValue, IsPlan, Holds}
+use Rattle.vk_wire.specs.declared.wire.WireTape.{WireTape}
+use Rattle.vk_row.specs.Lanes.{IsAcceptedLane}
+use Rattle.vk_row.specs.LaneTests.{checked_lane}
+use Rattle.vk_prover.specs.Honest.{honest_lane, honest_case, honest_reply, honest_halves}
+
+-- a lane of an honest prover: one seat for each input, values that hold for the plan, and for each
+-- wire a tape whose mask is a residue
+pub record IsHonest (plan : PlanValue) (seats : List ℕ) (values : List ℕ) (tape : List WireTape) : Type 0 where
+  pub is_plan : IsPlan plan
+  pub one_seat_each : length seats ≡ plan.inputs
+  pub values_hold : Holds plan values
+  pub one_tape_each : length tape ≡ length plan.kinds
+  pub masks_are_residues : All (λ wire. IsResidue wire.mask) tape
+
+-- an honest reply to either bit is accepted, with the halves that the bit names
+abbrev pub AreAccepted : Type 0
+AreAccepted =
+    (plan : PlanValue) (auction : List ℕ) (lane : ℕ) (seats values : List ℕ) (tape : List WireTape) (bit : Bool) → IsHonest plan seats values tape
+    → IsAcceptedLane plan (honest_case plan auction lane seats values tape) bit (honest_reply plan.kinds values tape bit) (honest_halves values tape bit)
+
+-- and the check of the lane computes these halves
+abbrev pub AreChecked : Type 0
+AreChecked =
+    (plan : PlanValue) (auction : List ℕ) (lane : ℕ) (seats values : List ℕ) (tape : List WireTape) (bit : Bool) → IsHonest plan seats values tape
+    → checked_lane plan (honest_case plan auction lane seats values tape) bit (honest_reply plan.kinds values tape bit) ≡ Ok (honest_halves values tape bit)
+
+-- what is published of a lane is what is public of it but for the inputs' commitments
+abbrev pub ArePublished : Type 0
+ArePublished =
+    (plan : PlanValue) (auction : List ℕ) (lane : ℕ) (seats values : List ℕ) (tape : List WireTape) → IsHonest plan seats values tape
+    → ((honest_lane plan auction lane values tape).coms ≡ drop plan.inputs (honest_case plan auction lane seats values tape).coms)
+    × ((honest_lane plan auction lane values tape).posted ≡ (honest_case plan auction lane seats values tape).posted)
