@@ -3,6 +3,7 @@ use Rattle.std.proofs.Common.{◌≡◌, ℕ, zero, ◌+◌, ◌<◌, ◌≤◌,
 use Rattle.std.proofs.lemmas.Grind.{common_steps}
 use Rattle.std.proofs.lemmas.Bool.Decides.{nat_tests}
 use Rattle.std.proofs.lemmas.List.{get_or_default, get_or-map, length-map}
+use Rattle.std.proofs.lemmas.Option.{get_or_from_slice_get}
 use Rattle.vk_residue.specs.Residue.{IsResidue}
 use Rattle.vk_commit.specs.declared.place.Place.{Place}
 use Rattle.vk_plan.specs.declared.form.Form.{Form}
@@ -24,7 +25,7 @@ use Rattle.vk_row.specs.LaneTests.{checked_lane}
 use Rattle.vk_row.proofs.Whole.{accepted_ok}
 use Rattle.vk_prover.specs.Honest.{each_wire, com_of, shown_of, honest_coms, honest_posted, honest_lane, honest_case, honest_reply, honest_halves, masks, posted_on, no_tape}
 use Rattle.vk_prover.specs.Laws.{IsHonest}
-use Rattle.vk_prover.proofs.Wires.{get_or-each_wire, length-each_wire, drop-each_wire}
+use Rattle.vk_prover.proofs.Wires.{get_or-each_wire, length-each_wire, drop-each_wire, inputs_within}
 use Rattle.vk_prover.proofs.Halves.{row_has_side, length-honest_halves, get_or-honest_halves}
 
 -- one wire
@@ -93,6 +94,26 @@ pub honest_checked : (plan : PlanValue) (auction : List ℕ) (lane : ℕ) (seats
 honest_checked plan auction lane seats values tape bit honest =
     accepted_ok plan (honest_case plan auction lane seats values tape) bit (honest_reply plan.kinds values tape bit) (honest_halves values tape bit) honest.is_plan
     (honest_accepted plan auction lane seats values tape bit honest)
+
+-- an input stands at its seat
+place_at_seat : (auction : List ℕ) (lane : ℕ) (seats : List ℕ) (w : ℕ) → w < length seats
+    → place_of_wire auction lane seats w ≡ record { auction = auction; seat = slice_index seats w; lane = lane; slot = 0 }
+place_at_seat auction lane seats w lt = grind (arith, common_steps, nat_tests)
+
+-- the commitments of an input
+pub inputs_sealed : (plan : PlanValue) (auction : List ℕ) (lane : ℕ) (seats values : List ℕ) (tape : List WireTape) (input : ℕ) → IsHonest plan seats values tape → input < plan.inputs
+    → slice_index_or (honest_case plan auction lane seats values tape).coms input no_digests
+    ≡ made_com Split (record { auction = auction; seat = slice_index seats input; lane = lane; slot = 0 }) (slice_index values input) (slice_index_or tape input no_tape)
+inputs_sealed plan auction lane seats values tape input honest lt =
+    let few : plan.inputs ≤ length plan.kinds = inputs_within plan honest.is_plan in
+    let number : 0 + input ≡ input = zero-add input in
+    let value = slice_index values input in
+    let wire = slice_index_or tape input no_tape in
+    let split : slice_index_or plan.kinds input Split ≡ Split = get_or_from_slice_get plan.kinds input Split Split (honest.is_plan.inputs_are_split input lt) in
+    get_or-each_wire (com_of auction lane seats) 0 plan.kinds values tape input no_digests (omega arith) honest.values_hold.one_each honest.one_tape_each
+    ∙ ap (λ n. com_of auction lane seats n (slice_index_or plan.kinds input Split) value wire) number
+    ∙ ap (λ kind. com_of auction lane seats input kind value wire) split
+    ∙ ap (λ place. made_com Split place value wire) (place_at_seat auction lane seats input (omega (arith, honest.one_seat_each)))
 
 -- a wire that has no seat stands at none
 place_after : (auction : List ℕ) (lane : ℕ) (seats : List ℕ) (w : ℕ) → length seats ≤ w → place_of_wire auction lane seats w ≡ place_of_wire auction lane [] w

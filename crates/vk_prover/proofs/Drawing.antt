@@ -4,7 +4,7 @@ use Rattle.vk_wire.specs.declared.wire.WireTape.{WireTape}
 use Rattle.vk_prover.specs.declared.tape.LaneTape.{LaneTape}
 use Rattle.vk_prover.specs.declared.tape.DrawErr.{DrawErr}
 use Rattle.vk_prover.specs.declared.tape.DrawErr.TheVariants.{DrySeed}
-use Rattle.vk_prover.specs.Drawn.{TapeAnswer, drawn_tape, wires_after, drawn_wire, after_wire}
+use Rattle.vk_prover.specs.Drawn.{TapeAnswer, drawn_tape, wires_after, drawn_wire, after_wire, after_wires}
 
 drawn_more : (before : List WireTape) (count : ℕ) (ahead : ℕ → ℕ) → 0 < count
     → drawn_tape before count ahead ≡ wires_after (length before) (λ tape. drawn_tape (before ++ tape ∷ []) (count - 1) (after_wire ahead)) (drawn_wire ahead)
@@ -39,3 +39,18 @@ drawn_dry result o e xs wire left ahead whole is same drawn count some so_far =
 pub drawn_done : (xs : List WireTape) (left : ℕ) (ahead : ℕ → ℕ) (whole : Result (List WireTape) ℕ) → left ≡ 0 → drawn_tape xs left ahead ≡ whole → whole ≡ Ok xs
 unfolding drawn_tape
 drawn_done xs left ahead whole none so_far = sym so_far ∙ ap (λ n. drawn_tape xs n ahead) none
+
+-- the words after a wire more
+after_more : (count : ℕ) (ahead : ℕ → ℕ) → 0 < count → after_wires count ahead ≡ after_wires (count - 1) (after_wire ahead)
+unfolding after_wires
+after_more zero ahead some = absurd (omega arith)
+after_more (suc count) ahead some = let less : suc count - 1 ≡ count = omega arith in rw less refl
+
+pub after_turn : (left next : ℕ) (ahead later whole : ℕ → ℕ) → next + 1 ≡ left → later ≡ after_wire ahead → after_wires left ahead ≡ whole → after_wires next later ≡ whole
+after_turn left next ahead later whole fewer after so_far =
+    let less : left - 1 ≡ next = omega arith in
+    rw (after, ← less) (sym (after_more left ahead (omega arith)) ∙ so_far)
+
+pub after_done : (left : ℕ) (ahead whole : ℕ → ℕ) → left ≡ 0 → after_wires left ahead ≡ whole → ahead ≡ whole
+unfolding after_wires
+after_done left ahead whole none so_far = sym (ap (λ n. after_wires n ahead) none) ∙ so_far

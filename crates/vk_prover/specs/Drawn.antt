@@ -33,6 +33,11 @@ unfoldable pub drawn_tape : List WireTape → ℕ → (ℕ → ℕ) → Result (
 drawn_tape before zero ahead = Ok before
 drawn_tape before (suc count) ahead = wires_after (length before) (λ tape. drawn_tape (before ++ tape ∷ []) count (after_wire ahead)) (drawn_wire ahead)
 
+-- the words ahead after the tapes of so many wires
+unfoldable pub after_wires : ℕ → (ℕ → ℕ) → ℕ → ℕ
+after_wires zero ahead = ahead
+after_wires (suc count) ahead = after_wires count (after_wire ahead)
+
 -- the tape that was drawn, or the first wire whose tape can't be, unless it is want of memory
 abbrev pub TapeAnswer : Result LaneTape DrawErr → Result (List WireTape) ℕ → Type 0
 TapeAnswer (Ok tape) expected = expected ≡ Ok tape.wires

@@ -1,5 +1,5 @@
 // What holds of every honest lane.
-ghost use Rattle.vk_prover.specs.Laws.{AreAccepted, AreChecked, ArePublished};
+ghost use Rattle.vk_prover.specs.Laws.{AreAccepted, AreChecked, ArePublished, InputsAreSealed};
 
 /// Of any plan and lane: where the values hold for the plan, the honest reply to either challenge bit
 /// is accepted, whatever the tape is, with the halves that the bit names; and what is published of the
@@ -7,5 +7,6 @@ ghost use Rattle.vk_prover.specs.Laws.{AreAccepted, AreChecked, ArePublished};
 pub fn honest_replies_are_accepted()
     ensures accepted { AreAccepted }
     ensures checked { AreChecked }
+    ensures inputs { InputsAreSealed }
     ensures published { ArePublished }
 {}

@@ -4,6 +4,8 @@
 mod honest;
 mod laws;
 mod tape;
+#[cfg(test)]
+mod tests;
 
 pub use honest::{answer_lane, make_lane};
 pub use laws::honest_replies_are_accepted;

@@ -1,6 +1,6 @@
 // The tape of a lane, and how it is drawn.
-ghost use Rattle.std.specs.Prelude.{◌≡◌, ◌-◌, length, IfOk, IfSome, IsSome};
-ghost use Rattle.vk_prover.specs.Drawn.{TapeAnswer, drawn_tape, drawn_wire, after_wire};
+ghost use Rattle.std.specs.Prelude.{◌≡◌, ◌-◌, length, IfOk, OnOk, IsSome};
+ghost use Rattle.vk_prover.specs.Drawn.{TapeAnswer, drawn_tape, drawn_wire, after_wire, after_wires};
 ghost use Rattle.vk_prover.specs.declared.tape.DrawErr.TheVariants.{NoMemory};
 
 use std::alloc::{AllocError, AllocFailed, Global};
@@ -50,6 +50,7 @@ pub fn draw_tape<W: Words>(
 ) -> Result<LaneTape, DrawErr>
     requires { length given.now ≡ plan.now.inputs }
     ensures drawn { TapeAnswer result (drawn_tape given.now (length plan.now.kinds - plan.now.inputs) (W.ahead words.old)) }
+    ensures after { OnOk result (W.ahead words.new ≡ after_wires (length plan.now.kinds - plan.now.inputs) (W.ahead words.old)) }
     ensures one_each { IfOk result (λ tape. length tape.wires ≡ length plan.now.kinds) }
 {
     let mut wires = Seq::from_vec(Vec::from_slice(alloc, given)?);

@@ -1,8 +1,8 @@
 use Rattle.std.proofs.Common.{◌≡◌, ◌+◌, ◌-◌, ◌≤◌, Some, refl, arith, length, length-append, rules, sym, ◌∙◌}
 use Rattle.std.specs.Option.{IsSome}
 use Rattle.std.proofs.lemmas.Grind.{common_steps}
-use Rattle.vk_prover.specs.Drawn.{drawn_tape}
-use Rattle.vk_prover.proofs.Drawing.{drawn_turn, drawn_dry, drawn_done}
+use Rattle.vk_prover.specs.Drawn.{drawn_tape, after_wires}
+use Rattle.vk_prover.proofs.Drawing.{drawn_turn, drawn_dry, drawn_done, after_turn, after_done}
 use Rattle.vk_prover.proofs.Wires.{inputs_within}
 use Rattle.vk_prover.proofs.tape.draw_tape.Goals as goal
 
@@ -20,6 +20,9 @@ loop-wire-preserved g c =
       drawn = drawn_turn c.loop-wire.wires c.push.new.self c.in_ok-tape.tape (length c.args.plan.now.kinds - c.loop-wire.wire) (length c.args.plan.now.kinds - (c.loop-wire.wire + 1))
           (g.W.Words.ahead c.loop-wire.words) (g.W.Words.ahead c.draw_wire.new.words) (drawn_tape c.args.given.now (length c.args.plan.now.kinds - c.args.plan.now.inputs) (g.W.Words.ahead c.args.words.now))
           (omega arith) c.in_ok-push.ensures.pushed (sym c.draw_wire.ensures.drawn ∙ drawn) (c.draw_wire.ensures.after some) c.loop-wire.invariant.drawn;
+      after = after_turn (length c.args.plan.now.kinds - c.loop-wire.wire) (length c.args.plan.now.kinds - (c.loop-wire.wire + 1))
+          (g.W.Words.ahead c.loop-wire.words) (g.W.Words.ahead c.draw_wire.new.words) (after_wires (length c.args.plan.now.kinds - c.args.plan.now.inputs) (g.W.Words.ahead c.args.words.now))
+          (omega arith) (c.draw_wire.ensures.after some) c.loop-wire.invariant.after;
       count = grind (arith, common_steps, length-append);
     }
 
@@ -32,3 +35,8 @@ pub returns-clause-one_each : goal.returns-clause-one_each
 returns-clause-one_each g c =
     let few : c.args.plan.now.inputs ≤ length c.args.plan.now.kinds = inputs_within c.args.plan.now c.inputs-wire.ensures.plan in
     omega arith
+
+pub returns-clause-after : goal.returns-clause-after
+returns-clause-after g c =
+    after_done (length c.args.plan.now.kinds - c.loop-wire.wire) (g.W.Words.ahead c.loop-wire.words)
+    (after_wires (length c.args.plan.now.kinds - c.args.plan.now.inputs) (g.W.Words.ahead c.args.words.now)) (omega arith) c.loop-wire.invariant.after

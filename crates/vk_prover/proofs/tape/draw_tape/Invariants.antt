@@ -1,5 +1,5 @@
 use Rattle.std.proofs.Common.{◌≡◌, ◌-◌, length}
-use Rattle.vk_prover.specs.Drawn.{drawn_tape}
+use Rattle.vk_prover.specs.Drawn.{drawn_tape, after_wires}
 use Rattle.vk_prover.proofs.tape.draw_tape.Given as goal
 
 -- the words ahead give the rest of the tape
@@ -7,5 +7,6 @@ abbrev pub invariant-loop-wire : goal.invariant-loop-wire
 invariant-loop-wire g l = record {
   drawn : drawn_tape l.wires (length l.plan.kinds - l.wire) (g.W.Words.ahead l.words)
       ≡ drawn_tape l.given (length l.plan.kinds - l.plan.inputs) (g.W.Words.ahead l.fn.words);
+  after : after_wires (length l.plan.kinds - l.wire) (g.W.Words.ahead l.words) ≡ after_wires (length l.plan.kinds - l.plan.inputs) (g.W.Words.ahead l.fn.words);
   count : length l.wires ≡ l.wire;
 }
