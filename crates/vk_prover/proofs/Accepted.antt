@@ -1,16 +1,12 @@
 -- Honest replies are accepted.
-use Rattle.std.proofs.Common.{◌≡◌, ℕ, zero, ◌+◌, ◌<◌, ◌≤◌, nat_lt, Bool, true, false, List, [], length, map, drop, get_or, slice_index, slice_index_or, Ok, refl, sym, ap, subst, ◌∙◌, arith, rules, zero-add}
+use Rattle.std.proofs.Common.{◌≡◌, ℕ, ◌+◌, ◌<◌, ◌≤◌, Bool, List, [], length, drop, slice_index, slice_index_or, Ok, sym, ap, subst, ◌∙◌, arith, rules, zero-add}
 use Rattle.std.proofs.lemmas.Grind.{common_steps}
 use Rattle.std.proofs.lemmas.Bool.Decides.{nat_tests}
-use Rattle.std.proofs.lemmas.List.{get_or_default, get_or-map, length-map}
+use Rattle.std.proofs.lemmas.List.{get_or-map, length-map}
 use Rattle.std.proofs.lemmas.Option.{get_or_from_slice_get}
-use Rattle.vk_residue.specs.Residue.{IsResidue}
-use Rattle.vk_commit.specs.declared.place.Place.{Place}
-use Rattle.vk_plan.specs.declared.form.Form.{Form}
-use Rattle.vk_plan.specs.declared.wire.WireKind.{WireKind}
-use Rattle.vk_plan.specs.declared.wire.WireKind.TheVariants.{Split, Pair}
-use Rattle.vk_plan.specs.Forms.{linear_part, form_value, NamesBelow}
-use Rattle.vk_plan.specs.Plans.{PlanValue, IsPlan, Holds, HasWeight, MayHave}
+use Rattle.vk_plan.specs.declared.wire.WireKind.TheVariants.{Split}
+use Rattle.vk_plan.specs.Forms.{NamesBelow}
+use Rattle.vk_plan.specs.Plans.{PlanValue}
 use Rattle.vk_wire.specs.Laws.{MadeWiresRead}
 use Rattle.vk_wire.specs.Made.{made_com, shown_wire, half_of}
 use Rattle.vk_wire.specs.Places.{place_of_wire}
@@ -18,9 +14,8 @@ use Rattle.vk_wire.specs.Reads.{Reads}
 use Rattle.vk_wire.specs.declared.wire.WireCom.{WireCom}
 use Rattle.vk_wire.specs.declared.wire.WireTape.{WireTape}
 use Rattle.vk_wire.specs.declared.wire.Shown.{Shown}
-use Rattle.vk_row.specs.declared.case.LaneCase.{LaneCase}
 use Rattle.vk_row.specs.Rows.{HasSide}
-use Rattle.vk_row.specs.Lanes.{HasCounts, AreHalves, IsAcceptedLane, WireReads, RowHolds, place_in, no_digests, nothing_shown, no_row}
+use Rattle.vk_row.specs.Lanes.{HasCounts, IsAcceptedLane, WireReads, RowHolds, no_digests, nothing_shown, no_row}
 use Rattle.vk_row.specs.LaneTests.{checked_lane}
 use Rattle.vk_row.proofs.Whole.{accepted_ok}
 use Rattle.vk_prover.specs.Honest.{each_wire, com_of, shown_of, honest_coms, honest_posted, honest_lane, honest_case, honest_reply, honest_halves, masks, posted_on, no_tape}

@@ -1,10 +1,11 @@
 -- Drawing the tape of a lane, wire by wire.
-use Rattle.std.proofs.Common.{◌≡◌, ℕ, zero, suc, ◌+◌, ◌-◌, ◌<◌, List, [], ◌∷◌, ◌++◌, length, Option, Some, None, Result, Ok, Err, ok_or, refl, ap, sym, ◌∙◌, arith}
+use Rattle.std.proofs.Common.{◌≡◌, ℕ, zero, suc, ◌+◌, ◌-◌, ◌<◌, List, [], ◌∷◌, ◌++◌, length, Option, Some, None, Result, Ok, Err, ok_or, refl, ap, sym, ◌∙◌, subst, arith}
+use Rattle.std.specs.Option.{IfSome}
 use Rattle.vk_wire.specs.declared.wire.WireTape.{WireTape}
 use Rattle.vk_prover.specs.declared.tape.LaneTape.{LaneTape}
 use Rattle.vk_prover.specs.declared.tape.DrawErr.{DrawErr}
 use Rattle.vk_prover.specs.declared.tape.DrawErr.TheVariants.{DrySeed}
-use Rattle.vk_prover.specs.Drawn.{TapeAnswer, drawn_tape, wires_after, drawn_wire, after_wire, after_wires}
+use Rattle.vk_prover.specs.Drawn.{HasMask, TapeAnswer, drawn_tape, wires_after, drawn_wire, after_wire, after_wires}
 
 drawn_more : (before : List WireTape) (count : ℕ) (ahead : ℕ → ℕ) → 0 < count
     → drawn_tape before count ahead ≡ wires_after (length before) (λ tape. drawn_tape (before ++ tape ∷ []) (count - 1) (after_wire ahead)) (drawn_wire ahead)
@@ -54,3 +55,8 @@ after_turn left next ahead later whole fewer after so_far =
 pub after_done : (left : ℕ) (ahead whole : ℕ → ℕ) → left ≡ 0 → after_wires left ahead ≡ whole → ahead ≡ whole
 unfolding after_wires
 after_done left ahead whole none so_far = sym (ap (λ n. after_wires n ahead) none) ∙ so_far
+
+-- a drawn tape has a mask
+pub mask_of_some : (o : Option WireTape) (tape : WireTape) → o ≡ Some tape → IfSome o HasMask → HasMask tape
+mask_of_some (Some x) tape is right = let same : x ≡ tape = cc is in let P : WireTape → Type 0 = λ t. HasMask t in subst P same right
+mask_of_some None tape is right = cc is

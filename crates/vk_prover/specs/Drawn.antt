@@ -1,11 +1,16 @@
 -- The tape of a lane as it is drawn from words, after the tapes of the inputs.
 use Rattle.std.specs.Prelude.{◌≡◌, ℕ, zero, suc, List, [], ◌∷◌, ◌++◌, length, Option, Some, None, Result, Ok, Err, option_map}
+use Rattle.vk_residue.specs.Residue.{IsResidue}
 use Rattle.vk_dice.specs.Words.{later}
 use Rattle.vk_dice.specs.Draws.{drawn_residue, after_residue, drawn_bit, drawn_key}
 use Rattle.vk_wire.specs.declared.wire.WireTape.{WireTape}
 use Rattle.vk_prover.specs.declared.tape.LaneTape.{LaneTape}
 use Rattle.vk_prover.specs.declared.tape.DrawErr.{DrawErr}
 use Rattle.vk_prover.specs.declared.tape.DrawErr.TheVariants.{DrySeed, NoMemory}
+
+-- the mask is a residue
+abbrev pub HasMask : WireTape → Type 0
+HasMask tape = IsResidue tape.mask
 
 -- the tape of a wire: a residue, a bit and two keys, drawn in this order; none where no residue can
 -- be drawn

@@ -1,13 +1,13 @@
 -- The law of honest replies.
 use Rattle.std.specs.Prelude.{◌≡◌, ◌<◌, ℕ, Bool, List, length, drop, slice_index, slice_index_or, Ok}
 use Rattle.std.specs.List.{All}
-use Rattle.vk_residue.specs.Residue.{IsResidue}
 use Rattle.vk_plan.specs.Plans.{PlanValue, IsPlan, Holds}
 use Rattle.vk_plan.specs.declared.wire.WireKind.TheVariants.{Split}
 use Rattle.vk_wire.specs.Made.{made_com}
 use Rattle.vk_wire.specs.declared.wire.WireTape.{WireTape}
 use Rattle.vk_row.specs.Lanes.{IsAcceptedLane, no_digests}
 use Rattle.vk_row.specs.LaneTests.{checked_lane}
+use Rattle.vk_prover.specs.Drawn.{HasMask}
 use Rattle.vk_prover.specs.Honest.{honest_lane, honest_case, honest_reply, honest_halves, no_tape}
 
 -- a lane of an honest prover: one seat for each input, values that hold for the plan, and for each
@@ -17,7 +17,7 @@ pub record IsHonest (plan : PlanValue) (seats : List ℕ) (values : List ℕ) (t
   pub one_seat_each : length seats ≡ plan.inputs
   pub values_hold : Holds plan values
   pub one_tape_each : length tape ≡ length plan.kinds
-  pub masks_are_residues : All (λ wire. IsResidue wire.mask) tape
+  pub masks_are_residues : All HasMask tape
 
 -- an honest reply to either bit is accepted, with the halves that the bit names
 abbrev pub AreAccepted : Type 0

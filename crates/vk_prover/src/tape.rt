@@ -1,6 +1,6 @@
 // The tape of a lane, and how it is drawn.
-ghost use Rattle.std.specs.Prelude.{◌≡◌, ◌-◌, length, IfOk, OnOk, IsSome};
-ghost use Rattle.vk_prover.specs.Drawn.{TapeAnswer, drawn_tape, drawn_wire, after_wire, after_wires};
+ghost use Rattle.std.specs.Prelude.{◌≡◌, ◌-◌, All, length, IfOk, IfSome, IsSome, OnOk};
+ghost use Rattle.vk_prover.specs.Drawn.{HasMask, TapeAnswer, drawn_tape, drawn_wire, after_wire, after_wires};
 ghost use Rattle.vk_prover.specs.declared.tape.DrawErr.TheVariants.{NoMemory};
 
 use std::alloc::{AllocError, AllocFailed, Global};
@@ -51,6 +51,7 @@ pub fn draw_tape<W: Words>(
     requires { length given.now ≡ plan.now.inputs }
     ensures drawn { TapeAnswer result (drawn_tape given.now (length plan.now.kinds - plan.now.inputs) (W.ahead words.old)) }
     ensures after { OnOk result (W.ahead words.new ≡ after_wires (length plan.now.kinds - plan.now.inputs) (W.ahead words.old)) }
+    ensures masks { All HasMask given.now → IfOk result (λ tape. All HasMask tape.wires) }
     ensures one_each { IfOk result (λ tape. length tape.wires ≡ length plan.now.kinds) }
 {
     let mut wires = Seq::from_vec(Vec::from_slice(alloc, given)?);
@@ -64,6 +65,7 @@ pub fn draw_tape<W: Words>(
 /// Draws the tape of one wire.
 fn draw_wire<W: Words>(words: &mut W) -> Option<WireTape>
     ensures drawn { result ≡ drawn_wire (W.ahead words.old) }
+    ensures mask { IfSome result HasMask }
     ensures after { IsSome result → W.ahead words.new ≡ after_wire (W.ahead words.old) }
 {
     let mask = draw_residue(words).ok()?;

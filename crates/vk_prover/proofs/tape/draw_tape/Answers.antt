@@ -1,8 +1,9 @@
 use Rattle.std.proofs.Common.{◌≡◌, ◌+◌, ◌-◌, ◌≤◌, Some, refl, arith, length, length-append, rules, sym, ◌∙◌}
 use Rattle.std.specs.Option.{IsSome}
+use Rattle.std.proofs.lemmas.List.Elements.{All-push}
 use Rattle.std.proofs.lemmas.Grind.{common_steps}
-use Rattle.vk_prover.specs.Drawn.{drawn_tape, after_wires}
-use Rattle.vk_prover.proofs.Drawing.{drawn_turn, drawn_dry, drawn_done, after_turn, after_done}
+use Rattle.vk_prover.specs.Drawn.{HasMask, drawn_tape, after_wires}
+use Rattle.vk_prover.proofs.Drawing.{drawn_turn, drawn_dry, drawn_done, after_turn, after_done, mask_of_some}
 use Rattle.vk_prover.proofs.Wires.{inputs_within}
 use Rattle.vk_prover.proofs.tape.draw_tape.Goals as goal
 
@@ -23,6 +24,8 @@ loop-wire-preserved g c =
       after = after_turn (length c.args.plan.now.kinds - c.loop-wire.wire) (length c.args.plan.now.kinds - (c.loop-wire.wire + 1))
           (g.W.Words.ahead c.loop-wire.words) (g.W.Words.ahead c.draw_wire.new.words) (after_wires (length c.args.plan.now.kinds - c.args.plan.now.inputs) (g.W.Words.ahead c.args.words.now))
           (omega arith) (c.draw_wire.ensures.after some) c.loop-wire.invariant.after;
+      masks = λ given. rw c.in_ok-push.ensures.pushed
+          (All-push HasMask c.loop-wire.wires c.in_ok-tape.tape (c.loop-wire.invariant.masks given) (mask_of_some c.draw_wire.result c.in_ok-tape.tape drawn c.draw_wire.ensures.mask));
       count = grind (arith, common_steps, length-append);
     }
 

@@ -1,8 +1,8 @@
-use Rattle.std.proofs.Common.{◌≡◌, ℕ, zero, suc, ◌+◌, ◌*◌, ◌%◌, ◌<◌, List, [], ◌∷◌, Some, slice_index, slice_index_or, refl, sym, ap, subst, ◌∙◌, arith, inl, lit<}
+use Rattle.std.proofs.Common.{◌≡◌, ℕ, zero, suc, ◌*◌, List, [], ◌∷◌, slice_index, slice_index_or, refl, sym, ap, subst, ◌∙◌, arith, inl, lit<}
 use Rattle.std.specs.Prelude.{sum_by}
 use Rattle.std.proofs.lemmas.List.Sums.{sum_by-cons}
 use Rattle.std.proofs.lemmas.List.Elements.{All-cons, All-nil}
-use Rattle.vk_residue.specs.Residue.{IsResidue, modulus}
+use Rattle.vk_residue.specs.Residue.{IsResidue}
 use Rattle.vk_plan.specs.declared.form.Form.{Form}
 use Rattle.vk_plan.specs.declared.form.Term.{Term}
 use Rattle.vk_plan.specs.declared.wire.WireKind.TheVariants.{Split, Pair}
