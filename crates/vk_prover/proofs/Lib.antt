@@ -1,0 +1,4 @@
+pub mod Accepted
+pub mod Drawing
+pub mod Halves
+pub mod Wires

@@ -1,0 +1,13 @@
+use Rattle.std.proofs.Common.{◌≡◌, ◌-◌, All, length}
+use Rattle.vk_prover.specs.Drawn.{HasMask, drawn_tape, after_wires}
+use Rattle.vk_prover.proofs.tape.draw_tape.Given as goal
+
+-- the words ahead give the rest of the tape
+abbrev pub invariant-loop-wire : goal.invariant-loop-wire
+invariant-loop-wire g l = record {
+  drawn : drawn_tape l.wires (length l.plan.kinds - l.wire) (g.W.Words.ahead l.words)
+      ≡ drawn_tape l.given (length l.plan.kinds - l.plan.inputs) (g.W.Words.ahead l.fn.words);
+  after : after_wires (length l.plan.kinds - l.wire) (g.W.Words.ahead l.words) ≡ after_wires (length l.plan.kinds - l.plan.inputs) (g.W.Words.ahead l.fn.words);
+  masks : All HasMask l.given → All HasMask l.wires;
+  count : length l.wires ≡ l.wire;
+}

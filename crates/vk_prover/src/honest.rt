@@ -1,0 +1,145 @@
+// What an honest prover publishes of a lane, and what it shows of it.
+ghost use Rattle.std.specs.Prelude.{◌≡◌, ◌<◌, ◌≤◌, [], drop, length, map, slice_index, slice_index_or, IfOk};
+ghost use Rattle.vk_plan.specs.Plans.{Holds};
+ghost use Rattle.vk_plan.specs.declared.wire.WireKind.TheVariants.{Split};
+ghost use Rattle.vk_row.specs.Lanes.{no_row};
+ghost use Rattle.vk_prover.specs.Honest.{com_of, honest_lane, honest_reply, each_wire, masks, no_tape, posted_on, shown_of};
+
+use crate::tape::LaneTape;
+use std::alloc::Global;
+use vk_board::LaneLines;
+use vk_plan::Plan;
+use vk_residue::{NoMemory, Residue};
+use vk_row::posted;
+use vk_seq::Seq;
+use vk_wire::{Shown, WireCom, WireTape, make, show, wire_place};
+
+/// What is published of the lane, counted from 1: the commitments to each wire after the inputs, and
+/// the posted number of each row. The values are those of all wires, and hold for the plan.
+pub fn make_lane(
+    alloc: Global,
+    plan: &Plan,
+    auction: &[u8; 16],
+    lane: u16,
+    values: &[Residue],
+    tape: &LaneTape,
+) -> Result<LaneLines, NoMemory>
+    requires holds { Holds plan.now values.now }
+    requires one_each { length tape.now.wires ≡ length plan.now.kinds }
+    ensures { IfOk result
+        (λ lines. lines ≡ honest_lane plan.now auction.now lane values.now tape.now.wires) }
+{
+    let coms = commit_wires(alloc, plan, auction, lane, values, tape)?;
+    let firsts = first_halves(alloc, tape)?;
+    let posted = post_rows(alloc, plan, firsts.as_slice())?;
+    Ok(LaneLines { coms, posted })
+}
+
+/// What is shown of each wire for the challenge bit. The values are those of all wires, and hold for
+/// the plan.
+pub fn answer_lane(
+    alloc: Global,
+    plan: &Plan,
+    values: &[Residue],
+    tape: &LaneTape,
+    bit: bool,
+) -> Result<Seq<Shown>, NoMemory>
+    requires holds { Holds plan.now values.now }
+    requires one_each { length tape.now.wires ≡ length plan.now.kinds }
+    ensures { IfOk result (λ shown. shown ≡ honest_reply plan.now.kinds values.now tape.now.wires bit) }
+{
+    let mut shown = Seq::new(alloc);
+    for wire in 0..plan.wires() {
+        shown.push(show_wire(plan, values, tape, bit, wire))?;
+    }
+    Ok(shown)
+}
+
+/// The commitments to each wire after the inputs.
+fn commit_wires(
+    alloc: Global,
+    plan: &Plan,
+    auction: &[u8; 16],
+    lane: u16,
+    values: &[Residue],
+    tape: &LaneTape,
+) -> Result<Seq<WireCom>, NoMemory>
+    requires holds { Holds plan.now values.now }
+    requires one_each { length tape.now.wires ≡ length plan.now.kinds }
+    ensures { IfOk result
+        (λ coms. coms ≡ each_wire (com_of auction.now lane []) plan.now.inputs (drop plan.now.inputs plan.now.kinds)
+        (drop plan.now.inputs values.now) (drop plan.now.inputs tape.now.wires)) }
+{
+    let mut coms = Seq::new(alloc);
+    for wire in plan.inputs()..plan.wires() {
+        coms.push(commit_wire(plan, auction, lane, values, tape, wire))?;
+    }
+    Ok(coms)
+}
+
+/// The commitments to one wire after the inputs.
+fn commit_wire(
+    plan: &Plan,
+    auction: &[u8; 16],
+    lane: u16,
+    values: &[Residue],
+    tape: &LaneTape,
+    wire: u32,
+) -> WireCom
+    requires holds { Holds plan.now values.now }
+    requires one_each { length tape.now.wires ≡ length plan.now.kinds }
+    requires wire { wire < length plan.now.kinds }
+    requires few { length plan.now.kinds ≤ 16777216 }
+    ensures { result ≡ com_of auction.now lane [] wire (slice_index_or plan.now.kinds wire Split)
+        (slice_index values.now wire) (slice_index_or tape.now.wires wire no_tape) }
+{
+    let at = wire as usize;
+    let place = wire_place(auction, lane, &[], wire);
+    let wire_tape = &tape.wires.as_slice()[at];
+    make(plan.kind(wire), &place, values[at], wire_tape)
+}
+
+/// What is shown of one wire.
+fn show_wire(plan: &Plan, values: &[Residue], tape: &LaneTape, bit: bool, wire: u32) -> Shown
+    requires holds { Holds plan.now values.now }
+    requires one_each { length tape.now.wires ≡ length plan.now.kinds }
+    requires wire { wire < length plan.now.kinds }
+    ensures { result ≡ shown_of bit wire (slice_index_or plan.now.kinds wire Split)
+        (slice_index values.now wire) (slice_index_or tape.now.wires wire no_tape) }
+{
+    let at = wire as usize;
+    let wire_tape = &tape.wires.as_slice()[at];
+    show(plan.kind(wire), values[at], wire_tape, bit)
+}
+
+/// The first half of each wire.
+fn first_halves(alloc: Global, tape: &LaneTape) -> Result<Vec<Residue>, NoMemory>
+    ensures { IfOk result (λ firsts. firsts.items ≡ masks tape.now.wires) }
+{
+    let mut firsts = Vec::new(alloc);
+    for wire in tape.wires.as_slice() {
+        firsts.push(wire.mask)?;
+    }
+    Ok(firsts)
+}
+
+/// What is posted for each row.
+fn post_rows(alloc: Global, plan: &Plan, firsts: &[Residue]) -> Result<Seq<Residue>, NoMemory>
+    requires { length firsts.now ≡ length plan.now.kinds }
+    ensures { IfOk result (λ numbers. numbers ≡ map (posted_on firsts.now) plan.now.rows) }
+{
+    let mut numbers = Seq::new(alloc);
+    for row in 0..plan.rows() {
+        numbers.push(post_row(plan, firsts, row))?;
+    }
+    Ok(numbers)
+}
+
+/// What is posted for one row.
+fn post_row(plan: &Plan, firsts: &[Residue], row: u32) -> Residue
+    requires firsts { length firsts.now ≡ length plan.now.kinds }
+    requires row { row < length plan.now.rows }
+    ensures { result ≡ posted_on firsts.now (slice_index_or plan.now.rows row no_row) }
+{
+    posted(plan.row(row), firsts)
+}

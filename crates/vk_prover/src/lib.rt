@@ -1,0 +1,12 @@
+//! The honest prover of one lane: its tape, what it publishes, and its replies, which are accepted.
+#![tactic(auto)]
+
+mod honest;
+mod laws;
+mod tape;
+#[cfg(test)]
+mod tests;
+
+pub use honest::{answer_lane, make_lane};
+pub use laws::honest_replies_are_accepted;
+pub use tape::{DrawErr, LaneTape, draw_tape};

@@ -1,0 +1,81 @@
+// The tape of a lane, and how it is drawn.
+ghost use Rattle.std.specs.Prelude.{◌≡◌, ◌-◌, All, length, IfOk, IfSome, IsSome, OnOk};
+ghost use Rattle.vk_prover.specs.Drawn.{HasMask, TapeAnswer, drawn_tape, drawn_wire, after_wire, after_wires};
+ghost use Rattle.vk_prover.specs.declared.tape.DrawErr.TheVariants.{NoMemory};
+
+use std::alloc::{AllocError, AllocFailed, Global};
+use vk_dice::{Words, draw_bit, draw_key, draw_residue};
+use vk_plan::Plan;
+use vk_seq::Seq;
+use vk_wire::WireTape;
+
+/// The secret choices behind one lane: one entry for each wire, the inputs' first.
+#[derive(Debug, Drop)]
+pub struct LaneTape {
+    pub wires: Seq<WireTape>,
+}
+
+/// Why no tape was drawn.
+#[derive(Clone, Copy, Debug, PartialEq, Eq)]
+pub enum DrawErr {
+    /// The residue of that wire, the first such, can't be drawn. Wires count from 0, the inputs' first.
+    DrySeed { wire: u32 },
+    /// Want of memory.
+    NoMemory,
+}
+
+impl From<AllocError> for DrawErr {
+    ghost from_gives = { λ _ e. e ≡ NoMemory };
+
+    fn from(_refused: AllocError) -> DrawErr {
+        DrawErr::NoMemory
+    }
+}
+
+impl<T: Drop> From<AllocFailed<T>> for DrawErr {
+    ghost from_gives = { λ _ e. e ≡ NoMemory };
+
+    fn from(_refused: AllocFailed<T>) -> DrawErr {
+        DrawErr::NoMemory
+    }
+}
+
+/// Draws the tape of a lane: the given tapes of the inputs, and then for each further wire in order
+/// a residue, a bit and two keys, drawn from the words in this order.
+pub fn draw_tape<W: Words>(
+    alloc: Global,
+    plan: &Plan,
+    given: &[WireTape],
+    words: &mut W,
+) -> Result<LaneTape, DrawErr>
+    requires { length given.now ≡ plan.now.inputs }
+    ensures drawn { TapeAnswer result (drawn_tape given.now (length plan.now.kinds - plan.now.inputs) (W.ahead words.old)) }
+    ensures after { OnOk result (W.ahead words.new ≡ after_wires (length plan.now.kinds - plan.now.inputs) (W.ahead words.old)) }
+    ensures masks { All HasMask given.now → IfOk result (λ tape. All HasMask tape.wires) }
+    ensures one_each { IfOk result (λ tape. length tape.wires ≡ length plan.now.kinds) }
+{
+    let mut wires = Seq::from_vec(Vec::from_slice(alloc, given)?);
+    for wire in plan.inputs()..plan.wires() {
+        let tape = draw_wire(words).ok_or(DrawErr::DrySeed { wire })?;
+        wires.push(tape)?;
+    }
+    Ok(LaneTape { wires })
+}
+
+/// Draws the tape of one wire.
+fn draw_wire<W: Words>(words: &mut W) -> Option<WireTape>
+    ensures drawn { result ≡ drawn_wire (W.ahead words.old) }
+    ensures mask { IfSome result HasMask }
+    ensures after { IsSome result → W.ahead words.new ≡ after_wire (W.ahead words.old) }
+{
+    let mask = draw_residue(words).ok()?;
+    let swap = draw_bit(words);
+    let first_key = draw_key(words);
+    let second_key = draw_key(words);
+    Some(WireTape {
+        mask,
+        swap,
+        first_key,
+        second_key,
+    })
+}
