@@ -11,11 +11,11 @@ use Rattle.vk_wire.specs.declared.wire.WireCom.{WireCom}
 use Rattle.vk_wire.specs.declared.wire.Shown.{Shown}
 use Rattle.vk_row.specs.declared.case.LaneCase.{LaneCase}
 use Rattle.vk_row.specs.Lanes.{IsAcceptedLane, place_in, no_digests, nothing_shown, no_row}
-use Rattle.vk_extractor.specs.Sums.{sums}
+use Rattle.vk_row.specs.Rows.{sums}
 use Rattle.vk_extractor.specs.Clash.{clash_at, clash_from, clash_of_lane, or_else}
 use Rattle.vk_extractor.specs.Values.{wire_value}
-use Rattle.vk_extractor.proofs.Sums.{get_or-sums, length-sums}
-use Rattle.vk_extractor.proofs.Linear.{row_is_zero}
+use Rattle.vk_row.proofs.Sums.{get_or-sums, length-sums}
+use Rattle.vk_row.proofs.Linear.{row_is_zero}
 use Rattle.vk_extractor.proofs.Wires.{wire_value_is_sum, sum_is_fair}
 
 or_else_none : (here later : Option TwoOpeningsSeen) → or_else here later ≡ None → (here ≡ None) × (later ≡ None)

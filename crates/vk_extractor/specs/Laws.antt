@@ -7,7 +7,7 @@ use Rattle.vk_row.specs.declared.case.LaneCase.{LaneCase}
 use Rattle.vk_wire.specs.Places.{entry_place}
 use Rattle.vk_wire.specs.Reads.{entry_digest}
 use Rattle.vk_row.specs.Lanes.{IsAcceptedLane, place_in, no_digests}
-use Rattle.vk_extractor.specs.Sums.{sums}
+use Rattle.vk_row.specs.Rows.{sums}
 use Rattle.vk_extractor.specs.Clash.{clash_of_lane}
 
 -- for every plan: where no entry is opened to two values, the sums of accepted halves hold for it

@@ -1,15 +1,10 @@
 -- The sums of the halves of a lane.
-use Rattle.std.specs.Prelude.{◌≡◌, ℕ, false, true, List, [], ◌∷◌}
-use Rattle.vk_residue.specs.Residue.{sum}
+use Rattle.std.specs.Prelude.{◌≡◌, ℕ, false, true, List}
 use Rattle.vk_plan.specs.Plans.{PlanValue}
 use Rattle.vk_wire.specs.declared.wire.Shown.{Shown}
 use Rattle.vk_row.specs.declared.case.LaneCase.{LaneCase}
+use Rattle.vk_row.specs.Rows.{sums}
 use Rattle.vk_row.specs.Lanes.{IsAcceptedLane}
-
--- first and second halves, added wire by wire
-abbrev pub sums : List ℕ → List ℕ → List ℕ
-sums (first ∷ firsts) (second ∷ seconds) = sum first second ∷ sums firsts seconds
-sums _ _ = []
 
 -- the values are the sums of the halves that are accepted for bit 0 and for bit 1
 abbrev pub AreSums : PlanValue → LaneCase → List Shown → List Shown → List ℕ → Type 0

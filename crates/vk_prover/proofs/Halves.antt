@@ -7,8 +7,8 @@ use Rattle.vk_plan.specs.Forms.{linear_part, form_value, NamesBelow}
 use Rattle.vk_wire.specs.Made.{half_of}
 use Rattle.vk_wire.specs.declared.wire.WireTape.{WireTape}
 use Rattle.vk_row.specs.Rows.{HasSide}
-use Rattle.vk_extractor.specs.Sums.{sums}
-use Rattle.vk_extractor.proofs.Linear.{linear_part_sums}
+use Rattle.vk_row.specs.Rows.{sums}
+use Rattle.vk_row.proofs.Linear.{linear_part_sums}
 use Rattle.vk_prover.specs.Drawn.{HasMask}
 use Rattle.vk_prover.specs.Honest.{honest_halves, masks, posted_on, no_tape}
 

@@ -1,6 +1,6 @@
 -- What the halves of a lane and the posted number have to do with a row.
-use Rattle.std.specs.Prelude.{◌≡◌, ℕ, Bool, true, false, ◌==◌, List}
-use Rattle.vk_residue.specs.Residue.{negative}
+use Rattle.std.specs.Prelude.{◌≡◌, ℕ, Bool, true, false, ◌==◌, List, [], ◌∷◌}
+use Rattle.vk_residue.specs.Residue.{sum, negative}
 use Rattle.vk_plan.specs.Forms.{linear_part, form_value}
 use Rattle.vk_plan.specs.declared.form.Form.{Form}
 
@@ -14,3 +14,8 @@ HasSide row true halves posted = form_value row halves ≡ negative posted
 abbrev pub has_side : Form → Bool → List ℕ → ℕ → Bool
 has_side row false halves posted = linear_part row.terms halves == posted
 has_side row true halves posted = form_value row halves == negative posted
+
+-- first and second halves, added wire by wire
+abbrev pub sums : List ℕ → List ℕ → List ℕ
+sums (first ∷ firsts) (second ∷ seconds) = sum first second ∷ sums firsts seconds
+sums _ _ = []

@@ -1,6 +1,6 @@
 use Rattle.std.proofs.Common.{◌≡◌, ℕ, List, take, true, false}
 use Rattle.vk_row.specs.Lanes.{IsAcceptedLane}
-use Rattle.vk_extractor.specs.Sums.{sums}
+use Rattle.vk_row.specs.Rows.{sums}
 use Rattle.vk_extractor.proofs.values.values_of.Given as goal
 
 abbrev pub invariant-loop-wire : goal.invariant-loop-wire

@@ -1,7 +1,7 @@
 -- Sums of two lists, wire by wire.
 use Rattle.std.proofs.Common.{◌≡◌, ℕ, zero, suc, ◌<◌, List, [], ◌∷◌, length, get_or, slice_index, refl, arith}
 use Rattle.vk_residue.specs.Residue.{sum}
-use Rattle.vk_extractor.specs.Sums.{sums}
+use Rattle.vk_row.specs.Rows.{sums}
 
 pub length-sums : (firsts seconds : List ℕ) → length firsts ≡ length seconds → length (sums firsts seconds) ≡ length firsts
 length-sums [] seconds same = refl

@@ -8,8 +8,8 @@ use Rattle.vk_residue.specs.Residue.{modulus, sum, negative}
 use Rattle.vk_plan.specs.declared.form.Term.{Term}
 use Rattle.vk_plan.specs.declared.form.Form.{Form}
 use Rattle.vk_plan.specs.Forms.{term_value, linear_part, form_value, NamesBelow}
-use Rattle.vk_extractor.specs.Sums.{sums}
-use Rattle.vk_extractor.proofs.Sums.{get_or-sums}
+use Rattle.vk_row.specs.Rows.{sums}
+use Rattle.vk_row.proofs.Sums.{get_or-sums}
 
 -- a factor times a sum
 factor_of_sum : (factor u v : ℕ) → (factor * ((u + v) % modulus)) % modulus ≡ (factor * u + factor * v) % modulus
