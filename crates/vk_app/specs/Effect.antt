@@ -7,12 +7,13 @@ use Rattle.vk_io.specs.declared.content.Content.TheVariants.{Missing, TooLong, H
 use Rattle.vk_app.specs.declared.extract.AttemptFiles.{AttemptFiles}
 use Rattle.vk_app.specs.declared.extract.ExtractFiles.{ExtractFiles}
 use Rattle.vk_app.specs.declared.extraction.Extraction.{Extraction}
-use Rattle.vk_app.specs.Words.{AttemptWords, ExtractWords, CommandWords, Extract, Seal, command_words}
+use Rattle.vk_app.specs.Words.{AttemptWords, ExtractWords, CommandWords, Extract, Verify, Seal, command_words}
 use Rattle.vk_app.specs.Texts.{line_feed}
 use Rattle.vk_app.specs.Extraction.{extraction_text}
 use Rattle.vk_app.specs.Extract.{extraction_of}
 use Rattle.vk_app.specs.Outcome.{Effect}
 use Rattle.vk_app.specs.Sealing.{seal_effect}
+use Rattle.vk_app.specs.Verifying.{verify_effect}
 
 -- the bytes of a file that is held and not too long
 abbrev pub held_bytes : Content → Option (List ℕ)
@@ -55,6 +56,7 @@ extract_effect files names = extraction_effect (extraction_of (extract_files fil
 abbrev pub command_effect : Files → Option CommandWords → Effect
 command_effect files None = usage_effect
 command_effect files (Some (Extract names)) = extract_effect files names
+command_effect files (Some (Verify names)) = verify_effect files names
 command_effect files (Some (Seal order)) = seal_effect order
 
 abbrev pub effect_of : Files → List (List ℕ) → Effect

@@ -10,3 +10,4 @@ pub mod Sealing
 pub mod Effect
 pub mod Stops
 pub mod Headline
+pub mod Verifying

@@ -8,6 +8,7 @@ use Rattle.vk_app.specs.declared.words.Command.{Command}
 use Rattle.vk_app.specs.declared.words.Command.TheVariants as commands
 use Rattle.vk_app.specs.declared.words.AttemptNames.{AttemptNames}
 use Rattle.vk_app.specs.declared.words.ExtractNames.{ExtractNames}
+use Rattle.vk_app.specs.declared.words.VerifyNames.{VerifyNames}
 
 -- the names of the files of one reply and its challenge, as bytes
 pub record AttemptWords : Type 0 where
@@ -52,6 +53,27 @@ names_in words = do
 -- the names, where the words are `extract` and five names
 unfoldable pub extract_words : List (List ℕ) → Option ExtractWords
 extract_words words = if length words == 6 && bytes_eq (slice_index_or words 0 []) (codes "extract") then names_in words else None
+
+-- ---- `verify`
+
+-- the names of the files of `verify`
+pub record VerifyWords : Type 0 where
+  pub board : List ℕ
+  pub attempt : AttemptWords
+
+abbrev pub verify_seen : VerifyNames → VerifyWords
+verify_seen names = record { board = names.board.now; attempt = attempt_seen names.attempt }
+
+-- the names that four words give, the first of them aside
+unfoldable pub verify_in : List (List ℕ) → Option VerifyWords
+verify_in words = do
+  board ← name_at words 1
+  attempt ← attempt_words words 2
+  Some (record { board = board; attempt = attempt })
+
+-- the names, where the words are `verify` and three names
+unfoldable pub verify_words : List (List ℕ) → Option VerifyWords
+verify_words words = if length words == 4 && bytes_eq (slice_index_or words 0 []) (codes "verify") then verify_in words else None
 
 -- ---- `seal`
 
@@ -115,15 +137,18 @@ pub record IsSealOrder (order : SealWords) : Type 0 where
 
 pub data CommandWords : Type 0 where
   Extract : ExtractWords → CommandWords
+  Verify : VerifyWords → CommandWords
   Seal : SealWords → CommandWords
 
 abbrev pub command_seen : Command → CommandWords
 command_seen (commands.Extract names) = Extract (extract_seen names)
+command_seen (commands.Verify names) = Verify (verify_seen names)
 command_seen (commands.Seal order) = Seal (seal_seen order)
 
 -- the order of a `seal` is one of which it can be made
 abbrev pub IsCommand : Command → Type 0
 IsCommand (commands.Extract names) = Unit {0}
+IsCommand (commands.Verify names) = Unit {0}
 IsCommand (commands.Seal order) = IsSealOrder (seal_seen order)
 
 -- one of two, the first where there is one
@@ -133,4 +158,5 @@ or_else None other = other
 
 -- the command that the words are, if they are one
 abbrev pub command_words : List (List ℕ) → Option CommandWords
-command_words words = or_else (option_map Extract (extract_words words)) (option_map Seal (seal_words words))
+command_words words =
+    or_else (option_map Extract (extract_words words)) (or_else (option_map Verify (verify_words words)) (option_map Seal (seal_words words)))

@@ -13,6 +13,7 @@ use crate::files::read_extract_files;
 use crate::outcome::{Outcome, extract, usage};
 use crate::sealing::seal;
 use crate::stop::Stop;
+use crate::verifying::verify;
 use crate::words::{Command, command_of};
 use std::alloc::Global;
 use vk_io::{Shelf, Sink, write_files};
@@ -32,6 +33,10 @@ fn outcome_of<S: Shelf>(alloc: Global, words: &[String], shelf: &mut S) -> Resul
         Some(Command::Extract(names)) => {
             let files = read_extract_files(alloc, shelf, &names)?;
             let outcome = extract(alloc, &files)?;
+            Ok(outcome)
+        }
+        Some(Command::Verify(names)) => {
+            let outcome = verify(alloc, shelf, &names)?;
             Ok(outcome)
         }
         Some(Command::Seal(order)) => {

@@ -14,6 +14,7 @@ mod refusal;
 mod reply;
 mod sealing;
 mod stop;
+mod verifying;
 mod words;
 
 pub use command::run;

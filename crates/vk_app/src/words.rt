@@ -1,7 +1,7 @@
 //! The words of a command line.
 
 ghost use Rattle.std.specs.Prelude.{◌≡◌, ◌+◌, ◌<◌, ◌≤◌, [], length, map, option_map, string_bytes, slice_index_or, IfSome};
-ghost use Rattle.vk_app.specs.Words.{attempt_seen, extract_seen, is_name, name_at, attempt_words, names_in, extract_words, seal_seen, count_of, order_in, seal_words, IsSealOrder, command_seen, IsCommand, command_words};
+ghost use Rattle.vk_app.specs.Words.{attempt_seen, extract_seen, verify_seen, is_name, name_at, attempt_words, names_in, extract_words, verify_in, verify_words, seal_seen, count_of, order_in, seal_words, IsSealOrder, command_seen, IsCommand, command_words};
 
 use vk_lines::{read_decimal, read_hex16, read_hex32};
 
@@ -76,6 +76,35 @@ fn extract_names(words: &[String]) -> Option<ExtractNames<'_>>
         return None;
     }
     names_in(words)
+}
+
+/// The names of the files of `verify`.
+#[derive(Clone, Copy, Debug)]
+pub struct VerifyNames<'a> {
+    pub board: &'a str,
+    pub attempt: AttemptNames<'a>,
+}
+
+/// The names that four words give.
+#[tactic(auto, unfolding(crate::specs::Words::verify_in))]
+fn verify_in(words: &[String]) -> Option<VerifyNames<'_>>
+    requires { length words.now ≡ 4 }
+    ensures { option_map verify_seen result ≡ verify_in (map string_bytes words.now) }
+{
+    let board = name(words, 1)?;
+    let attempt = attempt_names(words, 2)?;
+    Some(VerifyNames { board, attempt })
+}
+
+/// The names, where the words are `verify` and three names.
+#[tactic(auto, unfolding(crate::specs::Words::verify_words))]
+fn verify_names(words: &[String]) -> Option<VerifyNames<'_>>
+    ensures { option_map verify_seen result ≡ verify_words (map string_bytes words.now) }
+{
+    if words.len() != 4 || word(words, 0) != "verify" {
+        return None;
+    }
+    verify_in(words)
 }
 
 /// What `seal` is to make, and the names of its files.
@@ -155,6 +184,7 @@ fn seal_order(words: &[String]) -> Option<SealOrder<'_>>
 #[derive(Clone, Copy, Debug)]
 pub enum Command<'a> {
     Extract(ExtractNames<'a>),
+    Verify(VerifyNames<'a>),
     Seal(SealOrder<'a>),
 }
 
@@ -165,6 +195,9 @@ pub fn command_of(words: &[String]) -> Option<Command<'_>>
 {
     if let Some(names) = extract_names(words) {
         return Some(Command::Extract(names));
+    }
+    if let Some(names) = verify_names(words) {
+        return Some(Command::Verify(names));
     }
     let order = seal_order(words)?;
     Some(Command::Seal(order))

@@ -1,0 +1,169 @@
+//! What `verify` answers.
+
+ghost use Rattle.std.specs.Prelude.{◌≡◌, ◌≤◌, IfSome, IfOk, IsErrOf, Result, codes, string_bytes};
+ghost use Rattle.vk_io.specs.Faults.{Rose};
+ghost use Rattle.vk_verifier.specs.declared.answers.BoardVerdict.{BoardVerdict};
+ghost use Rattle.vk_verifier.specs.declared.answers.VErr.{VErr};
+ghost use Rattle.vk_verifier.specs.Verdicts.{Gives};
+ghost use Rattle.vk_app.specs.Outcome.{IsEnd};
+ghost use Rattle.vk_app.specs.Verifying.{name_of, fault_text, line_effect, verdict_status, verdict_line, answer_effect, verify_effect};
+ghost use Rattle.vk_app.specs.Words.{verify_seen};
+ghost use Rattle.vk_app.specs.Texts.{◌+++◌, line_feed};
+
+use crate::outcome::Outcome;
+use crate::stop::Stop;
+use crate::words::VerifyNames;
+use std::alloc::Global;
+use vk_io::Shelf;
+use vk_residue::NoMemory;
+use vk_verifier::{BoardVerdict, Part, VErr, verdict};
+use vk_wire::WireFault;
+
+/// The name of the file as it was given.
+fn name_of<'a>(names: &VerifyNames<'a>, part: Part) -> &'a str
+    ensures { result.now ≡ name_of (verify_seen names.now) part }
+{
+    match part {
+        Part::Board => names.board,
+        Part::Challenge => names.attempt.challenge,
+        Part::Reply => names.attempt.reply,
+    }
+}
+
+/// Why a wire reads nothing.
+fn fault_text(fault: WireFault) -> &'static str
+    ensures { result.now ≡ fault_text fault }
+{
+    match fault {
+        WireFault::Form => "form",
+        WireFault::Digest { second: false } => "digest 0",
+        WireFault::Digest { second: true } => "digest 1",
+        WireFault::NotASet => "set",
+    }
+}
+
+/// The status of a verdict.
+fn verdict_status(verdict: BoardVerdict) -> u8
+    ensures value { result ≡ verdict_status verdict }
+    ensures end { IsEnd result }
+{
+    match verdict {
+        BoardVerdict::Accepted => 0,
+        BoardVerdict::Malformed { part: _, line: _ } => 4,
+        BoardVerdict::Price
+        | BoardVerdict::Winner
+        | BoardVerdict::Lanes
+        | BoardVerdict::Wire {
+            lane: _,
+            wire: _,
+            fault: _,
+        }
+        | BoardVerdict::Row { lane: _, row: _ } => 1,
+    }
+}
+
+/// The line of a verdict.
+fn verdict_line(
+    alloc: Global,
+    names: &VerifyNames<'_>,
+    verdict: BoardVerdict,
+) -> Result<String, NoMemory>
+    ensures { IfOk result (λ line. string_bytes line ≡ verdict_line (verify_seen names.now) verdict) }
+{
+    let board = names.board;
+    let reply = names.attempt.reply;
+    let line = match verdict {
+        BoardVerdict::Accepted => format!(in alloc; "accepted\n")?,
+        BoardVerdict::Malformed { part, line } => {
+            let name = name_of(names, part);
+            format!(in alloc; "malformed {name} line {line}\n")?
+        }
+        BoardVerdict::Price => format!(in alloc; "refused {board} price\n")?,
+        BoardVerdict::Winner => format!(in alloc; "refused {board} winner\n")?,
+        BoardVerdict::Lanes => format!(in alloc; "refused {reply} lanes\n")?,
+        BoardVerdict::Wire { lane, wire, fault } => {
+            let fault = fault_text(fault);
+            format!(in alloc; "refused {reply} lane {lane} wire {wire} {fault}\n")?
+        }
+        BoardVerdict::Row { lane, row } => {
+            format!(in alloc; "refused {reply} lane {lane} row {row}\n")?
+        }
+    };
+    Ok(line)
+}
+
+/// Of a verdict.
+fn judged(
+    alloc: Global,
+    names: &VerifyNames<'_>,
+    verdict: BoardVerdict,
+) -> Result<Outcome, NoMemory>
+    ensures { IfOk result (λ outcome. outcome ≡ line_effect (verdict_status verdict) (verdict_line (verify_seen names.now) verdict)) }
+{
+    let line = verdict_line(alloc, names, verdict)?;
+    let outcome = Outcome::of_line(alloc, verdict_status(verdict), line.as_str())?;
+    Ok(outcome)
+}
+
+/// Of a file that isn't held.
+fn missing(alloc: Global, name: &str) -> Result<Outcome, NoMemory>
+    ensures { IfOk result (λ outcome. outcome ≡ line_effect 5 (codes "missing " +++ name.now +++ line_feed)) }
+{
+    let line = format!(in alloc; "missing {name}\n")?;
+    let outcome = Outcome::of_line(alloc, 5, line.as_str())?;
+    Ok(outcome)
+}
+
+/// Of a file that has too many bytes.
+fn too_long(alloc: Global, name: &str) -> Result<Outcome, NoMemory>
+    ensures { IfOk result (λ outcome. outcome ≡ line_effect 4 (codes "too long " +++ name.now +++ line_feed)) }
+{
+    let line = format!(in alloc; "too long {name}\n")?;
+    let outcome = Outcome::of_line(alloc, 4, line.as_str())?;
+    Ok(outcome)
+}
+
+/// Of what the verifier answered.
+fn verified(
+    alloc: Global,
+    names: &VerifyNames<'_>,
+    answer: Result<BoardVerdict, VErr>,
+) -> Result<Outcome, Stop>
+    ensures told { (expected : Result BoardVerdict VErr) → Gives (λ verdict. verdict) answer expected
+        → IfOk result (λ outcome. outcome ≡ answer_effect (verify_seen names.now) expected) }
+    ensures inside { IsErrOf result Stop.Failed → IsErrOf answer VErr.Failed }
+{
+    match answer {
+        Ok(verdict) => {
+            let outcome = judged(alloc, names, verdict)?;
+            Ok(outcome)
+        }
+        Err(VErr::Missing(part)) => {
+            let outcome = missing(alloc, name_of(names, part))?;
+            Ok(outcome)
+        }
+        Err(VErr::TooLong(part)) => {
+            let outcome = too_long(alloc, name_of(names, part))?;
+            Ok(outcome)
+        }
+        Err(VErr::Failed) => Err(Stop::Failed),
+        Err(VErr::NoMemory) => Err(Stop::NoMemory),
+    }
+}
+
+/// Judges the named files.
+pub fn verify<S: Shelf>(
+    alloc: Global,
+    shelf: &mut S,
+    names: &VerifyNames<'_>,
+) -> Result<Outcome, Stop>
+    ensures told { IfSome (S.held shelf.old) (λ files. IfOk result (λ outcome. outcome ≡ verify_effect files (verify_seen names.now))) }
+    ensures held { S.held shelf.new ≡ S.held shelf.old }
+    ensures later { S.Shelf.faults shelf.old ≤ S.Shelf.faults shelf.new }
+    ensures failed { IsErrOf result Stop.Failed → Rose (S.Shelf.faults shelf.old) (S.Shelf.faults shelf.new) }
+{
+    let attempt = &names.attempt;
+    let answer = verdict(alloc, shelf, names.board, attempt.challenge, attempt.reply);
+    let outcome = verified(alloc, names, answer);
+    outcome
+}
