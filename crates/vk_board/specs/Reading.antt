@@ -4,9 +4,8 @@ use Rattle.std.specs.Prelude.{ℕ, ◌+◌, ◌^◌, ◌-◌, ◌==◌, not, Boo
 use Rattle.std.specs.List.{list_all}
 use Rattle.vk_lines.specs.Lines.{Rest, ◌>>=◌, line_by, end_at}
 use Rattle.vk_lines.specs.Forms.{many_at}
-use Rattle.vk_lines.specs.Tokens.{decimal_of, hex_of, word_of, number_token, number_line, id_line, one_field, two_fields, meets}
+use Rattle.vk_lines.specs.Tokens.{residue_of, hex_of, word_of, number_token, number_line, id_line, one_field, two_fields, meets}
 use Rattle.vk_lines.specs.Tokens as tokens
-use Rattle.vk_residue.specs.Residue.{modulus}
 use Rattle.vk_wire.specs.declared.wire.WireCom.{WireCom}
 use Rattle.vk_board.specs.declared.board.Head.{Head}
 use Rattle.vk_board.specs.declared.board.SealLines.{SealLines}
@@ -22,7 +21,7 @@ abbrev pub com_line : List ℕ → List ℕ → Option WireCom
 com_line word text = two_fields word (hex_of 32) (hex_of 32) com_by text
 
 abbrev pub posted_line : List ℕ → Option ℕ
-posted_line text = one_field (codes "d") (decimal_of (modulus - 1)) text
+posted_line text = one_field (codes "d") residue_of text
 
 abbrev pub seats_of : List SealLines → List ℕ
 seats_of seals = map (λ seal. seal.seat) seals

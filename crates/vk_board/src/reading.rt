@@ -3,10 +3,9 @@ ghost use Rattle.std.specs.List.{All};
 ghost use Rattle.vk_io.specs.Faults.{Rose};
 ghost use Rattle.vk_commit.specs.Values.{AreBytes};
 ghost use Rattle.vk_wire.specs.Values.{IsCom};
-ghost use Rattle.vk_residue.specs.Residue.{modulus, IsResidue};
+ghost use Rattle.vk_residue.specs.Residue.{IsResidue};
 ghost use Rattle.vk_lines.specs.Forms.{many_at};
 ghost use Rattle.vk_lines.specs.Lines.{Reads, line_by, rest_of};
-ghost use Rattle.vk_lines.specs.Tokens.{decimal_of};
 ghost use Rattle.vk_lines.specs.declared.errors.ReadErr.TheVariants.{Failed};
 ghost use Rattle.vk_board.specs.Values.{IsHead, IsSealLines, IsSealAfter, AreSeals, IsLaneLines};
 ghost use Rattle.vk_board.specs.Reading.{com_line, posted_line, seats_of, is_new_seat, seat_line, head_at, seal_at, seals_at, lane_at};
@@ -14,8 +13,8 @@ ghost use Rattle.vk_board.specs.Reading.{com_line, posted_line, seats_of, is_new
 use crate::board::{Head, LaneLines, SealLines};
 use std::alloc::Global;
 use vk_io::Shelf;
-use vk_lines::{Lines, ReadErr, field, read_decimal, read_digests, read_tag};
-use vk_residue::{MODULUS, Residue};
+use vk_lines::{Lines, ReadErr, field, read_decimal, read_digests, read_residue, read_tag};
+use vk_residue::Residue;
 use vk_seq::Seq;
 use vk_wire::WireCom;
 
@@ -303,16 +302,6 @@ fn posted_of(text: &[u8]) -> Option<Residue>
     ensures right { IfSome result IsResidue }
 {
     read_tag(text, b"d", 2)?;
-    let number = residue_of(field(text, 1)?)?;
+    let number = read_residue(field(text, 1)?)?;
     Some(number)
-}
-
-/// The residue whose canonical decimal the text is.
-fn residue_of(text: &[u8]) -> Option<Residue>
-    ensures value { result ≡ decimal_of (modulus - 1) text.now }
-    ensures right { IfSome result IsResidue }
-{
-    let number = read_decimal(text, MODULUS - 1)?;
-    let residue = Residue::new(number);
-    residue
 }

@@ -1,7 +1,8 @@
 pub mod Decimals
-pub mod Hexadecimal
-pub mod Feeds
-pub mod Words
-pub mod Parts
 pub mod Faults
+pub mod Feeds
+pub mod Hexadecimal
 pub mod Loops
+pub mod Parts
+pub mod Residues
+pub mod Words

@@ -5,6 +5,7 @@ use Rattle.std.specs.Str.{all_ascii_digits, bytes_eq}
 use Rattle.std.specs.Char.{is_ascii_digit}
 use Rattle.std.specs.Str.Parse.{digits_value}
 use Rattle.std.specs.Result.{result_ok}
+use Rattle.vk_residue.specs.Residue.{modulus}
 use Rattle.hex.specs.Hex.{IsBytes, encode_lower, decode_sized}
 
 -- the fields of a line: its pieces between single spaces, of which some may be empty
@@ -22,6 +23,10 @@ is_canonical text = starts_canonical text && all_ascii_digits text
 -- the number whose canonical decimal a text is, if it is at most `most`
 unfoldable pub decimal_of : ℕ → List ℕ → Option ℕ
 decimal_of most text = if is_canonical text && nat_le (digits_value 10 text) most then Some (digits_value 10 text) else None
+
+-- the residue whose canonical decimal a text is
+abbrev pub residue_of : List ℕ → Option ℕ
+residue_of text = decimal_of (modulus - 1) text
 
 -- a decimal is read exactly from its text: the canonical decimals of the numbers up to `most`, and no other text
 abbrev pub ReadsDecimal : ℕ → List ℕ → Option ℕ → Type 0

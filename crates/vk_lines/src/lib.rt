@@ -14,7 +14,7 @@ pub use lines::Lines;
 pub use step::Step;
 pub use tokens::{
     field, fields, push_decimal, push_hex, read_decimal, read_digests, read_hex16, read_hex32,
-    read_id, read_number, read_tag, read_word,
+    read_id, read_number, read_residue, read_tag, read_word,
 };
 pub use writing::{
     end_line, push_digests_line, push_hex_line, push_line, push_number_line, push_space,

@@ -3,9 +3,10 @@
 ghost use Rattle.std.specs.Prelude.{◌≡◌, ◌↔◌, ◌++◌, List, decimal, length, drop, slice_get, slice_index, option_map, MatchOption, IfSome, OnErr, OnOk, ℕ, ◌≤◌, ◌<◌, true, false};
 ghost use Rattle.std.specs.List.{list_all};
 ghost use Rattle.hex.specs.Hex.{IsBytes, lower_digits};
-ghost use Rattle.vk_lines.specs.Tokens.{fields_of, word_of, tagged, number_line, id_line, digests_line, decimal_of, hex_of, hex_text, ReadsDecimal, ReadsHex, is_lower_digit, next_number, starts_canonical};
+ghost use Rattle.vk_residue.specs.Residue.{IsResidue};
+ghost use Rattle.vk_lines.specs.Tokens.{fields_of, word_of, tagged, number_line, id_line, digests_line, decimal_of, residue_of, hex_of, hex_text, ReadsDecimal, ReadsHex, is_lower_digit, next_number, starts_canonical};
 
-use vk_residue::NoMemory;
+use vk_residue::{MODULUS, NoMemory, Residue};
 
 /// The number of fields of a line: one more than it has spaces.
 pub fn fields(text: &[u8]) -> usize
@@ -63,6 +64,16 @@ fn number_of(text: &[u8], most: u64) -> Option<u64>
         number = next_number(number, *digit, most)?;
     }
     Some(number)
+}
+
+/// The residue whose canonical decimal the text is. `None` where it is that of none.
+pub fn read_residue(text: &[u8]) -> Option<Residue>
+    ensures value { result ≡ residue_of text.now }
+    ensures right { IfSome result IsResidue }
+{
+    let number = read_decimal(text, MODULUS - 1)?;
+    let residue = Residue::new(number);
+    residue
 }
 
 /// Whether a text is not empty and has no zero before another character.

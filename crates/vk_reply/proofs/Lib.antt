@@ -1,4 +1,3 @@
-pub mod Residues
 pub mod Each
 pub mod Numbered
 pub mod Lines

@@ -20,7 +20,8 @@ use Rattle.vk_wire.specs.declared.wire.Shown.{Shown}
 use Rattle.vk_wire.specs.declared.wire.Shown.TheVariants.{Half, Whole, Spent}
 use Rattle.vk_reply.specs.Values.{IsShown}
 use Rattle.vk_reply.specs.Texts.{bit_character, bits_text, shown_text}
-use Rattle.vk_reply.specs.Tokens.{is_bit, are_bits, bits_of, bits_line, entry_of, residue_of, opening_by}
+use Rattle.vk_reply.specs.Tokens.{is_bit, are_bits, bits_of, bits_line, entry_of, opening_by}
+use Rattle.vk_lines.specs.Tokens.{residue_of}
 use Rattle.vk_reply.specs.Reading.{openings_by, whole_by, entry_by, spent_by, half_line, whole_line, spent_line, shown_line}
 
 -- ---- bits

@@ -10,7 +10,8 @@ use Rattle.vk_plan.specs.declared.wire.WireKind.TheVariants.{Split, Pair}
 use Rattle.vk_wire.specs.declared.wire.Shown.{Shown}
 use Rattle.vk_wire.specs.declared.wire.Shown.TheVariants.{Half, Whole, Spent}
 use Rattle.vk_reply.specs.declared.challenge.Challenge.{Challenge}
-use Rattle.vk_reply.specs.Tokens.{bits_line, entry_of, opening_by, residue_of}
+use Rattle.vk_reply.specs.Tokens.{bits_line, entry_of, opening_by}
+use Rattle.vk_lines.specs.Tokens.{residue_of}
 
 -- a challenge
 unfoldable pub challenge_at : Rest → Result (Challenge × Rest) ℕ

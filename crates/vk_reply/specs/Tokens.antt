@@ -1,10 +1,9 @@
 -- The fields of the lines of a challenge and a reply.
-use Rattle.std.specs.Prelude.{ℕ, ◌-◌, ◌==◌, ◌&&◌, ◌||◌, nat_le, Bool, true, false, if◌then◌else◌, List, length, map, codes, Option, Some, None}
+use Rattle.std.specs.Prelude.{ℕ, ◌==◌, ◌&&◌, ◌||◌, nat_le, Bool, true, false, if◌then◌else◌, List, length, map, codes, Option, Some, None}
 use Rattle.std.specs.List.{list_all}
 use Rattle.std.specs.Str.{bytes_eq}
 use Rattle.vk_commit.specs.declared.place.Opening.{Opening}
-use Rattle.vk_lines.specs.Tokens.{◌>>=◌, decimal_of, hex_of, one_field}
-use Rattle.vk_residue.specs.Residue.{modulus}
+use Rattle.vk_lines.specs.Tokens.{◌>>=◌, residue_of, hex_of, one_field}
 
 -- ---- bits
 
@@ -24,9 +23,6 @@ abbrev pub bits_line : List ℕ → Option (List Bool)
 bits_line text = one_field (codes "bits") bits_of text
 
 -- ---- what opens an entry
-
-abbrev pub residue_of : List ℕ → Option ℕ
-residue_of text = decimal_of (modulus - 1) text
 
 -- `0` for the first entry, `1` for the second
 abbrev pub entry_of : List ℕ → Option Bool

@@ -4,14 +4,14 @@ ghost use Rattle.std.specs.Prelude.{◌≡◌, ◌∷◌, ◌++◌, [], IfErr, I
 ghost use Rattle.std.specs.List.{list_all};
 ghost use Rattle.vk_commit.specs.Values.{IsOpening};
 ghost use Rattle.vk_lines.specs.declared.errors.ReadErr.TheVariants.{NoMemory};
-ghost use Rattle.vk_reply.specs.Tokens.{are_bits, bits_line, bits_of, entry_of, is_bit, opening_of, residue_of};
+ghost use Rattle.vk_reply.specs.Tokens.{are_bits, bits_line, bits_of, entry_of, is_bit, opening_of};
 ghost use Rattle.vk_reply.specs.Reading.{lane_line};
 ghost use Rattle.vk_reply.specs.Texts.{bit_character, bits_text};
 
 use std::alloc::Global;
 use vk_commit::Opening;
-use vk_lines::{ReadErr, field, read_decimal, read_hex32, read_number, read_tag, read_word};
-use vk_residue::{MODULUS, NoMemory, Residue};
+use vk_lines::{ReadErr, field, read_hex32, read_number, read_residue, read_tag, read_word};
+use vk_residue::NoMemory;
 use vk_seq::Seq;
 
 /// The most bits that a challenge has.
@@ -89,22 +89,13 @@ pub(crate) fn entry_of(text: &[u8]) -> Option<bool>
     }
 }
 
-/// The residue whose canonical decimal the text is.
-fn residue_of(text: &[u8]) -> Option<Residue>
-    ensures { result ≡ residue_of text.now }
-{
-    let number = read_decimal(text, MODULUS - 1)?;
-    let residue = Residue::new(number);
-    residue
-}
-
 /// The opening of a key and a value.
 pub(crate) fn opening_of(key: &[u8], value: &[u8]) -> Option<Opening>
     ensures value { result ≡ opening_of key.now value.now }
     ensures right { IfSome result IsOpening }
 {
     let key = read_hex32(key)?;
-    let value = residue_of(value)?;
+    let value = read_residue(value)?;
     Some(Opening { key, value })
 }
 

@@ -1,4 +1,3 @@
-pub mod Residues
 pub mod Forms
 pub mod Tapes
 pub mod SealsMatch

@@ -3,8 +3,7 @@
 use Rattle.std.specs.Prelude.{ℕ, ◌^◌, ◌-◌, List, codes, Option, Result, Ok}
 use Rattle.vk_lines.specs.Lines.{Rest, ◌>>=◌, line_by, end_at}
 use Rattle.vk_lines.specs.Forms.{many_at}
-use Rattle.vk_lines.specs.Tokens.{decimal_of, hex_of, word_of, number_line, id_line, two_fields, three_fields}
-use Rattle.vk_residue.specs.Residue.{modulus}
+use Rattle.vk_lines.specs.Tokens.{residue_of, hex_of, word_of, number_line, id_line, two_fields, three_fields}
 use Rattle.vk_wire.specs.declared.wire.WireCom.{WireCom}
 use Rattle.vk_seal.specs.declared.secret.XTape.{XTape}
 use Rattle.vk_seal.specs.declared.secret.Secret.{Secret}
@@ -20,7 +19,7 @@ abbrev pub tape_by : ℕ → List ℕ → List ℕ → XTape
 tape_by mask first second = record { mask = mask; first_key = first; second_key = second }
 
 abbrev pub tape_line : List ℕ → Option XTape
-tape_line text = three_fields (codes "x") (decimal_of (modulus - 1)) (hex_of 32) (hex_of 32) tape_by text
+tape_line text = three_fields (codes "x") residue_of (hex_of 32) (hex_of 32) tape_by text
 
 -- the lanes of a seal and its end
 abbrev pub seal_lanes_at : List ℕ → ℕ → ℕ → Rest → Result (Seal × Rest) ℕ

@@ -1,5 +1,5 @@
 -- Secrets and seals: what a bidder keeps and what a bidder hands in.
-use Rattle.std.specs.Prelude.{ℕ, ◌^◌, ◌<◌, ◌≤◌, length, false}
+use Rattle.std.specs.Prelude.{◌^◌, ◌<◌, ◌≤◌, length, false}
 use Rattle.std.specs.List.{AllByRecursion}
 use Rattle.vk_residue.specs.Residue.{IsResidue}
 use Rattle.vk_commit.specs.Values.{AreBytes}

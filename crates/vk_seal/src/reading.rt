@@ -8,14 +8,11 @@ ghost use Rattle.vk_lines.specs.Forms.{many_at};
 ghost use Rattle.vk_lines.specs.Lines.{Reads, line_by, rest_of};
 ghost use Rattle.vk_lines.specs.declared.errors.ReadErr.TheVariants.{Failed};
 ghost use Rattle.vk_seal.specs.Reading.{com_line, tape_line, seal_at, secret_at};
-ghost use Rattle.vk_lines.specs.Tokens.{decimal_of};
-ghost use Rattle.vk_residue.specs.Residue.{modulus};
 
 use crate::secret::{Seal, Secret, XTape};
 use std::alloc::Global;
 use vk_io::Shelf;
-use vk_lines::{Lines, ReadErr, field, read_decimal, read_digests, read_hex32, read_tag};
-use vk_residue::{MODULUS, Residue};
+use vk_lines::{Lines, ReadErr, field, read_digests, read_hex32, read_residue, read_tag};
 use vk_seq::Seq;
 use vk_wire::WireCom;
 
@@ -196,7 +193,7 @@ fn tape_of(text: &[u8]) -> Option<XTape>
     ensures right { IfSome result IsXTape }
 {
     read_tag(text, b"x", 4)?;
-    let mask = residue_of(field(text, 1)?)?;
+    let mask = read_residue(field(text, 1)?)?;
     let first_key = read_hex32(field(text, 2)?)?;
     let second_key = read_hex32(field(text, 3)?)?;
     Some(XTape {
@@ -204,13 +201,4 @@ fn tape_of(text: &[u8]) -> Option<XTape>
         first_key,
         second_key,
     })
-}
-
-/// The residue whose canonical decimal the text is.
-fn residue_of(text: &[u8]) -> Option<Residue>
-    ensures { result ≡ decimal_of (modulus - 1) text.now }
-{
-    let number = read_decimal(text, MODULUS - 1)?;
-    let residue = Residue::new(number);
-    residue
 }
