@@ -1,4 +1,4 @@
-ghost use Rattle.std.specs.Prelude.{length, true, ◌≡◌, ◌<◌, ◌≤◌, ◌-◌, ◌^◌, ℕ, codes, IfSome, IfOk, IsErrOf};
+ghost use Rattle.std.specs.Prelude.{length, true, ◌≡◌, ◌≤◌, ◌-◌, IfSome, IfOk, IsErrOf};
 ghost use Rattle.std.specs.List.{All};
 ghost use Rattle.vk_io.specs.Faults.{Rose};
 ghost use Rattle.vk_commit.specs.Values.{AreBytes};
@@ -7,7 +7,7 @@ ghost use Rattle.vk_residue.specs.Residue.{IsResidue};
 ghost use Rattle.vk_lines.specs.Forms.{many_at};
 ghost use Rattle.vk_lines.specs.Lines.{Reads, line_by, rest_of};
 ghost use Rattle.vk_lines.specs.declared.errors.ReadErr.TheVariants.{Failed};
-ghost use Rattle.vk_board.specs.Values.{IsHead, IsSealLines, IsSealAfter, AreSeals, IsLaneLines};
+ghost use Rattle.vk_board.specs.Values.{IsHead, IsSealAfter, AreSeals, IsLaneLines};
 ghost use Rattle.vk_board.specs.Reading.{com_line, posted_line, seats_of, is_new_seat, seat_line, head_at, seal_at, seals_at, lane_at};
 
 use crate::board::{Head, LaneLines, SealLines};
