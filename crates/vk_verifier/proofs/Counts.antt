@@ -25,7 +25,7 @@ each_has lanes index before (seal ∷ seals) within each =
 pub seals_have : (front : Front) (index : ℕ) → IsFront front → index < front.head.lanes → All (λ seal. index < length seal.coms) front.seals
 seals_have front index is within = each_has front.head.lanes index [] front.seals within is.seals.each
 
-inputs_are : (front : Front) → (plan_of front).inputs ≡ front.head.seals
+pub inputs_are : (front : Front) → (plan_of front).inputs ≡ front.head.seals
 unfolding vickrey_plan
 inputs_are front = refl
 

@@ -1,2 +1,13 @@
 pub mod Counts
 pub mod LaneLoop
+pub mod Steps
+pub mod Winners
+pub mod Plans
+pub mod Fronts
+pub mod Many
+pub mod Lanes
+pub mod LaneLists
+pub mod Refusals
+pub mod Files
+pub mod Wholes
+pub mod Accepted

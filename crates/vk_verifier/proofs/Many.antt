@@ -1,0 +1,48 @@
+-- So many parts of a file one after another: the first of them, and those that were read before.
+use Rattle.std.proofs.Common.{◌≡◌, ℕ, zero, suc, ◌+◌, List, [], ◌∷◌, ◌++◌, length, Result, Ok, refl, sym, ap, ◌∙◌, append_assoc, append-nil, length-append, arith}
+use Rattle.std.specs.Prelude.{slice_index_or}
+use Rattle.std.proofs.lemmas.List.{get_or_at}
+use Rattle.vk_lines.specs.Lines.{Rest, ◌>>=◌}
+use Rattle.vk_lines.specs.Forms.{many_onto}
+use Rattle.vk_lines.proofs.Parts.{bind_ok, ok_same}
+
+module _ {X : Type 0} (read : List X → Rest → Result (X × Rest) ℕ) where
+  -- after the first part
+  pub many_step : (before : List X) (count : ℕ) (rest : Rest) (x : X) (next : Rest) → read before rest ≡ Ok (x, next)
+      → many_onto before (suc count) read rest ≡ many_onto (before ++ x ∷ []) count read next
+  unfolding many_onto
+  many_step before count rest x next first = ap (λ r. r >>= λ p. many_onto (before ++ p.0 ∷ []) count read p.1) first
+
+  pub many_first : (before : List X) (count : ℕ) (rest : Rest) (ys : List X) (after : Rest) → many_onto before (suc count) read rest ≡ Ok (ys, after)
+      → (x : X) × (next : Rest) × (read before rest ≡ Ok (x, next)) × (many_onto (before ++ x ∷ []) count read next ≡ Ok (ys, after))
+  unfolding many_onto
+  many_first before count rest ys after some =
+      let first = bind_ok (read before rest) (λ p. many_onto (before ++ p.0 ∷ []) count read p.1) (ys, after) some in
+      (first.0.0, first.0.1, first.1, first.2)
+
+  pub many_last : (before : List X) (rest : Rest) (ys : List X) (after : Rest) → many_onto before zero read rest ≡ Ok (ys, after) → rest ≡ after
+  unfolding many_onto
+  many_last before rest ys after some = ap (λ p. p.1) (ok_same (before, rest) (ys, after) some)
+
+  pub many_count : (before : List X) (count : ℕ) (rest : Rest) (ys : List X) (after : Rest) → many_onto before count read rest ≡ Ok (ys, after) → length ys ≡ length before + count
+  unfolding many_onto
+  many_count before zero rest ys after some = ap length (sym (ap (λ p. p.0) (ok_same (before, rest) (ys, after) some))) ∙ omega arith
+  many_count before (suc count) rest ys after some =
+      let first = bind_ok (read before rest) (λ p. many_onto (before ++ p.0 ∷ []) count read p.1) (ys, after) some in
+      omega (arith, many_count (before ++ first.0.0 ∷ []) count first.0.1 ys after first.2, length-append before (first.0.0 ∷ []))
+
+  -- what was read before stays in front
+  many_begins : (before : List X) (count : ℕ) (rest : Rest) (ys : List X) (after : Rest) → many_onto before count read rest ≡ Ok (ys, after) → (more : List X) × (ys ≡ before ++ more)
+  unfolding many_onto
+  many_begins before zero rest ys after some = ([], sym (ap (λ p. p.0) (ok_same (before, rest) (ys, after) some)) ∙ sym (append-nil before))
+  many_begins before (suc count) rest ys after some =
+      let first = bind_ok (read before rest) (λ p. many_onto (before ++ p.0 ∷ []) count read p.1) (ys, after) some in
+      let next = many_begins (before ++ first.0.0 ∷ []) count first.0.1 ys after first.2 in
+      (first.0.0 ∷ next.0, next.1 ∙ append_assoc before (first.0.0 ∷ []) next.0)
+
+  pub many_keeps : (before : List X) (x : X) (count : ℕ) (rest : Rest) (ys : List X) (after : Rest) (default : X) → many_onto (before ++ x ∷ []) count read rest ≡ Ok (ys, after)
+      → slice_index_or ys (length before) default ≡ x
+  many_keeps before x count rest ys after default some =
+      let begins = many_begins (before ++ x ∷ []) count rest ys after some in
+      ap (λ zs. slice_index_or zs (length before) default) (begins.1 ∙ append_assoc before (x ∷ []) begins.0)
+      ∙ get_or_at before x begins.0 default (length before) refl

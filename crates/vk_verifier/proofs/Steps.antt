@@ -1,0 +1,34 @@
+-- One test after another, for files: what each gave where all were passed.
+use Rattle.std.proofs.Common.{◌≡◌, ◌≢◌, ℕ, Result, Ok, Err, refl, ap}
+use Rattle.vk_row.specs.LaneTests.{◌>>=◌}
+use Rattle.vk_verifier.specs.declared.answers.Part.{Part}
+use Rattle.vk_verifier.specs.declared.answers.BoardVerdict.{BoardVerdict}
+use Rattle.vk_verifier.specs.Verdicts.{in_part}
+
+pub bind_ok : {A B E : Type 0} (r : Result A E) (f : A → Result B E) (y : B) → (r >>= f) ≡ Ok y → (x : A) × (r ≡ Ok x) × (f x ≡ Ok y)
+bind_ok (Ok x) f y h = (x, refl, h)
+bind_ok (Err e) f y h = cc
+
+pub bind_found : {A B E : Type 0} (r : Result A E) (f : A → Result B E) (x : A) → r ≡ Ok x → (r >>= f) ≡ f x
+bind_found r f x found = ap (λ q. q >>= f) found
+
+pub value_same : {A E : Type 0} (x y : A) → ◌≡◌ {A = Result A E} (Ok x) (Ok y) → x ≡ y
+value_same x y same = cc
+
+-- a fault that no step has is none of all
+pub bind_never : {A B E : Type 0} (r : Result A E) (f : A → Result B E) (fault : E) → r ≢ Err fault → ((x : A) → f x ≢ Err fault) → (r >>= f) ≢ Err fault
+bind_never (Ok x) f fault first later e = later x e
+bind_never (Err other) f fault first later e = let same : other ≡ fault = cc in first (ap (λ z. Err z) same)
+
+part_ok : {X : Type 0} (file : Part) (r : Result X ℕ) (x : X) → in_part file r ≡ Ok x → r ≡ Ok x
+part_ok file (Ok y) x h = ap (λ z. Ok z) (value_same y x h)
+part_ok file (Err line) x h = cc
+
+-- the same where the step is the reading of a part of a file
+pub read_ok : {X Y : Type 0} (file : Part) (r : Result X ℕ) (f : X → Result Y BoardVerdict) (y : Y) → (in_part file r >>= f) ≡ Ok y → (x : X) × (r ≡ Ok x) × (f x ≡ Ok y)
+read_ok file r f y h =
+    let step = bind_ok (in_part file r) f y h in
+    (step.0, part_ok file r step.0 step.1, step.2)
+
+pub read_found : {X Y : Type 0} (file : Part) (r : Result X ℕ) (f : X → Result Y BoardVerdict) (x : X) → r ≡ Ok x → (in_part file r >>= f) ≡ f x
+read_found file r f x found = ap (λ q. in_part file q >>= f) found

@@ -1,0 +1,5 @@
+use Rattle.vk_verifier.proofs.Accepted.{accepted_exactly}
+use Rattle.vk_verifier.proofs.laws.a_verdict_accepts_what_is_accepted.Goals as goal
+
+pub returns : goal.returns
+returns c = accepted_exactly
