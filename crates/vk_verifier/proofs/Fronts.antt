@@ -13,7 +13,8 @@ use Rattle.vk_verifier.specs.declared.answers.Part.TheVariants as part
 use Rattle.vk_verifier.specs.declared.answers.BoardVerdict.{BoardVerdict}
 use Rattle.vk_verifier.specs.declared.answers.BoardVerdict.TheVariants.{Price}
 use Rattle.vk_verifier.specs.declared.front.Front.{Front}
-use Rattle.vk_verifier.specs.Verdicts.{in_part, price_stands, position_of, front_at_position, front_of, front_at, IsFront}
+use Rattle.vk_board.specs.Published.{price_stands, position_of}
+use Rattle.vk_verifier.specs.Verdicts.{in_part, front_at_position, front_of, front_at, IsFront}
 use Rattle.vk_verifier.proofs.Steps.{bind_found, bind_ok, read_ok, read_found, value_same}
 use Rattle.vk_verifier.proofs.Winners.{seat_shown, seat_found}
 

@@ -14,7 +14,8 @@ use Rattle.vk_verifier.specs.declared.answers.Part.TheVariants as part
 use Rattle.vk_verifier.specs.declared.answers.BoardVerdict.{BoardVerdict}
 use Rattle.vk_verifier.specs.declared.answers.BoardVerdict.TheVariants.{Accepted, Price, Lanes}
 use Rattle.vk_verifier.specs.declared.front.Front.{Front}
-use Rattle.vk_verifier.specs.Verdicts.{in_part, price_stands, position_of, front_at_position, front_of, front_at, plan_of, case_of, later_wires, lane_verdict, lane_judged, lanes_judged, counted, ends_judged, judged}
+use Rattle.vk_board.specs.Published.{price_stands, position_of}
+use Rattle.vk_verifier.specs.Verdicts.{in_part, front_at_position, front_of, front_at, plan_of, case_of, later_wires, lane_verdict, lane_judged, lanes_judged, counted, ends_judged, judged}
 use Rattle.vk_verifier.proofs.Steps.{bind_never}
 
 part_never : {X : Type 0} (file : Part) (r : Result X ℕ) → in_part file r ≢ Err Accepted

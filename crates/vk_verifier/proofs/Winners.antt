@@ -8,7 +8,7 @@ use Rattle.vk_lines.specs.Forms.{EachAfter}
 use Rattle.vk_board.specs.declared.board.SealLines.{SealLines}
 use Rattle.vk_board.specs.Values.{IsSealAfter}
 use Rattle.vk_board.specs.Reading.{seats_of}
-use Rattle.vk_verifier.specs.Verdicts.{position_from}
+use Rattle.vk_board.specs.Published.{position_from}
 
 -- the seal at that index has the seat, and its place is counted from the place of the first
 abbrev pub HasSeat : ℕ → ℕ → List SealLines → ℕ → Type 0
