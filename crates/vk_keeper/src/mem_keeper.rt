@@ -1,9 +1,7 @@
-ghost use Rattle.std.specs.Prelude.{◌≡◌, ℕ, ◌≤◌, ◌++◌, ◌↔◌, [], ◌∷◌, Option, IfSome, IfOk, OnOk, OnErr, IsErrOf, IsTrue};
+ghost use Rattle.std.specs.Prelude.{◌≡◌, ◌≤◌, ◌++◌, ◌↔◌, [], ◌∷◌, IfSome, IfOk, IfErr, OnOk, OnErr, IsErr, IsErrOf, IsTrue};
 ghost use Rattle.std.specs.FinMap as map;
 ghost use Rattle.vk_io.specs.Faults.{Rose, fails_next, after_call};
-ghost use Rattle.vk_io.specs.Files.{Told};
 ghost use Rattle.vk_keeper.specs.Auctions.{IsAuction};
-ghost use Rattle.vk_keeper.specs.Ledgers.{Keeps};
 
 use crate::auction::Auction;
 use crate::errors::KeeperErr;
@@ -60,6 +58,19 @@ impl MemKeeper {
         self.calls.name(call)?;
         Ok(())
     }
+
+    /// Counts one call of the trait. Errs where it is one that is to fail, and changes no auction.
+    fn begin(&mut self) -> Result<(), KeeperErr>
+        ensures fails { IsErr result ↔ IsTrue (fails_next self.old.calls) }
+        ensures outside { IfErr result (λ refusal. refusal ≡ KeeperErr.Failed) }
+        ensures counted { self.new ≡ record self.old { calls = after_call self.old.calls } }
+        ensures later { self.old.calls.faults ≤ self.new.calls.faults }
+    {
+        if self.calls.count() {
+            return Err(KeeperErr::Failed);
+        }
+        Ok(())
+    }
 }
 
 impl Keeper for MemKeeper {
@@ -79,9 +90,7 @@ impl Keeper for MemKeeper {
         ensures later { self.old.calls.faults ≤ self.new.calls.faults }
         ensures failed { IsErrOf result KeeperErr.Failed → Rose self.old.calls.faults self.new.calls.faults }
     {
-        if self.calls.count() {
-            return Err(KeeperErr::Failed);
-        }
+        self.begin()?;
         let found = copy_of(self.alloc, &self.auctions, id)?;
         Ok(found)
     }
@@ -95,9 +104,7 @@ impl Keeper for MemKeeper {
         ensures later { self.old.calls.faults ≤ self.new.calls.faults }
         ensures failed { IsErrOf result KeeperErr.Failed → Rose self.old.calls.faults self.new.calls.faults }
     {
-        if self.calls.count() {
-            return Err(KeeperErr::Failed);
-        }
+        self.begin()?;
         keep(&mut self.auctions, auction)?;
         Ok(())
     }

@@ -1,6 +1,5 @@
-use Rattle.std.proofs.Common.{ap, ◌∙◌}
+use Rattle.std.proofs.Common.{sym, ap, subst, ◌∙◌}
 use Rattle.vk_keeper.specs.Kept.{AreKept, ledger_in}
-use Rattle.std.proofs.Common.{sym, subst}
 use Rattle.vk_keeper.proofs.Places.{put_at, push_auction, kept_set, kept_push}
 use Rattle.vk_keeper.proofs.kept.keep.Goals as goal
 
