@@ -1,0 +1,36 @@
+ghost use Rattle.std.specs.Prelude.{◌≡◌, ℕ, ◌≤◌, Option, IfSome, IfOk, IsErrOf};
+ghost use Rattle.std.specs.FinMap as map;
+ghost use Rattle.vk_io.specs.Faults.{Rose};
+ghost use Rattle.vk_io.specs.Files.{Told};
+ghost use Rattle.vk_keeper.specs.Auctions.{IsAuction};
+ghost use Rattle.vk_keeper.specs.Ledgers.{Ledger, Keeps};
+
+use crate::auction::Auction;
+use crate::errors::KeeperErr;
+
+/// Auctions under their ids. A keeper that tells its content has a `ledger`; of one that doesn't only
+/// which auctions it answers and its count are known. No call changes whether it tells.
+pub trait Keeper {
+    /// The auctions, where they are told.
+    ghost ledger: { Self → Option Ledger };
+
+    /// How many faults of the outside were met. It never falls.
+    ghost faults: { Self → ℕ };
+
+    /// The auction of that id. None where none is kept under it.
+    fn get(&mut self, id: &[u8; 16]) -> Result<Option<Auction>, KeeperErr>
+        ensures answer { IfSome (ledger self.old) (λ kept. IfOk result (λ found. found ≡ map.get kept id.now)) }
+        ensures id { IfOk result (λ found. IfSome found (λ auction. auction.id ≡ id.now)) }
+        ensures right { IfOk result (λ found. IfSome found IsAuction) }
+        ensures kept { ledger self.new ≡ ledger self.old }
+        ensures later { faults self.old ≤ faults self.new }
+        ensures failed { IsErrOf result KeeperErr.Failed → Rose (faults self.old) (faults self.new) };
+
+    /// Keeps the auction under its id, in place of the one that was kept there. Refused, the ledger is
+    /// as before.
+    fn put(&mut self, auction: Auction) -> Result<(), KeeperErr>
+        requires { IsAuction auction }
+        ensures put { Told (Keeps auction result) (ledger self.old) (ledger self.new) }
+        ensures later { faults self.old ≤ faults self.new }
+        ensures failed { IsErrOf result KeeperErr.Failed → Rose (faults self.old) (faults self.new) };
+}

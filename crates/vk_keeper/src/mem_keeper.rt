@@ -1,0 +1,111 @@
+ghost use Rattle.std.specs.Prelude.{◌≡◌, ◌≤◌, ◌++◌, ◌↔◌, [], ◌∷◌, IfSome, IfOk, IfErr, OnOk, OnErr, IsErr, IsErrOf, IsTrue};
+ghost use Rattle.std.specs.FinMap as map;
+ghost use Rattle.vk_io.specs.Faults.{Rose, fails_next, after_call};
+ghost use Rattle.vk_keeper.specs.Auctions.{IsAuction};
+
+use crate::auction::Auction;
+use crate::errors::KeeperErr;
+use crate::keeper::Keeper;
+use crate::kept::{copy_of, keep};
+use std::alloc::Global;
+use std::marker::Model;
+use vk_io::CallCount;
+use vk_residue::NoMemory;
+
+/// A keeper in memory, which tells its ledger. The calls of the trait are counted from 1 over its
+/// life, and those that [`MemKeeper::fail_at`] named fail and change no auction.
+#[derive(Drop)]
+pub struct MemKeeper {
+    auctions: Vec<Auction>,
+    calls: CallCount,
+    alloc: Global,
+}
+
+impl Model for MemKeeper {
+    ghost use Rattle.vk_keeper.specs.Memory.{MemoryLedger, ledger_code};
+
+    ghost Value = { MemoryLedger };
+
+    ghost coded = { ledger_code };
+
+    ghost use Rattle.vk_keeper.specs.Kept.{AreKept, ledger_in};
+
+    ghost view = { λ k. record { ledger = ledger_in k.auctions.items; calls = k.calls } };
+
+    ghost invariant = { λ k. AreKept k.auctions.items };
+}
+
+impl MemKeeper {
+    /// No auctions, and no call that is to fail. What is kept later is made with this allocator.
+    #[tactic(auto, unfolding(crate::specs::Kept::ledger_in))]
+    pub fn new(alloc: Global) -> MemKeeper
+        ensures { result ≡ record { ledger = map.empty; calls = record { made = 0; failing = []; faults = 0 } } }
+    {
+        MemKeeper {
+            auctions: Vec::new(alloc),
+            calls: CallCount::new(alloc),
+            alloc,
+        }
+    }
+
+    /// Has the call of that number fail, counted from 1 over the keeper's life. Errs for want of
+    /// memory alone, and then nothing changed.
+    pub fn fail_at(&mut self, call: u64) -> Result<(), NoMemory>
+        ensures named { OnOk result
+            (self.new ≡ record self.old { calls = record self.old.calls { failing = self.old.calls.failing ++ call ∷ [] } }) }
+        ensures refused { OnErr result (self.new ≡ self.old) }
+    {
+        self.calls.name(call)?;
+        Ok(())
+    }
+
+    /// Counts one call of the trait. Errs where it is one that is to fail, and changes no auction.
+    fn begin(&mut self) -> Result<(), KeeperErr>
+        ensures fails { IsErr result ↔ IsTrue (fails_next self.old.calls) }
+        ensures outside { IfErr result (λ refusal. refusal ≡ KeeperErr.Failed) }
+        ensures counted { self.new ≡ record self.old { calls = after_call self.old.calls } }
+        ensures later { self.old.calls.faults ≤ self.new.calls.faults }
+    {
+        if self.calls.count() {
+            return Err(KeeperErr::Failed);
+        }
+        Ok(())
+    }
+}
+
+impl Keeper for MemKeeper {
+    ghost use Rattle.std.specs.Prelude.{Some};
+
+    ghost ledger = { λ k. Some k.ledger };
+
+    ghost faults = { λ k. k.calls.faults };
+
+    fn get(&mut self, id: &[u8; 16]) -> Result<Option<Auction>, KeeperErr>
+        ensures fails { IsErrOf result KeeperErr.Failed ↔ IsTrue (fails_next self.old.calls) }
+        ensures answer { IfOk result (λ found. found ≡ map.get self.old.ledger id.now) }
+        ensures id { IfOk result (λ found. IfSome found (λ auction. auction.id ≡ id.now)) }
+        ensures right { IfOk result (λ found. IfSome found IsAuction) }
+        ensures kept { self.new.ledger ≡ self.old.ledger }
+        ensures counted { self.new.calls ≡ after_call self.old.calls }
+        ensures later { self.old.calls.faults ≤ self.new.calls.faults }
+        ensures failed { IsErrOf result KeeperErr.Failed → Rose self.old.calls.faults self.new.calls.faults }
+    {
+        self.begin()?;
+        let found = copy_of(self.alloc, &self.auctions, id)?;
+        Ok(found)
+    }
+
+    fn put(&mut self, auction: Auction) -> Result<(), KeeperErr>
+        requires { IsAuction auction }
+        ensures fails { IsErrOf result KeeperErr.Failed ↔ IsTrue (fails_next self.old.calls) }
+        ensures put { OnOk result (self.new.ledger ≡ map.insert self.old.ledger auction.id auction) }
+        ensures refused { OnErr result (self.new.ledger ≡ self.old.ledger) }
+        ensures counted { self.new.calls ≡ after_call self.old.calls }
+        ensures later { self.old.calls.faults ≤ self.new.calls.faults }
+        ensures failed { IsErrOf result KeeperErr.Failed → Rose self.old.calls.faults self.new.calls.faults }
+    {
+        self.begin()?;
+        keep(&mut self.auctions, auction)?;
+        Ok(())
+    }
+}
