@@ -1,7 +1,7 @@
 -- A file is reported on exactly where it is the text of a board whose price and winner may stand.
-use Rattle.std.proofs.Common.{◌≡◌, ℕ, zero, suc, ◌+◌, ◌-◌, ◌^◌, ◌<◌, ◌≤◌, ◌==◌, ◌&&◌, ◌||◌, nat_lt, not, Bool, true, false, if◌then◌else◌, List, [], ◌∷◌, length, Option, Some, None, Result, Ok, Err, refl, ap, sym, ◌∙◌, arith, subst}
+use Rattle.std.proofs.Common.{◌≡◌, ℕ, ◌^◌, ◌<◌, ◌≤◌, ◌==◌, ◌||◌, nat_lt, not, Bool, true, false, if◌then◌else◌, List, length, Option, Some, None, Result, Ok, Err, refl, ap, sym, ◌∙◌, arith, subst}
 use Rattle.std.specs.FinMap.{get}
-use Rattle.std.proofs.lemmas.Bool.{and_parts, eqb-true}
+use Rattle.std.proofs.lemmas.Bool.{and_parts}
 use Rattle.std.proofs.lemmas.Bool.Decides.{nat_tests}
 use Rattle.vk_io.specs.Files.{Files}
 use Rattle.vk_lines.specs.Lines.{Rest, end_at}
@@ -10,16 +10,16 @@ use Rattle.vk_lines.proofs.Parts.{bind_ok, ok_same}
 use Rattle.vk_board.specs.declared.board.Head.{Head}
 use Rattle.vk_board.specs.declared.board.SealLines.{SealLines}
 use Rattle.vk_board.specs.declared.board.LaneLines.{LaneLines}
-use Rattle.vk_board.specs.Values.{Board, IsBoard}
-use Rattle.vk_board.specs.Reading.{head_at, seals_at, lanes_at, board_at, seats_of}
+use Rattle.vk_board.specs.Values.{Board}
+use Rattle.vk_board.specs.Reading.{head_at, seals_at, lanes_at, board_at}
 use Rattle.vk_board.specs.Published.{price_stands, position_of}
 use Rattle.vk_board.proofs.Boards.{board_is_whole, board_with}
 use Rattle.vk_report.specs.declared.report.Report.{Report}
 use Rattle.vk_report.specs.declared.report.ReportErr.{ReportErr}
-use Rattle.vk_report.specs.declared.report.ReportErr.TheVariants.{Price, Missing, TooLong}
+use Rattle.vk_report.specs.declared.report.ReportErr.TheVariants.{Price, TooLong}
 use Rattle.vk_report.specs.Reports.{◌>>=◌, in_board, passed, lanes_passed, report_with, with_winner, report_of, shape_of, front_at, report_at, begun, report_on}
 use Rattle.vk_report.proofs.Winner.{place_shown, place_found}
-use Rattle.vk_report.specs.Meaning.{auction_shape, Publishes, IsReportOn}
+use Rattle.vk_report.specs.Meaning.{auction_shape, IsReportOn}
 
 -- ---- results one after another
 
