@@ -1,7 +1,6 @@
 ghost use Rattle.std.specs.Prelude.{◌≡◌};
 ghost use Rattle.vk_report.specs.declared.report.ReportErr.TheVariants.{NoMemory as OutOfMemory};
 
-use std::alloc::AllocError;
 use vk_board::Head;
 use vk_residue::NoMemory;
 use vk_seq::Seq;
@@ -41,14 +40,6 @@ impl From<NoMemory> for ReportErr {
     ghost from_gives = { λ _ e. e ≡ OutOfMemory };
 
     fn from(_refused: NoMemory) -> ReportErr {
-        ReportErr::NoMemory
-    }
-}
-
-impl From<AllocError> for ReportErr {
-    ghost from_gives = { λ _ e. e ≡ OutOfMemory };
-
-    fn from(_refused: AllocError) -> ReportErr {
         ReportErr::NoMemory
     }
 }
