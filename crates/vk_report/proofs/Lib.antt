@@ -1,0 +1,3 @@
+pub mod Lanes
+pub mod Winner
+pub mod Meaning

@@ -1,0 +1,244 @@
+-- A file is reported on exactly where it is the text of a board whose price and winner may stand.
+use Rattle.std.proofs.Common.{◌≡◌, ℕ, ◌^◌, ◌<◌, ◌≤◌, ◌==◌, ◌||◌, nat_lt, not, Bool, true, false, if◌then◌else◌, List, length, Option, Some, None, Result, Ok, Err, refl, ap, sym, ◌∙◌, arith, subst}
+use Rattle.std.specs.FinMap.{get}
+use Rattle.std.proofs.lemmas.Bool.{and_parts}
+use Rattle.std.proofs.lemmas.Bool.Decides.{nat_tests}
+use Rattle.vk_io.specs.Files.{Files}
+use Rattle.vk_lines.specs.Lines.{Rest, end_at}
+use Rattle.vk_lines.specs.Lines as lines
+use Rattle.vk_lines.proofs.Parts.{bind_ok, ok_same}
+use Rattle.vk_board.specs.declared.board.Head.{Head}
+use Rattle.vk_board.specs.declared.board.SealLines.{SealLines}
+use Rattle.vk_board.specs.declared.board.LaneLines.{LaneLines}
+use Rattle.vk_board.specs.Values.{Board}
+use Rattle.vk_board.specs.Reading.{head_at, seals_at, lanes_at, board_at}
+use Rattle.vk_board.specs.Published.{price_stands, position_of}
+use Rattle.vk_board.proofs.Boards.{board_is_whole, board_with}
+use Rattle.vk_report.specs.declared.report.Report.{Report}
+use Rattle.vk_report.specs.declared.report.ReportErr.{ReportErr}
+use Rattle.vk_report.specs.declared.report.ReportErr.TheVariants.{Price, TooLong}
+use Rattle.vk_report.specs.Reports.{◌>>=◌, in_board, passed, lanes_passed, report_with, with_winner, report_of, shape_of, front_at, report_at, begun, report_on}
+use Rattle.vk_report.proofs.Winner.{place_shown, place_found}
+use Rattle.vk_report.specs.Meaning.{auction_shape, IsReportOn}
+
+-- ---- results one after another
+
+then_ok : {A B : Type 0} (r : Result A ReportErr) (f : A → Result B ReportErr) (y : B) → (r >>= f) ≡ Ok y → (x : A) × (r ≡ Ok x) × (f x ≡ Ok y)
+then_ok (Ok x) f y h = (x, refl, h)
+then_ok (Err fault) f y h = cc
+
+given : {X : Type 0} (x y : X) → ◌≡◌ {A = Result X ReportErr} (Ok x) (Ok y) → x ≡ y
+given x y same = cc
+
+given_both : {X Y : Type 0} (x z : X) (y w : Y) → ◌≡◌ {A = Result (X × Y) ReportErr} (Ok (x, y)) (Ok (z, w)) → (x ≡ z) × (y ≡ w)
+given_both x z y w same = let pair = given (x, y) (z, w) same in (ap (λ p. p.0) pair, ap (λ p. p.1) pair)
+
+in_ok : {X : Type 0} (r : Result X ℕ) (x : X) → in_board r ≡ Ok x → r ≡ Ok x
+in_ok (Ok y) x h = ap (λ z. Ok z) (given y x h)
+in_ok (Err line) x h = cc
+
+passed_ok : {X : Type 0} (r : Result (X × Rest) ℕ) (done : Unit {0}) (after : Rest) → passed r ≡ Ok (done, after) → (x : X) × (r ≡ Ok (x, after))
+passed_ok (Ok read) done after h = (read.0, ap (λ p. Ok (read.0, p.1)) (ok_same (tt, read.1) (done, after) h))
+passed_ok (Err line) done after h = cc
+
+-- ---- the price
+
+price_shown : (head : Head) → price_stands head ≡ true → (head.price < 2 ^ head.width) × (head.seals ≡ 1 → head.price ≡ 0)
+price_shown head stands =
+    let parts = and_parts (nat_lt head.price (2 ^ head.width)) (not (head.seals == 1) || head.price == 0) stands in
+    (grind (arith, nat_tests, parts.0), λ one. grind (arith, nat_tests, parts.1, one))
+
+price_found : (head : Head) → head.price < 2 ^ head.width → (head.seals ≡ 1 → head.price ≡ 0) → price_stands head ≡ true
+price_found head within alone = grind (arith, nat_tests, within, alone)
+
+-- ---- what is read before the first lane
+
+record IsFrontOf (rest : Rest) (report : Report) (after : Rest) : Type 0 where
+  pub head : Head
+  pub middle : Rest
+  pub seals : List SealLines
+  pub head_is : head_at rest ≡ Ok (head, middle)
+  pub seals_are : seals_at head middle ≡ Ok (seals, after)
+  pub price : price_stands head ≡ true
+  pub place : ℕ
+  pub winner : position_of head.winner seals ≡ Some place
+  pub report_is : report ≡ report_with head seals
+
+tested : (stands : Bool) (winner : Option ℕ) (made report : Report) → (if stands then with_winner made winner else Err Price) ≡ Ok report
+    → (stands ≡ true) × (place : ℕ) × (winner ≡ Some place) × (report ≡ made)
+tested true (Some place) made report some = (refl, place, refl, sym (given made report some))
+tested true None made report some = cc
+tested false winner made report some = cc
+
+report_shown : (head : Head) (seals : List SealLines) (report : Report) → report_of head seals ≡ Ok report
+    → (price_stands head ≡ true) × (place : ℕ) × (position_of head.winner seals ≡ Some place) × (report ≡ report_with head seals)
+unfolding report_of
+report_shown head seals report some = tested (price_stands head) (position_of head.winner seals) (report_with head seals) report some
+
+front_from : (rest middle between after : Rest) (head : Head) (seals : List SealLines) (made report : Report) → head_at rest ≡ Ok (head, middle) → seals_at head middle ≡ Ok (seals, between)
+    → report_of head seals ≡ Ok made → ◌≡◌ {A = Result (Report × Rest) ReportErr} (Ok (made, between)) (Ok (report, after)) → IsFrontOf rest report after
+front_from rest middle between after head seals made report head_is seals_are made_is same =
+    let is = report_shown head seals made made_is in
+    let both = given_both made report between after same in
+    record {
+      head = head;
+      middle = middle;
+      seals = seals;
+      head_is = head_is;
+      seals_are = seals_are ∙ ap (λ r. Ok (seals, r)) both.1;
+      price = is.0;
+      place = is.1;
+      winner = is.2;
+      report_is = sym both.0 ∙ is.3;
+    }
+
+front_shown : (rest : Rest) (report : Report) (after : Rest) → front_at rest ≡ Ok (report, after) → IsFrontOf rest report after
+unfolding front_at
+front_shown rest report after some =
+    let head = then_ok (in_board (head_at rest)) (λ head. in_board (seals_at head.0 head.1) >>= λ seals. report_of head.0 seals.0 >>= λ made. Ok (made, seals.1)) (report, after) some in
+    let seals = then_ok (in_board (seals_at head.0.0 head.0.1)) (λ seals. report_of head.0.0 seals.0 >>= λ made. Ok (made, seals.1)) (report, after) head.2 in
+    let made = then_ok (report_of head.0.0 seals.0.0) (λ made. Ok (made, seals.0.1)) (report, after) seals.2 in
+    front_from rest head.0.1 seals.0.1 after head.0.0 seals.0.0 made.0 report (in_ok (head_at rest) head.0 head.1) (in_ok (seals_at head.0.0 head.0.1) seals.0 seals.1) made.1 made.2
+
+-- ---- the parts of a board, and the board
+
+record AreParts (rest : Rest) (head : Head) (seals : List SealLines) (lanes : List LaneLines) (over : Rest) : Type 0 where
+  pub after_head : Rest
+  pub after_seals : Rest
+  pub after_lanes : Rest
+  pub head_is : head_at rest ≡ Ok (head, after_head)
+  pub seals_are : seals_at head after_head ≡ Ok (seals, after_seals)
+  pub lanes_are : lanes_at auction_shape head after_seals ≡ Ok (lanes, after_lanes)
+  pub end_is : end_at after_lanes ≡ Ok (tt, over)
+
+board_joined : (rest : Rest) (head : Head) (seals : List SealLines) (lanes : List LaneLines) (over : Rest) → AreParts rest head seals lanes over
+    → board_at auction_shape rest ≡ Ok (board_with head seals lanes, over)
+unfolding board_at
+board_joined rest head seals lanes over are = rw (are.head_is, are.seals_are, are.lanes_are, are.end_is) refl
+
+parts_of : (rest over last : Rest) (head : Head) (seals : List SealLines) (lanes : List LaneLines) (board : Board) → AreParts rest head seals lanes last
+    → ◌≡◌ {A = Result (Board × Rest) ℕ} (Ok (board_with head seals lanes, last)) (Ok (board, over)) → AreParts rest board.head board.seals board.lanes over
+parts_of rest over last head seals lanes board are same =
+    let P : Board × Rest → Type 0 = λ p. AreParts rest p.0.head p.0.seals p.0.lanes p.1 in
+    subst P (ok_same (board_with head seals lanes, last) (board, over) same) are
+
+board_parts : (rest : Rest) (board : Board) (over : Rest) → board_at auction_shape rest ≡ Ok (board, over) → AreParts rest board.head board.seals board.lanes over
+unfolding board_at
+board_parts rest board over some =
+    let head = bind_ok (head_at rest) (λ head. lines.◌>>=◌ (seals_at head.0 head.1) (λ seals. lines.◌>>=◌ (lanes_at auction_shape head.0 seals.1) (λ lanes. lines.◌>>=◌ (end_at lanes.1) (λ last. Ok (board_with head.0 seals.0 lanes.0, last.1))))) (board, over) some in
+    let seals = bind_ok (seals_at head.0.0 head.0.1) (λ seals. lines.◌>>=◌ (lanes_at auction_shape head.0.0 seals.1) (λ lanes. lines.◌>>=◌ (end_at lanes.1) (λ last. Ok (board_with head.0.0 seals.0 lanes.0, last.1)))) (board, over) head.2 in
+    let lanes = bind_ok (lanes_at auction_shape head.0.0 seals.0.1) (λ lanes. lines.◌>>=◌ (end_at lanes.1) (λ last. Ok (board_with head.0.0 seals.0.0 lanes.0, last.1))) (board, over) seals.2 in
+    let last = bind_ok (end_at lanes.0.1) (λ last. Ok (board_with head.0.0 seals.0.0 lanes.0.0, last.1)) (board, over) lanes.2 in
+    parts_of rest over last.0.1 head.0.0 seals.0.0 lanes.0.0 board (record {
+      after_head = head.0.1;
+      after_seals = seals.0.1;
+      after_lanes = lanes.0.1;
+      head_is = head.1;
+      seals_are = seals.1;
+      lanes_are = lanes.1;
+      end_is = last.1;
+    }) last.2
+
+-- ---- the report and the board
+
+report_joined : (rest : Rest) (head : Head) (seals : List SealLines) (lanes : List LaneLines) (over : Rest) (place : ℕ) → AreParts rest head seals lanes over
+    → price_stands head ≡ true → position_of head.winner seals ≡ Some place → report_at rest ≡ Ok (report_with head seals)
+unfolding report_at front_at report_of
+report_joined rest head seals lanes over place are price winner =
+    rw (are.head_is, are.seals_are, price, winner, are.lanes_are, are.end_is) refl
+
+-- a report, and the board that it is of
+record IsReportOfBoard (rest : Rest) (report : Report) : Type 0 where
+  pub board : Board
+  pub over : Rest
+  pub board_is : board_at auction_shape rest ≡ Ok (board, over)
+  pub price : price_stands board.head ≡ true
+  pub place : ℕ
+  pub winner : position_of board.head.winner board.seals ≡ Some place
+  pub report_is : report ≡ report_with board.head board.seals
+
+board_from : (rest middle after over : Rest) (made report : Report) (lanes : List LaneLines) → IsFrontOf rest made middle → lanes_at (λ _. shape_of made) made.head middle ≡ Ok (lanes, after)
+    → end_at after ≡ Ok (tt, over) → made ≡ report → IsReportOfBoard rest report
+board_from rest middle after over made report lanes is lanes_are end_is same =
+    let P : Report → Type 0 = λ r. lanes_at (λ _. shape_of r) r.head middle ≡ Ok (lanes, after) in
+    record {
+      board = board_with is.head is.seals lanes;
+      over = over;
+      board_is = board_joined rest is.head is.seals lanes over (record {
+        after_head = is.middle;
+        after_seals = middle;
+        after_lanes = after;
+        head_is = is.head_is;
+        seals_are = is.seals_are;
+        lanes_are = subst P is.report_is lanes_are;
+        end_is = end_is;
+      });
+      price = is.price;
+      place = is.place;
+      winner = is.winner;
+      report_is = sym same ∙ is.report_is;
+    }
+
+board_shown : (rest : Rest) (report : Report) → report_at rest ≡ Ok report → IsReportOfBoard rest report
+unfolding report_at
+board_shown rest report some =
+    let front = then_ok (front_at rest) (λ front. in_board (lanes_passed front.0 front.1) >>= λ lanes. in_board (end_at lanes.1) >>= λ over. Ok front.0) report some in
+    let lanes = then_ok (in_board (lanes_passed front.0.0 front.0.1)) (λ lanes. in_board (end_at lanes.1) >>= λ over. Ok front.0.0) report front.2 in
+    let over = then_ok (in_board (end_at lanes.0.1)) (λ over. Ok front.0.0) report lanes.2 in
+    let read = passed_ok (lanes_at (λ _. shape_of front.0.0) front.0.0.head front.0.1) lanes.0.0 lanes.0.1 (in_ok (lanes_passed front.0.0 front.0.1) lanes.0 lanes.1) in
+    board_from rest front.0.1 lanes.0.1 over.0.1 front.0.0 report read.0 (front_shown rest front.0.0 front.0.1 front.1) read.1 (in_ok (end_at lanes.0.1) over.0 over.1) (given front.0.0 report over.2)
+
+-- ---- files
+
+begun_by : (test : Bool) (bytes : List ℕ) (rest : Rest) → nat_lt (2 ^ 30) (length bytes) ≡ test
+    → ◌≡◌ {A = Result Rest ReportErr} (if test then Err TooLong else Ok (record { taken = 0; left = bytes })) (Ok rest)
+    → (length bytes ≤ 2 ^ 30) × (record { taken = 0; left = bytes } ≡ rest)
+begun_by true bytes rest is some = cc
+begun_by false bytes rest is some = (grind (arith, nat_tests, is), given (record { taken = 0; left = bytes }) rest some)
+
+begun_shown : (told : Option (List ℕ)) (rest : Rest) → begun told ≡ Ok rest
+    → (bytes : List ℕ) × (told ≡ Some bytes) × (length bytes ≤ 2 ^ 30) × (record { taken = 0; left = bytes } ≡ rest)
+begun_shown None rest some = cc
+begun_shown (Some bytes) rest some = let is = begun_by (nat_lt (2 ^ 30) (length bytes)) bytes rest refl some in (bytes, refl, is.0, is.1)
+
+begun_found : (bytes : List ℕ) → length bytes ≤ 2 ^ 30 → begun (Some bytes) ≡ Ok (record { taken = 0; left = bytes })
+begun_found bytes short = let no : nat_lt (2 ^ 30) (length bytes) ≡ false = grind (arith, nat_tests, short) in rw no refl
+
+pub reported : (files : Files) (name : List ℕ) (report : Report) → report_on files name ≡ Ok report → IsReportOn files name report
+unfolding report_on
+reported files name report some =
+    let start = then_ok (begun (get files name)) report_at report some in
+    let held = begun_shown (get files name) start.0 start.1 in
+    let rest : Rest = record { taken = 0; left = held.0 } in
+    let is = board_shown rest report (ap report_at held.3 ∙ start.2) in
+    let whole = (board_is_whole auction_shape).shown rest is.board is.over is.board_is in
+    let price = price_shown is.board.head is.price in
+    record {
+      file = held.0;
+      held = held.1;
+      short = held.2;
+      publishes = record {
+        board = is.board;
+        text = whole.1;
+        is_board = whole.0;
+        price = price.0;
+        alone = price.1;
+        winner = place_shown is.board.head.winner 1 is.place is.board.seals is.winner;
+        report_is = is.report_is;
+      };
+    }
+
+pub is_reported : (files : Files) (name : List ℕ) (report : Report) → IsReportOn files name report → report_on files name ≡ Ok report
+unfolding report_on
+is_reported files name report is =
+    let publishes = is.publishes in
+    let board : Board = publishes.board in
+    let rest : Rest = record { taken = 0; left = is.file } in
+    let read = (board_is_whole auction_shape).found rest board publishes.is_board publishes.text in
+    let parts = board_parts rest board read.0 read.1 in
+    let price = price_found board.head publishes.price publishes.alone in
+    let winner = place_found board.head.winner 1 board.seals publishes.winner in
+    ap (λ told. begun told >>= report_at) is.held
+    ∙ ap (λ begins. begins >>= report_at) (begun_found is.file is.short)
+    ∙ report_joined rest board.head board.seals board.lanes read.0 winner.0 parts price winner.1
+    ∙ ap (λ made. Ok made) (sym publishes.report_is)

@@ -1,0 +1,141 @@
+-- What is reported of a board's file, and the text of a report.
+use Rattle.std.specs.Prelude.{◌≡◌, ℕ, ◌-◌, ◌*◌, ◌^◌, nat_lt, true, if◌then◌else◌, List, [], ◌∷◌, ◌++◌, length, Contains, codes, decimal, Option, Some, None, Result, Ok, Err}
+use Rattle.std.specs.List.{flat_map}
+use Rattle.std.specs.FinMap.{get}
+use Rattle.vk_io.specs.Files.{Files}
+use Rattle.vk_lines.specs.Forms.{line, spaced}
+use Rattle.vk_lines.specs.Lines.{Rest, end_at}
+use Rattle.vk_lines.specs.Tokens.{hex_text}
+use Rattle.vk_board.specs.declared.board.Head.{Head}
+use Rattle.vk_board.specs.declared.board.SealLines.{SealLines}
+use Rattle.vk_board.specs.Values.{IsHead, Shape}
+use Rattle.vk_board.specs.Reading.{head_at, seals_at, lanes_at, seats_of}
+use Rattle.vk_board.specs.Published.{price_stands, position_of}
+use Rattle.vk_vickrey.specs.VickreyPlans.{wire_count, row_count}
+use Rattle.vk_report.specs.declared.report.Report.{Report}
+use Rattle.vk_report.specs.declared.report.ReportErr.{ReportErr}
+use Rattle.vk_report.specs.declared.report.ReportErr.TheVariants.{Missing, TooLong, Malformed, Price, Winner, Failed, NoMemory}
+
+-- what is answered is what the definition gives: a value, or the first fault. After a failure of the
+-- outside or want of memory nothing is said
+abbrev pub Gives : {T X : Type 0} → (T → X) → Result T ReportErr → Result X ReportErr → Type 0
+Gives value (Ok x) expected = expected ≡ Ok (value x)
+Gives value (Err Missing) expected = expected ≡ Err Missing
+Gives value (Err TooLong) expected = expected ≡ Err TooLong
+Gives value (Err (Malformed line)) expected = expected ≡ Err (Malformed line)
+Gives value (Err Price) expected = expected ≡ Err Price
+Gives value (Err Winner) expected = expected ≡ Err Winner
+Gives value (Err Failed) expected = Unit {0}
+Gives value (Err NoMemory) expected = Unit {0}
+
+-- one test after another: the first that fails is the answer
+infixl 10 ◌>>=◌
+abbrev pub ◌>>=◌ : {A B : Type 0} → Result A ReportErr → (A → Result B ReportErr) → Result B ReportErr
+Ok x >>= f = f x
+Err fault >>= f = Err fault
+
+-- a fault line of the board is the fault
+abbrev pub in_board : {X : Type 0} → Result X ℕ → Result X ReportErr
+in_board (Ok x) = Ok x
+in_board (Err line) = Err (Malformed line)
+
+-- ---- before the first lane
+
+-- what a board with this head and these seals publishes; wires and rows are those of one lane
+abbrev pub report_with : Head → List SealLines → Report
+report_with head seals = record { head = head; seats = seats_of seals; wires = wire_count head.seals head.width; rows = row_count head.seals }
+
+-- the report, where the winner has a place among the seals
+abbrev pub with_winner : Report → Option ℕ → Result Report ReportErr
+with_winner report None = Err Winner
+with_winner report (Some place) = Ok report
+
+-- the price is tested first, then the winner
+unfoldable pub report_of : Head → List SealLines → Result Report ReportErr
+report_of head seals = if price_stands head then with_winner (report_with head seals) (position_of head.winner seals) else Err Price
+
+-- what stands on a board before its first lane
+unfoldable pub front_at : Rest → Result (Report × Rest) ReportErr
+front_at rest = do
+  head ← in_board (head_at rest)
+  seals ← in_board (seals_at head.0 head.1)
+  report ← report_of head.0 seals.0
+  Ok (report, seals.1)
+
+-- a report that was made: its price and its winner stand, and its numbers are those of its head
+pub record IsReport (report : Report) : Type 0 where
+  pub head : IsHead report.head
+  pub price : price_stands report.head ≡ true
+  pub winner : Contains report.seats report.head.winner
+  pub seats : length report.seats ≡ report.head.seals
+  pub wires : report.wires ≡ wire_count report.head.seals report.head.width
+  pub rows : report.rows ≡ row_count report.head.seals
+
+-- ---- the lanes and the end
+
+-- how many wires after the inputs, and how many rows, each lane has
+abbrev pub shape_of : Report → Shape
+shape_of report = record { wires = report.wires - report.head.seals; rows = report.rows }
+
+-- what is read is not kept
+abbrev pub passed : {X : Type 0} → Result (X × Rest) ℕ → Result (Unit {0} × Rest) ℕ
+passed (Ok read) = Ok (tt, read.1)
+passed (Err line) = Err line
+
+-- what is left after the lanes
+abbrev pub lanes_passed : Report → Rest → Result (Unit {0} × Rest) ℕ
+lanes_passed report rest = passed (lanes_at (λ _. shape_of report) report.head rest)
+
+-- a board, from its first line to its end
+unfoldable pub report_at : Rest → Result Report ReportErr
+report_at rest = do
+  front ← front_at rest
+  lanes ← in_board (lanes_passed front.0 front.1)
+  over ← in_board (end_at lanes.1)
+  Ok front.0
+
+-- ---- files on a shelf
+
+-- a file from its first line on, where it is held and has at most 2^30 bytes
+abbrev pub begun : Option (List ℕ) → Result Rest ReportErr
+begun None = Err Missing
+begun (Some bytes) = if nat_lt (2 ^ 30) (length bytes) then Err TooLong else Ok (record { taken = 0; left = bytes })
+
+-- the report of the named file, or its first fault
+unfoldable pub report_on : Files → List ℕ → Result Report ReportErr
+report_on files name = do
+  rest ← begun (get files name)
+  report_at rest
+
+-- ---- the text of a report
+
+-- two commitments to each wire of each lane
+unfoldable pub commitment_count : Report → ℕ
+commitment_count report = 2 * report.wires * report.head.lanes
+
+-- what the head says
+unfoldable pub head_lines : Head → List ℕ
+head_lines head =
+    line (spaced (codes "auction" ∷ hex_text head.auction ∷ []))
+    ++ (line (spaced (codes "width" ∷ decimal head.width ∷ []))
+    ++ (line (spaced (codes "lanes" ∷ decimal head.lanes ∷ []))
+    ++ (line (spaced (codes "seals" ∷ decimal head.seals ∷ []))
+    ++ (line (spaced (codes "winner" ∷ decimal head.winner ∷ []))
+    ++ line (spaced (codes "price" ∷ decimal head.price ∷ []))))))
+
+abbrev pub seat_text : ℕ → List ℕ
+seat_text seat = spaced (codes "seat" ∷ decimal seat ∷ [])
+
+-- how many wires and rows each lane has, and how many commitments all lanes
+unfoldable pub count_lines : ℕ → ℕ → ℕ → List ℕ
+count_lines wires rows commitments =
+    line (spaced (codes "wires" ∷ decimal wires ∷ []))
+    ++ (line (spaced (codes "rows" ∷ decimal rows ∷ []))
+    ++ line (spaced (codes "commitments" ∷ decimal commitments ∷ [])))
+
+unfoldable pub report_text : Report → List ℕ
+report_text report =
+    head_lines report.head
+    ++ (flat_map (λ seat. line (seat_text seat)) report.seats
+    ++ (count_lines report.wires report.rows (commitment_count report)
+    ++ line (codes "end")))

@@ -1,0 +1,45 @@
+ghost use Rattle.std.specs.Prelude.{◌≡◌};
+ghost use Rattle.vk_report.specs.declared.report.ReportErr.TheVariants.{NoMemory as OutOfMemory};
+
+use vk_board::Head;
+use vk_residue::NoMemory;
+use vk_seq::Seq;
+
+/// What a board publishes.
+#[derive(Debug, Drop)]
+pub struct Report {
+    pub head: Head,
+    /// The seat of each seal, in the order of the board.
+    pub seats: Seq<u16>,
+    /// How many wires each lane has, the inputs included.
+    pub wires: u32,
+    /// How many rows each lane has.
+    pub rows: u32,
+}
+
+/// Why no report was made: the first fault of the file, or a failure.
+#[derive(Clone, Copy, Debug, PartialEq, Eq)]
+pub enum ReportErr {
+    /// The file isn't held.
+    Missing,
+    /// The file has more than 2^30 bytes.
+    TooLong,
+    /// The number of the first line, from 1, that isn't what its place demands.
+    Malformed { line: u64 },
+    /// The price isn't below 2^width, or there is one seal and the price isn't 0.
+    Price,
+    /// No seal has the winner's seat.
+    Winner,
+    /// The outside failed. The shelf's count of faults rose in this call.
+    Failed,
+    /// Want of memory.
+    NoMemory,
+}
+
+impl From<NoMemory> for ReportErr {
+    ghost from_gives = { λ _ e. e ≡ OutOfMemory };
+
+    fn from(_refused: NoMemory) -> ReportErr {
+        ReportErr::NoMemory
+    }
+}

@@ -1,0 +1,109 @@
+// The report of the smallest board, and the faults of boards that are refused.
+use crate::{ReportErr, read_report, report_text};
+use std::alloc::Global;
+use std::test::Fail;
+use vk_io::MemShelf;
+
+/// The text of the smallest board, with any digests.
+fn smallest() -> &'static [u8] {
+    b"vickrey-board 1\n\
+auction 000102030405060708090a0b0c0d0e0f\n\
+width 1\n\
+lanes 1\n\
+seals 1\n\
+winner 7\n\
+price 0\n\
+seal 7\n\
+x 00112233445566778899aabbccddeeff00112233445566778899aabbccddeeff 102132435465768798a9bacbdcedfe0f102132435465768798a9bacbdcedfe0f\n\
+lane 1\n\
+w 2031425364758697a8b9cadbecfd0e1f2031425364758697a8b9cadbecfd0e1f 30415263748596a7b8c9daebfc0d1e2f30415263748596a7b8c9daebfc0d1e2f\n\
+w 405162738495a6b7c8d9eafb0c1d2e3f405162738495a6b7c8d9eafb0c1d2e3f 5061728394a5b6c7d8e9fa0b1c2d3e4f5061728394a5b6c7d8e9fa0b1c2d3e4f\n\
+d 2305843009213693944\n\
+d 6\n\
+end\n"
+}
+
+#[test]
+fn the_smallest_board_is_reported_on(rt: HostRuntime) -> Result<(), Fail> {
+    let alloc = rt.alloc();
+    let mut shelf = MemShelf::new(alloc);
+    shelf.put_file("board", smallest())?;
+    let report = read_report(alloc, &mut shelf, "board")?;
+    let text = report_text(alloc, &report)?;
+    let expected = b"auction 000102030405060708090a0b0c0d0e0f\n\
+width 1\n\
+lanes 1\n\
+seals 1\n\
+winner 7\n\
+price 0\n\
+seat 7\n\
+wires 3\n\
+rows 2\n\
+commitments 6\n\
+end\n";
+    assert_eq!(rt; text.as_slice(), expected.as_slice());
+    Ok(())
+}
+
+/// The bytes with another text on the line of that number, from 1.
+fn replaced(alloc: Global, bytes: &[u8], number: usize, text: &[u8]) -> Result<Vec<u8>, Fail> {
+    let mut out = Vec::new(alloc);
+    for (index, line) in bytes.split(|byte| *byte == b'\n').enumerate() {
+        if index > 0 {
+            out.push(b'\n')?;
+        }
+        out.extend_from_slice(if index + 1 == number { text } else { line })?;
+    }
+    Ok(out)
+}
+
+/// Why no report is made of a file of these bytes, if none is.
+fn refusal(alloc: Global, bytes: &[u8]) -> Result<Option<ReportErr>, Fail> {
+    let mut shelf = MemShelf::new(alloc);
+    shelf.put_file("board", bytes)?;
+    Ok(read_report(alloc, &mut shelf, "board").err())
+}
+
+#[test]
+fn a_board_is_refused_for_a_fault(rt: HostRuntime) -> Result<(), Fail> {
+    let alloc = rt.alloc();
+    let price = replaced(alloc, smallest(), 7, b"price 1")?;
+    assert_eq!(rt; refusal(alloc, &price)?, Some(ReportErr::Price));
+    let winner = replaced(alloc, smallest(), 6, b"winner 8")?;
+    assert_eq!(rt; refusal(alloc, &winner)?, Some(ReportErr::Winner));
+    let after = replaced(alloc, smallest(), 15, b"end\n ")?;
+    assert_eq!(rt;
+        refusal(alloc, &after)?,
+        Some(ReportErr::Malformed { line: 16 })
+    );
+    Ok(())
+}
+
+#[test]
+fn the_first_of_two_faults_is_named(rt: HostRuntime) -> Result<(), Fail> {
+    let alloc = rt.alloc();
+    let price = replaced(alloc, smallest(), 7, b"price 1")?;
+    let winner_too = replaced(alloc, &price, 6, b"winner 8")?;
+    assert_eq!(rt; refusal(alloc, &winner_too)?, Some(ReportErr::Price));
+    let row_too = replaced(alloc, &price, 13, b"d 06")?;
+    assert_eq!(rt; refusal(alloc, &row_too)?, Some(ReportErr::Price));
+    let seal_too = replaced(alloc, &price, 8, b"seal 0")?;
+    assert_eq!(rt;
+        refusal(alloc, &seal_too)?,
+        Some(ReportErr::Malformed { line: 8 })
+    );
+    Ok(())
+}
+
+#[test]
+fn a_missing_board_and_a_failure_are_told_apart(rt: HostRuntime) -> Result<(), Fail> {
+    let alloc = rt.alloc();
+    let mut shelf = MemShelf::new(alloc);
+    shelf.put_file("board", smallest())?;
+    let refused = read_report(alloc, &mut shelf, "other").err();
+    assert_eq!(rt; refused, Some(ReportErr::Missing));
+    shelf.fail_at(3)?;
+    let failed = read_report(alloc, &mut shelf, "board").err();
+    assert_eq!(rt; failed, Some(ReportErr::Failed));
+    Ok(())
+}
