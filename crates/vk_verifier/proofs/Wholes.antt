@@ -15,6 +15,9 @@ use Rattle.vk_reply.specs.Reading.{reply_head_at, reply_lanes_at, reply_at}
 step : {A B : Type 0} (r : Result A ℕ) (f : A → Result B ℕ) (x : A) → r ≡ Ok x → (r >>= f) ≡ f x
 step r f x found = ap (λ q. q >>= f) found
 
+first_same : {X : Type 0} (x y : X) (next after : Rest) → ◌≡◌ {A = Result (X × Rest) ℕ} (Ok (x, next)) (Ok (y, after)) → x ≡ y
+first_same x y next after same = ap (λ p. p.0) (ok_same (x, next) (y, after) same)
+
 -- ---- a board
 
 pub record BoardParts (shape : Head → Shape) (rest : Rest) (board : Board) : Type 0 where
@@ -43,9 +46,9 @@ board_split shape rest board after ok =
     let seals = bind_ok (seals_at head.0.0 head.0.1) (seals_then shape head.0.0) (board, after) head.2 in
     let lanes = bind_ok (lanes_at shape head.0.0 seals.0.1) (lanes_then head.0.0 seals.0.0) (board, after) seals.2 in
     let over = bind_ok (end_at lanes.0.1) (λ over. Ok (board_with head.0.0 seals.0.0 lanes.0.0, over.1)) (board, after) lanes.2 in
-    let same = ok_same (board_with head.0.0 seals.0.0 lanes.0.0, over.0.1) (board, after) over.2 in
+    let same = first_same (board_with head.0.0 seals.0.0 lanes.0.0) board over.0.1 after over.2 in
     let P : Board → Type 0 = λ b. BoardParts shape rest b in
-    subst P (ap (λ p. p.0) same) (record {
+    subst P same (record {
       head_rest = head.0.1;
       seals_rest = seals.0.1;
       lanes_rest = lanes.0.1;
@@ -88,14 +91,14 @@ reply_split kinds bit_of rest lanes after ok =
     let count = bind_ok (reply_head_at rest) (count_then kinds bit_of) (lanes, after) ok in
     let shown = bind_ok (reply_lanes_at kinds bit_of count.0.0 count.0.1) shown_then (lanes, after) count.2 in
     let over = bind_ok (end_at shown.0.1) (λ over. Ok (shown.0.0, over.1)) (lanes, after) shown.2 in
-    let same = ok_same (shown.0.0, over.0.1) (lanes, after) over.2 in
+    let same = first_same shown.0.0 lanes over.0.1 after over.2 in
     record {
       count = count.0.0;
       count_rest = count.0.1;
       lanes_rest = shown.0.1;
       over = over.0;
       head_read = count.1;
-      lanes_read = shown.1 ∙ ap (λ p. Ok (p.0, shown.0.1)) same;
+      lanes_read = shown.1 ∙ ap (λ s. Ok (s, shown.0.1)) same;
       end_read = over.1;
     }
 

@@ -12,3 +12,6 @@ pub use answers::{BoardVerdict, Part, VErr};
 pub use front::Front;
 pub use judging::verdict;
 pub use laws::a_verdict_accepts_what_is_accepted;
+
+#[cfg(test)]
+mod tests;
