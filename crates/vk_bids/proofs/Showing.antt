@@ -1,14 +1,12 @@
 -- The bids that two accepted replies open show the published outcome.
-use Rattle.std.proofs.Common.{◌≡◌, ℕ, ◌+◌, ◌-◌, ◌<◌, ◌≤◌, true, false, List, length, take, map, Some, None, refl, sym, ap, subst, ◌∙◌, arith}
+use Rattle.std.proofs.Common.{◌≡◌, ℕ, ◌-◌, ◌<◌, ◌≤◌, true, false, List, length, take, Some, None, refl, sym, ap, subst, ◌∙◌, arith}
 use Rattle.std.specs.Prelude.{slice_get, slice_index, slice_index_or}
 use Rattle.std.proofs.lemmas.List.{length-map}
 use Rattle.std.proofs.lemmas.Option.{slice_get_within}
 use Rattle.vk_commit.specs.Commitment.{Opens}
-use Rattle.vk_commit.specs.declared.place.Opening.{Opening}
 use Rattle.vk_plan.specs.Plans.{PlanValue}
 use Rattle.vk_wire.specs.declared.wire.WireCom.{WireCom}
 use Rattle.vk_wire.specs.declared.wire.Shown.{Shown}
-use Rattle.vk_wire.specs.declared.wire.Shown.TheVariants.{Half}
 use Rattle.vk_row.specs.declared.case.LaneCase.{LaneCase}
 use Rattle.vk_row.specs.Lanes.{IsAccepted, IsAcceptedLane, nothing_shown}
 use Rattle.vk_board.specs.declared.board.SealLines.{SealLines}
@@ -18,12 +16,16 @@ use Rattle.vk_vickrey.specs.VickreyPlans.{IsVickreyClaim}
 use Rattle.vk_vickrey.specs.VickreySteps.{circuit_sound}
 use Rattle.vk_extractor.specs.Sums.{sums}
 use Rattle.vk_extractor.specs.Clash.{clash_of_lane}
+use Rattle.vk_extractor.specs.Refused.{IsRefusalOf}
+use Rattle.vk_extractor.specs.declared.lane.LaneErr.{LaneErr}
+use Rattle.vk_extractor.specs.declared.lane.LaneErr.TheVariants.{Clash, NoMemory}
+use Rattle.vk_extractor.proofs.Clashes.{clash_opens}
 use Rattle.vk_extractor.proofs.Holding.{extracted_hold}
 use Rattle.vk_verifier.specs.declared.front.Front.{Front}
 use Rattle.vk_verifier.specs.Verdicts.{IsFront, plan_of, case_of}
 use Rattle.vk_bids.specs.declared.bids.OpenedBid.{OpenedBid}
 use Rattle.vk_bids.specs.Bids.{opened_bid, opened_bids}
-use Rattle.vk_bids.specs.Outcome.{IsCaseOf, OpensSeal, ShowsOutcome, seal_place}
+use Rattle.vk_bids.specs.Outcome.{IsCaseOf, OpensSeal, OpensTwice, ShowsOutcome, seal_place}
 use Rattle.vk_bids.proofs.Opening.{ShowsHalves, AreOpened, from_halves, opened_from_halves, opened_are}
 use Rattle.vk_bids.proofs.Seals.{OpensHalf, front_is_plan, seals_within, seal_opens}
 
@@ -117,3 +119,10 @@ case_shows front plan number case zs os is same some last of_lane first second n
     let here = subst P same (first, second) in
     let both = subst Q of_lane.1 (here.0, here.1, none) in
     lane_shows front number lines zs os both.0.0 both.1.0 is some last both.0.1 both.1.1 both.2
+
+-- a clash that is answered
+pub refusal_opens : (refused : LaneErr) (plan : PlanValue) (case : LaneCase) (zero_shown one_shown : List Shown)
+    → IsAccepted plan case false zero_shown → IsAccepted plan case true one_shown → IsRefusalOf refused case zero_shown one_shown
+    → OpensTwice refused plan case
+refusal_opens (Clash two) plan case zs os first second found = clash_opens plan case zs os first.0 second.0 two first.1 second.1 found
+refusal_opens NoMemory plan case zs os first second found = tt

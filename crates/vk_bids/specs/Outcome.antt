@@ -3,12 +3,16 @@ use Rattle.std.specs.Prelude.{◌≡◌, ℕ, ◌-◌, ◌^◌, ◌<◌, All, Li
 use Rattle.vk_residue.specs.Residue.{sum}
 use Rattle.vk_commit.specs.Commitment.{Opens}
 use Rattle.vk_commit.specs.declared.place.Place.{Place}
+use Rattle.vk_plan.specs.Plans.{PlanValue}
 use Rattle.vk_wire.specs.declared.wire.WireCom.{WireCom}
 use Rattle.vk_row.specs.declared.case.LaneCase.{LaneCase}
 use Rattle.vk_board.specs.declared.board.SealLines.{SealLines}
 use Rattle.vk_board.specs.declared.board.LaneLines.{LaneLines}
 use Rattle.vk_board.specs.Reading.{seats_of}
 use Rattle.vk_vickrey.specs.Outcomes.{IsVickreyOutcome}
+use Rattle.vk_extractor.specs.Laws.{AreOfLane}
+use Rattle.vk_extractor.specs.declared.lane.LaneErr.{LaneErr}
+use Rattle.vk_extractor.specs.declared.lane.LaneErr.TheVariants.{Clash, NoMemory}
 use Rattle.vk_verifier.specs.declared.front.Front.{Front}
 use Rattle.vk_verifier.specs.Verdicts.{case_of}
 use Rattle.vk_bids.specs.declared.bids.OpenedBid.{OpenedBid}
@@ -39,3 +43,8 @@ pub record ShowsOutcome (front : Front) (number : ℕ) (bids : List OpenedBid) :
   pub opened : (index : ℕ) (bid : OpenedBid) → slice_get bids index ≡ Some bid → OpensSeal front number index bid
   pub within_width : All (λ bid. bid < 2 ^ front.head.width) (map (λ bid. bid.bid) bids)
   pub outcome : IsVickreyOutcome (map (λ bid. bid.bid) bids) front.position front.head.price
+
+-- a clash is two openings of one entry of the lane, with different values; want of memory says nothing
+abbrev pub OpensTwice : LaneErr → PlanValue → LaneCase → Type 0
+OpensTwice (Clash two) plan case = AreOfLane plan case two
+OpensTwice NoMemory plan case = Unit {0}

@@ -1,5 +1,5 @@
 -- What is printed of a lane's bids, and of two openings of one commitment.
-use Rattle.std.specs.Prelude.{ℕ, List, [], ◌∷◌, ◌++◌, codes, decimal}
+use Rattle.std.specs.Prelude.{ℕ, List, [], ◌∷◌, codes, decimal}
 use Rattle.std.specs.List.{flat_map}
 use Rattle.vk_commit.specs.Commitment.{TwoOpeningsSeen}
 use Rattle.vk_commit.specs.declared.place.Opening.{Opening}

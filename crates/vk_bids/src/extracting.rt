@@ -7,7 +7,7 @@ ghost use Rattle.vk_extractor.specs.Refused.{IsRefusalOf};
 ghost use Rattle.vk_extractor.specs.declared.lane.LaneErr.TheVariants.{Clash};
 ghost use Rattle.vk_verifier.specs.Verdicts.{IsFront, plan_of};
 ghost use Rattle.vk_bids.specs.Bids.{opened_bid, opened_bids};
-ghost use Rattle.vk_bids.specs.Outcome.{IsCaseOf, ShowsOutcome};
+ghost use Rattle.vk_bids.specs.Outcome.{IsCaseOf, OpensTwice, ShowsOutcome};
 
 use crate::bids::{LaneBids, OpenedBid};
 use std::alloc::Global;
@@ -48,6 +48,7 @@ pub fn extract_bids(
     ensures agree { OnOk result (clash_of_lane case.now zero.now one.now ≡ None) }
     ensures clash { IfSome (clash_of_lane case.now zero.now one.now) (λ two. result ≡ Err (Clash two)) }
     ensures refused { IfErr result (λ refused. IsRefusalOf refused case.now zero.now one.now) }
+    ensures opened_twice { IfErr result (λ refused. OpensTwice refused plan.now case.now) }
 {
     let _values = extract_lane(alloc, plan, case, zero, one)?;
     let bids = bids_of(alloc, front.seals.as_slice(), zero, one)?;
