@@ -34,9 +34,9 @@ same_some x y e = cc
 
 -- a bid whose halves open a seal
 opens_seal : (front : Front) (number index : ℕ) (zero_shown one_shown : Shown) (first_half second_half : ℕ) (bid : OpenedBid)
-    → OpensHalf front number index zero_shown false first_half → OpensHalf front number index one_shown true second_half
+    → 1 ≤ number → OpensHalf front number index zero_shown false first_half → OpensHalf front number index one_shown true second_half
     → opened_bid (slice_index (seats_of front.seals) index) zero_shown one_shown ≡ Some bid → OpensSeal front number index bid
-opens_seal front number index zero_shown one_shown first_half second_half bid first second opened =
+opens_seal front number index zero_shown one_shown first_half second_half bid some first second opened =
     let seat = slice_index (seats_of front.seals) index in
     let made = from_halves seat first.is_half.opening second.is_half.opening in
     let is : made ≡ bid = same_some made bid
@@ -47,6 +47,7 @@ opens_seal front number index zero_shown one_shown first_half second_half bid fi
     let P : SealLines → Type 0 = λ seal. Opens (seal_place front seal.seat number 1) second.digests.second second.is_half.opening in
     let Q : WireCom → Type 0 = λ digests. Opens (seal_place front first.seal.seat number 1) digests.second second.is_half.opening in
     let whole : OpensSeal front number index made = record {
+      numbered = some;
       seal = first.seal;
       digests = first.digests;
       on_board = first.on_board;
@@ -102,7 +103,7 @@ lane_shows front number lines zs os firsts seconds is some last first second non
           let lt : index < length front.seals =
           omega (arith, slice_get_within bids index bid get, ap length opened.one_each, length-map bids (λ bid. bid.seat)) in
           opens_seal front number index (slice_index_or zs index nothing_shown) (slice_index_or os index nothing_shown)
-          (slice_index firsts index) (slice_index seconds index) bid (zero_at index lt) (one_at index lt) (opened.at_seats index bid get);
+          (slice_index firsts index) (slice_index seconds index) bid some (zero_at index lt) (one_at index lt) (opened.at_seats index bid get);
       within_width = shown.within_width;
       outcome = shown.outcome;
     }

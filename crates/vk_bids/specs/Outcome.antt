@@ -1,5 +1,5 @@
 -- What the bids of a lane show of the published outcome.
-use Rattle.std.specs.Prelude.{◌≡◌, ℕ, ◌-◌, ◌^◌, ◌<◌, All, List, map, slice_get, Some}
+use Rattle.std.specs.Prelude.{◌≡◌, ℕ, ◌-◌, ◌^◌, ◌<◌, ◌≤◌, All, List, map, slice_get, Some}
 use Rattle.vk_residue.specs.Residue.{sum}
 use Rattle.vk_commit.specs.Commitment.{Opens}
 use Rattle.vk_commit.specs.declared.place.Place.{Place}
@@ -27,6 +27,7 @@ seal_place front seat number slot = record { auction = front.head.auction; seat 
 
 -- the bid is the sum of two halves that open, in the lane of that number from 1, the seal at that index from 0
 pub record OpensSeal (front : Front) (number index : ℕ) (bid : OpenedBid) : Type 0 where
+  pub numbered : 1 ≤ number
   pub seal : SealLines
   pub digests : WireCom
   pub on_board : slice_get front.seals index ≡ Some seal

@@ -50,6 +50,7 @@ pub fn extract_bids(
     ensures refused { IfErr result (λ refused. IsRefusalOf refused case.now zero.now one.now) }
     ensures opened_twice { IfErr result (λ refused. OpensTwice refused plan.now case.now) }
 {
+    // That the values of all wires hold for the plan shows the outcome.
     let _values = extract_lane(alloc, plan, case, zero, one)?;
     let bids = bids_of(alloc, front.seals.as_slice(), zero, one)?;
     Ok(LaneBids { number: lane, bids })

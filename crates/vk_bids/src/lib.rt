@@ -11,3 +11,6 @@ pub use bids::{LaneBids, OpenedBid};
 pub use extracting::extract_bids;
 pub use laws::accepted_lanes_show_the_outcome;
 pub use printing::{clash_line, lane_bids_lines};
+
+#[cfg(test)]
+mod tests;
