@@ -1,0 +1,4 @@
+pub mod Opening
+pub mod Seals
+pub mod Showing
+pub mod Smallest

@@ -1,0 +1,29 @@
+use Rattle.std.proofs.Common.{rules, ◌≡◌, List, sym, ap, subst, ◌∙◌}
+use Rattle.std.proofs.lemmas.Result.{IfErr-weaker}
+use Rattle.vk_board.specs.declared.board.SealLines.{SealLines}
+use Rattle.vk_board.specs.Reading.{seats_of}
+use Rattle.vk_extractor.specs.Refused.{IsRefusalOf}
+use Rattle.vk_bids.specs.declared.bids.OpenedBid.{OpenedBid}
+use Rattle.vk_bids.specs.Bids.{opened_bids}
+use Rattle.vk_bids.specs.Outcome.{OpensTwice, ShowsOutcome}
+use Rattle.vk_bids.proofs.Showing.{case_shows, refusal_opens}
+use Rattle.vk_bids.proofs.extracting.extract_bids.Goals as goal
+
+pub returns-clause-outcome : goal.returns-clause-outcome
+returns-clause-outcome c =
+    let front = c.args.front.now in
+    let bids : c.in_ok-bids.bids ≡ opened_bids (seats_of front.seals) c.args.zero.now c.args.one.now =
+    c.in_ok-bids.ensures ∙ ap (λ (seals : List SealLines). opened_bids (seats_of seals) c.args.zero.now c.args.one.now) c.as_slice.ensures in
+    let P : List OpenedBid → Type 0 = λ bids. ShowsOutcome front c.args.lane bids in
+    subst P (sym bids)
+    (case_shows front c.args.plan.now c.args.lane c.args.case.now c.args.zero.now c.args.one.now
+    c.requires.front c.requires.plan c.requires.first c.requires.last c.requires.case c.requires.zero c.requires.one c.in_ok-_values.ensures.agree)
+
+pub returns-in_err-_values-clause-opened_twice : goal.returns-in_err-_values-clause-opened_twice
+returns-in_err-_values-clause-opened_twice c =
+    let plan = c.args.plan.now in
+    let case = c.args.case.now in
+    let zeros = c.args.zero.now in
+    let ones = c.args.one.now in
+    IfErr-weaker c.from_residual.result (λ refused. IsRefusalOf refused case zeros ones) (λ refused. OpensTwice refused plan case)
+    (λ refused found. refusal_opens refused plan case zeros ones c.requires.zero c.requires.one found) (search rules)

@@ -1,0 +1,4 @@
+pub mod Bids
+pub mod Outcome
+pub mod Texts
+pub mod Laws

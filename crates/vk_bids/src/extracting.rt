@@ -1,0 +1,92 @@
+// The bids of one lane.
+ghost use Rattle.std.specs.Prelude.{◌≡◌, ◌≤◌, length, IfOk, IfErr, IfSome, OnOk, Err, None, false, true};
+ghost use Rattle.vk_row.specs.Lanes.{IsAccepted};
+ghost use Rattle.vk_board.specs.Reading.{seats_of};
+ghost use Rattle.vk_extractor.specs.Clash.{clash_of_lane};
+ghost use Rattle.vk_extractor.specs.Refused.{IsRefusalOf};
+ghost use Rattle.vk_extractor.specs.declared.lane.LaneErr.TheVariants.{Clash};
+ghost use Rattle.vk_verifier.specs.Verdicts.{IsFront, plan_of};
+ghost use Rattle.vk_bids.specs.Bids.{opened_bid, opened_bids};
+ghost use Rattle.vk_bids.specs.Outcome.{IsCaseOf, OpensTwice, ShowsOutcome};
+
+use crate::bids::{LaneBids, OpenedBid};
+use std::alloc::Global;
+use vk_board::SealLines;
+use vk_extractor::{LaneErr, extract_lane};
+use vk_plan::Plan;
+use vk_residue::NoMemory;
+use vk_row::LaneCase;
+use vk_seq::Seq;
+use vk_verifier::Front;
+use vk_wire::Shown;
+
+/// The bids of the lane, counted from 1, from what was accepted for bit 0 and what was accepted for bit 1.
+/// They are below 2^width, open the lane's seals, and their outcome is the published one.
+///
+/// Where an entry was opened with two values the answer is the first such entry's two openings, that of
+/// bit 0 first.
+pub fn extract_bids(
+    alloc: Global,
+    front: &Front,
+    plan: &Plan,
+    lane: u32,
+    case: &LaneCase,
+    zero: &[Shown],
+    one: &[Shown],
+) -> Result<LaneBids, LaneErr>
+    requires front { IsFront front.now }
+    requires plan { plan.now ≡ plan_of front.now }
+    requires first { 1 ≤ lane }
+    requires last { lane ≤ front.now.head.lanes }
+    requires case { IsCaseOf front.now lane case.now }
+    requires zero { IsAccepted plan.now case.now false zero.now }
+    requires one { IsAccepted plan.now case.now true one.now }
+    ensures number { IfOk result (λ found. found.number ≡ lane) }
+    ensures bids { IfOk result
+        (λ found. found.bids ≡ opened_bids (seats_of front.now.seals) zero.now one.now) }
+    ensures outcome { IfOk result (λ found. ShowsOutcome front.now lane found.bids) }
+    ensures agree { OnOk result (clash_of_lane case.now zero.now one.now ≡ None) }
+    ensures clash { IfSome (clash_of_lane case.now zero.now one.now) (λ two. result ≡ Err (Clash two)) }
+    ensures refused { IfErr result (λ refused. IsRefusalOf refused case.now zero.now one.now) }
+    ensures opened_twice { IfErr result (λ refused. OpensTwice refused plan.now case.now) }
+{
+    // That the values of all wires hold for the plan shows the outcome.
+    let _values = extract_lane(alloc, plan, case, zero, one)?;
+    let bids = bids_of(alloc, front.seals.as_slice(), zero, one)?;
+    Ok(LaneBids { number: lane, bids })
+}
+
+/// The bids of the seals.
+fn bids_of(
+    alloc: Global,
+    seals: &[SealLines],
+    zero: &[Shown],
+    one: &[Shown],
+) -> Result<Seq<OpenedBid>, NoMemory>
+    requires zero { length seals.now ≤ length zero.now }
+    requires one { length seals.now ≤ length one.now }
+    ensures { IfOk result (λ bids. bids ≡ opened_bids (seats_of seals.now) zero.now one.now) }
+{
+    let mut bids = Vec::new(alloc);
+    for (index, seal) in seals.iter().enumerate() {
+        if let Some(bid) = bid_of(seal.seat, &zero[index], &one[index]) {
+            bids.push(bid)?;
+        }
+    }
+    Ok(Seq::from_vec(bids))
+}
+
+/// The bid of the seal of that seat, where both replies show a half.
+fn bid_of(seat: u16, zero: &Shown, one: &Shown) -> Option<OpenedBid>
+    ensures { result ≡ opened_bid seat zero.now one.now }
+{
+    match (zero, one) {
+        (Shown::Half(first), Shown::Half(second)) => Some(OpenedBid {
+            seat,
+            bid: first.value.add(second.value),
+            first: *first,
+            second: *second,
+        }),
+        _ => None,
+    }
+}

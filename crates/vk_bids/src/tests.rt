@@ -1,0 +1,193 @@
+// The lane of the smallest board: one seal, of seat 7, with a bid of 0 below 2^1.
+ghost use Rattle.std.specs.Prelude.{◌≡◌, ◌≤◌, ◌<◌, ◌^◌, ◌∷◌, [], IfOk, length};
+ghost use Rattle.vk_plan.specs.Plans.{HasWeight, MayHave};
+ghost use Rattle.vk_wire.specs.Values.{IsCom};
+ghost use Rattle.vk_row.specs.Lanes.{HasCounts};
+ghost use Rattle.vk_vickrey.specs.VickreyPlans.{vickrey_plan};
+ghost use Rattle.vk_verifier.specs.Verdicts.{IsFront, plan_of};
+ghost use Rattle.vk_bids.specs.Outcome.{IsCaseOf};
+
+use crate::{LaneBids, OpenedBid, extract_bids, lane_bids_lines};
+use std::alloc::Global;
+use std::test::Fail;
+use vk_board::{Head, SealLines};
+use vk_commit::Opening;
+use vk_plan::{Circuit, Plan, WireKind};
+use vk_residue::Residue;
+use vk_row::{LaneCase, check_lane};
+use vk_seq::Seq;
+use vk_verifier::Front;
+use vk_vickrey::{VickreyOutcome, VickreyPlan};
+use vk_wire::{Shown, WireCom, WireTape, make, show, wire_place};
+
+const ID: [u8; 16] = [0, 1, 2, 3, 4, 5, 6, 7, 8, 9, 10, 11, 12, 13, 14, 15];
+
+fn residue(number: u64) -> Result<Residue, Fail> {
+    Ok(Residue::new(number).ok_or("not below the modulus")?)
+}
+
+fn tape(mask: u64, first: u8, second: u8) -> Result<WireTape, Fail> {
+    Ok(WireTape {
+        mask: residue(mask)?,
+        swap: false,
+        first_key: [first; 32],
+        second_key: [second; 32],
+    })
+}
+
+/// The commitments to a wire with the value 0.
+fn wire(kind: WireKind, number: u32, tape: &WireTape) -> WireCom
+    requires weight { HasWeight kind }
+    requires value { MayHave kind 0 }
+    requires number { number < 2 ^ 24 }
+    ensures { IsCom result }
+{
+    let place = wire_place(&ID, 1, &[7], number);
+    let digests = make(kind, &place, Residue::ZERO, tape);
+    digests
+}
+
+fn plan_of_one(alloc: Global) -> Result<Plan, Fail>
+    ensures plan { IfOk result (λ plan. plan ≡ vickrey_plan 1 1 1 0) }
+    ensures wires { IfOk result (λ plan. length plan.kinds ≡ 3) }
+    ensures rows { IfOk result (λ plan. length plan.rows ≡ 2) }
+{
+    let outcome = VickreyOutcome {
+        position: 1,
+        price: 0,
+    };
+    let circuit = VickreyPlan::new(1, 1, outcome).ok_or("not a case")?;
+    let plan = circuit.plan(alloc)?;
+    Ok(plan)
+}
+
+fn front_of_one(alloc: Global, digests: WireCom) -> Result<Front, Fail>
+    requires { IsCom digests }
+    ensures front { IfOk result (λ front. front ≡ record {
+      head = record { auction = ID; width = 1; lanes = 1; seals = 1; winner = 7; price = 0 };
+      seals = record { seat = 7; coms = digests ∷ [] } ∷ [];
+      position = 1;
+    }) }
+    ensures right { IfOk result IsFront }
+{
+    let mut coms = Seq::new(alloc);
+    coms.push(digests)?;
+    let mut seals = Seq::new(alloc);
+    seals.push(SealLines { seat: 7, coms })?;
+    let head = Head {
+        auction: ID,
+        width: 1,
+        lanes: 1,
+        seals: 1,
+        winner: 7,
+        price: 0,
+    };
+    Ok(Front {
+        head,
+        seals,
+        position: 1,
+    })
+}
+
+fn case_of_one(alloc: Global, bid: WireCom, copy: WireCom, pair: WireCom) -> Result<LaneCase, Fail>
+    ensures auction { IfOk result (λ case. case.auction ≡ ID) }
+    ensures lane { IfOk result (λ case. case.lane ≡ 1) }
+    ensures seats { IfOk result (λ case. case.seats ≡ 7 ∷ []) }
+    ensures coms { IfOk result (λ case. case.coms ≡ bid ∷ copy ∷ pair ∷ []) }
+    ensures posted { IfOk result (λ case. length case.posted ≡ 2) }
+{
+    let first = residue(2305843009213693944)?;
+    let second = residue(6)?;
+    let mut seats = Seq::new(alloc);
+    seats.push(7)?;
+    let mut coms = Seq::new(alloc);
+    coms.push(bid)?;
+    coms.push(copy)?;
+    coms.push(pair)?;
+    let mut posted = Seq::new(alloc);
+    posted.push(first)?;
+    posted.push(second)?;
+    Ok(LaneCase {
+        auction: ID,
+        lane: 1,
+        seats,
+        coms,
+        posted,
+    })
+}
+
+/// The bids of lane 1, once both replies are accepted.
+fn bids_of_lane(
+    alloc: Global,
+    front: &Front,
+    plan: &Plan,
+    case: &LaneCase,
+    zero: &[Shown],
+    one: &[Shown],
+) -> Result<LaneBids, Fail>
+    requires front { IsFront front.now }
+    requires plan { plan.now ≡ plan_of front.now }
+    requires lane { 1 ≤ front.now.head.lanes }
+    requires case { IsCaseOf front.now 1 case.now }
+    requires zero { HasCounts plan.now case.now zero.now }
+    requires one { HasCounts plan.now case.now one.now }
+{
+    check_lane(alloc, plan, case, false, zero)?;
+    check_lane(alloc, plan, case, true, one)?;
+    let found = extract_bids(alloc, front, plan, 1, case, zero, one)?;
+    Ok(found)
+}
+
+/// The bids of the lane.
+fn smallest(alloc: Global) -> Result<LaneBids, Fail> {
+    let bid = tape(3, 0x11, 0x22)?;
+    let copy = tape(10, 0x33, 0x44)?;
+    let pair = tape(4, 0x55, 0x66)?;
+    let digests = wire(WireKind::Split, 0, &bid);
+    let front = front_of_one(alloc, digests)?;
+    let plan = plan_of_one(alloc)?;
+    let case = case_of_one(
+        alloc,
+        digests,
+        wire(WireKind::Split, 1, &copy),
+        wire(WireKind::Pair(0), 2, &pair),
+    )?;
+    let zero = [
+        show(WireKind::Split, Residue::ZERO, &bid, false),
+        show(WireKind::Split, Residue::ZERO, &copy, false),
+        show(WireKind::Pair(0), Residue::ZERO, &pair, false),
+    ];
+    let one = [
+        show(WireKind::Split, Residue::ZERO, &bid, true),
+        show(WireKind::Split, Residue::ZERO, &copy, true),
+        show(WireKind::Pair(0), Residue::ZERO, &pair, true),
+    ];
+    let found = bids_of_lane(alloc, &front, &plan, &case, &zero, &one)?;
+    Ok(found)
+}
+
+#[test]
+fn the_lane_of_the_smallest_board_gives_its_bid(rt: HostRuntime) -> Result<(), Fail> {
+    let alloc = rt.alloc();
+    let found = smallest(alloc)?;
+    let expected = OpenedBid {
+        seat: 7,
+        bid: Residue::ZERO,
+        first: Opening {
+            key: [0x11; 32],
+            value: residue(3)?,
+        },
+        second: Opening {
+            key: [0x22; 32],
+            value: residue(2305843009213693948)?,
+        },
+    };
+    assert_eq!(rt; found.bids.as_slice(), [expected].as_slice());
+    let lines = lane_bids_lines(alloc, &found)?;
+    assert_eq!(rt; lines.len(), 1);
+    assert_eq!(rt;
+        lines[0].as_str(),
+        "lane 1 seat 7 bid 0 u 1111111111111111111111111111111111111111111111111111111111111111 3 v 2222222222222222222222222222222222222222222222222222222222222222 2305843009213693948\n"
+    );
+    Ok(())
+}
