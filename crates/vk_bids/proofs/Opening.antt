@@ -7,7 +7,7 @@ use Rattle.vk_commit.specs.declared.place.Opening.{Opening}
 use Rattle.vk_wire.specs.declared.wire.Shown.{Shown}
 use Rattle.vk_wire.specs.declared.wire.Shown.TheVariants.{Half}
 use Rattle.vk_row.specs.Lanes.{nothing_shown}
-use Rattle.vk_extractor.specs.Sums.{sums}
+use Rattle.vk_row.specs.Rows.{sums}
 use Rattle.vk_bids.specs.declared.bids.OpenedBid.{OpenedBid}
 use Rattle.vk_bids.specs.Bids.{opened_bid, opened_bids}
 

@@ -14,7 +14,7 @@ use Rattle.vk_board.specs.declared.board.LaneLines.{LaneLines}
 use Rattle.vk_board.specs.Reading.{seats_of}
 use Rattle.vk_vickrey.specs.VickreyPlans.{IsVickreyClaim}
 use Rattle.vk_vickrey.specs.VickreySteps.{circuit_sound}
-use Rattle.vk_extractor.specs.Sums.{sums}
+use Rattle.vk_row.specs.Rows.{sums}
 use Rattle.vk_extractor.specs.Clash.{clash_of_lane}
 use Rattle.vk_extractor.specs.Refused.{IsRefusalOf}
 use Rattle.vk_extractor.specs.declared.lane.LaneErr.{LaneErr}
