@@ -1,12 +1,13 @@
-//! Replays what an independent implementation worked out: words and draws, wires, outcomes, and which
-//! line of a changed file is the first that may not stand there. What is printed is to be, byte for
-//! byte, what that implementation wrote.
+//! Replays what independent implementations worked out: words and draws, wires, outcomes, which line of
+//! a changed file is the first that may not stand there, and runs of the whole program. What is printed is
+//! to be, byte for byte, what those implementations wrote.
 #![tactic(auto)]
 
 mod bids;
 mod cases;
 mod files;
 mod lists;
+mod runs;
 mod streams;
 mod unreplayed;
 mod wires;
@@ -31,6 +32,8 @@ enum Form {
     Bids,
     /// `NAME | seal` or `NAME | secret`.
     Files,
+    /// `NAME | NAME=FILE .. | WORD ..`: the files that a run of the program is given, and its words.
+    Runs,
 }
 
 impl Form {
@@ -42,6 +45,7 @@ impl Form {
             Form::Wires => "wires",
             Form::Bids => "bids",
             Form::Files => "files",
+            Form::Runs => "runs",
         }
     }
 
@@ -58,6 +62,7 @@ impl Form {
             Form::Wires => wires::wire_text(alloc, case),
             Form::Bids => bids::outcome_text(alloc, case),
             Form::Files => files::fault_text(alloc, shelf, case),
+            Form::Runs => runs::run_text(alloc, shelf, case),
         }
     }
 }
@@ -91,6 +96,7 @@ fn replay_all<S: Shelf, W: Sink>(
         Form::Wires,
         Form::Bids,
         Form::Files,
+        Form::Runs,
     ] {
         replay(alloc, form, shelf, out)?;
     }

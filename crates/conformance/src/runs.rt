@@ -1,0 +1,107 @@
+// Runs of the whole program over files in memory: its status, what it prints, and what it leaves.
+use crate::cases::read_cases;
+use crate::unreplayed::Unreplayed;
+use std::alloc::Global;
+use vk_app::run;
+use vk_io::{MemShelf, MemSink, Shelf};
+use vk_lines::{end_line, push_decimal, push_line};
+
+/// The parts of a case: its name, its files and its words.
+#[derive(Clone, Copy)]
+struct Run<'a> {
+    name: &'a [u8],
+    files: &'a [u8],
+    words: &'a [u8],
+}
+
+/// The case, and what its run comes to.
+pub fn run_text<S: Shelf>(
+    alloc: Global,
+    shelf: &mut S,
+    case: &[u8],
+) -> Result<Vec<u8>, Unreplayed> {
+    let parts = run_of(case)?;
+    let given = files_of(alloc, shelf, parts.files)?;
+    let mut files = files_of(alloc, shelf, parts.files)?;
+    let words = words_of(alloc, parts.words)?;
+    let mut out = MemSink::new(alloc);
+    let status = run(alloc, words.as_slice(), &mut files, &mut out);
+    let mut text = Vec::from_slice(alloc, parts.name)?;
+    text.extend_from_slice(b"| ")?;
+    push_decimal(&mut text, u64::from(status))?;
+    end_line(&mut text)?;
+    text.extend_from_slice(out.bytes())?;
+    push_left(&mut text, words.as_slice(), &given, &files)?;
+    Ok(text)
+}
+
+/// The parts of the case, which stand between bars.
+fn run_of(case: &[u8]) -> Result<Run<'_>, Unreplayed> {
+    let mut parts = case.split(|byte| *byte == b'|');
+    let name = parts.next().ok_or(Unreplayed::NoCase)?;
+    let files = parts.next().ok_or(Unreplayed::NoCase)?;
+    let words = parts.next().ok_or(Unreplayed::NoCase)?;
+    Ok(Run { name, files, words })
+}
+
+/// The words of a part.
+fn words_of(alloc: Global, part: &[u8]) -> Result<Vec<String>, Unreplayed> {
+    let mut words = Vec::new(alloc);
+    for word in part.split(|byte| *byte == b' ') {
+        if !word.is_empty() {
+            words.push(text_of(alloc, word)?)?;
+        }
+    }
+    Ok(words)
+}
+
+/// The bytes as text.
+fn text_of(alloc: Global, bytes: &[u8]) -> Result<String, Unreplayed> {
+    String::from_utf8(Vec::from_slice(alloc, bytes)?).map_err(|_refused| Unreplayed::NoCase)
+}
+
+/// The files of a part, in memory. Each stands there as `NAME=FILE`.
+fn files_of<S: Shelf>(alloc: Global, shelf: &mut S, part: &[u8]) -> Result<MemShelf, Unreplayed> {
+    let mut files = MemShelf::new(alloc);
+    for word in part.split(|byte| *byte == b' ') {
+        if !word.is_empty() {
+            put_file(alloc, shelf, &mut files, word)?;
+        }
+    }
+    Ok(files)
+}
+
+/// Puts the file of a word `NAME=FILE` under that name.
+fn put_file<S: Shelf>(
+    alloc: Global,
+    shelf: &mut S,
+    files: &mut MemShelf,
+    word: &[u8],
+) -> Result<(), Unreplayed> {
+    let mut parts = word.split(|byte| *byte == b'=');
+    let name = parts.next().ok_or(Unreplayed::NoCase)?;
+    let file = parts.next().ok_or(Unreplayed::NoCase)?;
+    let name = text_of(alloc, name)?;
+    let file = text_of(alloc, file)?;
+    let bytes = read_cases(alloc, shelf, file.as_str())?;
+    files.put_file(name.as_str(), bytes.as_slice())?;
+    Ok(())
+}
+
+/// Each file that a word behind the first names, and that isn't as it was given.
+fn push_left(
+    text: &mut Vec<u8>,
+    words: &[String],
+    given: &MemShelf,
+    files: &MemShelf,
+) -> Result<(), Unreplayed> {
+    for word in words.iter().skip(1) {
+        let left = files.file(word.as_str());
+        if left != given.file(word.as_str()) {
+            text.extend_from_slice(b"left ")?;
+            push_line(text, word.as_bytes())?;
+            text.extend_from_slice(left.unwrap_or(&[]))?;
+        }
+    }
+    Ok(())
+}
