@@ -96,12 +96,21 @@ fn push_left(
     files: &MemShelf,
 ) -> Result<(), Unreplayed> {
     for word in words.iter().skip(1) {
-        let left = files.file(word.as_str());
-        if left != given.file(word.as_str()) {
-            text.extend_from_slice(b"left ")?;
-            push_line(text, word.as_bytes())?;
-            text.extend_from_slice(left.unwrap_or(&[]))?;
+        if let Some(left) = files.file(word.as_str()) {
+            if !is_given(given, word.as_str(), left) {
+                text.extend_from_slice(b"left ")?;
+                push_line(text, word.as_bytes())?;
+                text.extend_from_slice(left)?;
+            }
         }
     }
     Ok(())
+}
+
+/// Whether the named file was given with these bytes.
+fn is_given(given: &MemShelf, name: &str, bytes: &[u8]) -> bool {
+    match given.file(name) {
+        Some(held) => held == bytes,
+        None => false,
+    }
 }
