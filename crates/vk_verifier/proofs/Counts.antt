@@ -1,16 +1,18 @@
 -- How many seats, commitments and posted numbers there are of a lane.
-use Rattle.std.proofs.Common.{◌≡◌, ℕ, zero, suc, ◌-◌, ◌<◌, ◌≤◌, All, List, [], ◌∷◌, ◌++◌, length, refl, arith, length-append, ◌∙◌, ap, sym, subst}
+use Rattle.std.proofs.Common.{◌≡◌, ℕ, zero, suc, ◌-◌, ◌<◌, ◌≤◌, All, List, [], ◌∷◌, ◌++◌, length, Bool, refl, arith, length-append, ◌∙◌, ap, sym, subst}
 use Rattle.std.proofs.lemmas.List.{length-map}
 use Rattle.std.proofs.lemmas.List.Elements.{All-nil, All-cons}
 use Rattle.std.proofs.lemmas.Option.{slice_get_within}
 use Rattle.vk_lines.specs.Forms.{EachAfter}
 use Rattle.vk_plan.specs.declared.wire.WireKind.TheVariants.{Split}
 use Rattle.vk_plan.specs.Plans.{PlanValue, IsPlan}
+use Rattle.vk_wire.specs.declared.wire.Shown.{Shown}
 use Rattle.vk_row.specs.declared.case.LaneCase.{LaneCase}
 use Rattle.vk_row.specs.Lanes.{HasCounts}
 use Rattle.vk_board.specs.declared.board.SealLines.{SealLines}
 use Rattle.vk_board.specs.declared.board.LaneLines.{LaneLines}
 use Rattle.vk_board.specs.Values.{IsSealAfter, IsLaneLines}
+use Rattle.vk_reply.specs.Values.{AreShown}
 use Rattle.vk_vickrey.specs.VickreyPlans.{vickrey_plan}
 use Rattle.vk_verifier.specs.declared.front.Front.{Front}
 use Rattle.vk_verifier.specs.Verdicts.{IsFront, plan_of, case_of, later_wires, input_coms}
@@ -46,3 +48,10 @@ fits front plan number lines case is is_plan same right case_is =
       posted = right.row_count;
       one_shown = one_each;
     })
+
+-- a lane that was read has the counts that its check asks for
+pub has_counts : (front : Front) (plan : PlanValue) (number : ℕ) (bit : Bool) (lines : LaneLines) (shown : List Shown)
+    → IsFront front → IsPlan plan → plan ≡ plan_of front → IsLaneLines (later_wires plan) (length plan.rows) lines → AreShown plan.kinds bit shown
+    → HasCounts plan (case_of front number lines) shown
+has_counts front plan number bit lines shown is is_plan same right are =
+    fits front plan number lines (case_of front number lines) is is_plan same right refl shown are.one_each

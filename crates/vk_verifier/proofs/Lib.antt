@@ -1,3 +1,5 @@
 pub mod Counts
 pub mod LaneLoop
 pub mod Joined
+pub mod Bits
+pub mod TwoFound
