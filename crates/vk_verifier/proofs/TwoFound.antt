@@ -1,20 +1,24 @@
 -- What is found of two replies on the way, for any told content.
-use Rattle.std.proofs.Common.{◌≡◌, ℕ, suc, ◌+◌, ◌<◌, ◌≤◌, ◌&&◌, Bool, true, false, List, [], ◌∷◌, length, drop, get_or, Option, Some, None, Result, Ok, Err, is_ok, IsOk, IsTrue, IfSome, refl, ap, sym, ◌∙◌, arith, subst}
+use Rattle.std.proofs.Common.{◌≡◌, ℕ, suc, ◌+◌, ◌<◌, ◌≤◌, ◌&&◌, Bool, true, false, List, [], ◌∷◌, length, drop, get_or, Option, Some, None, Result, Ok, Err, is_ok, is_some, IsOk, IsTrue, IfSome, refl, ap, sym, ◌∙◌, arith, subst}
 use Rattle.std.proofs.Math.Seq.{drop-cons}
 use Rattle.std.proofs.Math.ListN.{drop_of_length-le}
 use Rattle.vk_io.specs.Files.{Files}
 use Rattle.vk_lines.specs.Lines.{Rest}
 use Rattle.vk_row.specs.LaneTests.{◌>>=◌}
 use Rattle.vk_verifier.specs.declared.answers.BoardVerdict.{BoardVerdict}
+use Rattle.vk_verifier.specs.declared.answers.VErr.{VErr}
+use Rattle.vk_verifier.specs.declared.stage.Course.{Course}
+use Rattle.vk_verifier.specs.declared.stage.Stage.{Stage}
+use Rattle.vk_verifier.specs.declared.stage.Stage.TheVariants.{Running}
 use Rattle.vk_verifier.specs.declared.halt.Halt.{Halt}
 use Rattle.vk_verifier.specs.declared.halt.Halt.TheVariants as halt
 use Rattle.vk_verifier.specs.declared.stage.TwoLane.{TwoLane}
 use Rattle.vk_verifier.specs.declared.stage.TwoVerdict.{TwoVerdict}
-use Rattle.vk_verifier.specs.declared.stage.Ground.{Ground}
+use Rattle.vk_verifier.specs.declared.stage.Base.{Base}
 use Rattle.vk_verifier.specs.declared.two_halt.TwoHalt.{TwoHalt}
 use Rattle.vk_verifier.specs.declared.two_halt.TwoHalt.TheVariants.{Found, Failed, NoMemory}
-use Rattle.vk_verifier.specs.Verdicts.{Judges}
-use Rattle.vk_verifier.specs.Two.{Finds, IsFound, Gives, Rests, Ahead, over, of_first, of_second, found_by, is_refused, accepted_of, two_lane_at, ends_found, ahead_from, ahead_on, ahead_after}
+use Rattle.vk_verifier.specs.Verdicts.{Judges, Gives}
+use Rattle.vk_verifier.specs.Two.{Finds, IsFound, GivesLane, Rests, Ahead, over, of_first, of_second, found_by, is_refused, accepted_of, two_lane_at, ends_found, ahead_from, ahead_on, ahead_after, ahead_by, ahead_of, ahead_unless, rests_of}
 
 -- an error that is handed on
 pub returned : {X T : Type 0} (held : Option Files) (result : Result T TwoHalt) (halt : TwoHalt) (value : Files → T → X) (expected : Files → Result X TwoVerdict)
@@ -87,51 +91,74 @@ bits_left bits given bit within is =
     drop-cons bits given bit within ∙ ap (λ b. b ∷ drop (suc given) bits) (sym is) ∙ ap (λ i. bit ∷ drop i bits) next
 
 -- what is ahead begins with the next lane
-next_ahead : (ground : Ground) (given : ℕ) (first_bit second_bit : Bool) (rests : Rests)
-    → given < length ground.first_bits → given < length ground.second_bits
-    → first_bit ≡ get_or ground.first_bits given first_bit → second_bit ≡ get_or ground.second_bits given second_bit
-    → ahead_on ground given rests
-    ≡ ahead_after (two_lane_at ground.front ground.plan (given + 1) first_bit second_bit (drop (given + 1) ground.first_bits) rests) (ahead_on ground (given + 1))
+next_ahead : (base : Base) (given : ℕ) (first_bit second_bit : Bool) (rests : Rests)
+    → given < length base.first_bits → given < length base.second_bits
+    → first_bit ≡ get_or base.first_bits given first_bit → second_bit ≡ get_or base.second_bits given second_bit
+    → ahead_on base given rests
+    ≡ ahead_after (two_lane_at base.front base.plan (given + 1) first_bit second_bit (drop (given + 1) base.first_bits) rests) (ahead_on base (given + 1))
 unfolding ahead_from
-next_ahead ground given first_bit second_bit rests first second first_is second_is =
-    let accepted = accepted_of ground.first_bits ground.second_bits in
-    ap (λ left. ahead_from ground.front ground.plan accepted (given + 1) left (drop given ground.second_bits) rests) (bits_left ground.first_bits given first_bit first first_is)
-    ∙ ap (λ left. ahead_from ground.front ground.plan accepted (given + 1) (first_bit ∷ drop (given + 1) ground.first_bits) left rests) (bits_left ground.second_bits given second_bit second second_is)
+next_ahead base given first_bit second_bit rests first second first_is second_is =
+    let accepted = accepted_of base.first_bits base.second_bits in
+    ap (λ left. ahead_from base.front base.plan accepted (given + 1) left (drop given base.second_bits) rests) (bits_left base.first_bits given first_bit first first_is)
+    ∙ ap (λ left. ahead_from base.front base.plan accepted (given + 1) (first_bit ∷ drop (given + 1) base.first_bits) left rests) (bits_left base.second_bits given second_bit second second_is)
 
-given_by : (result : Result TwoLane TwoHalt) (lane : Result (TwoLane × Rests) TwoVerdict) (new : Rests) (ground : Ground) (given : ℕ)
-    → Finds (λ two. (two, new)) result lane → Gives (ahead_after lane (ahead_on ground given)) result (ahead_on ground given new)
-given_by (Ok two) lane new ground given is = ap (λ l. ahead_after l (ahead_on ground given)) is
-given_by (Err (Found finding)) lane new ground given is = ap (λ l. ahead_after l (ahead_on ground given)) is
-given_by (Err Failed) lane new ground given is = tt
-given_by (Err NoMemory) lane new ground given is = tt
+given_by : (result : Result TwoLane TwoHalt) (lane : Result (TwoLane × Rests) TwoVerdict) (new : Rests) (base : Base) (given : ℕ)
+    → Finds (λ two. (two, new)) result lane → GivesLane (ahead_after lane (ahead_on base given)) result (ahead_on base given new)
+given_by (Ok two) lane new base given is = ap (λ l. ahead_after l (ahead_on base given)) is
+given_by (Err (Found finding)) lane new base given is = ap (λ l. ahead_after l (ahead_on base given)) is
+given_by (Err Failed) lane new base given is = tt
+given_by (Err NoMemory) lane new base given is = tt
 
 -- a lane was read, or judging stopped in it
-pub lane_given : (held : Option Files) (ground : Ground) (given : ℕ) (first_bit second_bit : Bool) (result : Result TwoLane TwoHalt) (old new : Files → Rests)
-    → given < length ground.first_bits → given < length ground.second_bits
-    → first_bit ≡ get_or ground.first_bits given first_bit → second_bit ≡ get_or ground.second_bits given second_bit
+pub lane_given : (held : Option Files) (base : Base) (given : ℕ) (first_bit second_bit : Bool) (result : Result TwoLane TwoHalt) (old new : Files → Rests)
+    → given < length base.first_bits → given < length base.second_bits
+    → first_bit ≡ get_or base.first_bits given first_bit → second_bit ≡ get_or base.second_bits given second_bit
     → IfSome held (λ files. Finds (λ two. (two, new files)) result
-    (two_lane_at ground.front ground.plan (given + 1) first_bit second_bit (drop (given + 1) ground.first_bits) (old files)))
-    → IfSome held (λ files. Gives (ahead_on ground given (old files)) result (ahead_on ground (given + 1) (new files)))
-lane_given None ground given first_bit second_bit result old new first second first_is second_is step = tt
-lane_given (Some files) ground given first_bit second_bit result old new first second first_is second_is step =
-    subst (λ a. Gives a result (ahead_on ground (given + 1) (new files))) (sym (next_ahead ground given first_bit second_bit (old files) first second first_is second_is))
-    (given_by result _ (new files) ground (given + 1) step)
+    (two_lane_at base.front base.plan (given + 1) first_bit second_bit (drop (given + 1) base.first_bits) (old files)))
+    → IfSome held (λ files. GivesLane (ahead_on base given (old files)) result (ahead_on base (given + 1) (new files)))
+lane_given None base given first_bit second_bit result old new first second first_is second_is step = tt
+lane_given (Some files) base given first_bit second_bit result old new first second first_is second_is step =
+    subst (λ a. GivesLane a result (ahead_on base (given + 1) (new files))) (sym (next_ahead base given first_bit second_bit (old files) first second first_is second_is))
+    (given_by result _ (new files) base (given + 1) step)
 
-none_ahead : (ground : Ground) (given : ℕ) (rests : Rests) → length ground.first_bits ≤ given
-    → ahead_on ground given rests ≡ over (ends_found (accepted_of ground.first_bits ground.second_bits) rests)
+none_ahead : (base : Base) (given : ℕ) (rests : Rests) → length base.first_bits ≤ given
+    → ahead_on base given rests ≡ over (ends_found (accepted_of base.first_bits base.second_bits) rests)
 unfolding ahead_from
-none_ahead ground given rests past =
-    ap (λ left. ahead_from ground.front ground.plan (accepted_of ground.first_bits ground.second_bits) (given + 1) left (drop given ground.second_bits) rests) (drop_of_length-le ground.first_bits past)
+none_ahead base given rests past =
+    ap (λ left. ahead_from base.front base.plan (accepted_of base.first_bits base.second_bits) (given + 1) left (drop given base.second_bits) rests) (drop_of_length-le base.first_bits past)
 
-ended_by : (halt : TwoHalt) (finding : TwoVerdict) (ahead after : Ahead) → ahead ≡ over finding → IsFound halt finding → Gives ahead (Err halt) after
+ended_by : (halt : TwoHalt) (finding : TwoVerdict) (ahead after : Ahead) → ahead ≡ over finding → IsFound halt finding → GivesLane ahead (Err halt) after
 ended_by (Found f) finding ahead after is found = is ∙ ap over found
 ended_by Failed finding ahead after is found = tt
 ended_by NoMemory finding ahead after is found = tt
 
 -- every lane was given
-pub ends_given : (held : Option Files) (ground : Ground) (given : ℕ) (halt : TwoHalt) (old : Files → Rests) (after : Files → Ahead) → length ground.first_bits ≤ given
-    → IfSome held (λ files. IsFound halt (ends_found (accepted_of ground.first_bits ground.second_bits) (old files)))
-    → IfSome held (λ files. Gives (ahead_on ground given (old files)) (Err halt) (after files))
-ends_given None ground given halt old after past found = tt
-ends_given (Some files) ground given halt old after past found =
-    ended_by halt (ends_found (accepted_of ground.first_bits ground.second_bits) (old files)) _ (after files) (none_ahead ground given (old files) past) found
+pub ends_given : (held : Option Files) (base : Base) (given : ℕ) (halt : TwoHalt) (old : Files → Rests) (after : Files → Ahead) → length base.first_bits ≤ given
+    → IfSome held (λ files. IsFound halt (ends_found (accepted_of base.first_bits base.second_bits) (old files)))
+    → IfSome held (λ files. GivesLane (ahead_on base given (old files)) (Err halt) (after files))
+ends_given None base given halt old after past found = tt
+ends_given (Some files) base given halt old after past found =
+    ended_by halt (ends_found (accepted_of base.first_bits base.second_bits) (old files)) _ (after files) (none_ahead base given (old files) past) found
+
+-- what was read before the first lane
+pub begun_told : (held : Option Files) (base : Result Base TwoHalt) (result : Result Stage VErr) (new : Files → Rests) (told : Files → Result (Base × Rests) TwoVerdict)
+    → ((files : Files) (expected : Result (Base × Rests) TwoVerdict) → Finds (λ b. (b, new files)) base expected → Gives (λ stage. ahead_of stage files) result (Ok (ahead_by expected)))
+    → IfSome held (λ files. Finds (λ b. (b, new files)) base (told files))
+    → IfSome held (λ files. Gives (λ stage. ahead_of stage files) result (Ok (ahead_by (told files))))
+begun_told None base result new told gives step = tt
+begun_told (Some files) base result new told gives step = gives files (told files) step
+
+none_of : {X : Type 0} (found : Option X) → is_some found ≡ false → found ≡ None
+none_of None none = refl
+none_of (Some x) none = cc
+
+-- a step of a course on which nothing was found so far
+pub went_on : (held : Option Files) (course : Course) (step : Result TwoLane TwoHalt) (new : Files → Rests) (P : Files → Ahead → Type 0)
+    → is_some course.finding ≡ false
+    → ((files : Files) (before : Ahead) → GivesLane before step (ahead_on course.base (course.given + 1) (new files)) → P files before)
+    → IfSome held (λ files. GivesLane (ahead_on course.base course.given (rests_of course.readers files)) step (ahead_on course.base (course.given + 1) (new files)))
+    → IfSome held (λ files. P files (ahead_of (Running course) files))
+went_on None course step new P none goes is = tt
+went_on (Some files) course step new P none goes is =
+    let ahead = ahead_on course.base course.given (rests_of course.readers files) in
+    subst (λ finding. P files (ahead_unless finding ahead)) (sym (none_of course.finding none)) (goes files ahead is)

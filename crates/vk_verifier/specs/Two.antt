@@ -1,5 +1,5 @@
 -- Two replies to a board, side by side: what is given of each lane, and what is found.
-use Rattle.std.specs.Prelude.{◌≡◌, ◌⊎◌, ℕ, ◌+◌, ◌≤◌, ◌&&◌, Bool, true, false, not, if◌then◌else◌, List, [], ◌∷◌, length, drop, Option, Some, None, IfSome, Result, Ok, Err}
+use Rattle.std.specs.Prelude.{◌≡◌, ◌⊎◌, ℕ, ◌+◌, ◌≤◌, ◌&&◌, Bool, true, false, not, if◌then◌else◌, List, [], ◌∷◌, length, drop, Option, Some, None, IsSome, IfSome, Result, Ok, Err}
 use Rattle.std.specs.FinMap.{get}
 use Rattle.vk_io.specs.Files.{Files}
 use Rattle.vk_lines.specs.Lines.{Rest, rest_of, end_at}
@@ -19,8 +19,11 @@ use Rattle.vk_verifier.specs.declared.front.Front.{Front}
 use Rattle.vk_verifier.specs.declared.stage.TwoLane.{TwoLane}
 use Rattle.vk_verifier.specs.declared.stage.TwoVerdict.{TwoVerdict}
 use Rattle.vk_verifier.specs.declared.stage.TwoVerdict.TheVariants.{Refused, Same, Ready}
-use Rattle.vk_verifier.specs.declared.stage.Ground.{Ground}
+use Rattle.vk_verifier.specs.declared.stage.Base.{Base}
 use Rattle.vk_verifier.specs.declared.stage.TwoReaders.{TwoReaders}
+use Rattle.vk_verifier.specs.declared.stage.Course.{Course}
+use Rattle.vk_verifier.specs.declared.stage.Stage.{Stage}
+use Rattle.vk_verifier.specs.declared.stage.Stage.TheVariants.{Before, Running}
 use Rattle.vk_verifier.specs.declared.two_halt.TwoHalt.{TwoHalt}
 use Rattle.vk_verifier.specs.declared.two_halt.TwoHalt.TheVariants.{Found, Failed, NoMemory}
 use Rattle.vk_verifier.specs.Verdicts.{in_part, ends_judged, front_at, plan_of, IsFront, begun}
@@ -157,7 +160,7 @@ ahead_from front plan accepted number _ _ rests = over (ends_found accepted rest
 -- ---- the files
 
 -- the second attempt, after the first
-abbrev pub second_begun : Rest → Rest → Front × Rest → List Bool × Rest → Result (Ground × Rests) TwoVerdict
+abbrev pub second_begun : Rest → Rest → Front × Rest → List Bool × Rest → Result (Base × Rests) TwoVerdict
 second_begun challenge reply front first = do
   second ← of_second (rest_judged front.0 (plan_of front.0) 1 first.0 front.1 first.1) (attempt_at front.0.head challenge reply)
   Ok (
@@ -166,28 +169,28 @@ second_begun challenge reply front first = do
   )
 
 -- both attempts
-abbrev pub both_begun : Rest → Rest → Rest → Rest → Front × Rest → Result (Ground × Rests) TwoVerdict
+abbrev pub both_begun : Rest → Rest → Rest → Rest → Front × Rest → Result (Base × Rests) TwoVerdict
 both_begun first_challenge first_reply second_challenge second_reply front =
     of_first (attempt_at front.0.head first_challenge first_reply) >>= second_begun second_challenge second_reply front
 
 -- what is read before the first lane
-unfoldable pub ground_at : Rest → Rest → Rest → Rest → Rest → Result (Ground × Rests) TwoVerdict
-ground_at board first_challenge first_reply second_challenge second_reply =
+unfoldable pub base_at : Rest → Rest → Rest → Rest → Rest → Result (Base × Rests) TwoVerdict
+base_at board first_challenge first_reply second_challenge second_reply =
     of_first (front_at board) >>= both_begun first_challenge first_reply second_challenge second_reply
 
 -- what is ahead after so many lanes
-abbrev pub ahead_on : Ground → ℕ → Rests → Ahead
-ahead_on ground given rests =
-    ahead_from ground.front ground.plan (accepted_of ground.first_bits ground.second_bits) (given + 1) (drop given ground.first_bits) (drop given ground.second_bits) rests
+abbrev pub ahead_on : Base → ℕ → Rests → Ahead
+ahead_on base given rests =
+    ahead_from base.front base.plan (accepted_of base.first_bits base.second_bits) (given + 1) (drop given base.first_bits) (drop given base.second_bits) rests
 
-abbrev pub ahead_by : Result (Ground × Rests) TwoVerdict → Ahead
+abbrev pub ahead_by : Result (Base × Rests) TwoVerdict → Ahead
 ahead_by (Ok start) = ahead_on start.0 0 start.1
 ahead_by (Err finding) = over finding
 
 -- what is given and found of a board, a challenge and the reply to it, and another challenge and reply
 abbrev pub ahead_at : Rest → Rest → Rest → Rest → Rest → Ahead
 ahead_at board first_challenge first_reply second_challenge second_reply =
-    ahead_by (ground_at board first_challenge first_reply second_challenge second_reply)
+    ahead_by (base_at board first_challenge first_reply second_challenge second_reply)
 
 -- the same of the named files; or the first of them, in this order, that is missing or too long
 unfoldable pub two_on : Files → List ℕ → List ℕ → List ℕ → List ℕ → List ℕ → Result Ahead VErr
@@ -216,11 +219,11 @@ IsFound Failed expected = Unit {0}
 IsFound NoMemory expected = Unit {0}
 
 -- a lane was given of what was ahead, or what is found is known
-abbrev pub Gives : Ahead → Result TwoLane TwoHalt → Ahead → Type 0
-Gives before (Ok lane) after = before ≡ with_lane lane after
-Gives before (Err (Found finding)) after = before ≡ over finding
-Gives before (Err Failed) after = Unit {0}
-Gives before (Err NoMemory) after = Unit {0}
+abbrev pub GivesLane : Ahead → Result TwoLane TwoHalt → Ahead → Type 0
+GivesLane before (Ok lane) after = before ≡ with_lane lane after
+GivesLane before (Err (Found finding)) after = before ≡ over finding
+GivesLane before (Err Failed) after = Unit {0}
+GivesLane before (Err NoMemory) after = Unit {0}
 
 -- both replies are accepted
 abbrev pub AreAccepted : TwoVerdict → Type 0
@@ -244,11 +247,11 @@ abbrev pub rests_of : TwoReaders → Files → Rests
 rests_of readers files = record { board = rest_of readers.board files; first = rest_of readers.first files; second = rest_of readers.second files }
 
 -- what was read before the first lane: the circuit is the board's, and each challenge has a bit for each lane
-pub record IsGround (ground : Ground) : Type 0 where
-  pub front : IsFront ground.front
-  pub plan : ground.plan ≡ plan_of ground.front
-  pub first : length ground.first_bits ≡ ground.front.head.lanes
-  pub second : length ground.second_bits ≡ ground.front.head.lanes
+pub record IsBase (base : Base) : Type 0 where
+  pub front : IsFront base.front
+  pub plan : base.plan ≡ plan_of base.front
+  pub first : length base.first_bits ≡ base.front.head.lanes
+  pub second : length base.second_bits ≡ base.front.head.lanes
 
 -- a lane that is given is that of the number, and what both replies show of it is accepted
 pub record IsTwoLane (front : Front) (plan : PlanValue) (number : ℕ) (lane : TwoLane) : Type 0 where
@@ -257,3 +260,64 @@ pub record IsTwoLane (front : Front) (plan : PlanValue) (number : ℕ) (lane : T
   pub first : IsChecked plan lane.case lane.first_bit lane.first
   pub second_counts : HasCounts plan lane.case lane.second
   pub second : IsChecked plan lane.case lane.second_bit lane.second
+
+-- ---- how far two replies were read
+
+-- what was found, where no lane is given any more
+abbrev pub finding_of : Stage → Option TwoVerdict
+finding_of (Before finding) = Some finding
+finding_of (Running course) = course.finding
+
+-- what was read before the first lane, where there was no fault so far
+abbrev pub base_of : Stage → Option Base
+base_of (Before finding) = None
+base_of (Running course) = Some course.base
+
+-- how many lanes were given
+abbrev pub given_of : Stage → ℕ
+given_of (Before finding) = 0
+given_of (Running course) = course.given
+
+abbrev pub ahead_unless : Option TwoVerdict → Ahead → Ahead
+ahead_unless (Some finding) ahead = over finding
+ahead_unless None ahead = ahead
+
+-- what is still to be given and found of the files
+abbrev pub ahead_of : Stage → Files → Ahead
+ahead_of (Before finding) files = over finding
+ahead_of (Running course) files = ahead_unless course.finding (ahead_on course.base course.given (rests_of course.readers files))
+
+-- a lane is given, and then what is ahead of the new stage; or what is found
+abbrev pub GoesOn : Ahead → Option TwoLane → Stage → Files → Type 0
+GoesOn before (Some lane) stage files = before ≡ with_lane lane (ahead_of stage files)
+GoesOn before None stage files = (finding : TwoVerdict) × (finding_of stage ≡ Some finding) × (before ≡ over finding)
+
+-- every lane was given, where both replies are accepted
+abbrev pub IsRight : Base → ℕ → TwoVerdict → Type 0
+IsRight base given finding = (¬ AreAccepted finding) ⊎ (given ≡ base.front.head.lanes)
+
+pub record IsCourse (course : Course) : Type 0 where
+  pub base : IsBase course.base
+  pub within : course.given ≤ course.base.front.head.lanes
+  pub finding : IfSome course.finding (IsRight course.base course.given)
+
+abbrev pub IsStage : Stage → Type 0
+IsStage (Before finding) = ¬ AreAccepted finding
+IsStage (Running course) = IsCourse course
+
+-- no lane is given any more
+abbrev pub IsOver : Stage → Type 0
+IsOver stage = IsSome (finding_of stage)
+
+-- the front and the circuit of the board are known
+abbrev pub HasBase : Stage → Type 0
+HasBase stage = IsSome (base_of stage)
+
+-- a lane that is given is the next one
+pub record IsNextLane (old new : Stage) (lane : TwoLane) : Type 0 where
+  pub base : Base
+  pub is : base_of new ≡ Some base
+  pub right : IsBase base
+  pub count : given_of new ≡ given_of old + 1
+  pub within : given_of new ≤ base.front.head.lanes
+  pub checked : IsTwoLane base.front base.plan (given_of new) lane

@@ -8,6 +8,7 @@ mod judging;
 mod lane;
 mod laws;
 mod stage;
+mod two;
 mod two_halt;
 mod two_lane;
 
@@ -16,3 +17,4 @@ pub use front::Front;
 pub use judging::verdict;
 pub use laws::a_verdict_accepts_what_is_accepted;
 pub use stage::{TwoLane, TwoVerdict};
+pub use two::{TwoChecker, TwoErr};

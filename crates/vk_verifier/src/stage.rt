@@ -31,7 +31,7 @@ pub enum TwoVerdict {
 
 /// What was read before the first lane: the front of the board, its circuit, and the bits of both challenges.
 #[derive(Drop)]
-pub struct Ground {
+pub struct Base {
     pub front: Front,
     pub plan: Plan,
     pub first_bits: Seq<bool>,
@@ -49,7 +49,7 @@ pub struct TwoReaders {
 /// How many lanes were given, and what was found, where no lane is to be given any more.
 #[derive(Drop)]
 pub struct Course {
-    pub ground: Ground,
+    pub base: Base,
     pub readers: TwoReaders,
     pub given: u32,
     pub finding: Option<TwoVerdict>,
@@ -60,5 +60,5 @@ pub struct Course {
 pub enum Stage {
     /// There is a fault before the first lane.
     Before(TwoVerdict),
-    Lanes(Course),
+    Running(Course),
 }

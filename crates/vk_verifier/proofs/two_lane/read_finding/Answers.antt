@@ -10,7 +10,7 @@ pub returns-clause-told : goal.returns-clause-told
 unfolding ends_found
 returns-clause-told g c =
     ends_are (g.S.Shelf.held c.args.shelf.now) (g.S.Shelf.held c.read_ends-first.new.shelf) c.read_ends-first.result c.read_second_end-second.result c.found_by-found.result
-    c.accepted_of-accepted.result (accepted_of c.args.ground.now.first_bits c.args.ground.now.second_bits) c.is_ok.result
+    c.accepted_of-accepted.result (accepted_of c.args.base.now.first_bits c.args.base.now.second_bits) c.is_ok.result
     (λ files. ends_judged (rest_of c.args.readers.now.board files) (rest_of c.args.readers.now.first files))
     (λ files. in_part part.Reply (end_at (rest_of c.args.readers.now.second files)))
     (λ files. rest_of c.read_second_end-second.new.second files)
