@@ -3,3 +3,4 @@ pub mod LaneLoop
 pub mod Joined
 pub mod Bits
 pub mod TwoFound
+pub mod TwoLaw

@@ -1,5 +1,5 @@
 -- What is found of two replies on the way, for any told content.
-use Rattle.std.proofs.Common.{◌≡◌, ℕ, suc, ◌+◌, ◌<◌, ◌≤◌, ◌&&◌, Bool, true, false, List, [], ◌∷◌, length, drop, get_or, Option, Some, None, Result, Ok, Err, is_ok, is_some, IsOk, IsTrue, IfSome, refl, ap, sym, ◌∙◌, arith, subst}
+use Rattle.std.proofs.Common.{◌≡◌, ℕ, suc, ◌+◌, ◌<◌, ◌≤◌, Bool, false, List, ◌∷◌, length, drop, get_or, Option, Some, None, Result, Ok, Err, is_ok, is_some, IsOk, IsTrue, IfSome, refl, ap, sym, ◌∙◌, arith, subst}
 use Rattle.std.proofs.Math.Seq.{drop-cons}
 use Rattle.std.proofs.Math.ListN.{drop_of_length-le}
 use Rattle.vk_io.specs.Files.{Files}
@@ -11,7 +11,6 @@ use Rattle.vk_verifier.specs.declared.stage.Course.{Course}
 use Rattle.vk_verifier.specs.declared.stage.Stage.{Stage}
 use Rattle.vk_verifier.specs.declared.stage.Stage.TheVariants.{Running}
 use Rattle.vk_verifier.specs.declared.halt.Halt.{Halt}
-use Rattle.vk_verifier.specs.declared.halt.Halt.TheVariants as halt
 use Rattle.vk_verifier.specs.declared.stage.TwoLane.{TwoLane}
 use Rattle.vk_verifier.specs.declared.stage.TwoVerdict.{TwoVerdict}
 use Rattle.vk_verifier.specs.declared.stage.Base.{Base}

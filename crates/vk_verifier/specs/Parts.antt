@@ -1,5 +1,5 @@
 -- The parts of a verdict, each by itself, so that two replies can be judged side by side.
-use Rattle.std.specs.Prelude.{◌≡◌, ℕ, Bool, List, length, Result, Ok, Err}
+use Rattle.std.specs.Prelude.{◌≡◌, ℕ, Bool, List, length, Result, Ok}
 use Rattle.vk_lines.specs.Lines.{Rest}
 use Rattle.vk_plan.specs.Plans.{PlanValue}
 use Rattle.vk_wire.specs.declared.wire.Shown.{Shown}

@@ -1,4 +1,4 @@
-use Rattle.std.proofs.Common.{◌≡◌, ◌∙◌, ap, sym, if◌then◌else◌}
+use Rattle.std.proofs.Common.{◌∙◌, ap, sym, if◌then◌else◌}
 use Rattle.vk_verifier.specs.declared.stage.TwoVerdict.TheVariants.{Same, Ready}
 use Rattle.vk_verifier.proofs.Bits.{same_bits_are}
 use Rattle.vk_verifier.proofs.two_halt.accepted_of.Goals as goal

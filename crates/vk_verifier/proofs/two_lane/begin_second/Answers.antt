@@ -1,4 +1,4 @@
-use Rattle.std.proofs.Common.{refl, ap, subst, IsTrue, IfSome}
+use Rattle.std.proofs.Common.{ap, subst, IsTrue, IfSome}
 use Rattle.vk_lines.specs.Lines.{rest_of}
 use Rattle.vk_plan.specs.Plans.{PlanValue}
 use Rattle.vk_verifier.specs.Verdicts.{Judges, plan_of}

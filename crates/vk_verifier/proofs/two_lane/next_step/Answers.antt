@@ -1,4 +1,4 @@
-use Rattle.std.proofs.Common.{rules, ◌+◌, ◌≤◌, ◌<◌, length, arith}
+use Rattle.std.proofs.Common.{rules, ◌+◌, ◌<◌, length, arith}
 use Rattle.vk_verifier.specs.Two.{rests_of, ahead_on}
 use Rattle.vk_verifier.proofs.TwoFound.{lane_given, ends_given}
 use Rattle.vk_verifier.proofs.two_lane.next_step.Goals as goal

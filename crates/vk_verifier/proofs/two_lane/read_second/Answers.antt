@@ -1,4 +1,4 @@
-use Rattle.std.proofs.Common.{rules, ◌+◌, drop, refl, ap}
+use Rattle.std.proofs.Common.{rules, ◌+◌, drop, ap}
 use Rattle.vk_lines.specs.Lines.{rest_of}
 use Rattle.vk_verifier.specs.Parts.{rest_judged, reply_judged}
 use Rattle.vk_verifier.proofs.TwoFound.{second_found}
