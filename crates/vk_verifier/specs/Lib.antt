@@ -1,2 +1,5 @@
 pub mod Verdicts
+pub mod Parts
+pub mod Two
+pub mod TwoLaw
 pub mod Acceptance

@@ -1,0 +1,40 @@
+-- What two replies to a board come to, by the verdicts on them.
+use Rattle.std.specs.Prelude.{◌≡◌, ℕ, Bool, List, [], map, Result, Ok, Err, IfOk}
+use Rattle.vk_io.specs.Files.{Files, bytes_of}
+use Rattle.vk_lines.specs.Lines.{Rest}
+use Rattle.vk_reply.specs.declared.challenge.Challenge.{Challenge}
+use Rattle.vk_reply.specs.Reading.{challenge_at}
+use Rattle.vk_verifier.specs.Verdicts.{from_start, verdict_of}
+use Rattle.vk_verifier.specs.Two.{Ahead, AreAccepted, ahead_at, two_on, two_verdict}
+
+abbrev pub bits_read : Result (Challenge × Rest) ℕ → List Bool
+bits_read (Ok challenge) = challenge.0.bits
+bits_read (Err line) = []
+
+-- the bits of a challenge; none where the bytes aren't one
+abbrev pub bits_in : List ℕ → List Bool
+bits_in challenge = bits_read (challenge_at (from_start challenge))
+
+-- what is given and found of the bytes of a board, a challenge and the reply to it, and another challenge and reply
+abbrev pub ahead_in : List ℕ → List ℕ → List ℕ → List ℕ → List ℕ → Ahead
+ahead_in board first_challenge first_reply second_challenge second_reply =
+    ahead_at (from_start board) (from_start first_challenge) (from_start first_reply) (from_start second_challenge) (from_start second_reply)
+
+-- what is found of the named files is what the two verdicts come to
+abbrev pub FindsByVerdicts : Type 0
+FindsByVerdicts = (files : Files) (board first_challenge first_reply second_challenge second_reply : List ℕ)
+    → IfOk (two_on files board first_challenge first_reply second_challenge second_reply) (λ ahead. ahead.finding
+    ≡ two_verdict (verdict_of (bytes_of files board) (bytes_of files first_challenge) (bytes_of files first_reply))
+    (verdict_of (bytes_of files board) (bytes_of files second_challenge) (bytes_of files second_reply))
+    (bits_in (bytes_of files first_challenge)) (bits_in (bytes_of files second_challenge)))
+
+-- the lanes are given one for each bit of both challenges, in their order
+pub record AreAllGiven (ahead : Ahead) (first_bits second_bits : List Bool) : Type 0 where
+  pub first : map (λ lane. lane.first_bit) ahead.lanes ≡ first_bits
+  pub second : map (λ lane. lane.second_bit) ahead.lanes ≡ second_bits
+
+-- where both replies are accepted, every lane is given
+abbrev pub GivesEachLane : Type 0
+GivesEachLane = (files : Files) (board first_challenge first_reply second_challenge second_reply : List ℕ)
+    → IfOk (two_on files board first_challenge first_reply second_challenge second_reply) (λ ahead. AreAccepted ahead.finding
+    → AreAllGiven ahead (bits_in (bytes_of files first_challenge)) (bits_in (bytes_of files second_challenge)))

@@ -1,0 +1,299 @@
+// Two replies to a board, side by side.
+ghost use Rattle.std.specs.Prelude.{◌≡◌, ◌⊎◌, ◌≤◌, ◌<◌, ◌+◌, Some, None, Result, Ok, IsSome, IfSome, IfOk, IfErr, OnOk, IsErrOf};
+ghost use Rattle.vk_io.specs.Faults.{Rose};
+ghost use Rattle.vk_io.specs.Files.{Files};
+ghost use Rattle.vk_lines.specs.Lines.{rest_of};
+ghost use Rattle.vk_verifier.specs.Verdicts.{IsFront, plan_of, Gives};
+ghost use Rattle.vk_verifier.specs.declared.stage.Base.{Base};
+ghost use Rattle.vk_verifier.specs.declared.stage.Stage.TheVariants.{Running};
+ghost use Rattle.vk_verifier.specs.declared.stage.TwoVerdict.{TwoVerdict};
+ghost use Rattle.vk_verifier.specs.Two.{Finds, GivesLane, GoesOn, Ahead, Rests, Refuses, AreAccepted, IsBase, IsTwoLane, IsCourse, IsStage, IsRight, IsNextLane, IsOver, HasBase, ahead_on, ahead_by, ahead_at, ahead_of, rests_of, finding_of, base_of, given_of, two_on};
+
+use crate::answers::{Part, VErr};
+use crate::front::Front;
+use crate::judging::begin;
+use crate::stage::{Base, Course, Stage, TwoLane, TwoReaders, TwoVerdict};
+use crate::two_halt::TwoHalt;
+use crate::two_lane::{begin_lanes, next_step};
+use std::alloc::Global;
+use std::marker::Model;
+use vk_board::Head;
+use vk_io::Shelf;
+use vk_lines::Lines;
+use vk_plan::Plan;
+
+/// Why no lane was given, and nothing found.
+#[derive(Clone, Copy, Debug, PartialEq, Eq)]
+pub enum TwoErr {
+    /// The outside failed. The shelf's count of faults rose in this call.
+    Failed,
+    /// Want of memory.
+    NoMemory,
+}
+
+/// Reads a board, a challenge and the reply to it, and another challenge and the reply to that, lane by lane.
+/// A lane is given where both replies are accepted so far. Once no lane is given any more, it tells what the
+/// replies come to.
+#[derive(Drop)]
+pub struct TwoChecker {
+    stage: Stage,
+}
+
+impl Model for TwoChecker {
+    ghost use Rattle.vk_verifier.specs.declared.stage.Stage.{Stage};
+    ghost use Rattle.vk_verifier.specs.Two.{IsStage};
+
+    ghost Value = { Stage };
+
+    ghost view = { λ c. c.stage };
+
+    ghost invariant = { λ c. IsStage c.stage };
+}
+
+impl TwoChecker {
+    /// Begins the files, and reads the board before its first lane, both challenges and the heads of both
+    /// replies. Errs where a file is missing or longer than 2^30 bytes, and names the first that is, in the
+    /// order of the names; where the shelf fails; and for want of memory.
+    #[tactic(auto, unfolding(crate::specs::Two::two_on))]
+    pub fn start<S: Shelf>(
+        alloc: Global,
+        shelf: &mut S,
+        board: &str,
+        challenge1: &str,
+        reply1: &str,
+        challenge2: &str,
+        reply2: &str,
+    ) -> Result<TwoChecker, VErr>
+        ensures told { IfSome (S.held shelf.old) (λ files. Gives (λ checker. ahead_of checker files) result
+            (two_on files board.now challenge1.now reply1.now challenge2.now reply2.now)) }
+        ensures none_given { IfOk result (λ checker. given_of checker ≡ 0) }
+        ensures held { S.held shelf.new ≡ S.held shelf.old }
+        ensures later { S.Shelf.faults shelf.old ≤ S.Shelf.faults shelf.new }
+        ensures failed { IsErrOf result VErr.Failed → Rose (S.Shelf.faults shelf.old) (S.Shelf.faults shelf.new) }
+    {
+        let board = begin(alloc, shelf, board, Part::Board)?;
+        let first_challenge = begin(alloc, shelf, challenge1, Part::Challenge)?;
+        let first = begin(alloc, shelf, reply1, Part::Reply)?;
+        let second_challenge = begin(alloc, shelf, challenge2, Part::SecondChallenge)?;
+        let second = begin(alloc, shelf, reply2, Part::SecondReply)?;
+        let readers = TwoReaders {
+            board,
+            first,
+            second,
+        };
+        let checker = begin_checker(alloc, shelf, first_challenge, second_challenge, readers)?;
+        Ok(checker)
+    }
+
+    /// Gives the next lane, where both replies are accepted so far, and none where every lane was given or one
+    /// of the replies has its fault in the lane or before it. What they come to is known then.
+    pub fn next_lane<S: Shelf>(
+        self,
+        alloc: Global,
+        shelf: &mut S,
+    ) -> Result<(TwoChecker, Option<TwoLane>), TwoErr>
+        ensures told { IfSome (S.held shelf.old) (λ files. IfOk result (λ next. GoesOn (ahead_of self files) next.1 next.0 files)) }
+        ensures lane { IfOk result (λ next. IfSome next.1 (IsNextLane self next.0)) }
+        ensures none { IfOk result (λ next. next.1 ≡ None → IsOver next.0 × (given_of next.0 ≡ given_of self)) }
+        ensures base { IfOk result (λ next. base_of next.0 ≡ base_of self) }
+        ensures held { S.held shelf.new ≡ S.held shelf.old }
+        ensures later { S.Shelf.faults shelf.old ≤ S.Shelf.faults shelf.new }
+        ensures failed { IsErrOf result TwoErr.Failed → Rose (S.Shelf.faults shelf.old) (S.Shelf.faults shelf.new) }
+    {
+        let TwoChecker { stage } = self;
+        match stage {
+            Stage::Before(finding) => Ok((
+                TwoChecker {
+                    stage: Stage::Before(finding),
+                },
+                None,
+            )),
+            Stage::Running(course) => {
+                let (course, lane) = next_on_course(alloc, shelf, course)?;
+                Ok((
+                    TwoChecker {
+                        stage: Stage::Running(course),
+                    },
+                    lane,
+                ))
+            }
+        }
+    }
+
+    /// What both replies come to. Both are accepted only where every lane was given.
+    pub fn finding(&self) -> TwoVerdict
+        requires { IsOver self.now }
+        ensures value { finding_of self.now ≡ Some result }
+        ensures all { AreAccepted result → IfSome (base_of self.now) (λ base. given_of self.now ≡ base.front.head.lanes) }
+    {
+        match &self.stage {
+            Stage::Before(finding) => *finding,
+            Stage::Running(course) => match course.finding {
+                Some(finding) => finding,
+                None => unreachable!(),
+            },
+        }
+    }
+
+    /// What stands on the board before its first lane.
+    pub fn front(&self) -> &Front
+        requires { HasBase self.now }
+        ensures value { IfSome (base_of self.now) (λ base. base.front ≡ result.now) }
+        ensures right { IsFront result.now }
+    {
+        match &self.stage {
+            Stage::Before(_) => unreachable!(),
+            Stage::Running(course) => &course.base.front,
+        }
+    }
+
+    /// The head of the board.
+    pub fn head(&self) -> Head
+        requires { HasBase self.now }
+        ensures { IfSome (base_of self.now) (λ base. base.front.head ≡ result) }
+    {
+        self.front().head
+    }
+
+    /// The circuit of the board.
+    pub fn plan(&self) -> &Plan
+        requires { HasBase self.now }
+        ensures value { IfSome (base_of self.now) (λ base. base.plan ≡ result.now) }
+        ensures circuit { IfSome (base_of self.now) (λ base. result.now ≡ plan_of base.front) }
+    {
+        match &self.stage {
+            Stage::Before(_) => unreachable!(),
+            Stage::Running(course) => &course.base.plan,
+        }
+    }
+}
+
+/// Reads what stands before the first lane in the files that were begun.
+fn begin_checker<S: Shelf>(
+    alloc: Global,
+    shelf: &mut S,
+    first_challenge: Lines,
+    second_challenge: Lines,
+    readers: TwoReaders,
+) -> Result<TwoChecker, VErr>
+    ensures told { IfSome (S.held shelf.old) (λ files. Gives (λ checker. ahead_of checker files) result
+        (Ok (ahead_at (rest_of readers.board files) (rest_of first_challenge files) (rest_of readers.first files) (rest_of second_challenge files) (rest_of readers.second files)))) }
+    ensures none_given { IfOk result (λ checker. given_of checker ≡ 0) }
+    ensures held { S.held shelf.new ≡ S.held shelf.old }
+    ensures later { S.Shelf.faults shelf.old ≤ S.Shelf.faults shelf.new }
+    ensures failed { IsErrOf result VErr.Failed → Rose (S.Shelf.faults shelf.old) (S.Shelf.faults shelf.new) }
+{
+    let mut first = first_challenge;
+    let mut second = second_challenge;
+    let mut readers = readers;
+    let base = begin_lanes(alloc, shelf, &mut first, &mut second, &mut readers);
+    let checker = checker_on(base, readers);
+    checker
+}
+
+/// Before the first lane, where there is no fault before it.
+fn checker_on(base: Result<Base, TwoHalt>, readers: TwoReaders) -> Result<TwoChecker, VErr>
+    requires right { IfOk base IsBase }
+    requires refuses { IfErr base Refuses }
+    ensures told { (files : Files) (expected : Result (Base × Rests) TwoVerdict)
+        → Finds (λ g. (g, rests_of readers files)) base expected → Gives (λ checker. ahead_of checker files) result (Ok (ahead_by expected)) }
+    ensures none_given { IfOk result (λ checker. given_of checker ≡ 0) }
+    ensures inside { IsErrOf result VErr.Failed → IsErrOf base TwoHalt.Failed }
+{
+    match base {
+        Ok(base) => Ok(TwoChecker {
+            stage: Stage::Running(Course {
+                base,
+                readers,
+                given: 0,
+                finding: None,
+            }),
+        }),
+        Err(TwoHalt::Found(finding)) => Ok(TwoChecker {
+            stage: Stage::Before(finding),
+        }),
+        Err(TwoHalt::Failed) => Err(VErr::Failed),
+        Err(TwoHalt::NoMemory) => Err(VErr::NoMemory),
+    }
+}
+
+/// The next lane of the course, if there is one.
+fn next_on_course<S: Shelf>(
+    alloc: Global,
+    shelf: &mut S,
+    course: Course,
+) -> Result<(Course, Option<TwoLane>), TwoErr>
+    requires { IsCourse course }
+    ensures told { IfSome (S.held shelf.old) (λ files. IfOk result (λ next. GoesOn (ahead_of (Running course) files) next.1 (Running next.0) files)) }
+    ensures right { IfOk result (λ next. IsCourse next.0) }
+    ensures lane { IfOk result (λ next. IfSome next.1 (IsNextLane (Running course) (Running next.0))) }
+    ensures none { IfOk result (λ next. next.1 ≡ None → IsSome next.0.finding × (next.0.given ≡ course.given)) }
+    ensures base { IfOk result (λ next. next.0.base ≡ course.base) }
+    ensures held { S.held shelf.new ≡ S.held shelf.old }
+    ensures later { S.Shelf.faults shelf.old ≤ S.Shelf.faults shelf.new }
+    ensures failed { IsErrOf result TwoErr.Failed → Rose (S.Shelf.faults shelf.old) (S.Shelf.faults shelf.new) }
+{
+    let Course {
+        base,
+        mut readers,
+        given,
+        finding,
+    } = course;
+    if finding.is_some() {
+        let over = Course {
+            base,
+            readers,
+            given,
+            finding,
+        };
+        return Ok((over, None));
+    }
+    let step = next_step(alloc, shelf, &base, given, &mut readers);
+    let next = after_step(base, readers, given, step)?;
+    Ok(next)
+}
+
+/// The course after a step from so many lanes.
+fn after_step(
+    base: Base,
+    readers: TwoReaders,
+    given: u32,
+    step: Result<TwoLane, TwoHalt>,
+) -> Result<(Course, Option<TwoLane>), TwoErr>
+    requires base { IsBase base }
+    requires within { given ≤ base.front.head.lanes }
+    requires right { IfOk step (IsTwoLane base.front base.plan (given + 1)) }
+    requires more { OnOk step (given < base.front.head.lanes) }
+    requires all { IfErr step (λ halt. Refuses halt ⊎ (given ≡ base.front.head.lanes)) }
+    ensures told { (files : Files) (before : Ahead) → GivesLane before step (ahead_on base (given + 1) (rests_of readers files))
+        → IfOk result (λ next. GoesOn before next.1 (Running next.0) files) }
+    ensures right { IfOk result (λ next. IsCourse next.0) }
+    ensures lane { IfOk result (λ next. IfSome next.1 (IsTwoLane base.front base.plan next.0.given)) }
+    ensures count { IfOk result (λ next. IfSome next.1 (λ lane. next.0.given ≡ given + 1)) }
+    ensures none { IfOk result (λ next. next.1 ≡ None → IsSome next.0.finding × (next.0.given ≡ given)) }
+    ensures base { IfOk result (λ next. next.0.base ≡ base) }
+    ensures inside { IsErrOf result TwoErr.Failed → IsErrOf step TwoHalt.Failed }
+{
+    match step {
+        Ok(lane) => {
+            let course = Course {
+                base,
+                readers,
+                given: given + 1,
+                finding: None,
+            };
+            Ok((course, Some(lane)))
+        }
+        Err(TwoHalt::Found(finding)) => {
+            let course = Course {
+                base,
+                readers,
+                given,
+                finding: Some(finding),
+            };
+            Ok((course, None))
+        }
+        Err(TwoHalt::Failed) => Err(TwoErr::Failed),
+        Err(TwoHalt::NoMemory) => Err(TwoErr::NoMemory),
+    }
+}
