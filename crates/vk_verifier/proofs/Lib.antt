@@ -11,3 +11,6 @@ pub mod Refusals
 pub mod Files
 pub mod Wholes
 pub mod Accepted
+pub mod Joined
+pub mod Bits
+pub mod TwoFound

@@ -1,2 +1,4 @@
 pub mod Verdicts
+pub mod Parts
+pub mod Two
 pub mod Acceptance

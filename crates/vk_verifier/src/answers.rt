@@ -6,6 +6,8 @@ pub enum Part {
     Board,
     Challenge,
     Reply,
+    SecondChallenge,
+    SecondReply,
 }
 
 /// The first fault of a board, a challenge and a reply, or that there is none.

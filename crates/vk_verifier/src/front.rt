@@ -1,5 +1,5 @@
 // What stands on a board before its first lane.
-ghost use Rattle.std.specs.Prelude.{◌≡◌, ◌≤◌, IfSome, IfOk, IfErr, IsErrOf};
+ghost use Rattle.std.specs.Prelude.{◌≡◌, ◌≤◌, IfSome, IfOk, IsErrOf};
 ghost use Rattle.vk_io.specs.Faults.{Rose};
 ghost use Rattle.vk_board.specs.Values.{IsHead, AreSeals};
 ghost use Rattle.vk_lines.specs.Lines.{rest_of};
@@ -12,6 +12,7 @@ use vk_board::{Head, SealLines, position_of, price_stands, read_head, read_seals
 use vk_io::Shelf;
 use vk_lines::Lines;
 use vk_plan::{Circuit, Plan};
+use vk_residue::NoMemory;
 use vk_seq::Seq;
 use vk_vickrey::{VickreyOutcome, VickreyPlan};
 
@@ -63,17 +64,16 @@ fn front_from(head: Head, seals: Seq<SealLines>) -> Result<Front, Halt>
 }
 
 /// The circuit that the board's lanes are held to.
-pub fn plan_of(alloc: Global, front: &Front) -> Result<Plan, Halt>
+pub fn plan_of(alloc: Global, front: &Front) -> Result<Plan, NoMemory>
     requires { IsFront front.now }
-    ensures plan { IfOk result (λ plan. plan ≡ plan_of front.now) }
-    ensures inside { IfErr result (λ halt. halt ≡ Halt.NoMemory) }
+    ensures { IfOk result (λ plan. plan ≡ plan_of front.now) }
 {
     let outcome = VickreyOutcome {
         position: front.position,
         price: front.head.price,
     };
     match VickreyPlan::new(front.head.seals, front.head.width, outcome) {
-        None => Err(Halt::Refused(BoardVerdict::Price)),
+        None => unreachable!(),
         Some(circuit) => {
             let plan = circuit.plan(alloc)?;
             Ok(plan)

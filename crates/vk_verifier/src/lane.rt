@@ -1,13 +1,12 @@
 // The verdict on one lane.
-ghost use Rattle.std.specs.Prelude.{◌≡◌, ◌≤◌, ◌<◌, ◌++◌, All, length, IfSome, IfOk, IsErrOf};
+ghost use Rattle.std.specs.Prelude.{◌≡◌, ◌≤◌, ◌<◌, ◌+◌, ◌++◌, All, length, drop, IfSome, IfOk, OnOk, IsErrOf};
 ghost use Rattle.vk_io.specs.Faults.{Rose};
 ghost use Rattle.vk_lines.specs.Lines.{rest_of};
-ghost use Rattle.vk_board.specs.Values.{IsLaneLines};
 ghost use Rattle.vk_board.specs.Reading.{seats_of};
-ghost use Rattle.vk_reply.specs.Values.{AreShown};
-ghost use Rattle.vk_plan.specs.Plans.{IsPlan};
+ghost use Rattle.vk_row.specs.Lanes.{HasCounts};
 ghost use Rattle.vk_row.specs.LaneTests.{checked_lane};
-ghost use Rattle.vk_verifier.specs.Verdicts.{Judges, IsFront, plan_of, case_of, input_coms, lane_verdict, lane_judged, lanes_judged, later_wires};
+ghost use Rattle.vk_verifier.specs.Verdicts.{Judges, IsFront, plan_of, case_of, input_coms, lane_verdict, lane_judged, lanes_judged};
+ghost use Rattle.vk_verifier.specs.Parts.{case_at, reply_judged, IsCase, Fits, IsChecked};
 
 use crate::answers::{BoardVerdict, Part};
 use crate::front::Front;
@@ -71,28 +70,52 @@ fn case_of(alloc: Global, front: &Front, lane: u32, lines: LaneLines) -> Result<
     })
 }
 
-/// Whether what is shown of the lane is accepted for the bit.
-fn check(
+/// Reads the lines of a lane on the board: all that is public of it.
+#[tactic(auto, unfolding(crate::specs::Parts::case_at))]
+pub fn read_case<S: Shelf>(
     alloc: Global,
+    shelf: &mut S,
     front: &Front,
     plan: &Plan,
     lane: u32,
-    bit: bool,
-    lines: LaneLines,
-    shown: &[Shown],
-) -> Result<(), Halt>
+    board: &mut Lines,
+) -> Result<LaneCase, Halt>
     requires front { IsFront front.now }
-    requires is_plan { IsPlan plan.now }
     requires plan { plan.now ≡ plan_of front.now }
     requires first { 1 ≤ lane }
     requires last { lane ≤ front.now.head.lanes }
-    requires lines { IsLaneLines (later_wires plan.now) (length plan.now.rows) lines }
-    requires shown { AreShown plan.now.kinds bit shown.now }
-    ensures judged { Judges (λ done. done) result (lane_verdict lane (checked_lane plan.now (case_of front.now lane lines) bit shown.now)) }
+    ensures told { IfSome (S.held shelf.old) (λ files.
+        Judges (λ case. (case, rest_of board.new files)) result (case_at front.now plan.now lane (rest_of board.old files))) }
+    ensures right { IfOk result (IsCase front.now plan.now lane) }
+    ensures fits { IfOk result (Fits plan.now) }
+    ensures held { S.held shelf.new ≡ S.held shelf.old }
+    ensures later { S.Shelf.faults shelf.old ≤ S.Shelf.faults shelf.new }
+    ensures failed { IsErrOf result Halt.Failed → Rose (S.Shelf.faults shelf.old) (S.Shelf.faults shelf.new) }
+{
+    let wires = plan.wires() - plan.inputs();
+    let lines = in_part(
+        Part::Board,
+        read_lane(alloc, shelf, board, lane, wires, plan.rows()),
+    )?;
+    let case = case_of(alloc, front, lane, lines)?;
+    Ok(case)
+}
+
+/// Whether what is shown of the lane is accepted for the bit.
+fn check(
+    alloc: Global,
+    plan: &Plan,
+    case: &LaneCase,
+    lane: u32,
+    bit: bool,
+    shown: &[Shown],
+) -> Result<(), Halt>
+    requires { HasCounts plan.now case.now shown.now }
+    ensures judged { Judges (λ done. done) result (lane_verdict lane (checked_lane plan.now case.now bit shown.now)) }
+    ensures checked { OnOk result (IsChecked plan.now case.now bit shown.now) }
     ensures inside { IsErrOf result Halt.Failed → ⊥ }
 {
-    let case = case_of(alloc, front, lane, lines)?;
-    match check_lane(alloc, plan, &case, bit, shown) {
+    match check_lane(alloc, plan, case, bit, shown) {
         Ok(_halves) => Ok(()),
         Err(LaneFault::Wire { wire, fault }) => {
             Err(Halt::Refused(BoardVerdict::Wire { lane, wire, fault }))
@@ -102,8 +125,36 @@ fn check(
     }
 }
 
+/// Reads what a reply shows of the lane for the bit, and checks it.
+#[tactic(auto, unfolding(crate::specs::Parts::reply_judged))]
+pub fn read_checked<S: Shelf>(
+    alloc: Global,
+    shelf: &mut S,
+    plan: &Plan,
+    case: &LaneCase,
+    lane: u32,
+    bit: bool,
+    reply: &mut Lines,
+) -> Result<Seq<Shown>, Halt>
+    requires { Fits plan.now case.now }
+    ensures told { IfSome (S.held shelf.old) (λ files.
+        Judges (λ shown. (shown, rest_of reply.new files)) result (reply_judged plan.now case.now lane bit (rest_of reply.old files))) }
+    ensures counts { IfOk result (HasCounts plan.now case.now) }
+    ensures checked { IfOk result (IsChecked plan.now case.now bit) }
+    ensures held { S.held shelf.new ≡ S.held shelf.old }
+    ensures later { S.Shelf.faults shelf.old ≤ S.Shelf.faults shelf.new }
+    ensures failed { IsErrOf result Halt.Failed → Rose (S.Shelf.faults shelf.old) (S.Shelf.faults shelf.new) }
+{
+    let shown = in_part(
+        Part::Reply,
+        read_reply_lane(alloc, shelf, reply, lane, plan, bit),
+    )?;
+    check(alloc, plan, case, lane, bit, shown.as_slice())?;
+    Ok(shown)
+}
+
 /// Reads the lines of the lane on the board and in the reply, and checks them.
-#[tactic(auto, unfolding(crate::specs::Verdicts::lane_judged))]
+#[tactic(auto, using(crate::proofs::Joined::lane_parts))]
 fn judge_lane<S: Shelf>(
     alloc: Global,
     shelf: &mut S,
@@ -125,25 +176,18 @@ fn judge_lane<S: Shelf>(
     ensures later { S.Shelf.faults shelf.old ≤ S.Shelf.faults shelf.new }
     ensures failed { IsErrOf result Halt.Failed → Rose (S.Shelf.faults shelf.old) (S.Shelf.faults shelf.new) }
 {
-    let wires = plan.wires() - plan.inputs();
-    let lines = in_part(
-        Part::Board,
-        read_lane(alloc, shelf, board, lane, wires, plan.rows()),
-    )?;
-    let shown = in_part(
-        Part::Reply,
-        read_reply_lane(alloc, shelf, reply, lane, plan, bit),
-    )?;
-    check(alloc, front, plan, lane, bit, lines, shown.as_slice())?;
+    let case = read_case(alloc, shelf, front, plan, lane, board)?;
+    read_checked(alloc, shelf, plan, &case, lane, bit, reply)?;
     Ok(())
 }
 
-/// Judges each lane for its bit of the challenge.
+/// Judges each lane that is left for its bit of the challenge, after so many.
 pub fn judge_lanes<S: Shelf>(
     alloc: Global,
     shelf: &mut S,
     front: &Front,
     plan: &Plan,
+    judged: u32,
     bits: &[bool],
     board: &mut Lines,
     reply: &mut Lines,
@@ -151,14 +195,15 @@ pub fn judge_lanes<S: Shelf>(
     requires front { IsFront front.now }
     requires plan { plan.now ≡ plan_of front.now }
     requires bits { length bits.now ≡ front.now.head.lanes }
+    requires within { judged ≤ front.now.head.lanes }
     ensures told { IfSome (S.held shelf.old) (λ files.
         Judges (λ _. (rest_of board.new files, rest_of reply.new files)) result
-        (lanes_judged front.now plan.now 1 bits.now (rest_of board.old files) (rest_of reply.old files))) }
+        (lanes_judged front.now plan.now (judged + 1) (drop judged bits.now) (rest_of board.old files) (rest_of reply.old files))) }
     ensures held { S.held shelf.new ≡ S.held shelf.old }
     ensures later { S.Shelf.faults shelf.old ≤ S.Shelf.faults shelf.new }
     ensures failed { IsErrOf result Halt.Failed → Rose (S.Shelf.faults shelf.old) (S.Shelf.faults shelf.new) }
 {
-    for index in 0..bits.len() {
+    for index in judged as usize..bits.len() {
         judge_lane(
             alloc,
             shelf,

@@ -8,7 +8,7 @@ abbrev pub invariant-loop-index : goal.invariant-loop-index
 invariant-loop-index g l = record {
   told : IfSome (g.S.Shelf.held l.fn.shelf) (λ files.
       lanes_judged l.front l.plan (l.index + 1) (drop l.index l.bits) (rest_of l.board files) (rest_of l.reply files)
-      ≡ lanes_judged l.front l.plan 1 l.bits (rest_of l.fn.board files) (rest_of l.fn.reply files));
+      ≡ lanes_judged l.front l.plan (l.fn.judged + 1) (drop l.fn.judged l.bits) (rest_of l.fn.board files) (rest_of l.fn.reply files));
   held : g.S.Shelf.held l.shelf ≡ g.S.Shelf.held l.fn.shelf;
   later : g.S.Shelf.faults l.fn.shelf ≤ g.S.Shelf.faults l.shelf;
 }

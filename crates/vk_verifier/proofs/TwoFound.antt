@@ -1,0 +1,137 @@
+-- What is found of two replies on the way, for any told content.
+use Rattle.std.proofs.Common.{◌≡◌, ℕ, suc, ◌+◌, ◌<◌, ◌≤◌, ◌&&◌, Bool, true, false, List, [], ◌∷◌, length, drop, get_or, Option, Some, None, Result, Ok, Err, is_ok, IsOk, IsTrue, IfSome, refl, ap, sym, ◌∙◌, arith, subst}
+use Rattle.std.proofs.Math.Seq.{drop-cons}
+use Rattle.std.proofs.Math.ListN.{drop_of_length-le}
+use Rattle.vk_io.specs.Files.{Files}
+use Rattle.vk_lines.specs.Lines.{Rest}
+use Rattle.vk_row.specs.LaneTests.{◌>>=◌}
+use Rattle.vk_verifier.specs.declared.answers.BoardVerdict.{BoardVerdict}
+use Rattle.vk_verifier.specs.declared.halt.Halt.{Halt}
+use Rattle.vk_verifier.specs.declared.halt.Halt.TheVariants as halt
+use Rattle.vk_verifier.specs.declared.stage.TwoLane.{TwoLane}
+use Rattle.vk_verifier.specs.declared.stage.TwoVerdict.{TwoVerdict}
+use Rattle.vk_verifier.specs.declared.stage.Ground.{Ground}
+use Rattle.vk_verifier.specs.declared.two_halt.TwoHalt.{TwoHalt}
+use Rattle.vk_verifier.specs.declared.two_halt.TwoHalt.TheVariants.{Found, Failed, NoMemory}
+use Rattle.vk_verifier.specs.Verdicts.{Judges}
+use Rattle.vk_verifier.specs.Two.{Finds, IsFound, Gives, Rests, Ahead, over, of_first, of_second, found_by, is_refused, accepted_of, two_lane_at, ends_found, ahead_from, ahead_on, ahead_after}
+
+-- an error that is handed on
+pub returned : {X T : Type 0} (held : Option Files) (result : Result T TwoHalt) (halt : TwoHalt) (value : Files → T → X) (expected : Files → Result X TwoVerdict)
+    → result ≡ Err halt
+    → IfSome held (λ files. Finds {T = T} (value files) (Err halt) (expected files))
+    → IfSome held (λ files. Finds {T = T} (value files) result (expected files))
+returned {X} {T} held result halt value expected is found =
+    subst (λ (r : Result T TwoHalt). IfSome held (λ files. Finds {T = T} (value files) r (expected files))) (sym is) found
+
+-- the first reply was judged no further
+pub first_stop : {X Y T : Type 0} (held now : Option Files) (judged : Result X Halt) (halt : TwoHalt) (rest : Files → Rest) (told : Files → Result (X × Rest) BoardVerdict)
+    (next : Files → X × Rest → Result Y TwoVerdict) (value : Files → T → Y)
+    → now ≡ held
+    → ((r : Rest) (expected : Result (X × Rest) BoardVerdict) → Judges (λ x. (x, r)) judged expected → Finds {T = X} (λ x. (x, r)) (Err halt) (of_first expected))
+    → IfSome now (λ files. Judges (λ x. (x, rest files)) judged (told files))
+    → IfSome held (λ files. Finds (value files) (Err halt) (of_first (told files) >>= next files))
+first_stop None now judged halt rest told next value same found step = tt
+first_stop {X} (Some files) now judged (Found finding) rest told next value same found step =
+    ap (λ r. r >>= next files) (found (rest files) (told files) (subst (λ held. IfSome held (λ files. Judges (λ (x : X). (x, rest files)) judged (told files))) same step))
+first_stop (Some files) now judged Failed rest told next value same found step = tt
+first_stop (Some files) now judged NoMemory rest told next value same found step = tt
+
+-- the first reply was judged on
+pub first_past : {X Y : Type 0} (held now : Option Files) (judged : Result X Halt) (x : X) (rest : Files → Rest) (told : Files → Result (X × Rest) BoardVerdict)
+    (next : Files → X × Rest → Result Y TwoVerdict) (P : Files → Result Y TwoVerdict → Type 0)
+    → now ≡ held → judged ≡ Ok x
+    → IfSome now (λ files. Judges (λ y. (y, rest files)) judged (told files))
+    → IfSome held (λ files. P files (next files (x, rest files)))
+    → IfSome held (λ files. P files (of_first (told files) >>= next files))
+first_past None now judged x rest told next P same is step later = tt
+first_past {X} (Some files) now judged x rest told next P same is step later =
+    let at_held = subst (λ held. IfSome held (λ files. Judges (λ (y : X). (y, rest files)) judged (told files))) same step in
+    let ends : told files ≡ Ok (x, rest files) = subst (λ r. Judges (λ (y : X). (y, rest files)) r (told files)) is at_held in
+    subst (λ r. P files (of_first r >>= next files)) (sym ends) later
+
+-- the second reply was judged, and the first one on where there was a fault
+pub second_found : {X : Type 0} (held now : Option Files) (judged : Result X Halt) (first : Result (Unit {0}) Halt) (result : Result X TwoHalt) (asked : Bool)
+    (other : Files → Result (Unit {0}) BoardVerdict) (told : Files → Result (X × Rest) BoardVerdict) (rest new : Files → Rest)
+    → now ≡ held → asked ≡ is_refused judged
+    → ((r : Rest) (expected : Result (X × Rest) BoardVerdict) (o : Result (Unit {0}) BoardVerdict) → Judges (λ x. (x, r)) judged expected
+    → (IsTrue (is_refused judged) → Judges (λ (done : Unit {0}). done) first o) → Finds (λ x. (x, r)) result (of_second o expected))
+    → IfSome held (λ files. Judges (λ x. (x, rest files)) judged (told files))
+    → IfSome now (λ files. IsTrue asked → Judges (λ (done : Unit {0}). done) first (other files))
+    → ((files : Files) → new files ≡ rest files)
+    → IfSome held (λ files. Finds (λ x. (x, new files)) result (of_second (other files) (told files)))
+second_found None now judged first result asked other told rest new same is found step on kept = tt
+second_found {X} (Some files) now judged first result asked other told rest new same is found step on kept =
+    let on_held = subst (λ held. IfSome held (λ files. IsTrue asked → Judges (λ (done : Unit {0}). done) first (other files))) same on in
+    subst (λ r. Finds (λ (x : X). (x, r)) result (of_second (other files) (told files))) (sym (kept files))
+    (found (rest files) (told files) (other files) step (λ refused. on_held (is ∙ refused)))
+
+-- the ends of both replies
+pub ends_are : (held now : Option Files) (first second : Result (Unit {0}) Halt) (result : TwoHalt) (accepted expected : TwoVerdict) (asked : Bool)
+    (told : Files → Result (Unit {0}) BoardVerdict) (other : Files → Result (Unit {0} × Rest) BoardVerdict) (rest : Files → Rest)
+    → now ≡ held → asked ≡ is_ok first → accepted ≡ expected
+    → ((r : Rest) (e : Result (Unit {0}) BoardVerdict) (o : Result (Unit {0} × Rest) BoardVerdict) → Judges (λ (done : Unit {0}). done) first e
+    → (IsOk first → Judges (λ (done : Unit {0}). (done, r)) second o) → IsFound result (found_by accepted e o))
+    → IfSome held (λ files. Judges (λ (done : Unit {0}). done) first (told files))
+    → IfSome now (λ files. IsTrue asked → Judges (λ (done : Unit {0}). (done, rest files)) second (other files))
+    → IfSome held (λ files. IsFound result (found_by expected (told files) (other files)))
+ends_are None now first second result accepted expected asked told other rest same is alike found step on = tt
+ends_are (Some files) now first second result accepted expected asked told other rest same is alike found step on =
+    let on_held = subst (λ held. IfSome held (λ files. IsTrue asked → Judges (λ (done : Unit {0}). (done, rest files)) second (other files))) same on in
+    subst (λ a. IsFound result (found_by a (told files) (other files))) alike
+    (found (rest files) (told files) (other files) step (λ accepted. on_held (is ∙ accepted)))
+
+bits_left : (bits : List Bool) (given : ℕ) (bit : Bool) → given < length bits → bit ≡ get_or bits given bit → drop given bits ≡ bit ∷ drop (given + 1) bits
+bits_left bits given bit within is =
+    let next : suc given ≡ given + 1 = omega arith in
+    drop-cons bits given bit within ∙ ap (λ b. b ∷ drop (suc given) bits) (sym is) ∙ ap (λ i. bit ∷ drop i bits) next
+
+-- what is ahead begins with the next lane
+next_ahead : (ground : Ground) (given : ℕ) (first_bit second_bit : Bool) (rests : Rests)
+    → given < length ground.first_bits → given < length ground.second_bits
+    → first_bit ≡ get_or ground.first_bits given first_bit → second_bit ≡ get_or ground.second_bits given second_bit
+    → ahead_on ground given rests
+    ≡ ahead_after (two_lane_at ground.front ground.plan (given + 1) first_bit second_bit (drop (given + 1) ground.first_bits) rests) (ahead_on ground (given + 1))
+unfolding ahead_from
+next_ahead ground given first_bit second_bit rests first second first_is second_is =
+    let accepted = accepted_of ground.first_bits ground.second_bits in
+    ap (λ left. ahead_from ground.front ground.plan accepted (given + 1) left (drop given ground.second_bits) rests) (bits_left ground.first_bits given first_bit first first_is)
+    ∙ ap (λ left. ahead_from ground.front ground.plan accepted (given + 1) (first_bit ∷ drop (given + 1) ground.first_bits) left rests) (bits_left ground.second_bits given second_bit second second_is)
+
+given_by : (result : Result TwoLane TwoHalt) (lane : Result (TwoLane × Rests) TwoVerdict) (new : Rests) (ground : Ground) (given : ℕ)
+    → Finds (λ two. (two, new)) result lane → Gives (ahead_after lane (ahead_on ground given)) result (ahead_on ground given new)
+given_by (Ok two) lane new ground given is = ap (λ l. ahead_after l (ahead_on ground given)) is
+given_by (Err (Found finding)) lane new ground given is = ap (λ l. ahead_after l (ahead_on ground given)) is
+given_by (Err Failed) lane new ground given is = tt
+given_by (Err NoMemory) lane new ground given is = tt
+
+-- a lane was read, or judging stopped in it
+pub lane_given : (held : Option Files) (ground : Ground) (given : ℕ) (first_bit second_bit : Bool) (result : Result TwoLane TwoHalt) (old new : Files → Rests)
+    → given < length ground.first_bits → given < length ground.second_bits
+    → first_bit ≡ get_or ground.first_bits given first_bit → second_bit ≡ get_or ground.second_bits given second_bit
+    → IfSome held (λ files. Finds (λ two. (two, new files)) result
+    (two_lane_at ground.front ground.plan (given + 1) first_bit second_bit (drop (given + 1) ground.first_bits) (old files)))
+    → IfSome held (λ files. Gives (ahead_on ground given (old files)) result (ahead_on ground (given + 1) (new files)))
+lane_given None ground given first_bit second_bit result old new first second first_is second_is step = tt
+lane_given (Some files) ground given first_bit second_bit result old new first second first_is second_is step =
+    subst (λ a. Gives a result (ahead_on ground (given + 1) (new files))) (sym (next_ahead ground given first_bit second_bit (old files) first second first_is second_is))
+    (given_by result _ (new files) ground (given + 1) step)
+
+none_ahead : (ground : Ground) (given : ℕ) (rests : Rests) → length ground.first_bits ≤ given
+    → ahead_on ground given rests ≡ over (ends_found (accepted_of ground.first_bits ground.second_bits) rests)
+unfolding ahead_from
+none_ahead ground given rests past =
+    ap (λ left. ahead_from ground.front ground.plan (accepted_of ground.first_bits ground.second_bits) (given + 1) left (drop given ground.second_bits) rests) (drop_of_length-le ground.first_bits past)
+
+ended_by : (halt : TwoHalt) (finding : TwoVerdict) (ahead after : Ahead) → ahead ≡ over finding → IsFound halt finding → Gives ahead (Err halt) after
+ended_by (Found f) finding ahead after is found = is ∙ ap over found
+ended_by Failed finding ahead after is found = tt
+ended_by NoMemory finding ahead after is found = tt
+
+-- every lane was given
+pub ends_given : (held : Option Files) (ground : Ground) (given : ℕ) (halt : TwoHalt) (old : Files → Rests) (after : Files → Ahead) → length ground.first_bits ≤ given
+    → IfSome held (λ files. IsFound halt (ends_found (accepted_of ground.first_bits ground.second_bits) (old files)))
+    → IfSome held (λ files. Gives (ahead_on ground given (old files)) (Err halt) (after files))
+ends_given None ground given halt old after past found = tt
+ends_given (Some files) ground given halt old after past found =
+    ended_by halt (ends_found (accepted_of ground.first_bits ground.second_bits) (old files)) _ (after files) (none_ahead ground given (old files) past) found

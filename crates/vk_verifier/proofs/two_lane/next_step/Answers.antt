@@ -1,0 +1,17 @@
+use Rattle.std.proofs.Common.{rules, ◌+◌, ◌≤◌, ◌<◌, length, arith}
+use Rattle.vk_verifier.specs.Two.{rests_of, ahead_on}
+use Rattle.vk_verifier.proofs.TwoFound.{lane_given, ends_given}
+use Rattle.vk_verifier.proofs.two_lane.next_step.Goals as goal
+
+pub returns-then-given-ground-clause-told : goal.returns-then-given-ground-clause-told
+returns-then-given-ground-clause-told g c =
+    ends_given (g.S.Shelf.held c.args.shelf.now) c.args.ground.now c.args.given c.read_finding-found.result (λ files. rests_of c.args.readers.now files)
+    (λ files. ahead_on c.args.ground.now (c.args.given + 1) (rests_of c.read_finding-found.new.readers files))
+    (omega (arith, c.requires.ground.first, c.if-given-ground.true)) c.read_finding-found.ensures.told
+
+pub returns-clause-told : goal.returns-clause-told
+returns-clause-told g c =
+    let first : c.args.given < length c.args.ground.now.first_bits = omega (arith, c.requires.ground.first, c.requires.within, c.if-given-ground.false) in
+    let second : c.args.given < length c.args.ground.now.second_bits = omega (arith, c.requires.ground.second, c.requires.within, c.if-given-ground.false) in
+    lane_given (g.S.Shelf.held c.args.shelf.now) c.args.ground.now c.args.given _ _ c.read_two-lane.result (λ files. rests_of c.args.readers.now files) (λ files. rests_of c.read_two-lane.new.readers files)
+    first second (search rules) (search rules) c.read_two-lane.ensures.told

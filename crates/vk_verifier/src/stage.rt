@@ -1,0 +1,64 @@
+// How far two replies to a board were read.
+use crate::answers::BoardVerdict;
+use crate::front::Front;
+use vk_lines::Lines;
+use vk_plan::Plan;
+use vk_row::LaneCase;
+use vk_seq::Seq;
+use vk_wire::Shown;
+
+/// One lane: all that is public of it, and what each of two replies shows of it for its bit.
+#[derive(Debug, Drop)]
+pub struct TwoLane {
+    pub case: LaneCase,
+    pub first_bit: bool,
+    pub first: Seq<Shown>,
+    pub second_bit: bool,
+    pub second: Seq<Shown>,
+}
+
+/// What two replies to a board come to.
+#[derive(Clone, Copy, Debug, PartialEq, Eq)]
+pub enum TwoVerdict {
+    /// The verdict on the first reply, where that isn't accepted, else the verdict on the second, which
+    /// isn't. The second's names the second challenge or the second reply in place of a first one.
+    Refused { second: bool, verdict: BoardVerdict },
+    /// Both replies are accepted, and the challenges' bits are the same.
+    Same,
+    /// Both replies are accepted, and the challenges differ in a bit.
+    Ready,
+}
+
+/// What was read before the first lane: the front of the board, its circuit, and the bits of both challenges.
+#[derive(Drop)]
+pub struct Ground {
+    pub front: Front,
+    pub plan: Plan,
+    pub first_bits: Seq<bool>,
+    pub second_bits: Seq<bool>,
+}
+
+/// The board and both replies, each from where it is to be read on.
+#[derive(Drop)]
+pub struct TwoReaders {
+    pub board: Lines,
+    pub first: Lines,
+    pub second: Lines,
+}
+
+/// How many lanes were given, and what was found, where no lane is to be given any more.
+#[derive(Drop)]
+pub struct Course {
+    pub ground: Ground,
+    pub readers: TwoReaders,
+    pub given: u32,
+    pub finding: Option<TwoVerdict>,
+}
+
+/// How far two replies to a board were read.
+#[derive(Drop)]
+pub enum Stage {
+    /// There is a fault before the first lane.
+    Before(TwoVerdict),
+    Lanes(Course),
+}
