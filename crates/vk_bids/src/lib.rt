@@ -9,7 +9,7 @@ mod printing;
 
 pub use bids::{LaneBids, OpenedBid};
 pub use extracting::extract_bids;
-pub use laws::accepted_lanes_show_the_outcome;
+pub use laws::{accepted_lanes_show_the_outcome, gathered_bids_show_the_outcome};
 pub use printing::{clash_line, lane_bids_lines};
 
 #[cfg(test)]
