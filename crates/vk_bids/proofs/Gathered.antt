@@ -10,7 +10,7 @@ use Rattle.vk_plan.specs.Plans.{PlanValue, IsPlan}
 use Rattle.vk_wire.specs.Places.{place_of_wire, entry_place}
 use Rattle.vk_wire.specs.declared.wire.Shown.{Shown}
 use Rattle.vk_row.specs.declared.case.LaneCase.{LaneCase}
-use Rattle.vk_row.specs.Lanes.{IsAccepted, place_in}
+use Rattle.vk_row.specs.Lanes.{HasCounts, IsAccepted, place_in}
 use Rattle.vk_row.specs.LaneTests.{◌>>=◌}
 use Rattle.vk_row.proofs.Whole.{ok_accepted}
 use Rattle.vk_board.specs.Reading.{seats_of}
@@ -20,6 +20,7 @@ use Rattle.vk_extractor.proofs.Clashes.{clash_opens}
 use Rattle.vk_verifier.specs.declared.front.Front.{Front}
 use Rattle.vk_verifier.specs.declared.stage.TwoLane.{TwoLane}
 use Rattle.vk_verifier.specs.Verdicts.{IsFront, plan_of}
+use Rattle.vk_verifier.specs.Parts.{IsChecked}
 use Rattle.vk_bids.specs.declared.bids.LaneBids.{LaneBids}
 use Rattle.vk_bids.specs.Bids.{opened_bids}
 use Rattle.vk_bids.specs.Gathering.{bids_by, lane_by, lane_found, added, gathered_from}
@@ -111,15 +112,26 @@ module _ (front : Front) (plan : PlanValue) (number : ℕ) (case : LaneCase) (is
   by_bits false true first second one other = by_clash first second one other (clash_of_lane case first second) refl
   by_bits true false first second one other = by_clash second first other one (clash_of_lane case second first) refl
 
+-- what is shown of a lane that is given is accepted
+pub shown_accepted : (front : Front) (plan : PlanValue) (case : LaneCase) (bit : Bool) (shown : List Shown) → IsFront front → plan ≡ plan_of front → HasCounts plan case shown → IsChecked plan case bit shown
+    → IsAccepted plan case bit shown
+shown_accepted front plan case bit shown is same counts checked =
+    (checked.0, ok_accepted plan case bit shown checked.0 (subst IsPlan (sym same) (front_is_plan front is)) counts checked.1)
+
+-- the same of the bit that it has
+pub accepted_for : (front : Front) (plan : PlanValue) (case : LaneCase) (bit wanted : Bool) (shown passed : List Shown) → IsFront front → plan ≡ plan_of front → HasCounts plan case shown → IsChecked plan case bit shown
+    → bit ≡ wanted → passed ≡ shown → IsAccepted plan case wanted passed
+accepted_for front plan case bit wanted shown passed is same counts checked is_wanted is_passed =
+    let P : Bool → Type 0 = λ b. IsAccepted plan case b shown in
+    let Q : List Shown → Type 0 = λ s. IsAccepted plan case wanted s in
+    subst Q (sym is_passed) (subst P is_wanted (shown_accepted front plan case bit shown is same counts checked))
+
 lane_gives : (front : Front) (plan : PlanValue) (number : ℕ) (first_bit second_bit : Bool) (lane : TwoLane) → IsFront front → plan ≡ plan_of front → 1 ≤ number → number ≤ front.head.lanes
     → IsGiven front plan number first_bit second_bit lane → GivesLane front number (number_here number first_bit second_bit) (lane_found front number lane)
 lane_gives front plan number first_bit second_bit lane is same some last given =
-    let is_plan : IsPlan plan = subst IsPlan (sym same) (front_is_plan front is) in
     let right = given.right in
-    let one : IsAccepted plan lane.case lane.first_bit lane.first =
-    (right.first.0, ok_accepted plan lane.case lane.first_bit lane.first right.first.0 is_plan right.first_counts right.first.1) in
-    let other : IsAccepted plan lane.case lane.second_bit lane.second =
-    (right.second.0, ok_accepted plan lane.case lane.second_bit lane.second right.second.0 is_plan right.second_counts right.second.1) in
+    let one = shown_accepted front plan lane.case lane.first_bit lane.first is same right.first_counts right.first in
+    let other = shown_accepted front plan lane.case lane.second_bit lane.second is same right.second_counts right.second in
     let found = by_bits front plan number lane.case is same some last (right.case.lines, right.case.is) lane.first_bit lane.second_bit lane.first lane.second one other in
     let P : Bool → Type 0 = λ bit. GivesLane front number (number_here number bit lane.second_bit) (lane_found front number lane) in
     let Q : Bool → Type 0 = λ bit. GivesLane front number (number_here number first_bit bit) (lane_found front number lane) in

@@ -1,5 +1,5 @@
 -- What is gathered of the lanes that two replies give: their bids, or the first two openings of one commitment.
-use Rattle.std.specs.Prelude.{ℕ, ◌+◌, Bool, true, false, List, [], ◌∷◌, ◌++◌, Option, Some, None, Result, Ok, Err}
+use Rattle.std.specs.Prelude.{◌≡◌, ℕ, ◌+◌, Bool, true, false, List, [], ◌∷◌, ◌++◌, Option, Some, None, Result, Ok, Err}
 use Rattle.std.specs.Option.{option_to_list}
 use Rattle.vk_commit.specs.Commitment.{TwoOpeningsSeen}
 use Rattle.vk_wire.specs.declared.wire.Shown.{Shown}
@@ -7,6 +7,8 @@ use Rattle.vk_row.specs.declared.case.LaneCase.{LaneCase}
 use Rattle.vk_row.specs.LaneTests.{◌>>=◌}
 use Rattle.vk_board.specs.Reading.{seats_of}
 use Rattle.vk_extractor.specs.Clash.{clash_of_lane}
+use Rattle.vk_extractor.specs.declared.lane.LaneErr.{LaneErr}
+use Rattle.vk_extractor.specs.declared.lane.LaneErr.TheVariants.{Clash, NoMemory}
 use Rattle.vk_verifier.specs.declared.front.Front.{Front}
 use Rattle.vk_verifier.specs.declared.stage.TwoLane.{TwoLane}
 use Rattle.vk_bids.specs.declared.bids.LaneBids.{LaneBids}
@@ -43,3 +45,8 @@ added front number lane state = do
 unfoldable pub gathered_from : Front → Result (List LaneBids) TwoOpeningsSeen → ℕ → List TwoLane → Result (List LaneBids) TwoOpeningsSeen
 gathered_from front state number [] = state
 gathered_from front state number (lane ∷ lanes) = gathered_from front (added front number lane state) (number + 1) lanes
+
+-- a clash that is answered is what is given; want of memory says nothing
+abbrev pub IsClashOf : {X : Type 0} → LaneErr → Result X TwoOpeningsSeen → Type 0
+IsClashOf (Clash two) given = given ≡ Err two
+IsClashOf NoMemory given = Unit {0}
