@@ -1,6 +1,6 @@
 -- What two accepted replies give of each lane.
-use Rattle.std.proofs.Common.{◌≡◌, ◌≢◌, ℕ, ◌+◌, ◌≤◌, Bool, List, [], ◌∷◌, length, Result, Ok, Err, refl, sym, ap, subst, ◌∙◌, arith}
-use Rattle.vk_lines.specs.Lines.{Rest}
+use Rattle.std.proofs.Common.{◌≡◌, ◌≢◌, ℕ, ◌+◌, ◌≤◌, Bool, true, false, if◌then◌else◌, List, [], ◌∷◌, length, Result, Ok, Err, refl, sym, ap, subst, ◌∙◌, arith}
+use Rattle.vk_lines.specs.Lines.{Rest, end_at}
 use Rattle.vk_plan.specs.Plans.{PlanValue, IsPlan}
 use Rattle.vk_wire.specs.declared.wire.Shown.{Shown}
 use Rattle.vk_row.specs.declared.case.LaneCase.{LaneCase}
@@ -15,10 +15,10 @@ use Rattle.vk_verifier.specs.declared.answers.BoardVerdict.{BoardVerdict}
 use Rattle.vk_verifier.specs.declared.front.Front.{Front}
 use Rattle.vk_verifier.specs.declared.stage.TwoLane.{TwoLane}
 use Rattle.vk_verifier.specs.declared.stage.TwoVerdict.{TwoVerdict}
-use Rattle.vk_verifier.specs.declared.stage.TwoVerdict.TheVariants.{Ready}
-use Rattle.vk_verifier.specs.Verdicts.{IsFront, plan_of, case_of, later_wires, lane_verdict, lane_judged}
+use Rattle.vk_verifier.specs.declared.stage.TwoVerdict.TheVariants.{Same, Ready}
+use Rattle.vk_verifier.specs.Verdicts.{ends_judged, in_part, IsFront, plan_of, case_of, later_wires, lane_verdict, lane_judged}
 use Rattle.vk_verifier.specs.Parts.{case_at, reply_judged, rest_judged, IsCase, Fits, IsChecked}
-use Rattle.vk_verifier.specs.Two.{of_first, of_second, second_shown, both_shown, two_lane_at, ahead_after, ahead_from, Rests, Ahead, IsTwoLane}
+use Rattle.vk_verifier.specs.Two.{accepted_of, ends_found, found_by, same_bits, of_first, of_second, second_shown, both_shown, two_lane_at, ahead_after, ahead_from, Rests, Ahead, IsTwoLane}
 use Rattle.vk_verifier.proofs.Counts.{fits}
 use Rattle.vk_verifier.proofs.Joined.{lane_parts}
 use Rattle.vk_verifier.proofs.Lanes.{LaneRead, lane_shown}
@@ -172,3 +172,40 @@ ahead_given front plan accepted number (first_bit ∷ first) (second_bit ∷ sec
     (λ next. ahead_from front plan accepted (number + 1) first second next) is same (omega (arith, within)) refl
     (λ after. ahead_given front plan accepted (number + 1) first second after is same (omega (arith, within)))
     ready
+
+next_accepted : (front : Front) (plan : PlanValue) (number : ℕ) (first_bit second_bit : Bool) (first : List Bool) (rests : Rests) (read : Result (TwoLane × Rests) TwoVerdict) (next : Rests → Ahead) (accepted : TwoVerdict)
+    → two_lane_at front plan number first_bit second_bit first rests ≡ read → ((after : Rests) → (next after).finding ≡ Ready → accepted ≡ Ready)
+    → (ahead_after read next).finding ≡ Ready → accepted ≡ Ready
+next_accepted front plan number first_bit second_bit first rests (Ok given) next accepted ok later ready = later given.1 ready
+next_accepted front plan number first_bit second_bit first rests (Err finding) next accepted ok later ready =
+    absurd (two_never front plan number first_bit second_bit first rests (ok ∙ ap (λ f. Err f) ready))
+
+found_accepted : (accepted : TwoVerdict) (first : Result (Unit {0}) BoardVerdict) (second : Result (Unit {0} × Rest) BoardVerdict) → found_by accepted first second ≡ Ready → accepted ≡ Ready
+found_accepted accepted (Ok done) (Ok over) ready = ready
+found_accepted accepted (Ok done) (Err verdict) ready = cc
+found_accepted accepted (Err verdict) second ready = cc
+
+ends_accepted : (accepted : TwoVerdict) (rests : Rests) → ends_found accepted rests ≡ Ready → accepted ≡ Ready
+unfolding ends_found
+ends_accepted accepted rests ready = found_accepted accepted (ends_judged rests.board rests.first) (in_part part.Reply (end_at rests.second)) ready
+
+-- that both are accepted and the challenges differ is found of the challenges
+pub ahead_accepted : (front : Front) (plan : PlanValue) (accepted : TwoVerdict) (number : ℕ) (first second : List Bool) (rests : Rests)
+    → (ahead_from front plan accepted number first second rests).finding ≡ Ready → accepted ≡ Ready
+unfolding ahead_from
+ahead_accepted front plan accepted number [] second rests ready = ends_accepted accepted rests ready
+ahead_accepted front plan accepted number (first_bit ∷ first) [] rests ready = ends_accepted accepted rests ready
+ahead_accepted front plan accepted number (first_bit ∷ first) (second_bit ∷ second) rests ready =
+    next_accepted front plan number first_bit second_bit first rests (two_lane_at front plan number first_bit second_bit first rests)
+    (λ next. ahead_from front plan accepted (number + 1) first second next) accepted refl
+    (λ after. ahead_accepted front plan accepted (number + 1) first second after) ready
+
+same_itself : (bits : List Bool) → same_bits bits bits ≡ true
+same_itself [] = refl
+same_itself (true ∷ bits) = same_itself bits
+same_itself (false ∷ bits) = same_itself bits
+
+pub bits_differ : (first second : List Bool) → accepted_of first second ≡ Ready → first ≢ second
+bits_differ first second ready same =
+    let alike : accepted_of first second ≡ Same = ap (λ bits. accepted_of first bits) (sym same) ∙ ap (λ (t : Bool). if t then Same else Ready) (same_itself first) in
+    cc
