@@ -1,3 +1,6 @@
+pub mod Gathered
+pub mod Given
+pub mod Headlines
 pub mod Opening
 pub mod Seals
 pub mod Showing

@@ -1,4 +1,5 @@
-// What holds of every lane that is accepted for both bits.
+// What holds of every lane that is accepted for both bits, and of two replies to a board.
+ghost use Rattle.vk_bids.specs.Headline.{FilesShow, GatheredShows, ReadyHasBase};
 ghost use Rattle.vk_bids.specs.Laws.{AcceptedLanesShow};
 
 /// Of any board's front and any of its lanes, where a reply is accepted for bit 0 and another for bit 1: the
@@ -6,4 +7,14 @@ ghost use Rattle.vk_bids.specs.Laws.{AcceptedLanesShow};
 /// entry was opened with two values, and then the first such entry has two openings with different values.
 pub fn accepted_lanes_show_the_outcome()
     ensures { AcceptedLanesShow }
+{}
+
+/// Of any board and any two challenges and replies that are read with it side by side, where both replies are
+/// accepted and the challenges differ: what was read before the first lane is the board's front, whose winner
+/// has a seal on it, and the challenges' bits, which aren't all the same. The bids that are gathered are those of just the lanes whose two bits differ, open their
+/// seals, and have the published outcome. Or a commitment in such a lane has two openings with different values.
+pub fn gathered_bids_show_the_outcome()
+    ensures shows { GatheredShows }
+    ensures base { ReadyHasBase }
+    ensures files { FilesShow }
 {}

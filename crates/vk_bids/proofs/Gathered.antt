@@ -1,0 +1,188 @@
+-- What is gathered of lanes that two accepted replies give shows the published outcome, or a clash.
+use Rattle.std.proofs.Common.{◌≡◌, ℕ, ◌+◌, ◌≤◌, Bool, true, false, if◌then◌else◌, nat_lt, All, List, [], ◌∷◌, ◌++◌, length, map, Option, Some, None, Result, Ok, Err, refl, sym, ap, subst, ◌∙◌, arith, append_assoc, append-nil}
+use Rattle.std.specs.Option.{option_to_list}
+use Rattle.std.specs.List.{Contains}
+use Rattle.std.proofs.lemmas.List.{map-append}
+use Rattle.std.proofs.lemmas.List.Elements.{All-nil, All-cons, All-append, Contains-get_or, Contains-append_left, Contains-append_right}
+use Rattle.vk_commit.specs.Commitment.{AreTwoOpenings, TwoOpeningsSeen}
+use Rattle.vk_commit.specs.declared.place.Place.{Place}
+use Rattle.vk_plan.specs.Plans.{PlanValue, IsPlan}
+use Rattle.vk_wire.specs.Places.{place_of_wire, entry_place}
+use Rattle.vk_wire.specs.declared.wire.Shown.{Shown}
+use Rattle.vk_row.specs.declared.case.LaneCase.{LaneCase}
+use Rattle.vk_row.specs.Lanes.{HasCounts, IsAccepted, place_in}
+use Rattle.vk_row.specs.LaneTests.{◌>>=◌}
+use Rattle.vk_row.proofs.Whole.{ok_accepted}
+use Rattle.vk_board.specs.Reading.{seats_of}
+use Rattle.vk_extractor.specs.Clash.{clash_of_lane}
+use Rattle.vk_extractor.specs.Laws.{AreOfLane}
+use Rattle.vk_extractor.proofs.Clashes.{clash_opens}
+use Rattle.vk_verifier.specs.declared.front.Front.{Front}
+use Rattle.vk_verifier.specs.declared.stage.TwoLane.{TwoLane}
+use Rattle.vk_verifier.specs.Verdicts.{IsFront, plan_of}
+use Rattle.vk_verifier.specs.Parts.{IsChecked}
+use Rattle.vk_bids.specs.declared.bids.LaneBids.{LaneBids}
+use Rattle.vk_bids.specs.Bids.{opened_bids}
+use Rattle.vk_bids.specs.Gathering.{bids_by, lane_by, lane_found, added, gathered_from}
+use Rattle.vk_bids.specs.Headline.{differing}
+use Rattle.vk_bids.specs.Outcome.{IsCaseOf, ShowsOutcome}
+use Rattle.vk_bids.proofs.Given.{IsGiven, AreGiven}
+use Rattle.vk_bids.proofs.Seals.{front_is_plan}
+use Rattle.vk_bids.proofs.Showing.{case_shows}
+
+abbrev pub ShowsLane : Front → LaneBids → Type 0
+ShowsLane front lane = ShowsOutcome front lane.number lane.bids
+
+abbrev pub number_of : LaneBids → ℕ
+number_of lane = lane.number
+
+-- two openings of a commitment in the lane of that number
+pub record ClashesIn (front : Front) (number : ℕ) (two : TwoOpeningsSeen) : Type 0 where
+  pub lane : two.place.lane ≡ number
+  pub auction : two.place.auction ≡ front.head.auction
+  pub openings : AreTwoOpenings two.place two.digest two.first two.second
+
+-- bids of just these lanes were added, or there is a clash in one of them
+abbrev pub AddsLanes : Front → List LaneBids → List ℕ → Result (List LaneBids) TwoOpeningsSeen → Type 0
+AddsLanes front before numbers (Ok all) = (more : List LaneBids) × (all ≡ before ++ more) × (map number_of more ≡ numbers) × All (ShowsLane front) more
+AddsLanes front before numbers (Err two) = (number : ℕ) × Contains numbers number × ClashesIn front number two
+
+-- the number of a lane whose bits these are, where they differ
+abbrev number_here : ℕ → Bool → Bool → List ℕ
+number_here number false false = []
+number_here number true true = []
+number_here number false true = number ∷ []
+number_here number true false = number ∷ []
+
+differing_first : (number : ℕ) (first_bit second_bit : Bool) (first second : List Bool)
+    → differing number (first_bit ∷ first) (second_bit ∷ second) ≡ number_here number first_bit second_bit ++ differing (number + 1) first second
+differing_first number false false first second = refl
+differing_first number true true first second = refl
+differing_first number false true first second = refl
+differing_first number true false first second = refl
+
+none_differ : (number : ℕ) (first_bit : Bool) (first : List Bool) → differing number (first_bit ∷ first) [] ≡ []
+none_differ number false first = refl
+none_differ number true first = refl
+
+-- ---- where a clash stands
+
+either_place : (test : Bool) (one other : Place) (lane : ℕ) (auction : List ℕ) → (one.lane ≡ lane) × (one.auction ≡ auction) → (other.lane ≡ lane) × (other.auction ≡ auction)
+    → ((if test then one else other).lane ≡ lane) × ((if test then one else other).auction ≡ auction)
+either_place true one other lane auction here there = here
+either_place false one other lane auction here there = there
+
+wire_in : (auction : List ℕ) (lane : ℕ) (seats : List ℕ) (wire : ℕ) → ((place_of_wire auction lane seats wire).lane ≡ lane) × ((place_of_wire auction lane seats wire).auction ≡ auction)
+wire_in auction lane seats wire = either_place (nat_lt wire (length seats)) _ _ lane auction (refl, refl) (refl, refl)
+
+entry_in : (place : Place) (second : Bool) → ((entry_place place second).lane ≡ place.lane) × ((entry_place place second).auction ≡ place.auction)
+entry_in place false = (refl, refl)
+entry_in place true = (refl, refl)
+
+clashes_in : (front : Front) (plan : PlanValue) (number : ℕ) (case : LaneCase) (two : TwoOpeningsSeen) → IsCaseOf front number case → AreOfLane plan case two → ClashesIn front number two
+clashes_in front plan number case two of_lane are =
+    let entry = entry_in (place_in case are.wire) are.second in
+    let wire = wire_in case.auction case.lane case.seats are.wire in
+    record {
+      lane = ap (λ (p : Place). p.lane) are.place ∙ (entry.0 ∙ (wire.0 ∙ ap (λ (c : LaneCase). c.lane) of_lane.1));
+      auction = ap (λ (p : Place). p.auction) are.place ∙ (entry.1 ∙ (wire.1 ∙ ap (λ (c : LaneCase). c.auction) of_lane.1));
+      openings = are.openings;
+    }
+
+-- ---- one lane
+
+-- what a lane gives
+abbrev GivesLane : Front → ℕ → List ℕ → Result (Option LaneBids) TwoOpeningsSeen → Type 0
+GivesLane front number numbers (Ok found) = (map number_of (option_to_list found) ≡ numbers) × All (ShowsLane front) (option_to_list found)
+GivesLane front number numbers (Err two) = Contains numbers number × ClashesIn front number two
+
+module _ (front : Front) (plan : PlanValue) (number : ℕ) (case : LaneCase) (is : IsFront front) (same : plan ≡ plan_of front) (some : 1 ≤ number) (last : number ≤ front.head.lanes) (of_lane : IsCaseOf front number case) where
+  by_clash : (zero one : List Shown) → IsAccepted plan case false zero → IsAccepted plan case true one → (clash : Option TwoOpeningsSeen) → clash_of_lane case zero one ≡ clash
+      → GivesLane front number (number ∷ []) (bids_by front number zero one clash)
+  by_clash zero one first second None none =
+      let bids : LaneBids = record { number = number; bids = opened_bids (seats_of front.seals) zero one } in
+      (refl, All-cons (ShowsLane front) bids [] (case_shows front plan number case zero one is same some last of_lane first second none) (All-nil (ShowsLane front)))
+  by_clash zero one first second (Some two) found =
+      (Contains-get_or (number ∷ []) 0 number (omega arith), clashes_in front plan number case two of_lane (clash_opens plan case zero one first.0 second.0 two first.1 second.1 found))
+
+  by_bits : (first_bit second_bit : Bool) (first second : List Shown) → IsAccepted plan case first_bit first → IsAccepted plan case second_bit second
+      → GivesLane front number (number_here number first_bit second_bit) (lane_by first_bit second_bit front number case first second)
+  by_bits false false first second one other = (refl, All-nil (ShowsLane front))
+  by_bits true true first second one other = (refl, All-nil (ShowsLane front))
+  by_bits false true first second one other = by_clash first second one other (clash_of_lane case first second) refl
+  by_bits true false first second one other = by_clash second first other one (clash_of_lane case second first) refl
+
+-- what is shown of a lane that is given is accepted
+pub shown_accepted : (front : Front) (plan : PlanValue) (case : LaneCase) (bit : Bool) (shown : List Shown) → IsFront front → plan ≡ plan_of front → HasCounts plan case shown → IsChecked plan case bit shown
+    → IsAccepted plan case bit shown
+shown_accepted front plan case bit shown is same counts checked =
+    (checked.0, ok_accepted plan case bit shown checked.0 (subst IsPlan (sym same) (front_is_plan front is)) counts checked.1)
+
+-- the same of the bit that it has
+pub accepted_for : (front : Front) (plan : PlanValue) (case : LaneCase) (bit wanted : Bool) (shown passed : List Shown) → IsFront front → plan ≡ plan_of front → HasCounts plan case shown → IsChecked plan case bit shown
+    → bit ≡ wanted → passed ≡ shown → IsAccepted plan case wanted passed
+accepted_for front plan case bit wanted shown passed is same counts checked is_wanted is_passed =
+    let P : Bool → Type 0 = λ b. IsAccepted plan case b shown in
+    let Q : List Shown → Type 0 = λ s. IsAccepted plan case wanted s in
+    subst Q (sym is_passed) (subst P is_wanted (shown_accepted front plan case bit shown is same counts checked))
+
+lane_gives : (front : Front) (plan : PlanValue) (number : ℕ) (first_bit second_bit : Bool) (lane : TwoLane) → IsFront front → plan ≡ plan_of front → 1 ≤ number → number ≤ front.head.lanes
+    → IsGiven front plan number first_bit second_bit lane → GivesLane front number (number_here number first_bit second_bit) (lane_found front number lane)
+lane_gives front plan number first_bit second_bit lane is same some last given =
+    let right = given.right in
+    let one = shown_accepted front plan lane.case lane.first_bit lane.first is same right.first_counts right.first in
+    let other = shown_accepted front plan lane.case lane.second_bit lane.second is same right.second_counts right.second in
+    let found = by_bits front plan number lane.case is same some last (right.case.lines, right.case.is) lane.first_bit lane.second_bit lane.first lane.second one other in
+    let P : Bool → Type 0 = λ bit. GivesLane front number (number_here number bit lane.second_bit) (lane_found front number lane) in
+    let Q : Bool → Type 0 = λ bit. GivesLane front number (number_here number first_bit bit) (lane_found front number lane) in
+    subst Q given.second_bit_is (subst P given.first_bit_is found)
+
+-- ---- one lane after another
+
+-- what a clash was answered with stays
+stays : (front : Front) (two : TwoOpeningsSeen) (number : ℕ) (lanes : List TwoLane) → gathered_from front (Err two) number lanes ≡ Err two
+unfolding gathered_from
+stays front two number [] = refl
+stays front two number (lane ∷ lanes) = stays front two (number + 1) lanes
+
+adds_more : (front : Front) (before here : List LaneBids) (numbers later : List ℕ) (all : Result (List LaneBids) TwoOpeningsSeen) → map number_of here ≡ numbers → All (ShowsLane front) here
+    → AddsLanes front (before ++ here) later all → AddsLanes front before (numbers ++ later) all
+adds_more front before here numbers later (Ok all) are each (more, is, numbered, shows) = (
+  here ++ more,
+  is ∙ append_assoc before here more,
+  map-append number_of here more ∙ (ap (λ ns. ns ++ map number_of more) are ∙ ap (λ ns. numbers ++ ns) numbered),
+  All-append (ShowsLane front) here more each shows,
+)
+adds_more front before here numbers later (Err two) are each (number, within, clash) = (number, Contains-append_right numbers later number within, clash)
+
+next_adds : (front : Front) (number : ℕ) (numbers later : List ℕ) (before : List LaneBids) (lanes : List TwoLane) (found : Result (Option LaneBids) TwoOpeningsSeen)
+    → GivesLane front number numbers found → ((before : List LaneBids) → AddsLanes front before later (gathered_from front (Ok before) (number + 1) lanes))
+    → AddsLanes front before (numbers ++ later) (gathered_from front (found >>= λ f. Ok (before ++ option_to_list f)) (number + 1) lanes)
+next_adds front number numbers later before lanes (Ok found) gives rest =
+    adds_more front before (option_to_list found) numbers later (gathered_from front (Ok (before ++ option_to_list found)) (number + 1) lanes) gives.0 gives.1 (rest (before ++ option_to_list found))
+next_adds front number numbers later before lanes (Err two) gives rest =
+    let P : Result (List LaneBids) TwoOpeningsSeen → Type 0 = λ all. AddsLanes front before (numbers ++ later) all in
+    subst P (sym (stays front two (number + 1) lanes)) (number, Contains-append_left numbers later number gives.0, gives.1)
+
+none_added : (front : Front) (before : List LaneBids) (number : ℕ) (numbers : List ℕ) (lanes : List TwoLane) → numbers ≡ [] → lanes ≡ []
+    → AddsLanes front before numbers (gathered_from front (Ok before) number lanes)
+unfolding gathered_from
+none_added front before number numbers lanes no_numbers no_lanes =
+    let P : List ℕ → Type 0 = λ ns. AddsLanes front before ns (Ok before) in
+    let Q : List TwoLane → Type 0 = λ ls. AddsLanes front before numbers (gathered_from front (Ok before) number ls) in
+    subst Q (sym no_lanes) (subst P (sym no_numbers) ([], sym (append-nil before), refl, All-nil (ShowsLane front)))
+
+pub gathered_adds : (front : Front) (plan : PlanValue) (number : ℕ) (first second : List Bool) (lanes : List TwoLane) (before : List LaneBids)
+    → IsFront front → plan ≡ plan_of front → 1 ≤ number → number + length first ≤ front.head.lanes + 1 → AreGiven front plan number first second lanes
+    → AddsLanes front before (differing number first second) (gathered_from front (Ok before) number lanes)
+unfolding gathered_from
+gathered_adds front plan number [] second lanes before is same some within given = none_added front before number [] lanes refl given
+gathered_adds front plan number (first_bit ∷ first) [] lanes before is same some within given =
+    none_added front before number (differing number (first_bit ∷ first) []) lanes (none_differ number first_bit first) given
+gathered_adds front plan number (first_bit ∷ first) (second_bit ∷ second) [] before is same some within given = absurd given
+gathered_adds front plan number (first_bit ∷ first) (second_bit ∷ second) (lane ∷ lanes) before is same some within given =
+    let P : List ℕ → Type 0 = λ numbers. AddsLanes front before numbers (gathered_from front (added front number lane (Ok before)) (number + 1) lanes) in
+    subst P (sym (differing_first number first_bit second_bit first second)) (
+    next_adds front number (number_here number first_bit second_bit) (differing (number + 1) first second) before lanes (lane_found front number lane)
+    (lane_gives front plan number first_bit second_bit lane is same some (omega (arith, within)) given.0)
+    (λ before. gathered_adds front plan (number + 1) first second lanes before is same (omega arith) (omega (arith, within)) given.1))

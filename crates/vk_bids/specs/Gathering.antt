@@ -1,0 +1,52 @@
+-- What is gathered of the lanes that two replies give: their bids, or the first two openings of one commitment.
+use Rattle.std.specs.Prelude.{◌≡◌, ℕ, ◌+◌, Bool, true, false, List, [], ◌∷◌, ◌++◌, Option, Some, None, Result, Ok, Err}
+use Rattle.std.specs.Option.{option_to_list}
+use Rattle.vk_commit.specs.Commitment.{TwoOpeningsSeen}
+use Rattle.vk_wire.specs.declared.wire.Shown.{Shown}
+use Rattle.vk_row.specs.declared.case.LaneCase.{LaneCase}
+use Rattle.vk_row.specs.LaneTests.{◌>>=◌}
+use Rattle.vk_board.specs.Reading.{seats_of}
+use Rattle.vk_extractor.specs.Clash.{clash_of_lane}
+use Rattle.vk_extractor.specs.declared.lane.LaneErr.{LaneErr}
+use Rattle.vk_extractor.specs.declared.lane.LaneErr.TheVariants.{Clash, NoMemory}
+use Rattle.vk_verifier.specs.declared.front.Front.{Front}
+use Rattle.vk_verifier.specs.declared.stage.TwoLane.{TwoLane}
+use Rattle.vk_bids.specs.declared.bids.LaneBids.{LaneBids}
+use Rattle.vk_bids.specs.Bids.{opened_bids}
+
+-- the bids of the lane of that number, or its first clash
+abbrev pub bids_by : Front → ℕ → List Shown → List Shown → Option TwoOpeningsSeen → Result (Option LaneBids) TwoOpeningsSeen
+bids_by front number zero one (Some two) = Err two
+bids_by front number zero one None = Ok (Some (record { number = number; bids = opened_bids (seats_of front.seals) zero one }))
+
+-- what is shown for bit 0 comes first
+abbrev pub bids_of : Front → ℕ → LaneCase → List Shown → List Shown → Result (Option LaneBids) TwoOpeningsSeen
+bids_of front number case zero one = bids_by front number zero one (clash_of_lane case zero one)
+
+-- of a lane whose bits are these: nothing where they are the same
+abbrev pub lane_by : Bool → Bool → Front → ℕ → LaneCase → List Shown → List Shown → Result (Option LaneBids) TwoOpeningsSeen
+lane_by false true front number case first second = bids_of front number case first second
+lane_by true false front number case first second = bids_of front number case second first
+lane_by false false front number case first second = Ok None
+lane_by true true front number case first second = Ok None
+
+-- the lane of that number
+abbrev pub lane_found : Front → ℕ → TwoLane → Result (Option LaneBids) TwoOpeningsSeen
+lane_found front number lane = lane_by lane.first_bit lane.second_bit front number lane.case lane.first lane.second
+
+-- with what the lane of that number gives after what was gathered before it
+abbrev pub added : Front → ℕ → TwoLane → Result (List LaneBids) TwoOpeningsSeen → Result (List LaneBids) TwoOpeningsSeen
+added front number lane state = do
+  before ← state
+  found ← lane_found front number lane
+  Ok (before ++ option_to_list found)
+
+-- lanes one after another, the first of them with that number, after what was gathered before them
+unfoldable pub gathered_from : Front → Result (List LaneBids) TwoOpeningsSeen → ℕ → List TwoLane → Result (List LaneBids) TwoOpeningsSeen
+gathered_from front state number [] = state
+gathered_from front state number (lane ∷ lanes) = gathered_from front (added front number lane state) (number + 1) lanes
+
+-- a clash that is answered is what is given; want of memory says nothing
+abbrev pub IsClashOf : {X : Type 0} → LaneErr → Result X TwoOpeningsSeen → Type 0
+IsClashOf (Clash two) given = given ≡ Err two
+IsClashOf NoMemory given = Unit {0}

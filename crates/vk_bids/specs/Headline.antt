@@ -1,0 +1,119 @@
+-- The law of two replies that are accepted for different challenges: what is gathered of them shows the
+-- published outcome, or two openings of one commitment.
+use Rattle.std.specs.Prelude.{◌≡◌, ◌≢◌, ℕ, ◌+◌, ◌-◌, ◌≤◌, Bool, true, false, All, List, [], ◌∷◌, length, map, slice_index, Option, Some, None, Result, Ok, Err}
+use Rattle.std.specs.List.{Contains}
+use Rattle.std.specs.FinMap.{get}
+use Rattle.vk_commit.specs.Commitment.{AreTwoOpenings, TwoOpeningsSeen}
+use Rattle.vk_io.specs.Files.{Files}
+use Rattle.vk_lines.specs.Lines.{Rest}
+use Rattle.vk_board.specs.Reading.{seats_of}
+use Rattle.vk_reply.specs.declared.challenge.Challenge.{Challenge}
+use Rattle.vk_reply.specs.Reading.{challenge_at}
+use Rattle.vk_verifier.specs.declared.answers.BoardVerdict.{BoardVerdict}
+use Rattle.vk_verifier.specs.declared.front.Front.{Front}
+use Rattle.vk_verifier.specs.declared.stage.Base.{Base}
+use Rattle.vk_verifier.specs.declared.stage.TwoLane.{TwoLane}
+use Rattle.vk_verifier.specs.declared.stage.TwoVerdict.TheVariants.{Ready}
+use Rattle.vk_verifier.specs.Verdicts.{IsFront, front_at, from_start}
+use Rattle.vk_verifier.specs.Two.{Ahead, two_on, Rests, base_at, ahead_at}
+use Rattle.vk_bids.specs.declared.bids.LaneBids.{LaneBids}
+use Rattle.vk_bids.specs.Gathering.{gathered_from}
+use Rattle.vk_bids.specs.Outcome.{ShowsOutcome}
+
+-- ---- the files that are named
+
+abbrev pub front_in : Result (Front × Rest) BoardVerdict → Option Front
+front_in (Ok read) = Some read.0
+front_in (Err verdict) = None
+
+-- what stands in these bytes before the first lane of a board, if they are held
+abbrev pub front_by : Option (List ℕ) → Option Front
+front_by None = None
+front_by (Some bytes) = front_in (front_at (from_start bytes))
+
+-- the same of the named file
+abbrev pub front_on : Files → List ℕ → Option Front
+front_on files board = front_by (get files board)
+
+abbrev pub bits_in : Result (Challenge × Rest) ℕ → Option (List Bool)
+bits_in (Ok read) = Some read.0.bits
+bits_in (Err line) = None
+
+-- the bits of the challenge that is these bytes, if they are held
+abbrev pub bits_by : Option (List ℕ) → Option (List Bool)
+bits_by None = None
+bits_by (Some bytes) = bits_in (challenge_at (from_start bytes))
+
+-- the same of the named file
+abbrev pub bits_on : Files → List ℕ → Option (List Bool)
+bits_on files challenge = bits_by (get files challenge)
+
+-- the seal at the front's position, counted from 1, has the winner's seat
+pub record HasWinner (front : Front) : Type 0 where
+  pub some : 1 ≤ front.position
+  pub within : front.position ≤ length front.seals
+  pub seat : slice_index (seats_of front.seals) (front.position - 1) ≡ front.head.winner
+
+-- ---- what is shown
+
+-- the numbers of the lanes whose two bits differ, numbered on from the given number
+abbrev pub differing : ℕ → List Bool → List Bool → List ℕ
+differing number (false ∷ bits) (false ∷ others) = differing (number + 1) bits others
+differing number (true ∷ bits) (true ∷ others) = differing (number + 1) bits others
+differing number (false ∷ bits) (true ∷ others) = number ∷ differing (number + 1) bits others
+differing number (true ∷ bits) (false ∷ others) = number ∷ differing (number + 1) bits others
+differing number _ _ = []
+
+-- there are bids of just the lanes whose two bits differ, in order, and those of each lane open its seals and
+-- have the published outcome
+pub record ShowsBids (front : Front) (first_bits second_bits : List Bool) (lanes : List LaneBids) : Type 0 where
+  pub numbers : map (λ lane. lane.number) lanes ≡ differing 1 first_bits second_bits
+  pub each : All (λ lane. ShowsOutcome front lane.number lane.bids) lanes
+
+-- one commitment, in a lane whose two bits differ, is opened with different values
+pub record ShowsClash (front : Front) (first_bits second_bits : List Bool) (two : TwoOpeningsSeen) : Type 0 where
+  pub number : ℕ
+  pub differs : Contains (differing 1 first_bits second_bits) number
+  pub lane : two.place.lane ≡ number
+  pub auction : two.place.auction ≡ front.head.auction
+  pub openings : AreTwoOpenings two.place two.digest two.first two.second
+
+-- the board publishes this front, the challenges have these bits, which differ, and what is gathered of the
+-- lanes shows the board's outcome, or a clash
+pub record ShowsPublished (board first_challenge second_challenge : Option (List ℕ)) (front : Front) (first_bits second_bits : List Bool) (lanes : List TwoLane) : Type 0 where
+  pub published : front_by board ≡ Some front
+  pub first_is : bits_by first_challenge ≡ Some first_bits
+  pub second_is : bits_by second_challenge ≡ Some second_bits
+  pub right : IsFront front
+  pub winner : HasWinner front
+  pub one_first_bit_each : length first_bits ≡ front.head.lanes
+  pub one_second_bit_each : length second_bits ≡ front.head.lanes
+  pub differ : first_bits ≢ second_bits
+  pub bids : (found : List LaneBids) → gathered_from front (Ok []) 1 lanes ≡ Ok found → ShowsBids front first_bits second_bits found
+  pub clash : (two : TwoOpeningsSeen) → gathered_from front (Ok []) 1 lanes ≡ Err two → ShowsClash front first_bits second_bits two
+
+-- ---- the laws
+
+-- of any five files that are read side by side, where both replies are accepted and the challenges differ
+abbrev pub GatheredShows : Type 0
+GatheredShows =
+    (board first_challenge first_reply second_challenge second_reply : List ℕ) (base : Base) (rests : Rests)
+    → base_at (from_start board) (from_start first_challenge) (from_start first_reply) (from_start second_challenge) (from_start second_reply) ≡ Ok (base, rests)
+    → (ahead_at (from_start board) (from_start first_challenge) (from_start first_reply) (from_start second_challenge) (from_start second_reply)).finding ≡ Ready
+    → ShowsPublished (Some board) (Some first_challenge) (Some second_challenge) base.front base.first_bits base.second_bits
+    (ahead_at (from_start board) (from_start first_challenge) (from_start first_reply) (from_start second_challenge) (from_start second_reply)).lanes
+
+-- where both replies are accepted and the challenges differ, there is a base
+abbrev pub ReadyHasBase : Type 0
+ReadyHasBase =
+    (board first_challenge first_reply second_challenge second_reply : Rest)
+    → (ahead_at board first_challenge first_reply second_challenge second_reply).finding ≡ Ready
+    → (base : Base) × (rests : Rests) × (base_at board first_challenge first_reply second_challenge second_reply ≡ Ok (base, rests))
+
+-- the same of the named files
+abbrev pub FilesShow : Type 0
+FilesShow =
+    (files : Files) (board first_challenge first_reply second_challenge second_reply : List ℕ) (ahead : Ahead)
+    → two_on files board first_challenge first_reply second_challenge second_reply ≡ Ok ahead → ahead.finding ≡ Ready
+    → (front : Front) × (first_bits : List Bool) × (second_bits : List Bool)
+    × ShowsPublished (get files board) (get files first_challenge) (get files second_challenge) front first_bits second_bits ahead.lanes
