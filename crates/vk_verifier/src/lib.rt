@@ -20,3 +20,6 @@ pub use laws::a_verdict_accepts_what_is_accepted;
 pub use stage::{TwoLane, TwoVerdict};
 pub use two::{TwoChecker, TwoErr};
 pub use two_laws::{a_finding_is_by_both_verdicts, every_lane_is_given_of_accepted_replies};
+
+#[cfg(test)]
+mod two_tests;
