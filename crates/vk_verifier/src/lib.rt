@@ -23,3 +23,5 @@ pub use two_laws::{a_finding_is_by_both_verdicts, every_lane_is_given_of_accepte
 
 #[cfg(test)]
 mod tests;
+#[cfg(test)]
+mod two_tests;

@@ -161,15 +161,15 @@ fn read_two<S: Shelf>(
     })
 }
 
-/// Reads the end of the second reply, where that is asked for.
-fn read_second_end<S: Shelf>(shelf: &mut S, asked: bool, second: &mut Lines) -> Result<(), Halt>
-    ensures told { IfSome (S.held shelf.old) (λ files. IsTrue asked
+/// Reads the end of the second reply, where the ends of the board and the first reply stand.
+fn read_second_end<S: Shelf>(shelf: &mut S, standing: bool, second: &mut Lines) -> Result<(), Halt>
+    ensures told { IfSome (S.held shelf.old) (λ files. IsTrue standing
         → Judges (λ done. (done, rest_of second.new files)) result (in_part Part.Reply (end_at (rest_of second.old files)))) }
     ensures held { S.held shelf.new ≡ S.held shelf.old }
     ensures later { S.Shelf.faults shelf.old ≤ S.Shelf.faults shelf.new }
     ensures failed { IsErrOf result Halt.Failed → Rose (S.Shelf.faults shelf.old) (S.Shelf.faults shelf.new) }
 {
-    if !asked {
+    if !standing {
         return Ok(());
     }
     in_part(Part::Reply, second.read_end(shelf))?;
