@@ -15,3 +15,4 @@ pub mod Joined
 pub mod Bits
 pub mod TwoFound
 pub mod TwoLaw
+pub mod TwoBegun

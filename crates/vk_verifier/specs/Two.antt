@@ -202,6 +202,21 @@ two_on files board first_challenge first_reply second_challenge second_reply = d
   second_reply ← begun part.SecondReply (get files second_reply)
   Ok (ahead_at board first_challenge first_reply second_challenge second_reply)
 
+-- what was read before the first lane, where there was no fault before it
+abbrev pub base_in : Result (Base × Rests) TwoVerdict → Option Base
+base_in (Ok start) = Some start.0
+base_in (Err finding) = None
+
+-- the same of the named files
+unfoldable pub base_on : Files → List ℕ → List ℕ → List ℕ → List ℕ → List ℕ → Result (Option Base) VErr
+base_on files board first_challenge first_reply second_challenge second_reply = do
+  board ← begun part.Board (get files board)
+  first_challenge ← begun part.Challenge (get files first_challenge)
+  first_reply ← begun part.Reply (get files first_reply)
+  second_challenge ← begun part.SecondChallenge (get files second_challenge)
+  second_reply ← begun part.SecondReply (get files second_reply)
+  Ok (base_in (base_at board first_challenge first_reply second_challenge second_reply))
+
 -- ---- what the code answers
 
 -- what is answered is what the definition gives: a value, or what is found. After a failure of the outside

@@ -1,5 +1,5 @@
 // Two replies to a board, side by side.
-ghost use Rattle.std.specs.Prelude.{◌≡◌, ◌⊎◌, ◌≤◌, ◌<◌, ◌+◌, Some, None, Result, Ok, IsSome, IfSome, IfOk, IfErr, OnOk, IsErrOf};
+ghost use Rattle.std.specs.Prelude.{◌≡◌, ◌⊎◌, ◌≤◌, ◌<◌, ◌+◌, Some, None, Result, Ok, IsSome, IsSomeAnd, IfSome, IfOk, IfErr, OnOk, IsErrOf};
 ghost use Rattle.vk_io.specs.Faults.{Rose};
 ghost use Rattle.vk_io.specs.Files.{Files};
 ghost use Rattle.vk_lines.specs.Lines.{rest_of};
@@ -7,7 +7,7 @@ ghost use Rattle.vk_verifier.specs.Verdicts.{IsFront, plan_of, Gives};
 ghost use Rattle.vk_verifier.specs.declared.stage.Base.{Base};
 ghost use Rattle.vk_verifier.specs.declared.stage.Stage.TheVariants.{Running};
 ghost use Rattle.vk_verifier.specs.declared.stage.TwoVerdict.{TwoVerdict};
-ghost use Rattle.vk_verifier.specs.Two.{Finds, GivesLane, GoesOn, Ahead, Rests, Refuses, AreAccepted, IsBase, IsTwoLane, IsCourse, IsStage, IsRight, IsNextLane, IsOver, HasBase, ahead_on, ahead_by, ahead_at, ahead_of, rests_of, finding_of, base_of, given_of, two_on};
+ghost use Rattle.vk_verifier.specs.Two.{Finds, GivesLane, GoesOn, Ahead, Rests, Refuses, AreAccepted, IsBase, IsTwoLane, IsCourse, IsStage, IsRight, IsNextLane, IsOver, HasBase, ahead_on, ahead_by, ahead_at, ahead_of, rests_of, finding_of, base_of, base_at, base_in, base_on, given_of, two_on};
 
 use crate::answers::{Part, VErr};
 use crate::front::Front;
@@ -54,7 +54,7 @@ impl TwoChecker {
     /// Begins the files, and reads the board before its first lane, both challenges and the heads of both
     /// replies. Errs where a file is missing or longer than 2^30 bytes, and names the first that is, in the
     /// order of the names; where the shelf fails; and for want of memory.
-    #[tactic(auto, unfolding(crate::specs::Two::two_on))]
+    #[tactic(auto, unfolding(crate::specs::Two::two_on, crate::specs::Two::base_on))]
     pub fn start<S: Shelf>(
         alloc: Global,
         shelf: &mut S,
@@ -66,6 +66,8 @@ impl TwoChecker {
     ) -> Result<TwoChecker, VErr>
         ensures told { IfSome (S.held shelf.old) (λ files. Gives (λ checker. ahead_of checker files) result
             (two_on files board.now challenge1.now reply1.now challenge2.now reply2.now)) }
+        ensures base { IfSome (S.held shelf.old) (λ files. Gives (λ checker. base_of checker) result
+            (base_on files board.now challenge1.now reply1.now challenge2.now reply2.now)) }
         ensures none_given { IfOk result (λ checker. given_of checker ≡ 0) }
         ensures held { S.held shelf.new ≡ S.held shelf.old }
         ensures later { S.Shelf.faults shelf.old ≤ S.Shelf.faults shelf.new }
@@ -124,7 +126,7 @@ impl TwoChecker {
     pub fn finding(&self) -> TwoVerdict
         requires { IsOver self.now }
         ensures value { finding_of self.now ≡ Some result }
-        ensures all { AreAccepted result → IfSome (base_of self.now) (λ base. given_of self.now ≡ base.front.head.lanes) }
+        ensures all { AreAccepted result → IsSomeAnd (base_of self.now) (λ base. given_of self.now ≡ base.front.head.lanes) }
     {
         match &self.stage {
             Stage::Before(finding) => *finding,
@@ -178,6 +180,8 @@ fn begin_checker<S: Shelf>(
 ) -> Result<TwoChecker, VErr>
     ensures told { IfSome (S.held shelf.old) (λ files. Gives (λ checker. ahead_of checker files) result
         (Ok (ahead_at (rest_of readers.board files) (rest_of first_challenge files) (rest_of readers.first files) (rest_of second_challenge files) (rest_of readers.second files)))) }
+    ensures base { IfSome (S.held shelf.old) (λ files. Gives (λ checker. base_of checker) result
+        (Ok (base_in (base_at (rest_of readers.board files) (rest_of first_challenge files) (rest_of readers.first files) (rest_of second_challenge files) (rest_of readers.second files))))) }
     ensures none_given { IfOk result (λ checker. given_of checker ≡ 0) }
     ensures held { S.held shelf.new ≡ S.held shelf.old }
     ensures later { S.Shelf.faults shelf.old ≤ S.Shelf.faults shelf.new }
@@ -197,6 +201,8 @@ fn checker_on(base: Result<Base, TwoHalt>, readers: TwoReaders) -> Result<TwoChe
     requires refuses { IfErr base Refuses }
     ensures told { (files : Files) (expected : Result (Base × Rests) TwoVerdict)
         → Finds (λ g. (g, rests_of readers files)) base expected → Gives (λ checker. ahead_of checker files) result (Ok (ahead_by expected)) }
+    ensures base { (files : Files) (expected : Result (Base × Rests) TwoVerdict)
+        → Finds (λ g. (g, rests_of readers files)) base expected → Gives (λ checker. base_of checker) result (Ok (base_in expected)) }
     ensures none_given { IfOk result (λ checker. given_of checker ≡ 0) }
     ensures inside { IsErrOf result VErr.Failed → IsErrOf base TwoHalt.Failed }
 {
