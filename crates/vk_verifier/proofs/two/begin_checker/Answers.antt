@@ -1,6 +1,3 @@
-use Rattle.std.proofs.Common.{rules, Option, Some, None, IfSome, Ok}
-use Rattle.vk_lines.specs.Lines.{rest_of}
-use Rattle.vk_verifier.specs.Two.{base_at}
 use Rattle.vk_verifier.proofs.TwoBegun.{if_held}
 use Rattle.vk_verifier.proofs.two.begin_checker.Goals as goal
 
