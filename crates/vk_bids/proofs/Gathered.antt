@@ -4,7 +4,7 @@ use Rattle.std.specs.Option.{option_to_list}
 use Rattle.std.specs.List.{Contains}
 use Rattle.std.proofs.lemmas.List.{map-append}
 use Rattle.std.proofs.lemmas.List.Elements.{All-nil, All-cons, All-append, Contains-get_or, Contains-append_left, Contains-append_right}
-use Rattle.vk_commit.specs.Commitment.{AreTwoOpenings, TwoOpeningsSeen}
+use Rattle.vk_commit.specs.Commitment.{TwoOpeningsSeen}
 use Rattle.vk_commit.specs.declared.place.Place.{Place}
 use Rattle.vk_plan.specs.Plans.{PlanValue, IsPlan}
 use Rattle.vk_wire.specs.Places.{place_of_wire, entry_place}
@@ -36,16 +36,21 @@ ShowsLane front lane = ShowsOutcome front lane.number lane.bids
 abbrev pub number_of : LaneBids → ℕ
 number_of lane = lane.number
 
--- two openings of a commitment in the lane of that number
-pub record ClashesIn (front : Front) (number : ℕ) (two : TwoOpeningsSeen) : Type 0 where
+-- two openings of a commitment of this lane, which has that number
+pub record ClashesAt (front : Front) (plan : PlanValue) (number : ℕ) (case : LaneCase) (two : TwoOpeningsSeen) : Type 0 where
   pub lane : two.place.lane ≡ number
   pub auction : two.place.auction ≡ front.head.auction
-  pub openings : AreTwoOpenings two.place two.digest two.first two.second
+  pub of_lane : AreOfLane plan case two
 
--- bids of just these lanes were added, or there is a clash in one of them
-abbrev pub AddsLanes : Front → List LaneBids → List ℕ → Result (List LaneBids) TwoOpeningsSeen → Type 0
-AddsLanes front before numbers (Ok all) = (more : List LaneBids) × (all ≡ before ++ more) × (map number_of more ≡ numbers) × All (ShowsLane front) more
-AddsLanes front before numbers (Err two) = (number : ℕ) × Contains numbers number × ClashesIn front number two
+-- the same of one of these lanes, whose number is one of these
+abbrev pub ClashesIn : Front → PlanValue → List TwoLane → List ℕ → TwoOpeningsSeen → Type 0
+ClashesIn front plan lanes numbers two =
+    (number : ℕ) × Contains numbers number × (given : TwoLane) × Contains lanes given × ClashesAt front plan number given.case two
+
+-- bids of just the lanes with these numbers were added, or there is a clash in one of them
+abbrev pub AddsLanes : Front → PlanValue → List TwoLane → List LaneBids → List ℕ → Result (List LaneBids) TwoOpeningsSeen → Type 0
+AddsLanes front plan lanes before numbers (Ok all) = (more : List LaneBids) × (all ≡ before ++ more) × (map number_of more ≡ numbers) × All (ShowsLane front) more
+AddsLanes front plan lanes before numbers (Err two) = ClashesIn front plan lanes numbers two
 
 -- the number of a lane whose bits these are, where they differ
 abbrev number_here : ℕ → Bool → Bool → List ℕ
@@ -79,26 +84,26 @@ entry_in : (place : Place) (second : Bool) → ((entry_place place second).lane 
 entry_in place false = (refl, refl)
 entry_in place true = (refl, refl)
 
-clashes_in : (front : Front) (plan : PlanValue) (number : ℕ) (case : LaneCase) (two : TwoOpeningsSeen) → IsCaseOf front number case → AreOfLane plan case two → ClashesIn front number two
+clashes_in : (front : Front) (plan : PlanValue) (number : ℕ) (case : LaneCase) (two : TwoOpeningsSeen) → IsCaseOf front number case → AreOfLane plan case two → ClashesAt front plan number case two
 clashes_in front plan number case two of_lane are =
     let entry = entry_in (place_in case are.wire) are.second in
     let wire = wire_in case.auction case.lane case.seats are.wire in
     record {
       lane = ap (λ (p : Place). p.lane) are.place ∙ (entry.0 ∙ (wire.0 ∙ ap (λ (c : LaneCase). c.lane) of_lane.1));
       auction = ap (λ (p : Place). p.auction) are.place ∙ (entry.1 ∙ (wire.1 ∙ ap (λ (c : LaneCase). c.auction) of_lane.1));
-      openings = are.openings;
+      of_lane = are;
     }
 
 -- ---- one lane
 
 -- what a lane gives
-abbrev GivesLane : Front → ℕ → List ℕ → Result (Option LaneBids) TwoOpeningsSeen → Type 0
-GivesLane front number numbers (Ok found) = (map number_of (option_to_list found) ≡ numbers) × All (ShowsLane front) (option_to_list found)
-GivesLane front number numbers (Err two) = Contains numbers number × ClashesIn front number two
+abbrev GivesLane : Front → PlanValue → LaneCase → ℕ → List ℕ → Result (Option LaneBids) TwoOpeningsSeen → Type 0
+GivesLane front plan case number numbers (Ok found) = (map number_of (option_to_list found) ≡ numbers) × All (ShowsLane front) (option_to_list found)
+GivesLane front plan case number numbers (Err two) = Contains numbers number × ClashesAt front plan number case two
 
 module _ (front : Front) (plan : PlanValue) (number : ℕ) (case : LaneCase) (is : IsFront front) (same : plan ≡ plan_of front) (some : 1 ≤ number) (last : number ≤ front.head.lanes) (of_lane : IsCaseOf front number case) where
   by_clash : (zero one : List Shown) → IsAccepted plan case false zero → IsAccepted plan case true one → (clash : Option TwoOpeningsSeen) → clash_of_lane case zero one ≡ clash
-      → GivesLane front number (number ∷ []) (bids_by front number zero one clash)
+      → GivesLane front plan case number (number ∷ []) (bids_by front number zero one clash)
   by_clash zero one first second None none =
       let bids : LaneBids = record { number = number; bids = opened_bids (seats_of front.seals) zero one } in
       (refl, All-cons (ShowsLane front) bids [] (case_shows front plan number case zero one is same some last of_lane first second none) (All-nil (ShowsLane front)))
@@ -106,7 +111,7 @@ module _ (front : Front) (plan : PlanValue) (number : ℕ) (case : LaneCase) (is
       (Contains-get_or (number ∷ []) 0 number (omega arith), clashes_in front plan number case two of_lane (clash_opens plan case zero one first.0 second.0 two first.1 second.1 found))
 
   by_bits : (first_bit second_bit : Bool) (first second : List Shown) → IsAccepted plan case first_bit first → IsAccepted plan case second_bit second
-      → GivesLane front number (number_here number first_bit second_bit) (lane_by first_bit second_bit front number case first second)
+      → GivesLane front plan case number (number_here number first_bit second_bit) (lane_by first_bit second_bit front number case first second)
   by_bits false false first second one other = (refl, All-nil (ShowsLane front))
   by_bits true true first second one other = (refl, All-nil (ShowsLane front))
   by_bits false true first second one other = by_clash first second one other (clash_of_lane case first second) refl
@@ -127,14 +132,14 @@ accepted_for front plan case bit wanted shown passed is same counts checked is_w
     subst Q (sym is_passed) (subst P is_wanted (shown_accepted front plan case bit shown is same counts checked))
 
 lane_gives : (front : Front) (plan : PlanValue) (number : ℕ) (first_bit second_bit : Bool) (lane : TwoLane) → IsFront front → plan ≡ plan_of front → 1 ≤ number → number ≤ front.head.lanes
-    → IsGiven front plan number first_bit second_bit lane → GivesLane front number (number_here number first_bit second_bit) (lane_found front number lane)
+    → IsGiven front plan number first_bit second_bit lane → GivesLane front plan lane.case number (number_here number first_bit second_bit) (lane_found front number lane)
 lane_gives front plan number first_bit second_bit lane is same some last given =
     let right = given.right in
     let one = shown_accepted front plan lane.case lane.first_bit lane.first is same right.first_counts right.first in
     let other = shown_accepted front plan lane.case lane.second_bit lane.second is same right.second_counts right.second in
     let found = by_bits front plan number lane.case is same some last (right.case.lines, right.case.is) lane.first_bit lane.second_bit lane.first lane.second one other in
-    let P : Bool → Type 0 = λ bit. GivesLane front number (number_here number bit lane.second_bit) (lane_found front number lane) in
-    let Q : Bool → Type 0 = λ bit. GivesLane front number (number_here number first_bit bit) (lane_found front number lane) in
+    let P : Bool → Type 0 = λ bit. GivesLane front plan lane.case number (number_here number bit lane.second_bit) (lane_found front number lane) in
+    let Q : Bool → Type 0 = λ bit. GivesLane front plan lane.case number (number_here number first_bit bit) (lane_found front number lane) in
     subst Q given.second_bit_is (subst P given.first_bit_is found)
 
 -- ---- one lane after another
@@ -145,44 +150,46 @@ unfolding gathered_from
 stays front two number [] = refl
 stays front two number (lane ∷ lanes) = stays front two (number + 1) lanes
 
-adds_more : (front : Front) (before here : List LaneBids) (numbers later : List ℕ) (all : Result (List LaneBids) TwoOpeningsSeen) → map number_of here ≡ numbers → All (ShowsLane front) here
-    → AddsLanes front (before ++ here) later all → AddsLanes front before (numbers ++ later) all
-adds_more front before here numbers later (Ok all) are each (more, is, numbered, shows) = (
+adds_more : (front : Front) (plan : PlanValue) (lane : TwoLane) (lanes : List TwoLane) (before here : List LaneBids) (numbers later : List ℕ) (all : Result (List LaneBids) TwoOpeningsSeen)
+    → map number_of here ≡ numbers → All (ShowsLane front) here → AddsLanes front plan lanes (before ++ here) later all → AddsLanes front plan (lane ∷ lanes) before (numbers ++ later) all
+adds_more front plan lane lanes before here numbers later (Ok all) are each (more, is, numbered, shows) = (
   here ++ more,
   is ∙ append_assoc before here more,
   map-append number_of here more ∙ (ap (λ ns. ns ++ map number_of more) are ∙ ap (λ ns. numbers ++ ns) numbered),
   All-append (ShowsLane front) here more each shows,
 )
-adds_more front before here numbers later (Err two) are each (number, within, clash) = (number, Contains-append_right numbers later number within, clash)
+adds_more front plan lane lanes before here numbers later (Err two) are each (number, within, given, is_given, clash) =
+    (number, Contains-append_right numbers later number within, given, Contains-append_right (lane ∷ []) lanes given is_given, clash)
 
-next_adds : (front : Front) (number : ℕ) (numbers later : List ℕ) (before : List LaneBids) (lanes : List TwoLane) (found : Result (Option LaneBids) TwoOpeningsSeen)
-    → GivesLane front number numbers found → ((before : List LaneBids) → AddsLanes front before later (gathered_from front (Ok before) (number + 1) lanes))
-    → AddsLanes front before (numbers ++ later) (gathered_from front (found >>= λ f. Ok (before ++ option_to_list f)) (number + 1) lanes)
-next_adds front number numbers later before lanes (Ok found) gives rest =
-    adds_more front before (option_to_list found) numbers later (gathered_from front (Ok (before ++ option_to_list found)) (number + 1) lanes) gives.0 gives.1 (rest (before ++ option_to_list found))
-next_adds front number numbers later before lanes (Err two) gives rest =
-    let P : Result (List LaneBids) TwoOpeningsSeen → Type 0 = λ all. AddsLanes front before (numbers ++ later) all in
-    subst P (sym (stays front two (number + 1) lanes)) (number, Contains-append_left numbers later number gives.0, gives.1)
+next_adds : (front : Front) (plan : PlanValue) (lane : TwoLane) (number : ℕ) (numbers later : List ℕ) (before : List LaneBids) (lanes : List TwoLane) (found : Result (Option LaneBids) TwoOpeningsSeen)
+    → GivesLane front plan lane.case number numbers found → ((before : List LaneBids) → AddsLanes front plan lanes before later (gathered_from front (Ok before) (number + 1) lanes))
+    → AddsLanes front plan (lane ∷ lanes) before (numbers ++ later) (gathered_from front (found >>= λ f. Ok (before ++ option_to_list f)) (number + 1) lanes)
+next_adds front plan lane number numbers later before lanes (Ok found) gives rest =
+    adds_more front plan lane lanes before (option_to_list found) numbers later (gathered_from front (Ok (before ++ option_to_list found)) (number + 1) lanes) gives.0 gives.1 (rest (before ++ option_to_list found))
+next_adds front plan lane number numbers later before lanes (Err two) gives rest =
+    let P : Result (List LaneBids) TwoOpeningsSeen → Type 0 = λ all. AddsLanes front plan (lane ∷ lanes) before (numbers ++ later) all in
+    let is_given : Contains (lane ∷ lanes) lane = Contains-append_left (lane ∷ []) lanes lane (Contains-get_or (lane ∷ []) 0 lane (omega arith)) in
+    subst P (sym (stays front two (number + 1) lanes)) (number, Contains-append_left numbers later number gives.0, lane, is_given, gives.1)
 
-none_added : (front : Front) (before : List LaneBids) (number : ℕ) (numbers : List ℕ) (lanes : List TwoLane) → numbers ≡ [] → lanes ≡ []
-    → AddsLanes front before numbers (gathered_from front (Ok before) number lanes)
+none_added : (front : Front) (plan : PlanValue) (before : List LaneBids) (number : ℕ) (numbers : List ℕ) (lanes : List TwoLane) → numbers ≡ [] → lanes ≡ []
+    → AddsLanes front plan lanes before numbers (gathered_from front (Ok before) number lanes)
 unfolding gathered_from
-none_added front before number numbers lanes no_numbers no_lanes =
-    let P : List ℕ → Type 0 = λ ns. AddsLanes front before ns (Ok before) in
-    let Q : List TwoLane → Type 0 = λ ls. AddsLanes front before numbers (gathered_from front (Ok before) number ls) in
+none_added front plan before number numbers lanes no_numbers no_lanes =
+    let P : List ℕ → Type 0 = λ ns. AddsLanes front plan [] before ns (Ok before) in
+    let Q : List TwoLane → Type 0 = λ ls. AddsLanes front plan ls before numbers (gathered_from front (Ok before) number ls) in
     subst Q (sym no_lanes) (subst P (sym no_numbers) ([], sym (append-nil before), refl, All-nil (ShowsLane front)))
 
 pub gathered_adds : (front : Front) (plan : PlanValue) (number : ℕ) (first second : List Bool) (lanes : List TwoLane) (before : List LaneBids)
     → IsFront front → plan ≡ plan_of front → 1 ≤ number → number + length first ≤ front.head.lanes + 1 → AreGiven front plan number first second lanes
-    → AddsLanes front before (differing number first second) (gathered_from front (Ok before) number lanes)
+    → AddsLanes front plan lanes before (differing number first second) (gathered_from front (Ok before) number lanes)
 unfolding gathered_from
-gathered_adds front plan number [] second lanes before is same some within given = none_added front before number [] lanes refl given
+gathered_adds front plan number [] second lanes before is same some within given = none_added front plan before number [] lanes refl given
 gathered_adds front plan number (first_bit ∷ first) [] lanes before is same some within given =
-    none_added front before number (differing number (first_bit ∷ first) []) lanes (none_differ number first_bit first) given
+    none_added front plan before number (differing number (first_bit ∷ first) []) lanes (none_differ number first_bit first) given
 gathered_adds front plan number (first_bit ∷ first) (second_bit ∷ second) [] before is same some within given = absurd given
 gathered_adds front plan number (first_bit ∷ first) (second_bit ∷ second) (lane ∷ lanes) before is same some within given =
-    let P : List ℕ → Type 0 = λ numbers. AddsLanes front before numbers (gathered_from front (added front number lane (Ok before)) (number + 1) lanes) in
+    let P : List ℕ → Type 0 = λ numbers. AddsLanes front plan (lane ∷ lanes) before numbers (gathered_from front (added front number lane (Ok before)) (number + 1) lanes) in
     subst P (sym (differing_first number first_bit second_bit first second)) (
-    next_adds front number (number_here number first_bit second_bit) (differing (number + 1) first second) before lanes (lane_found front number lane)
+    next_adds front plan lane number (number_here number first_bit second_bit) (differing (number + 1) first second) before lanes (lane_found front number lane)
     (lane_gives front plan number first_bit second_bit lane is same some (omega (arith, within)) given.0)
     (λ before. gathered_adds front plan (number + 1) first second lanes before is same (omega arith) (omega (arith, within)) given.1))

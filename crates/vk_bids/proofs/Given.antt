@@ -120,6 +120,19 @@ module _ (front : Front) (plan : PlanValue) (number : ℕ) where
     pub first_bit_is : lane.first_bit ≡ first_bit
     pub second_bit_is : lane.second_bit ≡ second_bit
 
+  given_from : (first_bit second_bit : Bool) (rests : Rests) (case : LaneCase × Rest) (first second : List Shown × Rest) (given : TwoLane × Rests) → IsFront front → plan ≡ plan_of front → number ≤ front.head.lanes
+      → case_at front plan number rests.board ≡ Ok case → reply_judged plan case.0 number first_bit rests.first ≡ Ok first → reply_judged plan case.0 number second_bit rests.second ≡ Ok second
+      → second_then case first_bit second_bit first second ≡ Ok given → IsGiven first_bit second_bit given.0
+  given_from first_bit second_bit rests case first second given is same last case_ok first_ok second_ok made =
+      let one = reply_gives first_bit rests.board rests.first case first is same last case_ok first_ok in
+      let other = reply_gives second_bit rests.board rests.second case second is same last case_ok second_ok in
+      let P : TwoLane × Rests → Type 0 = λ g. IsGiven first_bit second_bit g.0 in
+      subst P (value_same _ given made) (record {
+        right = record { case = one.is_case; first_counts = one.counts; first = one.checked; second_counts = other.counts; second = other.checked };
+        first_bit_is = refl;
+        second_bit_is = refl;
+      })
+
   given_lane : (first_bit second_bit : Bool) (later : List Bool) (rests : Rests) (given : TwoLane × Rests) → IsFront front → plan ≡ plan_of front → number ≤ front.head.lanes
       → two_lane_at front plan number first_bit second_bit later rests ≡ Ok given → IsGiven first_bit second_bit given.0
   unfolding two_lane_at
@@ -128,17 +141,11 @@ module _ (front : Front) (plan : PlanValue) (number : ℕ) where
       let first = bind_ok (of_first (reply_judged plan case.0.0 number first_bit rests.first)) (second_shown front plan number first_bit second_bit later rests case.0) given case.2 in
       let second = bind_ok (of_second (rest_judged front plan (number + 1) later case.0.1 first.0.1) (reply_judged plan case.0.0 number second_bit rests.second))
       (second_then case.0 first_bit second_bit first.0) given first.2 in
-      let case_ok = of_first_ok (case_at front plan number rests.board) case.0 case.1 in
-      let one = reply_gives first_bit rests.board rests.first case.0 first.0 is same last case_ok
-      (of_first_ok (reply_judged plan case.0.0 number first_bit rests.first) first.0 first.1) in
-      let other = reply_gives second_bit rests.board rests.second case.0 second.0 is same last case_ok
-      (of_second_ok (rest_judged front plan (number + 1) later case.0.1 first.0.1) (reply_judged plan case.0.0 number second_bit rests.second) second.0 second.1) in
-      let P : TwoLane × Rests → Type 0 = λ g. IsGiven first_bit second_bit g.0 in
-      subst P (value_same _ given second.2) (record {
-        right = record { case = one.is_case; first_counts = one.counts; first = one.checked; second_counts = other.counts; second = other.checked };
-        first_bit_is = refl;
-        second_bit_is = refl;
-      })
+      given_from first_bit second_bit rests case.0 first.0 second.0 given is same last
+      (of_first_ok (case_at front plan number rests.board) case.0 case.1)
+      (of_first_ok (reply_judged plan case.0.0 number first_bit rests.first) first.0 first.1)
+      (of_second_ok (rest_judged front plan (number + 1) later case.0.1 first.0.1) (reply_judged plan case.0.0 number second_bit rests.second) second.0 second.1)
+      second.2
 
 -- ---- all lanes
 

@@ -5,11 +5,13 @@ use Rattle.vk_commit.specs.Commitment.{TwoOpeningsSeen}
 use Rattle.std.specs.FinMap.{get}
 use Rattle.vk_io.specs.Files.{Files}
 use Rattle.vk_lines.specs.Lines.{Rest}
+use Rattle.vk_plan.specs.Plans.{PlanValue}
 use Rattle.vk_row.specs.LaneTests.{◌>>=◌}
 use Rattle.vk_board.specs.declared.board.Head.{Head}
 use Rattle.vk_board.proofs.Forms.{head_is_part, seals_are_part}
 use Rattle.vk_reply.specs.Reading.{challenge_at, reply_head_at}
 use Rattle.vk_verifier.specs.declared.answers.Part.TheVariants as part
+use Rattle.vk_extractor.specs.Laws.{AreOfLane}
 use Rattle.vk_verifier.specs.declared.answers.Part.{Part}
 use Rattle.vk_verifier.specs.declared.answers.VErr.TheVariants.{TooLong}
 use Rattle.vk_verifier.specs.declared.front.Front.{Front}
@@ -64,37 +66,47 @@ front_right : (board : Rest) (front : Front) (after : Rest) → FrontRead board 
 front_right board front after read =
     is_front front (head_is_part.shown board front.head read.head_rest read.head_read).0 ((seals_are_part front.head).shown read.head_rest front.seals after read.seals_read).0 read.may
 
+-- what these are together
+abbrev base_of : Front × Rest → List Bool × Rest → List Bool × Rest → Result (Base × Rests) TwoVerdict
+base_of front first second = Ok (
+  record { front = front.0; plan = plan_of front.0; first_bits = first.0; second_bits = second.0 },
+  record { board = front.1; first = first.1; second = second.1 },
+)
+
+base_from : (board first_challenge first_reply second_challenge second_reply : Rest) (front : Front × Rest) (first second : List Bool × Rest) (base : Base × Rests)
+    → front_at board ≡ Ok front → attempt_at front.0.head first_challenge first_reply ≡ Ok first → attempt_at front.0.head second_challenge second_reply ≡ Ok second
+    → base_of front first second ≡ Ok base → BaseRead board first_challenge second_challenge base.0
+base_from board first_challenge first_reply second_challenge second_reply front first second base front_ok first_ok second_ok made =
+    let read = front_at_shown board front.0 front.1 front_ok in
+    let P : Base × Rests → Type 0 = λ g. BaseRead board first_challenge second_challenge g.0 in
+    subst P (value_same _ base made) (record {
+      after = front.1;
+      front_read = front_ok;
+      read = read;
+      first_read = attempt_challenge front.0.head first_challenge first_reply first first_ok;
+      second_read = attempt_challenge front.0.head second_challenge second_reply second second_ok;
+      right = record {
+        front = front_right board front.0 front.1 read;
+        plan = refl;
+        first = attempt_bits front.0.head first_challenge first_reply first first_ok;
+        second = attempt_bits front.0.head second_challenge second_reply second second_ok;
+      };
+    })
+
 base_read : (board first_challenge first_reply second_challenge second_reply : Rest) (base : Base) (rests : Rests)
     → base_at board first_challenge first_reply second_challenge second_reply ≡ Ok (base, rests) → BaseRead board first_challenge second_challenge base
 unfolding base_at
 base_read board first_challenge first_reply second_challenge second_reply base rests ok =
     let front = bind_ok (of_first (front_at board)) (both_begun first_challenge first_reply second_challenge second_reply) (base, rests) ok in
-    let front_ok = of_first_ok (front_at board) front.0 front.1 in
     let head = front.0.0.head in
     let first = bind_ok (of_first (attempt_at head first_challenge first_reply)) (second_begun second_challenge second_reply front.0) (base, rests) front.2 in
     let judged = rest_judged front.0.0 (plan_of front.0.0) 1 first.0.0 front.0.1 first.0.1 in
-    let second = bind_ok (of_second judged (attempt_at head second_challenge second_reply))
-    (λ second. Ok (
-      record { front = front.0.0; plan = plan_of front.0.0; first_bits = first.0.0; second_bits = second.0 },
-      record { board = front.0.1; first = first.0.1; second = second.1 },
-    )) (base, rests) first.2 in
-    let read = front_at_shown board front.0.0 front.0.1 front_ok in
-    let first_ok = of_first_ok (attempt_at head first_challenge first_reply) first.0 first.1 in
-    let second_ok = of_second_ok judged (attempt_at head second_challenge second_reply) second.0 second.1 in
-    let P : Base × Rests → Type 0 = λ g. BaseRead board first_challenge second_challenge g.0 in
-    subst P (value_same _ (base, rests) second.2) (record {
-      after = front.0.1;
-      front_read = front_ok;
-      read = read;
-      first_read = attempt_challenge head first_challenge first_reply first.0 first_ok;
-      second_read = attempt_challenge head second_challenge second_reply second.0 second_ok;
-      right = record {
-        front = front_right board front.0.0 front.0.1 read;
-        plan = refl;
-        first = attempt_bits head first_challenge first_reply first.0 first_ok;
-        second = attempt_bits head second_challenge second_reply second.0 second_ok;
-      };
-    })
+    let second = bind_ok (of_second judged (attempt_at head second_challenge second_reply)) (base_of front.0 first.0) (base, rests) first.2 in
+    base_from board first_challenge first_reply second_challenge second_reply front.0 first.0 second.0 (base, rests)
+    (of_first_ok (front_at board) front.0 front.1)
+    (of_first_ok (attempt_at head first_challenge first_reply) first.0 first.1)
+    (of_second_ok judged (attempt_at head second_challenge second_reply) second.0 second.1)
+    second.2
 
 base_never : (board first_challenge first_reply second_challenge second_reply : Rest) → ¬ (base_at board first_challenge first_reply second_challenge second_reply ≡ Err Ready)
 unfolding base_at
@@ -103,10 +115,7 @@ base_never board first_challenge first_reply second_challenge second_reply =
     (λ front. bind_never (of_first (attempt_at front.0.head first_challenge first_reply)) (second_begun second_challenge second_reply front) Ready
     (first_never (attempt_at front.0.head first_challenge first_reply))
     (λ first. bind_never (of_second (rest_judged front.0 (plan_of front.0) 1 first.0 front.1 first.1) (attempt_at front.0.head second_challenge second_reply))
-    (λ second. Ok (
-      record { front = front.0; plan = plan_of front.0; first_bits = first.0; second_bits = second.0 },
-      record { board = front.1; first = first.1; second = second.1 },
-    )) Ready
+    (base_of front first) Ready
     (second_never (rest_judged front.0 (plan_of front.0) 1 first.0 front.1 first.1) (attempt_at front.0.head second_challenge second_reply))
     (λ second e. cc)))
 
@@ -120,13 +129,25 @@ ready_has_base board first_challenge first_reply second_challenge second_reply r
 
 -- ---- what is gathered
 
-shows_bids : (front : Front) (first second : List Bool) (found : List LaneBids) → AddsLanes front [] (differing 1 first second) (Ok found) → ShowsBids front first second found
-shows_bids front first second found (more, is, numbers, each) =
+shows_bids : (front : Front) (plan : PlanValue) (lanes : List TwoLane) (first second : List Bool) (found : List LaneBids) → AddsLanes front plan lanes [] (differing 1 first second) (Ok found) → ShowsBids front first second found
+shows_bids front plan lanes first second found (more, is, numbers, each) =
     let P : List LaneBids → Type 0 = λ lanes. ShowsBids front first second lanes in
     subst P (sym is) (record { numbers = numbers; each = each })
 
-shows_clash : (front : Front) (first second : List Bool) (two : TwoOpeningsSeen) → AddsLanes front [] (differing 1 first second) (Err two) → ShowsClash front first second two
-shows_clash front first second two (number, differs, clash) = record { number = number; differs = differs; lane = clash.lane; auction = clash.auction; openings = clash.openings }
+shows_clash : (front : Front) (plan : PlanValue) (lanes : List TwoLane) (first second : List Bool) (two : TwoOpeningsSeen) → plan ≡ plan_of front → AddsLanes front plan lanes [] (differing 1 first second) (Err two)
+    → ShowsClash front first second lanes two
+shows_clash front plan lanes first second two same (number, differs, given, is_given, clash) =
+    let P : PlanValue → Type 0 = λ p. AreOfLane p given.case two in
+    record {
+      number = number;
+      differs = differs;
+      lane = clash.lane;
+      auction = clash.auction;
+      openings = clash.of_lane.openings;
+      given = given;
+      is_given = is_given;
+      of_lane = subst P same clash.of_lane;
+    }
 
 -- what is shown by the base and the lanes after it
 abbrev Shows : List ℕ → List ℕ → List ℕ → Base → List TwoLane → Type 0
@@ -141,7 +162,7 @@ published board first_challenge second_challenge base lanes read differ given =
     let first = base.first_bits in
     let second = base.second_bits in
     let adds = gathered_adds front base.plan 1 first second lanes [] read.right.front read.right.plan (omega arith) (omega (arith, read.right.first)) given in
-    let P : Result (List LaneBids) TwoOpeningsSeen → Type 0 = λ all. AddsLanes front [] (differing 1 first second) all in
+    let P : Result (List LaneBids) TwoOpeningsSeen → Type 0 = λ all. AddsLanes front base.plan lanes [] (differing 1 first second) all in
     record {
       published = ap front_in read.front_read;
       first_is = read.first_read;
@@ -151,8 +172,8 @@ published board first_challenge second_challenge base lanes read differ given =
       one_first_bit_each = read.right.first;
       one_second_bit_each = read.right.second;
       differ = differ;
-      bids = λ found ok. shows_bids front first second found (subst P ok adds);
-      clash = λ two err. shows_clash front first second two (subst P err adds);
+      bids = λ found ok. shows_bids front base.plan lanes first second found (subst P ok adds);
+      clash = λ two err. shows_clash front base.plan lanes first second two read.right.plan (subst P err adds);
     }
 
 shown_by : (board first_challenge second_challenge : List ℕ) (read : Result (Base × Rests) TwoVerdict) (base : Base) (rests : Rests)

@@ -7,6 +7,7 @@ use Rattle.vk_commit.specs.Commitment.{AreTwoOpenings, TwoOpeningsSeen}
 use Rattle.vk_io.specs.Files.{Files}
 use Rattle.vk_lines.specs.Lines.{Rest}
 use Rattle.vk_board.specs.Reading.{seats_of}
+use Rattle.vk_extractor.specs.Laws.{AreOfLane}
 use Rattle.vk_reply.specs.declared.challenge.Challenge.{Challenge}
 use Rattle.vk_reply.specs.Reading.{challenge_at}
 use Rattle.vk_verifier.specs.declared.answers.BoardVerdict.{BoardVerdict}
@@ -14,7 +15,7 @@ use Rattle.vk_verifier.specs.declared.front.Front.{Front}
 use Rattle.vk_verifier.specs.declared.stage.Base.{Base}
 use Rattle.vk_verifier.specs.declared.stage.TwoLane.{TwoLane}
 use Rattle.vk_verifier.specs.declared.stage.TwoVerdict.TheVariants.{Ready}
-use Rattle.vk_verifier.specs.Verdicts.{IsFront, front_at, from_start}
+use Rattle.vk_verifier.specs.Verdicts.{plan_of, IsFront, front_at, from_start}
 use Rattle.vk_verifier.specs.Two.{Ahead, two_on, Rests, base_at, ahead_at}
 use Rattle.vk_bids.specs.declared.bids.LaneBids.{LaneBids}
 use Rattle.vk_bids.specs.Gathering.{gathered_from}
@@ -70,13 +71,16 @@ pub record ShowsBids (front : Front) (first_bits second_bits : List Bool) (lanes
   pub numbers : map (λ lane. lane.number) lanes ≡ differing 1 first_bits second_bits
   pub each : All (λ lane. ShowsOutcome front lane.number lane.bids) lanes
 
--- one commitment, in a lane whose two bits differ, is opened with different values
-pub record ShowsClash (front : Front) (first_bits second_bits : List Bool) (two : TwoOpeningsSeen) : Type 0 where
+-- one commitment of one of these lanes, whose two bits differ, is opened with different values
+pub record ShowsClash (front : Front) (first_bits second_bits : List Bool) (lanes : List TwoLane) (two : TwoOpeningsSeen) : Type 0 where
   pub number : ℕ
   pub differs : Contains (differing 1 first_bits second_bits) number
   pub lane : two.place.lane ≡ number
   pub auction : two.place.auction ≡ front.head.auction
   pub openings : AreTwoOpenings two.place two.digest two.first two.second
+  pub given : TwoLane
+  pub is_given : Contains lanes given
+  pub of_lane : AreOfLane (plan_of front) given.case two
 
 -- the board publishes this front, the challenges have these bits, which differ, and what is gathered of the
 -- lanes shows the board's outcome, or a clash
@@ -90,7 +94,7 @@ pub record ShowsPublished (board first_challenge second_challenge : Option (List
   pub one_second_bit_each : length second_bits ≡ front.head.lanes
   pub differ : first_bits ≢ second_bits
   pub bids : (found : List LaneBids) → gathered_from front (Ok []) 1 lanes ≡ Ok found → ShowsBids front first_bits second_bits found
-  pub clash : (two : TwoOpeningsSeen) → gathered_from front (Ok []) 1 lanes ≡ Err two → ShowsClash front first_bits second_bits two
+  pub clash : (two : TwoOpeningsSeen) → gathered_from front (Ok []) 1 lanes ≡ Err two → ShowsClash front first_bits second_bits lanes two
 
 -- ---- the laws
 

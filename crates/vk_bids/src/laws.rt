@@ -11,8 +11,11 @@ pub fn accepted_lanes_show_the_outcome()
 
 /// Of any board and any two challenges and replies that are read with it side by side, where both replies are
 /// accepted and the challenges differ: what was read before the first lane is the board's front, whose winner
-/// has a seal on it, and the challenges' bits, which aren't all the same. The bids that are gathered are those of just the lanes whose two bits differ, open their
-/// seals, and have the published outcome. Or a commitment in such a lane has two openings with different values.
+/// has a seal on it, and the bits of both challenges, which differ.
+///
+/// The bids that are gathered are those of just the lanes whose two bits differ. In each of these they are
+/// below 2^width, open the lane's seals, and have the published outcome. Or a commitment of such a lane has
+/// two openings with different values.
 pub fn gathered_bids_show_the_outcome()
     ensures shows { GatheredShows }
     ensures base { ReadyHasBase }

@@ -1,13 +1,15 @@
 // The lane of the smallest board: one seal, of seat 7, with a bid of 0 below 2^1.
 ghost use Rattle.std.specs.Prelude.{◌≡◌, ◌≤◌, ◌<◌, ◌^◌, ◌∷◌, [], IfOk, length};
+ghost use Rattle.std.specs.List.{AllByRecursion};
+ghost use Rattle.vk_residue.specs.Residue.{IsResidue};
 ghost use Rattle.vk_plan.specs.Plans.{HasWeight, MayHave};
 ghost use Rattle.vk_wire.specs.Values.{IsCom};
 ghost use Rattle.vk_row.specs.Lanes.{HasCounts};
 ghost use Rattle.vk_vickrey.specs.VickreyPlans.{vickrey_plan};
 ghost use Rattle.vk_verifier.specs.Verdicts.{IsFront, plan_of};
-ghost use Rattle.vk_bids.specs.Outcome.{IsCaseOf};
+ghost use Rattle.vk_verifier.specs.Parts.{IsCase};
 
-use crate::{LaneBids, OpenedBid, extract_bids, lane_bids_lines};
+use crate::{LaneBids, OpenedBid, add_lane, lane_bids_lines};
 use std::alloc::Global;
 use std::test::Fail;
 use vk_board::{Head, SealLines};
@@ -16,7 +18,7 @@ use vk_plan::{Circuit, Plan, WireKind};
 use vk_residue::Residue;
 use vk_row::{LaneCase, check_lane};
 use vk_seq::Seq;
-use vk_verifier::Front;
+use vk_verifier::{Front, TwoLane};
 use vk_vickrey::{VickreyOutcome, VickreyPlan};
 use vk_wire::{Shown, WireCom, WireTape, make, show, wire_place};
 
@@ -95,6 +97,7 @@ fn case_of_one(alloc: Global, bid: WireCom, copy: WireCom, pair: WireCom) -> Res
     ensures seats { IfOk result (λ case. case.seats ≡ 7 ∷ []) }
     ensures coms { IfOk result (λ case. case.coms ≡ bid ∷ copy ∷ pair ∷ []) }
     ensures posted { IfOk result (λ case. length case.posted ≡ 2) }
+    ensures residues { IfOk result (λ case. AllByRecursion IsResidue case.posted) }
 {
     let first = residue(2305843009213693944)?;
     let second = residue(6)?;
@@ -116,30 +119,51 @@ fn case_of_one(alloc: Global, bid: WireCom, copy: WireCom, pair: WireCom) -> Res
     })
 }
 
-/// The bids of lane 1, once both replies are accepted.
-fn bids_of_lane(
+fn shown_of_one(alloc: Global, bid: Shown, copy: Shown, pair: Shown) -> Result<Seq<Shown>, Fail>
+    ensures { IfOk result (λ shown. length shown ≡ 3) }
+{
+    let mut shown = Seq::new(alloc);
+    shown.push(bid)?;
+    shown.push(copy)?;
+    shown.push(pair)?;
+    Ok(shown)
+}
+
+/// What is gathered of lane 1, once both replies are accepted.
+fn gathered_of_lane(
     alloc: Global,
     front: &Front,
     plan: &Plan,
-    case: &LaneCase,
-    zero: &[Shown],
-    one: &[Shown],
-) -> Result<LaneBids, Fail>
+    lane: &TwoLane,
+) -> Result<Seq<LaneBids>, Fail>
     requires front { IsFront front.now }
     requires plan { plan.now ≡ plan_of front.now }
     requires lane { 1 ≤ front.now.head.lanes }
-    requires case { IsCaseOf front.now 1 case.now }
-    requires zero { HasCounts plan.now case.now zero.now }
-    requires one { HasCounts plan.now case.now one.now }
+    requires case { IsCase front.now plan.now 1 lane.now.case }
+    requires first { HasCounts plan.now lane.now.case lane.now.first }
+    requires second { HasCounts plan.now lane.now.case lane.now.second }
 {
-    check_lane(alloc, plan, case, false, zero)?;
-    check_lane(alloc, plan, case, true, one)?;
-    let found = extract_bids(alloc, front, plan, 1, case, zero, one)?;
-    Ok(found)
+    check_lane(
+        alloc,
+        plan,
+        &lane.case,
+        lane.first_bit,
+        lane.first.as_slice(),
+    )?;
+    check_lane(
+        alloc,
+        plan,
+        &lane.case,
+        lane.second_bit,
+        lane.second.as_slice(),
+    )?;
+    let mut bids = Seq::new(alloc);
+    add_lane(alloc, front, plan, 1, lane, &mut bids)?;
+    Ok(bids)
 }
 
-/// The bids of the lane.
-fn smallest(alloc: Global) -> Result<LaneBids, Fail> {
+/// What is gathered of the lane.
+fn smallest(alloc: Global) -> Result<Seq<LaneBids>, Fail> {
     let bid = tape(3, 0x11, 0x22)?;
     let copy = tape(10, 0x33, 0x44)?;
     let pair = tape(4, 0x55, 0x66)?;
@@ -152,24 +176,35 @@ fn smallest(alloc: Global) -> Result<LaneBids, Fail> {
         wire(WireKind::Split, 1, &copy),
         wire(WireKind::Pair(0), 2, &pair),
     )?;
-    let zero = [
+    let zero = shown_of_one(
+        alloc,
         show(WireKind::Split, Residue::ZERO, &bid, false),
         show(WireKind::Split, Residue::ZERO, &copy, false),
         show(WireKind::Pair(0), Residue::ZERO, &pair, false),
-    ];
-    let one = [
+    )?;
+    let one = shown_of_one(
+        alloc,
         show(WireKind::Split, Residue::ZERO, &bid, true),
         show(WireKind::Split, Residue::ZERO, &copy, true),
         show(WireKind::Pair(0), Residue::ZERO, &pair, true),
-    ];
-    let found = bids_of_lane(alloc, &front, &plan, &case, &zero, &one)?;
+    )?;
+    let lane = TwoLane {
+        case,
+        first_bit: true,
+        first: one,
+        second_bit: false,
+        second: zero,
+    };
+    let found = gathered_of_lane(alloc, &front, &plan, &lane)?;
     Ok(found)
 }
 
 #[test]
 fn the_lane_of_the_smallest_board_gives_its_bid(rt: HostRuntime) -> Result<(), Fail> {
     let alloc = rt.alloc();
-    let found = smallest(alloc)?;
+    let gathered = smallest(alloc)?;
+    assert_eq!(rt; gathered.len(), 1);
+    let found = &gathered.as_slice()[0];
     let expected = OpenedBid {
         seat: 7,
         bid: Residue::ZERO,
@@ -183,7 +218,7 @@ fn the_lane_of_the_smallest_board_gives_its_bid(rt: HostRuntime) -> Result<(), F
         },
     };
     assert_eq!(rt; found.bids.as_slice(), [expected].as_slice());
-    let lines = lane_bids_lines(alloc, &found)?;
+    let lines = lane_bids_lines(alloc, found)?;
     assert_eq!(rt; lines.len(), 1);
     assert_eq!(rt;
         lines[0].as_str(),
