@@ -4,7 +4,7 @@ use Rattle.vk_io.specs.Files.{Files}
 use Rattle.vk_wire.specs.declared.wire.WireFault.{WireFault}
 use Rattle.vk_wire.specs.declared.wire.WireFault.TheVariants.{Form, Digest, NotASet}
 use Rattle.vk_verifier.specs.declared.answers.Part.{Part}
-use Rattle.vk_verifier.specs.declared.answers.Part.TheVariants.{Board, Challenge, Reply}
+use Rattle.vk_verifier.specs.declared.answers.Part.TheVariants.{Board, Challenge, Reply, SecondChallenge, SecondReply}
 use Rattle.vk_verifier.specs.declared.answers.BoardVerdict.{BoardVerdict}
 use Rattle.vk_verifier.specs.declared.answers.BoardVerdict.TheVariants.{Accepted, Malformed, Price, Winner, Lanes, Wire, Row}
 use Rattle.vk_verifier.specs.declared.answers.VErr.{VErr}
@@ -14,11 +14,13 @@ use Rattle.vk_app.specs.Texts.{◌+++◌, line_feed}
 use Rattle.vk_app.specs.Words.{VerifyWords}
 use Rattle.vk_app.specs.Outcome.{Effect}
 
--- the name of the file as it was given
+-- the name of the file as it was given; there is one challenge and one reply
 abbrev pub name_of : VerifyWords → Part → List ℕ
 name_of names Board = names.board
 name_of names Challenge = names.attempt.challenge
 name_of names Reply = names.attempt.reply
+name_of names SecondChallenge = names.attempt.challenge
+name_of names SecondReply = names.attempt.reply
 
 -- one line, and no files
 abbrev pub line_effect : ℕ → List ℕ → Effect

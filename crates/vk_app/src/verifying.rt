@@ -25,8 +25,8 @@ fn name_of<'a>(names: &VerifyNames<'a>, part: Part) -> &'a str
 {
     match part {
         Part::Board => names.board,
-        Part::Challenge => names.attempt.challenge,
-        Part::Reply => names.attempt.reply,
+        Part::Challenge | Part::SecondChallenge => names.attempt.challenge,
+        Part::Reply | Part::SecondReply => names.attempt.reply,
     }
 }
 
