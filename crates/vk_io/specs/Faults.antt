@@ -1,5 +1,5 @@
 -- Counts of faults, and the calls of an object in memory that is told which of them fail.
-use Rattle.std.specs.Prelude.{ℕ, ◌+◌, ◌-◌, ◌^◌, ◌≤◌, ◌==◌, min, List, Bool, if◌then◌else◌}
+use Rattle.std.specs.Prelude.{◌≡◌, ◌≢◌, ℕ, ◌+◌, ◌-◌, ◌^◌, ◌≤◌, ◌==◌, min, List, Bool, Result, Ok, Err, if◌then◌else◌}
 use Rattle.std.specs.List.{list_any}
 
 -- one more, or the greatest u64 where the number stands there
@@ -9,6 +9,11 @@ one_more n = min (n + 1) (2 ^ 64 - 1)
 -- a count of faults rose, or it stands at the greatest u64
 abbrev pub Rose : ℕ → ℕ → Type 0
 Rose before now = one_more before ≤ now
+
+-- a call that answers this error raised the count, and any other left it as it was
+abbrev pub Causes : {T E : Type 0} → E → Result T E → ℕ → ℕ → Type 0
+Causes fault (Ok value) old new = new ≡ old
+Causes fault (Err refusal) old new = (refusal ≡ fault → Rose old new) × (refusal ≢ fault → new ≡ old)
 
 -- the calls of an object in memory: how many there were, which are to fail, and how many did
 pub record Calls : Type 0 where

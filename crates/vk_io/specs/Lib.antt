@@ -1,5 +1,6 @@
 pub mod Faults
 pub mod Files
+pub mod Reads
 pub mod Memory
 pub mod Named
 pub mod Content

@@ -1,9 +1,31 @@
--- Files that are written one after another, and what a stop leaves.
+-- Files that are written one after another, each piece by piece, and what a stop leaves.
 use Rattle.std.specs.Prelude.{◌≡◌, ℕ, ◌≤◌, List, [], ◌∷◌, length, take, map, Result, Ok, Err, ◌⊎◌}
+use Rattle.std.specs.List.{concat}
 use Rattle.std.specs.FinMap.{insert}
 use Rattle.std.specs.String.{string_bytes}
 use Rattle.vk_io.specs.declared.writing.FileText.{FileText}
 use Rattle.vk_io.specs.Files.{Files}
+
+-- a file that is to be written: its name, and its text in pieces
+pub record WrittenFile : Type 0 where
+  pub name : List ℕ
+  pub pieces : List (List ℕ)
+
+-- where a list of files has none
+abbrev pub no_file : WrittenFile
+no_file = record { name = []; pieces = [] }
+
+-- the whole text of a file: its pieces one after another
+abbrev pub text_of : WrittenFile → List ℕ
+text_of file = concat file.pieces
+
+-- the names and whole texts of files
+abbrev pub texts_of : List WrittenFile → List (List ℕ × List ℕ)
+texts_of files = map (λ file. (file.name, text_of file)) files
+
+-- files whose texts are given whole
+abbrev pub whole_files : List FileText → List WrittenFile
+whole_files files = map (λ file. record { name = string_bytes file.name; pieces = file.text ∷ [] }) files
 
 -- the named file is as before or holds the first bytes of the text. All other files stay
 abbrev pub IsPartOf : List ℕ → List ℕ → Files → Files → Type 0
@@ -13,10 +35,6 @@ IsPartOf name text old new = (new ≡ old) ⊎ ((k : ℕ) × (k ≤ length text)
 abbrev pub Writes : {E : Type 0} → List ℕ → List ℕ → Result Unit E → Files → Files → Type 0
 Writes name text (Ok done) old new = new ≡ insert old name text
 Writes name text (Err refusal) old new = IsPartOf name text old new
-
--- the names and texts of the files that are to be written
-abbrev pub texts_of : List FileText → List (List ℕ × List ℕ)
-texts_of files = map (λ file. (string_bytes file.name, file.text)) files
 
 -- each of the files holds its text
 abbrev pub written : List (List ℕ × List ℕ) → Files → Files

@@ -1,6 +1,7 @@
 ghost use Rattle.std.specs.Prelude.{◌≡◌, ◌<◌, ◌≤◌, take, vec_len, IfSome, IfOk, IsErrOf};
 ghost use Rattle.vk_io.specs.Content.{content_of, IsWithin};
-ghost use Rattle.vk_io.specs.Faults.{Rose};
+ghost use Rattle.vk_io.specs.Faults.{Causes};
+ghost use Rattle.vk_io.specs.Reads.{OnlyReads};
 ghost use Rattle.vk_io.specs.Files.{bytes_of};
 
 use crate::errors::ShelfErr;
@@ -33,9 +34,7 @@ pub fn read_whole<S: Shelf>(
     ensures told { IfSome (S.held shelf.old)
         (λ files. IfOk result (λ content. content ≡ content_of files name.now most)) }
     ensures within { IfOk result (IsWithin most) }
-    ensures held { S.held shelf.new ≡ S.held shelf.old }
-    ensures later { S.Shelf.faults shelf.old ≤ S.Shelf.faults shelf.new }
-    ensures failed { IsErrOf result ShelfErr.Failed → Rose (S.Shelf.faults shelf.old) (S.Shelf.faults shelf.new) }
+    ensures shelf { OnlyReads S.held S.Shelf.faults ShelfErr.Failed result shelf.old shelf.new }
 {
     let length = shelf.length(name)?;
     match length {
@@ -60,9 +59,7 @@ fn read_bytes<S: Shelf>(
     ensures told { IfSome (S.held shelf.old)
         (λ files. IfOk result (λ bytes. bytes.items ≡ take size (bytes_of files name.now))) }
     ensures within { IfOk result (λ bytes. vec_len bytes ≤ size) }
-    ensures held { S.held shelf.new ≡ S.held shelf.old }
-    ensures later { S.Shelf.faults shelf.old ≤ S.Shelf.faults shelf.new }
-    ensures failed { IsErrOf result ShelfErr.Failed → Rose (S.Shelf.faults shelf.old) (S.Shelf.faults shelf.new) }
+    ensures shelf { OnlyReads S.held S.Shelf.faults ShelfErr.Failed result shelf.old shelf.new }
 {
     let mut bytes = Vec::new(alloc);
     let mut piece = [0u8; PIECE];

@@ -1,3 +1,4 @@
+use crate::outcome::Fault;
 use std::alloc::{AllocError, AllocFailed};
 use thiserror::Error;
 use vk_residue::NoMemory;
@@ -65,5 +66,27 @@ impl From<NoMemory> for ShelfErr {
 
     fn from(_refused: NoMemory) -> ShelfErr {
         ShelfErr::NoMemory
+    }
+}
+
+impl From<Fault> for ShelfErr {
+    ghost use Rattle.std.specs.Prelude.{◌≡◌};
+    ghost use Rattle.vk_io.specs.declared.errors.ShelfErr.TheVariants.{Failed};
+
+    ghost from_gives = { λ _ e. e ≡ Failed };
+
+    fn from(_counted: Fault) -> ShelfErr {
+        ShelfErr::Failed
+    }
+}
+
+impl From<Fault> for SinkErr {
+    ghost use Rattle.std.specs.Prelude.{◌≡◌};
+    ghost use Rattle.vk_io.specs.declared.errors.SinkErr.TheVariants.{Failed};
+
+    ghost from_gives = { λ _ e. e ≡ Failed };
+
+    fn from(_counted: Fault) -> SinkErr {
+        SinkErr::Failed
     }
 }

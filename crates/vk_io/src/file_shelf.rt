@@ -1,12 +1,13 @@
-ghost use Rattle.std.specs.Prelude.{◌≡◌, ◌≤◌, length, IfOk};
-ghost use Rattle.vk_io.specs.Faults.{one_more};
+ghost use Rattle.std.specs.Prelude.{◌≡◌, ◌≢◌, ◌<◌, ◌≤◌, length, Err, IfSome, IfOk};
+ghost use Rattle.vk_io.specs.Faults.{Causes};
 
 use crate::errors::ShelfErr;
+use crate::outcome::counted;
 use crate::pieces::{read_fully, write_fully};
 use crate::shelf::Shelf;
 use std::alloc::Global;
 use std::fs::OpenOptions;
-use std::io::{ErrorKind, Seek, SeekFrom};
+use std::io::{ErrorKind, Read, Seek, SeekFrom};
 use std::os::unix::fs::OpenOptionsExt;
 use std::rt::Files;
 use std::{fs, io};
@@ -15,12 +16,24 @@ use std::{fs, io};
 /// in it. No umask widens this. A file that is there keeps what it has.
 const OWNER_ALONE: u32 = 0o600;
 
+/// How many files are kept open, at most: those that a command reads side by side, and a few more.
+const MOST_OPEN: usize = 8;
+
+/// A file that is kept open for reading, and the name that it was opened by.
+#[derive(Drop)]
+struct OpenFile<F> {
+    name: String,
+    file: F,
+}
+
 /// The real file system. A name is a path from the current folder. It tells nothing of content, and
-/// each error raises its count.
+/// each error raises its count. A file that is read stays open, until its name is created or
+/// appended to, or its length is asked.
 #[derive(Drop)]
 pub struct FileShelf<'a, R: Files> {
     rt: &'a R,
     alloc: Global,
+    open: Vec<OpenFile<R::File>>,
     faults: u64,
 }
 
@@ -32,18 +45,64 @@ impl<'a, R: Files> FileShelf<'a, R> {
         FileShelf {
             rt,
             alloc,
+            open: Vec::new(alloc),
             faults: 0,
         }
     }
+}
 
-    /// Counts a fault.
-    fn fault(&mut self) -> ShelfErr
-        ensures counted { self.new ≡ record self.old { faults = one_more self.old.faults } }
-        ensures later { self.old.faults ≤ self.new.faults }
-        ensures failed { result ≡ ShelfErr.Failed }
+impl<R: Files> FileShelf<'_, R> {
+    /// The place of the file that is open under that name.
+    fn place_of(&self, name: &str) -> Option<usize>
+        ensures { IfSome result (λ place. place < length self.now.open.items) }
     {
-        self.faults = self.faults.saturating_add(1);
-        ShelfErr::Failed
+        for (place, kept) in self.open.iter().enumerate() {
+            if name == kept.name.as_str() {
+                return Some(place);
+            }
+        }
+        None
+    }
+
+    /// Closes the file that is open under that name, if there is one.
+    fn close(&mut self, name: &str)
+        ensures { self.new.faults ≡ self.old.faults }
+    {
+        if let Some(place) = self.place_of(name) {
+            self.open.swap_remove(place);
+        }
+    }
+
+    /// Keeps a file open under its name, and answers its place. Of too many the first is closed.
+    fn keep(&mut self, name: &str, file: R::File) -> Result<usize, ShelfErr>
+        ensures place { IfOk result (λ place. place < length self.new.open.items) }
+        ensures kept { self.new.faults ≡ self.old.faults }
+        ensures inside { result ≢ Err ShelfErr.Failed }
+    {
+        let name = String::from_str(self.alloc, name)?;
+        if MOST_OPEN <= self.open.len() {
+            self.open.swap_remove(0);
+        }
+        self.open.push(OpenFile { name, file })?;
+        Ok(self.open.len() - 1)
+    }
+
+    /// The place of the file under that name, which is opened where it isn't open. None where
+    /// nothing is there.
+    fn opened(&mut self, name: &str) -> Result<Option<usize>, ShelfErr>
+        ensures place { IfOk result (λ found. IfSome found (λ place. place < length self.new.open.items)) }
+        ensures causes { Causes ShelfErr.Failed result self.old.faults self.new.faults }
+    {
+        if let Some(place) = self.place_of(name) {
+            return Ok(Some(place));
+        }
+        match counted(open(self.rt, name), &mut self.faults)? {
+            None => Ok(None),
+            Some(file) => {
+                let place = self.keep(name, file)?;
+                Ok(Some(place))
+            }
+        }
     }
 }
 
@@ -55,31 +114,32 @@ impl<R: Files> Shelf for FileShelf<'_, R> {
     ghost faults = { λ s. s.faults };
 
     fn length(&mut self, name: &str) -> Result<Option<u64>, ShelfErr> {
-        match length_of(self.rt, name) {
-            Ok(length) => Ok(length),
-            Err(_) => Err(self.fault()),
-        }
+        self.close(name);
+        let length = counted(length_of(self.rt, name), &mut self.faults)?;
+        Ok(length)
     }
 
     fn read_at(&mut self, name: &str, at: u64, into: &mut [u8]) -> Result<usize, ShelfErr> {
-        match read_from(self.rt, name, at, into) {
-            Ok(count) => Ok(count),
-            Err(_) => Err(self.fault()),
+        match self.opened(name)? {
+            None => Ok(0),
+            Some(place) => {
+                let outcome = read_from(&mut self.open[place].file, at, into);
+                let count = counted(outcome, &mut self.faults)?;
+                Ok(count)
+            }
         }
     }
 
     fn create(&mut self, name: &str) -> Result<(), ShelfErr> {
-        match empty(self.rt, name) {
-            Ok(()) => Ok(()),
-            Err(_) => Err(self.fault()),
-        }
+        self.close(name);
+        counted(empty(self.rt, name), &mut self.faults)?;
+        Ok(())
     }
 
     fn append(&mut self, name: &str, piece: &[u8]) -> Result<(), ShelfErr> {
-        match add(self.rt, name, piece) {
-            Ok(()) => Ok(()),
-            Err(_) => Err(self.fault()),
-        }
+        self.close(name);
+        counted(add(self.rt, name, piece), &mut self.faults)?;
+        Ok(())
     }
 }
 
@@ -99,18 +159,22 @@ fn is_missing(e: &io::Error) -> bool {
     e.kind() == ErrorKind::NotFound || e.kind() == ErrorKind::NotADirectory
 }
 
+/// The file at the path, opened to be read. None where nothing is there.
+fn open<R: Files>(rt: &R, path: &str) -> io::Result<Option<R::File>> {
+    match fs::open(rt, path) {
+        Ok(file) => Ok(Some(file)),
+        Err(e) if is_missing(&e) => Ok(None),
+        Err(e) => Err(e),
+    }
+}
+
 /// Fills `into` with the bytes of the file from `at` on, as far as there are any, and answers their
-/// number. 0 where nothing is at the path.
-fn read_from<R: Files>(rt: &R, path: &str, at: u64, into: &mut [u8]) -> io::Result<usize>
+/// number.
+fn read_from<F: Read + Seek>(file: &mut F, at: u64, into: &mut [u8]) -> io::Result<usize>
     ensures { IfOk result (λ n. n ≤ length into.old) }
 {
-    let mut file = match fs::open(rt, path) {
-        Ok(file) => file,
-        Err(e) if is_missing(&e) => return Ok(0),
-        Err(e) => return Err(e),
-    };
     file.seek(SeekFrom::Start(at))?;
-    read_fully(&mut file, into)
+    read_fully(file, into)
 }
 
 /// Makes the file at the path hold no bytes.

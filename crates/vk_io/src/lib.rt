@@ -10,6 +10,8 @@ mod mem_shelf;
 mod mem_sink;
 mod named;
 mod out_sink;
+mod outcome;
+mod piece_shelf;
 mod pieces;
 mod shelf;
 mod sink;
@@ -22,9 +24,10 @@ pub use file_shelf::FileShelf;
 pub use mem_shelf::MemShelf;
 pub use mem_sink::MemSink;
 pub use out_sink::OutSink;
+pub use piece_shelf::PieceShelf;
 pub use shelf::Shelf;
 pub use sink::Sink;
-pub use writing::{FileText, write_file, write_files};
+pub use writing::{FileText, WrittenFiles, write_files};
 
 #[cfg(test)]
 mod tests;

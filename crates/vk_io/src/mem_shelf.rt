@@ -1,6 +1,6 @@
 ghost use Rattle.std.specs.Prelude.{◌≡◌, ℕ, ◌+◌, ◌≤◌, ◌++◌, ◌↔◌, [], ◌∷◌, length, drop, Option, Some, Ok, Err, option_map, option_copied, IfSome, IfOk, OnOk, OnErr, IsErrOf, MatchResult, IsTrue, if◌then◌else◌};
 ghost use Rattle.std.specs.FinMap as map;
-ghost use Rattle.vk_io.specs.Faults.{Rose, fails_next, after_call};
+ghost use Rattle.vk_io.specs.Faults.{Causes, fails_next, after_call};
 ghost use Rattle.vk_io.specs.Files.{bytes_of, part_of, Told, Creates, Appends};
 ghost use Rattle.vk_io.specs.declared.errors.ShelfErr.TheVariants.{Failed};
 
@@ -88,8 +88,7 @@ impl Shelf for MemShelf {
             else Ok (option_map length (map.get self.old.files name.now))) }
         ensures files { self.new.files ≡ self.old.files }
         ensures counted { self.new.calls ≡ after_call self.old.calls }
-        ensures later { self.old.calls.faults ≤ self.new.calls.faults }
-        ensures failed { IsErrOf result ShelfErr.Failed → Rose self.old.calls.faults self.new.calls.faults }
+        ensures causes { Causes ShelfErr.Failed result self.old.calls.faults self.new.calls.faults }
     {
         if self.calls.count() {
             return Err(ShelfErr::Failed);
@@ -105,8 +104,7 @@ impl Shelf for MemShelf {
         ensures unread { OnErr result (into.new ≡ into.old) }
         ensures files { self.new.files ≡ self.old.files }
         ensures counted { self.new.calls ≡ after_call self.old.calls }
-        ensures later { self.old.calls.faults ≤ self.new.calls.faults }
-        ensures failed { IsErrOf result ShelfErr.Failed → Rose self.old.calls.faults self.new.calls.faults }
+        ensures causes { Causes ShelfErr.Failed result self.old.calls.faults self.new.calls.faults }
     {
         if self.calls.count() {
             return Err(ShelfErr::Failed);
@@ -119,8 +117,7 @@ impl Shelf for MemShelf {
         ensures created { OnOk result (self.new.files ≡ map.insert self.old.files name.now []) }
         ensures refused { OnErr result (self.new.files ≡ self.old.files) }
         ensures counted { self.new.calls ≡ after_call self.old.calls }
-        ensures later { self.old.calls.faults ≤ self.new.calls.faults }
-        ensures failed { IsErrOf result ShelfErr.Failed → Rose self.old.calls.faults self.new.calls.faults }
+        ensures causes { Causes ShelfErr.Failed result self.old.calls.faults self.new.calls.faults }
     {
         if self.calls.count() {
             return Err(ShelfErr::Failed);
@@ -135,8 +132,7 @@ impl Shelf for MemShelf {
             (self.new.files ≡ map.insert self.old.files name.now (bytes_of self.old.files name.now ++ piece.now)) }
         ensures refused { OnErr result (self.new.files ≡ self.old.files) }
         ensures counted { self.new.calls ≡ after_call self.old.calls }
-        ensures later { self.old.calls.faults ≤ self.new.calls.faults }
-        ensures failed { IsErrOf result ShelfErr.Failed → Rose self.old.calls.faults self.new.calls.faults }
+        ensures causes { Causes ShelfErr.Failed result self.old.calls.faults self.new.calls.faults }
     {
         if self.calls.count() {
             return Err(ShelfErr::Failed);

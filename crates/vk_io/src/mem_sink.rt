@@ -1,5 +1,5 @@
 ghost use Rattle.std.specs.Prelude.{◌≡◌, ℕ, ◌≤◌, ◌++◌, ◌↔◌, [], ◌∷◌, OnOk, OnErr, IsErrOf, IsTrue};
-ghost use Rattle.vk_io.specs.Faults.{Rose, fails_next, after_call};
+ghost use Rattle.vk_io.specs.Faults.{Causes, fails_next, after_call};
 ghost use Rattle.vk_io.specs.Files.{Told, Takes};
 
 use crate::calls::CallCount;
@@ -67,8 +67,7 @@ impl Sink for MemSink {
         ensures put { OnOk result (self.new.taken ≡ self.old.taken ++ piece.now) }
         ensures refused { OnErr result (self.new.taken ≡ self.old.taken) }
         ensures counted { self.new.calls ≡ after_call self.old.calls }
-        ensures later { self.old.calls.faults ≤ self.new.calls.faults }
-        ensures failed { IsErrOf result SinkErr.Failed → Rose self.old.calls.faults self.new.calls.faults }
+        ensures causes { Causes SinkErr.Failed result self.old.calls.faults self.new.calls.faults }
     {
         if self.calls.count() {
             return Err(SinkErr::Failed);

@@ -1,6 +1,7 @@
 ghost use Rattle.std.specs.Prelude.{◌≡◌};
 
 use crate::errors::SinkErr;
+use crate::outcome::counted;
 use crate::pieces::write_fully;
 use crate::sink::Sink;
 use std::io;
@@ -30,12 +31,8 @@ impl<P: Print> Sink for OutSink<'_, P> {
     ghost faults = { λ s. s.faults };
 
     fn put(&mut self, piece: &[u8]) -> Result<(), SinkErr> {
-        match write_fully(&mut io::writer(self.to), piece) {
-            Ok(()) => Ok(()),
-            Err(_) => {
-                self.faults = self.faults.saturating_add(1);
-                Err(SinkErr::Failed)
-            }
-        }
+        let outcome = write_fully(&mut io::writer(self.to), piece);
+        counted(outcome, &mut self.faults)?;
+        Ok(())
     }
 }

@@ -1,6 +1,7 @@
 ghost use Rattle.std.specs.Prelude.{◌≡◌, ℕ, ◌≤◌, ◌++◌, length, drop, Option, option_map, IfSome, IfOk, IsErrOf};
 ghost use Rattle.std.specs.FinMap as map;
-ghost use Rattle.vk_io.specs.Faults.{Rose};
+ghost use Rattle.vk_io.specs.Faults.{Causes};
+ghost use Rattle.vk_io.specs.Reads.{OnlyReads};
 ghost use Rattle.vk_io.specs.Files.{Files, bytes_of, part_of, Told, Creates, Appends};
 
 use crate::errors::ShelfErr;
@@ -18,9 +19,7 @@ pub trait Shelf {
     fn length(&mut self, name: &str) -> Result<Option<u64>, ShelfErr>
         ensures answer { IfSome (held self.old)
             (λ files. IfOk result (λ n. n ≡ option_map length (map.get files name.now))) }
-        ensures held { held self.new ≡ held self.old }
-        ensures later { faults self.old ≤ faults self.new }
-        ensures failed { IsErrOf result ShelfErr.Failed → Rose (faults self.old) (faults self.new) };
+        ensures shelf { OnlyReads held faults ShelfErr.Failed result self.old self.new };
 
     /// Puts the bytes of the named file from byte `at` on into the front of `into`, as many as are
     /// left or fit, and answers their number. The rest of `into` stays. 0 where the name isn't held.
@@ -32,21 +31,17 @@ pub trait Shelf {
         ensures bytes { IfSome (held self.old)
             (λ files. IfOk result (λ n.
             into.new ≡ part_of (bytes_of files name.now) at (length into.old) ++ drop n into.old)) }
-        ensures held { held self.new ≡ held self.old }
-        ensures later { faults self.old ≤ faults self.new }
-        ensures failed { IsErrOf result ShelfErr.Failed → Rose (faults self.old) (faults self.new) };
+        ensures shelf { OnlyReads held faults ShelfErr.Failed result self.old self.new };
 
     /// Makes the name hold no bytes, whether or not it was held. Refused, the file is as before or
     /// holds nothing.
     fn create(&mut self, name: &str) -> Result<(), ShelfErr>
         ensures created { Told (Creates name.now result) (held self.old) (held self.new) }
-        ensures later { faults self.old ≤ faults self.new }
-        ensures failed { IsErrOf result ShelfErr.Failed → Rose (faults self.old) (faults self.new) };
+        ensures causes { Causes ShelfErr.Failed result (faults self.old) (faults self.new) };
 
     /// Adds the piece at the end of the named file, which counts as empty where it isn't held.
     /// Refused, the file has grown by a prefix of the piece, or is as before.
     fn append(&mut self, name: &str, piece: &[u8]) -> Result<(), ShelfErr>
         ensures appended { Told (Appends name.now piece.now result) (held self.old) (held self.new) }
-        ensures later { faults self.old ≤ faults self.new }
-        ensures failed { IsErrOf result ShelfErr.Failed → Rose (faults self.old) (faults self.new) };
+        ensures causes { Causes ShelfErr.Failed result (faults self.old) (faults self.new) };
 }

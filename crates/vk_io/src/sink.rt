@@ -1,5 +1,5 @@
 ghost use Rattle.std.specs.Prelude.{◌≡◌, ℕ, ◌≤◌, List, Option, IsErrOf};
-ghost use Rattle.vk_io.specs.Faults.{Rose};
+ghost use Rattle.vk_io.specs.Faults.{Causes};
 ghost use Rattle.vk_io.specs.Files.{Told, Takes};
 
 use crate::errors::SinkErr;
@@ -16,6 +16,5 @@ pub trait Sink {
     /// Takes the piece. Refused, a prefix of it was taken.
     fn put(&mut self, piece: &[u8]) -> Result<(), SinkErr>
         ensures put { Told (Takes piece.now result) (taken self.old) (taken self.new) }
-        ensures later { faults self.old ≤ faults self.new }
-        ensures failed { IsErrOf result SinkErr.Failed → Rose (faults self.old) (faults self.new) };
+        ensures causes { Causes SinkErr.Failed result (faults self.old) (faults self.new) };
 }

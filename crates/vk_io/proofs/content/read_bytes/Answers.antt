@@ -9,6 +9,6 @@ loop-at-preserved g c = record {
   taken = grind (arith, common_steps);
   within = grind (arith, common_steps);
   room = grind (arith, common_steps);
-  held = c.in_ok-count.ensures.held ∙ c.loop-at.invariant.held;
-  later = omega (arith, c.in_ok-count.ensures.later, c.loop-at.invariant.later);
+  held = c.in_ok-count.ensures.shelf.held ∙ c.loop-at.invariant.held;
+  kept = c.in_ok-count.ensures.shelf.causes ∙ c.loop-at.invariant.kept;
 }

@@ -11,7 +11,7 @@ invariant-loop-at g l =
       within : l.at ≤ l.size;
       room : length l.piece ≡ 4096;
       held : g.S.Shelf.held l.shelf ≡ g.S.Shelf.held l.fn.shelf;
-      later : g.S.Shelf.faults l.fn.shelf ≤ g.S.Shelf.faults l.shelf;
+      kept : g.S.Shelf.faults l.shelf ≡ g.S.Shelf.faults l.fn.shelf;
     }
 
 abbrev pub decreases-loop-at : goal.decreases-loop-at
