@@ -1,1 +1,3 @@
+pub mod Digests
 pub mod Messages
+pub mod Openings

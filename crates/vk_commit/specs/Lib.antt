@@ -1,2 +1,2 @@
-pub mod Commitment
 pub mod Values
+pub mod Commitment

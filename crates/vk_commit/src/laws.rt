@@ -1,7 +1,7 @@
-// What holds of every message.
+// What holds of every commitment.
 ghost use Rattle.std.specs.Prelude.{◌≡◌, ◌≢◌, length};
-ghost use Rattle.vk_residue.specs.Residue.{IsResidue};
-ghost use Rattle.vk_commit.specs.Commitment.{message};
+ghost use Rattle.vk_commit.specs.Commitment.{message, digest_of};
+ghost use Rattle.vk_commit.specs.Values.{AreBytes, IsOpening};
 ghost use Rattle.vk_commit.specs.declared.place.Opening.{Opening};
 ghost use Rattle.vk_commit.specs.declared.place.Place.{Place};
 
@@ -9,8 +9,13 @@ ghost use Rattle.vk_commit.specs.declared.place.Place.{Place};
 /// messages, at whichever places.
 pub fn messages_tell_values_apart()
     ensures size { (place : Place) (opening : Opening) → length place.auction ≡ 16
-        → length opening.key ≡ 32 → length (message place opening) ≡ 68 }
-    ensures differ { (place other : Place) (first second : Opening) → IsResidue first.value
-        → IsResidue second.value → first.value ≢ second.value
+        → IsOpening opening → length (message place opening) ≡ 68 }
+    ensures differ { (place other : Place) (first second : Opening) → IsOpening first
+        → IsOpening second → first.value ≢ second.value
         → message place first ≢ message other second }
+{}
+
+/// Every commitment is 32 bytes.
+pub fn commitments_are_bytes()
+    ensures { (place : Place) (opening : Opening) → AreBytes 32 (digest_of place opening) }
 {}

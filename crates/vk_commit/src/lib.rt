@@ -9,6 +9,6 @@ mod tests;
 mod two_openings;
 
 pub use commitment::{commit, opens};
-pub use laws::messages_tell_values_apart;
+pub use laws::{commitments_are_bytes, messages_tell_values_apart};
 pub use place::{Opening, Place};
 pub use two_openings::TwoOpenings;

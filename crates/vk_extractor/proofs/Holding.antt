@@ -1,41 +1,21 @@
 -- The sums of accepted halves hold for the plan.
-use Rattle.std.proofs.Common.{◌≡◌, ℕ, zero, suc, ◌+◌, ◌<◌, true, false, List, [], ◌∷◌, ◌++◌, length, take, slice_index, slice_index_or, Option, Some, None, refl, sym, ap, subst, ◌∙◌, arith, add-zero}
+use Rattle.std.proofs.Common.{◌≡◌, ℕ, ◌+◌, ◌<◌, true, false, List, [], ◌∷◌, ◌++◌, length, take, slice_index, slice_index_or, None, sym, ap, subst, ◌∙◌, arith}
 use Rattle.std.proofs.lemmas.List.{get_or_default, take_more, take_all}
 use Rattle.vk_residue.specs.Residue.{sum}
-use Rattle.vk_commit.specs.Commitment.{TwoOpeningsSeen}
 use Rattle.vk_plan.specs.Plans.{PlanValue, IsPlan, Holds, MayHave}
 use Rattle.vk_plan.specs.Forms.{form_value, NamesBelow}
 use Rattle.vk_plan.specs.declared.form.Form.{Form}
 use Rattle.vk_plan.specs.declared.wire.WireKind.TheVariants.{Split}
-use Rattle.vk_wire.specs.declared.wire.WireCom.{WireCom}
 use Rattle.vk_wire.specs.declared.wire.Shown.{Shown}
 use Rattle.vk_row.specs.declared.case.LaneCase.{LaneCase}
 use Rattle.vk_row.specs.Lanes.{IsAcceptedLane, place_in, no_digests, nothing_shown, no_row}
 use Rattle.vk_row.specs.Rows.{sums}
-use Rattle.vk_extractor.specs.Clash.{clash_at, clash_from, clash_of_lane, or_else}
+use Rattle.vk_extractor.specs.Clash.{clash_of_lane}
 use Rattle.vk_extractor.specs.Values.{wire_value}
 use Rattle.vk_row.proofs.Sums.{get_or-sums, length-sums}
 use Rattle.vk_row.proofs.Linear.{row_is_zero}
+use Rattle.vk_extractor.proofs.FirstClash.{all_agree}
 use Rattle.vk_extractor.proofs.Wires.{wire_value_is_sum, sum_is_fair}
-
-or_else_none : (here later : Option TwoOpeningsSeen) → or_else here later ≡ None → (here ≡ None) × (later ≡ None)
-or_else_none None later e = (refl, e)
-or_else_none (Some two) later e = absurd (cc)
-
--- where no clash is found there is none at any wire
-pub no_clash_at : (case : LaneCase) (w : ℕ) (coms : List WireCom) (zero_shown one_shown : List Shown)
-    → length zero_shown ≡ length coms → length one_shown ≡ length coms → clash_from case w coms zero_shown one_shown ≡ None
-    → (k : ℕ) → k < length coms
-    → clash_at case (w + k) (slice_index_or coms k no_digests) (slice_index_or zero_shown k nothing_shown) (slice_index_or one_shown k nothing_shown) ≡ None
-unfolding clash_from
-no_clash_at case w [] zs os same_zero same_one none k lt = absurd (omega arith)
-no_clash_at case w (digests ∷ coms) [] os same_zero same_one none k lt = absurd (omega arith)
-no_clash_at case w (digests ∷ coms) (z ∷ zs) [] same_zero same_one none k lt = absurd (omega arith)
-no_clash_at case w (digests ∷ coms) (z ∷ zs) (o ∷ os) same_zero same_one none zero lt =
-    rw add-zero ((or_else_none (clash_at case w digests z o) _ none).0)
-no_clash_at case w (digests ∷ coms) (z ∷ zs) (o ∷ os) same_zero same_one none (suc k) lt =
-    let number : w + suc k ≡ w + 1 + k = omega arith in
-    rw number (no_clash_at case (w + 1) coms zs os (omega arith) (omega arith) ((or_else_none (clash_at case w digests z o) _ none).1) k (omega arith))
 
 -- the sum of the halves of one wire of the lane
 pub wire_sum : (plan : PlanValue) (case : LaneCase) (zero_shown one_shown : List Shown) (firsts seconds : List ℕ) (w : ℕ) → IsPlan plan
@@ -80,11 +60,10 @@ extracted_hold plan case zs os firsts seconds is_plan first second none =
       pairs = λ w lt.
           let in_firsts : w < length firsts = omega (arith, first.wires.one_each) in
           let in_coms : w < length case.coms = omega (arith, first.counts.coms) in
-          let number : 0 + w ≡ w = omega arith in
-          let agree = no_clash_at case 0 case.coms zs os (first.counts.one_shown ∙ sym first.counts.coms) (second.counts.one_shown ∙ sym second.counts.coms) none w in_coms in
+          let agree = all_agree case 0 case.coms zs os none w in_coms in
           let P : ℕ → Type 0 = λ n. MayHave (slice_index_or plan.kinds w Split) n in
           subst P (sym (get_or-sums firsts seconds w 0 same in_firsts))
-          (sum_is_fair (slice_index_or plan.kinds w Split) (place_in case w) case (0 + w) (slice_index_or case.coms w no_digests) (slice_index_or zs w nothing_shown) (slice_index_or os w nothing_shown)
+          (sum_is_fair (slice_index_or plan.kinds w Split) (place_in case w) (slice_index_or case.coms w no_digests) (slice_index_or zs w nothing_shown) (slice_index_or os w nothing_shown)
           (slice_index firsts w) (slice_index seconds w) (is_plan.weights w Split lt) (first.wires.each w lt) (second.wires.each w lt) agree);
       zero_rows = λ r d lt.
           let names_first : NamesBelow (length firsts) (slice_index_or plan.rows r no_row).terms =

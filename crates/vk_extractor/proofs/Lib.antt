@@ -1,4 +1,5 @@
+pub mod FirstClash
+pub mod Wires
 pub mod Clashes
 pub mod Holding
 pub mod Steps
-pub mod Wires

@@ -1,7 +1,6 @@
 -- What the two halves of one wire come to.
-use Rattle.std.proofs.Common.{◌≡◌, ℕ, ◌<◌, ◌≤◌, ◌^◌, ◌⊎◌, eq-eqb, Bool, true, false, None, arith, inl, inr}
+use Rattle.std.proofs.Common.{◌≡◌, ℕ, ◌<◌, ◌≤◌, ◌^◌, ◌⊎◌, eq-eqb, Bool, true, false, arith, inl, inr}
 use Rattle.std.specs.Prelude.{if◌then◌else◌, ◌==◌}
-use Rattle.std.proofs.lemmas.Grind.{common_steps}
 use Rattle.std.proofs.lemmas.Bool.Decides.{nat_tests}
 use Rattle.std.proofs.Math.Nat.{pow-le-pow_right}
 use Rattle.std.proofs.lemmas.Nat.{pow_pos}
@@ -15,8 +14,8 @@ use Rattle.vk_wire.specs.Reads.{Reads, OpensEntry}
 use Rattle.vk_wire.specs.declared.wire.WireCom.{WireCom}
 use Rattle.vk_wire.specs.declared.wire.Shown.{Shown}
 use Rattle.vk_wire.specs.declared.wire.Shown.TheVariants.{Half, Whole, Spent}
-use Rattle.vk_row.specs.declared.case.LaneCase.{LaneCase}
-use Rattle.vk_extractor.specs.Clash.{clash_at, entry_opening}
+use Rattle.vk_extractor.specs.Clash.{entry_opening}
+use Rattle.vk_extractor.specs.FirstClash.{Agree}
 use Rattle.vk_extractor.specs.Values.{wire_value}
 
 -- a weight is at most 2^60
@@ -57,24 +56,23 @@ entry_sum p a b g h some most small (inl e) (inr s) = inr (omega (arith, e.1, s)
 entry_sum p a b g h some most small (inr e) (inl s) = inr (omega (arith, e.0, s))
 entry_sum p a b g h some most small (inr e) (inr s) = inl (omega (arith, e.1, s))
 
--- where no clash is found the spent entry has the value of the same entry opened whole
-spent_is_entry : (case : LaneCase) (wire : ℕ) (digests : WireCom) (a b : Opening) (s : Bool) (o : Opening)
-    → clash_at case wire digests (Whole a b) (Spent s o) ≡ None → (a.value ≡ o.value) ⊎ (b.value ≡ o.value)
-spent_is_entry case wire digests a b false o none = grind (arith, common_steps, nat_tests)
-spent_is_entry case wire digests a b true o none = grind (arith, common_steps, nat_tests)
+-- where the spent entry agrees it has the value of one of the two
+spent_is_entry : (a b : Opening) (s : Bool) (o : Opening) → Agree (Whole a b) (Spent s o) → (a.value ≡ o.value) ⊎ (b.value ≡ o.value)
+spent_is_entry a b false o same = inl same
+spent_is_entry a b true o same = inr same
 
 -- the sum of the halves of a wire is a value that its kind may have
-pub sum_is_fair : (kind : WireKind) (place : Place) (case : LaneCase) (wire : ℕ) (digests : WireCom) (zero one : Shown) (g h : ℕ) → HasWeight kind
-    → Reads kind place digests zero false g → Reads kind place digests one true h → clash_at case wire digests zero one ≡ None
+pub sum_is_fair : (kind : WireKind) (place : Place) (digests : WireCom) (zero one : Shown) (g h : ℕ) → HasWeight kind
+    → Reads kind place digests zero false g → Reads kind place digests one true h → Agree zero one
     → MayHave kind (sum g h)
-sum_is_fair Split place case wire digests zero one g h weight first second none = tt
-sum_is_fair (Pair i) place case wire digests (Half u) one g h weight first second none = absurd first
-sum_is_fair (Pair i) place case wire digests (Whole a b) (Half v) g h weight first second none = absurd second
-sum_is_fair (Pair i) place case wire digests (Whole a b) (Whole c d) g h weight first second none = absurd second
-sum_is_fair (Pair i) place case wire digests (Whole a b) (Spent s o) g h weight first second none =
+sum_is_fair Split place digests zero one g h weight first second same = tt
+sum_is_fair (Pair i) place digests (Half u) one g h weight first second same = absurd first
+sum_is_fair (Pair i) place digests (Whole a b) (Half v) g h weight first second same = absurd second
+sum_is_fair (Pair i) place digests (Whole a b) (Whole c d) g h weight first second same = absurd second
+sum_is_fair (Pair i) place digests (Whole a b) (Spent s o) g h weight first second same =
     entry_sum (2 ^ i) a.value b.value g h (omega (arith, pow_pos i)) (weight_bound i weight) first.2.0 first.2.1
-    (rw second.1 at (spent_is_entry case wire digests a b s o none))
-sum_is_fair (Pair i) place case wire digests (Spent s a) one g h weight first second none = absurd first
+    (rw second.1 at (spent_is_entry a b s o same))
+sum_is_fair (Pair i) place digests (Spent s a) one g h weight first second same = absurd first
 
 -- of an accepted pair both openings of the spent entry open it
 pub entry_opens : (kind : WireKind) (place : Place) (digests : WireCom) (a b : Opening) (s : Bool) (o : Opening) (g h : ℕ)

@@ -1,5 +1,5 @@
 -- The law of extraction.
-use Rattle.std.specs.Prelude.{◌≡◌, ◌<◌, ℕ, Bool, false, true, List, length, slice_index_or, Some, None}
+use Rattle.std.specs.Prelude.{◌≡◌, ◌↔◌, ◌<◌, ℕ, Bool, false, true, List, length, slice_index_or, Some, None}
 use Rattle.vk_commit.specs.Commitment.{TwoOpeningsSeen, AreTwoOpenings}
 use Rattle.vk_plan.specs.Plans.{PlanValue, IsPlan, Holds}
 use Rattle.vk_wire.specs.declared.wire.Shown.{Shown}
@@ -9,6 +9,7 @@ use Rattle.vk_wire.specs.Reads.{entry_digest}
 use Rattle.vk_row.specs.Lanes.{IsAcceptedLane, place_in, no_digests}
 use Rattle.vk_row.specs.Rows.{sums}
 use Rattle.vk_extractor.specs.Clash.{clash_of_lane}
+use Rattle.vk_extractor.specs.FirstClash.{IsFirstClash, WireAgrees}
 
 -- for every plan: where no entry is opened to two values, the sums of accepted halves hold for it
 abbrev pub ExtractedHold : Type 0
@@ -32,3 +33,11 @@ ClashesOpen =
     (plan : PlanValue) (case : LaneCase) (zero one : List Shown) (firsts seconds : List ℕ) (two : TwoOpeningsSeen)
     → IsAcceptedLane plan case false zero firsts → IsAcceptedLane plan case true one seconds
     → clash_of_lane case zero one ≡ Some two → AreOfLane plan case two
+
+-- for every lane: what is computed is its first clash, and it has none where every spent entry agrees
+-- with the same entry opened whole
+abbrev pub ClashIsFirst : Type 0
+ClashIsFirst =
+    (case : LaneCase) (zero one : List Shown)
+    → ((two : TwoOpeningsSeen) → (clash_of_lane case zero one ≡ Some two) ↔ ((wire : ℕ) × IsFirstClash case zero one wire two))
+    × ((clash_of_lane case zero one ≡ None) ↔ ((wire : ℕ) → wire < length case.coms → WireAgrees zero one wire))

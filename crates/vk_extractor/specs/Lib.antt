@@ -1,5 +1,6 @@
 pub mod Sums
 pub mod Clash
+pub mod FirstClash
 pub mod Refused
 pub mod Values
 pub mod Laws

@@ -5,7 +5,7 @@ ghost use Rattle.vk_row.specs.Lanes.{IsAccepted};
 ghost use Rattle.vk_extractor.specs.Sums.{AreSums};
 ghost use Rattle.vk_extractor.specs.Clash.{clash_of_lane};
 ghost use Rattle.vk_extractor.specs.declared.lane.LaneErr.TheVariants.{Clash, NoMemory};
-ghost use Rattle.vk_extractor.specs.Refused.{IsRefusalOf};
+ghost use Rattle.vk_extractor.specs.Refused.{IsRefusalOf, clash_in};
 
 use crate::clash::first_clash;
 use crate::values::values_of;
@@ -22,6 +22,18 @@ pub enum LaneErr {
     /// An entry was opened with two values, for bit 0 and for bit 1.
     Clash(TwoOpenings),
     NoMemory,
+}
+
+impl LaneErr {
+    /// The two openings of a clash.
+    pub fn clash(self) -> Option<TwoOpenings>
+        ensures { result ≡ clash_in self }
+    {
+        match self {
+            LaneErr::Clash(two) => Some(two),
+            LaneErr::NoMemory => None,
+        }
+    }
 }
 
 impl From<OutOfMemory> for LaneErr {

@@ -1,5 +1,5 @@
-// The law of extraction, over every plan.
-ghost use Rattle.vk_extractor.specs.Laws.{ClashesOpen, ExtractedHold};
+// The laws of extraction.
+ghost use Rattle.vk_extractor.specs.Laws.{ClashIsFirst, ClashesOpen, ExtractedHold};
 
 /// Of any plan and lane: the sums of halves that were accepted for bit 0 and for bit 1 hold for the
 /// plan, unless an entry was spent with another value than it was opened whole with.
@@ -11,4 +11,10 @@ pub fn extracted_values_hold()
 /// entry of the lane, with different values.
 pub fn clashes_are_two_openings()
     ensures { ClashesOpen }
+{}
+
+/// Of any lane: the clash is that of the first wire whose spent entry has another value for bit 1 than
+/// for bit 0, and there is none exactly where every spent entry has the value that it has opened whole.
+pub fn clashes_are_first()
+    ensures { ClashIsFirst }
 {}

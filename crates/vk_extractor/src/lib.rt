@@ -9,4 +9,4 @@ mod tests;
 mod values;
 
 pub use lane::{LaneErr, extract_lane};
-pub use laws::{clashes_are_two_openings, extracted_values_hold};
+pub use laws::{clashes_are_first, clashes_are_two_openings, extracted_values_hold};

@@ -1,5 +1,5 @@
 // A lane that an independent implementation made, and a lane with a pair.
-ghost use Rattle.std.specs.Prelude.{◌≡◌, IfOk, length};
+ghost use Rattle.std.specs.Prelude.{◌≡◌, IfOk, IsTrue, length};
 ghost use Rattle.vk_row.specs.Lanes.{HasCounts};
 ghost use Rattle.vk_plan.specs.Plans.{HasWeight, MayHave};
 ghost use Rattle.vk_plan.specs.declared.wire.WireKind.TheVariants.{Pair};
@@ -180,6 +180,101 @@ fn pairs_give_0_or_their_weight(rt: HostRuntime) -> Result<(), Fail> {
         ];
         let values = values_of_lane(rt.alloc(), &plan, &case, &zero, &one)?;
         assert_eq!(rt; values.as_slice(), [value, value].as_slice());
+    }
+    Ok(())
+}
+
+/// The plan of two wires, and 100 pairs of weight 8 after them.
+fn plan_of_many(alloc: Global) -> Result<Plan, Fail> {
+    let mut plan = plan_of_two(alloc, WireKind::Split)?;
+    while plan.wires() < 102 {
+        plan.append(&[WireKind::Pair(3)], None)?;
+    }
+    Ok(plan)
+}
+
+/// The value that an honest wire has in the lane of many wires: 5, or of a pair its weight on every
+/// third wire.
+fn value_at(kind: WireKind, wire: u32) -> Result<Residue, Fail>
+    requires { HasWeight kind }
+    ensures { IfOk result (λ value. MayHave kind value) }
+{
+    match kind {
+        WireKind::Split => residue(5),
+        WireKind::Pair(i) => Ok(if wire % 3 == 0 {
+            Residue::pow2(i)
+        } else {
+            Residue::ZERO
+        }),
+    }
+}
+
+fn tape_at(wire: u32) -> Result<WireTape, Fail> {
+    tape(u64::from(wire) + 9, wire % 2 == 0)
+}
+
+/// What lane 2 of the plan commits to. Its one row has the masks 9 and 10.
+fn case_of_many(alloc: Global, plan: &Plan) -> Result<LaneCase, Fail> {
+    let mut coms = Seq::new(alloc);
+    for wire in 0..plan.wires() {
+        let kind = plan.kind(wire);
+        let value = value_at(kind, wire)?;
+        let tape = tape_at(wire)?;
+        coms.push(make(kind, &wire_place(&AUCTION, 2, &[7], wire), value, &tape))?;
+    }
+    let minus_one = residue(2305843009213693950)?;
+    let mut seats = Seq::new(alloc);
+    seats.push(7)?;
+    let mut posted = Seq::new(alloc);
+    posted.push(minus_one)?;
+    Ok(LaneCase {
+        auction: AUCTION,
+        lane: 2,
+        seats,
+        coms,
+        posted,
+    })
+}
+
+/// What is shown of all wires of the plan for the bit.
+fn shown_of_many(alloc: Global, plan: &Plan, bit: bool) -> Result<Vec<Shown>, Fail> {
+    let mut all = Vec::new(alloc);
+    for wire in 0..plan.wires() {
+        let kind = plan.kind(wire);
+        let value = value_at(kind, wire)?;
+        let tape = tape_at(wire)?;
+        all.push(show(kind, value, &tape, bit))?;
+    }
+    Ok(all)
+}
+
+/// Whether there is one of each for the plan.
+fn has_counts(plan: &Plan, case: &LaneCase, shown: &[Shown]) -> bool
+    ensures { IsTrue result → HasCounts plan.now case.now shown.now }
+{
+    case.seats.as_slice().len() == plan.inputs() as usize
+        && case.coms.as_slice().len() == plan.wires() as usize
+        && case.posted.as_slice().len() == plan.rows() as usize
+        && shown.len() == plan.wires() as usize
+}
+
+#[test]
+fn many_wires_of_lane_2_give_their_values(rt: HostRuntime) -> Result<(), Fail> {
+    let plan = plan_of_many(rt.alloc())?;
+    let case = case_of_many(rt.alloc(), &plan)?;
+    let zero = shown_of_many(rt.alloc(), &plan, false)?;
+    let one = shown_of_many(rt.alloc(), &plan, true)?;
+    assert!(rt; has_counts(&plan, &case, zero.as_slice()));
+    assert!(rt; has_counts(&plan, &case, one.as_slice()));
+    let values = values_of_lane(rt.alloc(), &plan, &case, zero.as_slice(), one.as_slice())?;
+    assert_eq!(rt; values.len(), 102);
+    for wire in 0..plan.wires() {
+        let value = value_at(plan.kind(wire), wire)?;
+        assert_eq!(rt;
+            values.as_slice().get(wire as usize),
+            Some(&value),
+            "wire {wire}"
+        );
     }
     Ok(())
 }

@@ -1,7 +1,7 @@
 -- What definitions compute of a shown wire is what it reads.
 use Rattle.std.proofs.Common.{◌≡◌, ◌↔◌, ℕ, ◌<◌, Bool, true, false, Result, Ok, Err, refl, arith, rules}
 use Rattle.std.proofs.lemmas.Grind.{common_steps}
-use Rattle.std.proofs.lemmas.Slice.Eq.{bytes_eq-Decides}
+use Rattle.vk_commit.proofs.Openings.{opens_decides}
 use Rattle.vk_commit.specs.declared.place.Place.{Place}
 use Rattle.vk_commit.specs.declared.place.Opening.{Opening}
 use Rattle.vk_plan.specs.declared.wire.WireKind.{WireKind}
@@ -17,11 +17,11 @@ use Rattle.vk_wire.specs.Reads.{Reads, HasFault, IsSet, OpensEntry, entry_read, 
 -- one opening
 pub entry_half : (place : Place) (digests : WireCom) (second : Bool) (opening : Opening) (h : ℕ)
     → (entry_read place digests second opening ≡ Ok h) ↔ (OpensEntry place digests second opening × (opening.value ≡ h))
-entry_half place digests second opening h = grind (arith, common_steps, bytes_eq-Decides)
+entry_half place digests second opening h = grind (arith, common_steps, opens_decides)
 
 pub entry_fault : (place : Place) (digests : WireCom) (second : Bool) (opening : Opening) (f : WireFault)
     → (entry_read place digests second opening ≡ Err f) ↔ ((f ≡ Digest second) × ¬ OpensEntry place digests second opening)
-entry_fault place digests second opening f = grind (arith, common_steps, bytes_eq-Decides)
+entry_fault place digests second opening f = grind (arith, common_steps, opens_decides)
 
 -- two entries of a pair
 pub set_half : (i first second h : ℕ) → i < 61 → (set_read i first second ≡ Ok h) ↔ IsSet i first second h
@@ -36,22 +36,22 @@ whole_half : (i : ℕ) (place : Place) (digests : WireCom) (first second : Openi
     → (whole_read i place digests first second ≡ Ok h) ↔ Reads (Pair i) place digests (Whole first second) false h
 whole_half i place digests first second h weight =
     let set = set_half i first.value second.value h weight in
-    grind (arith, common_steps, bytes_eq-Decides)
+    grind (arith, common_steps, opens_decides)
 
 whole_fault : (i : ℕ) (place : Place) (digests : WireCom) (first second : Opening) (f : WireFault) → i < 61
     → (whole_read i place digests first second ≡ Err f) ↔ HasFault (Pair i) place digests (Whole first second) false f
 whole_fault i place digests first second Form weight =
     let set = set_fault i first.value second.value Form weight in
-    grind (arith, common_steps, bytes_eq-Decides)
+    grind (arith, common_steps, opens_decides)
 whole_fault i place digests first second (Digest false) weight =
     let set = set_fault i first.value second.value (Digest false) weight in
-    grind (arith, common_steps, bytes_eq-Decides)
+    grind (arith, common_steps, opens_decides)
 whole_fault i place digests first second (Digest true) weight =
     let set = set_fault i first.value second.value (Digest true) weight in
-    grind (arith, common_steps, bytes_eq-Decides)
+    grind (arith, common_steps, opens_decides)
 whole_fault i place digests first second NotASet weight =
     let set = set_fault i first.value second.value NotASet weight in
-    grind (arith, common_steps, bytes_eq-Decides)
+    grind (arith, common_steps, opens_decides)
 
 -- a shown wire of another form
 no_half : (h : ℕ) → (let r : Result ℕ WireFault = Err Form in r ≡ Ok h) ↔ ⊥

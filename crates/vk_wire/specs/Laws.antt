@@ -10,6 +10,7 @@ use Rattle.vk_wire.specs.declared.wire.Shown.{Shown}
 use Rattle.vk_wire.specs.declared.wire.WireFault.{WireFault}
 use Rattle.vk_wire.specs.Made.{made_com, shown_wire, half_of}
 use Rattle.vk_wire.specs.Reads.{Reads, HasFault, read_of}
+use Rattle.vk_wire.specs.Values.{IsCom, IsTape}
 
 -- two halves that one shown wire gives are one
 abbrev pub AtMostOneHalf : Type 0
@@ -28,5 +29,10 @@ ReadingComputes =
 abbrev pub MadeWiresRead : Type 0
 MadeWiresRead =
     (kind : WireKind) (place : Place) (value : ℕ) (tape : WireTape) (bit : Bool)
-    → HasWeight kind → MayHave kind value → IsResidue value → IsResidue tape.mask
+    → HasWeight kind → MayHave kind value → IsResidue value → IsTape tape
     → Reads kind place (made_com kind place value tape) (shown_wire kind value tape bit) bit (half_of value tape bit)
+
+-- what an honest wire commits to are two digests
+abbrev pub MadeComsAre : Type 0
+MadeComsAre =
+    (kind : WireKind) (place : Place) (value : ℕ) (tape : WireTape) → IsCom (made_com kind place value tape)

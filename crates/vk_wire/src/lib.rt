@@ -9,7 +9,10 @@ mod reading;
 mod tests;
 mod wire;
 
-pub use laws::{at_most_one_half_is_read, made_wires_read_their_halves, readings_compute};
+pub use laws::{
+    at_most_one_half_is_read, made_wires_have_digests, made_wires_read_their_halves,
+    readings_compute,
+};
 pub use making::{make, show};
 pub use place::wire_place;
 pub use reading::read;

@@ -1,12 +1,9 @@
 // What a shown wire reads.
-ghost use Rattle.std.specs.Prelude.{◌≡◌, ◌↔◌, ◌<◌, ◌%◌, false, Ok, Err, ℕ};
+ghost use Rattle.std.specs.Prelude.{◌≡◌, ◌↔◌, ◌<◌, ◌%◌, Ok, Err, ℕ};
 ghost use Rattle.vk_plan.specs.Plans.{HasWeight};
 ghost use Rattle.vk_residue.specs.Residue.{IsResidue};
-ghost use Rattle.vk_wire.specs.Reads.{Reads, HasFault, IsSet, read_of, entry_read, whole_read, set_read};
-ghost use Rattle.vk_plan.specs.declared.wire.WireKind.TheVariants.{Pair};
-ghost use Rattle.vk_wire.specs.declared.wire.Shown.TheVariants.{Whole};
+ghost use Rattle.vk_wire.specs.Reads.{Reads, HasFault, read_of, entry_read, whole_read, set_read};
 ghost use Rattle.vk_wire.specs.declared.wire.WireFault.{WireFault};
-ghost use Rattle.vk_wire.specs.declared.wire.WireFault.TheVariants.{NotASet};
 
 use crate::place::place_of_entry;
 use crate::wire::{Shown, WireCom, WireFault};
@@ -16,6 +13,7 @@ use vk_residue::Residue;
 
 /// The half that the shown wire gives for the bit. The second commitment stands at the slot after
 /// `place`. The faults are tested in the order form, first digest, second digest, set.
+#[tactic(auto, using(crate::proofs::Readings::half_is_computed, crate::proofs::Readings::fault_is_computed))]
 pub fn read(
     kind: WireKind,
     place: &Place,
@@ -29,6 +27,22 @@ pub fn read(
     ensures fault { (f : WireFault)
         → (result ≡ Err f) ↔ HasFault kind place.now digests.now shown.now bit f }
     ensures computed { result ≡ read_of kind place.now digests.now shown.now bit }
+{
+    let half = read_formed(kind, place, digests, shown, bit);
+    half
+}
+
+/// The half of a shown wire, or the first fault.
+fn read_formed(
+    kind: WireKind,
+    place: &Place,
+    digests: &WireCom,
+    shown: &Shown,
+    bit: bool,
+) -> Result<Residue, WireFault>
+    requires weight { HasWeight kind }
+    requires slot { place.now.slot % 2 ≡ 0 }
+    ensures { result ≡ read_of kind place.now digests.now shown.now bit }
 {
     match (kind, bit, shown) {
         (WireKind::Split, _, Shown::Half(opening)) => read_entry(place, digests, bit, opening),
@@ -76,11 +90,7 @@ fn read_whole(
 ) -> Result<Residue, WireFault>
     requires weight { i < 61 }
     requires slot { place.now.slot % 2 ≡ 0 }
-    ensures half { (h : ℕ) → (result ≡ Ok h)
-        ↔ Reads (Pair i) place.now digests.now (Whole first.now second.now) false h }
-    ensures fault { (f : WireFault) → (result ≡ Err f)
-        ↔ HasFault (Pair i) place.now digests.now (Whole first.now second.now) false f }
-    ensures computed { result ≡ whole_read i place.now digests.now first.now second.now }
+    ensures { result ≡ whole_read i place.now digests.now first.now second.now }
 {
     read_entry(place, digests, false, first)?;
     read_entry(place, digests, true, second)?;
@@ -92,10 +102,7 @@ fn read_set(i: u32, first: Residue, second: Residue) -> Result<Residue, WireFaul
     requires weight { i < 61 }
     requires first { IsResidue first }
     requires second { IsResidue second }
-    ensures half { (h : ℕ) → (result ≡ Ok h) ↔ IsSet i first second h }
-    ensures fault { (f : WireFault)
-        → (result ≡ Err f) ↔ ((f ≡ NotASet) × ((h : ℕ) → ¬ IsSet i first second h)) }
-    ensures computed { result ≡ set_read i first second }
+    ensures { result ≡ set_read i first second }
 {
     let weight = Residue::pow2(i);
     if second.sub(first) == weight {
