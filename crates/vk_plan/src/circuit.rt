@@ -1,5 +1,5 @@
 ghost use Rattle.std.specs.Prelude.{◌≡◌, List, ℕ, length, take, IfOk};
-ghost use Rattle.vk_plan.specs.Plans.{PlanValue, Holds};
+ghost use Rattle.vk_plan.specs.Plans.{PlanValue, IsPlan, Holds};
 
 use crate::plan::Plan;
 use std::alloc::Global;
@@ -26,6 +26,9 @@ pub trait Circuit {
     fn fill(&self, alloc: Global, inputs: &[Residue]) -> Result<Vec<Residue>, NoMemory>
         requires { claim self.now inputs.now }
         ensures { IfOk result (λ values. values.items ≡ filled self.now inputs.now) };
+
+    /// Its plan keeps what every plan keeps.
+    ghost is_plan: { (circuit : Self) → IsPlan (plan_of circuit) };
 
     /// The values begin with the inputs.
     ghost begins: { (circuit : Self) (inputs : List ℕ) → claim circuit inputs

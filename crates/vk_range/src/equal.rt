@@ -75,7 +75,8 @@ impl Relation for SumIs {
     }
 }
 
-/// A new wire of any kind of value, equal to the named one.
+/// A new wire of any value, equal to the named one. As a relation it says nothing of the wires before: that the
+/// copy has the value of the wire is what its row says, and it is from the row that a proof takes it.
 #[derive(Clone, Copy, Debug)]
 pub struct Copied {
     pub wire: u32,

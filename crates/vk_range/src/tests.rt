@@ -1,4 +1,6 @@
-ghost use Rattle.std.specs.Prelude.{◌≡◌, ◌≤◌, [], ◌∷◌, IfOk};
+ghost use Rattle.std.specs.Prelude.{◌≡◌, ◌≤◌, [], ◌∷◌, All, length, IfOk, IfSome};
+ghost use Rattle.vk_residue.specs.Residue.{IsResidue};
+ghost use Rattle.vk_plan.specs.Plans.{Holds, plan_of_inputs};
 ghost use Rattle.vk_range.specs.Sets.{plus};
 
 use super::*;
@@ -140,5 +142,112 @@ fn equal_wires_hold(rt: HostRuntime) -> Result<(), Fail> {
     }
     .add(rt.alloc(), &mut plan)?;
     assert_eq!(rt; plan.rows(), 2);
+    Ok(())
+}
+
+fn five_wires(alloc: Global) -> Result<Seq<u32>, NoMemory>
+    ensures { IfOk result (λ wires. wires ≡ 0 ∷ 1 ∷ 2 ∷ 3 ∷ 4 ∷ []) }
+{
+    let mut wires = Vec::new(alloc);
+    wires.push(0)?;
+    wires.push(1)?;
+    wires.push(2)?;
+    wires.push(3)?;
+    wires.push(4)?;
+    Ok(Seq::from_vec(wires))
+}
+
+/// The numbers as residues.
+fn five_values(alloc: Global, numbers: [u64; 5]) -> Result<Vec<Residue>, NoMemory>
+    ensures five { IfOk result (λ values. length values.items ≡ 5) }
+    ensures residues { IfOk result (λ values. All IsResidue values.items) }
+{
+    let mut values = Vec::new(alloc);
+    for number in numbers {
+        values.push(residue(number))?;
+    }
+    Ok(values)
+}
+
+/// Five inputs, of which the second and the last are equal, and their values. None where they are not.
+fn equal_inputs(alloc: Global, numbers: [u64; 5]) -> Result<Option<(Plan, Vec<Residue>)>, NoMemory>
+    ensures holds { IfOk result (λ found. IfSome found (λ made. Holds made.0 made.1.items)) }
+{
+    let mut plan = Plan::new(alloc, 5)?;
+    let mut values = five_values(alloc, numbers)?;
+    if values[1] != values[4] {
+        return Ok(None);
+    }
+    add_and_fill(alloc, &Equal { left: 1, right: 4 }, &mut plan, &mut values)?;
+    Ok(Some((plan, values)))
+}
+
+/// Five inputs and a copy of the fourth, and their values.
+fn copied_input(alloc: Global, numbers: [u64; 5]) -> Result<(Plan, Vec<Residue>), NoMemory>
+    ensures holds { IfOk result (λ made. Holds made.0 made.1.items) }
+{
+    let mut plan = Plan::new(alloc, 5)?;
+    let mut values = five_values(alloc, numbers)?;
+    add_and_fill(alloc, &Copied { wire: 3 }, &mut plan, &mut values)?;
+    Ok((plan, values))
+}
+
+/// Five inputs, of which one is selected against a value at width 8, and the values of all wires. None
+/// where no place may be selected.
+fn selected_input(
+    alloc: Global,
+    numbers: [u64; 5],
+    value: u64,
+) -> Result<Option<(Plan, Vec<Residue>)>, NoMemory>
+    ensures holds { IfOk result (λ found. IfSome found (λ made. Holds made.0 made.1.items)) }
+{
+    let mut plan = Plan::new(alloc, 5)?;
+    let mut values = five_values(alloc, numbers)?;
+    let relation = SelectedIs {
+        wires: five_wires(alloc)?,
+        value: residue(value),
+        width: 8,
+    };
+    if relation.first_place(values.as_slice()) >= 5 {
+        return Ok(None);
+    }
+    add_and_fill(alloc, &relation, &mut plan, &mut values)?;
+    Ok(Some((plan, values)))
+}
+
+/// Each row of the plan is 0 on the values.
+fn rows_are_zero(plan: &Plan, values: &[Residue]) -> bool
+    requires { length values.now ≡ length plan.now.kinds }
+{
+    for row in 0..plan.rows() {
+        if plan.row(row).value(values) != Residue::ZERO {
+            return false;
+        }
+    }
+    true
+}
+
+#[test]
+fn five_wires_of_width_8_are_filled(rt: HostRuntime) -> Result<(), Fail> {
+    let numbers = [200, 13, 250, 250, 13];
+    let (plan, values) = equal_inputs(rt.alloc(), numbers)?.ok_or("not equal")?;
+    assert_eq!(rt; (plan.wires(), plan.rows()), (5, 1));
+    assert_eq!(rt; values.as_slice(), numbers.map(residue).as_slice());
+    assert!(rt; rows_are_zero(&plan, values.as_slice()));
+    assert!(rt; equal_inputs(rt.alloc(), [200, 13, 250, 250, 7])?.is_none());
+
+    let (plan, values) = copied_input(rt.alloc(), numbers)?;
+    assert_eq!(rt; (plan.wires(), plan.rows()), (6, 1));
+    assert_eq!(rt; values[5].get(), 250);
+    assert!(rt; rows_are_zero(&plan, values.as_slice()));
+
+    let (plan, values) = selected_input(rt.alloc(), numbers, 250)?.ok_or("no place")?;
+    assert_eq!(rt; (plan.wires(), plan.rows()), (50, 6));
+    let filled = [
+        200, 13, 250, 250, 13, 0, 0, 1, 0, 0, 1, 0, 4, 8, 0, 0, 64, 128, 0, 2, 0, 0, 16, 0, 0, 0,
+        0, 0, 0, 0, 0, 0, 0, 0, 1, 2, 4, 8, 16, 32, 64, 128, 0, 2, 0, 0, 16, 0, 0, 0,
+    ];
+    assert_eq!(rt; values.as_slice(), filled.map(residue).as_slice());
+    assert!(rt; rows_are_zero(&plan, values.as_slice()));
     Ok(())
 }

@@ -367,3 +367,25 @@ rows_many seals width position price some many =
     length-append plan.rows (selected_rows relation start) ∙ omega (arith, rows_before seals width (position - 1) price, length_listed (place_row relation start) (length relation.wires)) in
     ap (λ p. length p.rows) (plan_many seals width position price (ne_eqb seals 1 many))
     ∙ (sum ∙ sym (ap (λ b. if b then 2 else 5 * seals - 2) (ne_eqb seals 1 many)))
+
+-- the plan is one, with so many wires and rows
+pub vickrey_is_plan : (seals width position price : ℕ) → IsVickreyCase seals width position price → IsPlan (vickrey_plan seals width position price)
+vickrey_is_plan seals width position price case =
+    elim (eqb_tells seals 1) [
+      | inl one ↦ subst IsPlan (sym (plan_alone seals width position price one.0)) (prices_plan seals width position price case)
+      | inr many ↦ subst IsPlan (sym (plan_many seals width position price many.0)) (selection_room seals width position price case many.1)
+    ]
+
+pub vickrey_wires : (seals width position price : ℕ) → 1 ≤ seals → length (vickrey_plan seals width position price).kinds ≡ wire_count seals width
+vickrey_wires seals width position price some =
+    elim (eqb_tells seals 1) [
+      | inl one ↦ wires_alone seals width position price one.1
+      | inr many ↦ wires_many seals width position price some many.1
+    ]
+
+pub vickrey_rows : (seals width position price : ℕ) → 1 ≤ seals → length (vickrey_plan seals width position price).rows ≡ row_count seals
+vickrey_rows seals width position price some =
+    elim (eqb_tells seals 1) [
+      | inl one ↦ rows_alone seals width position price one.1
+      | inr many ↦ rows_many seals width position price some many.1
+    ]

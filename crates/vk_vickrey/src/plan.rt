@@ -6,7 +6,7 @@ ghost use Rattle.vk_plan.specs.Forms.{form_value};
 ghost use Rattle.vk_vickrey.specs.VickreyPlans.{IsVickreyCase, IsVickreyClaim, vickrey_plan, wire_count, row_count, honest_values, bid_form, win_form, price_form, price_selection, other};
 ghost use Rattle.vk_vickrey.specs.VickreyLaws.{copies, with_bids, with_wins, with_prices, vickrey_complete};
 ghost use Rattle.vk_vickrey.specs.VickreySelectors.{IsFirstHolder, SelectsAt, selectors_start};
-ghost use Rattle.vk_vickrey.specs.VickreySteps.{circuit_begins, circuit_sound};
+ghost use Rattle.vk_vickrey.specs.VickreySteps.{circuit_begins, circuit_sound, vickrey_is_plan};
 
 use crate::outcomes::VickreyOutcome;
 use std::alloc::Global;
@@ -60,6 +60,8 @@ impl Circuit for VickreyPlan {
     ghost claim = { λ c bids. IsVickreyClaim c.seals c.width c.position c.price bids };
 
     ghost filled = { λ c bids. honest_values c.seals c.width c.position c.price bids };
+
+    ghost is_plan = { λ c. vickrey_is_plan c.seals c.width c.position c.price c.in_limits };
 
     ghost begins = { λ c bids claim. circuit_begins c.seals c.width c.position c.price bids claim };
 

@@ -3,7 +3,7 @@ ghost use Rattle.std.specs.Prelude.{◌≡◌, ◌≤◌, ◌<◌, ◌^◌, leng
 use super::*;
 use std::alloc::Global;
 use std::test::Fail;
-use vk_plan::Circuit;
+use vk_plan::{Circuit, Plan};
 use vk_residue::{NoMemory, Residue};
 
 fn found(bids: &[u64]) -> (u32, u64)
@@ -131,6 +131,57 @@ fn honest_values_are_bids_bits_and_a_selector(rt: HostRuntime) -> Result<(), Fai
         0, 0, 1, 0, 4, 0, 0, 2, 0, 0, 0, 0, 0, 0, 1, 0, 4, 0, 0, 1, 0, 1, 0, 4, 8, 0, 0, 0, 0, 0,
         2, 0, 8,
     ];
+    for (value, number) in values.iter().zip(numbers) {
+        assert_eq!(rt; value.get(), number);
+    }
+    Ok(())
+}
+
+/// Each row of the plan is 0 on the values.
+fn rows_are_zero(plan: &Plan, values: &[Residue]) -> bool
+    requires { length values.now ≡ length plan.now.kinds }
+{
+    for row in 0..plan.rows() {
+        if plan.row(row).value(values) != Residue::ZERO {
+            return false;
+        }
+    }
+    true
+}
+
+/// How many wires and rows the plan of the bids has, where the honest values are one for each wire and
+/// each row is 0 on them.
+fn filled_counts(alloc: Global, bids: &[u64], width: u32) -> Result<(u32, u32), Fail>
+    requires some { 1 ≤ length bids.now }
+    requires most { length bids.now ≤ 64 }
+    requires width { width ≤ 40 }
+{
+    let values = honest(alloc, bids, width)?;
+    let circuit = VickreyPlan::new(bids.len() as u32, width, outcome(bids)).ok_or(
+        "within the limits",
+    )?;
+    let plan = circuit.plan(alloc)?;
+    if values.len() != plan.wires() as usize {
+        return Err("not one value for each wire".into());
+    }
+    if !rows_are_zero(&plan, values.as_slice()) {
+        return Err("a row is not 0".into());
+    }
+    Ok((plan.wires(), plan.rows()))
+}
+
+#[test]
+fn five_bids_and_one_bid_of_width_8_hold(rt: HostRuntime) -> Result<(), Fail> {
+    let five = [200, 13, 250, 250, 13];
+    assert_eq!(rt; filled_counts(rt.alloc(), &five, 8)?, (150, 23));
+    let values = honest(rt.alloc(), &five, 8)?;
+    let selectors = [0, 0, 1, 0];
+    for (value, number) in values.iter().skip(114).zip(selectors) {
+        assert_eq!(rt; value.get(), number);
+    }
+    assert_eq!(rt; filled_counts(rt.alloc(), &[200], 8)?, (10, 2));
+    let values = honest(rt.alloc(), &[200], 8)?;
+    let numbers = [200, 200, 0, 0, 0, 8, 0, 0, 64, 128];
     for (value, number) in values.iter().zip(numbers) {
         assert_eq!(rt; value.get(), number);
     }

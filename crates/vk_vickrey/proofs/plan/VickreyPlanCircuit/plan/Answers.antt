@@ -3,7 +3,7 @@ use Rattle.vk_plan.specs.Plans.{PlanValue}
 use Rattle.vk_vickrey.specs.VickreyPlans.{vickrey_plan}
 use Rattle.std.proofs.lemmas.Bool.{eq-eqb, ne_eqb}
 use Rattle.vk_vickrey.specs.VickreyLaws.{plan_alone, plan_many}
-use Rattle.vk_vickrey.specs.VickreySteps.{selection_fits, selection_room, wires_alone, wires_many, rows_alone, rows_many}
+use Rattle.vk_vickrey.specs.VickreySteps.{selection_fits, selection_room, vickrey_wires, vickrey_rows}
 use Rattle.vk_vickrey.proofs.plan.VickreyPlanCircuit.plan.Goals as goal
 use Rattle.vk_vickrey.proofs.plan.VickreyPlanCircuit.plan.Goals.{Then-self-eq1, After-drop-selection-2}
 
@@ -18,12 +18,12 @@ returns-then-self-eq1-clause-plan c = alone c
 pub returns-then-self-eq1-clause-wires : goal.returns-then-self-eq1-clause-wires
 returns-then-self-eq1-clause-wires c =
     let s = c.args.self.now in
-    ap (λ (p : PlanValue). length p.kinds) (alone c) ∙ wires_alone s.seals s.width s.position s.price c.if-self-eq1.true
+    ap (λ (p : PlanValue). length p.kinds) (alone c) ∙ vickrey_wires s.seals s.width s.position s.price s.in_limits.some_seals
 
 pub returns-then-self-eq1-clause-rows : goal.returns-then-self-eq1-clause-rows
 returns-then-self-eq1-clause-rows c =
     let s = c.args.self.now in
-    ap (λ (p : PlanValue). length p.rows) (alone c) ∙ rows_alone s.seals s.width s.position s.price c.if-self-eq1.true
+    ap (λ (p : PlanValue). length p.rows) (alone c) ∙ vickrey_rows s.seals s.width s.position s.price s.in_limits.some_seals
 
 pub add-requires-clause-fits : goal.add-requires-clause-fits
 add-requires-clause-fits c =
@@ -47,9 +47,9 @@ returns-clause-plan c = many c
 pub returns-clause-wires : goal.returns-clause-wires
 returns-clause-wires c =
     let s = c.args.self.now in
-    ap (λ (p : PlanValue). length p.kinds) (many c) ∙ wires_many s.seals s.width s.position s.price s.in_limits.some_seals c.if-self-eq1.false
+    ap (λ (p : PlanValue). length p.kinds) (many c) ∙ vickrey_wires s.seals s.width s.position s.price s.in_limits.some_seals
 
 pub returns-clause-rows : goal.returns-clause-rows
 returns-clause-rows c =
     let s = c.args.self.now in
-    ap (λ (p : PlanValue). length p.rows) (many c) ∙ rows_many s.seals s.width s.position s.price s.in_limits.some_seals c.if-self-eq1.false
+    ap (λ (p : PlanValue). length p.rows) (many c) ∙ vickrey_rows s.seals s.width s.position s.price s.in_limits.some_seals
