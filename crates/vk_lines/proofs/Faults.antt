@@ -6,10 +6,12 @@ use Rattle.std.specs.Result.{result_err}
 use Rattle.std.proofs.lemmas.Bool.Decides.{nat_tests}
 use Rattle.std.proofs.lemmas.List.{length-take-le, nil_from_length}
 use Rattle.std.proofs.lemmas.List.Splits.{slice_split_first}
+use Rattle.vk_lines.specs.declared.errors.ReadErr.{ReadErr}
+use Rattle.vk_lines.specs.declared.errors.ReadErr.TheVariants.{Malformed, Failed, NoMemory}
 use Rattle.vk_lines.specs.declared.step.Step.{Step}
 use Rattle.vk_lines.specs.declared.step.Step.TheVariants.{Text, End, Long, Cut}
-use Rattle.vk_lines.specs.Lines.{Rest, ◌>>=◌, feed_at, step_of, step_by, text_at, text_by, line_by, value_at, none_left, end_at}
-use Rattle.vk_lines.specs.Forms.{Table, Follows, Ends, fault_after, fault_at, fault_from, fault_line, many_onto, whole}
+use Rattle.vk_lines.specs.Lines.{Rest, ◌>>=◌, feed_at, step_of, step_by, text_at, text_by, line_by, value_at, none_left, end_at, Reads}
+use Rattle.vk_lines.specs.Forms.{Table, Follows, Ends, fault_after, fault_at, fault_from, fault_line, many_onto, whole, IsWhole, FaultsAllButTexts, Answers}
 use Rattle.vk_lines.specs.Tokens.{word_of}
 use Rattle.vk_lines.proofs.Parts.{bind_ok, ok_same}
 
@@ -287,3 +289,38 @@ line_is table rest read ends (Err number) is = ends.err rest number is
 pub fault_line_is : {Place X : Type 0} (table : Table Place) (read : Rest → Result (X × Rest) ℕ) → Ends table table.first read
     → (bytes : List ℕ) → fault_line table bytes ≡ result_err (whole read bytes)
 fault_line_is table read ends bytes = line_is table (record { taken = 0; left = bytes }) read ends (whole read bytes) refl
+
+-- ---- the texts of a form and its table
+
+read_of : {X : Type 0} (r : Result (X × Rest) ℕ) → result_err r ≡ None → (p : X × Rest) × (r ≡ Ok p)
+read_of (Ok p) none = (p, refl)
+read_of (Err number) none = cc
+
+fault_of : {X : Type 0} (r : Result (X × Rest) ℕ) (number : ℕ) → r ≡ Err number → result_err r ≡ Some number
+fault_of r number is = ap result_err is
+
+none_of_read : {X : Type 0} (r : Result (X × Rest) ℕ) (p : X × Rest) → r ≡ Ok p → result_err r ≡ None
+none_of_read r p is = ap result_err is
+
+-- where a form's reading is of its texts alone, and ends as its table does, the two agree
+pub faults_all_but_texts : {Place X : Type 0} {IsValue : X → Type 0} {text : X → List ℕ} (table : Table Place) {read : Rest → Result (X × Rest) ℕ}
+    → IsWhole IsValue text read → Ends table table.first read → FaultsAllButTexts IsValue text table
+faults_all_but_texts table {read} form ends bytes =
+    let start : Rest = record { taken = 0; left = bytes } in (
+      λ none.
+          let found = read_of (whole read bytes) (sym (fault_line_is table read ends bytes) ∙ none) in
+          let shown = form.shown start found.0.0 found.0.1 found.1 in
+          (found.0.0, shown.0, shown.1),
+      λ value.
+          let found = form.found start value.0 value.1 value.2 in
+          fault_line_is table read ends bytes ∙ none_of_read (whole read bytes) (value.0, found.0) found.1,
+    )
+
+-- and a reader that answers as the reading does answers by the texts and the table
+pub answers_by_texts : {Place T X : Type 0} {IsValue : X → Type 0} {text : X → List ℕ} (table : Table Place) {read : Rest → Result (X × Rest) ℕ} (value : T → X) (bytes : List ℕ)
+    → IsWhole IsValue text read → Ends table table.first read → (result : Result T ReadErr) (after : Rest) → Reads value result after (whole read bytes)
+    → Answers IsValue text table value bytes result
+answers_by_texts table {read} value bytes form ends (Ok x) after reads = form.shown (record { taken = 0; left = bytes }) (value x) after reads
+answers_by_texts table {read} value bytes form ends (Err (Malformed line)) after reads = fault_line_is table read ends bytes ∙ fault_of (whole read bytes) line reads
+answers_by_texts table value bytes form ends (Err Failed) after reads = tt
+answers_by_texts table value bytes form ends (Err NoMemory) after reads = tt

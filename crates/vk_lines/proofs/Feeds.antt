@@ -1,25 +1,36 @@
 -- The first line feed of some bytes and of their front, and the next line of a reader.
-use Rattle.std.proofs.Common.{◌≡◌, ℕ, zero, suc, ◌+◌, ◌-◌, ◌<◌, ◌≤◌, ◌≢◌, ◌==◌, List, [], ◌∷◌, length, take, drop, min, Option, Some, None, Ok, unwrap_or, refl, ap, sym, ◌∙◌, arith, inl, inr, take-take, option_map, ◌^◌, IsSome, ◌⊎◌, nat_lt, if◌then◌else◌, append_assoc, append-nil, length-append, ◌++◌}
+use Rattle.std.proofs.Common.{◌≡◌, ℕ, zero, suc, ◌+◌, ◌-◌, ◌<◌, ◌≤◌, ◌≢◌, ◌==◌, Bool, true, false, get_or, subst, List, [], ◌∷◌, length, take, drop, min, Option, Some, None, Ok, unwrap_or, refl, ap, sym, ◌∙◌, arith, inl, inr, take-take, option_map, ◌^◌, IsSome, ◌⊎◌, append_assoc, append-nil, length-append, ◌++◌}
 use Rattle.std.specs.FinMap.{get}
-use Rattle.std.specs.List.{position}
+use Rattle.std.specs.Option.{IfSome}
+use Rattle.memchr.specs.Find.{NoneBefore, Nowhere, Passes, is_byte}
 use Rattle.std.proofs.lemmas.Bool.Decides.{nat_tests}
 use Rattle.std.proofs.lemmas.Bool.{cases_lt}
 use Rattle.std.proofs.lemmas.List.{take_all, drop_all, length-take, length-take-le, length-drop, drop-take, drop-drop, take-append-le, drop-append-le, take-append-drop}
-use Rattle.std.proofs.lemmas.List.Sums.{prefix_len-le-length}
+use Rattle.std.proofs.lemmas.List.Sums.{prefix_len-le-length, position_or_len_is}
 use Rattle.vk_io.specs.Files.{Files, bytes_of, part_of}
 use Rattle.vk_lines.specs.declared.step.Step.{Step}
 use Rattle.vk_lines.specs.declared.step.Step.TheVariants.{Text, End, Long, Cut}
-use Rattle.vk_lines.specs.Lines.{LinesValue, Rest, IsNext, Starts, none_left, ended, end_answer, Reads, after_step, feed_at, line_taken, rest_of, step_by, step_of, text_at, room_of, unread, unread_of, with_piece, HasLooked}
+use Rattle.vk_lines.specs.Buffers.{IsEnough, HasLooked, after_step, with_piece}
+use Rattle.vk_lines.specs.Lines.{LinesValue, Rest, IsNext, Starts, none_left, ended, end_answer, Reads, feed_at, line_taken, rest_in, rest_of, step_by, step_of, text_at, unread, unread_in, KeepsFile}
 
 -- no later than the end
 pub feed_at-le-length : (text : List ℕ) → feed_at text ≤ length text
 feed_at-le-length text = prefix_len-le-length _ text
 
--- where it is found, or the length
-pub found_or_length : (text : List ℕ) → unwrap_or (position (λ byte. byte == 10) text) (length text) ≡ feed_at text
-found_or_length text =
-    let within = feed_at-le-length text in
-    grind (arith, nat_tests)
+-- no byte but a line feed passes the test
+not_passed : (test : Bool) → (test ≡ true → ⊥) → test ≡ false
+not_passed true never = absurd (never refl)
+not_passed false never = refl
+
+-- where the first of all is found, or is not
+pub feed_found : (text : List ℕ) (feed : ℕ) → NoneBefore (Passes (is_byte 10) text) 0 (length text) feed × Passes (is_byte 10) text feed → feed ≡ feed_at text
+feed_found text feed found =
+    let bounds : (0 ≤ feed) × (feed < length text) = (found.0.low, found.0.high) in
+    sym (position_or_len_is (λ byte. byte == 10) text feed 0 (omega arith) (λ k less. not_passed (get_or text k 0 == 10) (found.0.before k (omega arith) less)) (λ within. found.1))
+
+pub feed_nowhere : (text : List ℕ) → Nowhere (Passes (is_byte 10) text) 0 (length text) → length text ≡ feed_at text
+feed_nowhere text nowhere =
+    sym (position_or_len_is (λ byte. byte == 10) text (length text) 0 (omega arith) (λ k less. not_passed (get_or text k 0 == 10) (nowhere k (omega arith) less)) (λ past. absurd (omega arith)))
 
 -- in the front of some bytes it stands where it stood, or at the front's end
 feed_at-take : (count : ℕ) (text : List ℕ) → feed_at (take count text) ≡ min count (feed_at text)
@@ -75,15 +86,15 @@ unread_after lines count within = omega (arith, length-drop count lines.ahead)
 next_by : (files : Files) (lines : LinesValue) (step : Step)
     → step_of lines.ahead ≡ step → take 256 (rest_of lines files).left ≡ take 256 lines.ahead
     → (step_of (rest_of lines files).left ≡ step) × (text_at (rest_of lines files) ≡ line_taken step lines (after_step step lines) files)
-unfolding text_at rest_of
+unfolding text_at rest_of rest_in
 next_by files lines Text is near =
-    let left : List ℕ = lines.ahead ++ unread_of lines files in
+    let left : List ℕ = lines.ahead ++ unread_in lines (bytes_of files lines.name) in
     let step : step_of left ≡ Text = same_front left lines.ahead near ∙ is in
     let feed : feed_at left ≡ feed_at lines.ahead = same_feed left lines.ahead near (text_near (feed_at left) (length left) step) (text_near (feed_at lines.ahead) (length lines.ahead) is) in
     let within = text_within (feed_at lines.ahead) (length lines.ahead) is in
-    let text : take (feed_at left) left ≡ take (feed_at lines.ahead) lines.ahead = rw feed (take-append-le (feed_at lines.ahead) lines.ahead (unread_of lines files) (omega arith)) in
+    let text : take (feed_at left) left ≡ take (feed_at lines.ahead) lines.ahead = rw feed (take-append-le (feed_at lines.ahead) lines.ahead (unread_in lines (bytes_of files lines.name)) (omega arith)) in
     let place = unread_after lines (feed_at lines.ahead + 1) (omega arith) in
-    let rest : drop (feed_at left + 1) left ≡ drop (feed_at lines.ahead + 1) lines.ahead ++ unread_of lines files = rw feed (drop-append-le (feed_at lines.ahead + 1) lines.ahead (unread_of lines files) (omega arith)) in
+    let rest : drop (feed_at left + 1) left ≡ drop (feed_at lines.ahead + 1) lines.ahead ++ unread_in lines (bytes_of files lines.name) = rw feed (drop-append-le (feed_at lines.ahead + 1) lines.ahead (unread_in lines (bytes_of files lines.name)) (omega arith)) in
     (step, rw (step, text, rest, place) refl)
 next_by files lines End is near = let step = same_front (rest_of lines files).left lines.ahead near ∙ is in (step, rw step refl)
 next_by files lines Long is near = let step = same_front (rest_of lines files).left lines.ahead near ∙ is in (step, rw step refl)
@@ -118,32 +129,6 @@ front_of : (ahead more : List ℕ) → (256 ≤ length ahead) ⊎ (more ≡ []) 
 front_of ahead more (inl many) = take-append-le 256 ahead more many
 front_of ahead more (inr none) = ap (λ m. take 256 (ahead ++ m)) none ∙ ap (take 256) (append-nil ahead)
 
-room_none : (ahead left : ℕ) → ahead < 256 → (if nat_lt ahead 256 then min 3840 left else 0) ≡ 0 → left ≡ 0
-room_none ahead left few none = grind (arith, nat_tests)
-
-no_room : (ahead left : ℕ) → (if nat_lt ahead 256 then min 3840 left else 0) ≡ 0 → (256 ≤ ahead) ⊎ (left ≡ 0)
-no_room ahead left none =
-    elim (cases_lt ahead 256) [
-      | inl few ↦ inr (room_none ahead left few none)
-      | inr many ↦ inl many
-    ]
-
-pub looked_by_none : (files : Files) (lines : LinesValue) → room_of lines ≡ 0 → HasLooked lines lines files
-unfolding rest_of
-looked_by_none files lines none = record {
-  rest = refl;
-  taken = refl;
-  text = refl;
-  near =
-      elim (no_room (length lines.ahead) (lines.size - unread lines) none) [
-        | inl many ↦ front_of lines.ahead (unread_of lines files) (inl many)
-        | inr all ↦ front_of lines.ahead (unread_of lines files) (inr (ap (λ n. take n (drop (unread lines) (bytes_of files lines.name))) all))
-      ];
-}
-
-room_is : (ahead left : ℕ) → 0 < (if nat_lt ahead 256 then min 3840 left else 0) → (if nat_lt ahead 256 then min 3840 left else 0) ≡ min 3840 left
-room_is ahead left some = grind (arith, nat_tests)
-
 take_none : (count : ℕ) → ◌≡◌ {A = List ℕ} (take count []) []
 take_none zero = refl
 take_none (suc count) = refl
@@ -169,52 +154,76 @@ piece_split room total bytes within =
     ]
 
 -- after a reading 256 bytes are ahead, or all that are left
-piece_near : (ahead room total : ℕ) (bytes : List ℕ) → room ≡ min 3840 total
-    → (256 ≤ ahead + length (take room bytes)) ⊎ (take (total - length (take room bytes)) (drop (length (take room bytes)) bytes) ≡ [])
-piece_near ahead room total bytes is =
-    elim (cases_lt (length bytes) room) [
+piece_near : (ahead asked total : ℕ) (bytes : List ℕ) → IsEnough ahead total asked
+    → (256 ≤ ahead + length (take asked bytes)) ⊎ (take (total - length (take asked bytes)) (drop (length (take asked bytes)) bytes) ≡ [])
+piece_near ahead asked total bytes is =
+    elim (cases_lt (length bytes) asked) [
       | inl short ↦
-          let all : take room bytes ≡ bytes = take_all room bytes (omega arith) in
+          let all : take asked bytes ≡ bytes = take_all asked bytes (omega arith) in
           let none : drop (length bytes) bytes ≡ [] = drop_all (length bytes) bytes (omega arith) in
           inr (rw (all, none) (take_none (total - length bytes)))
       | inr long ↦
-          let count : length (take room bytes) ≡ room = length-take-le room bytes long in
-          elim (cases_lt room 3840) [
-            | inl last ↦ let none : total - room ≡ 0 = omega arith in inr (rw (count, none) refl)
-            | inr many ↦ inl (omega arith)
+          let count : length (take asked bytes) ≡ asked = length-take-le asked bytes long in
+          elim is.enough [
+            | inl many ↦ inl (omega arith)
+            | inr last ↦ let none : total - asked ≡ 0 = omega arith in inr (rw (count, none) refl)
           ]
     ]
 
 rest_same : (taken : ℕ) {xs ys : List ℕ} → xs ≡ ys → ◌≡◌ {A = Rest} (record { taken = taken; left = xs }) (record { taken = taken; left = ys })
 rest_same taken same = rw same refl
 
-near_by : (ahead piece : List ℕ) (room total : ℕ) (bytes : List ℕ) → piece ≡ take room bytes → room ≡ min 3840 total
+near_by : (ahead piece : List ℕ) (asked total : ℕ) (bytes : List ℕ) → piece ≡ take asked bytes → IsEnough (length ahead) total asked
     → (256 ≤ length (ahead ++ piece)) ⊎ (take (total - length piece) (drop (length piece) bytes) ≡ [])
-near_by ahead piece room total bytes is least =
-    elim (piece_near (length ahead) room total bytes least) [
-      | inl many ↦ let count : length piece ≡ length (take room bytes) = ap length is in inl (omega (arith, length-append ahead piece))
+near_by ahead piece asked total bytes is enough =
+    elim (piece_near (length ahead) asked total bytes enough) [
+      | inl many ↦ let count : length piece ≡ length (take asked bytes) = ap length is in inl (omega (arith, length-append ahead piece))
       | inr none ↦ inr (rw is none)
     ]
 
-pub looked_by_piece : (files : Files) (lines : LinesValue) (piece : List ℕ)
-    → piece ≡ part_of (bytes_of files lines.name) (unread lines) (room_of lines) → 0 < room_of lines → HasLooked lines (with_piece piece lines) files
-unfolding rest_of
-looked_by_piece files lines piece is some =
+pub looked_by_piece : (files : Files) (lines : LinesValue) (piece : List ℕ) (asked : ℕ)
+    → piece ≡ part_of (bytes_of files lines.name) (unread lines) asked → IsEnough (length lines.ahead) (lines.size - unread lines) asked → HasLooked lines (with_piece piece lines) files
+unfolding rest_of rest_in
+looked_by_piece files lines piece asked is enough =
     let total : ℕ = lines.size - unread lines in
     let bytes : List ℕ = drop (unread lines) (bytes_of files lines.name) in
-    let room : room_of lines ≡ min 3840 total = room_is (length lines.ahead) total some in
     let place : lines.at + length (lines.ahead ++ piece) ≡ unread lines + length piece = omega (arith, length-append lines.ahead piece) in
     let less : lines.size - (unread lines + length piece) ≡ total - length piece = omega arith in
     let unread_is : part_of (bytes_of files lines.name) (lines.at + length (lines.ahead ++ piece)) (lines.size - (lines.at + length (lines.ahead ++ piece))) ≡ take (total - length piece) (drop (length piece) bytes) =
     rw (place, less) (ap (take (total - length piece)) (sym (drop-drop (length piece) (unread lines) (bytes_of files lines.name)))) in
-    let split : piece ++ take (total - length piece) (drop (length piece) bytes) ≡ take total bytes = rw is (piece_split (room_of lines) total bytes (omega arith)) in
-    let near : (256 ≤ length (lines.ahead ++ piece)) ⊎ (take (total - length piece) (drop (length piece) bytes) ≡ []) = near_by lines.ahead piece (room_of lines) total bytes is room in
+    let split : piece ++ take (total - length piece) (drop (length piece) bytes) ≡ take total bytes = rw is (piece_split asked total bytes enough.within) in
+    let near : (256 ≤ length (lines.ahead ++ piece)) ⊎ (take (total - length piece) (drop (length piece) bytes) ≡ []) = near_by lines.ahead piece asked total bytes is enough in
     record {
       rest = rest_same lines.taken (ap (λ more. (lines.ahead ++ piece) ++ more) unread_is ∙ append_assoc lines.ahead piece (take (total - length piece) (drop (length piece) bytes)) ∙ ap (λ more. lines.ahead ++ more) split);
       taken = refl;
       text = refl;
       near = rw unread_is (front_of (lines.ahead ++ piece) (take (total - length piece) (drop (length piece) bytes)) near);
     }
+
+-- a reader whose fields are so
+lines_same : (lines : LinesValue) {name : List ℕ} {size at taken : ℕ} {ahead text : List ℕ}
+    → lines.name ≡ name → lines.size ≡ size → lines.at ≡ at → lines.taken ≡ taken → lines.ahead ≡ ahead → lines.text ≡ text
+    → lines ≡ record { name = name; size = size; at = at; taken = taken; ahead = ahead; text = text }
+lines_same lines named sized placed counted read shown = rw (← named, ← sized, ← placed, ← counted, ← read, ← shown) refl
+
+-- what was read of the told file shows what stands next
+pub looked_told : (held : Option Files) (old new : LinesValue) (name ahead : List ℕ) (place left asked : ℕ)
+    → name ≡ old.name → ahead ≡ old.ahead → place ≡ unread old → left ≡ old.size - unread old → IsEnough (length ahead) left asked
+    → KeepsFile old new → new.at ≡ old.at → new.taken ≡ old.taken → new.text ≡ old.text
+    → IfSome held (λ files. new.ahead ≡ ahead ++ part_of (bytes_of files name) place asked)
+    → IfSome held (λ files. HasLooked old new files)
+looked_told None old new name ahead place left asked named read_so placed all enough file at taken text read = tt
+looked_told (Some files) old new name ahead place left asked named read_so placed all enough file at taken text read =
+    let P : LinesValue → Type 0 = λ lines. HasLooked old lines files in
+    let ahead_is : new.ahead ≡ old.ahead ++ part_of (bytes_of files old.name) (unread old) asked = rw (named, read_so, placed) at read in
+    let enough_is : IsEnough (length old.ahead) (old.size - unread old) asked = rw (read_so, all) at enough in
+    subst P (sym (lines_same new file.name file.size at taken ahead_is text)) (looked_by_piece files old (part_of (bytes_of files old.name) (unread old) asked) asked refl enough_is)
+
+-- the bytes that were read are those of the told file
+pub more_told : (held : Option Files) (name old piece new : List ℕ) (at room : ℕ) → new ≡ old ++ piece
+    → IfSome held (λ files. piece ≡ part_of (bytes_of files name) at room) → IfSome held (λ files. new ≡ old ++ part_of (bytes_of files name) at room)
+more_told None name old piece new at room grown read = tt
+more_told (Some files) name old piece new at room grown read = grown ∙ ap (λ more. old ++ more) read
 
 -- ---- the start of a reader
 
@@ -226,13 +235,18 @@ pub starts_is : (files : Files) (name : List ℕ) (lines : LinesValue) (told : O
     → told ≡ option_map length (get files name) → told ≡ Some size → size ≤ 2 ^ 30
     → lines.name ≡ name → lines.size ≡ size → lines.at ≡ 0 → lines.taken ≡ 0 → lines.ahead ≡ []
     → Starts files name (Ok lines)
-unfolding rest_of
+unfolding rest_of rest_in
 starts_is files name lines told size same some small named sized at taken ahead =
     let held = held_of_told (get files name) size (sym some ∙ same) in
     let whole : take lines.size (bytes_of files name) ≡ bytes_of files name = take_all lines.size (bytes_of files name) (omega arith) in
     let all : lines.size - 0 ≡ lines.size = omega arith in
-    let left : lines.ahead ++ unread_of lines files ≡ bytes_of files name = rw (named, at, ahead, all) whole in
-    (held.0, omega (arith, held.1), rw (left, taken) refl)
+    let left : lines.ahead ++ unread_in lines (bytes_of files lines.name) ≡ bytes_of files name = rw (named, at, ahead, all) whole in
+    record {
+      held = held.0;
+      small = omega (arith, held.1);
+      size = sized ∙ sym held.1;
+      rest = rw (left, taken) refl;
+    }
 
 -- ---- the end
 
@@ -252,6 +266,6 @@ answer_by Cut before old new taken same is = rw (is, taken) refl
 
 pub end_told : (step : Step) (before : ℕ) (files : Files) (old new : LinesValue) → before ≡ old.taken → IsNext step old new files
     → Reads (λ x. x) (end_answer step before) (rest_of new files) (none_left (rest_of old files))
-unfolding rest_of
+unfolding rest_of rest_in
 end_told step before files old new taken next =
     answer_by step before (rest_of old files) (rest_of new files) taken next.other (none_left-by (rest_of old files) step next.next)

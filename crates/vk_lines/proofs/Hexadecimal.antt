@@ -1,16 +1,19 @@
 -- Lower-case hexadecimal: writing byte by byte, and both directions between bytes and their text.
-use Rattle.std.proofs.Common.{◌≡◌, ℕ, suc, ◌+◌, ◌-◌, ◌*◌, ◌/◌, ◌%◌, ◌<◌, ◌≤◌, nat_lt, Bool, true, false, ◌&&◌, if◌then◌else◌, inl, inr, List, [], ◌∷◌, ◌++◌, length, take, get_or, slice_index, Option, Some, None, Result, Ok, Err, refl, ap, sym, ◌∙◌, arith, rules}
+use Rattle.std.proofs.Common.{◌≡◌, ℕ, suc, ◌+◌, ◌-◌, ◌*◌, ◌/◌, ◌%◌, ◌<◌, ◌≤◌, nat_lt, Bool, true, false, ◌&&◌, if◌then◌else◌, inl, inr, List, [], ◌∷◌, ◌++◌, length, take, get_or, slice_index, Option, Some, None, Result, Ok, Err, refl, ap, sym, ◌∙◌, arith, rules, append_assoc}
 use Rattle.std.specs.List.{list_all}
 use Rattle.std.specs.Option.{IfSome}
 use Rattle.std.specs.Result.{result_ok}
 use Rattle.std.proofs.lemmas.Bool.{and_parts, cases_lt}
 use Rattle.std.proofs.lemmas.Bool.Decides.{nat_tests}
-use Rattle.std.proofs.lemmas.List.{take_more}
+use Rattle.std.proofs.lemmas.List.{take_more, take_all}
+use Rattle.std.proofs.lemmas.List.Folds.{list_all_at}
+use Rattle.std.proofs.lemmas.Grind.{common_steps, take-set_at}
+use Rattle.std.proofs.Math.ListN.{set}
 use Rattle.hex.specs.Hex.{IsBytes, encode_with, lower_digits, decode_of, decode_pairs, decode_sized, digit_or_error, hex_digit_value, pair_value, value_at}
 use Rattle.hex.specs.declared.error.FromHexError.{FromHexError}
 use Rattle.hex.proofs.HexLemmas.{length-encode_with, decode_of-even, decode_of-ok, decode_sized-ok, decode_sized-twice, decode_sized-encode_lower}
 use Rattle.hex.proofs.Pairs.{cons_byte, decode_pairs-ok_pair}
-use Rattle.vk_lines.specs.Tokens.{hex_text, hex_of, is_lower_digit, ReadsHex}
+use Rattle.vk_lines.specs.Tokens.{hex_text, hex_of, is_lower_digit, digit_value, ReadsHex}
 
 encode_with-push : (table bytes : List ℕ) (b : ℕ)
     → encode_with table (bytes ++ b ∷ []) ≡ encode_with table bytes ++ slice_index table (b / 16) ∷ slice_index table (b % 16) ∷ []
@@ -129,3 +132,64 @@ ReadsHex-hex_of count text result value bytes = (
 pub read_bytes : (count : ℕ) (text : List ℕ) (result : Option (List ℕ)) → ReadsHex count text result → IfSome result (λ bytes. (length bytes ≡ count) × IsBytes bytes)
 read_bytes count text (Some bytes) exact = let is = (exact bytes).0 refl in (is.0, is.1)
 read_bytes count text None exact = tt
+
+-- ---- reading digit by digit
+
+none_of : (o : Option (List ℕ)) → ((bytes : List ℕ) → o ≡ Some bytes → ⊥) → o ≡ None
+none_of (Some bytes) never = absurd (never bytes refl)
+none_of None never = refl
+
+-- a text of another length is that of no bytes
+pub hex_none_long : (count : ℕ) (text : List ℕ) → (length text ≡ 2 * count → ⊥) → hex_of count text ≡ None
+hex_none_long count text other = none_of (hex_of count text) (λ bytes some. let is = hex_of-some count text bytes some in other (ap length is.2 ∙ length-hex_text bytes ∙ ap (λ n. 2 * n) is.0))
+
+-- a digit is that of its value, and another character has none
+digit_is : (c : ℕ) → digit_value c ≤ 15 → slice_index lower_digits (digit_value c) ≡ c
+digit_is c small =
+    elim (cases_lt c 58) [
+      | inl digit ↦
+          let value : digit_value c ≡ c - 48 = grind (arith, nat_tests) in
+          let low : 48 ≤ c = grind (arith, nat_tests) in
+          rw value (digit_of (c - 48) (omega arith) ∙ grind (arith, nat_tests))
+      | inr letter ↦
+          let value : digit_value c ≡ c - 87 = grind (arith, nat_tests) in
+          let low : 97 ≤ c = grind (arith, nat_tests) in
+          let high : c ≤ 102 = grind (arith, nat_tests) in
+          rw value (digit_of (c - 87) (omega arith) ∙ grind (arith, nat_tests))
+    ]
+
+digit_none : (c : ℕ) → 15 < digit_value c → is_lower_digit c ≡ false
+digit_none c great = grind (arith, nat_tests)
+
+-- a text with another character is that of no bytes
+pub hex_none_at : (count : ℕ) (text : List ℕ) (i : ℕ) → i < length text → 15 < digit_value (get_or text i 0) → hex_of count text ≡ None
+unfolding hex_of
+hex_none_at count text i within great = rw (list_all_at is_lower_digit text i 0 within (digit_none (get_or text i 0) great)) refl
+
+-- two digits more write one byte more
+pub pair_read : (bytes text : List ℕ) (i high low : ℕ) → i < length bytes → 2 * i + 1 < length text
+    → high ≡ digit_value (get_or text (2 * i) 0) → low ≡ digit_value (get_or text (2 * i + 1) 0) → high ≤ 15 → low ≤ 15
+    → hex_text (take i bytes) ≡ take (2 * i) text → hex_text (take (i + 1) (set bytes i (16 * high + low))) ≡ take (2 * (i + 1)) text
+pair_read bytes text i high low within inside is_high is_low small_high small_low so_far =
+    let over : (16 * high + low) / 16 ≡ high = omega arith in
+    let under : (16 * high + low) % 16 ≡ low = omega arith in
+    let first : slice_index lower_digits high ≡ get_or text (2 * i) 0 = rw is_high (digit_is (get_or text (2 * i) 0) (omega arith)) in
+    let second : slice_index lower_digits low ≡ get_or text (2 * i + 1) 0 = rw is_low (digit_is (get_or text (2 * i + 1) 0) (omega arith)) in
+    let more : take (2 * i + 1) text ≡ take (2 * i) text ++ get_or text (2 * i) 0 ∷ [] = take_more text (2 * i) 0 (omega arith) in
+    let last : take (2 * i + 1 + 1) text ≡ take (2 * i + 1) text ++ get_or text (2 * i + 1) 0 ∷ [] = take_more text (2 * i + 1) 0 inside in
+    let count : 2 * (i + 1) ≡ 2 * i + 1 + 1 = omega arith in
+    ap hex_text (take-set_at bytes i (i + 1) (16 * high + low) refl within)
+    ∙ encode_with-push lower_digits (take i bytes) (16 * high + low)
+    ∙ rw (over, under, first, second, so_far, count, last, more) (sym (append_assoc (take (2 * i) text) (get_or text (2 * i) 0 ∷ []) (get_or text (2 * i + 1) 0 ∷ [])))
+
+pub bytes_set : (bytes : List ℕ) (i v : ℕ) → v < 256 → IsBytes bytes → IsBytes (set bytes i v)
+bytes_set bytes i v small fit k = let there = fit k in grind (arith, common_steps)
+
+-- bytes whose digits were all read
+pub hex_some : (bytes text : List ℕ) (count i : ℕ) → length bytes ≡ count → length text ≡ 2 * count → i ≡ count → IsBytes bytes
+    → hex_text (take i bytes) ≡ take (2 * i) text → hex_of count text ≡ Some bytes
+hex_some bytes text count i long twice all fit so_far =
+    let front : take i bytes ≡ bytes = take_all i bytes (omega arith) in
+    let whole : take (2 * i) text ≡ text = take_all (2 * i) text (omega arith) in
+    let is : text ≡ hex_text bytes = sym whole ∙ sym so_far ∙ ap hex_text front in
+    ap (hex_of count) is ∙ hex_of-hex_text count bytes long fit

@@ -1,8 +1,12 @@
 pub mod Decimals
+pub mod Each
 pub mod Faults
 pub mod Feeds
 pub mod Hexadecimal
 pub mod Loops
+pub mod Numbered
 pub mod Parts
 pub mod Residues
+pub mod Slices
+pub mod Told
 pub mod Words

@@ -1,5 +1,5 @@
 -- A loop that reads so many values over a shelf: its turns and its exits, for any told content.
-use Rattle.std.proofs.Common.{◌≡◌, ℕ, ◌+◌, ◌-◌, ◌<◌, List, [], ◌∷◌, ◌++◌, Option, Some, None, Result, Ok, Err, ap, sym, ◌∙◌, arith, subst}
+use Rattle.std.proofs.Common.{◌≡◌, ℕ, ◌+◌, ◌-◌, ◌<◌, List, [], ◌∷◌, ◌++◌, length, Option, Some, None, Result, Ok, Err, refl, ap, sym, ◌∙◌, arith, subst}
 use Rattle.std.specs.Option.{IfSome}
 use Rattle.vk_io.specs.Files.{Files}
 use Rattle.vk_lines.specs.declared.errors.ReadErr.{ReadErr}
@@ -60,3 +60,30 @@ pub many_done : {X : Type 0} (held : Option Files) (read : List X → Rest → R
     → IfSome held (λ files. Reads {T = List X} {X = List X} (λ x. x) (Ok xs) (now files) (whole files))
 many_done None read whole xs left now none so_far = tt
 many_done (Some files) read whole xs left now none so_far = sym so_far ∙ many_none xs left read (now files) none
+
+-- ---- the same where each reading goes by the number of those before it
+
+pub numbered_begin : {X : Type 0} (held : Option Files) (read : ℕ → Rest → Result (X × Rest) ℕ) (xs : List X) (left count : ℕ) (now : Files → Rest) → xs ≡ [] → left ≡ count
+    → IfSome held (λ files. many_onto xs left (λ before. read (length before)) (now files) ≡ many_onto [] count (λ before. read (length before)) (now files))
+numbered_begin None read xs left count now none all = tt
+numbered_begin (Some files) read xs left count now none all = rw (none, all) refl
+
+pub numbered_turn : {X : Type 0} (held now : Option Files) (read : ℕ → Rest → Result (X × Rest) ℕ) (whole : Files → Result (List X × Rest) ℕ)
+    → (xs ys : List X) (x : X) (number left next : ℕ) (before after : Files → Rest)
+    → now ≡ held → length xs ≡ number → next + 1 ≡ left → ys ≡ xs ++ x ∷ []
+    → IfSome held (λ files. many_onto xs left (λ b. read (length b)) (before files) ≡ whole files)
+    → IfSome now (λ files. read number (before files) ≡ Ok (x, after files))
+    → IfSome held (λ files. many_onto ys next (λ b. read (length b)) (after files) ≡ whole files)
+numbered_turn held now read whole xs ys x number left next before after same count fewer pushed so_far step =
+    let P : ℕ → Type 0 = λ n. IfSome now (λ files. read n (before files) ≡ Ok (x, after files)) in
+    many_turn held now (λ b. read (length b)) whole xs ys x left next before after same fewer pushed so_far (subst P (sym count) step)
+
+pub numbered_stop : {X : Type 0} (held now : Option Files) (read : ℕ → Rest → Result (X × Rest) ℕ) (whole : Files → Result (List X × Rest) ℕ)
+    → (xs : List X) (e : ReadErr) (result : Result (List X) ReadErr) (number left : ℕ) (before after : Files → Rest)
+    → now ≡ held → length xs ≡ number → 0 < left → result ≡ Err e
+    → IfSome held (λ files. many_onto xs left (λ b. read (length b)) (before files) ≡ whole files)
+    → IfSome now (λ files. Reads {T = X} {X = X} (λ x. x) (Err e) (after files) (read number (before files)))
+    → IfSome held (λ files. Reads {T = List X} {X = List X} (λ x. x) result (after files) (whole files))
+numbered_stop {X} held now read whole xs e result number left before after same count some is so_far step =
+    let P : ℕ → Type 0 = λ n. IfSome now (λ files. Reads {T = X} {X = X} (λ x. x) (Err e) (after files) (read n (before files))) in
+    many_stop held now (λ b. read (length b)) whole xs e result left before after same some is so_far (subst P (sym count) step)

@@ -1,15 +1,16 @@
 -- Words, and lines of words between single spaces.
-use Rattle.std.proofs.Common.{nat_le, ◌≡◌, if◌then◌else◌, ℕ, suc, ◌+◌, ◌*◌, ◌^◌, ◌<◌, ◌≤◌, ◌==◌, nat_lt, Bool, true, false, List, [], ◌∷◌, ◌++◌, length, decimal, Option, Some, None, refl, ap, sym, ◌∙◌, arith, length-append}
-use Rattle.std.specs.List.{list_all, join_with_byte, slice_get}
+use Rattle.std.proofs.Common.{nat_le, ◌≡◌, if◌then◌else◌, ℕ, ◌+◌, ◌-◌, ◌*◌, ◌^◌, ◌<◌, ◌≤◌, ◌==◌, nat_lt, Bool, true, false, List, [], ◌∷◌, ◌++◌, length, take, drop, decimal, Option, Some, None, refl, ap, sym, ◌∙◌, arith, length-append, inl, inr}
+use Rattle.std.specs.List.{list_all, join_with_byte, position, position_or_len}
 use Rattle.std.specs.Str.{bytes_eq, all_ascii_digits}
-use Rattle.std.proofs.lemmas.Bool.{and_parts}
+use Rattle.std.proofs.lemmas.Bool.{and_parts, cases_Bool, ltb-true}
 use Rattle.std.proofs.lemmas.Bool.Decides.{nat_tests}
 use Rattle.std.proofs.lemmas.Fmt.{digits_decimal, length-decimal-le}
 use Rattle.std.proofs.lemmas.List.Folds.{list_all-append}
-use Rattle.std.proofs.lemmas.List.Splits.{join_with_byte-slice_split}
+use Rattle.std.proofs.lemmas.List.{take_all, length-drop}
+use Rattle.std.proofs.lemmas.List.Splits.{join_with_byte-slice_split, slice_split_first}
 use Rattle.std.proofs.lemmas.Slice.Eq.{bytes_eq-Decides}
 use Rattle.hex.specs.Hex.{IsBytes}
-use Rattle.vk_lines.specs.Tokens.{number_line, id_line, digests_line, decimal_of, fields_of, hex_of, hex_text, is_lower_digit, meets, one_by, one_field, tagged_by, two_by, two_fields, three_by, three_fields, four_by, four_fields, word_of, ◌>>=◌}
+use Rattle.vk_lines.specs.Tokens.{number_line, id_line, digests_line, decimal_of, fields_of, hex_of, hex_text, is_lower_digit, meets, behind_word, one_of, two_of, three_of, four_of, one_by, one_field, two_by, two_fields, three_by, three_fields, four_by, four_fields, word_of, ◌>>=◌}
 use Rattle.vk_lines.specs.Forms.{IsLine, IsToken, is_plain, is_word, spaced}
 use Rattle.vk_lines.proofs.Decimals.{own, decimal_of-some, decimal_of-decimal}
 use Rattle.vk_lines.proofs.Hexadecimal.{hex_text-lower, hex_of-some, hex_of-hex_text, length-hex_text}
@@ -147,44 +148,99 @@ fixed_line text plain short = record {
   short = λ x is. short;
 }
 
--- the first field of a line with this tag, and how many there are after it
-tag_shown : (word : List ℕ) (count : ℕ) (fields : List (List ℕ)) → tagged_by word (suc count) fields ≡ Some tt → (rest : List (List ℕ)) × (fields ≡ word ∷ rest) × (length rest ≡ count)
-tag_shown word count [] some =
-    let test = if_some (0 == suc count) None tt some in absurd (grind (arith, nat_tests))
-tag_shown word count (first ∷ rest) some =
-    let test = if_some (suc (length rest) == suc count) (word_of word first) tt some in
-    (rest, ap (λ w. w ∷ rest) (word_shown word first test.1), grind (arith, nat_tests))
+-- ---- fields one after another
 
-tag_found : (word : List ℕ) (count : ℕ) (rest : List (List ℕ)) → length rest ≡ count → tagged_by word (suc count) (word ∷ rest) ≡ Some tt
-tag_found word count rest long =
-    let test : (suc (length rest) == suc count) ≡ true = grind (arith, nat_tests) in
-    rw test (word_found word)
+-- there is always a field
+fields_some : (text : List ℕ) → (field : List ℕ) × (more : List (List ℕ)) × (fields_of text ≡ field ∷ more)
+fields_some [] = ([], [], refl)
+fields_some (b ∷ text) =
+    elim (cases_Bool (b == 32)) [
+      | inl space ↦ ([], fields_of text, rw space refl)
+      | inr other ↦
+          let rest = fields_some text in
+          (b ∷ rest.0, rest.1, rw (other, rest.2) refl)
+    ]
 
--- lists of so many
-none_of : (fs : List (List ℕ)) → length fs ≡ 0 → fs ≡ []
-none_of [] long = refl
-none_of (f ∷ fs) long = absurd (omega arith)
+pub behind_word_more : (word tag text : List ℕ) → behind_word word (tag ∷ fields_of text) ≡ (word_of word tag >>= λ _. Some (fields_of text))
+behind_word_more word tag text = let some = fields_some text in rw some.2 refl
 
-split_of : (fs : List (List ℕ)) (count : ℕ) → length fs ≡ suc count → (f : List ℕ) × (rest : List (List ℕ)) × (fs ≡ f ∷ rest) × (length rest ≡ count)
-split_of [] count long = absurd (omega arith)
-split_of (f ∷ rest) count long = (f, rest, refl, omega arith)
+pub one_of_more : (field text : List ℕ) → one_of (field ∷ fields_of text) ≡ None
+one_of_more field text = let some = fields_some text in rw some.2 refl
+
+-- the fields of a text that is cut at its first space, or that has none
+pub cut_at : (text : List ℕ) (at : ℕ) → position (λ byte. byte == 32) text ≡ Some at → fields_of text ≡ take at text ∷ fields_of (take (length text - (at + 1)) (drop (at + 1) text))
+cut_at text at some =
+    let found = if_some (nat_lt (position_or_len (λ byte. byte == 32) text) (length text)) (Some (position_or_len (λ byte. byte == 32) text)) at some in
+    let within : position_or_len (λ byte. byte == 32) text < length text = ltb-true _ _ found.0 in
+    let same : position_or_len (λ byte. byte == 32) text ≡ at = some_same _ _ found.1 in
+    let all : take (length text - (at + 1)) (drop (at + 1) text) ≡ drop (at + 1) text = take_all (length text - (at + 1)) (drop (at + 1) text) (omega (arith, length-drop (at + 1) text)) in
+    let cut = slice_split_first (λ byte. byte == 32) text 0 within in
+    rw same at cut ∙ ap (λ rest. take at text ∷ fields_of rest) (sym all)
+
+pub cut_nowhere : (text : List ℕ) → position (λ byte. byte == 32) text ≡ None → fields_of text ≡ text ∷ []
+cut_nowhere [] none = refl
+cut_nowhere (b ∷ text) none =
+    elim (cases_Bool (b == 32)) [
+      | inl space ↦ absurd (grind (arith, nat_tests))
+      | inr other ↦ let rest = cut_nowhere text (grind (arith, nat_tests)) in rw (other, rest) refl
+    ]
+
+-- what the fields show
+behind_shown : (word : List ℕ) (fields rest : List (List ℕ)) → behind_word word fields ≡ Some rest → fields ≡ word ∷ rest
+behind_shown word (tag ∷ field ∷ more) rest some =
+    let step = bind_some (word_of word tag) (λ _. Some (field ∷ more)) rest some in
+    let same : tag ≡ word = word_shown word tag step.1 in
+    let left : field ∷ more ≡ rest = some_same (field ∷ more) rest step.2 in
+    ap (λ w. w ∷ field ∷ more) same ∙ ap (λ fs. word ∷ fs) left
+behind_shown word (tag ∷ []) rest some = cc
+behind_shown word [] rest some = cc
+
+one_of_shown : (fields : List (List ℕ)) (f : List ℕ) → one_of fields ≡ Some f → fields ≡ f ∷ []
+one_of_shown (a ∷ []) f some = ap (λ x. x ∷ []) (some_same a f some)
+one_of_shown (a ∷ b ∷ more) f some = cc
+one_of_shown [] f some = cc
+
+two_of_shown : (fields : List (List ℕ)) (p : List ℕ × List ℕ) → two_of fields ≡ Some p → fields ≡ p.0 ∷ p.1 ∷ []
+two_of_shown (a ∷ rest) p some =
+    let step = bind_some (one_of rest) (λ b. Some (a, b)) p some in
+    let same : (a, step.0) ≡ p = some_same _ _ step.2 in
+    ap (λ fs. a ∷ fs) (one_of_shown rest step.0 step.1) ∙ ap (λ q. q.0 ∷ q.1 ∷ []) same
+two_of_shown [] p some = cc
+
+three_of_shown : (fields : List (List ℕ)) (p : List ℕ × List ℕ × List ℕ) → three_of fields ≡ Some p → fields ≡ p.0 ∷ p.1 ∷ p.2 ∷ []
+three_of_shown (a ∷ rest) p some =
+    let step = bind_some (two_of rest) (λ fields. Some (a, fields.0, fields.1)) p some in
+    let same : (a, step.0.0, step.0.1) ≡ p = some_same _ _ step.2 in
+    ap (λ fs. a ∷ fs) (two_of_shown rest step.0 step.1) ∙ ap (λ q. q.0 ∷ q.1 ∷ q.2 ∷ []) same
+three_of_shown [] p some = cc
+
+four_of_shown : (fields : List (List ℕ)) (p : List ℕ × List ℕ × List ℕ × List ℕ) → four_of fields ≡ Some p → fields ≡ p.0 ∷ p.1 ∷ p.2 ∷ p.3 ∷ []
+four_of_shown (a ∷ rest) p some =
+    let step = bind_some (three_of rest) (λ fields. Some (a, fields.0, fields.1, fields.2)) p some in
+    let same : (a, step.0.0, step.0.1, step.0.2) ≡ p = some_same _ _ step.2 in
+    ap (λ fs. a ∷ fs) (three_of_shown rest step.0 step.1) ∙ ap (λ q. q.0 ∷ q.1 ∷ q.2 ∷ q.3 ∷ []) same
+four_of_shown [] p some = cc
+
+-- the fields behind a word, so many of them
+behind_of : {F : Type 0} (word : List ℕ) (fields : List (List ℕ)) (some_of : List (List ℕ) → Option F) (shows : F → List (List ℕ)) (f : F)
+    → ((rest : List (List ℕ)) (g : F) → some_of rest ≡ Some g → rest ≡ shows g)
+    → (behind_word word fields >>= some_of) ≡ Some f → fields ≡ word ∷ shows f
+behind_of word fields some_of shows f shown some =
+    let step = bind_some (behind_word word fields) some_of f some in
+    behind_shown word fields step.0 step.1 ∙ ap (λ fs. word ∷ fs) (shown step.0 f step.2)
 
 -- from the fields to the text
 text_is : (text first : List ℕ) (words : List (List ℕ)) → fields_of text ≡ first ∷ words → text ≡ join_with_byte 32 (first ∷ words)
 text_is text first words fields = sym (join-fields_of text) ∙ ap (join_with_byte 32) fields
 
 one_found : {X : Type 0} (word : List ℕ) (parse : List ℕ → Option X) (f : List ℕ) (x : X) → parse f ≡ Some x → one_by word parse (word ∷ f ∷ []) ≡ Some x
-one_found word parse f x some = rw (tag_found word 1 (f ∷ []) refl) some
+one_found word parse f x some = rw (same_word word) some
 
 one_shown : {X : Type 0} (word : List ℕ) (parse : List ℕ → Option X) (fields : List (List ℕ)) (x : X) → one_by word parse fields ≡ Some x
     → (f : List ℕ) × (fields ≡ word ∷ f ∷ []) × (parse f ≡ Some x)
 one_shown word parse fields x some =
-    let tag = bind_some (tagged_by word 2 fields) (λ _. slice_get fields 1 >>= parse) x some in
-    let rest = tag_shown word 1 fields tag.1 in
-    let one = split_of rest.0 0 rest.2 in
-    let none = none_of one.1 one.3 in
-    let is : fields ≡ word ∷ one.0 ∷ [] = rest.1 ∙ ap (λ fs. word ∷ fs) (one.2 ∙ ap (λ fs. one.0 ∷ fs) none) in
-    (one.0, is, sym (ap (λ fs. slice_get fs 1 >>= parse) is) ∙ tag.2)
+    let read = bind_some (behind_word word fields >>= one_of) parse x some in
+    (read.0, behind_of word fields one_of (λ f. f ∷ []) read.0 one_of_shown read.1, read.2)
 
 pub one_line : {X : Type 0} {most : ℕ} {IsValue : X → Type 0} {text : X → List ℕ} {parse : List ℕ → Option X}
     → (word : List ℕ) → is_word word ≡ true → IsToken most IsValue text parse → length word + 1 + most ≤ 255
@@ -201,34 +257,18 @@ one_line {text = text} {parse = parse} word is_a_word token small = record {
   short = λ x is. let few = token.short x is in omega (arith, length-append word (32 ∷ text x));
 }
 
--- one field
-field_found : {A X : Type 0} (fields : List (List ℕ)) (index : ℕ) (f : List ℕ) (parse : List ℕ → Option A) (next : A → Option X) (v : A)
-    → slice_get fields index ≡ Some f → parse f ≡ Some v → (slice_get fields index >>= parse >>= next) ≡ next v
-field_found fields index f parse next v at some = rw (at, some) refl
-
-field_shown : {A X : Type 0} (fields : List (List ℕ)) (index : ℕ) (f : List ℕ) (parse : List ℕ → Option A) (next : A → Option X) (x : X)
-    → slice_get fields index ≡ Some f → (slice_get fields index >>= parse >>= next) ≡ Some x → (v : A) × (parse f ≡ Some v) × (next v ≡ Some x)
-field_shown fields index f parse next x at some =
-    let step = bind_some (slice_get fields index >>= parse) next x some in
-    (step.0, sym (ap (λ o. o >>= parse) at) ∙ step.1, step.2)
-
 two_found : {A B X : Type 0} (word : List ℕ) (first : List ℕ → Option A) (second : List ℕ → Option B) (make : A → B → X) (f g : List ℕ) (v : A) (w : B)
     → first f ≡ Some v → second g ≡ Some w → two_by word first second make (word ∷ f ∷ g ∷ []) ≡ Some (make v w)
-two_found word first second make f g v w fv gw = rw (tag_found word 2 (f ∷ g ∷ []) refl, fv, gw) refl
+two_found word first second make f g v w fv gw = rw (same_word word, fv, gw) refl
 
 two_shown : {A B X : Type 0} (word : List ℕ) (first : List ℕ → Option A) (second : List ℕ → Option B) (make : A → B → X) (fields : List (List ℕ)) (x : X)
     → two_by word first second make fields ≡ Some x
     → (f g : List ℕ) × (v : A) × (w : B) × (fields ≡ word ∷ f ∷ g ∷ []) × (first f ≡ Some v) × (second g ≡ Some w) × (make v w ≡ x)
 two_shown word first second make fields x some =
-    let tag = bind_some (tagged_by word 3 fields) (λ _. slice_get fields 1 >>= first >>= λ a. slice_get fields 2 >>= second >>= λ b. Some (make a b)) x some in
-    let rest = tag_shown word 2 fields tag.1 in
-    let one = split_of rest.0 1 rest.2 in
-    let two = split_of one.1 0 one.3 in
-    let none = none_of two.1 two.3 in
-    let is : fields ≡ word ∷ one.0 ∷ two.0 ∷ [] = rest.1 ∙ ap (λ fs. word ∷ fs) (one.2 ∙ ap (λ fs. one.0 ∷ fs) (two.2 ∙ ap (λ fs. two.0 ∷ fs) none)) in
-    let v = field_shown fields 1 one.0 first (λ a. slice_get fields 2 >>= second >>= λ b. Some (make a b)) x (ap (λ fs. slice_get fs 1) is) tag.2 in
-    let w = field_shown fields 2 two.0 second (λ b. Some (make v.0 b)) x (ap (λ fs. slice_get fs 2) is) v.2 in
-    (one.0, two.0, v.0, w.0, is, v.1, w.1, some_same (make v.0 w.0) x w.2)
+    let read = bind_some (behind_word word fields >>= two_of) (λ fields. first fields.0 >>= λ a. second fields.1 >>= λ b. Some (make a b)) x some in
+    let v = bind_some (first read.0.0) (λ a. second read.0.1 >>= λ b. Some (make a b)) x read.2 in
+    let w = bind_some (second read.0.1) (λ b. Some (make v.0 b)) x v.2 in
+    (read.0.0, read.0.1, v.0, w.0, behind_of word fields two_of (λ f. f.0 ∷ f.1 ∷ []) read.0 two_of_shown read.1, v.1, w.1, some_same (make v.0 w.0) x w.2)
 
 -- a line of a word and two fields, of which a value is made and which it shows
 pub two_line : {A B X : Type 0} {m n : ℕ} {IsA : A → Type 0} {IsB : B → Type 0} {text_a : A → List ℕ} {text_b : B → List ℕ} {parse_a : List ℕ → Option A} {parse_b : List ℕ → Option B}
@@ -258,23 +298,17 @@ two_line {X = X} {IsA = IsA} {IsB = IsB} {text_a = text_a} {text_b = text_b} {pa
 
 three_found : {A B C X : Type 0} (word : List ℕ) (first : List ℕ → Option A) (second : List ℕ → Option B) (third : List ℕ → Option C) (make : A → B → C → X) (f g h : List ℕ) (v : A) (w : B) (y : C)
     → first f ≡ Some v → second g ≡ Some w → third h ≡ Some y → three_by word first second third make (word ∷ f ∷ g ∷ h ∷ []) ≡ Some (make v w y)
-three_found word first second third make f g h v w y fv gw hy = rw (tag_found word 3 (f ∷ g ∷ h ∷ []) refl, fv, gw, hy) refl
+three_found word first second third make f g h v w y fv gw hy = rw (same_word word, fv, gw, hy) refl
 
 three_shown : {A B C X : Type 0} (word : List ℕ) (first : List ℕ → Option A) (second : List ℕ → Option B) (third : List ℕ → Option C) (make : A → B → C → X) (fields : List (List ℕ)) (x : X)
     → three_by word first second third make fields ≡ Some x
     → (f g h : List ℕ) × (v : A) × (w : B) × (y : C) × (fields ≡ word ∷ f ∷ g ∷ h ∷ []) × (first f ≡ Some v) × (second g ≡ Some w) × (third h ≡ Some y) × (make v w y ≡ x)
 three_shown word first second third make fields x some =
-    let tag = bind_some (tagged_by word 4 fields) (λ _. slice_get fields 1 >>= first >>= λ a. slice_get fields 2 >>= second >>= λ b. slice_get fields 3 >>= third >>= λ c. Some (make a b c)) x some in
-    let rest = tag_shown word 3 fields tag.1 in
-    let one = split_of rest.0 2 rest.2 in
-    let two = split_of one.1 1 one.3 in
-    let three = split_of two.1 0 two.3 in
-    let none = none_of three.1 three.3 in
-    let is : fields ≡ word ∷ one.0 ∷ two.0 ∷ three.0 ∷ [] = rest.1 ∙ ap (λ fs. word ∷ fs) (one.2 ∙ ap (λ fs. one.0 ∷ fs) (two.2 ∙ ap (λ fs. two.0 ∷ fs) (three.2 ∙ ap (λ fs. three.0 ∷ fs) none))) in
-    let v = field_shown fields 1 one.0 first (λ a. slice_get fields 2 >>= second >>= λ b. slice_get fields 3 >>= third >>= λ c. Some (make a b c)) x (ap (λ fs. slice_get fs 1) is) tag.2 in
-    let w = field_shown fields 2 two.0 second (λ b. slice_get fields 3 >>= third >>= λ c. Some (make v.0 b c)) x (ap (λ fs. slice_get fs 2) is) v.2 in
-    let y = field_shown fields 3 three.0 third (λ c. Some (make v.0 w.0 c)) x (ap (λ fs. slice_get fs 3) is) w.2 in
-    (one.0, two.0, three.0, v.0, w.0, y.0, is, v.1, w.1, y.1, some_same (make v.0 w.0 y.0) x y.2)
+    let read = bind_some (behind_word word fields >>= three_of) (λ fields. first fields.0 >>= λ a. second fields.1 >>= λ b. third fields.2 >>= λ c. Some (make a b c)) x some in
+    let v = bind_some (first read.0.0) (λ a. second read.0.1 >>= λ b. third read.0.2 >>= λ c. Some (make a b c)) x read.2 in
+    let w = bind_some (second read.0.1) (λ b. third read.0.2 >>= λ c. Some (make v.0 b c)) x v.2 in
+    let y = bind_some (third read.0.2) (λ c. Some (make v.0 w.0 c)) x w.2 in
+    (read.0.0, read.0.1, read.0.2, v.0, w.0, y.0, behind_of word fields three_of (λ f. f.0 ∷ f.1 ∷ f.2 ∷ []) read.0 three_of_shown read.1, v.1, w.1, y.1, some_same (make v.0 w.0 y.0) x y.2)
 
 -- a line of a word and three fields
 pub three_line : {A B C X : Type 0} {m n o : ℕ} {IsA : A → Type 0} {IsB : B → Type 0} {IsC : C → Type 0} {text_a : A → List ℕ} {text_b : B → List ℕ} {text_c : C → List ℕ}
@@ -310,26 +344,18 @@ three_line {X = X} {IsA = IsA} {IsB = IsB} {IsC = IsC} {text_a = text_a} {text_b
 
 four_found : {A B C D X : Type 0} (word : List ℕ) (first : List ℕ → Option A) (second : List ℕ → Option B) (third : List ℕ → Option C) (fourth : List ℕ → Option D) (make : A → B → C → D → X) (f g h i : List ℕ) (v : A) (w : B) (y : C) (z : D)
     → first f ≡ Some v → second g ≡ Some w → third h ≡ Some y → fourth i ≡ Some z → four_by word first second third fourth make (word ∷ f ∷ g ∷ h ∷ i ∷ []) ≡ Some (make v w y z)
-four_found word first second third fourth make f g h i v w y z fv gw hy iz = rw (tag_found word 4 (f ∷ g ∷ h ∷ i ∷ []) refl, fv, gw, hy, iz) refl
+four_found word first second third fourth make f g h i v w y z fv gw hy iz = rw (same_word word, fv, gw, hy, iz) refl
 
 four_shown : {A B C D X : Type 0} (word : List ℕ) (first : List ℕ → Option A) (second : List ℕ → Option B) (third : List ℕ → Option C) (fourth : List ℕ → Option D) (make : A → B → C → D → X) (fields : List (List ℕ)) (x : X)
     → four_by word first second third fourth make fields ≡ Some x
     → (f g h i : List ℕ) × (v : A) × (w : B) × (y : C) × (z : D) × (fields ≡ word ∷ f ∷ g ∷ h ∷ i ∷ []) × (first f ≡ Some v) × (second g ≡ Some w) × (third h ≡ Some y) × (fourth i ≡ Some z) × (make v w y z ≡ x)
 four_shown word first second third fourth make fields x some =
-    let tag = bind_some (tagged_by word 5 fields) (λ _. slice_get fields 1 >>= first >>= λ a. slice_get fields 2 >>= second >>= λ b. slice_get fields 3 >>= third >>= λ c. slice_get fields 4 >>= fourth >>= λ d. Some (make a b c d)) x some in
-    let rest = tag_shown word 4 fields tag.1 in
-    let one = split_of rest.0 3 rest.2 in
-    let two = split_of one.1 2 one.3 in
-    let three = split_of two.1 1 two.3 in
-    let four = split_of three.1 0 three.3 in
-    let none = none_of four.1 four.3 in
-    let is : fields ≡ word ∷ one.0 ∷ two.0 ∷ three.0 ∷ four.0 ∷ [] =
-    rest.1 ∙ ap (λ fs. word ∷ fs) (one.2 ∙ ap (λ fs. one.0 ∷ fs) (two.2 ∙ ap (λ fs. two.0 ∷ fs) (three.2 ∙ ap (λ fs. three.0 ∷ fs) (four.2 ∙ ap (λ fs. four.0 ∷ fs) none)))) in
-    let v = field_shown fields 1 one.0 first (λ a. slice_get fields 2 >>= second >>= λ b. slice_get fields 3 >>= third >>= λ c. slice_get fields 4 >>= fourth >>= λ d. Some (make a b c d)) x (ap (λ fs. slice_get fs 1) is) tag.2 in
-    let w = field_shown fields 2 two.0 second (λ b. slice_get fields 3 >>= third >>= λ c. slice_get fields 4 >>= fourth >>= λ d. Some (make v.0 b c d)) x (ap (λ fs. slice_get fs 2) is) v.2 in
-    let y = field_shown fields 3 three.0 third (λ c. slice_get fields 4 >>= fourth >>= λ d. Some (make v.0 w.0 c d)) x (ap (λ fs. slice_get fs 3) is) w.2 in
-    let z = field_shown fields 4 four.0 fourth (λ d. Some (make v.0 w.0 y.0 d)) x (ap (λ fs. slice_get fs 4) is) y.2 in
-    (one.0, two.0, three.0, four.0, v.0, w.0, y.0, z.0, is, v.1, w.1, y.1, z.1, some_same (make v.0 w.0 y.0 z.0) x z.2)
+    let read = bind_some (behind_word word fields >>= four_of) (λ fields. first fields.0 >>= λ a. second fields.1 >>= λ b. third fields.2 >>= λ c. fourth fields.3 >>= λ d. Some (make a b c d)) x some in
+    let v = bind_some (first read.0.0) (λ a. second read.0.1 >>= λ b. third read.0.2 >>= λ c. fourth read.0.3 >>= λ d. Some (make a b c d)) x read.2 in
+    let w = bind_some (second read.0.1) (λ b. third read.0.2 >>= λ c. fourth read.0.3 >>= λ d. Some (make v.0 b c d)) x v.2 in
+    let y = bind_some (third read.0.2) (λ c. fourth read.0.3 >>= λ d. Some (make v.0 w.0 c d)) x w.2 in
+    let z = bind_some (fourth read.0.3) (λ d. Some (make v.0 w.0 y.0 d)) x y.2 in
+    (read.0.0, read.0.1, read.0.2, read.0.3, v.0, w.0, y.0, z.0, behind_of word fields four_of (λ f. f.0 ∷ f.1 ∷ f.2 ∷ f.3 ∷ []) read.0 four_of_shown read.1, v.1, w.1, y.1, z.1, some_same (make v.0 w.0 y.0 z.0) x z.2)
 
 -- a line of a word and four fields
 pub four_line : {A B C D X : Type 0} {m n o p : ℕ} {IsA : A → Type 0} {IsB : B → Type 0} {IsC : C → Type 0} {IsD : D → Type 0}

@@ -1,7 +1,9 @@
 -- A form of file, said three ways that agree: the text of a value, what is read, and the first line
 -- that isn't as its place demands.
-use Rattle.std.specs.Prelude.{◌≡◌, ℕ, ◌+◌, ◌≤◌, ◌==◌, ◌&&◌, nat_lt, zero, suc, Bool, true, if◌then◌else◌, List, [], ◌∷◌, ◌++◌, length, Option, Some, None, Result, Ok, Err}
+use Rattle.std.specs.Prelude.{◌≡◌, ◌↔◌, ℕ, ◌+◌, ◌≤◌, ◌==◌, ◌&&◌, ◌<◌, slice_index_or, nat_lt, zero, suc, Bool, true, if◌then◌else◌, List, [], ◌∷◌, ◌++◌, length, Option, Some, None, Result, Ok, Err}
 use Rattle.std.specs.List.{list_all, slice_split, join_with_byte}
+use Rattle.vk_lines.specs.declared.errors.ReadErr.{ReadErr}
+use Rattle.vk_lines.specs.declared.errors.ReadErr.TheVariants.{Malformed, Failed, NoMemory}
 use Rattle.vk_lines.specs.Lines.{Rest, ◌>>=◌}
 
 -- ---- the text of a value, and what is read
@@ -60,6 +62,15 @@ abbrev pub EachAfter : {X : Type 0} → (List X → X → Type 0) → List X →
 EachAfter IsValue before [] = Unit {0}
 EachAfter IsValue before (x ∷ xs) = IsValue before x × EachAfter IsValue (before ++ x ∷ []) xs
 
+-- the texts of values that are numbered on from that number
+abbrev pub numbered_text : {X : Type 0} → (ℕ → X → List ℕ) → ℕ → List X → List ℕ
+numbered_text text number [] = []
+numbered_text text number (x ∷ xs) = text number x ++ numbered_text text (number + 1) xs
+
+-- each value is right by its number, counted from 0
+abbrev pub EachNumbered : {X : Type 0} → (ℕ → X → Type 0) → List X → Type 0
+EachNumbered {X} IsValue xs = (k : ℕ) (x : X) → k < length xs → IsValue k (slice_index_or xs k x)
+
 -- a whole file: it is read from its first line to its end
 abbrev pub whole : {X : Type 0} → (Rest → Result (X × Rest) ℕ) → List ℕ → Result (X × Rest) ℕ
 whole read bytes = read (record { taken = 0; left = bytes })
@@ -106,3 +117,15 @@ pub record Follows {Place X : Type 0} (table : Table Place) (place : Place) (rea
 pub record Ends {Place X : Type 0} (table : Table Place) (place : Place) (read : Rest → Result (X × Rest) ℕ) : Type 0 where
   pub ok : (rest : Rest) (x : X) (more : Rest) → read rest ≡ Ok (x, more) → fault_at table place rest ≡ None
   pub err : (rest : Rest) (number : ℕ) → read rest ≡ Err number → fault_at table place rest ≡ Some number
+
+-- a form by its texts and its table, which agree: a file has no fault line exactly where it is the text of a value
+abbrev pub FaultsAllButTexts : {Place X : Type 0} → (X → Type 0) → (X → List ℕ) → Table Place → Type 0
+FaultsAllButTexts {X = X} IsValue text table = (bytes : List ℕ) → (fault_line table bytes ≡ None) ↔ ((x : X) × IsValue x × (bytes ≡ text x))
+
+-- what a reader of a whole file answers, by the texts and the table alone: the value whose text the file is,
+-- or the file's fault line. After a failure of the outside or want of memory nothing is said
+abbrev pub Answers : {Place T X : Type 0} → (X → Type 0) → (X → List ℕ) → Table Place → (T → X) → List ℕ → Result T ReadErr → Type 0
+Answers IsValue text table value bytes (Ok x) = IsValue (value x) × (bytes ≡ text (value x))
+Answers IsValue text table value bytes (Err (Malformed line)) = fault_line table bytes ≡ Some line
+Answers IsValue text table value bytes (Err Failed) = Unit {0}
+Answers IsValue text table value bytes (Err NoMemory) = Unit {0}

@@ -1,5 +1,5 @@
 -- Files as lines: what is left of a file, its next line, and how a form is read line by line.
-use Rattle.std.specs.Prelude.{◌≡◌, ◌≢◌, ℕ, ◌+◌, ◌-◌, ◌^◌, ◌==◌, ◌<◌, ◌≤◌, nat_lt, min, if◌then◌else◌, List, length, take, drop, Option, Some, None, Result, Ok, Err, codes, IsSome, ◌++◌}
+use Rattle.std.specs.Prelude.{◌≡◌, ◌≢◌, ℕ, ◌+◌, ◌-◌, ◌^◌, ◌==◌, ◌<◌, ◌≤◌, nat_lt, min, if◌then◌else◌, List, [], length, unwrap_or, take, drop, Option, Some, None, Result, Ok, Err, codes, IsSome, ◌++◌}
 use Rattle.std.specs.List.{position_or_len}
 use Rattle.std.specs.FinMap.{get}
 use Rattle.vk_io.specs.Files.{Files, bytes_of, part_of}
@@ -60,48 +60,53 @@ pub record LinesValue : Type 0 where
 abbrev pub unread : LinesValue → ℕ
 unread lines = lines.at + length lines.ahead
 
--- the bytes of the file that were not yet read
-abbrev pub unread_of : LinesValue → Files → List ℕ
-unread_of lines files = part_of (bytes_of files lines.name) (unread lines) (lines.size - unread lines)
+-- the bytes of its file that a reader has not yet read, by what the file holds
+abbrev pub unread_in : LinesValue → List ℕ → List ℕ
+unread_in lines bytes = part_of bytes (unread lines) (lines.size - unread lines)
 
--- what is left of the file for a reader
+-- what is left for a reader of a file that holds these bytes
+unfoldable pub rest_in : LinesValue → List ℕ → Rest
+rest_in lines bytes = record { taken = lines.taken; left = lines.ahead ++ unread_in lines bytes }
+
+-- what is left for a reader: of all files, the one of its name counts alone
 unfoldable pub rest_of : LinesValue → Files → Rest
-rest_of lines files = record { taken = lines.taken; left = lines.ahead ++ unread_of lines files }
+rest_of lines files = rest_in lines (bytes_of files lines.name)
+
+-- a reader stays with its file: the name and the length that was told
+pub record KeepsFile (old new : LinesValue) : Type 0 where
+  pub name : new.name ≡ old.name
+  pub size : new.size ≡ old.size
+
+-- a reader of the named file that has taken no line, and shows none
+pub record IsBefore (given : List ℕ) (lines : LinesValue) : Type 0 where
+  pub name : lines.name ≡ given
+  pub taken : lines.taken ≡ 0
+  pub text : lines.text ≡ []
 
 -- a reader starts before the first line of a file that is held and has at most 2^30 bytes
+pub record StartsIn (files : Files) (name : List ℕ) (lines : LinesValue) : Type 0 where
+  pub held : IsSome (get files name)
+  pub small : length (bytes_of files name) ≤ 2 ^ 30
+  pub size : lines.size ≡ length (bytes_of files name)
+  pub rest : rest_of lines files ≡ record { taken = 0; left = bytes_of files name }
+
+-- it is made where that is so, and refused where the file isn't held or has more bytes
 abbrev pub Starts : Files → List ℕ → Result LinesValue StartErr → Type 0
-Starts files name (Ok lines) = IsSome (get files name) × (length (bytes_of files name) ≤ 2 ^ 30) × (rest_of lines files ≡ record { taken = 0; left = bytes_of files name })
+Starts files name (Ok lines) = StartsIn files name lines
 Starts files name (Err Missing) = get files name ≡ None
 Starts files name (Err TooLong) = IsSome (get files name) × (2 ^ 30 < length (bytes_of files name))
 Starts files name (Err refused.Failed) = Unit {0}
 Starts files name (Err refused.NoMemory) = Unit {0}
 
--- how many bytes are to be read before the next line is looked for: none where 256 are ahead
-abbrev pub room_of : LinesValue → ℕ
-room_of lines = if nat_lt (length lines.ahead) 256 then min 3840 (lines.size - unread lines) else 0
+-- why a file of this length isn't read as lines, if it isn't
+abbrev pub refusal_of : Option ℕ → Option StartErr
+refusal_of None = Some Missing
+refusal_of (Some size) = if nat_lt (2 ^ 30) size then Some TooLong else None
 
--- a reader that has read so many bytes more
-abbrev pub with_piece : List ℕ → LinesValue → LinesValue
-with_piece piece lines = record lines { ahead = lines.ahead ++ piece }
-
--- nothing but what is ahead has changed, and what is left is the same; the bytes ahead show what stands next
-pub record HasLooked (old new : LinesValue) (files : Files) : Type 0 where
-  pub rest : rest_of new files ≡ rest_of old files
-  pub taken : new.taken ≡ old.taken
-  pub text : new.text ≡ old.text
-  pub near : take 256 (rest_of new files).left ≡ take 256 new.ahead
-
--- a reader after this step among the bytes ahead
-abbrev pub after_step : Step → LinesValue → LinesValue
-after_step Text lines = record lines {
-  at = lines.at + (feed_at lines.ahead + 1);
-  taken = lines.taken + 1;
-  ahead = drop (feed_at lines.ahead + 1) lines.ahead;
-  text = take (feed_at lines.ahead) lines.ahead;
-}
-after_step End lines = lines
-after_step Long lines = lines
-after_step Cut lines = lines
+-- a reader of a file of this length is made or refused so; only one that could be made is refused for want of memory
+abbrev pub IsBegun : Option ℕ → Result LinesValue StartErr → Type 0
+IsBegun told (Ok lines) = refusal_of told ≡ None
+IsBegun told (Err refusal) = refusal ≡ unwrap_or (refusal_of told) refused.NoMemory
 
 -- the line that a reader took, with what is left after it; or the number of the line that isn't there
 abbrev pub line_taken : Step → LinesValue → LinesValue → Files → Result (List ℕ × Rest) ℕ
@@ -153,6 +158,13 @@ ended End rest = Ok (tt, rest)
 ended Text rest = Err (rest.taken + 1)
 ended Long rest = Err (rest.taken + 1)
 ended Cut rest = Err (rest.taken + 1)
+
+-- what is answered where a line is to stand next
+abbrev pub line_answer : Step → ℕ → Result Unit ReadErr
+line_answer Text before = Ok tt
+line_answer End before = Err (Malformed (before + 1))
+line_answer Long before = Err (Malformed (before + 1))
+line_answer Cut before = Err (Malformed (before + 1))
 
 -- what is answered where the end is to stand next
 abbrev pub end_answer : Step → ℕ → Result Unit ReadErr

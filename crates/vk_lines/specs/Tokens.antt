@@ -1,5 +1,5 @@
 -- The pieces of a line: numbers, bytes in hexadecimal, and the fields between spaces.
-use Rattle.std.specs.Prelude.{◌≡◌, ◌≤◌, ◌↔◌, ℕ, ◌+◌, ◌-◌, ◌*◌, ◌==◌, ◌&&◌, ◌||◌, nat_le, nat_lt, Bool, if◌then◌else◌, List, length, slice_index, decimal, not, Option, Some, None, slice_get}
+use Rattle.std.specs.Prelude.{◌≡◌, ◌≤◌, ◌↔◌, ℕ, ◌+◌, ◌-◌, ◌*◌, ◌==◌, ◌&&◌, ◌||◌, nat_le, nat_lt, Bool, if◌then◌else◌, List, [], ◌∷◌, length, slice_index, decimal, not, Option, Some, None}
 use Rattle.std.specs.List.{list_all, slice_split}
 use Rattle.std.specs.Str.{all_ascii_digits, bytes_eq}
 use Rattle.std.specs.Char.{is_ascii_digit}
@@ -44,6 +44,10 @@ hex_text bytes = encode_lower bytes
 abbrev pub is_lower_digit : ℕ → Bool
 is_lower_digit byte = (nat_le 48 byte && nat_le byte 57) || (nat_le 97 byte && nat_le byte 102)
 
+-- the value of such a digit, and 255 for any other byte
+abbrev pub digit_value : ℕ → ℕ
+digit_value byte = if nat_le 48 byte && nat_le byte 57 then byte - 48 else if nat_le 97 byte && nat_le byte 102 then byte - 87 else 255
+
 -- the `count` bytes whose text in lower-case hexadecimal a text is
 unfoldable pub hex_of : ℕ → List ℕ → Option (List ℕ)
 hex_of count text = if list_all is_lower_digit text then result_ok (decode_sized text count) else None
@@ -64,34 +68,49 @@ Some x >>= f = f x
 abbrev pub word_of : List ℕ → List ℕ → Option Unit
 word_of word text = if bytes_eq text word then Some tt else None
 
--- the field of that index, from 0
-abbrev pub field_of : List ℕ → ℕ → Option (List ℕ)
-field_of text index = slice_get (fields_of text) index
-
--- whether there are so many fields, of which the first is this word
-abbrev pub tagged_by : List ℕ → ℕ → List (List ℕ) → Option Unit
-tagged_by word count fields = if length fields == count then slice_get fields 0 >>= word_of word else None
-
--- whether a text has so many fields, of which the first is this word
-abbrev pub tagged : List ℕ → ℕ → List ℕ → Option Unit
-tagged word count text = tagged_by word count (fields_of text)
-
 -- a value that meets a test
 abbrev pub meets : {X : Type 0} → (X → Bool) → X → Option X
 meets test x = if test x then Some x else None
 
+-- a field, and those of the text behind it, where there is one
+abbrev pub with_fields : List ℕ → Option (List ℕ) → List (List ℕ)
+with_fields field None = field ∷ []
+with_fields field (Some text) = field ∷ fields_of text
+
+-- the fields behind the first, where that is this word and there are more
+abbrev pub behind_word : List ℕ → List (List ℕ) → Option (List (List ℕ))
+behind_word word (tag ∷ field ∷ more) = word_of word tag >>= λ _. Some (field ∷ more)
+behind_word word fields = None
+
+-- the fields where there is one, where there are two, and so on
+abbrev pub one_of : List (List ℕ) → Option (List ℕ)
+one_of (a ∷ []) = Some a
+one_of fields = None
+
+abbrev pub two_of : List (List ℕ) → Option (List ℕ × List ℕ)
+two_of (a ∷ rest) = one_of rest >>= λ b. Some (a, b)
+two_of [] = None
+
+abbrev pub three_of : List (List ℕ) → Option (List ℕ × List ℕ × List ℕ)
+three_of (a ∷ rest) = two_of rest >>= λ fields. Some (a, fields.0, fields.1)
+three_of [] = None
+
+abbrev pub four_of : List (List ℕ) → Option (List ℕ × List ℕ × List ℕ × List ℕ)
+four_of (a ∷ rest) = three_of rest >>= λ fields. Some (a, fields.0, fields.1, fields.2)
+four_of [] = None
+
 -- a line of a word and one field, a word and two, and so on, each field read by itself
 abbrev pub one_by : {X : Type 0} → List ℕ → (List ℕ → Option X) → List (List ℕ) → Option X
-one_by word parse fields = tagged_by word 2 fields >>= λ _. slice_get fields 1 >>= parse
+one_by word parse fields = behind_word word fields >>= one_of >>= parse
 
 abbrev pub one_field : {X : Type 0} → List ℕ → (List ℕ → Option X) → List ℕ → Option X
 one_field word parse text = one_by word parse (fields_of text)
 
 abbrev pub two_by : {A B X : Type 0} → List ℕ → (List ℕ → Option A) → (List ℕ → Option B) → (A → B → X) → List (List ℕ) → Option X
 two_by word first second make fields =
-    tagged_by word 3 fields >>= λ _.
-    slice_get fields 1 >>= first >>= λ a.
-    slice_get fields 2 >>= second >>= λ b.
+    behind_word word fields >>= two_of >>= λ fields.
+    first fields.0 >>= λ a.
+    second fields.1 >>= λ b.
     Some (make a b)
 
 abbrev pub two_fields : {A B X : Type 0} → List ℕ → (List ℕ → Option A) → (List ℕ → Option B) → (A → B → X) → List ℕ → Option X
@@ -99,10 +118,10 @@ two_fields word first second make text = two_by word first second make (fields_o
 
 abbrev pub three_by : {A B C X : Type 0} → List ℕ → (List ℕ → Option A) → (List ℕ → Option B) → (List ℕ → Option C) → (A → B → C → X) → List (List ℕ) → Option X
 three_by word first second third make fields =
-    tagged_by word 4 fields >>= λ _.
-    slice_get fields 1 >>= first >>= λ a.
-    slice_get fields 2 >>= second >>= λ b.
-    slice_get fields 3 >>= third >>= λ c.
+    behind_word word fields >>= three_of >>= λ fields.
+    first fields.0 >>= λ a.
+    second fields.1 >>= λ b.
+    third fields.2 >>= λ c.
     Some (make a b c)
 
 abbrev pub three_fields : {A B C X : Type 0} → List ℕ → (List ℕ → Option A) → (List ℕ → Option B) → (List ℕ → Option C) → (A → B → C → X) → List ℕ → Option X
@@ -110,11 +129,11 @@ three_fields word first second third make text = three_by word first second thir
 
 abbrev pub four_by : {A B C D X : Type 0} → List ℕ → (List ℕ → Option A) → (List ℕ → Option B) → (List ℕ → Option C) → (List ℕ → Option D) → (A → B → C → D → X) → List (List ℕ) → Option X
 four_by word first second third fourth make fields =
-    tagged_by word 5 fields >>= λ _.
-    slice_get fields 1 >>= first >>= λ a.
-    slice_get fields 2 >>= second >>= λ b.
-    slice_get fields 3 >>= third >>= λ c.
-    slice_get fields 4 >>= fourth >>= λ d.
+    behind_word word fields >>= four_of >>= λ fields.
+    first fields.0 >>= λ a.
+    second fields.1 >>= λ b.
+    third fields.2 >>= λ c.
+    fourth fields.3 >>= λ d.
     Some (make a b c d)
 
 abbrev pub four_fields : {A B C D X : Type 0} → List ℕ → (List ℕ → Option A) → (List ℕ → Option B) → (List ℕ → Option C) → (List ℕ → Option D) → (A → B → C → D → X) → List ℕ → Option X

@@ -4,7 +4,8 @@ ghost use Rattle.std.specs.Prelude.{◌≡◌, ◌++◌, ◌∷◌, [], decimal,
 ghost use Rattle.vk_lines.specs.Tokens.{hex_text};
 ghost use Rattle.vk_lines.specs.Forms.{line, spaced};
 
-use crate::tokens::{push_decimal, push_hex};
+use crate::digits::push_hex;
+use crate::tokens::push_decimal;
 use vk_residue::NoMemory;
 
 /// Appends a text as a line.

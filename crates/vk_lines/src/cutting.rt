@@ -1,0 +1,95 @@
+//! The fields of a line, which stand between single spaces.
+
+ghost use Rattle.std.specs.Prelude.{◌≡◌, ◌==◌, ◌<◌, length, slice_get, option_map, IfSome};
+ghost use Rattle.std.specs.List.{position};
+ghost use Rattle.vk_lines.specs.Tokens.{fields_of, with_fields, word_of, behind_word, one_of, two_of, three_of, four_of};
+
+/// The field of that index, from 0, which may be empty; `None` where the line has fewer fields.
+pub fn field(text: &[u8], index: usize) -> Option<&[u8]>
+    ensures { option_map (λ x. x.now) result ≡ slice_get (fields_of text.now) index }
+{
+    text.split(|byte| *byte == b' ').nth(index)
+}
+
+/// Whether the text is this word.
+pub fn read_word(text: &[u8], word: &[u8]) -> Option<()>
+    ensures { result ≡ word_of word.now text.now }
+{
+    if text == word { Some(()) } else { None }
+}
+
+/// The first field, and the text behind the space after it, where there is one.
+fn cut(text: &[u8]) -> (&[u8], Option<&[u8]>)
+    ensures { fields_of text.now ≡ with_fields result.0.now (option_map (λ x. x.now) result.1) }
+{
+    match first_space(text) {
+        Some(at) => (&text[..at], Some(&text[at + 1..])),
+        None => (text, None),
+    }
+}
+
+/// Where the first space stands.
+fn first_space(text: &[u8]) -> Option<usize>
+    ensures place { result ≡ position (λ byte. byte == 32) text.now }
+    ensures within { IfSome result (λ at. at < length text.now) }
+{
+    let at = space_place(text);
+    at
+}
+
+/// The same, by its value alone.
+fn space_place(text: &[u8]) -> Option<usize>
+    ensures { result ≡ position (λ byte. byte == 32) text.now }
+{
+    text.iter().position(|byte| *byte == b' ')
+}
+
+/// The text behind this word and a space, where it begins so. No byte of that text is looked at.
+#[tactic(auto, using(crate::proofs::Words::behind_word_more))]
+pub fn behind_word<'a>(text: &'a [u8], word: &[u8]) -> Option<&'a [u8]>
+    ensures { option_map (λ x. fields_of x.now) result ≡ behind_word word.now (fields_of text.now) }
+{
+    let (first, rest) = cut(text);
+    let rest = rest?;
+    read_word(first, word)?;
+    Some(rest)
+}
+
+/// The field of a text that has one.
+#[tactic(auto, using(crate::proofs::Words::one_of_more))]
+pub fn one_field(text: &[u8]) -> Option<&[u8]>
+    ensures { option_map (λ x. x.now) result ≡ one_of (fields_of text.now) }
+{
+    let (first, rest) = cut(text);
+    match rest {
+        Some(_) => None,
+        None => Some(first),
+    }
+}
+
+/// The fields of a text that has two.
+pub fn two_fields(text: &[u8]) -> Option<(&[u8], &[u8])>
+    ensures { option_map (λ x. (x.0.now, x.1.now)) result ≡ two_of (fields_of text.now) }
+{
+    let (first, rest) = cut(text);
+    let second = one_field(rest?)?;
+    Some((first, second))
+}
+
+/// The fields of a text that has three.
+pub fn three_fields(text: &[u8]) -> Option<(&[u8], &[u8], &[u8])>
+    ensures { option_map (λ x. (x.0.now, x.1.now, x.2.now)) result ≡ three_of (fields_of text.now) }
+{
+    let (first, rest) = cut(text);
+    let (second, third) = two_fields(rest?)?;
+    Some((first, second, third))
+}
+
+/// The fields of a text that has four.
+pub fn four_fields(text: &[u8]) -> Option<(&[u8], &[u8], &[u8], &[u8])>
+    ensures { option_map (λ x. (x.0.now, x.1.now, x.2.now, x.3.now)) result ≡ four_of (fields_of text.now) }
+{
+    let (first, rest) = cut(text);
+    let (second, third, fourth) = three_fields(rest?)?;
+    Some((first, second, third, fourth))
+}
