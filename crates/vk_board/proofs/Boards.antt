@@ -1,72 +1,25 @@
 -- Boards are read from their texts alone.
-use Rattle.std.proofs.Common.{◌≡◌, ℕ, zero, suc, ◌+◌, ◌≤◌, List, [], ◌∷◌, ◌++◌, length, codes, flat_map, Result, Ok, refl, ap, sym, ◌∙◌, arith, append_assoc, append-nil, length-append, subst}
+use Rattle.std.proofs.Common.{◌≡◌, ℕ, ◌≤◌, List, ◌++◌, length, codes, flat_map, Result, Ok, refl, ap}
 use Rattle.std.specs.List.{AllByRecursion}
 use Rattle.vk_lines.specs.Lines.{Rest, ◌>>=◌, end_at}
-use Rattle.vk_lines.specs.Forms.{line, IsPart, IsWhole, many_onto}
-use Rattle.vk_lines.proofs.Parts.{bind_ok, ok_same, whole_then, whole_end, whole_same}
+use Rattle.vk_lines.specs.Forms.{line, IsPart, IsWhole}
+use Rattle.vk_lines.proofs.Parts.{whole_then, whole_end, whole_same}
+use Rattle.vk_lines.proofs.Numbered.{numbered_all}
 use Rattle.vk_board.specs.declared.board.Head.{Head}
 use Rattle.vk_board.specs.declared.board.SealLines.{SealLines}
 use Rattle.vk_board.specs.declared.board.LaneLines.{LaneLines}
 use Rattle.vk_board.specs.Values.{IsHead, AreSeals, IsLaneLines, IsBoard, Board, Shape}
-use Rattle.vk_board.specs.Texts.{seal_lines_text, lane_text, lanes_text, board_text}
-use Rattle.vk_board.specs.Reading.{seals_at, lane_at, lanes_at, board_at}
+use Rattle.vk_board.specs.Texts.{seal_lines_text, lanes_text, board_text}
+use Rattle.vk_board.specs.Reading.{seals_at, lanes_at, board_at}
 use Rattle.vk_board.proofs.Forms.{head_is_part, seals_are_part, lane_is_part}
 
--- ---- lanes one after another, numbered by how many there were before
+-- ---- the lanes of a board with this head
 
-abbrev next_lane : ℕ → ℕ → List LaneLines → Rest → Result (LaneLines × Rest) ℕ
-next_lane wires rows before rest = lane_at (length before + 1) wires rows rest
-
--- the number after a lane
-number_after : (before : List LaneLines) (x : LaneLines) → length before + 1 + 1 ≡ length (before ++ x ∷ []) + 1
-number_after before x = omega (arith, length-append before (x ∷ []))
-
-lanes_found : (wires rows : ℕ) (before xs : List LaneLines) (rest : Rest) (more : List ℕ) → length before + length xs ≤ 64 → AllByRecursion (IsLaneLines wires rows) xs → rest.left ≡ lanes_text (length before + 1) xs ++ more
-    → (taken : ℕ) × (many_onto before (length xs) (next_lane wires rows) rest ≡ Ok (before ++ xs, record { taken = taken; left = more }))
-unfolding many_onto
-lanes_found wires rows before [] rest more few all left = (rest.taken, rw (append-nil before, ← left) refl)
-lanes_found wires rows before (x ∷ xs) rest more few all left =
-    let lane : ℕ = length before + 1 in
-    let first = (lane_is_part lane wires rows (omega arith)).found rest x (lanes_text (lane + 1) xs ++ more) all.0 (left ∙ append_assoc (lane_text lane x) (lanes_text (lane + 1) xs) more) in
-    let next = lanes_found wires rows (before ++ x ∷ []) xs (record { taken = first.0; left = lanes_text (lane + 1) xs ++ more }) more (omega (arith, length-append before (x ∷ []))) all.1 (ap (λ n. lanes_text n xs ++ more) (number_after before x)) in
-    (next.0, ap (λ r. r >>= λ p. many_onto (before ++ p.0 ∷ []) (length xs) (next_lane wires rows) p.1) first.1 ∙ next.1 ∙ ap (λ ys. Ok (ys, record { taken = next.0; left = more })) (append_assoc before (x ∷ []) xs))
-
-lanes_shown : (wires rows : ℕ) (before : List LaneLines) (count : ℕ) (rest : Rest) (ys : List LaneLines) (after : Rest) → length before + count ≤ 64 → many_onto before count (next_lane wires rows) rest ≡ Ok (ys, after)
-    → (xs : List LaneLines) × (ys ≡ before ++ xs) × (length xs ≡ count) × AllByRecursion (IsLaneLines wires rows) xs × (rest.left ≡ lanes_text (length before + 1) xs ++ after.left)
-unfolding many_onto
-lanes_shown wires rows before zero rest ys after few some =
-    let pair = ok_same (before, rest) (ys, after) some in
-    ([], sym (ap (λ p. p.0) pair) ∙ sym (append-nil before), refl, tt, ap (λ p. p.1.left) pair)
-lanes_shown wires rows before (suc count) rest ys after few some =
-    let lane : ℕ = length before + 1 in
-    let first = bind_ok (next_lane wires rows before rest) (λ p. many_onto (before ++ p.0 ∷ []) count (next_lane wires rows) p.1) (ys, after) some in
-    let is = (lane_is_part lane wires rows (omega arith)).shown rest first.0.0 first.0.1 first.1 in
-    let next = lanes_shown wires rows (before ++ first.0.0 ∷ []) count first.0.1 ys after (omega (arith, length-append before (first.0.0 ∷ []))) first.2 in
-    let left : first.0.1.left ≡ lanes_text (lane + 1) next.0 ++ after.left = next.4 ∙ ap (λ n. lanes_text n next.0 ++ after.left) (sym (number_after before first.0.0)) in (
-      first.0.0 ∷ next.0,
-      next.1 ∙ append_assoc before (first.0.0 ∷ []) next.0,
-      ap suc next.2,
-      (is.0, next.3),
-      is.1 ∙ ap (λ more. lane_text lane first.0.0 ++ more) left ∙ sym (append_assoc (lane_text lane first.0.0) (lanes_text (lane + 1) next.0) after.left),
-    )
-
--- the lanes of a board with this head
 abbrev AreLanes : (Head → Shape) → Head → List LaneLines → Type 0
 AreLanes shape head lanes = (length lanes ≡ head.lanes) × AllByRecursion (IsLaneLines (shape head).wires (shape head).rows) lanes
 
 lanes_part : (shape : Head → Shape) (head : Head) → head.lanes ≤ 64 → IsPart (AreLanes shape head) (lanes_text 1) (lanes_at shape head)
-lanes_part shape head few =
-    let wires : ℕ = (shape head).wires in
-    let rows : ℕ = (shape head).rows in
-    record {
-      found = λ rest xs more is left.
-          let all = lanes_found wires rows [] xs rest more (omega (arith, is.0)) is.1 left in
-          (all.0, ap (λ n. many_onto [] n (next_lane wires rows) rest) (sym is.0) ∙ all.1);
-      shown = λ rest xs after some.
-          let all = lanes_shown wires rows [] head.lanes rest xs after (omega arith) some in
-          let P : List LaneLines → Type 0 = λ ys. AreLanes shape head ys × (rest.left ≡ lanes_text 1 ys ++ after.left) in
-          subst P (sym all.1) ((all.2, all.3), all.4);
-    }
+lanes_part shape head few = numbered_all 64 head.lanes few (λ lane within. lane_is_part lane (shape head).wires (shape head).rows within)
 
 -- ---- a board and its text
 

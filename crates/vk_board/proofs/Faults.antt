@@ -14,10 +14,10 @@ use Rattle.vk_board.proofs.Seats.{seats_more}
 use Rattle.vk_board.proofs.Forms.{head_with, seal_with, lane_with}
 use Rattle.vk_board.proofs.Boards.{board_with}
 
-abbrev after_head : Head → Place
+abbrev pub after_head : Head → Place
 after_head head = seal_place head head.seals []
 
-head_follows : (shape : Head → Shape) → Follows (board_table shape) Heading head_at after_head
+pub head_follows : (shape : Head → Shape) → Follows (board_table shape) Heading head_at after_head
 unfolding head_at
 head_follows shape =
     let table : Table Place = board_table shape in
@@ -55,7 +55,7 @@ seal_follows shape head more before =
     follows_then table (input_place head more (seats ++ seat ∷ []) head.lanes) (inputs_follow shape head more (seats ++ seat ∷ []) head.lanes) (λ coms.
     seal_done shape head more before (seal_with seat coms)))
 
-seals_follow : (shape : Head → Shape) (head : Head) → Follows (board_table shape) (after_head head) (seals_at head) (λ _. lane_place head 1 head.lanes)
+pub seals_follow : (shape : Head → Shape) (head : Head) → Follows (board_table shape) (after_head head) (seals_at head) (λ _. lane_place head 1 head.lanes)
 seals_follow shape head =
     many_follows (board_table shape) (λ left before. seal_place head left (seats_of before)) (seal_at head.lanes) (λ left before. seal_follows shape head left before) head.seals []
 
@@ -100,7 +100,7 @@ lanes_follow shape head =
 
 -- ---- the board
 
-board_ends : (shape : Head → Shape) → Ends (board_table shape) Heading (board_at shape)
+pub board_ends : (shape : Head → Shape) → Ends (board_table shape) Heading (board_at shape)
 unfolding board_at
 board_ends shape =
     let table : Table Place = board_table shape in

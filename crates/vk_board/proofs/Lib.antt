@@ -3,3 +3,7 @@ pub mod Lines
 pub mod Forms
 pub mod Boards
 pub mod Faults
+pub mod Prices
+pub mod Winners
+pub mod Fronts
+pub mod FrontLaws

@@ -1,9 +1,8 @@
 -- Seats that no earlier seal has.
-use Rattle.std.proofs.Common.{◌≡◌, ◌≢◌, ℕ, ◌==◌, not, true, List, [], ◌∷◌, ◌++◌, refl, ap, sym, arith, append_assoc, append-nil, subst}
+use Rattle.std.proofs.Common.{◌≡◌, ◌≢◌, ℕ, ◌==◌, not, true, List, [], ◌∷◌, ◌++◌, refl, ap, arith}
 use Rattle.std.specs.List.{AllByRecursion}
 use Rattle.std.proofs.lemmas.Bool.{and_parts}
 use Rattle.std.proofs.lemmas.Bool.Decides.{nat_tests}
-use Rattle.vk_lines.specs.Forms.{EachAfter}
 use Rattle.vk_board.specs.declared.board.SealLines.{SealLines}
 use Rattle.vk_board.specs.Reading.{is_new_seat, seats_of}
 
@@ -28,12 +27,3 @@ new_to_test seat (earlier ∷ before) others = rw (other_to_test earlier.seat se
 pub seats_more : (before : List SealLines) (seal : SealLines) → seats_of (before ++ seal ∷ []) ≡ seats_of before ++ seal.seat ∷ []
 seats_more [] seal = refl
 seats_more (earlier ∷ before) seal = ap (λ seats. earlier.seat ∷ seats) (seats_more before seal)
-
--- one value more that is right after those before it
-pub each_push : {X : Type 0} (IsValue : List X → X → Type 0) (before xs : List X) (x : X) → EachAfter IsValue before xs → IsValue (before ++ xs) x → EachAfter IsValue before (xs ++ x ∷ [])
-each_push {X} IsValue before [] x each right =
-    let P : List X → Type 0 = λ ys. IsValue ys x in
-    (subst P (append-nil before) right, tt)
-each_push {X} IsValue before (y ∷ xs) x each right =
-    let P : List X → Type 0 = λ ys. IsValue ys x in
-    (each.0, each_push IsValue (before ++ y ∷ []) xs x each.1 (subst P (sym (append_assoc before (y ∷ []) xs)) right))

@@ -3,3 +3,6 @@ pub mod Texts
 pub mod Reading
 pub mod Tables
 pub mod Published
+pub mod Gives
+pub mod Fronts
+pub mod Causes

@@ -1,7 +1,7 @@
 -- The text of a board, part by part and line by line.
-use Rattle.std.specs.Prelude.{ℕ, ◌+◌, List, [], ◌∷◌, ◌++◌, codes, decimal}
+use Rattle.std.specs.Prelude.{ℕ, List, [], ◌∷◌, ◌++◌, codes, decimal}
 use Rattle.std.specs.List.{flat_map}
-use Rattle.vk_lines.specs.Forms.{line, spaced}
+use Rattle.vk_lines.specs.Forms.{line, spaced, numbered_text}
 use Rattle.vk_lines.specs.Tokens.{hex_text}
 use Rattle.vk_wire.specs.declared.wire.WireCom.{WireCom}
 use Rattle.vk_board.specs.declared.board.Head.{Head}
@@ -41,8 +41,7 @@ lane_text lane lines =
 
 -- of lanes one after another, of which the first has that number
 abbrev pub lanes_text : ℕ → List LaneLines → List ℕ
-lanes_text lane [] = []
-lanes_text lane (lines ∷ more) = lane_text lane lines ++ lanes_text (lane + 1) more
+lanes_text lane lanes = numbered_text lane_text lane lanes
 
 unfoldable pub board_text : Board → List ℕ
 board_text board =

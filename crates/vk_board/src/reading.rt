@@ -1,11 +1,11 @@
-ghost use Rattle.std.specs.Prelude.{length, true, ◌≡◌, ◌≤◌, ◌-◌, IfSome, IfOk, IsErrOf};
+ghost use Rattle.std.specs.Prelude.{length, true, ◌≡◌, ◌≤◌, ◌-◌, IfSome, IfOk};
 ghost use Rattle.std.specs.List.{All};
-ghost use Rattle.vk_io.specs.Faults.{Rose};
+ghost use Rattle.vk_io.specs.Reads.{OnlyReads};
 ghost use Rattle.vk_commit.specs.Values.{AreBytes};
 ghost use Rattle.vk_wire.specs.Values.{IsCom};
 ghost use Rattle.vk_residue.specs.Residue.{IsResidue};
 ghost use Rattle.vk_lines.specs.Forms.{many_at};
-ghost use Rattle.vk_lines.specs.Lines.{Reads, line_by, rest_of};
+ghost use Rattle.vk_lines.specs.Lines.{KeepsFile, Reads, line_by, rest_of};
 ghost use Rattle.vk_lines.specs.declared.errors.ReadErr.TheVariants.{Failed};
 ghost use Rattle.vk_board.specs.Values.{IsHead, IsSealAfter, AreSeals, IsLaneLines};
 ghost use Rattle.vk_board.specs.Reading.{com_line, posted_line, seats_of, is_new_seat, seat_line, head_at, seal_at, seals_at, lane_at};
@@ -13,7 +13,10 @@ ghost use Rattle.vk_board.specs.Reading.{com_line, posted_line, seats_of, is_new
 use crate::board::{Head, LaneLines, SealLines};
 use std::alloc::Global;
 use vk_io::Shelf;
-use vk_lines::{Lines, ReadErr, field, read_decimal, read_digests, read_residue, read_tag};
+use vk_lines::{
+    LineKind, Lines, ReadErr, behind_word, one_field, read_decimal, read_digests, read_many,
+    read_residue,
+};
 use vk_residue::Residue;
 use vk_seq::Seq;
 use vk_wire::WireCom;
@@ -25,9 +28,8 @@ pub fn read_head<S: Shelf>(shelf: &mut S, lines: &mut Lines) -> Result<Head, Rea
     ensures told { IfSome (S.held shelf.old) (λ files.
         Reads (λ x. x) result (rest_of lines.new files) (head_at (rest_of lines.old files))) }
     ensures right { IfOk result IsHead }
-    ensures held { S.held shelf.new ≡ S.held shelf.old }
-    ensures later { S.Shelf.faults shelf.old ≤ S.Shelf.faults shelf.new }
-    ensures failed { IsErrOf result ReadErr.Failed → Rose (S.Shelf.faults shelf.old) (S.Shelf.faults shelf.new) }
+    ensures file { KeepsFile lines.old lines.new }
+    ensures shelf { OnlyReads S.held S.Shelf.faults ReadErr.Failed result shelf.old shelf.new }
 {
     lines.read_fixed(shelf, b"vickrey-board 1")?;
     let auction = lines.read_id(shelf, b"auction")?;
@@ -77,9 +79,8 @@ pub fn read_seals<S: Shelf>(
     ensures told { IfSome (S.held shelf.old) (λ files.
         Reads (λ x. x) result (rest_of lines.new files) (seals_at head.now (rest_of lines.old files))) }
     ensures right { IfOk result (AreSeals head.now) }
-    ensures held { S.held shelf.new ≡ S.held shelf.old }
-    ensures later { S.Shelf.faults shelf.old ≤ S.Shelf.faults shelf.new }
-    ensures failed { IsErrOf result ReadErr.Failed → Rose (S.Shelf.faults shelf.old) (S.Shelf.faults shelf.new) }
+    ensures file { KeepsFile lines.old lines.new }
+    ensures shelf { OnlyReads S.held S.Shelf.faults ReadErr.Failed result shelf.old shelf.new }
 {
     let mut seals = Seq::new(alloc);
     for index in 0..head.seals {
@@ -101,9 +102,8 @@ fn read_seal<S: Shelf>(
     ensures told { IfSome (S.held shelf.old) (λ files.
         Reads (λ x. x) result (rest_of lines.new files) (seal_at lanes before.now (rest_of lines.old files))) }
     ensures right { IfOk result (IsSealAfter lanes before.now) }
-    ensures held { S.held shelf.new ≡ S.held shelf.old }
-    ensures later { S.Shelf.faults shelf.old ≤ S.Shelf.faults shelf.new }
-    ensures failed { IsErrOf result ReadErr.Failed → Rose (S.Shelf.faults shelf.old) (S.Shelf.faults shelf.new) }
+    ensures file { KeepsFile lines.old lines.new }
+    ensures shelf { OnlyReads S.held S.Shelf.faults ReadErr.Failed result shelf.old shelf.new }
 {
     let seat = read_seat(shelf, lines, before)?;
     let coms = read_coms(alloc, shelf, lines, b"x", lanes)?;
@@ -133,9 +133,8 @@ fn read_seat<S: Shelf>(
         Reads (λ x. x) result (rest_of lines.new files) (line_by (seat_line (seats_of before.now)) (rest_of lines.old files))) }
     ensures some { IfOk result (λ seat. 1 ≤ seat) }
     ensures new { IfOk result (λ seat. is_new_seat (seats_of before.now) seat ≡ true) }
-    ensures held { S.held shelf.new ≡ S.held shelf.old }
-    ensures later { S.Shelf.faults shelf.old ≤ S.Shelf.faults shelf.new }
-    ensures failed { IsErrOf result ReadErr.Failed → Rose (S.Shelf.faults shelf.old) (S.Shelf.faults shelf.new) }
+    ensures file { KeepsFile lines.old lines.new }
+    ensures shelf { OnlyReads S.held S.Shelf.faults ReadErr.Failed result shelf.old shelf.new }
 {
     lines.read_text(shelf)?;
     let seat = lines.found(seat_of(lines.text(), before));
@@ -148,8 +147,8 @@ fn seat_of(text: &[u8], before: &Seq<SealLines>) -> Option<u16>
     ensures some { IfSome result (λ seat. 1 ≤ seat) }
     ensures new { IfSome result (λ seat. is_new_seat (seats_of before.now) seat ≡ true) }
 {
-    read_tag(text, b"seal", 2)?;
-    let seat = read_decimal(field(text, 1)?, 65535)?;
+    let field = one_field(behind_word(text, b"seal")?)?;
+    let seat = read_decimal(field, 65535)?;
     if seat < 1 {
         return None;
     }
@@ -188,9 +187,8 @@ pub fn read_lane<S: Shelf>(
     ensures told { IfSome (S.held shelf.old) (λ files.
         Reads (λ x. x) result (rest_of lines.new files) (lane_at lane wires rows (rest_of lines.old files))) }
     ensures right { IfOk result (IsLaneLines wires rows) }
-    ensures held { S.held shelf.new ≡ S.held shelf.old }
-    ensures later { S.Shelf.faults shelf.old ≤ S.Shelf.faults shelf.new }
-    ensures failed { IsErrOf result ReadErr.Failed → Rose (S.Shelf.faults shelf.old) (S.Shelf.faults shelf.new) }
+    ensures file { KeepsFile lines.old lines.new }
+    ensures shelf { OnlyReads S.held S.Shelf.faults ReadErr.Failed result shelf.old shelf.new }
 {
     lines.read_number(shelf, b"lane", u64::from(lane), u64::from(lane))?;
     let coms = read_coms(alloc, shelf, lines, b"w", wires)?;
@@ -222,31 +220,36 @@ fn read_coms<S: Shelf>(
         Reads (λ x. x) result (rest_of lines.new files) (many_at count (λ _. line_by (com_line word.now)) (rest_of lines.old files))) }
     ensures number { IfOk result (λ coms. length coms ≡ count) }
     ensures digests { IfOk result (All IsCom) }
-    ensures held { S.held shelf.new ≡ S.held shelf.old }
-    ensures later { S.Shelf.faults shelf.old ≤ S.Shelf.faults shelf.new }
-    ensures failed { IsErrOf result ReadErr.Failed → Rose (S.Shelf.faults shelf.old) (S.Shelf.faults shelf.new) }
+    ensures file { KeepsFile lines.old lines.new }
+    ensures shelf { OnlyReads S.held S.Shelf.faults ReadErr.Failed result shelf.old shelf.new }
 {
-    let mut coms = Seq::new(alloc);
-    for index in 0..count {
-        let com = read_com(shelf, lines, word)?;
-        coms.push(com)?;
-    }
+    let coms = read_many(alloc, shelf, lines, &ComLine { word }, count)?;
     Ok(coms)
 }
 
-/// Reads a line of this word and two commitments.
-#[tactic(auto, unfolding(vk_lines::specs::Lines::line_by))]
-fn read_com<S: Shelf>(shelf: &mut S, lines: &mut Lines, word: &[u8]) -> Result<WireCom, ReadErr>
-    ensures told { IfSome (S.held shelf.old) (λ files.
-        Reads (λ x. x) result (rest_of lines.new files) (line_by (com_line word.now) (rest_of lines.old files))) }
-    ensures digests { IfOk result IsCom }
-    ensures held { S.held shelf.new ≡ S.held shelf.old }
-    ensures later { S.Shelf.faults shelf.old ≤ S.Shelf.faults shelf.new }
-    ensures failed { IsErrOf result ReadErr.Failed → Rose (S.Shelf.faults shelf.old) (S.Shelf.faults shelf.new) }
-{
-    lines.read_text(shelf)?;
-    let com = lines.found(com_of(lines.text(), word));
-    com
+/// A line of this word and two commitments.
+#[derive(Drop)]
+struct ComLine<'a> {
+    word: &'a [u8],
+}
+
+impl<'a> LineKind for ComLine<'a> {
+    ghost use Rattle.std.specs.Prelude.{◌^◌};
+    ghost use Rattle.vk_wire.specs.Values.{IsCom};
+    ghost use Rattle.vk_board.specs.Reading.{com_line};
+
+    type Item = WireCom;
+
+    ghost most = { λ _. 2 ^ 32 };
+
+    ghost item_of = { λ kind _ text. com_line kind.word.now text };
+
+    ghost is_item = { λ _ _ digests. IsCom digests };
+
+    fn read(&self, _number: u32, text: &[u8]) -> Option<WireCom> {
+        let digests = com_of(text, self.word);
+        digests
+    }
 }
 
 /// The commitments of a line of this word.
@@ -269,31 +272,34 @@ fn read_posted<S: Shelf>(
         Reads (λ x. x) result (rest_of lines.new files) (many_at count (λ _. line_by posted_line) (rest_of lines.old files))) }
     ensures number { IfOk result (λ posted. length posted ≡ count) }
     ensures right { IfOk result (All IsResidue) }
-    ensures held { S.held shelf.new ≡ S.held shelf.old }
-    ensures later { S.Shelf.faults shelf.old ≤ S.Shelf.faults shelf.new }
-    ensures failed { IsErrOf result ReadErr.Failed → Rose (S.Shelf.faults shelf.old) (S.Shelf.faults shelf.new) }
+    ensures file { KeepsFile lines.old lines.new }
+    ensures shelf { OnlyReads S.held S.Shelf.faults ReadErr.Failed result shelf.old shelf.new }
 {
-    let mut posted = Seq::new(alloc);
-    for index in 0..count {
-        let number = read_row(shelf, lines)?;
-        posted.push(number)?;
-    }
+    let posted = read_many(alloc, shelf, lines, &PostedLine, count)?;
     Ok(posted)
 }
 
-/// Reads the line of a row.
-#[tactic(auto, unfolding(vk_lines::specs::Lines::line_by))]
-fn read_row<S: Shelf>(shelf: &mut S, lines: &mut Lines) -> Result<Residue, ReadErr>
-    ensures told { IfSome (S.held shelf.old) (λ files.
-        Reads (λ x. x) result (rest_of lines.new files) (line_by posted_line (rest_of lines.old files))) }
-    ensures right { IfOk result IsResidue }
-    ensures held { S.held shelf.new ≡ S.held shelf.old }
-    ensures later { S.Shelf.faults shelf.old ≤ S.Shelf.faults shelf.new }
-    ensures failed { IsErrOf result ReadErr.Failed → Rose (S.Shelf.faults shelf.old) (S.Shelf.faults shelf.new) }
-{
-    lines.read_text(shelf)?;
-    let number = lines.found(posted_of(lines.text()));
-    number
+/// The line of a row.
+#[derive(Drop)]
+struct PostedLine;
+
+impl LineKind for PostedLine {
+    ghost use Rattle.std.specs.Prelude.{◌^◌};
+    ghost use Rattle.vk_residue.specs.Residue.{IsResidue};
+    ghost use Rattle.vk_board.specs.Reading.{posted_line};
+
+    type Item = Residue;
+
+    ghost most = { λ _. 2 ^ 32 };
+
+    ghost item_of = { λ _ _ text. posted_line text };
+
+    ghost is_item = { λ _ _ number. IsResidue number };
+
+    fn read(&self, _number: u32, text: &[u8]) -> Option<Residue> {
+        let number = posted_of(text);
+        number
+    }
 }
 
 /// The number of a row's line.
@@ -301,7 +307,7 @@ fn posted_of(text: &[u8]) -> Option<Residue>
     ensures value { result ≡ posted_line text.now }
     ensures right { IfSome result IsResidue }
 {
-    read_tag(text, b"d", 2)?;
-    let number = read_residue(field(text, 1)?)?;
+    let field = one_field(behind_word(text, b"d")?)?;
+    let number = read_residue(field)?;
     Some(number)
 }

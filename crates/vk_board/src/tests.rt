@@ -1,5 +1,8 @@
 // The smallest board, read part by part and written back, and boards that are refused.
-use crate::{Head, head_text, lane_text, read_head, read_lane, read_seals, seal_lines_text};
+use crate::{
+    FrontErr, Head, head_text, lane_text, read_front, read_head, read_lane, read_seals,
+    seal_lines_text, seats_of,
+};
 use std::alloc::Global;
 use std::test::Fail;
 use vk_io::MemShelf;
@@ -126,5 +129,59 @@ fn a_seat_may_stand_once_and_the_end_may_not_be_missing(rt: HostRuntime) -> Resu
     let mut cut = replaced(alloc, smallest(), 14, b"d 6")?;
     cut.truncate(cut.len().saturating_sub(4));
     assert_eq!(rt; fault_of(alloc, &cut)?, 15);
+    Ok(())
+}
+
+/// Why the front of this board is refused, if it is.
+fn front_refused(alloc: Global, bytes: &[u8]) -> Result<Option<FrontErr>, Fail> {
+    let mut shelf = MemShelf::new(alloc);
+    shelf.put_file("board", bytes)?;
+    let mut lines = Lines::start(alloc, &mut shelf, "board")?;
+    let refused = read_front(alloc, &mut shelf, &mut lines).err();
+    Ok(refused)
+}
+
+#[test]
+fn the_line_is_tested_first_then_the_price_then_the_winner(rt: HostRuntime) -> Result<(), Fail> {
+    let alloc = rt.alloc();
+    let other = replaced(alloc, smallest(), 6, b"winner 8")?;
+    assert_eq!(rt; front_refused(alloc, &other)?, Some(FrontErr::Winner));
+    let both = replaced(alloc, &other, 7, b"price 1")?;
+    assert_eq!(rt; front_refused(alloc, &both)?, Some(FrontErr::Price));
+    let all = replaced(alloc, &both, 9, b"x")?;
+    assert_eq!(rt;
+        front_refused(alloc, &all)?,
+        Some(FrontErr::Malformed { line: 9 })
+    );
+    Ok(())
+}
+
+/// A board of three seals, up to its first lane.
+const THREE: &[u8] = b"vickrey-board 1\n\
+auction 000102030405060708090a0b0c0d0e0f\n\
+width 8\n\
+lanes 1\n\
+seals 3\n\
+winner 500\n\
+price 255\n\
+seal 7\n\
+x b2079e5725d4cf5d48e1669a4691a93c831a1c5c5452c1ba82c26e98a45f063c 137758937b8dcccf06a55ab35985cf8cb4b1f8468a8c9e0474e604df75f5f756\n\
+seal 65535\n\
+x 20a06f1a3323496729c1038259d91211b61848344387dafbe64812317568fb9b 03956c24c21e43fb35db1ae4e7f9107b2e932528192586c13c89d88b0fd0a291\n\
+seal 500\n\
+x 95dd93ea8976343596b4ec8e4bda5a20fa7abd4c09a635cd4d6a1ad16a135aa6 b6c14358a32a13c96be8d6b96bf302400574c9f5408d39cb9a89270b7914e5f3\n";
+
+#[test]
+fn the_winner_of_three_seals_is_found(rt: HostRuntime) -> Result<(), Fail> {
+    let alloc = rt.alloc();
+    let mut shelf = MemShelf::new(alloc);
+    shelf.put_file("board", THREE)?;
+    let mut lines = Lines::start(alloc, &mut shelf, "board")?;
+    let front = read_front(alloc, &mut shelf, &mut lines)?;
+    assert_eq!(rt; front.position, 3);
+    let seats = seats_of(alloc, front.seals.as_slice())?;
+    assert_eq!(rt; seats.as_slice(), [7, 65535, 500].as_slice());
+    let high = replaced(alloc, THREE, 7, b"price 256")?;
+    assert_eq!(rt; front_refused(alloc, &high)?, Some(FrontErr::Price));
     Ok(())
 }

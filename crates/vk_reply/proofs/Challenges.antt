@@ -48,7 +48,7 @@ challenge_is_whole =
     (λ challenge is. (tt, ((is.some_bit, is.few_bits), refl)))
     (λ challenge. refl)
 
-challenge_ends : Ends challenge_table Heading challenge_at
+pub challenge_ends : Ends challenge_table Heading challenge_at
 unfolding challenge_at
 challenge_ends =
     ends_then challenge_table Heading (line_follows challenge_table Heading _ (λ _. Bits) (λ text. refl) refl) (λ heading.

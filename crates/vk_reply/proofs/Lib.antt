@@ -1,5 +1,3 @@
-pub mod Each
-pub mod Numbered
 pub mod Lines
 pub mod Wires
 pub mod Challenges

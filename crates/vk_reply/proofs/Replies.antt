@@ -3,20 +3,20 @@ use Rattle.std.proofs.Common.{◌≡◌, ℕ, zero, suc, ◌+◌, ◌^◌, ◌<�
 use Rattle.std.proofs.lemmas.Bool.{le-leb, leb-true}
 use Rattle.std.specs.Result.{result_err}
 use Rattle.vk_lines.specs.Lines.{Rest, ◌>>=◌, end_at}
-use Rattle.vk_lines.specs.Forms.{line, spaced, EachAfter, IsPart, IsWhole, Follows, Ends, Table, fault_at, fault_line, many_onto, whole}
+use Rattle.vk_lines.specs.Forms.{line, spaced, numbered_text, EachAfter, IsPart, IsWhole, Follows, Ends, Table, fault_at, fault_line, many_onto, whole}
 use Rattle.vk_lines.proofs.Words.{fixed_line, number_line_is}
 use Rattle.vk_lines.proofs.Parts.{line_part, many_part, part_then, part_same, whole_then, whole_end, whole_same}
+use Rattle.vk_lines.proofs.Each.{at_from_each, each_from_at}
+use Rattle.vk_lines.proofs.Numbered.{numbered_part}
 use Rattle.vk_lines.proofs.Faults.{line_follows, follows_then, follows_done, many_follows, ends_then, end_ends, ends_done, fault_line_is}
 use Rattle.vk_plan.specs.declared.wire.WireKind.{WireKind}
 use Rattle.vk_plan.specs.declared.wire.WireKind.TheVariants.{Split}
 use Rattle.vk_wire.specs.declared.wire.Shown.{Shown}
 use Rattle.vk_reply.specs.Values.{AreShown, IsReply}
-use Rattle.vk_reply.specs.Texts.{numbered_text, shown_text, reply_head_text, reply_lane_text, reply_text}
+use Rattle.vk_reply.specs.Texts.{shown_text, reply_head_text, reply_lane_text, reply_text}
 use Rattle.vk_reply.specs.Reading.{shown_line, lane_line, wire_at, wires_at, reply_head_at, reply_lane_at, reply_lanes_at, reply_at}
 use Rattle.vk_reply.specs.Tables.{Place, Heading, Count, Lane, Wire, Over, before_wires, reply_table}
-use Rattle.vk_reply.proofs.Each.{at_from_each, each_from_at}
 use Rattle.vk_reply.proofs.Lines.{shown_line_is}
-use Rattle.vk_reply.proofs.Numbered.{numbered_part}
 use Rattle.vk_reply.proofs.Wires.{AreWires, from_shown, to_shown}
 
 -- ---- the head
@@ -175,7 +175,7 @@ head_follows kinds bit_of =
     follows_then (reply_table kinds bit_of) Heading (line_follows (reply_table kinds bit_of) Heading _ (λ _. Count) (λ text. refl) refl)
     (λ heading. line_follows (reply_table kinds bit_of) Count _ (Lane 1) (λ text. refl) refl)
 
-reply_ends : (kinds : List WireKind) (bit_of : ℕ → Bool) → Ends (reply_table kinds bit_of) Heading (reply_at kinds bit_of)
+pub reply_ends : (kinds : List WireKind) (bit_of : ℕ → Bool) → Ends (reply_table kinds bit_of) Heading (reply_at kinds bit_of)
 unfolding reply_at
 reply_ends kinds bit_of =
     ends_then (reply_table kinds bit_of) Heading (head_follows kinds bit_of) (λ count.

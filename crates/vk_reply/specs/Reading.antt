@@ -73,7 +73,7 @@ wires_at kinds bit rest = many_at (length kinds) (wire_at kinds bit) rest
 -- the lane of that number
 unfoldable pub reply_lane_at : ℕ → List WireKind → Bool → Rest → Result (List Shown × Rest) ℕ
 reply_lane_at lane kinds bit rest =
-    line_by (lane_line lane) rest >>= λ number.
+    line_by (number_line (codes "lane") lane lane) rest >>= λ number.
     wires_at kinds bit number.1
 
 -- so many lanes, from lane 1 on

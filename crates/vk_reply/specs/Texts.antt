@@ -1,7 +1,7 @@
 -- The texts of a challenge and of a reply, line by line.
-use Rattle.std.specs.Prelude.{ℕ, ◌+◌, Bool, if◌then◌else◌, List, [], ◌∷◌, ◌++◌, length, map, codes, decimal}
+use Rattle.std.specs.Prelude.{ℕ, Bool, if◌then◌else◌, List, [], ◌∷◌, ◌++◌, length, map, codes, decimal}
 use Rattle.std.specs.List.{flat_map}
-use Rattle.vk_lines.specs.Forms.{line, spaced}
+use Rattle.vk_lines.specs.Forms.{line, spaced, numbered_text}
 use Rattle.vk_lines.specs.Tokens.{hex_text}
 use Rattle.vk_wire.specs.declared.wire.Shown.{Shown}
 use Rattle.vk_wire.specs.declared.wire.Shown.TheVariants.{Half, Whole, Spent}
@@ -38,11 +38,6 @@ unfoldable pub reply_lane_text : ℕ → List Shown → List ℕ
 reply_lane_text lane shown =
     line (spaced (codes "lane" ∷ decimal lane ∷ []))
     ++ flat_map (λ one. line (shown_text one)) shown
-
--- the texts of values that are numbered on from that number
-abbrev pub numbered_text : {X : Type 0} → (ℕ → X → List ℕ) → ℕ → List X → List ℕ
-numbered_text text number [] = []
-numbered_text text number (x ∷ xs) = text number x ++ numbered_text text (number + 1) xs
 
 -- the lanes are numbered from 1 on
 unfoldable pub reply_text : List (List Shown) → List ℕ

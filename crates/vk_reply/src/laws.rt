@@ -2,7 +2,7 @@
 
 ghost use Rattle.std.specs.Prelude.{◌≡◌, ◌≤◌, ◌<◌, ◌^◌, ℕ, Bool, List};
 ghost use Rattle.std.specs.Result.{result_err};
-ghost use Rattle.vk_lines.specs.Forms.{IsPart, IsWhole, fault_line, whole};
+ghost use Rattle.vk_lines.specs.Forms.{FaultsAllButTexts, IsPart, IsWhole, fault_line, whole};
 ghost use Rattle.vk_plan.specs.declared.wire.WireKind.{WireKind};
 ghost use Rattle.vk_reply.specs.Values.{AreShown, IsChallenge, IsReply};
 ghost use Rattle.vk_reply.specs.Texts.{challenge_text, reply_head_text, reply_lane_text, reply_text};
@@ -40,4 +40,15 @@ pub fn replies_are_read_from_their_texts_alone()
 pub fn reading_a_reply_stops_at_the_fault_line()
     ensures { (kinds : List WireKind) (bit_of : ℕ → Bool) (bytes : List ℕ)
         → fault_line (reply_table kinds bit_of) bytes ≡ result_err (whole (reply_at kinds bit_of) bytes) }
+{}
+
+/// A law: a file has no fault line exactly where it is the text of a challenge.
+pub fn all_but_challenges_have_a_fault_line()
+    ensures { FaultsAllButTexts IsChallenge challenge_text challenge_table }
+{}
+
+/// A law: a file has no fault line exactly where it is the text of a reply.
+pub fn all_but_replies_have_a_fault_line()
+    ensures { (kinds : List WireKind) (bit_of : ℕ → Bool)
+        → FaultsAllButTexts (IsReply kinds bit_of) reply_text (reply_table kinds bit_of) }
 {}

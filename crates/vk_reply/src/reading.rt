@@ -1,24 +1,28 @@
-ghost use Rattle.std.specs.Prelude.{length, ◌≡◌, ◌<◌, ◌≤◌, ◌+◌, [], slice_index_or, IfSome, IfOk, IsErrOf};
-ghost use Rattle.vk_io.specs.Faults.{Rose};
-ghost use Rattle.vk_lines.specs.Lines.{Reads, line_by, rest_of};
+ghost use Rattle.std.specs.Prelude.{length, ◌≡◌, ℕ, List, ◌<◌, ◌≤◌, slice_index_or, IfSome, IfOk};
+ghost use Rattle.vk_io.specs.Reads.{OnlyReads};
+ghost use Rattle.vk_lines.specs.Forms.{Answers};
+ghost use Rattle.vk_lines.specs.Lines.{KeepsFile, Reads, line_by, rest_of};
 ghost use Rattle.vk_lines.specs.declared.errors.ReadErr.TheVariants.{Failed};
 ghost use Rattle.vk_plan.specs.declared.wire.WireKind.TheVariants.{Split};
 ghost use Rattle.vk_reply.specs.Values.{AreShown, IsChallenge, IsShown};
+ghost use Rattle.vk_reply.specs.Texts.{challenge_text};
+ghost use Rattle.vk_reply.specs.Tables.{challenge_table};
 ghost use Rattle.vk_reply.specs.Tokens.{bits_line};
-ghost use Rattle.vk_reply.specs.Reading.{half_line, whole_line, spent_line, shown_line, lane_line, challenge_at, reply_head_at, reply_lane_at, wires_at};
+ghost use Rattle.vk_reply.specs.Reading.{half_line, whole_line, spent_line, shown_line, challenge_at, reply_head_at, reply_lane_at, wires_at};
 
 use crate::challenge::Challenge;
-use crate::tokens::{bits_line, entry_of, lane_of, opening_of};
+use crate::tokens::{bits_line, entry_of, opening_of};
 use std::alloc::Global;
 use vk_io::Shelf;
-use vk_lines::{Lines, ReadErr, field, read_tag};
+use vk_lines::{
+    LineKind, Lines, ReadErr, behind_word, four_fields, read_many, three_fields, two_fields,
+};
 use vk_plan::{Plan, WireKind};
 use vk_seq::Seq;
 use vk_wire::Shown;
 
 /// Reads a challenge's file whole. Malformed carries the number of the first line that isn't what its
 /// place demands.
-#[tactic(auto, unfolding(crate::specs::Reading::challenge_at))]
 pub fn read_challenge<S: Shelf>(
     alloc: Global,
     shelf: &mut S,
@@ -26,10 +30,28 @@ pub fn read_challenge<S: Shelf>(
 ) -> Result<Challenge, ReadErr>
     ensures told { IfSome (S.held shelf.old) (λ files.
         Reads (λ x. x) result (rest_of lines.new files) (challenge_at (rest_of lines.old files))) }
+    ensures answers { IfSome (S.held shelf.old) (λ files. (bytes : List ℕ) → rest_of lines.old files ≡ record { taken = 0; left = bytes }
+        → Answers IsChallenge challenge_text challenge_table (λ x. x) bytes result) }
     ensures right { IfOk result IsChallenge }
-    ensures held { S.held shelf.new ≡ S.held shelf.old }
-    ensures later { S.Shelf.faults shelf.old ≤ S.Shelf.faults shelf.new }
-    ensures failed { IsErrOf result ReadErr.Failed → Rose (S.Shelf.faults shelf.old) (S.Shelf.faults shelf.new) }
+    ensures file { KeepsFile lines.old lines.new }
+    ensures shelf { OnlyReads S.held S.Shelf.faults ReadErr.Failed result shelf.old shelf.new }
+{
+    let challenge = challenge_read(alloc, shelf, lines);
+    challenge
+}
+
+/// The same, part by part.
+#[tactic(auto, unfolding(crate::specs::Reading::challenge_at))]
+fn challenge_read<S: Shelf>(
+    alloc: Global,
+    shelf: &mut S,
+    lines: &mut Lines,
+) -> Result<Challenge, ReadErr>
+    ensures told { IfSome (S.held shelf.old) (λ files.
+        Reads (λ x. x) result (rest_of lines.new files) (challenge_at (rest_of lines.old files))) }
+    ensures right { IfOk result IsChallenge }
+    ensures file { KeepsFile lines.old lines.new }
+    ensures shelf { OnlyReads S.held S.Shelf.faults ReadErr.Failed result shelf.old shelf.new }
 {
     lines.read_fixed(shelf, b"vickrey-challenge 1")?;
     let bits = read_bits(alloc, shelf, lines)?;
@@ -58,9 +80,8 @@ fn read_bits<S: Shelf>(
         Reads (λ x. x) result (rest_of lines.new files) (line_by bits_line (rest_of lines.old files))) }
     ensures some_bit { IfOk result (λ bits. 1 ≤ length bits) }
     ensures few_bits { IfOk result (λ bits. length bits ≤ 64) }
-    ensures held { S.held shelf.new ≡ S.held shelf.old }
-    ensures later { S.Shelf.faults shelf.old ≤ S.Shelf.faults shelf.new }
-    ensures failed { IsErrOf result ReadErr.Failed → Rose (S.Shelf.faults shelf.old) (S.Shelf.faults shelf.new) }
+    ensures file { KeepsFile lines.old lines.new }
+    ensures shelf { OnlyReads S.held S.Shelf.faults ReadErr.Failed result shelf.old shelf.new }
 {
     lines.read_text(shelf)?;
     let value = bits_line(alloc, lines.text())?;
@@ -75,9 +96,8 @@ pub fn read_reply_head<S: Shelf>(shelf: &mut S, lines: &mut Lines) -> Result<u32
     ensures told { IfSome (S.held shelf.old) (λ files.
         Reads (λ x. x) result (rest_of lines.new files) (reply_head_at (rest_of lines.old files))) }
     ensures right { IfOk result (λ lanes. (1 ≤ lanes) × (lanes ≤ 64)) }
-    ensures held { S.held shelf.new ≡ S.held shelf.old }
-    ensures later { S.Shelf.faults shelf.old ≤ S.Shelf.faults shelf.new }
-    ensures failed { IsErrOf result ReadErr.Failed → Rose (S.Shelf.faults shelf.old) (S.Shelf.faults shelf.new) }
+    ensures file { KeepsFile lines.old lines.new }
+    ensures shelf { OnlyReads S.held S.Shelf.faults ReadErr.Failed result shelf.old shelf.new }
 {
     lines.read_fixed(shelf, b"vickrey-reply 1")?;
     let count = lines.read_number(shelf, b"lanes", 1, 64)?;
@@ -99,27 +119,12 @@ pub fn read_reply_lane<S: Shelf>(
     ensures told { IfSome (S.held shelf.old) (λ files.
         Reads (λ x. x) result (rest_of lines.new files) (reply_lane_at lane plan.now.kinds bit (rest_of lines.old files))) }
     ensures right { IfOk result (AreShown plan.now.kinds bit) }
-    ensures held { S.held shelf.new ≡ S.held shelf.old }
-    ensures later { S.Shelf.faults shelf.old ≤ S.Shelf.faults shelf.new }
-    ensures failed { IsErrOf result ReadErr.Failed → Rose (S.Shelf.faults shelf.old) (S.Shelf.faults shelf.new) }
+    ensures file { KeepsFile lines.old lines.new }
+    ensures shelf { OnlyReads S.held S.Shelf.faults ReadErr.Failed result shelf.old shelf.new }
 {
-    read_lane_number(shelf, lines, lane)?;
+    lines.read_number(shelf, b"lane", u64::from(lane), u64::from(lane))?;
     let shown = read_wires(alloc, shelf, lines, plan, bit)?;
     Ok(shown)
-}
-
-/// Reads the line of a lane's number.
-#[tactic(auto, unfolding(vk_lines::specs::Lines::line_by))]
-fn read_lane_number<S: Shelf>(shelf: &mut S, lines: &mut Lines, lane: u32) -> Result<u64, ReadErr>
-    ensures told { IfSome (S.held shelf.old) (λ files.
-        Reads (λ x. x) result (rest_of lines.new files) (line_by (lane_line lane) (rest_of lines.old files))) }
-    ensures held { S.held shelf.new ≡ S.held shelf.old }
-    ensures later { S.Shelf.faults shelf.old ≤ S.Shelf.faults shelf.new }
-    ensures failed { IsErrOf result ReadErr.Failed → Rose (S.Shelf.faults shelf.old) (S.Shelf.faults shelf.new) }
-{
-    lines.read_text(shelf)?;
-    let number = lines.found(lane_of(lines.text(), lane));
-    number
 }
 
 /// Reads one line for each wire of the plan.
@@ -133,16 +138,38 @@ fn read_wires<S: Shelf>(
     ensures told { IfSome (S.held shelf.old) (λ files.
         Reads (λ x. x) result (rest_of lines.new files) (wires_at plan.now.kinds bit (rest_of lines.old files))) }
     ensures right { IfOk result (AreShown plan.now.kinds bit) }
-    ensures held { S.held shelf.new ≡ S.held shelf.old }
-    ensures later { S.Shelf.faults shelf.old ≤ S.Shelf.faults shelf.new }
-    ensures failed { IsErrOf result ReadErr.Failed → Rose (S.Shelf.faults shelf.old) (S.Shelf.faults shelf.new) }
+    ensures file { KeepsFile lines.old lines.new }
+    ensures shelf { OnlyReads S.held S.Shelf.faults ReadErr.Failed result shelf.old shelf.new }
 {
-    let mut shown = Seq::new(alloc);
-    for wire in 0..plan.wires() {
-        let one = read_shown(shelf, lines, kind_of(plan, wire), bit)?;
-        shown.push(one)?;
+    let shown = read_many(alloc, shelf, lines, &WireLine { plan, bit }, plan.wires());
+    shown
+}
+
+/// The line of a wire of a plan for this bit.
+#[derive(Drop)]
+struct WireLine<'a> {
+    plan: &'a Plan,
+    bit: bool,
+}
+
+impl<'a> LineKind for WireLine<'a> {
+    ghost use Rattle.std.specs.Prelude.{length, slice_index_or};
+    ghost use Rattle.vk_plan.specs.declared.wire.WireKind.TheVariants.{Split};
+    ghost use Rattle.vk_reply.specs.Values.{IsShown};
+    ghost use Rattle.vk_reply.specs.Reading.{shown_line};
+
+    type Item = Shown;
+
+    ghost most = { λ kind. length kind.plan.now.kinds };
+
+    ghost item_of = { λ kind wire text. shown_line (slice_index_or kind.plan.now.kinds wire Split) kind.bit text };
+
+    ghost is_item = { λ kind wire shown. IsShown (slice_index_or kind.plan.now.kinds wire Split) kind.bit shown };
+
+    fn read(&self, number: u32, text: &[u8]) -> Option<Shown> {
+        let shown = shown_of(kind_of(self.plan, number), self.bit, text);
+        shown
     }
-    Ok(shown)
 }
 
 /// The kind of a wire, counted from 0.
@@ -151,26 +178,6 @@ fn kind_of(plan: &Plan, wire: u32) -> WireKind
     ensures { result ≡ slice_index_or plan.now.kinds wire Split }
 {
     plan.kind(wire)
-}
-
-/// Reads the line of one wire of this kind for this bit.
-#[tactic(auto, unfolding(vk_lines::specs::Lines::line_by))]
-fn read_shown<S: Shelf>(
-    shelf: &mut S,
-    lines: &mut Lines,
-    kind: WireKind,
-    bit: bool,
-) -> Result<Shown, ReadErr>
-    ensures told { IfSome (S.held shelf.old) (λ files.
-        Reads (λ x. x) result (rest_of lines.new files) (line_by (shown_line kind bit) (rest_of lines.old files))) }
-    ensures right { IfOk result (IsShown kind bit) }
-    ensures held { S.held shelf.new ≡ S.held shelf.old }
-    ensures later { S.Shelf.faults shelf.old ≤ S.Shelf.faults shelf.new }
-    ensures failed { IsErrOf result ReadErr.Failed → Rose (S.Shelf.faults shelf.old) (S.Shelf.faults shelf.new) }
-{
-    lines.read_text(shelf)?;
-    let shown = lines.found(shown_of(kind, bit, lines.text()));
-    shown
 }
 
 /// What a line shows of a wire of this kind for this bit.
@@ -189,8 +196,8 @@ fn shown_of(kind: WireKind, bit: bool, text: &[u8]) -> Option<Shown>
 fn half_of(text: &[u8]) -> Option<Shown>
     ensures { result ≡ half_line text.now }
 {
-    read_tag(text, b"h", 3)?;
-    let opening = opening_of(field(text, 1)?, field(text, 2)?)?;
+    let (key, value) = two_fields(behind_word(text, b"h")?)?;
+    let opening = opening_of(key, value)?;
     Some(Shown::Half(opening))
 }
 
@@ -198,9 +205,9 @@ fn half_of(text: &[u8]) -> Option<Shown>
 fn whole_of(text: &[u8]) -> Option<Shown>
     ensures { result ≡ whole_line text.now }
 {
-    read_tag(text, b"a", 5)?;
-    let first = opening_of(field(text, 1)?, field(text, 2)?)?;
-    let second = opening_of(field(text, 3)?, field(text, 4)?)?;
+    let (key, value, next_key, next_value) = four_fields(behind_word(text, b"a")?)?;
+    let first = opening_of(key, value)?;
+    let second = opening_of(next_key, next_value)?;
     Some(Shown::Whole(first, second))
 }
 
@@ -208,8 +215,8 @@ fn whole_of(text: &[u8]) -> Option<Shown>
 fn spent_of(text: &[u8]) -> Option<Shown>
     ensures { result ≡ spent_line text.now }
 {
-    read_tag(text, b"s", 4)?;
-    let second = entry_of(field(text, 1)?)?;
-    let opening = opening_of(field(text, 2)?, field(text, 3)?)?;
+    let (entry, key, value) = three_fields(behind_word(text, b"s")?)?;
+    let second = entry_of(entry)?;
+    let opening = opening_of(key, value)?;
     Some(Shown::Spent { second, opening })
 }

@@ -1,16 +1,16 @@
 //! The fields of the lines of a challenge and a reply.
 
-ghost use Rattle.std.specs.Prelude.{◌≡◌, ◌∷◌, ◌++◌, [], IfErr, IfOk, IfSome, OnOk};
+ghost use Rattle.std.specs.Prelude.{◌≡◌, ◌++◌, codes, option_map, IfErr, IfOk, IfSome, OnOk};
 ghost use Rattle.std.specs.List.{list_all};
 ghost use Rattle.vk_commit.specs.Values.{IsOpening};
+ghost use Rattle.vk_lines.specs.Tokens.{one_field};
 ghost use Rattle.vk_lines.specs.declared.errors.ReadErr.TheVariants.{NoMemory};
 ghost use Rattle.vk_reply.specs.Tokens.{are_bits, bits_line, bits_of, entry_of, is_bit, opening_of};
-ghost use Rattle.vk_reply.specs.Reading.{lane_line};
 ghost use Rattle.vk_reply.specs.Texts.{bit_character, bits_text};
 
 use std::alloc::Global;
 use vk_commit::Opening;
-use vk_lines::{ReadErr, field, read_hex32, read_number, read_residue, read_tag, read_word};
+use vk_lines::{ReadErr, behind_word, one_field, read_hex32, read_residue, read_word};
 use vk_residue::NoMemory;
 use vk_seq::Seq;
 
@@ -22,13 +22,18 @@ pub(crate) fn bits_line(alloc: Global, text: &[u8]) -> Result<Option<Seq<bool>>,
     ensures value { IfOk result (λ bits. bits ≡ bits_line text.now) }
     ensures memory { IfErr result (λ e. e ≡ ReadErr.NoMemory) }
 {
-    if read_tag(text, b"bits", 2).is_none() {
-        return Ok(None);
-    }
-    match field(text, 1) {
+    match bits_field(text) {
         None => Ok(None),
         Some(word) => bits_of(alloc, word),
     }
+}
+
+/// The field of a line of the word `bits` and one field.
+fn bits_field(text: &[u8]) -> Option<&[u8]>
+    ensures { option_map (λ x. x.now) result ≡ one_field (codes "bits") Some text.now }
+{
+    let field = one_field(behind_word(text, b"bits")?)?;
+    Some(field)
 }
 
 /// The bits that a text is, `None` where it isn't 1 to 64 of the characters `0` and `1`.
@@ -65,15 +70,6 @@ fn is_bit(character: u8) -> bool
     ensures { result ≡ is_bit character }
 {
     character == b'0' || character == b'1'
-}
-
-/// The number of a lane's line, `None` where it isn't the line of that lane.
-pub(crate) fn lane_of(text: &[u8], lane: u32) -> Option<u64>
-    ensures { result ≡ lane_line lane text.now }
-{
-    let number = u64::from(lane);
-    let found = read_number(text, b"lane", number, number);
-    found
 }
 
 /// The entry of a pair that the text names: false for `0`, the first, and true for `1`, the second.

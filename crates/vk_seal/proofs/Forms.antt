@@ -259,7 +259,7 @@ secret_lanes_end auction seat bid count =
     ends_then secret_table (Lanes count) (many_follows secret_table (λ left before. Lanes left) (λ _. line_by tape_line) (λ left before. line_follows secret_table (Lanes (suc left)) tape_line (λ _. Lanes left) (λ text. refl) refl) count [])
     (λ lanes. ends_done secret_table (Lanes zero) (secret_with auction seat bid lanes) (end_ends secret_table (Lanes zero) Over (λ text. refl) refl (λ text. refl) refl))
 
-seal_ends : Ends seal_table Heading seal_at
+pub seal_ends : Ends seal_table Heading seal_at
 unfolding seal_at
 seal_ends =
     ends_then seal_table Heading (line_follows seal_table Heading _ (λ _. Auction) (λ text. refl) refl) (λ heading.
@@ -271,7 +271,7 @@ seal_ends =
 pub seal_fault : (bytes : List ℕ) → fault_line seal_table bytes ≡ result_err (whole seal_at bytes)
 seal_fault bytes = fault_line_is seal_table seal_at seal_ends bytes
 
-secret_ends : Ends secret_table Heading secret_at
+pub secret_ends : Ends secret_table Heading secret_at
 unfolding secret_at
 secret_ends =
     ends_then secret_table Heading (line_follows secret_table Heading _ (λ _. Auction) (λ text. refl) refl) (λ heading.

@@ -26,6 +26,11 @@ drawn_tape ahead =
 abbrev pub after_tape : (ℕ → ℕ) → ℕ → ℕ
 after_tape ahead = later 4 (later 4 (after_residue ahead))
 
+-- the same where the tape may be none: then the words after the residue that can't be drawn
+abbrev pub after_drawn : Option XTape → (ℕ → ℕ) → ℕ → ℕ
+after_drawn None ahead = after_residue ahead
+after_drawn (Some tape) ahead = after_tape ahead
+
 -- what comes of the tapes after this one, where it could be drawn
 abbrev pub tapes_after : {A : Type 0} → ℕ → (XTape → Result A ℕ) → Option XTape → Result A ℕ
 tapes_after lane rest None = Err lane
@@ -36,6 +41,17 @@ tapes_after lane rest (Some tape) = rest tape
 unfoldable pub tapes_onto : List XTape → ℕ → (ℕ → ℕ) → Result (List XTape) ℕ
 tapes_onto before zero ahead = Ok before
 tapes_onto before (suc count) ahead = tapes_after (length before + 1) (λ tape. tapes_onto (before ++ tape ∷ []) count (after_tape ahead)) (drawn_tape ahead)
+
+-- the words ahead after the tape that is drawn first, where `rest` takes the others, or after a residue that
+-- can't be drawn
+abbrev pub left_after : Option XTape → (ℕ → ℕ) → (ℕ → ℕ) → ℕ → ℕ
+left_after None ahead rest = after_residue ahead
+left_after (Some tape) ahead rest = rest
+
+-- the words ahead after so many tapes, or after the first that can't be drawn
+unfoldable pub after_tapes : ℕ → (ℕ → ℕ) → ℕ → ℕ
+after_tapes zero ahead = ahead
+after_tapes (suc count) ahead = left_after (drawn_tape ahead) ahead (after_tapes count (after_tape ahead))
 
 -- the secret of a bid with these tapes
 abbrev pub secret_with : List ℕ → ℕ → ℕ → Result (List XTape) ℕ → Result Secret ℕ
@@ -78,6 +94,17 @@ with_seal (Err lane) = Err (DrySeed lane)
 abbrev pub made_seal : ℕ → ℕ → List ℕ → ℕ → ℕ → (ℕ → ℕ) → Result (Secret × Seal) SealErr
 made_seal bid seat auction width lanes ahead =
     if nat_lt bid (2 ^ width) then with_seal (secret_of bid seat auction lanes ahead) else Err BidTooLarge
+
+-- the words ahead after that: for a bid that is too large none is taken
+abbrev pub after_seal : ℕ → ℕ → ℕ → (ℕ → ℕ) → ℕ → ℕ
+after_seal bid width lanes ahead = if nat_lt bid (2 ^ width) then after_tapes lanes ahead else ahead
+
+-- these words are left ahead, unless it is want of memory
+abbrev pub Leaves : {T : Type 0} → Result T SealErr → (ℕ → ℕ) → (ℕ → ℕ) → Type 0
+Leaves (Err NoMemory) expected left = Unit {0}
+Leaves (Ok x) expected left = left ≡ expected
+Leaves (Err BidTooLarge) expected left = left ≡ expected
+Leaves (Err (DrySeed lane)) expected left = left ≡ expected
 
 -- an answer, unless it is want of memory
 abbrev pub Answers : {T : Type 0} → Result T SealErr → Result T SealErr → Type 0

@@ -9,6 +9,7 @@ mod secret;
 mod writing;
 
 pub use laws::{
+    all_but_seals_have_a_fault_line, all_but_secrets_have_a_fault_line,
     reading_a_seal_stops_at_the_fault_line, reading_a_secret_stops_at_the_fault_line,
     seals_are_read_from_their_texts_alone, secrets_are_read_from_their_texts_alone,
 };

@@ -1,10 +1,9 @@
-ghost use Rattle.std.specs.Prelude.{◌≡◌, ◌<◌, ◌≤◌, ◌^◌, [], length, Ok, IfOk, IfErr, IfSome, IsSome};
+ghost use Rattle.std.specs.Prelude.{◌≡◌, ◌<◌, ◌≤◌, ◌^◌, [], length, Ok, IfOk, IfErr, IfSome};
 ghost use Rattle.std.specs.List.{All};
-ghost use Rattle.vk_seal.specs.Made.{Answers, TapesAnswer, made_seal, sealed_tapes, tapes_onto, drawn_tape, after_tape, lane_com, lane_coms};
+ghost use Rattle.vk_seal.specs.Made.{Answers, Leaves, TapesAnswer, made_seal, sealed_tapes, tapes_onto, drawn_tape, after_drawn, after_tapes, after_seal, lane_com, lane_coms};
 ghost use Rattle.vk_seal.specs.Match.{match_of};
 ghost use Rattle.vk_wire.specs.Values.{IsCom};
 ghost use Rattle.vk_seal.specs.Values.{IsSeal, IsSecret, IsXTape};
-ghost use Rattle.vk_residue.specs.Residue.{modulus};
 
 use crate::secret::{Seal, Secret, XTape};
 use std::alloc::{AllocFailed, Global};
@@ -38,7 +37,8 @@ impl<T: Drop> From<AllocFailed<T>> for SealErr {
 }
 
 /// Makes the secret of a bid and its seal. For each lane a residue and two keys are drawn from the
-/// words, in this order.
+/// words, in this order. A bid that is too large takes no word, and a residue that can't be drawn is
+/// the last that is taken.
 pub fn make_seal<W: Words>(
     alloc: Global,
     bid: u64,
@@ -54,6 +54,7 @@ pub fn make_seal<W: Words>(
     requires some_lane { 1 ≤ lanes }
     requires few_lanes { lanes ≤ 64 }
     ensures made { Answers result (made_seal bid seat auction.now width lanes (W.ahead words.old)) }
+    ensures left { Leaves result (after_seal bid width lanes (W.ahead words.old)) (W.ahead words.new) }
     ensures secret { IfOk result (λ made. IsSecret made.0) }
     ensures seal { IfOk result (λ made. IsSeal made.1) }
     ensures matched { IfOk result (λ made. match_of made.0 made.1 ≡ Ok tt) }
@@ -105,6 +106,7 @@ fn seal_tapes(
 fn draw_tapes<W: Words>(alloc: Global, lanes: u32, words: &mut W) -> Result<Seq<XTape>, SealErr>
     requires { lanes ≤ 64 }
     ensures drawn { TapesAnswer result (tapes_onto [] lanes (W.ahead words.old)) }
+    ensures left { Leaves result (after_tapes lanes (W.ahead words.old)) (W.ahead words.new) }
     ensures tapes { IfOk result (λ tapes. All IsXTape tapes) }
     ensures count { IfOk result (λ tapes. length tapes ≡ lanes) }
 {
@@ -119,7 +121,7 @@ fn draw_tapes<W: Words>(alloc: Global, lanes: u32, words: &mut W) -> Result<Seq<
 /// Draws the tape of one lane.
 fn draw_tape<W: Words>(words: &mut W) -> Option<XTape>
     ensures drawn { result ≡ drawn_tape (W.ahead words.old) }
-    ensures after { IsSome result → W.ahead words.new ≡ after_tape (W.ahead words.old) }
+    ensures after { W.ahead words.new ≡ after_drawn result (W.ahead words.old) }
     ensures tape { IfSome result IsXTape }
 {
     let mask = draw_residue(words).ok()?;

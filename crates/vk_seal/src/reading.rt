@@ -1,18 +1,23 @@
-ghost use Rattle.std.specs.Prelude.{length, ◌≡◌, ◌<◌, ◌≤◌, ◌-◌, ◌^◌, ℕ, IfSome, IfOk, IsErrOf};
+ghost use Rattle.std.specs.Prelude.{length, ◌≡◌, List, ◌<◌, ◌≤◌, ◌-◌, ◌^◌, ℕ, IfSome, IfOk};
 ghost use Rattle.std.specs.List.{All};
-ghost use Rattle.vk_io.specs.Faults.{Rose};
+ghost use Rattle.vk_io.specs.Reads.{OnlyReads};
 ghost use Rattle.vk_commit.specs.Values.{AreBytes};
 ghost use Rattle.vk_wire.specs.Values.{IsCom};
 ghost use Rattle.vk_seal.specs.Values.{IsSeal, IsSecret, IsXTape};
-ghost use Rattle.vk_lines.specs.Forms.{many_at};
-ghost use Rattle.vk_lines.specs.Lines.{Reads, line_by, rest_of};
+ghost use Rattle.vk_lines.specs.Forms.{Answers, many_at};
+ghost use Rattle.vk_lines.specs.Lines.{KeepsFile, Reads, line_by, rest_of};
 ghost use Rattle.vk_lines.specs.declared.errors.ReadErr.TheVariants.{Failed};
+ghost use Rattle.vk_seal.specs.Texts.{seal_text, secret_text};
+ghost use Rattle.vk_seal.specs.Tables.{seal_table, secret_table};
 ghost use Rattle.vk_seal.specs.Reading.{com_line, tape_line, seal_at, secret_at};
 
 use crate::secret::{Seal, Secret, XTape};
 use std::alloc::Global;
 use vk_io::Shelf;
-use vk_lines::{Lines, ReadErr, field, read_digests, read_hex32, read_residue, read_tag};
+use vk_lines::{
+    LineKind, Lines, ReadErr, behind_word, read_digests, read_hex32, read_many, read_residue,
+    three_fields,
+};
 use vk_seq::Seq;
 use vk_wire::WireCom;
 
@@ -21,14 +26,27 @@ const MOST_BID: u64 = (1 << 40) - 1;
 
 /// Reads a seal's file whole. Malformed carries the number of the first line that isn't what its
 /// place demands.
-#[tactic(auto, unfolding(crate::specs::Reading::seal_at))]
 pub fn read_seal<S: Shelf>(alloc: Global, shelf: &mut S, lines: &mut Lines) -> Result<Seal, ReadErr>
     ensures told { IfSome (S.held shelf.old) (λ files.
         Reads (λ x. x) result (rest_of lines.new files) (seal_at (rest_of lines.old files))) }
+    ensures answers { IfSome (S.held shelf.old) (λ files. (bytes : List ℕ) → rest_of lines.old files ≡ record { taken = 0; left = bytes }
+        → Answers IsSeal seal_text seal_table (λ x. x) bytes result) }
     ensures right { IfOk result IsSeal }
-    ensures held { S.held shelf.new ≡ S.held shelf.old }
-    ensures later { S.Shelf.faults shelf.old ≤ S.Shelf.faults shelf.new }
-    ensures failed { IsErrOf result ReadErr.Failed → Rose (S.Shelf.faults shelf.old) (S.Shelf.faults shelf.new) }
+    ensures file { KeepsFile lines.old lines.new }
+    ensures shelf { OnlyReads S.held S.Shelf.faults ReadErr.Failed result shelf.old shelf.new }
+{
+    let seal = seal_read(alloc, shelf, lines);
+    seal
+}
+
+/// The same, part by part.
+#[tactic(auto, unfolding(crate::specs::Reading::seal_at))]
+fn seal_read<S: Shelf>(alloc: Global, shelf: &mut S, lines: &mut Lines) -> Result<Seal, ReadErr>
+    ensures told { IfSome (S.held shelf.old) (λ files.
+        Reads (λ x. x) result (rest_of lines.new files) (seal_at (rest_of lines.old files))) }
+    ensures right { IfOk result IsSeal }
+    ensures file { KeepsFile lines.old lines.new }
+    ensures shelf { OnlyReads S.held S.Shelf.faults ReadErr.Failed result shelf.old shelf.new }
 {
     lines.read_fixed(shelf, b"vickrey-seal 1")?;
     let auction = lines.read_id(shelf, b"auction")?;
@@ -64,35 +82,39 @@ fn read_coms<S: Shelf>(
     lines: &mut Lines,
     count: u64,
 ) -> Result<Seq<WireCom>, ReadErr>
+    requires { count ≤ 64 }
     ensures told { IfSome (S.held shelf.old) (λ files.
         Reads (λ x. x) result (rest_of lines.new files) (many_at count (λ _. line_by com_line) (rest_of lines.old files))) }
     ensures number { IfOk result (λ coms. length coms ≡ count) }
     ensures digests { IfOk result (All IsCom) }
-    ensures held { S.held shelf.new ≡ S.held shelf.old }
-    ensures later { S.Shelf.faults shelf.old ≤ S.Shelf.faults shelf.new }
-    ensures failed { IsErrOf result ReadErr.Failed → Rose (S.Shelf.faults shelf.old) (S.Shelf.faults shelf.new) }
+    ensures file { KeepsFile lines.old lines.new }
+    ensures shelf { OnlyReads S.held S.Shelf.faults ReadErr.Failed result shelf.old shelf.new }
 {
-    let mut coms = Seq::new(alloc);
-    for lane in 0..count {
-        let com = read_com(shelf, lines)?;
-        coms.push(com)?;
-    }
+    let coms = read_many(alloc, shelf, lines, &ComLine, count as u32)?;
     Ok(coms)
 }
 
-/// Reads the line of one lane of a seal.
-#[tactic(auto, unfolding(vk_lines::specs::Lines::line_by))]
-fn read_com<S: Shelf>(shelf: &mut S, lines: &mut Lines) -> Result<WireCom, ReadErr>
-    ensures told { IfSome (S.held shelf.old) (λ files.
-        Reads (λ x. x) result (rest_of lines.new files) (line_by com_line (rest_of lines.old files))) }
-    ensures digests { IfOk result IsCom }
-    ensures held { S.held shelf.new ≡ S.held shelf.old }
-    ensures later { S.Shelf.faults shelf.old ≤ S.Shelf.faults shelf.new }
-    ensures failed { IsErrOf result ReadErr.Failed → Rose (S.Shelf.faults shelf.old) (S.Shelf.faults shelf.new) }
-{
-    lines.read_text(shelf)?;
-    let com = lines.found(com_of(lines.text()));
-    com
+/// The line of one lane of a seal.
+#[derive(Drop)]
+struct ComLine;
+
+impl LineKind for ComLine {
+    ghost use Rattle.std.specs.Prelude.{◌^◌};
+    ghost use Rattle.vk_wire.specs.Values.{IsCom};
+    ghost use Rattle.vk_seal.specs.Reading.{com_line};
+
+    type Item = WireCom;
+
+    ghost most = { λ _. 2 ^ 32 };
+
+    ghost item_of = { λ _ _ text. com_line text };
+
+    ghost is_item = { λ _ _ digests. IsCom digests };
+
+    fn read(&self, _number: u32, text: &[u8]) -> Option<WireCom> {
+        let digests = com_of(text);
+        digests
+    }
 }
 
 /// The commitments of a seal's line.
@@ -106,7 +128,6 @@ fn com_of(text: &[u8]) -> Option<WireCom>
 
 /// Reads a secret's file whole. Malformed carries the number of the first line that isn't what its
 /// place demands.
-#[tactic(auto, unfolding(crate::specs::Reading::secret_at))]
 pub fn read_secret<S: Shelf>(
     alloc: Global,
     shelf: &mut S,
@@ -114,10 +135,24 @@ pub fn read_secret<S: Shelf>(
 ) -> Result<Secret, ReadErr>
     ensures told { IfSome (S.held shelf.old) (λ files.
         Reads (λ x. x) result (rest_of lines.new files) (secret_at (rest_of lines.old files))) }
+    ensures answers { IfSome (S.held shelf.old) (λ files. (bytes : List ℕ) → rest_of lines.old files ≡ record { taken = 0; left = bytes }
+        → Answers IsSecret secret_text secret_table (λ x. x) bytes result) }
     ensures right { IfOk result IsSecret }
-    ensures held { S.held shelf.new ≡ S.held shelf.old }
-    ensures later { S.Shelf.faults shelf.old ≤ S.Shelf.faults shelf.new }
-    ensures failed { IsErrOf result ReadErr.Failed → Rose (S.Shelf.faults shelf.old) (S.Shelf.faults shelf.new) }
+    ensures file { KeepsFile lines.old lines.new }
+    ensures shelf { OnlyReads S.held S.Shelf.faults ReadErr.Failed result shelf.old shelf.new }
+{
+    let secret = secret_read(alloc, shelf, lines);
+    secret
+}
+
+/// The same, part by part.
+#[tactic(auto, unfolding(crate::specs::Reading::secret_at))]
+fn secret_read<S: Shelf>(alloc: Global, shelf: &mut S, lines: &mut Lines) -> Result<Secret, ReadErr>
+    ensures told { IfSome (S.held shelf.old) (λ files.
+        Reads (λ x. x) result (rest_of lines.new files) (secret_at (rest_of lines.old files))) }
+    ensures right { IfOk result IsSecret }
+    ensures file { KeepsFile lines.old lines.new }
+    ensures shelf { OnlyReads S.held S.Shelf.faults ReadErr.Failed result shelf.old shelf.new }
 {
     lines.read_fixed(shelf, b"vickrey-secret 1")?;
     let auction = lines.read_id(shelf, b"auction")?;
@@ -156,35 +191,39 @@ fn read_tapes<S: Shelf>(
     lines: &mut Lines,
     count: u64,
 ) -> Result<Seq<XTape>, ReadErr>
+    requires { count ≤ 64 }
     ensures told { IfSome (S.held shelf.old) (λ files.
         Reads (λ x. x) result (rest_of lines.new files) (many_at count (λ _. line_by tape_line) (rest_of lines.old files))) }
     ensures number { IfOk result (λ tapes. length tapes ≡ count) }
     ensures right { IfOk result (All IsXTape) }
-    ensures held { S.held shelf.new ≡ S.held shelf.old }
-    ensures later { S.Shelf.faults shelf.old ≤ S.Shelf.faults shelf.new }
-    ensures failed { IsErrOf result ReadErr.Failed → Rose (S.Shelf.faults shelf.old) (S.Shelf.faults shelf.new) }
+    ensures file { KeepsFile lines.old lines.new }
+    ensures shelf { OnlyReads S.held S.Shelf.faults ReadErr.Failed result shelf.old shelf.new }
 {
-    let mut tapes = Seq::new(alloc);
-    for lane in 0..count {
-        let tape = read_tape(shelf, lines)?;
-        tapes.push(tape)?;
-    }
+    let tapes = read_many(alloc, shelf, lines, &TapeLine, count as u32)?;
     Ok(tapes)
 }
 
-/// Reads the line of one lane of a secret.
-#[tactic(auto, unfolding(vk_lines::specs::Lines::line_by))]
-fn read_tape<S: Shelf>(shelf: &mut S, lines: &mut Lines) -> Result<XTape, ReadErr>
-    ensures told { IfSome (S.held shelf.old) (λ files.
-        Reads (λ x. x) result (rest_of lines.new files) (line_by tape_line (rest_of lines.old files))) }
-    ensures right { IfOk result IsXTape }
-    ensures held { S.held shelf.new ≡ S.held shelf.old }
-    ensures later { S.Shelf.faults shelf.old ≤ S.Shelf.faults shelf.new }
-    ensures failed { IsErrOf result ReadErr.Failed → Rose (S.Shelf.faults shelf.old) (S.Shelf.faults shelf.new) }
-{
-    lines.read_text(shelf)?;
-    let tape = lines.found(tape_of(lines.text()));
-    tape
+/// The line of one lane of a secret.
+#[derive(Drop)]
+struct TapeLine;
+
+impl LineKind for TapeLine {
+    ghost use Rattle.std.specs.Prelude.{◌^◌};
+    ghost use Rattle.vk_seal.specs.Values.{IsXTape};
+    ghost use Rattle.vk_seal.specs.Reading.{tape_line};
+
+    type Item = XTape;
+
+    ghost most = { λ _. 2 ^ 32 };
+
+    ghost item_of = { λ _ _ text. tape_line text };
+
+    ghost is_item = { λ _ _ tape. IsXTape tape };
+
+    fn read(&self, _number: u32, text: &[u8]) -> Option<XTape> {
+        let tape = tape_of(text);
+        tape
+    }
 }
 
 /// The tape of a secret's line.
@@ -192,10 +231,10 @@ fn tape_of(text: &[u8]) -> Option<XTape>
     ensures value { result ≡ tape_line text.now }
     ensures right { IfSome result IsXTape }
 {
-    read_tag(text, b"x", 4)?;
-    let mask = read_residue(field(text, 1)?)?;
-    let first_key = read_hex32(field(text, 2)?)?;
-    let second_key = read_hex32(field(text, 3)?)?;
+    let (mask, first_key, second_key) = three_fields(behind_word(text, b"x")?)?;
+    let mask = read_residue(mask)?;
+    let first_key = read_hex32(first_key)?;
+    let second_key = read_hex32(second_key)?;
     Some(XTape {
         mask,
         first_key,

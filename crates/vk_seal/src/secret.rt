@@ -1,5 +1,6 @@
 ghost use Rattle.std.specs.Prelude.{◌≡◌};
-ghost use Rattle.vk_seal.specs.Values.{wire_tape};
+ghost use Rattle.vk_wire.specs.Values.{IsTape};
+ghost use Rattle.vk_seal.specs.Values.{IsXTape, wire_tape};
 
 use vk_residue::Residue;
 use vk_seq::Seq;
@@ -16,7 +17,8 @@ pub struct XTape {
 impl XTape {
     /// The tape as that of a wire, which is split and so never swaps.
     pub fn wire(&self) -> WireTape
-        ensures { result ≡ wire_tape self.now }
+        ensures value { result ≡ wire_tape self.now }
+        ensures right { IsXTape self.now → IsTape result }
     {
         WireTape {
             mask: self.mask,

@@ -4,7 +4,7 @@ use crate::{
 };
 use std::alloc::Global;
 use std::test::Fail;
-use vk_dice::{ChaChaWords, ListWords};
+use vk_dice::{ChaChaWords, ListWords, Words};
 use vk_io::MemShelf;
 use vk_lines::{Lines, ReadErr};
 
@@ -121,5 +121,20 @@ fn a_bid_or_a_seed_may_be_refused(rt: HostRuntime) -> Result<(), Fail> {
     assert_eq!(rt; large, Some(SealErr::BidTooLarge));
     let dry = make_seal(rt.alloc(), 15, 7, &ID, 4, 2, &mut words).err();
     assert_eq!(rt; dry, Some(SealErr::DrySeed { lane: 2 }));
+    Ok(())
+}
+
+#[test]
+fn the_words_left_are_those_after_the_last_drawn(rt: HostRuntime) -> Result<(), Fail> {
+    let most = 18446744073709551615;
+    let mut words = ListWords::of(
+        rt.alloc(),
+        &[7, 0, 0, 0, 0, 0, 0, 0, 0, 98, most, most, most, most, 99],
+    )?;
+    make_seal(rt.alloc(), 15, 7, &ID, 4, 1, &mut words)?;
+    assert_eq!(rt; words.next(), 98);
+    let dry = make_seal(rt.alloc(), 15, 7, &ID, 4, 1, &mut words).err();
+    assert_eq!(rt; dry, Some(SealErr::DrySeed { lane: 1 }));
+    assert_eq!(rt; words.next(), 99);
     Ok(())
 }

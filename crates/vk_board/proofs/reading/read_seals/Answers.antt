@@ -1,5 +1,5 @@
 use Rattle.std.proofs.lemmas.Grind.{common_steps}
-use Rattle.vk_board.proofs.Seats.{each_push}
+use Rattle.vk_lines.proofs.Each.{each_push}
 use Rattle.vk_board.specs.Values.{IsSealAfter}
 use Rattle.std.proofs.Common.{length-append, ◌-◌, ◌+◌, arith, rules, ◌∙◌, []}
 use Rattle.vk_lines.specs.Forms.{many_at}
@@ -23,8 +23,9 @@ loop-index-preserved g c = record {
       c.loop-index.invariant.held (omega arith) c.in_ok-push.ensures.pushed c.loop-index.invariant.told c.in_ok-seal.ensures.told;
   count = grind (arith, common_steps, length-append);
   right = rw c.in_ok-push.ensures.pushed (each_push (IsSealAfter c.args.head.now.lanes) [] c.loop-index.seals c.in_ok-seal.seal c.loop-index.invariant.right c.in_ok-seal.ensures.right);
-  held = c.in_ok-seal.ensures.held ∙ c.loop-index.invariant.held;
-  later = omega (arith, c.in_ok-seal.ensures.later, c.loop-index.invariant.later);
+  held = c.in_ok-seal.ensures.shelf.held ∙ c.loop-index.invariant.held;
+  kept = c.in_ok-seal.ensures.shelf.causes ∙ c.loop-index.invariant.kept;
+  file = record { name = c.in_ok-seal.ensures.file.name ∙ c.loop-index.invariant.file.name; size = c.in_ok-seal.ensures.file.size ∙ c.loop-index.invariant.file.size };
 }
 
 pub returns-clause-told : goal.returns-clause-told

@@ -1,7 +1,7 @@
 use Rattle.vk_lines.specs.Forms.{EachAfter, many_onto}
 use Rattle.vk_board.specs.Values.{IsSealAfter}
-use Rattle.std.proofs.Common.{length, ◌≡◌, ◌-◌, ◌≤◌, [], IfSome}
-use Rattle.vk_lines.specs.Lines.{rest_of}
+use Rattle.std.proofs.Common.{length, ◌≡◌, ◌-◌, [], IfSome}
+use Rattle.vk_lines.specs.Lines.{KeepsFile, rest_of}
 use Rattle.vk_board.specs.Reading.{seal_at}
 use Rattle.vk_board.proofs.reading.read_seals.Given as goal
 
@@ -13,5 +13,6 @@ invariant-loop-index g l = record {
   count : length l.seals ≡ l.index;
   right : EachAfter (IsSealAfter l.head.lanes) [] l.seals;
   held : g.S.Shelf.held l.shelf ≡ g.S.Shelf.held l.fn.shelf;
-  later : g.S.Shelf.faults l.fn.shelf ≤ g.S.Shelf.faults l.shelf;
+  kept : g.S.Shelf.faults l.shelf ≡ g.S.Shelf.faults l.fn.shelf;
+  file : KeepsFile l.fn.lines l.lines;
 }

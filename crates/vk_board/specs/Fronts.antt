@@ -1,0 +1,120 @@
+-- What stands on a board before its first lane: its head and its seals, with the place of the winner's seal.
+use Rattle.std.specs.Prelude.{◌≡◌, ◌↔◌, ℕ, ◌-◌, ◌^◌, ◌<◌, ◌≤◌, if◌then◌else◌, List, ◌++◌, slice_index, Contains, Option, Some, None, Result, Ok, Err}
+use Rattle.std.specs.List.{flat_map}
+use Rattle.vk_lines.specs.Lines.{Rest}
+use Rattle.vk_lines.specs.Forms.{fault_line}
+use Rattle.vk_board.specs.declared.board.Head.{Head}
+use Rattle.vk_board.specs.declared.board.SealLines.{SealLines}
+use Rattle.vk_board.specs.declared.front.Front.{Front}
+use Rattle.vk_board.specs.declared.front.FrontErr.{FrontErr}
+use Rattle.vk_board.specs.declared.front.FrontErr.TheVariants as refusal
+use Rattle.vk_board.specs.Values.{IsHead, AreSeals, Shape}
+use Rattle.vk_board.specs.Texts.{head_text, seal_lines_text}
+use Rattle.vk_board.specs.Reading.{head_at, seals_at, seats_of}
+use Rattle.vk_board.specs.Tables.{board_table}
+use Rattle.vk_board.specs.Published.{price_stands, position_of}
+use Rattle.vk_board.specs.Gives.{◌>>=◌}
+
+-- the price is below 2^width, and 0 where there is one seal
+pub record PriceStands (head : Head) : Type 0 where
+  pub within_width : head.price < 2 ^ head.width
+  pub alone : head.seals ≡ 1 → head.price ≡ 0
+
+-- the seal at the position, counted from 1, has the seat of the published winner
+pub record HasWinner (front : Front) : Type 0 where
+  pub some : 1 ≤ front.position
+  pub within : front.position ≤ front.head.seals
+  pub seat : slice_index (seats_of front.seals) (front.position - 1) ≡ front.head.winner
+
+-- the front of a board whose price and winner may stand
+pub record IsFront (front : Front) : Type 0 where
+  pub head : IsHead front.head
+  pub seals : AreSeals front.head front.seals
+  pub price : PriceStands front.head
+  pub winner : HasWinner front
+
+abbrev pub front_text : Front → List ℕ
+front_text front = head_text front.head ++ flat_map seal_lines_text front.seals
+
+-- ---- reading
+
+-- the first thing that is wrong: the line of that number, then the price, then the winner
+pub data FrontFault : Type 0 where
+  Malformed : ℕ → FrontFault
+  Price : FrontFault
+  Winner : FrontFault
+
+-- the fault that a refusal tells
+abbrev pub fault_of : FrontErr → Option FrontFault
+fault_of (refusal.Malformed line) = Some (Malformed line)
+fault_of refusal.Price = Some Price
+fault_of refusal.Winner = Some Winner
+fault_of refusal.Failed = None
+fault_of refusal.NoMemory = None
+
+-- a fault line of the board is the fault
+abbrev pub in_front : {X : Type 0} → Result X ℕ → Result X FrontFault
+in_front (Ok x) = Ok x
+in_front (Err line) = Err (Malformed line)
+
+-- where the winner's seal has that place
+abbrev pub front_with : Head → List SealLines → ℕ → Front
+front_with head seals position = record { head = head; seals = seals; position = position }
+
+abbrev pub front_placed : Head → List SealLines → Option ℕ → Result Front FrontFault
+front_placed head seals None = Err Winner
+front_placed head seals (Some position) = Ok (front_with head seals position)
+
+-- the price is tested first, then the winner
+unfoldable pub front_of : Head → List SealLines → Result Front FrontFault
+front_of head seals = if price_stands head then front_placed head seals (position_of head.winner seals) else Err Price
+
+-- the lines before the first lane
+unfoldable pub front_at : Rest → Result (Front × Rest) FrontFault
+front_at rest = do
+  head ← in_front (head_at rest)
+  seals ← in_front (seals_at head.0 head.1)
+  front ← front_of head.0 seals.0
+  Ok (front, seals.1)
+
+-- ---- what is read, in the words of texts
+
+-- a front is read where what is left begins with its text, and nowhere else
+pub record FrontsAreRead : Type 0 where
+  pub found : (rest : Rest) (front : Front) (more : List ℕ) → IsFront front → rest.left ≡ front_text front ++ more
+      → (taken : ℕ) × (front_at rest ≡ Ok (front, record { taken = taken; left = more }))
+  pub shown : (rest : Rest) (front : Front) (after : Rest) → front_at rest ≡ Ok (front, after) → IsFront front × (rest.left ≡ front_text front ++ after.left)
+
+-- bytes that begin with the texts of a head and of the seals of a board with it
+pub record Begins (left : List ℕ) (head : Head) (seals : List SealLines) : Type 0 where
+  pub is_head : IsHead head
+  pub are_seals : AreSeals head seals
+  pub more : List ℕ
+  pub text : left ≡ head_text head ++ (flat_map seal_lines_text seals ++ more)
+
+-- they do, and the price may not stand
+pub record PriceFails (left : List ℕ) : Type 0 where
+  pub head : Head
+  pub seals : List SealLines
+  pub begins : Begins left head seals
+  pub price : ¬ PriceStands head
+
+-- they do, the price may stand, and no seal has the winner's seat
+pub record WinnerFails (left : List ℕ) : Type 0 where
+  pub head : Head
+  pub seals : List SealLines
+  pub begins : Begins left head seals
+  pub price : PriceStands head
+  pub winner : ¬ Contains (seats_of seals) head.winner
+
+-- a file has that fault line, and doesn't begin so
+pub record LineFails (shape : Head → Shape) (bytes : List ℕ) (number : ℕ) : Type 0 where
+  pub line : fault_line (board_table shape) bytes ≡ Some number
+  pub before : (head : Head) (seals : List SealLines) → ¬ Begins bytes head seals
+
+-- a file is refused before its first lane for its fault line, for the price or for the winner: each exactly
+-- where it fails and nothing before it does
+pub record FrontsAreRefused : Type 0 where
+  pub line : (shape : Head → Shape) (bytes : List ℕ) (number : ℕ) → (front_at (record { taken = 0; left = bytes }) ≡ Err (Malformed number)) ↔ LineFails shape bytes number
+  pub price : (rest : Rest) → (front_at rest ≡ Err Price) ↔ PriceFails rest.left
+  pub winner : (rest : Rest) → (front_at rest ≡ Err Winner) ↔ WinnerFails rest.left

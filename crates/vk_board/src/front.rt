@@ -1,0 +1,108 @@
+// What stands on a board before its first lane.
+ghost use Rattle.std.specs.Prelude.{◌≡◌, IfOk, IfSome, IsErrOf};
+ghost use Rattle.vk_io.specs.Reads.{OnlyReads};
+ghost use Rattle.vk_lines.specs.Lines.{KeepsFile, rest_of};
+ghost use Rattle.vk_board.specs.Values.{IsHead, AreSeals};
+ghost use Rattle.vk_board.specs.Reading.{seats_of};
+ghost use Rattle.vk_board.specs.Gives.{Gives};
+ghost use Rattle.vk_board.specs.Fronts.{IsFront, fault_of, front_of, front_at};
+
+use crate::board::{Head, SealLines};
+use crate::published::{position_of, price_stands};
+use crate::reading::{read_head, read_seals};
+use std::alloc::Global;
+use vk_io::Shelf;
+use vk_lines::{Lines, ReadErr};
+use vk_residue::NoMemory;
+use vk_seq::Seq;
+
+/// What stands on a board before its first lane, and the place of the winner's seal, from 1.
+#[derive(Debug, Drop)]
+pub struct Front {
+    pub head: Head,
+    pub seals: Seq<SealLines>,
+    pub position: u32,
+}
+
+/// Why no front was read.
+#[derive(Clone, Copy, Debug, PartialEq, Eq)]
+pub enum FrontErr {
+    /// The number of the first line, from 1, that isn't what its place demands.
+    Malformed { line: u64 },
+    /// The price isn't below 2^width, or there is one seal and the price isn't 0.
+    Price,
+    /// No seal has the winner's seat.
+    Winner,
+    /// The outside failed. The shelf's count of faults rose in this call.
+    Failed,
+    /// Want of memory.
+    NoMemory,
+}
+
+impl From<ReadErr> for FrontErr {
+    ghost use Rattle.std.specs.Prelude.{◌≡◌};
+    ghost use Rattle.vk_board.specs.Causes.{front_err_of};
+
+    ghost from_gives = { λ refused e. e ≡ front_err_of refused };
+
+    fn from(refused: ReadErr) -> FrontErr {
+        match refused {
+            ReadErr::Malformed { line } => FrontErr::Malformed { line },
+            ReadErr::Failed => FrontErr::Failed,
+            ReadErr::NoMemory => FrontErr::NoMemory,
+        }
+    }
+}
+
+/// Reads the lines of a board before its first lane. They are refused for the first line that isn't
+/// what its place demands, then for the price, and then for the winner.
+#[tactic(auto, unfolding(crate::specs::Fronts::front_at))]
+pub fn read_front<S: Shelf>(
+    alloc: Global,
+    shelf: &mut S,
+    lines: &mut Lines,
+) -> Result<Front, FrontErr>
+    ensures told { IfSome (S.held shelf.old) (λ files.
+        Gives fault_of (λ front. (front, rest_of lines.new files)) result (front_at (rest_of lines.old files))) }
+    ensures right { IfOk result IsFront }
+    ensures file { KeepsFile lines.old lines.new }
+    ensures shelf { OnlyReads S.held S.Shelf.faults FrontErr.Failed result shelf.old shelf.new }
+{
+    let head = read_head(shelf, lines)?;
+    let seals = read_seals(alloc, shelf, lines, &head)?;
+    let front = front_from(head, seals)?;
+    Ok(front)
+}
+
+/// What was read, where its price and its winner may stand.
+#[tactic(auto, unfolding(crate::specs::Fronts::front_of))]
+fn front_from(head: Head, seals: Seq<SealLines>) -> Result<Front, FrontErr>
+    requires head { IsHead head }
+    requires seals { AreSeals head seals }
+    ensures told { Gives fault_of (λ front. front) result (front_of head seals) }
+    ensures right { IfOk result IsFront }
+    ensures inside { IsErrOf result FrontErr.Failed → ⊥ }
+{
+    if !price_stands(&head) {
+        return Err(FrontErr::Price);
+    }
+    match position_of(head.winner, seals.as_slice()) {
+        None => Err(FrontErr::Winner),
+        Some(position) => Ok(Front {
+            head,
+            seals,
+            position,
+        }),
+    }
+}
+
+/// The seats of the seals, one after another.
+pub fn seats_of(alloc: Global, seals: &[SealLines]) -> Result<Seq<u16>, NoMemory>
+    ensures { IfOk result (λ seats. seats ≡ seats_of seals.now) }
+{
+    let mut seats = Seq::new(alloc);
+    for seal in seals {
+        seats.push(seal.seat)?;
+    }
+    Ok(seats)
+}
