@@ -5,7 +5,9 @@ use Rattle.vk_wire.specs.declared.wire.WireTape.{WireTape}
 use Rattle.vk_prover.specs.declared.tape.LaneTape.{LaneTape}
 use Rattle.vk_prover.specs.declared.tape.DrawErr.{DrawErr}
 use Rattle.vk_prover.specs.declared.tape.DrawErr.TheVariants.{DrySeed}
-use Rattle.vk_prover.specs.Drawn.{HasMask, TapeAnswer, drawn_tape, wires_after, drawn_wire, after_wire, after_wires}
+use Rattle.vk_dice.specs.Draws.{after_residue}
+use Rattle.vk_wire.specs.Values.{IsTape}
+use Rattle.vk_prover.specs.Drawn.{TapeAnswer, TapeWords, drawn_tape, wires_after, drawn_wire, after_wire, after_wires, words_after}
 
 drawn_more : (before : List WireTape) (count : ℕ) (ahead : ℕ → ℕ) → 0 < count
     → drawn_tape before count ahead ≡ wires_after (length before) (λ tape. drawn_tape (before ++ tape ∷ []) (count - 1) (after_wire ahead)) (drawn_wire ahead)
@@ -42,21 +44,42 @@ unfolding drawn_tape
 drawn_done xs left ahead whole none so_far = sym so_far ∙ ap (λ n. drawn_tape xs n ahead) none
 
 -- the words after a wire more
-after_more : (count : ℕ) (ahead : ℕ → ℕ) → 0 < count → after_wires count ahead ≡ after_wires (count - 1) (after_wire ahead)
+after_more : (count : ℕ) (ahead : ℕ → ℕ) → 0 < count
+    → after_wires count ahead ≡ words_after (after_residue ahead) (after_wires (count - 1) (after_wire ahead)) (drawn_wire ahead)
 unfolding after_wires
 after_more zero ahead some = absurd (omega arith)
 after_more (suc count) ahead some = let less : suc count - 1 ≡ count = omega arith in rw less refl
 
-pub after_turn : (left next : ℕ) (ahead later whole : ℕ → ℕ) → next + 1 ≡ left → later ≡ after_wire ahead → after_wires left ahead ≡ whole → after_wires next later ≡ whole
-after_turn left next ahead later whole fewer after so_far =
+pub after_turn : (o : Option WireTape) (tape : WireTape) (left next : ℕ) (ahead later whole : ℕ → ℕ) → next + 1 ≡ left → o ≡ Some tape → o ≡ drawn_wire ahead
+    → later ≡ words_after (after_residue ahead) (after_wire ahead) o → after_wires left ahead ≡ whole → after_wires next later ≡ whole
+after_turn o tape left next ahead later whole fewer some drawn after so_far =
     let less : left - 1 ≡ next = omega arith in
-    rw (after, ← less) (sym (after_more left ahead (omega arith)) ∙ so_far)
+    let found : drawn_wire ahead ≡ Some tape = sym drawn ∙ some in
+    ap (after_wires next) (after ∙ ap (words_after (after_residue ahead) (after_wire ahead)) some)
+    ∙ ap (λ n. after_wires n (after_wire ahead)) (sym less)
+    ∙ ap (words_after (after_residue ahead) (after_wires (left - 1) (after_wire ahead))) (sym found)
+    ∙ sym (after_more left ahead (omega arith))
+    ∙ so_far
 
 pub after_done : (left : ℕ) (ahead whole : ℕ → ℕ) → left ≡ 0 → after_wires left ahead ≡ whole → ahead ≡ whole
 unfolding after_wires
 after_done left ahead whole none so_far = sym (ap (λ n. after_wires n ahead) none) ∙ so_far
 
--- a drawn tape has a mask
-pub mask_of_some : (o : Option WireTape) (tape : WireTape) → o ≡ Some tape → IfSome o HasMask → HasMask tape
-mask_of_some (Some x) tape is right = let same : x ≡ tape = cc is in let P : WireTape → Type 0 = λ t. HasMask t in subst P same right
-mask_of_some None tape is right = cc is
+-- the words after a wire whose tape can't be drawn
+pub after_dry : (result : Result LaneTape DrawErr) (o : Option WireTape) (e : DrawErr) (wire left : ℕ) (ahead later whole : ℕ → ℕ)
+    → result ≡ Err e → ◌≡◌ {A = Result WireTape DrawErr} (Err e) (ok_or o (DrySeed wire)) → o ≡ drawn_wire ahead → 0 < left
+    → later ≡ words_after (after_residue ahead) (after_wire ahead) o → after_wires left ahead ≡ whole → TapeWords result later whole
+after_dry result o e wire left ahead later whole is same drawn some after so_far =
+    let no = refused o e (DrySeed wire) same in
+    let none : drawn_wire ahead ≡ None = sym drawn ∙ no.0 in
+    let stop : later ≡ whole =
+    after ∙ ap (words_after (after_residue ahead) (after_wire ahead)) no.0
+    ∙ ap (words_after (after_residue ahead) (after_wires (left - 1) (after_wire ahead))) (sym none)
+    ∙ sym (after_more left ahead some)
+    ∙ so_far in
+    rw (is, no.1) stop
+
+-- what was drawn is a tape
+pub tape_of_some : (o : Option WireTape) (tape : WireTape) → o ≡ Some tape → IfSome o IsTape → IsTape tape
+tape_of_some (Some x) tape is right = let same : x ≡ tape = cc in subst IsTape same right
+tape_of_some None tape is right = cc is

@@ -9,7 +9,7 @@ use Rattle.vk_wire.specs.declared.wire.WireTape.{WireTape}
 use Rattle.vk_row.specs.Rows.{HasSide}
 use Rattle.vk_row.specs.Rows.{sums}
 use Rattle.vk_row.proofs.Linear.{linear_part_sums}
-use Rattle.vk_prover.specs.Drawn.{HasMask}
+use Rattle.vk_wire.specs.Values.{IsTape}
 use Rattle.vk_prover.specs.Honest.{honest_halves, masks, posted_on, no_tape}
 
 -- one half for each wire
@@ -42,15 +42,15 @@ halves_come_to : (value mask : ℕ) → IsResidue value → IsResidue mask → s
 halves_come_to value mask small small_mask = omega arith
 
 -- both halves of each wire come to its value
-pub halves_are_sums : (values : List ℕ) (tape : List WireTape) → length values ≡ length tape → All IsResidue values → All HasMask tape
+pub halves_are_sums : (values : List ℕ) (tape : List WireTape) → length values ≡ length tape → All IsResidue values → All IsTape tape
     → sums (masks tape) (honest_halves values tape true) ≡ values
 unfolding honest_halves
 halves_are_sums [] [] same residues small = refl
 halves_are_sums [] (t ∷ ts) same residues small = absurd (omega arith)
 halves_are_sums (v ∷ vs) [] same residues small = absurd (omega arith)
 halves_are_sums (v ∷ vs) (t ∷ ts) same residues small =
-    let here = halves_come_to v t.mask (All-head IsResidue v vs residues) (All-head HasMask t ts small) in
-    let rest = halves_are_sums vs ts (omega arith) (All-tail IsResidue v vs residues) (All-tail HasMask t ts small) in
+    let here = halves_come_to v t.mask (All-head IsResidue v vs residues) (All-head IsTape t ts small).mask in
+    let rest = halves_are_sums vs ts (omega arith) (All-tail IsResidue v vs residues) (All-tail IsTape t ts small) in
     cc
 
 pub length-masks : (tape : List WireTape) → length (masks tape) ≡ length tape
@@ -77,7 +77,7 @@ row_seconds row values firsts seconds same names are zero_row =
 
 -- a row that is 0 on the values has both sides on the halves, with its posted number
 pub row_has_side : (row : Form) (values : List ℕ) (tape : List WireTape) (bit : Bool) → length values ≡ length tape → NamesBelow (length tape) row.terms
-    → All IsResidue values → All HasMask tape → form_value row values ≡ 0
+    → All IsResidue values → All IsTape tape → form_value row values ≡ 0
     → HasSide row bit (honest_halves values tape bit) (posted_on (masks tape) row)
 row_has_side row values tape false same names residues small zero_row =
     ap (linear_part row.terms) (first_halves_are_masks values tape same)

@@ -1,16 +1,11 @@
 -- The tape of a lane as it is drawn from words, after the tapes of the inputs.
 use Rattle.std.specs.Prelude.{◌≡◌, ℕ, zero, suc, List, [], ◌∷◌, ◌++◌, length, Option, Some, None, Result, Ok, Err, option_map}
-use Rattle.vk_residue.specs.Residue.{IsResidue}
 use Rattle.vk_dice.specs.Words.{later}
 use Rattle.vk_dice.specs.Draws.{drawn_residue, after_residue, drawn_bit, drawn_key}
 use Rattle.vk_wire.specs.declared.wire.WireTape.{WireTape}
 use Rattle.vk_prover.specs.declared.tape.LaneTape.{LaneTape}
 use Rattle.vk_prover.specs.declared.tape.DrawErr.{DrawErr}
 use Rattle.vk_prover.specs.declared.tape.DrawErr.TheVariants.{DrySeed, NoMemory}
-
--- the mask is a residue
-abbrev pub HasMask : WireTape → Type 0
-HasMask tape = IsResidue tape.mask
 
 -- the tape of a wire: a residue, a bit and two keys, drawn in this order; none where no residue can
 -- be drawn
@@ -38,13 +33,25 @@ unfoldable pub drawn_tape : List WireTape → ℕ → (ℕ → ℕ) → Result (
 drawn_tape before zero ahead = Ok before
 drawn_tape before (suc count) ahead = wires_after (length before) (λ tape. drawn_tape (before ++ tape ∷ []) count (after_wire ahead)) (drawn_wire ahead)
 
--- the words ahead after the tapes of so many wires
+-- the words ahead where a wire was dry, and where it was drawn
+abbrev pub words_after : {A : Type 0} → (ℕ → ℕ) → (ℕ → ℕ) → Option A → ℕ → ℕ
+words_after dry drawn None = dry
+words_after dry drawn (Some tape) = drawn
+
+-- the words ahead after the tapes of so many wires; where one can't be drawn, those after the last word
+-- that was looked at for the first such wire
 unfoldable pub after_wires : ℕ → (ℕ → ℕ) → ℕ → ℕ
 after_wires zero ahead = ahead
-after_wires (suc count) ahead = after_wires count (after_wire ahead)
+after_wires (suc count) ahead = words_after (after_residue ahead) (after_wires count (after_wire ahead)) (drawn_wire ahead)
 
 -- the tape that was drawn, or the first wire whose tape can't be, unless it is want of memory
 abbrev pub TapeAnswer : Result LaneTape DrawErr → Result (List WireTape) ℕ → Type 0
 TapeAnswer (Ok tape) expected = expected ≡ Ok tape.wires
 TapeAnswer (Err (DrySeed wire)) expected = expected ≡ Err wire
 TapeAnswer (Err NoMemory) expected = Unit {0}
+
+-- the words left are those after the tape, or after its first wire that is dry, unless it is want of memory
+abbrev pub TapeWords : Result LaneTape DrawErr → (ℕ → ℕ) → (ℕ → ℕ) → Type 0
+TapeWords (Ok tape) left expected = left ≡ expected
+TapeWords (Err (DrySeed wire)) left expected = left ≡ expected
+TapeWords (Err NoMemory) left expected = Unit {0}

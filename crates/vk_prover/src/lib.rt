@@ -8,5 +8,8 @@ mod tape;
 mod tests;
 
 pub use honest::{answer_lane, make_lane};
-pub use laws::honest_replies_are_accepted;
+pub use laws::{
+    honest_lanes_are_of_their_form, honest_replies_are_accepted,
+    replies_of_held_values_are_accepted,
+};
 pub use tape::{DrawErr, LaneTape, draw_tape};

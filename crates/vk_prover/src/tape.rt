@@ -1,6 +1,9 @@
 // The tape of a lane, and how it is drawn.
-ghost use Rattle.std.specs.Prelude.{◌≡◌, ◌-◌, All, length, IfOk, IfSome, IsSome, OnOk};
-ghost use Rattle.vk_prover.specs.Drawn.{HasMask, TapeAnswer, drawn_tape, drawn_wire, after_wire, after_wires};
+ghost use Rattle.std.specs.Prelude.{◌≡◌, ◌-◌, All, length, IfErr, IfOk, IfSome};
+ghost use Rattle.vk_dice.specs.Draws.{after_residue};
+ghost use Rattle.vk_wire.specs.Values.{IsTape};
+ghost use Rattle.vk_prover.specs.Drawn.{TapeAnswer, TapeWords, drawn_tape, drawn_wire, after_wire, after_wires, words_after};
+ghost use Rattle.vk_prover.specs.Laws.{IsTapeOf};
 ghost use Rattle.vk_prover.specs.declared.tape.DrawErr.TheVariants.{NoMemory};
 
 use std::alloc::{AllocError, AllocFailed, Global};
@@ -41,7 +44,8 @@ impl<T: Drop> From<AllocFailed<T>> for DrawErr {
 }
 
 /// Draws the tape of a lane: the given tapes of the inputs, and then for each further wire in order
-/// a residue, a bit and two keys, drawn from the words in this order.
+/// a residue, a bit and two keys, drawn from the words in this order. Where a wire is dry, no word after
+/// those that were looked at for its residue is taken.
 pub fn draw_tape<W: Words>(
     alloc: Global,
     plan: &Plan,
@@ -50,11 +54,10 @@ pub fn draw_tape<W: Words>(
 ) -> Result<LaneTape, DrawErr>
     requires { length given.now ≡ plan.now.inputs }
     ensures drawn { TapeAnswer result (drawn_tape given.now (length plan.now.kinds - plan.now.inputs) (W.ahead words.old)) }
-    ensures after { OnOk result (W.ahead words.new ≡ after_wires (length plan.now.kinds - plan.now.inputs) (W.ahead words.old)) }
-    ensures masks { All HasMask given.now → IfOk result (λ tape. All HasMask tape.wires) }
-    ensures one_each { IfOk result (λ tape. length tape.wires ≡ length plan.now.kinds) }
+    ensures after { TapeWords result (W.ahead words.new) (after_wires (length plan.now.kinds - plan.now.inputs) (W.ahead words.old)) }
+    ensures tape { IfOk result (λ tape. IsTapeOf plan.now tape.wires) }
 {
-    let mut wires = Seq::from_vec(Vec::from_slice(alloc, given)?);
+    let mut wires = copied(alloc, given)?;
     for wire in plan.inputs()..plan.wires() {
         let tape = draw_wire(words).ok_or(DrawErr::DrySeed { wire })?;
         wires.push(tape)?;
@@ -62,11 +65,11 @@ pub fn draw_tape<W: Words>(
     Ok(LaneTape { wires })
 }
 
-/// Draws the tape of one wire.
+/// Draws the tape of one wire. None where its residue can't be drawn, and then no further word is taken.
 fn draw_wire<W: Words>(words: &mut W) -> Option<WireTape>
     ensures drawn { result ≡ drawn_wire (W.ahead words.old) }
-    ensures mask { IfSome result HasMask }
-    ensures after { IsSome result → W.ahead words.new ≡ after_wire (W.ahead words.old) }
+    ensures tape { IfSome result IsTape }
+    ensures after { W.ahead words.new ≡ words_after (after_residue (W.ahead words.old)) (after_wire (W.ahead words.old)) result }
 {
     let mask = draw_residue(words).ok()?;
     let swap = draw_bit(words);
@@ -78,4 +81,25 @@ fn draw_wire<W: Words>(words: &mut W) -> Option<WireTape>
         first_key,
         second_key,
     })
+}
+
+/// The tapes in memory of their own.
+fn copied(alloc: Global, given: &[WireTape]) -> Result<Seq<WireTape>, DrawErr>
+    ensures same { IfOk result (λ wires. wires ≡ given.now) }
+    ensures tapes { IfOk result (λ wires. All IsTape wires) }
+    ensures memory { IfErr result (λ refused. refused ≡ NoMemory) }
+{
+    let mut wires = Seq::new(alloc);
+    for tape in given {
+        wires.push(itself(*tape))?;
+    }
+    Ok(wires)
+}
+
+/// The tape. That it is one is what its type says.
+fn itself(tape: WireTape) -> WireTape
+    ensures same { result ≡ tape }
+    ensures tape { IsTape result }
+{
+    tape
 }

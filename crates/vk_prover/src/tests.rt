@@ -1,6 +1,6 @@
-// One bid of 0 by seat 7, a copy of it, and a pair for its one bit. The commitment to the copy's mask
-// was made by an independent implementation.
-ghost use Rattle.std.specs.Prelude.{◌≡◌, ◌<◌, ◌+◌, IfOk, length, replicate};
+// One bid of 0 by seat 7, a copy of it, and a pair for its one bit; and three bids of width 8. The
+// commitment to the copy's mask was made by an independent implementation.
+ghost use Rattle.std.specs.Prelude.{◌≡◌, ◌<◌, ◌≤◌, ◌^◌, ◌+◌, All, IfOk, IfSome, length, replicate};
 ghost use Rattle.vk_plan.specs.Forms.{NamesBelow};
 ghost use Rattle.vk_plan.specs.Plans.{Holds};
 
@@ -9,11 +9,12 @@ use std::alloc::Global;
 use std::test::Fail;
 use vk_board::LaneLines;
 use vk_commit::Opening;
-use vk_dice::ListWords;
-use vk_plan::{Form, Plan, Term, WireKind};
-use vk_residue::Residue;
+use vk_dice::{ChaChaWords, ListWords, Words};
+use vk_plan::{Circuit, Form, Plan, Term, WireKind};
+use vk_residue::{NoMemory, Residue};
 use vk_row::{LaneCase, check_lane};
 use vk_seq::Seq;
+use vk_vickrey::{VickreyPlan, outcome};
 use vk_wire::{Shown, WireTape, make, wire_place};
 
 const AUCTION: [u8; 16] = [0, 1, 2, 3, 4, 5, 6, 7, 8, 9, 10, 11, 12, 13, 14, 15];
@@ -246,5 +247,149 @@ fn a_wire_that_is_dry_is_named(rt: HostRuntime) -> Result<(), Fail> {
     let mut words = ListWords::of(rt.alloc(), &ahead)?;
     let refused = draw_tape(rt.alloc(), &plan, &[given], &mut words).err();
     assert_eq!(rt; refused, Some(DrawErr::DrySeed { wire: 2 }));
+    Ok(())
+}
+
+/// The bids as residues. None where one is not of the width.
+fn residues(alloc: Global, bids: &[u64], width: u32) -> Result<Option<Vec<Residue>>, NoMemory>
+    requires { width ≤ 40 }
+    ensures same { IfOk result (λ made. IfSome made (λ inputs. inputs.items ≡ bids.now)) }
+    ensures within { IfOk result (λ made. IfSome made (λ inputs. All (λ bid. bid < 2 ^ width) bids.now)) }
+{
+    let mut inputs = Vec::new(alloc);
+    for bid in bids {
+        if *bid >= Residue::pow2(width).get() {
+            return Ok(None);
+        }
+        inputs.push(Residue::new(*bid).unwrap_or(Residue::ZERO))?;
+    }
+    Ok(Some(inputs))
+}
+
+/// The plan of the circuit, and the values that hold for it.
+fn plan_and_values<C: Circuit>(
+    alloc: Global,
+    circuit: &C,
+    inputs: &[Residue],
+) -> Result<(Plan, Vec<Residue>), NoMemory>
+    requires { C.claim circuit.now inputs.now }
+    ensures { IfOk result (λ made. Holds made.0 made.1.items) }
+{
+    let plan = circuit.plan(alloc)?;
+    let values = circuit.fill(alloc, inputs)?;
+    Ok((plan, values))
+}
+
+/// The plan of the bids at their outcome, and the values that hold for it.
+fn plan_of_bids(alloc: Global, bids: &[u64], width: u32) -> Result<(Plan, Vec<Residue>), Fail>
+    requires some { 1 ≤ length bids.now }
+    requires most { length bids.now ≤ 64 }
+    requires width { width ≤ 40 }
+    ensures { IfOk result (λ made. Holds made.0 made.1.items) }
+{
+    let inputs = residues(alloc, bids, width)?.ok_or("of the width")?;
+    let circuit = VickreyPlan::new(bids.len() as u32, width, outcome(bids)).ok_or(
+        "within the limits",
+    )?;
+    let made = plan_and_values(alloc, &circuit, inputs.as_slice())?;
+    Ok(made)
+}
+
+const SEATS: [u16; 3] = [7, 9, 300];
+
+fn given_tapes() -> Result<[WireTape; 3], Fail> {
+    Ok([
+        wire_tape(3, 0x11)?,
+        wire_tape(2305843009213693950, 0x33)?,
+        wire_tape(1000, 0x55)?,
+    ])
+}
+
+/// All that is public of lane 2, with the commitments of the three seals in front.
+fn case_of_seals(
+    alloc: Global,
+    bids: &[u64; 3],
+    given: &[WireTape; 3],
+    lines: LaneLines,
+) -> Result<LaneCase, Fail> {
+    let mut coms = Seq::new(alloc);
+    for seal in 0..3 {
+        let place = wire_place(&AUCTION, 2, &SEATS, seal);
+        let bid = residue(bids[seal as usize])?;
+        coms.push(make(WireKind::Split, &place, bid, &given[seal as usize]))?;
+    }
+    for com in lines.coms.as_slice() {
+        coms.push(*com)?;
+    }
+    let seats = Vec::from_slice(alloc, &SEATS)?;
+    Ok(LaneCase {
+        auction: AUCTION,
+        lane: 2,
+        seats: Seq::from_vec(seats),
+        coms,
+        posted: lines.posted,
+    })
+}
+
+/// The halves of an accepted lane.
+fn accepted_halves(
+    alloc: Global,
+    plan: &Plan,
+    case: &LaneCase,
+    bit: bool,
+    shown: &[Shown],
+) -> Result<Vec<Residue>, Fail> {
+    let wires = plan.wires() as usize;
+    if case.coms.len() != wires || shown.len() != wires {
+        return Err("not one for each wire".into());
+    }
+    if case.seats.len() != plan.inputs() as usize || case.posted.len() != plan.rows() as usize {
+        return Err("not one for each input or row".into());
+    }
+    let halves = check_lane(alloc, plan, case, bit, shown)?;
+    Ok(halves)
+}
+
+#[test]
+fn both_replies_of_three_seals_are_accepted(rt: HostRuntime) -> Result<(), Fail> {
+    let bids = [200, 13, 250];
+    let (plan, values) = plan_of_bids(rt.alloc(), &bids, 8)?;
+    let given = given_tapes()?;
+    if plan.inputs() != 3 {
+        return Err("not three inputs".into());
+    }
+    let mut words = ChaChaWords::of(&[7; 32], &AUCTION, 2);
+    let tape = draw_tape(rt.alloc(), &plan, &given, &mut words)?;
+    let lines = make_lane(rt.alloc(), &plan, &AUCTION, 2, values.as_slice(), &tape)?;
+    assert_eq!(rt; (lines.coms.len(), lines.posted.len()), (77, 13));
+    let case = case_of_seals(rt.alloc(), &bids, &given, lines)?;
+    let first = answer_lane(rt.alloc(), &plan, values.as_slice(), &tape, false)?;
+    let second = answer_lane(rt.alloc(), &plan, values.as_slice(), &tape, true)?;
+    let firsts = accepted_halves(rt.alloc(), &plan, &case, false, first.as_slice())?;
+    let seconds = accepted_halves(rt.alloc(), &plan, &case, true, second.as_slice())?;
+    let mut sums = firsts
+        .iter()
+        .zip(seconds.iter())
+        .map(|(first, second)| first.add(*second).get());
+    for bid in [200, 13, 250, 200, 13, 250] {
+        assert_eq!(rt; sums.next(), Some(bid));
+    }
+    Ok(())
+}
+
+#[test]
+fn a_later_wire_that_is_dry_is_named(rt: HostRuntime) -> Result<(), Fail> {
+    let (plan, _values) = plan_of_bids(rt.alloc(), &[200, 13, 250], 8)?;
+    let given = given_tapes()?;
+    if plan.inputs() != 3 {
+        return Err("not three inputs".into());
+    }
+    let mut ahead = [0; 55];
+    ahead[50..54].copy_from_slice(&[18446744073709551615; 4]);
+    ahead[54] = 11;
+    let mut words = ListWords::of(rt.alloc(), &ahead)?;
+    let refused = draw_tape(rt.alloc(), &plan, &given, &mut words).err();
+    assert_eq!(rt; refused, Some(DrawErr::DrySeed { wire: 8 }));
+    assert_eq!(rt; words.next(), 11);
     Ok(())
 }

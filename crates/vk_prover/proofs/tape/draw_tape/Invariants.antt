@@ -1,5 +1,6 @@
 use Rattle.std.proofs.Common.{◌≡◌, ◌-◌, All, length}
-use Rattle.vk_prover.specs.Drawn.{HasMask, drawn_tape, after_wires}
+use Rattle.vk_wire.specs.Values.{IsTape}
+use Rattle.vk_prover.specs.Drawn.{drawn_tape, after_wires}
 use Rattle.vk_prover.proofs.tape.draw_tape.Given as goal
 
 -- the words ahead give the rest of the tape
@@ -8,6 +9,6 @@ invariant-loop-wire g l = record {
   drawn : drawn_tape l.wires (length l.plan.kinds - l.wire) (g.W.Words.ahead l.words)
       ≡ drawn_tape l.given (length l.plan.kinds - l.plan.inputs) (g.W.Words.ahead l.fn.words);
   after : after_wires (length l.plan.kinds - l.wire) (g.W.Words.ahead l.words) ≡ after_wires (length l.plan.kinds - l.plan.inputs) (g.W.Words.ahead l.fn.words);
-  masks : All HasMask l.given → All HasMask l.wires;
+  tapes : All IsTape l.wires;
   count : length l.wires ≡ l.wire;
 }
