@@ -4,7 +4,8 @@ use Rattle.vk_lines.specs.Lines.{Rest, end_at}
 use Rattle.vk_plan.specs.Plans.{PlanValue, IsPlan}
 use Rattle.vk_wire.specs.declared.wire.Shown.{Shown}
 use Rattle.vk_row.specs.declared.case.LaneCase.{LaneCase}
-use Rattle.vk_row.specs.Lanes.{HasCounts}
+use Rattle.vk_row.specs.Lanes.{IsAccepted}
+use Rattle.vk_row.proofs.Whole.{ok_accepted}
 use Rattle.vk_row.specs.LaneTests.{◌>>=◌, checked_lane}
 use Rattle.vk_board.specs.Reading.{lane_at}
 use Rattle.vk_board.proofs.Forms as board_forms
@@ -12,18 +13,19 @@ use Rattle.vk_reply.specs.Reading.{reply_lane_at}
 use Rattle.vk_reply.proofs.Replies as reply_forms
 use Rattle.vk_verifier.specs.declared.answers.Part.TheVariants as part
 use Rattle.vk_verifier.specs.declared.answers.BoardVerdict.{BoardVerdict}
-use Rattle.vk_verifier.specs.declared.front.Front.{Front}
+use Rattle.vk_board.specs.declared.front.Front.{Front}
 use Rattle.vk_verifier.specs.declared.stage.TwoLane.{TwoLane}
 use Rattle.vk_verifier.specs.declared.stage.TwoVerdict.{TwoVerdict}
 use Rattle.vk_verifier.specs.declared.stage.TwoVerdict.TheVariants.{Same, Ready}
-use Rattle.vk_verifier.specs.Verdicts.{ends_judged, in_part, IsFront, plan_of, case_of, later_wires, lane_verdict, lane_judged}
-use Rattle.vk_verifier.specs.Parts.{case_at, reply_judged, rest_judged, IsCase, Fits, IsChecked}
+use Rattle.vk_board.specs.Fronts.{IsFront}
+use Rattle.vk_verifier.specs.Verdicts.{ends_judged, in_part, plan_of, case_of, later_wires, lane_verdict, lane_judged}
+use Rattle.vk_verifier.specs.Parts.{case_at, reply_judged, rest_judged, IsCase, Fits}
 use Rattle.vk_verifier.specs.Two.{accepted_of, ends_found, found_by, same_bits, of_first, of_second, second_shown, both_shown, two_lane_at, ahead_after, ahead_from, Rests, Ahead, IsTwoLane}
 use Rattle.vk_verifier.proofs.Counts.{fits}
 use Rattle.vk_verifier.proofs.Joined.{lane_parts}
 use Rattle.vk_verifier.proofs.Lanes.{LaneRead, lane_shown}
 use Rattle.vk_verifier.proofs.Steps.{bind_ok, bind_found, bind_never, read_found, value_same}
-use Rattle.vk_bids.proofs.Seals.{front_is_plan}
+use Rattle.vk_verifier.proofs.Plans.{is_plan}
 
 -- ---- what is found on the way is never that both are accepted
 
@@ -92,8 +94,7 @@ module _ (front : Front) (plan : PlanValue) (number : ℕ) where
   -- what one reply shows of the lane is accepted
   record ReplyGives (case : LaneCase) (bit : Bool) (shown : List Shown) : Type 0 where
     is_case : IsCase front plan number case
-    counts : HasCounts plan case shown
-    checked : IsChecked plan case bit shown
+    accepted : IsAccepted plan case bit shown
 
   reply_gives : (bit : Bool) (board reply : Rest) (case : LaneCase × Rest) (shown : List Shown × Rest) → IsFront front → plan ≡ plan_of front → number ≤ front.head.lanes
       → case_at front plan number board ≡ Ok case → reply_judged plan case.0 number bit reply ≡ Ok shown → ReplyGives case.0 bit shown.0
@@ -104,14 +105,13 @@ module _ (front : Front) (plan : PlanValue) (number : ℕ) where
       let shown_is = same_shown bit board reply case.0 shown (case.1, shown.1) reply_ok read in
       let right = ((board_forms.lane_is_part number (later_wires plan) (length plan.rows) small).shown board read.lines case.1 read.board_read).0 in
       let are = ((reply_forms.lane_is_part number plan.kinds bit (omega (arith, small))).shown reply read.shown shown.1 read.reply_read).0 in
-      let is_plan : IsPlan plan = subst IsPlan (sym same) (front_is_plan front is) in
-      let counts : Fits plan case.0 = fits front plan number read.lines case.0 is is_plan same right case_is in
+      let right_plan : IsPlan plan = subst IsPlan (sym same) (is_plan front is) in
+      let counts : Fits plan case.0 = fits front plan number read.lines case.0 is right_plan same right case_is in
       let P : List Shown → Type 0 = λ s. ReplyGives case.0 bit s in
-      let Q : LaneCase → Type 0 = λ c. IsChecked plan c bit read.shown in
+      let Q : LaneCase → Type 0 = λ c. checked_lane plan c bit read.shown ≡ Ok read.halves in
       subst P shown_is (record {
         is_case = record { lines = read.lines; right = right; is = case_is };
-        counts = counts read.shown are.one_each;
-        checked = subst Q (sym case_is) (read.halves, read.checked);
+        accepted = (read.halves, ok_accepted plan case.0 bit read.shown read.halves right_plan (counts read.shown are.one_each) (subst Q (sym case_is) read.checked));
       })
 
   -- the lane is that of the number, for these bits
@@ -128,7 +128,7 @@ module _ (front : Front) (plan : PlanValue) (number : ℕ) where
       let other = reply_gives second_bit rests.board rests.second case second is same last case_ok second_ok in
       let P : TwoLane × Rests → Type 0 = λ g. IsGiven first_bit second_bit g.0 in
       subst P (value_same _ given made) (record {
-        right = record { case = one.is_case; first_counts = one.counts; first = one.checked; second_counts = other.counts; second = other.checked };
+        right = record { case = one.is_case; first = one.accepted; second = other.accepted };
         first_bit_is = refl;
         second_bit_is = refl;
       })

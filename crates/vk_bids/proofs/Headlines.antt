@@ -8,24 +8,32 @@ use Rattle.vk_lines.specs.Lines.{Rest}
 use Rattle.vk_plan.specs.Plans.{PlanValue}
 use Rattle.vk_row.specs.LaneTests.{◌>>=◌}
 use Rattle.vk_board.specs.declared.board.Head.{Head}
-use Rattle.vk_board.proofs.Forms.{head_is_part, seals_are_part}
 use Rattle.vk_reply.specs.Reading.{challenge_at, reply_head_at}
 use Rattle.vk_verifier.specs.declared.answers.Part.TheVariants as part
+use Rattle.vk_wire.specs.declared.wire.Shown.{Shown}
+use Rattle.vk_row.specs.declared.case.LaneCase.{LaneCase}
+use Rattle.vk_extractor.specs.Clash.{clash_of_lane}
+use Rattle.vk_extractor.specs.FirstClash.{IsFirstClash}
 use Rattle.vk_extractor.specs.Laws.{AreOfLane}
+use Rattle.vk_extractor.proofs.FirstClash.{clash_found, first_of_clashes}
 use Rattle.vk_verifier.specs.declared.answers.Part.{Part}
 use Rattle.vk_verifier.specs.declared.answers.VErr.TheVariants.{TooLong}
-use Rattle.vk_verifier.specs.declared.front.Front.{Front}
+use Rattle.vk_board.specs.declared.front.Front.{Front}
 use Rattle.vk_verifier.specs.declared.stage.Base.{Base}
 use Rattle.vk_verifier.specs.declared.stage.TwoLane.{TwoLane}
 use Rattle.vk_verifier.specs.declared.stage.TwoVerdict.{TwoVerdict}
 use Rattle.vk_verifier.specs.declared.stage.TwoVerdict.TheVariants.{Ready}
-use Rattle.vk_verifier.specs.Verdicts.{begun, IsFront, in_part, plan_of, counted, front_at, from_start}
+use Rattle.vk_board.specs.Fronts.{front_at}
+use Rattle.vk_verifier.specs.Verdicts.{begun, in_part, front_judged, plan_of, counted, from_start}
+use Rattle.vk_verifier.specs.Statement.{statement_of}
 use Rattle.vk_verifier.specs.Parts.{attempt_at, rest_judged}
 use Rattle.vk_verifier.specs.Two.{Ahead, two_on, ahead_at, of_first, of_second, both_begun, second_begun, base_at, ahead_by, ahead_on, accepted_of, Rests, IsBase}
 use Rattle.vk_verifier.proofs.Files.{counted_shown}
-use Rattle.vk_verifier.proofs.Fronts.{FrontRead, front_at_shown, is_front}
+use Rattle.vk_board.proofs.Fronts.{FrontRead, front_at_shown}
+use Rattle.vk_verifier.proofs.Fronts.{read_is_front, in_front_ok}
 use Rattle.vk_verifier.proofs.Steps.{bind_ok, bind_never, read_ok, value_same}
 use Rattle.vk_bids.specs.declared.bids.LaneBids.{LaneBids}
+use Rattle.vk_bids.specs.Gathering.{lane_shown}
 use Rattle.vk_bids.specs.Headline.{FilesShow, bits_in, ShowsBids, ShowsClash, ShowsPublished, GatheredShows, ReadyHasBase, differing, front_in}
 use Rattle.vk_bids.proofs.Given.{ahead_accepted, bits_differ, of_first_ok, of_second_ok, first_never, second_never, AreGiven, ahead_given}
 use Rattle.vk_bids.proofs.Gathered.{AddsLanes, gathered_adds}
@@ -56,38 +64,34 @@ attempt_challenge head challenge reply attempt ok =
 -- what was read before the first lane
 record BaseRead (board first_challenge second_challenge : Rest) (base : Base) : Type 0 where
   after : Rest
-  front_read : front_at board ≡ Ok (base.front, after)
-  read : FrontRead board base.front after
+  front_read : front_at board ≡ Ok (base.statement.front, after)
+  read : FrontRead board base.statement.front after
   first_read : bits_in (challenge_at first_challenge) ≡ Some base.first_bits
   second_read : bits_in (challenge_at second_challenge) ≡ Some base.second_bits
   right : IsBase base
 
-front_right : (board : Rest) (front : Front) (after : Rest) → FrontRead board front after → IsFront front
-front_right board front after read =
-    is_front front (head_is_part.shown board front.head read.head_rest read.head_read).0 ((seals_are_part front.head).shown read.head_rest front.seals after read.seals_read).0 read.may
-
 -- what these are together
 abbrev base_of : Front × Rest → List Bool × Rest → List Bool × Rest → Result (Base × Rests) TwoVerdict
 base_of front first second = Ok (
-  record { front = front.0; plan = plan_of front.0; first_bits = first.0; second_bits = second.0 },
+  record { statement = statement_of front.0; first_bits = first.0; second_bits = second.0 },
   record { board = front.1; first = first.1; second = second.1 },
 )
 
 base_from : (board first_challenge first_reply second_challenge second_reply : Rest) (front : Front × Rest) (first second : List Bool × Rest) (base : Base × Rests)
-    → front_at board ≡ Ok front → attempt_at front.0.head first_challenge first_reply ≡ Ok first → attempt_at front.0.head second_challenge second_reply ≡ Ok second
+    → front_judged board ≡ Ok front → attempt_at front.0.head first_challenge first_reply ≡ Ok first → attempt_at front.0.head second_challenge second_reply ≡ Ok second
     → base_of front first second ≡ Ok base → BaseRead board first_challenge second_challenge base.0
 base_from board first_challenge first_reply second_challenge second_reply front first second base front_ok first_ok second_ok made =
-    let read = front_at_shown board front.0 front.1 front_ok in
+    let front_is = in_front_ok (front_at board) front front_ok in
+    let read = front_at_shown board front.0 front.1 front_is in
     let P : Base × Rests → Type 0 = λ g. BaseRead board first_challenge second_challenge g.0 in
     subst P (value_same _ base made) (record {
       after = front.1;
-      front_read = front_ok;
+      front_read = front_is;
       read = read;
       first_read = attempt_challenge front.0.head first_challenge first_reply first first_ok;
       second_read = attempt_challenge front.0.head second_challenge second_reply second second_ok;
       right = record {
-        front = front_right board front.0 front.1 read;
-        plan = refl;
+        statement = record { front = read_is_front board front.0 front.1 read; plan = refl };
         first = attempt_bits front.0.head first_challenge first_reply first first_ok;
         second = attempt_bits front.0.head second_challenge second_reply second second_ok;
       };
@@ -97,13 +101,13 @@ base_read : (board first_challenge first_reply second_challenge second_reply : R
     → base_at board first_challenge first_reply second_challenge second_reply ≡ Ok (base, rests) → BaseRead board first_challenge second_challenge base
 unfolding base_at
 base_read board first_challenge first_reply second_challenge second_reply base rests ok =
-    let front = bind_ok (of_first (front_at board)) (both_begun first_challenge first_reply second_challenge second_reply) (base, rests) ok in
+    let front = bind_ok (of_first (front_judged board)) (both_begun first_challenge first_reply second_challenge second_reply) (base, rests) ok in
     let head = front.0.0.head in
     let first = bind_ok (of_first (attempt_at head first_challenge first_reply)) (second_begun second_challenge second_reply front.0) (base, rests) front.2 in
     let judged = rest_judged front.0.0 (plan_of front.0.0) 1 first.0.0 front.0.1 first.0.1 in
     let second = bind_ok (of_second judged (attempt_at head second_challenge second_reply)) (base_of front.0 first.0) (base, rests) first.2 in
     base_from board first_challenge first_reply second_challenge second_reply front.0 first.0 second.0 (base, rests)
-    (of_first_ok (front_at board) front.0 front.1)
+    (of_first_ok (front_judged board) front.0 front.1)
     (of_first_ok (attempt_at head first_challenge first_reply) first.0 first.1)
     (of_second_ok judged (attempt_at head second_challenge second_reply) second.0 second.1)
     second.2
@@ -111,7 +115,7 @@ base_read board first_challenge first_reply second_challenge second_reply base r
 base_never : (board first_challenge first_reply second_challenge second_reply : Rest) → ¬ (base_at board first_challenge first_reply second_challenge second_reply ≡ Err Ready)
 unfolding base_at
 base_never board first_challenge first_reply second_challenge second_reply =
-    bind_never (of_first (front_at board)) (both_begun first_challenge first_reply second_challenge second_reply) Ready (first_never (front_at board))
+    bind_never (of_first (front_judged board)) (both_begun first_challenge first_reply second_challenge second_reply) Ready (first_never (front_judged board))
     (λ front. bind_never (of_first (attempt_at front.0.head first_challenge first_reply)) (second_begun second_challenge second_reply front) Ready
     (first_never (attempt_at front.0.head first_challenge first_reply))
     (λ first. bind_never (of_second (rest_judged front.0 (plan_of front.0) 1 first.0 front.1 first.1) (attempt_at front.0.head second_challenge second_reply))
@@ -129,51 +133,56 @@ ready_has_base board first_challenge first_reply second_challenge second_reply r
 
 -- ---- what is gathered
 
-shows_bids : (front : Front) (plan : PlanValue) (lanes : List TwoLane) (first second : List Bool) (found : List LaneBids) → AddsLanes front plan lanes [] (differing 1 first second) (Ok found) → ShowsBids front first second found
-shows_bids front plan lanes first second found (more, is, numbers, each) =
-    let P : List LaneBids → Type 0 = λ lanes. ShowsBids front first second lanes in
-    subst P (sym is) (record { numbers = numbers; each = each })
+shows_bids : (front : Front) (plan : PlanValue) (lanes : List TwoLane) (first second : List Bool) (found : List LaneBids) → AddsLanes front plan lanes [] (differing 1 first second) (Ok found) → ShowsBids front first second lanes found
+shows_bids front plan lanes first second found adds =
+    let P : List LaneBids → Type 0 = λ found. ShowsBids front first second lanes found in
+    subst P (sym adds.are) (record { numbers = adds.numbered; shown = adds.shown; each = adds.each })
+
+first_clash : (case : LaneCase) (zero one : List Shown) (two : TwoOpeningsSeen) → clash_of_lane case zero one ≡ Some two → (wire : ℕ) × IsFirstClash case zero one wire two
+first_clash case zero one two found = let is = clash_found case 0 case.coms zero one two found in (is.0, first_of_clashes case zero one is.0 two is.1)
 
 shows_clash : (front : Front) (plan : PlanValue) (lanes : List TwoLane) (first second : List Bool) (two : TwoOpeningsSeen) → plan ≡ plan_of front → AddsLanes front plan lanes [] (differing 1 first second) (Err two)
     → ShowsClash front first second lanes two
-shows_clash front plan lanes first second two same (number, differs, given, is_given, clash) =
-    let P : PlanValue → Type 0 = λ p. AreOfLane p given.case two in
+shows_clash front plan lanes first second two same adds =
+    let P : PlanValue → Type 0 = λ p. AreOfLane p adds.given.case two in
+    let is_first = first_clash adds.given.case (lane_shown false adds.given) (lane_shown true adds.given) two adds.found in
     record {
-      number = number;
-      differs = differs;
-      lane = clash.lane;
-      auction = clash.auction;
-      openings = clash.of_lane.openings;
-      given = given;
-      is_given = is_given;
-      of_lane = subst P same clash.of_lane;
+      number = adds.number;
+      differs = adds.within;
+      lane = adds.clash.lane;
+      auction = adds.clash.auction;
+      openings = adds.clash.of_lane.openings;
+      given = adds.given;
+      is_given = adds.is_given;
+      of_lane = subst P same adds.clash.of_lane;
+      wire = is_first.0;
+      first = is_first.1;
     }
 
 -- what is shown by the base and the lanes after it
 abbrev Shows : List ℕ → List ℕ → List ℕ → Base → List TwoLane → Type 0
 Shows board first_challenge second_challenge base lanes =
-    ShowsPublished (Some board) (Some first_challenge) (Some second_challenge) base.front base.first_bits base.second_bits lanes
+    ShowsPublished (Some board) (Some first_challenge) (Some second_challenge) base.statement.front base.first_bits base.second_bits lanes
 
 -- where every lane is given after this base
 published : (board first_challenge second_challenge : List ℕ) (base : Base) (lanes : List TwoLane) → BaseRead (from_start board) (from_start first_challenge) (from_start second_challenge) base
-    → base.first_bits ≢ base.second_bits → AreGiven base.front base.plan 1 base.first_bits base.second_bits lanes → Shows board first_challenge second_challenge base lanes
+    → base.first_bits ≢ base.second_bits → AreGiven base.statement.front base.statement.plan 1 base.first_bits base.second_bits lanes → Shows board first_challenge second_challenge base lanes
 published board first_challenge second_challenge base lanes read differ given =
-    let front = base.front in
+    let front = base.statement.front in
     let first = base.first_bits in
     let second = base.second_bits in
-    let adds = gathered_adds front base.plan 1 first second lanes [] read.right.front read.right.plan (omega arith) (omega (arith, read.right.first)) given in
-    let P : Result (List LaneBids) TwoOpeningsSeen → Type 0 = λ all. AddsLanes front base.plan lanes [] (differing 1 first second) all in
+    let adds = gathered_adds front base.statement.plan 1 first second lanes [] read.right.statement.front read.right.statement.plan (omega arith) (omega (arith, read.right.first)) given in
+    let P : Result (List LaneBids) TwoOpeningsSeen → Type 0 = λ all. AddsLanes front base.statement.plan lanes [] (differing 1 first second) all in
     record {
       published = ap front_in read.front_read;
       first_is = read.first_read;
       second_is = read.second_read;
-      right = read.right.front;
-      winner = record { some = read.read.may.some; within = read.read.may.within; seat = read.read.may.seat };
+      right = read.right.statement.front;
       one_first_bit_each = read.right.first;
       one_second_bit_each = read.right.second;
       differ = differ;
-      bids = λ found ok. shows_bids front base.plan lanes first second found (subst P ok adds);
-      clash = λ two err. shows_clash front base.plan lanes first second two read.right.plan (subst P err adds);
+      bids = λ found ok. shows_bids front base.statement.plan lanes first second found (subst P ok adds);
+      clash = λ two err. shows_clash front base.statement.plan lanes first second two read.right.statement.plan (subst P err adds);
     }
 
 shown_by : (board first_challenge second_challenge : List ℕ) (read : Result (Base × Rests) TwoVerdict) (base : Base) (rests : Rests)
@@ -185,8 +194,8 @@ shown_by board first_challenge second_challenge read base rests was ok ready =
     let first = base.first_bits in
     let second = base.second_bits in
     let found = subst P ok ready in
-    let given = ahead_given base.front base.plan (accepted_of first second) 1 first second rests was.right.front was.right.plan (omega (arith, was.right.first)) found in
-    let differ = bits_differ first second (ahead_accepted base.front base.plan (accepted_of first second) 1 first second rests found) in
+    let given = ahead_given base.statement.front base.statement.plan (accepted_of first second) 1 first second rests was.right.statement.front was.right.statement.plan (omega (arith, was.right.first)) found in
+    let differ = bits_differ first second (ahead_accepted base.statement.front base.statement.plan (accepted_of first second) 1 first second rests found) in
     subst Q (sym ok) (published board first_challenge second_challenge base (ahead_on base 0 rests).lanes was differ given)
 
 pub gathered_shows : GatheredShows
@@ -214,7 +223,7 @@ begun_is file (Some bytes) rest ok = record { bytes = bytes; held_is = refl; res
 -- what is shown where these are the bytes of the files
 bytes_show : (board first_challenge second_challenge : Option (List ℕ)) (lanes : List TwoLane) (base : Base) (b c s : List ℕ)
     → board ≡ Some b → first_challenge ≡ Some c → second_challenge ≡ Some s → Shows b c s base lanes
-    → ShowsPublished board first_challenge second_challenge base.front base.first_bits base.second_bits lanes
+    → ShowsPublished board first_challenge second_challenge base.statement.front base.first_bits base.second_bits lanes
 bytes_show board first_challenge second_challenge lanes base b c s b_is c_is s_is shows = rw (b_is, c_is, s_is) shows
 
 -- the first file that is read
@@ -230,7 +239,7 @@ rests_show files board first_challenge first_reply second_challenge second_reply
     let start = ready_has_base (from_start is_b.bytes) (from_start is_c.bytes) (from_start is_r.bytes) (from_start is_d.bytes) (from_start is_s.bytes) found in
     let shows = gathered_shows is_b.bytes is_c.bytes is_r.bytes is_d.bytes is_s.bytes start.0 start.1 start.2 found in
     let P : Ahead → Type 0 = λ a. Shows is_b.bytes is_c.bytes is_d.bytes start.0 a.lanes in (
-      start.0.front,
+      start.0.statement.front,
       start.0.first_bits,
       start.0.second_bits,
       bytes_show (get files board) (get files first_challenge) (get files second_challenge) ahead.lanes start.0 is_b.bytes is_c.bytes is_d.bytes

@@ -2,10 +2,11 @@
 use Rattle.std.proofs.Common.{◌≡◌, ℕ, zero, suc, ◌<◌, ◌≤◌, List, [], ◌∷◌, ◌++◌, length, take, map, Some, refl, ap, ◌∙◌, arith}
 use Rattle.std.specs.Prelude.{slice_get, slice_index, slice_index_or}
 use Rattle.std.specs.Option.{option_to_list}
+use Rattle.std.proofs.lemmas.Option.{same_Some}
 use Rattle.vk_residue.specs.Residue.{sum}
 use Rattle.vk_commit.specs.declared.place.Opening.{Opening}
 use Rattle.vk_wire.specs.declared.wire.Shown.{Shown}
-use Rattle.vk_wire.specs.declared.wire.Shown.TheVariants.{Half}
+use Rattle.vk_wire.specs.declared.wire.Shown.TheVariants.{Half, Whole, Spent}
 use Rattle.vk_row.specs.Lanes.{nothing_shown}
 use Rattle.vk_row.specs.Rows.{sums}
 use Rattle.vk_bids.specs.declared.bids.OpenedBid.{OpenedBid}
@@ -40,6 +41,16 @@ pub opened_from_halves : (seat : ℕ) (zero_shown one_shown : Shown) (first seco
     → opened_bid seat zero_shown one_shown ≡ Some (from_halves seat first second)
 opened_from_halves seat zero_shown one_shown first second zero_is one_is =
     ap (λ shown. opened_bid seat shown one_shown) zero_is ∙ ap (λ shown. opened_bid seat (Half first) shown) one_is
+
+-- a bid is of two halves that are shown
+pub halves_shown : (seat : ℕ) (zero_shown one_shown : Shown) (bid : OpenedBid) → opened_bid seat zero_shown one_shown ≡ Some bid → (zero_shown ≡ Half bid.first) × (one_shown ≡ Half bid.second)
+halves_shown seat (Half first) (Half second) bid opened =
+    let same = same_Some (from_halves seat first second) bid opened in
+    (ap (λ (b : OpenedBid). Half b.first) same, ap (λ (b : OpenedBid). Half b.second) same)
+halves_shown seat (Half first) (Whole one other) bid opened = cc
+halves_shown seat (Half first) (Spent one other) bid opened = cc
+halves_shown seat (Whole one other) shown bid opened = cc
+halves_shown seat (Spent one other) shown bid opened = cc
 
 at_seats_next : (seat : ℕ) (seats : List ℕ) (z o : Shown) (zeros ones : List Shown) (bid : OpenedBid) (bids : List OpenedBid)
     → opened_bid seat z o ≡ Some bid → AreAtSeats seats zeros ones bids

@@ -1,13 +1,12 @@
 -- The wires of the seals: the first of a lane, each of which shows a half that opens its seal.
-use Rattle.std.proofs.Common.{◌≡◌, ℕ, ◌-◌, ◌*◌, ◌<◌, ◌≤◌, Bool, List, [], length, get_or, Some, refl, sym, ap, subst, ◌∙◌, arith, inl, inr, length-append}
+use Rattle.std.proofs.Common.{◌≡◌, ℕ, ◌-◌, ◌*◌, ◌<◌, ◌≤◌, Bool, List, [], length, get_or, Some, refl, ap, subst, ◌∙◌, arith, length-append}
 use Rattle.std.specs.Prelude.{slice_get, slice_index, slice_index_or, if◌then◌else◌}
 use Rattle.std.proofs.lemmas.List.{length-map, get_or-map, get_or_append_left}
 use Rattle.std.proofs.lemmas.Bool.{lt-ltb}
-use Rattle.std.proofs.lemmas.Bool.Decides.{eqb_tells}
 use Rattle.std.proofs.lemmas.Option.{slice_get-get_or, get_or_from_slice_get}
 use Rattle.vk_commit.specs.declared.place.Place.{Place}
 use Rattle.vk_commit.specs.declared.place.Opening.{Opening}
-use Rattle.vk_plan.specs.Plans.{PlanValue, IsPlan}
+use Rattle.vk_plan.specs.Plans.{PlanValue}
 use Rattle.vk_plan.specs.declared.wire.WireKind.{WireKind}
 use Rattle.vk_plan.specs.declared.wire.WireKind.TheVariants.{Split}
 use Rattle.vk_wire.specs.Reads.{Reads, OpensEntry}
@@ -18,24 +17,12 @@ use Rattle.vk_row.specs.Lanes.{HasCounts, IsAcceptedLane, place_in, no_digests, 
 use Rattle.vk_board.specs.declared.board.SealLines.{SealLines}
 use Rattle.vk_board.specs.declared.board.LaneLines.{LaneLines}
 use Rattle.vk_board.specs.Reading.{seats_of}
-use Rattle.vk_vickrey.specs.VickreyPlans.{IsVickreyCase, vickrey_plan}
-use Rattle.vk_vickrey.specs.VickreyLaws.{plan_alone, plan_many}
-use Rattle.vk_vickrey.specs.VickreySteps.{prices_plan, selection_room}
-use Rattle.vk_verifier.specs.declared.front.Front.{Front}
-use Rattle.vk_verifier.specs.Verdicts.{IsFront, plan_of, case_of, input_coms}
+use Rattle.vk_board.specs.declared.front.Front.{Front}
+use Rattle.vk_board.specs.Fronts.{IsFront}
+use Rattle.vk_verifier.specs.Verdicts.{plan_of, case_of, input_coms}
 use Rattle.vk_verifier.proofs.Counts.{seals_have}
+use Rattle.vk_verifier.proofs.Plans.{is_plan}
 use Rattle.vk_bids.specs.Outcome.{seal_place}
-
--- the plan of every auction is a plan
-vickrey_is_plan : (seals width position price : ℕ) → IsVickreyCase seals width position price → IsPlan (vickrey_plan seals width position price)
-vickrey_is_plan seals width position price case =
-    elim (eqb_tells seals 1) [
-      | inl one ↦ subst IsPlan (sym (plan_alone seals width position price one.0)) (prices_plan seals width position price case)
-      | inr many ↦ subst IsPlan (sym (plan_many seals width position price many.0)) (selection_room seals width position price case many.1)
-    ]
-
-pub front_is_plan : (front : Front) → IsFront front → IsPlan (plan_of front)
-front_is_plan front is = vickrey_is_plan front.head.seals front.head.width front.position front.head.price is.case
 
 -- what a wire without a weight shows is a half
 pub record IsHalf (place : Place) (digests : WireCom) (shown : Shown) (bit : Bool) (half : ℕ) : Type 0 where
@@ -96,7 +83,7 @@ seal_opens front number index lines bit shown halves is some last lt accepted =
     let seats : length (seats_of front.seals) ≡ length front.seals = length-map front.seals _ in
     let within : index < length plan.kinds = omega (arith, seals_within front plan number lines shown accepted.counts, accepted.counts.one_shown) in
     let split : slice_index_or plan.kinds index Split ≡ Split =
-    get_or_from_slice_get plan.kinds index Split Split ((front_is_plan front is).inputs_are_split index (omega (arith, accepted.counts.seats))) in
+    get_or_from_slice_get plan.kinds index Split Split ((is_plan front is).inputs_are_split index (omega (arith, accepted.counts.seats))) in
     let one = slice_index_or shown index nothing_shown in
     let half = slice_index halves index in
     let P : WireKind → Type 0 = λ kind. Reads kind (place_in (case_of front number lines) index) (slice_index_or (case_of front number lines).coms index no_digests) one bit half in

@@ -21,13 +21,16 @@ use Rattle.vk_extractor.specs.declared.lane.LaneErr.{LaneErr}
 use Rattle.vk_extractor.specs.declared.lane.LaneErr.TheVariants.{Clash, NoMemory}
 use Rattle.vk_extractor.proofs.Clashes.{clash_opens}
 use Rattle.vk_extractor.proofs.Holding.{extracted_hold}
-use Rattle.vk_verifier.specs.declared.front.Front.{Front}
-use Rattle.vk_verifier.specs.Verdicts.{IsFront, plan_of, case_of}
+use Rattle.vk_board.specs.declared.front.Front.{Front}
+use Rattle.vk_board.specs.Fronts.{IsFront}
+use Rattle.vk_verifier.specs.Verdicts.{plan_of, case_of}
+use Rattle.vk_verifier.proofs.Fronts.{front_case}
+use Rattle.vk_verifier.proofs.Plans.{is_plan}
 use Rattle.vk_bids.specs.declared.bids.OpenedBid.{OpenedBid}
 use Rattle.vk_bids.specs.Bids.{opened_bid, opened_bids}
-use Rattle.vk_bids.specs.Outcome.{IsCaseOf, OpensSeal, OpensTwice, ShowsOutcome, seal_place}
-use Rattle.vk_bids.proofs.Opening.{ShowsHalves, AreOpened, from_halves, opened_from_halves, opened_are}
-use Rattle.vk_bids.proofs.Seals.{OpensHalf, front_is_plan, seals_within, seal_opens}
+use Rattle.vk_bids.specs.Outcome.{IsCaseOf, OpensSeal, OpensTwice, AreShownIn, ShowsOutcome, seal_place}
+use Rattle.vk_bids.proofs.Opening.{ShowsHalves, AreOpened, from_halves, opened_from_halves, opened_are, halves_shown}
+use Rattle.vk_bids.proofs.Seals.{OpensHalf, seals_within, seal_opens}
 
 same_some : {A : Type 0} (x y : A) → Some x ≡ Some y → x ≡ y
 same_some x y e = cc
@@ -73,53 +76,82 @@ shows_halves front number index zero_shown one_shown firsts seconds first second
   second_value = second.is_half.value;
 }
 
-pub lane_shows : (front : Front) (number : ℕ) (lines : LaneLines) (zero_shown one_shown : List Shown) (firsts seconds : List ℕ)
-    → IsFront front → 1 ≤ number → number ≤ front.head.lanes
-    → IsAcceptedLane (plan_of front) (case_of front number lines) false zero_shown firsts
-    → IsAcceptedLane (plan_of front) (case_of front number lines) true one_shown seconds
-    → clash_of_lane (case_of front number lines) zero_shown one_shown ≡ None
-    → ShowsOutcome front number (opened_bids (seats_of front.seals) zero_shown one_shown)
-lane_shows front number lines zs os firsts seconds is some last first second none =
-    let plan = plan_of front in
-    let seats = seats_of front.seals in
-    let bids = opened_bids seats zs os in
-    let count : length seats ≡ length front.seals = length-map front.seals _ in
-    let in_zero = seals_within front plan number lines zs first.counts in
-    let in_one = seals_within front plan number lines os second.counts in
-    let zero_at = λ (index : ℕ) (lt : index < length front.seals). seal_opens front number index lines false zs firsts is some last lt first in
-    let one_at = λ (index : ℕ) (lt : index < length front.seals). seal_opens front number index lines true os seconds is some last lt second in
-    let opened : AreOpened seats zs os firsts seconds bids =
-    opened_are seats zs os firsts seconds (omega arith) (omega arith)
-    (omega (arith, first.wires.one_each, first.counts.one_shown)) (omega (arith, second.wires.one_each, second.counts.one_shown))
-    (λ index lt. shows_halves front number index zs os firsts seconds (zero_at index (omega arith)) (one_at index (omega arith))) in
-    let claim = circuit_sound front.head.seals front.head.width front.position front.head.price (sums firsts seconds) is.case
-    (extracted_hold plan (case_of front number lines) zs os firsts seconds (front_is_plan front is) first second none) in
-    let P : ℕ → Type 0 = λ count. IsVickreyClaim front.head.seals front.head.width front.position front.head.price (take count (sums firsts seconds)) in
-    let Q : List ℕ → Type 0 = λ bids. IsVickreyClaim front.head.seals front.head.width front.position front.head.price bids in
-    let shown = subst Q (sym opened.are_sums) (subst P (sym first.counts.seats) claim) in
-    record {
-      one_each = opened.one_each;
-      opened = λ index bid get.
-          let lt : index < length front.seals =
-          omega (arith, slice_get_within bids index bid get, ap length opened.one_each, length-map bids (λ bid. bid.seat)) in
-          opens_seal front number index (slice_index_or zs index nothing_shown) (slice_index_or os index nothing_shown)
-          (slice_index firsts index) (slice_index seconds index) bid some (zero_at index lt) (one_at index lt) (opened.at_seats index bid get);
-      within_width = shown.within_width;
-      outcome = shown.outcome;
-    }
+-- what two replies show of a lane that is accepted for both bits
+module _ (front : Front) (number : ℕ) (lines : LaneLines) (zs os : List Shown) (firsts seconds : List ℕ) (is : IsFront front) (some : 1 ≤ number) (last : number ≤ front.head.lanes)
+    (first : IsAcceptedLane (plan_of front) (case_of front number lines) false zs firsts) (second : IsAcceptedLane (plan_of front) (case_of front number lines) true os seconds) where
+  zero_at : (index : ℕ) → index < length front.seals → OpensHalf front number index (slice_index_or zs index nothing_shown) false (slice_index firsts index)
+  zero_at index lt = seal_opens front number index lines false zs firsts is some last lt first
+
+  one_at : (index : ℕ) → index < length front.seals → OpensHalf front number index (slice_index_or os index nothing_shown) true (slice_index seconds index)
+  one_at index lt = seal_opens front number index lines true os seconds is some last lt second
+
+  lane_opened : AreOpened (seats_of front.seals) zs os firsts seconds (opened_bids (seats_of front.seals) zs os)
+  lane_opened =
+      let count : length (seats_of front.seals) ≡ length front.seals = length-map front.seals _ in
+      let in_zero = seals_within front (plan_of front) number lines zs first.counts in
+      let in_one = seals_within front (plan_of front) number lines os second.counts in
+      opened_are (seats_of front.seals) zs os firsts seconds (omega arith) (omega arith)
+      (omega (arith, first.wires.one_each, first.counts.one_shown)) (omega (arith, second.wires.one_each, second.counts.one_shown))
+      (λ index lt. shows_halves front number index zs os firsts seconds (zero_at index (omega arith)) (one_at index (omega arith)))
+
+  pub lane_shows : clash_of_lane (case_of front number lines) zs os ≡ None → ShowsOutcome front number (opened_bids (seats_of front.seals) zs os)
+  lane_shows none =
+      let plan = plan_of front in
+      let seats = seats_of front.seals in
+      let bids = opened_bids seats zs os in
+      let count : length seats ≡ length front.seals = length-map front.seals _ in
+      let opened = lane_opened in
+      let claim = circuit_sound front.head.seals front.head.width front.position front.head.price (sums firsts seconds) (front_case front is)
+      (extracted_hold plan (case_of front number lines) zs os firsts seconds (is_plan front is) first second none) in
+      let P : ℕ → Type 0 = λ count. IsVickreyClaim front.head.seals front.head.width front.position front.head.price (take count (sums firsts seconds)) in
+      let Q : List ℕ → Type 0 = λ bids. IsVickreyClaim front.head.seals front.head.width front.position front.head.price bids in
+      let shown = subst Q (sym opened.are_sums) (subst P (sym first.counts.seats) claim) in
+      record {
+        one_each = opened.one_each;
+        opened = λ index bid get.
+            let lt : index < length front.seals =
+            omega (arith, slice_get_within bids index bid get, ap length opened.one_each, length-map bids (λ bid. bid.seat)) in
+            opens_seal front number index (slice_index_or zs index nothing_shown) (slice_index_or os index nothing_shown)
+            (slice_index firsts index) (slice_index seconds index) bid some (zero_at index lt) (one_at index lt) (opened.at_seats index bid get);
+        within_width = shown.within_width;
+        outcome = shown.outcome;
+      }
+
+  -- the openings of the bids are those that are shown
+  pub lane_shown : AreShownIn zs os (opened_bids (seats_of front.seals) zs os)
+  lane_shown = λ index bid get. halves_shown (slice_index (seats_of front.seals) index) (slice_index_or zs index nothing_shown) (slice_index_or os index nothing_shown) bid (lane_opened.at_seats index bid get)
 
 -- the same of a plan and a case that are those of the lane
+record AreThose (front : Front) (number : ℕ) (case : LaneCase) (zero_shown one_shown : List Shown) : Type 0 where
+  pub lines : LaneLines
+  pub case_is : case ≡ case_of front number lines
+  pub for_zero : IsAccepted (plan_of front) (case_of front number lines) false zero_shown
+  pub for_one : IsAccepted (plan_of front) (case_of front number lines) true one_shown
+
+those : (front : Front) (plan : PlanValue) (number : ℕ) (case : LaneCase) (zero_shown one_shown : List Shown) → plan ≡ plan_of front → IsCaseOf front number case
+    → IsAccepted plan case false zero_shown → IsAccepted plan case true one_shown → AreThose front number case zero_shown one_shown
+those front plan number case zs os same of_lane first second =
+    let P : PlanValue → Type 0 = λ plan. IsAccepted plan case false zs × IsAccepted plan case true os in
+    let Q : LaneCase → Type 0 = λ case. IsAccepted (plan_of front) case false zs × IsAccepted (plan_of front) case true os in
+    let both = subst Q of_lane.1 (subst P same (first, second)) in
+    record { lines = of_lane.0; case_is = of_lane.1; for_zero = both.0; for_one = both.1 }
+
 pub case_shows : (front : Front) (plan : PlanValue) (number : ℕ) (case : LaneCase) (zero_shown one_shown : List Shown)
     → IsFront front → plan ≡ plan_of front → 1 ≤ number → number ≤ front.head.lanes → IsCaseOf front number case
     → IsAccepted plan case false zero_shown → IsAccepted plan case true one_shown → clash_of_lane case zero_shown one_shown ≡ None
     → ShowsOutcome front number (opened_bids (seats_of front.seals) zero_shown one_shown)
 case_shows front plan number case zs os is same some last of_lane first second none =
-    let lines = of_lane.0 in
-    let P : PlanValue → Type 0 = λ plan. IsAccepted plan case false zs × IsAccepted plan case true os in
-    let Q : LaneCase → Type 0 = λ case. IsAccepted (plan_of front) case false zs × IsAccepted (plan_of front) case true os × (clash_of_lane case zs os ≡ None) in
-    let here = subst P same (first, second) in
-    let both = subst Q of_lane.1 (here.0, here.1, none) in
-    lane_shows front number lines zs os both.0.0 both.1.0 is some last both.0.1 both.1.1 both.2
+    let are = those front plan number case zs os same of_lane first second in
+    let no_clash = subst (λ (case : LaneCase). clash_of_lane case zs os ≡ None) are.case_is none in
+    lane_shows front number are.lines zs os are.for_zero.0 are.for_one.0 is some last are.for_zero.1 are.for_one.1 no_clash
+
+pub case_shown : (front : Front) (plan : PlanValue) (number : ℕ) (case : LaneCase) (zero_shown one_shown : List Shown)
+    → IsFront front → plan ≡ plan_of front → 1 ≤ number → number ≤ front.head.lanes → IsCaseOf front number case
+    → IsAccepted plan case false zero_shown → IsAccepted plan case true one_shown
+    → AreShownIn zero_shown one_shown (opened_bids (seats_of front.seals) zero_shown one_shown)
+case_shown front plan number case zs os is same some last of_lane first second =
+    let are = those front plan number case zs os same of_lane first second in
+    lane_shown front number are.lines zs os are.for_zero.0 are.for_one.0 is some last are.for_zero.1 are.for_one.1
 
 -- a clash that is answered
 pub refusal_opens : (refused : LaneErr) (plan : PlanValue) (case : LaneCase) (zero_shown one_shown : List Shown)

@@ -9,7 +9,7 @@ use Rattle.vk_board.specs.Reading.{seats_of}
 use Rattle.vk_extractor.specs.Clash.{clash_of_lane}
 use Rattle.vk_extractor.specs.declared.lane.LaneErr.{LaneErr}
 use Rattle.vk_extractor.specs.declared.lane.LaneErr.TheVariants.{Clash, NoMemory}
-use Rattle.vk_verifier.specs.declared.front.Front.{Front}
+use Rattle.vk_board.specs.declared.front.Front.{Front}
 use Rattle.vk_verifier.specs.declared.stage.TwoLane.{TwoLane}
 use Rattle.vk_bids.specs.declared.bids.LaneBids.{LaneBids}
 use Rattle.vk_bids.specs.Bids.{opened_bids}
@@ -33,6 +33,17 @@ lane_by true true front number case first second = Ok None
 -- the lane of that number
 abbrev pub lane_found : Front → ℕ → TwoLane → Result (Option LaneBids) TwoOpeningsSeen
 lane_found front number lane = lane_by lane.first_bit lane.second_bit front number lane.case lane.first lane.second
+
+-- what is shown for that bit, of a reply for the first bit and one for another
+abbrev pub shown_for : Bool → Bool → List Shown → List Shown → List Shown
+shown_for false false first second = first
+shown_for false true first second = second
+shown_for true true first second = first
+shown_for true false first second = second
+
+-- what two replies whose bits for it differ show of the lane for that bit
+abbrev pub lane_shown : Bool → TwoLane → List Shown
+lane_shown bit lane = shown_for bit lane.first_bit lane.first lane.second
 
 -- with what the lane of that number gives after what was gathered before it
 abbrev pub added : Front → ℕ → TwoLane → Result (List LaneBids) TwoOpeningsSeen → Result (List LaneBids) TwoOpeningsSeen

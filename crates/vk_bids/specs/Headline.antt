@@ -1,31 +1,31 @@
 -- The law of two replies that are accepted for different challenges: what is gathered of them shows the
 -- published outcome, or two openings of one commitment.
-use Rattle.std.specs.Prelude.{◌≡◌, ◌≢◌, ℕ, ◌+◌, ◌-◌, ◌≤◌, Bool, true, false, All, List, [], ◌∷◌, length, map, slice_index, Option, Some, None, Result, Ok, Err}
+use Rattle.std.specs.Prelude.{◌≡◌, ◌≢◌, ℕ, ◌+◌, Bool, true, false, All, List, [], ◌∷◌, length, map, Option, Some, None, Result, Ok, Err}
 use Rattle.std.specs.List.{Contains}
 use Rattle.std.specs.FinMap.{get}
 use Rattle.vk_commit.specs.Commitment.{AreTwoOpenings, TwoOpeningsSeen}
 use Rattle.vk_io.specs.Files.{Files}
 use Rattle.vk_lines.specs.Lines.{Rest}
-use Rattle.vk_board.specs.Reading.{seats_of}
 use Rattle.vk_extractor.specs.Laws.{AreOfLane}
+use Rattle.vk_extractor.specs.FirstClash.{IsFirstClash}
 use Rattle.vk_reply.specs.declared.challenge.Challenge.{Challenge}
 use Rattle.vk_reply.specs.Reading.{challenge_at}
-use Rattle.vk_verifier.specs.declared.answers.BoardVerdict.{BoardVerdict}
-use Rattle.vk_verifier.specs.declared.front.Front.{Front}
+use Rattle.vk_board.specs.declared.front.Front.{Front}
 use Rattle.vk_verifier.specs.declared.stage.Base.{Base}
 use Rattle.vk_verifier.specs.declared.stage.TwoLane.{TwoLane}
 use Rattle.vk_verifier.specs.declared.stage.TwoVerdict.TheVariants.{Ready}
-use Rattle.vk_verifier.specs.Verdicts.{plan_of, IsFront, front_at, from_start}
+use Rattle.vk_board.specs.Fronts.{FrontFault, IsFront, front_at}
+use Rattle.vk_verifier.specs.Verdicts.{plan_of, from_start}
 use Rattle.vk_verifier.specs.Two.{Ahead, two_on, Rests, base_at, ahead_at}
 use Rattle.vk_bids.specs.declared.bids.LaneBids.{LaneBids}
-use Rattle.vk_bids.specs.Gathering.{gathered_from}
-use Rattle.vk_bids.specs.Outcome.{ShowsOutcome}
+use Rattle.vk_bids.specs.Gathering.{gathered_from, lane_shown}
+use Rattle.vk_bids.specs.Outcome.{AreShownIn, ShowsOutcome}
 
 -- ---- the files that are named
 
-abbrev pub front_in : Result (Front × Rest) BoardVerdict → Option Front
+abbrev pub front_in : Result (Front × Rest) FrontFault → Option Front
 front_in (Ok read) = Some read.0
-front_in (Err verdict) = None
+front_in (Err fault) = None
 
 -- what stands in these bytes before the first lane of a board, if they are held
 abbrev pub front_by : Option (List ℕ) → Option Front
@@ -49,12 +49,6 @@ bits_by (Some bytes) = bits_in (challenge_at (from_start bytes))
 abbrev pub bits_on : Files → List ℕ → Option (List Bool)
 bits_on files challenge = bits_by (get files challenge)
 
--- the seal at the front's position, counted from 1, has the winner's seat
-pub record HasWinner (front : Front) : Type 0 where
-  pub some : 1 ≤ front.position
-  pub within : front.position ≤ length front.seals
-  pub seat : slice_index (seats_of front.seals) (front.position - 1) ≡ front.head.winner
-
 -- ---- what is shown
 
 -- the numbers of the lanes whose two bits differ, numbered on from the given number
@@ -65,13 +59,22 @@ differing number (false ∷ bits) (true ∷ others) = number ∷ differing (numb
 differing number (true ∷ bits) (false ∷ others) = number ∷ differing (number + 1) bits others
 differing number _ _ = []
 
--- there are bids of just the lanes whose two bits differ, in order, and those of each lane open its seals and
--- have the published outcome
-pub record ShowsBids (front : Front) (first_bits second_bits : List Bool) (lanes : List LaneBids) : Type 0 where
-  pub numbers : map (λ lane. lane.number) lanes ≡ differing 1 first_bits second_bits
-  pub each : All (λ lane. ShowsOutcome front lane.number lane.bids) lanes
+-- the openings of the bids are those that the two replies show of a lane of that number
+pub record AreShownOf (lanes : List TwoLane) (bids : LaneBids) : Type 0 where
+  pub given : TwoLane
+  pub is_given : Contains lanes given
+  pub number : given.case.lane ≡ bids.number
+  pub openings : AreShownIn (lane_shown false given) (lane_shown true given) bids.bids
 
--- one commitment of one of these lanes, whose two bits differ, is opened with different values
+-- there are bids of just the lanes whose two bits differ, in order; those of each lane are opened by what the
+-- replies show of it, open its seals, and have the published outcome
+pub record ShowsBids (front : Front) (first_bits second_bits : List Bool) (lanes : List TwoLane) (found : List LaneBids) : Type 0 where
+  pub numbers : map (λ bids. bids.number) found ≡ differing 1 first_bits second_bits
+  pub shown : All (AreShownOf lanes) found
+  pub each : All (λ bids. ShowsOutcome front bids.number bids.bids) found
+
+-- one commitment of one of these lanes, whose two bits differ, is opened with different values: the first of the
+-- lane that the two replies open so
 pub record ShowsClash (front : Front) (first_bits second_bits : List Bool) (lanes : List TwoLane) (two : TwoOpeningsSeen) : Type 0 where
   pub number : ℕ
   pub differs : Contains (differing 1 first_bits second_bits) number
@@ -81,6 +84,8 @@ pub record ShowsClash (front : Front) (first_bits second_bits : List Bool) (lane
   pub given : TwoLane
   pub is_given : Contains lanes given
   pub of_lane : AreOfLane (plan_of front) given.case two
+  pub wire : ℕ
+  pub first : IsFirstClash given.case (lane_shown false given) (lane_shown true given) wire two
 
 -- the board publishes this front, the challenges have these bits, which differ, and what is gathered of the
 -- lanes shows the board's outcome, or a clash
@@ -89,11 +94,10 @@ pub record ShowsPublished (board first_challenge second_challenge : Option (List
   pub first_is : bits_by first_challenge ≡ Some first_bits
   pub second_is : bits_by second_challenge ≡ Some second_bits
   pub right : IsFront front
-  pub winner : HasWinner front
   pub one_first_bit_each : length first_bits ≡ front.head.lanes
   pub one_second_bit_each : length second_bits ≡ front.head.lanes
   pub differ : first_bits ≢ second_bits
-  pub bids : (found : List LaneBids) → gathered_from front (Ok []) 1 lanes ≡ Ok found → ShowsBids front first_bits second_bits found
+  pub bids : (found : List LaneBids) → gathered_from front (Ok []) 1 lanes ≡ Ok found → ShowsBids front first_bits second_bits lanes found
   pub clash : (two : TwoOpeningsSeen) → gathered_from front (Ok []) 1 lanes ≡ Err two → ShowsClash front first_bits second_bits lanes two
 
 -- ---- the laws
@@ -104,7 +108,7 @@ GatheredShows =
     (board first_challenge first_reply second_challenge second_reply : List ℕ) (base : Base) (rests : Rests)
     → base_at (from_start board) (from_start first_challenge) (from_start first_reply) (from_start second_challenge) (from_start second_reply) ≡ Ok (base, rests)
     → (ahead_at (from_start board) (from_start first_challenge) (from_start first_reply) (from_start second_challenge) (from_start second_reply)).finding ≡ Ready
-    → ShowsPublished (Some board) (Some first_challenge) (Some second_challenge) base.front base.first_bits base.second_bits
+    → ShowsPublished (Some board) (Some first_challenge) (Some second_challenge) base.statement.front base.first_bits base.second_bits
     (ahead_at (from_start board) (from_start first_challenge) (from_start first_reply) (from_start second_challenge) (from_start second_reply)).lanes
 
 -- where both replies are accepted and the challenges differ, there is a base

@@ -7,8 +7,9 @@ use Rattle.vk_board.specs.declared.board.LaneLines.{LaneLines}
 use Rattle.vk_board.specs.Reading.{seats_of}
 use Rattle.vk_extractor.specs.Clash.{clash_of_lane}
 use Rattle.vk_extractor.specs.Laws.{AreOfLane}
-use Rattle.vk_verifier.specs.declared.front.Front.{Front}
-use Rattle.vk_verifier.specs.Verdicts.{IsFront, plan_of, case_of}
+use Rattle.vk_board.specs.declared.front.Front.{Front}
+use Rattle.vk_board.specs.Fronts.{IsFront}
+use Rattle.vk_verifier.specs.Verdicts.{plan_of, case_of}
 use Rattle.vk_bids.specs.Bids.{opened_bids}
 use Rattle.vk_bids.specs.Outcome.{ShowsOutcome}
 

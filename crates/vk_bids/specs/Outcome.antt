@@ -1,11 +1,14 @@
 -- What the bids of a lane show of the published outcome.
-use Rattle.std.specs.Prelude.{◌≡◌, ℕ, ◌-◌, ◌^◌, ◌<◌, ◌≤◌, All, List, map, slice_get, Some}
+use Rattle.std.specs.Prelude.{◌≡◌, ℕ, ◌-◌, ◌^◌, ◌<◌, ◌≤◌, All, List, map, slice_get, slice_index_or, Some}
 use Rattle.vk_residue.specs.Residue.{sum}
 use Rattle.vk_commit.specs.Commitment.{Opens}
 use Rattle.vk_commit.specs.declared.place.Place.{Place}
 use Rattle.vk_plan.specs.Plans.{PlanValue}
 use Rattle.vk_wire.specs.declared.wire.WireCom.{WireCom}
+use Rattle.vk_wire.specs.declared.wire.Shown.{Shown}
+use Rattle.vk_wire.specs.declared.wire.Shown.TheVariants.{Half}
 use Rattle.vk_row.specs.declared.case.LaneCase.{LaneCase}
+use Rattle.vk_row.specs.Lanes.{nothing_shown}
 use Rattle.vk_board.specs.declared.board.SealLines.{SealLines}
 use Rattle.vk_board.specs.declared.board.LaneLines.{LaneLines}
 use Rattle.vk_board.specs.Reading.{seats_of}
@@ -13,7 +16,7 @@ use Rattle.vk_vickrey.specs.Outcomes.{IsVickreyOutcome}
 use Rattle.vk_extractor.specs.Laws.{AreOfLane}
 use Rattle.vk_extractor.specs.declared.lane.LaneErr.{LaneErr}
 use Rattle.vk_extractor.specs.declared.lane.LaneErr.TheVariants.{Clash, NoMemory}
-use Rattle.vk_verifier.specs.declared.front.Front.{Front}
+use Rattle.vk_board.specs.declared.front.Front.{Front}
 use Rattle.vk_verifier.specs.Verdicts.{case_of}
 use Rattle.vk_bids.specs.declared.bids.OpenedBid.{OpenedBid}
 
@@ -36,6 +39,12 @@ pub record OpensSeal (front : Front) (number index : ℕ) (bid : OpenedBid) : Ty
   pub first_opens : Opens (seal_place front seal.seat number 0) digests.first bid.first
   pub second_opens : Opens (seal_place front seal.seat number 1) digests.second bid.second
   pub is_sum : bid.bid ≡ sum bid.first.value bid.second.value
+
+-- the openings of the bids, in the order of the seals, are those that are shown for bit 0 and for bit 1
+abbrev pub AreShownIn : List Shown → List Shown → List OpenedBid → Type 0
+AreShownIn zero one bids =
+    (index : ℕ) (bid : OpenedBid) → slice_get bids index ≡ Some bid
+    → (slice_index_or zero index nothing_shown ≡ Half bid.first) × (slice_index_or one index nothing_shown ≡ Half bid.second)
 
 -- there is one bid for each seal, it opens the seal in the lane of that number, and is below 2^width; and
 -- the outcome of the bids is the published one

@@ -2,6 +2,7 @@
 use Rattle.std.specs.Prelude.{ℕ, List, [], ◌∷◌, codes, decimal}
 use Rattle.std.specs.List.{flat_map}
 use Rattle.vk_commit.specs.Commitment.{TwoOpeningsSeen}
+use Rattle.vk_commit.specs.declared.place.Place.{Place}
 use Rattle.vk_commit.specs.declared.place.Opening.{Opening}
 use Rattle.vk_lines.specs.Forms.{line, spaced}
 use Rattle.vk_lines.specs.Tokens.{hex_text}
@@ -22,9 +23,12 @@ bid_line number bid =
 abbrev pub lane_bids_text : LaneBids → List ℕ
 lane_bids_text lane = flat_map (bid_line lane.number) lane.bids
 
--- two openings of the digest at their place
+-- two openings of a digest at a place
+abbrev pub openings_text : Place → List ℕ → Opening → Opening → List ℕ
+openings_text place digest first second =
+    line (spaced (codes "clash" ∷ codes "lane" ∷ decimal place.lane ∷ codes "seat" ∷ decimal place.seat
+    ∷ codes "slot" ∷ decimal place.slot ∷ codes "digest" ∷ hex_text digest
+    ∷ codes "first" ∷ opening_text first ∷ codes "second" ∷ opening_text second ∷ []))
+
 abbrev pub clash_text : TwoOpeningsSeen → List ℕ
-clash_text two =
-    line (spaced (codes "clash" ∷ codes "lane" ∷ decimal two.place.lane ∷ codes "seat" ∷ decimal two.place.seat
-    ∷ codes "slot" ∷ decimal two.place.slot ∷ codes "digest" ∷ hex_text two.digest
-    ∷ codes "first" ∷ opening_text two.first ∷ codes "second" ∷ opening_text two.second ∷ []))
+clash_text two = openings_text two.place two.digest two.first two.second

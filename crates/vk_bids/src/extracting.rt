@@ -5,7 +5,6 @@ ghost use Rattle.vk_board.specs.Reading.{seats_of};
 ghost use Rattle.vk_extractor.specs.Clash.{clash_of_lane};
 ghost use Rattle.vk_extractor.specs.Refused.{IsRefusalOf};
 ghost use Rattle.vk_extractor.specs.declared.lane.LaneErr.TheVariants.{Clash};
-ghost use Rattle.vk_verifier.specs.Verdicts.{IsFront, plan_of};
 ghost use Rattle.vk_bids.specs.Bids.{opened_bid, opened_bids};
 ghost use Rattle.vk_bids.specs.Outcome.{IsCaseOf, OpensTwice, ShowsOutcome};
 
@@ -13,11 +12,10 @@ use crate::bids::{LaneBids, OpenedBid};
 use std::alloc::Global;
 use vk_board::SealLines;
 use vk_extractor::{LaneErr, extract_lane};
-use vk_plan::Plan;
 use vk_residue::NoMemory;
 use vk_row::LaneCase;
 use vk_seq::Seq;
-use vk_verifier::Front;
+use vk_verifier::Statement;
 use vk_wire::Shown;
 
 /// The bids of the lane, counted from 1, from what was accepted for bit 0 and what was accepted for bit 1.
@@ -27,32 +25,29 @@ use vk_wire::Shown;
 /// bit 0 first.
 pub fn extract_bids(
     alloc: Global,
-    front: &Front,
-    plan: &Plan,
+    statement: &Statement,
     lane: u32,
     case: &LaneCase,
     zero: &[Shown],
     one: &[Shown],
 ) -> Result<LaneBids, LaneErr>
-    requires front { IsFront front.now }
-    requires plan { plan.now ≡ plan_of front.now }
     requires first { 1 ≤ lane }
-    requires last { lane ≤ front.now.head.lanes }
-    requires case { IsCaseOf front.now lane case.now }
-    requires zero { IsAccepted plan.now case.now false zero.now }
-    requires one { IsAccepted plan.now case.now true one.now }
+    requires last { lane ≤ statement.now.front.head.lanes }
+    requires case { IsCaseOf statement.now.front lane case.now }
+    requires zero { IsAccepted statement.now.plan case.now false zero.now }
+    requires one { IsAccepted statement.now.plan case.now true one.now }
     ensures number { IfOk result (λ found. found.number ≡ lane) }
     ensures bids { IfOk result
-        (λ found. found.bids ≡ opened_bids (seats_of front.now.seals) zero.now one.now) }
-    ensures outcome { IfOk result (λ found. ShowsOutcome front.now lane found.bids) }
+        (λ found. found.bids ≡ opened_bids (seats_of statement.now.front.seals) zero.now one.now) }
+    ensures outcome { IfOk result (λ found. ShowsOutcome statement.now.front lane found.bids) }
     ensures agree { OnOk result (clash_of_lane case.now zero.now one.now ≡ None) }
     ensures clash { IfSome (clash_of_lane case.now zero.now one.now) (λ two. result ≡ Err (Clash two)) }
     ensures refused { IfErr result (λ refused. IsRefusalOf refused case.now zero.now one.now) }
-    ensures opened_twice { IfErr result (λ refused. OpensTwice refused plan.now case.now) }
+    ensures opened_twice { IfErr result (λ refused. OpensTwice refused statement.now.plan case.now) }
 {
     // That the values of all wires hold for the plan shows the outcome.
-    let _values = extract_lane(alloc, plan, case, zero, one)?;
-    let bids = bids_of(alloc, front.seals.as_slice(), zero, one)?;
+    let _values = extract_lane(alloc, statement.plan(), case, zero, one)?;
+    let bids = bids_of(alloc, statement.front().seals.as_slice(), zero, one)?;
     Ok(LaneBids { number: lane, bids })
 }
 

@@ -1,11 +1,11 @@
 // What is printed of a lane's bids, and of two openings of one commitment.
 ghost use Rattle.std.specs.Prelude.{◌≡◌, IfOk, string_bytes};
 ghost use Rattle.std.specs.List.{flat_map};
-ghost use Rattle.vk_bids.specs.Texts.{bid_line, clash_text, lane_bids_text, opening_text};
+ghost use Rattle.vk_bids.specs.Texts.{bid_line, clash_text, lane_bids_text, opening_text, openings_text};
 
 use crate::bids::{LaneBids, OpenedBid};
 use std::alloc::Global;
-use vk_commit::{Opening, TwoOpenings};
+use vk_commit::{Opening, Place, TwoOpenings};
 use vk_residue::NoMemory;
 
 /// The lines of a lane's bids, one for each seal in order.
@@ -36,13 +36,32 @@ fn bid_line(alloc: Global, number: u32, bid: &OpenedBid) -> Result<String, NoMem
 pub fn clash_line(alloc: Global, two: &TwoOpenings) -> Result<String, NoMemory>
     ensures { IfOk result (λ line. string_bytes line ≡ clash_text two.now) }
 {
-    let place = two.place();
+    let line = openings_line(
+        alloc,
+        &two.place(),
+        &two.digest(),
+        &two.first(),
+        &two.second(),
+    )?;
+    Ok(line)
+}
+
+/// The line of two openings of a digest at a place.
+pub fn openings_line(
+    alloc: Global,
+    place: &Place,
+    digest: &[u8; 32],
+    first: &Opening,
+    second: &Opening,
+) -> Result<String, NoMemory>
+    ensures { IfOk result (λ line. string_bytes line ≡ openings_text place.now digest.now first.now second.now) }
+{
     let lane = place.lane;
     let seat = place.seat;
     let slot = place.slot;
-    let digest = hex::encode(alloc, two.digest().as_slice())?;
-    let first = opening_fields(alloc, &two.first())?;
-    let second = opening_fields(alloc, &two.second())?;
+    let digest = hex::encode(alloc, digest.as_slice())?;
+    let first = opening_fields(alloc, first)?;
+    let second = opening_fields(alloc, second)?;
     let line = format!(in alloc;
         "clash lane {lane} seat {seat} slot {slot} digest {digest} first {first} second {second}\n"
     )?;

@@ -1,25 +1,24 @@
-// The lane of the smallest board: one seal, of seat 7, with a bid of 0 below 2^1.
+// Lane 2 of a board of one seal, of seat 7, with a bid of 0 below 2^1.
 ghost use Rattle.std.specs.Prelude.{◌≡◌, ◌≤◌, ◌<◌, ◌^◌, ◌∷◌, [], IfOk, length};
 ghost use Rattle.std.specs.List.{AllByRecursion};
 ghost use Rattle.vk_residue.specs.Residue.{IsResidue};
 ghost use Rattle.vk_plan.specs.Plans.{HasWeight, MayHave};
 ghost use Rattle.vk_wire.specs.Values.{IsCom};
 ghost use Rattle.vk_row.specs.Lanes.{HasCounts};
-ghost use Rattle.vk_vickrey.specs.VickreyPlans.{vickrey_plan};
-ghost use Rattle.vk_verifier.specs.Verdicts.{IsFront, plan_of};
+ghost use Rattle.vk_verifier.specs.Statement.{statement_of};
 ghost use Rattle.vk_verifier.specs.Parts.{IsCase};
 
+use crate::printing::openings_line;
 use crate::{LaneBids, OpenedBid, add_lane, lane_bids_lines};
 use std::alloc::Global;
 use std::test::Fail;
-use vk_board::{Head, SealLines};
-use vk_commit::Opening;
-use vk_plan::{Circuit, Plan, WireKind};
+use vk_board::{Front, Head, SealLines};
+use vk_commit::{Opening, Place};
+use vk_plan::WireKind;
 use vk_residue::Residue;
 use vk_row::{LaneCase, check_lane};
 use vk_seq::Seq;
-use vk_verifier::{Front, TwoLane};
-use vk_vickrey::{VickreyOutcome, VickreyPlan};
+use vk_verifier::{Statement, TwoLane};
 use vk_wire::{Shown, WireCom, WireTape, make, show, wire_place};
 
 const ID: [u8; 16] = [0, 1, 2, 3, 4, 5, 6, 7, 8, 9, 10, 11, 12, 13, 14, 15];
@@ -44,56 +43,46 @@ fn wire(kind: WireKind, number: u32, tape: &WireTape) -> WireCom
     requires number { number < 2 ^ 24 }
     ensures { IsCom result }
 {
-    let place = wire_place(&ID, 1, &[7], number);
+    let place = wire_place(&ID, 2, &[7], number);
     let digests = make(kind, &place, Residue::ZERO, tape);
     digests
 }
 
-fn plan_of_one(alloc: Global) -> Result<Plan, Fail>
-    ensures plan { IfOk result (λ plan. plan ≡ vickrey_plan 1 1 1 0) }
-    ensures wires { IfOk result (λ plan. length plan.kinds ≡ 3) }
-    ensures rows { IfOk result (λ plan. length plan.rows ≡ 2) }
-{
-    let outcome = VickreyOutcome {
-        position: 1,
-        price: 0,
-    };
-    let circuit = VickreyPlan::new(1, 1, outcome).ok_or("not a case")?;
-    let plan = circuit.plan(alloc)?;
-    Ok(plan)
-}
-
-fn front_of_one(alloc: Global, digests: WireCom) -> Result<Front, Fail>
-    requires { IsCom digests }
-    ensures front { IfOk result (λ front. front ≡ record {
-      head = record { auction = ID; width = 1; lanes = 1; seals = 1; winner = 7; price = 0 };
-      seals = record { seat = 7; coms = digests ∷ [] } ∷ [];
+/// The statement of the board, with these commitments of the seal in both lanes.
+fn statement_of_one(alloc: Global, first: WireCom, second: WireCom) -> Result<Statement, Fail>
+    requires first { IsCom first }
+    requires second { IsCom second }
+    ensures { IfOk result (λ statement. statement ≡ statement_of (record {
+      head = record { auction = ID; width = 1; lanes = 2; seals = 1; winner = 7; price = 0 };
+      seals = record { seat = 7; coms = first ∷ second ∷ [] } ∷ [];
       position = 1;
-    }) }
-    ensures right { IfOk result IsFront }
+    })) }
 {
     let mut coms = Seq::new(alloc);
-    coms.push(digests)?;
+    coms.push(first)?;
+    coms.push(second)?;
     let mut seals = Seq::new(alloc);
     seals.push(SealLines { seat: 7, coms })?;
     let head = Head {
         auction: ID,
         width: 1,
-        lanes: 1,
+        lanes: 2,
         seals: 1,
         winner: 7,
         price: 0,
     };
-    Ok(Front {
+    let front = Front {
         head,
         seals,
         position: 1,
-    })
+    };
+    let statement = Statement::of(alloc, front)?;
+    Ok(statement)
 }
 
 fn case_of_one(alloc: Global, bid: WireCom, copy: WireCom, pair: WireCom) -> Result<LaneCase, Fail>
     ensures auction { IfOk result (λ case. case.auction ≡ ID) }
-    ensures lane { IfOk result (λ case. case.lane ≡ 1) }
+    ensures lane { IfOk result (λ case. case.lane ≡ 2) }
     ensures seats { IfOk result (λ case. case.seats ≡ 7 ∷ []) }
     ensures coms { IfOk result (λ case. case.coms ≡ bid ∷ copy ∷ pair ∷ []) }
     ensures posted { IfOk result (λ case. length case.posted ≡ 2) }
@@ -112,7 +101,7 @@ fn case_of_one(alloc: Global, bid: WireCom, copy: WireCom, pair: WireCom) -> Res
     posted.push(second)?;
     Ok(LaneCase {
         auction: ID,
-        lane: 1,
+        lane: 2,
         seats,
         coms,
         posted,
@@ -129,20 +118,18 @@ fn shown_of_one(alloc: Global, bid: Shown, copy: Shown, pair: Shown) -> Result<S
     Ok(shown)
 }
 
-/// What is gathered of lane 1, once both replies are accepted.
+/// What is gathered of lane 2, once both replies are accepted.
 fn gathered_of_lane(
     alloc: Global,
-    front: &Front,
-    plan: &Plan,
+    statement: &Statement,
     lane: &TwoLane,
 ) -> Result<Seq<LaneBids>, Fail>
-    requires front { IsFront front.now }
-    requires plan { plan.now ≡ plan_of front.now }
-    requires lane { 1 ≤ front.now.head.lanes }
-    requires case { IsCase front.now plan.now 1 lane.now.case }
-    requires first { HasCounts plan.now lane.now.case lane.now.first }
-    requires second { HasCounts plan.now lane.now.case lane.now.second }
+    requires lanes { 2 ≤ statement.now.front.head.lanes }
+    requires case { IsCase statement.now.front statement.now.plan 2 lane.now.case }
+    requires first { HasCounts statement.now.plan lane.now.case lane.now.first }
+    requires second { HasCounts statement.now.plan lane.now.case lane.now.second }
 {
+    let plan = statement.plan();
     check_lane(
         alloc,
         plan,
@@ -158,7 +145,7 @@ fn gathered_of_lane(
         lane.second.as_slice(),
     )?;
     let mut bids = Seq::new(alloc);
-    add_lane(alloc, front, plan, 1, lane, &mut bids)?;
+    add_lane(alloc, statement, 2, lane, &mut bids)?;
     Ok(bids)
 }
 
@@ -167,9 +154,9 @@ fn smallest(alloc: Global) -> Result<Seq<LaneBids>, Fail> {
     let bid = tape(3, 0x11, 0x22)?;
     let copy = tape(10, 0x33, 0x44)?;
     let pair = tape(4, 0x55, 0x66)?;
+    let other = wire(WireKind::Split, 0, &copy);
     let digests = wire(WireKind::Split, 0, &bid);
-    let front = front_of_one(alloc, digests)?;
-    let plan = plan_of_one(alloc)?;
+    let statement = statement_of_one(alloc, other, digests)?;
     let case = case_of_one(
         alloc,
         digests,
@@ -195,12 +182,12 @@ fn smallest(alloc: Global) -> Result<Seq<LaneBids>, Fail> {
         second_bit: false,
         second: zero,
     };
-    let found = gathered_of_lane(alloc, &front, &plan, &lane)?;
+    let found = gathered_of_lane(alloc, &statement, &lane)?;
     Ok(found)
 }
 
 #[test]
-fn the_lane_of_the_smallest_board_gives_its_bid(rt: HostRuntime) -> Result<(), Fail> {
+fn lane_2_gives_its_bid(rt: HostRuntime) -> Result<(), Fail> {
     let alloc = rt.alloc();
     let gathered = smallest(alloc)?;
     assert_eq!(rt; gathered.len(), 1);
@@ -222,7 +209,31 @@ fn the_lane_of_the_smallest_board_gives_its_bid(rt: HostRuntime) -> Result<(), F
     assert_eq!(rt; lines.len(), 1);
     assert_eq!(rt;
         lines[0].as_str(),
-        "lane 1 seat 7 bid 0 u 1111111111111111111111111111111111111111111111111111111111111111 3 v 2222222222222222222222222222222222222222222222222222222222222222 2305843009213693948\n"
+        "lane 2 seat 7 bid 0 u 1111111111111111111111111111111111111111111111111111111111111111 3 v 2222222222222222222222222222222222222222222222222222222222222222 2305843009213693948\n"
+    );
+    Ok(())
+}
+
+#[test]
+fn two_openings_are_printed(rt: HostRuntime) -> Result<(), Fail> {
+    let place = Place {
+        auction: ID,
+        seat: 65535,
+        lane: 64,
+        slot: 7,
+    };
+    let first = Opening {
+        key: [0x0a; 32],
+        value: residue(2305843009213693950)?,
+    };
+    let second = Opening {
+        key: [0xb0; 32],
+        value: Residue::ZERO,
+    };
+    let line = openings_line(rt.alloc(), &place, &[0x5c; 32], &first, &second)?;
+    assert_eq!(rt;
+        line.as_str(),
+        "clash lane 64 seat 65535 slot 7 digest 5c5c5c5c5c5c5c5c5c5c5c5c5c5c5c5c5c5c5c5c5c5c5c5c5c5c5c5c5c5c5c5c first 0a0a0a0a0a0a0a0a0a0a0a0a0a0a0a0a0a0a0a0a0a0a0a0a0a0a0a0a0a0a0a0a 2305843009213693950 second b0b0b0b0b0b0b0b0b0b0b0b0b0b0b0b0b0b0b0b0b0b0b0b0b0b0b0b0b0b0b0b0 0\n"
     );
     Ok(())
 }

@@ -1,6 +1,6 @@
-ghost use Rattle.std.specs.Prelude.{◌≡◌, ℕ, ◌≤◌, Option, IfSome, IfOk, IsErrOf};
+ghost use Rattle.std.specs.Prelude.{◌≡◌, ℕ, Option, IfSome, IfOk};
 ghost use Rattle.std.specs.FinMap as map;
-ghost use Rattle.vk_io.specs.Faults.{Rose};
+ghost use Rattle.vk_io.specs.Faults.{Causes};
 ghost use Rattle.vk_io.specs.Files.{Told};
 ghost use Rattle.vk_keeper.specs.Auctions.{IsAuction};
 ghost use Rattle.vk_keeper.specs.Ledgers.{Ledger, Keeps};
@@ -23,14 +23,12 @@ pub trait Keeper {
         ensures id { IfOk result (λ found. IfSome found (λ auction. auction.id ≡ id.now)) }
         ensures right { IfOk result (λ found. IfSome found IsAuction) }
         ensures kept { ledger self.new ≡ ledger self.old }
-        ensures later { faults self.old ≤ faults self.new }
-        ensures failed { IsErrOf result KeeperErr.Failed → Rose (faults self.old) (faults self.new) };
+        ensures causes { Causes KeeperErr.Failed result (faults self.old) (faults self.new) };
 
     /// Keeps the auction under its id, in place of the one that was kept there. Refused, the ledger is
     /// as before.
     fn put(&mut self, auction: Auction) -> Result<(), KeeperErr>
         requires { IsAuction auction }
         ensures put { Told (Keeps auction result) (ledger self.old) (ledger self.new) }
-        ensures later { faults self.old ≤ faults self.new }
-        ensures failed { IsErrOf result KeeperErr.Failed → Rose (faults self.old) (faults self.new) };
+        ensures causes { Causes KeeperErr.Failed result (faults self.old) (faults self.new) };
 }

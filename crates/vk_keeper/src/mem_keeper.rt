@@ -1,6 +1,6 @@
-ghost use Rattle.std.specs.Prelude.{◌≡◌, ◌≤◌, ◌++◌, ◌↔◌, [], ◌∷◌, IfSome, IfOk, IfErr, OnOk, OnErr, IsErr, IsErrOf, IsTrue};
+ghost use Rattle.std.specs.Prelude.{◌≡◌, ◌++◌, ◌↔◌, [], ◌∷◌, IfSome, IfOk, IfErr, OnOk, OnErr, IsErr, IsErrOf, IsTrue};
 ghost use Rattle.std.specs.FinMap as map;
-ghost use Rattle.vk_io.specs.Faults.{Rose, fails_next, after_call};
+ghost use Rattle.vk_io.specs.Faults.{Causes, fails_next, after_call};
 ghost use Rattle.vk_keeper.specs.Auctions.{IsAuction};
 
 use crate::auction::Auction;
@@ -64,7 +64,7 @@ impl MemKeeper {
         ensures fails { IsErr result ↔ IsTrue (fails_next self.old.calls) }
         ensures outside { IfErr result (λ refusal. refusal ≡ KeeperErr.Failed) }
         ensures counted { self.new ≡ record self.old { calls = after_call self.old.calls } }
-        ensures later { self.old.calls.faults ≤ self.new.calls.faults }
+        ensures causes { Causes KeeperErr.Failed result self.old.calls.faults self.new.calls.faults }
     {
         if self.calls.count() {
             return Err(KeeperErr::Failed);
@@ -87,8 +87,7 @@ impl Keeper for MemKeeper {
         ensures right { IfOk result (λ found. IfSome found IsAuction) }
         ensures kept { self.new.ledger ≡ self.old.ledger }
         ensures counted { self.new.calls ≡ after_call self.old.calls }
-        ensures later { self.old.calls.faults ≤ self.new.calls.faults }
-        ensures failed { IsErrOf result KeeperErr.Failed → Rose self.old.calls.faults self.new.calls.faults }
+        ensures causes { Causes KeeperErr.Failed result self.old.calls.faults self.new.calls.faults }
     {
         self.begin()?;
         let found = copy_of(self.alloc, &self.auctions, id)?;
@@ -101,8 +100,7 @@ impl Keeper for MemKeeper {
         ensures put { OnOk result (self.new.ledger ≡ map.insert self.old.ledger auction.id auction) }
         ensures refused { OnErr result (self.new.ledger ≡ self.old.ledger) }
         ensures counted { self.new.calls ≡ after_call self.old.calls }
-        ensures later { self.old.calls.faults ≤ self.new.calls.faults }
-        ensures failed { IsErrOf result KeeperErr.Failed → Rose self.old.calls.faults self.new.calls.faults }
+        ensures causes { Causes KeeperErr.Failed result self.old.calls.faults self.new.calls.faults }
     {
         self.begin()?;
         keep(&mut self.auctions, auction)?;

@@ -1,24 +1,33 @@
-ghost use Rattle.std.specs.Prelude.{◌≤◌};
-ghost use Rattle.vk_keeper.specs.Auctions.{IsAuction};
+ghost use Rattle.std.specs.Prelude.{◌≡◌, ◌≤◌, [], length, IfOk};
+ghost use Rattle.vk_reply.specs.Values.{IsChallenge};
+ghost use Rattle.vk_keeper.specs.Auctions.{IsAuction, IsSealRow};
 
 use super::*;
 use std::alloc::Global;
+use std::process::Abort;
 use std::test::Fail;
+use vk_dice::ChaChaWords;
 use vk_reply::Challenge;
-use vk_residue::Residue;
-use vk_seal::{Seal, Secret, XTape};
+use vk_seal::make_seal;
 use vk_seq::Seq;
-use vk_wire::WireCom;
 
 const ONE: [u8; 16] = [1; 16];
 
 const TWO: [u8; 16] = [2; 16];
 
+const ID: [u8; 16] = [0, 1, 2, 3, 4, 5, 6, 7, 8, 9, 10, 11, 12, 13, 14, 15];
+
+const SEED: [u8; 32] = [
+    0, 1, 2, 3, 4, 5, 6, 7, 8, 9, 10, 11, 12, 13, 14, 15, 16, 17, 18, 19, 20, 21, 22, 23, 24, 25,
+    26, 27, 28, 29, 30, 31,
+];
+
 /// An auction that takes seals and has none yet.
 fn opened(alloc: Global, id: &[u8; 16], width: u32) -> Auction
     requires some_width { 1 ≤ width }
     requires last_width { width ≤ 40 }
-    ensures { IsAuction result }
+    ensures right { IsAuction result }
+    ensures made { result ≡ record { id = id.now; width = width; lanes = 2; phase = Phase.Taking; seals = [] } }
 {
     Auction {
         id: *id,
@@ -63,63 +72,114 @@ fn the_named_calls_fail_and_change_nothing(rt: HostRuntime) -> Result<(), Fail> 
 }
 
 /// A challenge of the bits 0 and 1.
-fn challenge(alloc: Global) -> Result<Challenge, Fail> {
+fn challenge(alloc: Global) -> Result<Challenge, Fail>
+    ensures challenge { IfOk result IsChallenge }
+    ensures bits { IfOk result (λ challenge. length challenge.bits ≡ 2) }
+{
     let bits = Seq::from_vec(Vec::from_slice(alloc, &[false, true])?);
     Ok(Challenge { bits })
 }
 
-/// A seal of one lane and a secret, which need not match.
-fn row(alloc: Global) -> Result<SealRow, Fail> {
-    let com = WireCom {
-        first: [3; 32],
-        second: [4; 32],
+/// The secret of a bid in an auction of two lanes, and its seal.
+fn row(alloc: Global, id: &[u8; 16], seat: u16, bid: u64) -> Result<SealRow, Fail>
+    requires some_seat { 1 ≤ seat }
+    ensures row { IfOk result (IsSealRow id.now 8 2) }
+    ensures seat { IfOk result (λ row. row.seal.seat ≡ seat) }
+{
+    let mut words = ChaChaWords::of(&SEED, id, 65536 + u64::from(seat));
+    let (secret, seal) = make_seal(alloc, bid, seat, id, 8, 2, &mut words)?;
+    if seal.auction != *id || seal.seat != seat || seal.lanes.len() != 2 || secret.bid >= 256 {
+        return Err(Fail::from("another seal"));
+    }
+    Ok(SealRow { seal, secret })
+}
+
+/// An auction of two lanes that takes seals and has three.
+fn with_seals(alloc: Global, id: &[u8; 16]) -> Result<Auction, Fail>
+    ensures right { IfOk result IsAuction }
+    ensures seals { IfOk result (λ auction. length auction.seals ≡ 3) }
+    ensures lanes { IfOk result (λ auction. auction.lanes ≡ 2) }
+{
+    let first = row(alloc, id, 7, 15)?;
+    let second = row(alloc, id, 300, 255)?;
+    let third = row(alloc, id, 65535, 0)?;
+    let mut auction = opened(alloc, id, 8);
+    auction.seals.push(first)?;
+    auction.seals.push(second)?;
+    auction.seals.push(third)?;
+    Ok(auction)
+}
+
+/// The same once it is proved.
+fn proved(alloc: Global, id: &[u8; 16], seed: &[u8; 32]) -> Result<Auction, Fail>
+    ensures { IfOk result IsAuction }
+{
+    let mut auction = with_seals(alloc, id)?;
+    auction.phase = Phase::Proved { seed: *seed };
+    Ok(auction)
+}
+
+/// The same once it is answered.
+fn answered(alloc: Global, id: &[u8; 16], seed: &[u8; 32]) -> Result<Auction, Fail>
+    ensures { IfOk result IsAuction }
+{
+    let challenge = challenge(alloc)?;
+    let mut auction = with_seals(alloc, id)?;
+    auction.phase = Phase::Answered {
+        seed: *seed,
+        challenge,
     };
-    let tape = XTape {
-        mask: Residue::ONE,
-        first_key: [5; 32],
-        second_key: [6; 32],
-    };
-    let mut coms = Seq::new(alloc);
-    coms.push(com)?;
-    let mut tapes = Seq::new(alloc);
-    tapes.push(tape)?;
-    Ok(SealRow {
-        seal: Seal {
-            auction: ONE,
-            seat: 7,
-            lanes: coms,
-        },
-        secret: Secret {
-            auction: ONE,
-            seat: 7,
-            bid: 15,
-            lanes: tapes,
-        },
-    })
+    Ok(auction)
+}
+
+/// Checks the seals of an auction that was copied, in lane 2 by what another implementation drew.
+fn check_seals(rt: &impl Abort, auction: &Auction) -> Result<(), Fail> {
+    let rows = auction.seals.as_slice();
+    assert_eq!(rt; rows.len(), 3);
+    let first = &rows[0];
+    assert_eq!(rt; (first.seal.seat, first.secret.bid), (7, 15));
+    let tape = first.secret.lanes.as_slice().get(1).ok_or("no lane 2")?;
+    assert_eq!(rt; tape.mask.get(), 348017112954609804);
+    let last = &rows[2];
+    assert_eq!(rt; (last.seal.seat, last.secret.seat), (65535, 65535));
+    assert_eq!(rt; last.secret.bid, 0);
+    assert_eq!(rt; (last.seal.lanes.len(), last.secret.lanes.len()), (2, 2));
+    Ok(())
 }
 
 #[test]
 fn a_copy_has_every_part(rt: HostRuntime) -> Result<(), Fail> {
-    let mut auction = opened(rt.alloc(), &ONE, 4);
-    auction.seals.push(row(rt.alloc())?)?;
-    auction.phase = Phase::Answered {
-        seed: [8; 32],
-        challenge: challenge(rt.alloc())?,
-    };
-    let copy = auction.copy(rt.alloc())?;
-    assert_eq!(rt; (copy.id, copy.width, copy.lanes), (ONE, 4, 2));
+    let alloc = rt.alloc();
+    let auction = answered(alloc, &ID, &SEED)?;
+    let copy = auction.copy(alloc)?;
+    assert_eq!(rt; (copy.id, copy.width, copy.lanes), (ID, 8, 2));
     let Phase::Answered { seed, challenge } = &copy.phase else {
         return Err(Fail::from("another phase"));
     };
-    assert_eq!(rt; *seed, [8; 32]);
+    assert_eq!(rt; *seed, SEED);
     assert_eq!(rt; challenge.bits.as_slice(), [false, true].as_slice());
-    let row = copy.seals.as_slice().first().ok_or("no seal")?;
-    let com = row.seal.lanes.as_slice().first().ok_or("no lane")?;
-    assert_eq!(rt; (row.seal.seat, com.second), (7, [4; 32]));
-    let tape = row.secret.lanes.as_slice().first().ok_or("no tape")?;
-    assert_eq!(rt;
-        (row.secret.bid, tape.mask.get(), tape.second_key),
-        (15, 1, [6; 32])
-    );
+    check_seals(&rt, &copy)?;
+    Ok(())
+}
+
+#[test]
+fn three_auctions_with_seals_are_kept(rt: HostRuntime) -> Result<(), Fail> {
+    let alloc = rt.alloc();
+    let mut keeper = MemKeeper::new(alloc);
+    keeper.put(with_seals(alloc, &ONE)?)?;
+    keeper.put(answered(alloc, &TWO, &SEED)?)?;
+    keeper.put(proved(alloc, &ID, &SEED)?)?;
+    let found = keeper.get(&ID)?.ok_or("not kept")?;
+    let Phase::Proved { seed } = &found.phase else {
+        return Err(Fail::from("another phase"));
+    };
+    assert_eq!(rt; *seed, SEED);
+    check_seals(&rt, &found)?;
+    let second = keeper.get(&TWO)?.ok_or("not kept")?;
+    assert_eq!(rt; second.seals.len(), 3);
+    assert!(rt; matches!(second.phase, Phase::Answered { .. }));
+    let first = keeper.get(&ONE)?.ok_or("not kept")?;
+    assert_eq!(rt; first.seals.len(), 3);
+    assert!(rt; matches!(first.phase, Phase::Taking));
     Ok(())
 }

@@ -1,7 +1,6 @@
 -- A file is reported on exactly where it is the text of a board whose price and winner may stand.
-use Rattle.std.proofs.Common.{◌≡◌, ℕ, ◌^◌, ◌<◌, ◌≤◌, ◌==◌, ◌||◌, nat_lt, not, Bool, true, false, if◌then◌else◌, List, length, Option, Some, None, Result, Ok, Err, refl, ap, sym, ◌∙◌, arith, subst}
+use Rattle.std.proofs.Common.{◌≡◌, ℕ, ◌^◌, ◌≤◌, nat_lt, Bool, true, false, if◌then◌else◌, List, length, Option, Some, None, Result, Ok, Err, refl, ap, sym, ◌∙◌, arith, subst}
 use Rattle.std.specs.FinMap.{get}
-use Rattle.std.proofs.lemmas.Bool.{and_parts}
 use Rattle.std.proofs.lemmas.Bool.Decides.{nat_tests}
 use Rattle.vk_io.specs.Files.{Files}
 use Rattle.vk_lines.specs.Lines.{Rest, end_at}
@@ -12,13 +11,19 @@ use Rattle.vk_board.specs.declared.board.SealLines.{SealLines}
 use Rattle.vk_board.specs.declared.board.LaneLines.{LaneLines}
 use Rattle.vk_board.specs.Values.{Board}
 use Rattle.vk_board.specs.Reading.{head_at, seals_at, lanes_at, board_at}
+use Rattle.vk_board.specs.declared.front.Front.{Front}
+use Rattle.vk_board.specs.Fronts.{FrontFault, front_with, front_at}
+use Rattle.vk_board.specs.Fronts as fronts
 use Rattle.vk_board.specs.Published.{price_stands, position_of}
+use Rattle.vk_board.specs.Gives.{◌>>=◌}
 use Rattle.vk_board.proofs.Boards.{board_is_whole, board_with}
+use Rattle.vk_board.proofs.Prices.{price_found}
+use Rattle.vk_board.proofs.Fronts.{FrontRead, front_right, front_at_shown, front_at_found}
 use Rattle.vk_report.specs.declared.report.Report.{Report}
 use Rattle.vk_report.specs.declared.report.ReportErr.{ReportErr}
-use Rattle.vk_report.specs.declared.report.ReportErr.TheVariants.{Price, TooLong}
-use Rattle.vk_report.specs.Reports.{◌>>=◌, in_board, passed, lanes_passed, report_with, with_winner, report_of, shape_of, front_at, report_at, begun, report_on}
-use Rattle.vk_report.proofs.Winner.{place_shown, place_found}
+use Rattle.vk_report.specs.declared.report.ReportErr.TheVariants.{TooLong}
+use Rattle.vk_report.specs.Reports.{in_board, in_front, passed, lanes_passed, report_with, report_at, begun, report_on}
+use Rattle.vk_report.proofs.Winner.{winner_is, place_found}
 use Rattle.vk_report.specs.Meaning.{auction_shape, IsReportOn}
 
 -- ---- results one after another
@@ -30,8 +35,11 @@ then_ok (Err fault) f y h = cc
 given : {X : Type 0} (x y : X) → ◌≡◌ {A = Result X ReportErr} (Ok x) (Ok y) → x ≡ y
 given x y same = cc
 
-given_both : {X Y : Type 0} (x z : X) (y w : Y) → ◌≡◌ {A = Result (X × Y) ReportErr} (Ok (x, y)) (Ok (z, w)) → (x ≡ z) × (y ≡ w)
-given_both x z y w same = let pair = given (x, y) (z, w) same in (ap (λ p. p.0) pair, ap (λ p. p.1) pair)
+front_ok : {X : Type 0} (r : Result X FrontFault) (x : X) → in_front r ≡ Ok x → r ≡ Ok x
+front_ok (Ok y) x h = ap (λ z. Ok z) (given y x h)
+front_ok (Err (fronts.Malformed line)) x h = cc
+front_ok (Err fronts.Price) x h = cc
+front_ok (Err fronts.Winner) x h = cc
 
 in_ok : {X : Type 0} (r : Result X ℕ) (x : X) → in_board r ≡ Ok x → r ≡ Ok x
 in_ok (Ok y) x h = ap (λ z. Ok z) (given y x h)
@@ -40,65 +48,6 @@ in_ok (Err line) x h = cc
 passed_ok : {X : Type 0} (r : Result (X × Rest) ℕ) (done : Unit {0}) (after : Rest) → passed r ≡ Ok (done, after) → (x : X) × (r ≡ Ok (x, after))
 passed_ok (Ok read) done after h = (read.0, ap (λ p. Ok (read.0, p.1)) (ok_same (tt, read.1) (done, after) h))
 passed_ok (Err line) done after h = cc
-
--- ---- the price
-
-price_shown : (head : Head) → price_stands head ≡ true → (head.price < 2 ^ head.width) × (head.seals ≡ 1 → head.price ≡ 0)
-price_shown head stands =
-    let parts = and_parts (nat_lt head.price (2 ^ head.width)) (not (head.seals == 1) || head.price == 0) stands in
-    (grind (arith, nat_tests, parts.0), λ one. grind (arith, nat_tests, parts.1, one))
-
-price_found : (head : Head) → head.price < 2 ^ head.width → (head.seals ≡ 1 → head.price ≡ 0) → price_stands head ≡ true
-price_found head within alone = grind (arith, nat_tests, within, alone)
-
--- ---- what is read before the first lane
-
-record IsFrontOf (rest : Rest) (report : Report) (after : Rest) : Type 0 where
-  pub head : Head
-  pub middle : Rest
-  pub seals : List SealLines
-  pub head_is : head_at rest ≡ Ok (head, middle)
-  pub seals_are : seals_at head middle ≡ Ok (seals, after)
-  pub price : price_stands head ≡ true
-  pub place : ℕ
-  pub winner : position_of head.winner seals ≡ Some place
-  pub report_is : report ≡ report_with head seals
-
-tested : (stands : Bool) (winner : Option ℕ) (made report : Report) → (if stands then with_winner made winner else Err Price) ≡ Ok report
-    → (stands ≡ true) × (place : ℕ) × (winner ≡ Some place) × (report ≡ made)
-tested true (Some place) made report some = (refl, place, refl, sym (given made report some))
-tested true None made report some = cc
-tested false winner made report some = cc
-
-report_shown : (head : Head) (seals : List SealLines) (report : Report) → report_of head seals ≡ Ok report
-    → (price_stands head ≡ true) × (place : ℕ) × (position_of head.winner seals ≡ Some place) × (report ≡ report_with head seals)
-unfolding report_of
-report_shown head seals report some = tested (price_stands head) (position_of head.winner seals) (report_with head seals) report some
-
-front_from : (rest middle between after : Rest) (head : Head) (seals : List SealLines) (made report : Report) → head_at rest ≡ Ok (head, middle) → seals_at head middle ≡ Ok (seals, between)
-    → report_of head seals ≡ Ok made → ◌≡◌ {A = Result (Report × Rest) ReportErr} (Ok (made, between)) (Ok (report, after)) → IsFrontOf rest report after
-front_from rest middle between after head seals made report head_is seals_are made_is same =
-    let is = report_shown head seals made made_is in
-    let both = given_both made report between after same in
-    record {
-      head = head;
-      middle = middle;
-      seals = seals;
-      head_is = head_is;
-      seals_are = seals_are ∙ ap (λ r. Ok (seals, r)) both.1;
-      price = is.0;
-      place = is.1;
-      winner = is.2;
-      report_is = sym both.0 ∙ is.3;
-    }
-
-front_shown : (rest : Rest) (report : Report) (after : Rest) → front_at rest ≡ Ok (report, after) → IsFrontOf rest report after
-unfolding front_at
-front_shown rest report after some =
-    let head = then_ok (in_board (head_at rest)) (λ head. in_board (seals_at head.0 head.1) >>= λ seals. report_of head.0 seals.0 >>= λ made. Ok (made, seals.1)) (report, after) some in
-    let seals = then_ok (in_board (seals_at head.0.0 head.0.1)) (λ seals. report_of head.0.0 seals.0 >>= λ made. Ok (made, seals.1)) (report, after) head.2 in
-    let made = then_ok (report_of head.0.0 seals.0.0) (λ made. Ok (made, seals.0.1)) (report, after) seals.2 in
-    front_from rest head.0.1 seals.0.1 after head.0.0 seals.0.0 made.0 report (in_ok (head_at rest) head.0 head.1) (in_ok (seals_at head.0.0 head.0.1) seals.0 seals.1) made.1 made.2
 
 -- ---- the parts of a board, and the board
 
@@ -141,52 +90,48 @@ board_parts rest board over some =
 
 -- ---- the report and the board
 
-report_joined : (rest : Rest) (head : Head) (seals : List SealLines) (lanes : List LaneLines) (over : Rest) (place : ℕ) → AreParts rest head seals lanes over
-    → price_stands head ≡ true → position_of head.winner seals ≡ Some place → report_at rest ≡ Ok (report_with head seals)
-unfolding report_at front_at report_of
-report_joined rest head seals lanes over place are price winner =
-    rw (are.head_is, are.seals_are, price, winner, are.lanes_are, are.end_is) refl
+report_joined : (rest : Rest) (front : Front) (lanes : List LaneLines) (over : Rest) → AreParts rest front.head front.seals lanes over
+    → price_stands front.head ≡ true → position_of front.head.winner front.seals ≡ Some front.position → report_at rest ≡ Ok (report_with front)
+unfolding report_at
+report_joined rest front lanes over are price winner =
+    let read = front_at_found rest front are.after_seals (record { middle = are.after_head; head_read = are.head_is; seals_read = are.seals_are; price = price; winner = winner }) in
+    rw (read, are.lanes_are, are.end_is) refl
 
 -- a report, and the board that it is of
 record IsReportOfBoard (rest : Rest) (report : Report) : Type 0 where
-  pub board : Board
+  pub front : Front
+  pub after : Rest
+  pub front_is : FrontRead rest front after
+  pub lanes : List LaneLines
   pub over : Rest
-  pub board_is : board_at auction_shape rest ≡ Ok (board, over)
-  pub price : price_stands board.head ≡ true
-  pub place : ℕ
-  pub winner : position_of board.head.winner board.seals ≡ Some place
-  pub report_is : report ≡ report_with board.head board.seals
-
-board_from : (rest middle after over : Rest) (made report : Report) (lanes : List LaneLines) → IsFrontOf rest made middle → lanes_at (λ _. shape_of made) made.head middle ≡ Ok (lanes, after)
-    → end_at after ≡ Ok (tt, over) → made ≡ report → IsReportOfBoard rest report
-board_from rest middle after over made report lanes is lanes_are end_is same =
-    let P : Report → Type 0 = λ r. lanes_at (λ _. shape_of r) r.head middle ≡ Ok (lanes, after) in
-    record {
-      board = board_with is.head is.seals lanes;
-      over = over;
-      board_is = board_joined rest is.head is.seals lanes over (record {
-        after_head = is.middle;
-        after_seals = middle;
-        after_lanes = after;
-        head_is = is.head_is;
-        seals_are = is.seals_are;
-        lanes_are = subst P is.report_is lanes_are;
-        end_is = end_is;
-      });
-      price = is.price;
-      place = is.place;
-      winner = is.winner;
-      report_is = sym same ∙ is.report_is;
-    }
+  pub board_is : board_at auction_shape rest ≡ Ok (board_with front.head front.seals lanes, over)
+  pub report_is : report ≡ report_with front
 
 board_shown : (rest : Rest) (report : Report) → report_at rest ≡ Ok report → IsReportOfBoard rest report
 unfolding report_at
 board_shown rest report some =
-    let front = then_ok (front_at rest) (λ front. in_board (lanes_passed front.0 front.1) >>= λ lanes. in_board (end_at lanes.1) >>= λ over. Ok front.0) report some in
-    let lanes = then_ok (in_board (lanes_passed front.0.0 front.0.1)) (λ lanes. in_board (end_at lanes.1) >>= λ over. Ok front.0.0) report front.2 in
-    let over = then_ok (in_board (end_at lanes.0.1)) (λ over. Ok front.0.0) report lanes.2 in
-    let read = passed_ok (lanes_at (λ _. shape_of front.0.0) front.0.0.head front.0.1) lanes.0.0 lanes.0.1 (in_ok (lanes_passed front.0.0 front.0.1) lanes.0 lanes.1) in
-    board_from rest front.0.1 lanes.0.1 over.0.1 front.0.0 report read.0 (front_shown rest front.0.0 front.0.1 front.1) read.1 (in_ok (end_at lanes.0.1) over.0 over.1) (given front.0.0 report over.2)
+    let front = then_ok (in_front (front_at rest)) (λ front. in_board (lanes_passed (report_with front.0) front.1) >>= λ lanes. in_board (end_at lanes.1) >>= λ over. Ok (report_with front.0)) report some in
+    let lanes = then_ok (in_board (lanes_passed (report_with front.0.0) front.0.1)) (λ lanes. in_board (end_at lanes.1) >>= λ over. Ok (report_with front.0.0)) report front.2 in
+    let over = then_ok (in_board (end_at lanes.0.1)) (λ over. Ok (report_with front.0.0)) report lanes.2 in
+    let read = passed_ok (lanes_at auction_shape front.0.0.head front.0.1) lanes.0.0 lanes.0.1 (in_ok (lanes_passed (report_with front.0.0) front.0.1) lanes.0 lanes.1) in
+    let is = front_at_shown rest front.0.0 front.0.1 (front_ok (front_at rest) front.0 front.1) in
+    record {
+      front = front.0.0;
+      after = front.0.1;
+      front_is = is;
+      lanes = read.0;
+      over = over.0.1;
+      board_is = board_joined rest front.0.0.head front.0.0.seals read.0 over.0.1 (record {
+        after_head = is.middle;
+        after_seals = front.0.1;
+        after_lanes = lanes.0.1;
+        head_is = is.head_read;
+        seals_are = is.seals_read;
+        lanes_are = read.1;
+        end_is = in_ok (end_at lanes.0.1) over.0 over.1;
+      });
+      report_is = sym (given (report_with front.0.0) report over.2);
+    }
 
 -- ---- files
 
@@ -211,19 +156,19 @@ reported files name report some =
     let held = begun_shown (get files name) start.0 start.1 in
     let rest : Rest = record { taken = 0; left = held.0 } in
     let is = board_shown rest report (ap report_at held.3 ∙ start.2) in
-    let whole = (board_is_whole auction_shape).shown rest is.board is.over is.board_is in
-    let price = price_shown is.board.head is.price in
+    let board : Board = board_with is.front.head is.front.seals is.lanes in
+    let whole = (board_is_whole auction_shape).shown rest board is.over is.board_is in
+    let front = front_right is.front.head is.front.seals is.front.position whole.0.head whole.0.seals is.front_is.price is.front_is.winner in
     record {
       file = held.0;
       held = held.1;
       short = held.2;
       publishes = record {
-        board = is.board;
+        board = board;
         text = whole.1;
         is_board = whole.0;
-        price = price.0;
-        alone = price.1;
-        winner = place_shown is.board.head.winner 1 is.place is.board.seals is.winner;
+        price = front.price;
+        winner = winner_is is.front whole.0.seals front.winner;
         report_is = is.report_is;
       };
     }
@@ -236,9 +181,9 @@ is_reported files name report is =
     let rest : Rest = record { taken = 0; left = is.file } in
     let read = (board_is_whole auction_shape).found rest board publishes.is_board publishes.text in
     let parts = board_parts rest board read.0 read.1 in
-    let price = price_found board.head publishes.price publishes.alone in
     let winner = place_found board.head.winner 1 board.seals publishes.winner in
+    let front : Front = front_with board.head board.seals winner.0 in
     ap (λ told. begun told >>= report_at) is.held
     ∙ ap (λ begins. begins >>= report_at) (begun_found is.file is.short)
-    ∙ report_joined rest board.head board.seals board.lanes read.0 winner.0 parts price winner.1
+    ∙ report_joined rest front board.lanes read.0 parts (price_found board.head publishes.price) winner.1
     ∙ ap (λ made. Ok made) (sym publishes.report_is)

@@ -1,22 +1,19 @@
--- The winner has a place among the seals exactly where a seal has the winner's seat.
-use Rattle.std.proofs.Common.{◌≡◌, ℕ, zero, suc, ◌+◌, ◌==◌, Bool, true, false, if◌then◌else◌, List, [], ◌∷◌, Option, Some, None, refl, sym, arith}
-use Rattle.std.specs.Prelude.{Contains, is_none}
-use Rattle.std.proofs.lemmas.Bool.{eqb-true}
+-- The winner has a place among the seals where a seal has the winner's seat, and back.
+use Rattle.std.proofs.Common.{◌≡◌, ℕ, zero, suc, ◌+◌, ◌-◌, ◌<◌, ◌==◌, Bool, true, false, if◌then◌else◌, List, [], ◌∷◌, length, Some, refl, ◌∙◌, arith}
+use Rattle.std.specs.Prelude.{Contains}
+use Rattle.std.proofs.lemmas.List.{length-map, get_or_default}
 use Rattle.std.proofs.lemmas.Bool.Decides.{nat_tests}
 use Rattle.vk_board.specs.declared.board.SealLines.{SealLines}
 use Rattle.vk_board.specs.Reading.{seats_of}
-use Rattle.vk_board.specs.Published.{position_from, position_of}
+use Rattle.vk_board.specs.declared.front.Front.{Front}
+use Rattle.vk_board.specs.Values.{AreSeals}
+use Rattle.vk_board.specs.Fronts.{HasWinner}
+use Rattle.vk_board.specs.Published.{position_from}
 
--- by whether the first seal has the seat
-place_by : (test : Bool) (seat first place : ℕ) (seal : SealLines) (seals : List SealLines) → (seal.seat == seat) ≡ test
-    → (position_from seat (first + 1) seals ≡ Some place → Contains (seats_of seals) seat)
-    → (if test then Some first else position_from seat (first + 1) seals) ≡ Some place → Contains (seal.seat ∷ seats_of seals) seat
-place_by true seat first place seal seals is later some = (0, omega arith, eqb-true seal.seat seat is)
-place_by false seat first place seal seals is later some = let behind = later some in (suc behind.0, omega (arith, behind.1), behind.2)
-
-pub place_shown : (seat first place : ℕ) (seals : List SealLines) → position_from seat first seals ≡ Some place → Contains (seats_of seals) seat
-place_shown seat first place [] some = cc
-place_shown seat first place (seal ∷ seals) some = place_by (seal.seat == seat) seat first place seal seals refl (place_shown seat (first + 1) place seals) some
+pub winner_is : (front : Front) → AreSeals front.head front.seals → HasWinner front → Contains (seats_of front.seals) front.head.winner
+winner_is front are winner =
+    let within : front.position - 1 < length (seats_of front.seals) = omega (arith, winner.some, winner.within, are.count, length-map front.seals (λ seal. seal.seat)) in
+    (front.position - 1, within, get_or_default (seats_of front.seals) (front.position - 1) front.head.winner 0 within ∙ winner.seat)
 
 found_by : (test : Bool) (seat first : ℕ) (seal : SealLines) (seals : List SealLines) → (seal.seat == seat) ≡ test
     → (Contains (seats_of seals) seat → (place : ℕ) × (position_from seat (first + 1) seals ≡ Some place)) → Contains (seal.seat ∷ seats_of seals) seat
@@ -28,7 +25,3 @@ found_by false seat first seal seals is later (suc k, within, same) = later (k, 
 pub place_found : (seat first : ℕ) (seals : List SealLines) → Contains (seats_of seals) seat → (place : ℕ) × (position_from seat first seals ≡ Some place)
 place_found seat first [] at = absurd (omega (arith, at.1))
 place_found seat first (seal ∷ seals) at = found_by (seal.seat == seat) seat first seal seals refl (place_found seat (first + 1) seals) at
-
-pub winner_is : (seat : ℕ) (seals : List SealLines) (place : Option ℕ) → place ≡ position_of seat seals → is_none place ≡ false → Contains (seats_of seals) seat
-winner_is seat seals (Some place) is some = place_shown seat 1 place seals (sym is)
-winner_is seat seals None is some = cc

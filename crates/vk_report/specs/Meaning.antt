@@ -1,10 +1,11 @@
 -- When a file is reported on, by its whole text.
-use Rattle.std.specs.Prelude.{◌≡◌, ◌↔◌, ℕ, ◌-◌, ◌^◌, ◌<◌, ◌≤◌, List, length, Contains, Some, Ok}
+use Rattle.std.specs.Prelude.{◌≡◌, ◌↔◌, ℕ, ◌-◌, ◌^◌, ◌≤◌, List, length, Contains, Some, Ok}
 use Rattle.std.specs.FinMap.{get}
 use Rattle.vk_io.specs.Files.{Files}
 use Rattle.vk_board.specs.declared.board.Head.{Head}
 use Rattle.vk_board.specs.Values.{Board, Shape, IsBoard}
 use Rattle.vk_board.specs.Texts.{board_text}
+use Rattle.vk_board.specs.Fronts.{PriceStands}
 use Rattle.vk_board.specs.Reading.{seats_of}
 use Rattle.vk_vickrey.specs.VickreyPlans.{wire_count, row_count}
 use Rattle.vk_report.specs.declared.report.Report.{Report}
@@ -19,8 +20,7 @@ pub record Publishes (file : List ℕ) (report : Report) : Type 0 where
   pub board : Board
   pub text : file ≡ board_text board
   pub is_board : IsBoard auction_shape board
-  pub price : board.head.price < 2 ^ board.head.width
-  pub alone : board.head.seals ≡ 1 → board.head.price ≡ 0
+  pub price : PriceStands board.head
   pub winner : Contains (seats_of board.seals) board.head.winner
   pub report_is : report ≡ record {
     head = board.head;

@@ -1,5 +1,5 @@
 -- What is reported of a board's file, and the text of a report.
-use Rattle.std.specs.Prelude.{◌≡◌, ℕ, ◌-◌, ◌*◌, ◌^◌, nat_lt, true, if◌then◌else◌, List, [], ◌∷◌, ◌++◌, length, Contains, codes, decimal, Option, Some, None, Result, Ok, Err}
+use Rattle.std.specs.Prelude.{◌≡◌, ℕ, ◌-◌, ◌*◌, ◌^◌, nat_lt, if◌then◌else◌, List, [], ◌∷◌, ◌++◌, length, Contains, codes, decimal, Option, Some, None, Result, Ok, Err}
 use Rattle.std.specs.List.{flat_map}
 use Rattle.std.specs.FinMap.{get}
 use Rattle.vk_io.specs.Files.{Files}
@@ -7,32 +7,26 @@ use Rattle.vk_lines.specs.Forms.{line, spaced}
 use Rattle.vk_lines.specs.Lines.{Rest, end_at}
 use Rattle.vk_lines.specs.Tokens.{hex_text}
 use Rattle.vk_board.specs.declared.board.Head.{Head}
-use Rattle.vk_board.specs.declared.board.SealLines.{SealLines}
+use Rattle.vk_board.specs.declared.front.Front.{Front}
 use Rattle.vk_board.specs.Values.{IsHead, Shape}
-use Rattle.vk_board.specs.Reading.{head_at, seals_at, lanes_at, seats_of}
-use Rattle.vk_board.specs.Published.{price_stands, position_of}
+use Rattle.vk_board.specs.Reading.{lanes_at, seats_of}
+use Rattle.vk_board.specs.Fronts.{FrontFault, PriceStands, front_at}
+use Rattle.vk_board.specs.Fronts as fronts
+use Rattle.vk_board.specs.Gives.{◌>>=◌}
 use Rattle.vk_vickrey.specs.VickreyPlans.{wire_count, row_count}
 use Rattle.vk_report.specs.declared.report.Report.{Report}
 use Rattle.vk_report.specs.declared.report.ReportErr.{ReportErr}
 use Rattle.vk_report.specs.declared.report.ReportErr.TheVariants.{Missing, TooLong, Malformed, Price, Winner, Failed, NoMemory}
 
--- what is answered is what the definition gives: a value, or the first fault. After a failure of the
--- outside or want of memory nothing is said
-abbrev pub Gives : {T X : Type 0} → (T → X) → Result T ReportErr → Result X ReportErr → Type 0
-Gives value (Ok x) expected = expected ≡ Ok (value x)
-Gives value (Err Missing) expected = expected ≡ Err Missing
-Gives value (Err TooLong) expected = expected ≡ Err TooLong
-Gives value (Err (Malformed line)) expected = expected ≡ Err (Malformed line)
-Gives value (Err Price) expected = expected ≡ Err Price
-Gives value (Err Winner) expected = expected ≡ Err Winner
-Gives value (Err Failed) expected = Unit {0}
-Gives value (Err NoMemory) expected = Unit {0}
-
--- one test after another: the first that fails is the answer
-infixl 10 ◌>>=◌
-abbrev pub ◌>>=◌ : {A B : Type 0} → Result A ReportErr → (A → Result B ReportErr) → Result B ReportErr
-Ok x >>= f = f x
-Err fault >>= f = Err fault
+-- the fault that a refusal tells
+abbrev pub fault_of : ReportErr → Option ReportErr
+fault_of Missing = Some Missing
+fault_of TooLong = Some TooLong
+fault_of (Malformed line) = Some (Malformed line)
+fault_of Price = Some Price
+fault_of Winner = Some Winner
+fault_of Failed = None
+fault_of NoMemory = None
 
 -- a fault line of the board is the fault
 abbrev pub in_board : {X : Type 0} → Result X ℕ → Result X ReportErr
@@ -41,31 +35,26 @@ in_board (Err line) = Err (Malformed line)
 
 -- ---- before the first lane
 
--- what a board with this head and these seals publishes; wires and rows are those of one lane
-abbrev pub report_with : Head → List SealLines → Report
-report_with head seals = record { head = head; seats = seats_of seals; wires = wire_count head.seals head.width; rows = row_count head.seals }
+-- a fault before the first lane is the fault
+abbrev pub in_front : {X : Type 0} → Result X FrontFault → Result X ReportErr
+in_front (Ok x) = Ok x
+in_front (Err (fronts.Malformed line)) = Err (Malformed line)
+in_front (Err fronts.Price) = Err Price
+in_front (Err fronts.Winner) = Err Winner
 
--- the report, where the winner has a place among the seals
-abbrev pub with_winner : Report → Option ℕ → Result Report ReportErr
-with_winner report None = Err Winner
-with_winner report (Some place) = Ok report
-
--- the price is tested first, then the winner
-unfoldable pub report_of : Head → List SealLines → Result Report ReportErr
-report_of head seals = if price_stands head then with_winner (report_with head seals) (position_of head.winner seals) else Err Price
-
--- what stands on a board before its first lane
-unfoldable pub front_at : Rest → Result (Report × Rest) ReportErr
-front_at rest = do
-  head ← in_board (head_at rest)
-  seals ← in_board (seals_at head.0 head.1)
-  report ← report_of head.0 seals.0
-  Ok (report, seals.1)
+-- what a board with this front publishes; wires and rows are those of one lane
+abbrev pub report_with : Front → Report
+report_with front = record {
+  head = front.head;
+  seats = seats_of front.seals;
+  wires = wire_count front.head.seals front.head.width;
+  rows = row_count front.head.seals;
+}
 
 -- a report that was made: its price and its winner stand, and its numbers are those of its head
 pub record IsReport (report : Report) : Type 0 where
   pub head : IsHead report.head
-  pub price : price_stands report.head ≡ true
+  pub price : PriceStands report.head
   pub winner : Contains report.seats report.head.winner
   pub seats : length report.seats ≡ report.head.seals
   pub wires : report.wires ≡ wire_count report.head.seals report.head.width
@@ -89,10 +78,10 @@ lanes_passed report rest = passed (lanes_at (λ _. shape_of report) report.head 
 -- a board, from its first line to its end
 unfoldable pub report_at : Rest → Result Report ReportErr
 report_at rest = do
-  front ← front_at rest
-  lanes ← in_board (lanes_passed front.0 front.1)
+  front ← in_front (front_at rest)
+  lanes ← in_board (lanes_passed (report_with front.0) front.1)
   over ← in_board (end_at lanes.1)
-  Ok front.0
+  Ok (report_with front.0)
 
 -- ---- files on a shelf
 

@@ -1,7 +1,7 @@
 ghost use Rattle.std.specs.Prelude.{◌≡◌};
-ghost use Rattle.vk_report.specs.declared.report.ReportErr.TheVariants.{NoMemory as OutOfMemory};
 
-use vk_board::Head;
+use vk_board::{FrontErr, Head};
+use vk_lines::{ReadErr, StartErr};
 use vk_residue::NoMemory;
 use vk_seq::Seq;
 
@@ -37,9 +37,56 @@ pub enum ReportErr {
 }
 
 impl From<NoMemory> for ReportErr {
+    ghost use Rattle.vk_report.specs.declared.report.ReportErr.TheVariants.{NoMemory as OutOfMemory};
+
     ghost from_gives = { λ _ e. e ≡ OutOfMemory };
 
     fn from(_refused: NoMemory) -> ReportErr {
         ReportErr::NoMemory
+    }
+}
+
+impl From<StartErr> for ReportErr {
+    ghost use Rattle.vk_report.specs.Causes.{of_start};
+
+    ghost from_gives = { λ refused e. e ≡ of_start refused };
+
+    fn from(refused: StartErr) -> ReportErr {
+        match refused {
+            StartErr::Missing => ReportErr::Missing,
+            StartErr::TooLong => ReportErr::TooLong,
+            StartErr::Failed => ReportErr::Failed,
+            StartErr::NoMemory => ReportErr::NoMemory,
+        }
+    }
+}
+
+impl From<FrontErr> for ReportErr {
+    ghost use Rattle.vk_report.specs.Causes.{of_front};
+
+    ghost from_gives = { λ refused e. e ≡ of_front refused };
+
+    fn from(refused: FrontErr) -> ReportErr {
+        match refused {
+            FrontErr::Malformed { line } => ReportErr::Malformed { line },
+            FrontErr::Price => ReportErr::Price,
+            FrontErr::Winner => ReportErr::Winner,
+            FrontErr::Failed => ReportErr::Failed,
+            FrontErr::NoMemory => ReportErr::NoMemory,
+        }
+    }
+}
+
+impl From<ReadErr> for ReportErr {
+    ghost use Rattle.vk_report.specs.Causes.{of_read};
+
+    ghost from_gives = { λ refused e. e ≡ of_read refused };
+
+    fn from(refused: ReadErr) -> ReportErr {
+        match refused {
+            ReadErr::Malformed { line } => ReportErr::Malformed { line },
+            ReadErr::Failed => ReportErr::Failed,
+            ReadErr::NoMemory => ReportErr::NoMemory,
+        }
     }
 }

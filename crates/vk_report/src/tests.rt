@@ -2,7 +2,37 @@
 use crate::{ReportErr, read_report, report_text};
 use std::alloc::Global;
 use std::test::Fail;
-use vk_io::MemShelf;
+use vk_io::{MemShelf, Shelf, ShelfErr};
+
+/// A shelf whose every file has a length and no bytes.
+#[derive(Drop)]
+struct Vast {
+    length: u64,
+}
+
+impl Shelf for Vast {
+    ghost use Rattle.std.specs.Prelude.{None};
+
+    ghost held = { λ _. None };
+
+    ghost faults = { λ _. 0 };
+
+    fn length(&mut self, _name: &str) -> Result<Option<u64>, ShelfErr> {
+        Ok(Some(self.length))
+    }
+
+    fn read_at(&mut self, _name: &str, _at: u64, _into: &mut [u8]) -> Result<usize, ShelfErr> {
+        Ok(0)
+    }
+
+    fn create(&mut self, _name: &str) -> Result<(), ShelfErr> {
+        Ok(())
+    }
+
+    fn append(&mut self, _name: &str, _piece: &[u8]) -> Result<(), ShelfErr> {
+        Ok(())
+    }
+}
 
 /// The text of the smallest board, with any digests.
 fn smallest() -> &'static [u8] {
@@ -93,6 +123,15 @@ fn the_first_of_two_faults_is_named(rt: HostRuntime) -> Result<(), Fail> {
         Some(ReportErr::Malformed { line: 8 })
     );
     Ok(())
+}
+
+#[test]
+fn a_file_of_more_than_2_to_the_30_bytes_is_too_long(rt: HostRuntime) {
+    let mut shelf = Vast {
+        length: (1 << 30) + 1,
+    };
+    let refused = read_report(rt.alloc(), &mut shelf, "board").err();
+    assert_eq!(rt; refused, Some(ReportErr::TooLong));
 }
 
 #[test]

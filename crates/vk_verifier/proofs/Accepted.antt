@@ -12,7 +12,7 @@ use Rattle.vk_row.proofs.Whole.{ok_accepted, accepted_ok}
 use Rattle.vk_board.specs.declared.board.LaneLines.{LaneLines}
 use Rattle.vk_board.specs.Values.{Board, IsBoard, IsLaneLines}
 use Rattle.vk_board.specs.Reading.{lane_at, lanes_at}
-use Rattle.vk_board.proofs.Forms.{head_is_part, seals_are_part}
+use Rattle.vk_board.proofs.Forms.{seals_are_part}
 use Rattle.vk_board.proofs.Boards.{board_with, board_is_whole}
 use Rattle.vk_reply.specs.declared.challenge.Challenge.{Challenge}
 use Rattle.vk_reply.specs.Values.{IsReply}
@@ -20,12 +20,16 @@ use Rattle.vk_reply.proofs.Challenges.{challenge_is_whole}
 use Rattle.vk_reply.proofs.Replies.{reply_is_whole}
 use Rattle.vk_verifier.specs.declared.answers.BoardVerdict.{BoardVerdict}
 use Rattle.vk_verifier.specs.declared.answers.BoardVerdict.TheVariants.{Accepted}
-use Rattle.vk_verifier.specs.declared.front.Front.{Front}
-use Rattle.vk_verifier.specs.Verdicts.{IsFront, plan_of, case_of, later_wires, judged, verdict_by, from_start}
+use Rattle.vk_board.specs.declared.front.Front.{Front}
+use Rattle.vk_board.specs.Fronts.{IsFront, front_at}
+use Rattle.vk_board.proofs.Prices.{price_found}
+use Rattle.vk_board.proofs.Winners.{winner_found}
+use Rattle.vk_board.proofs.Fronts.{FrontRead, front_at_shown, front_at_found}
+use Rattle.vk_verifier.specs.Verdicts.{in_front, plan_of, case_of, later_wires, judged, verdict_by, from_start}
 use Rattle.vk_verifier.specs.Acceptance.{shape_of, bit_of, no_lines, front_with, Accepts, AcceptedExactly}
 use Rattle.vk_verifier.proofs.Counts.{has_counts}
 use Rattle.vk_verifier.proofs.Plans.{is_plan, wires_are, rows_are}
-use Rattle.vk_verifier.proofs.Fronts.{FrontRead, front_at_shown, front_at_found, is_front}
+use Rattle.vk_verifier.proofs.Fronts.{in_front_ok, read_is_front}
 use Rattle.vk_verifier.proofs.Many.{many_count}
 use Rattle.vk_verifier.proofs.LaneLists.{next_lines, next_shown, IsChecked, LanesRead, AreBits, lanes_shown, lanes_found}
 use Rattle.vk_verifier.proofs.Refusals.{judged_never}
@@ -45,10 +49,6 @@ same_lanes front count rest is same =
     ap (λ n. many_onto [] n (next_lines (plan_of front)) rest) same
     ∙ (ap (λ w. many_onto [] front.head.lanes (λ before. lane_at (length before + 1) w rows) rest) (wires_are front is)
     ∙ ap (λ r. many_onto [] front.head.lanes (λ before. lane_at (length before + 1) (shape_of front.head).wires r) rest) (rows_are front is))
-
-read_is_front : (board : Rest) (front : Front) (after : Rest) → FrontRead board front after → IsFront front
-read_is_front board front after read =
-    is_front front (head_is_part.shown board front.head read.head_rest read.head_read).0 ((seals_are_part front.head).shown read.head_rest front.seals after read.seals_read).0 read.may
 
 -- ---- the check of a lane, and what it says
 
@@ -95,12 +95,12 @@ files_accept board challenge reply files =
     let front : Front = files.front.0 in
     let plan : PlanValue = plan_of front in
     let bits : Challenge = files.bits.0 in
-    let read = front_at_shown (from_start board) front files.front.1 files.front_read in
+    let read = front_at_shown (from_start board) front files.front.1 (in_front_ok (front_at (from_start board)) files.front files.front_read) in
     let is = read_is_front (from_start board) front files.front.1 read in
     let lanes = lanes_shown front plan (bit_of bits) [] [] bits.bits files.front.1 files.lanes.1 files.rests refl (bits_are bits) files.lanes_pass in
     let whole : Board = board_with front.head front.seals lanes.lines in
     let is_board = (board_is_whole shape_of).shown (from_start board) whole files.ends.board_over.1 (board_joined shape_of (from_start board) whole (record {
-      head_rest = read.head_rest;
+      head_rest = read.middle;
       seals_rest = files.front.1;
       lanes_rest = files.rests.0;
       over = files.ends.board_over;
@@ -130,9 +130,8 @@ files_accept board challenge reply files =
       board_is = (is_board.1, is_board.0);
       challenge_is = (is_challenge.1, is_challenge.0);
       reply_is = (is_reply.1, is_reply.0);
-      price = read.may.price;
-      alone = read.may.alone;
-      winner = record { some = read.may.some; within = read.may.within; seat = read.may.seat };
+      price = is.price;
+      winner = is.winner;
       one_bit_each = files.same_bits;
       one_reply_each = replies;
       lanes = λ lane some within.
@@ -152,11 +151,13 @@ accepted_files board challenge reply accepts =
     let challenge_found = challenge_is_whole.found (from_start challenge) bits accepts.challenge_is.1 accepts.challenge_is.0 in
     let reply_found = (reply_is_whole plan.kinds (bit_of bits)).found (from_start reply) accepts.reply accepts.reply_is.1 accepts.reply_is.0 in
     let shown = reply_split plan.kinds (bit_of bits) (from_start reply) accepts.reply reply_found.0 reply_found.1 in
+    let are = ((seals_are_part accepts.board.head).shown parts.head_rest accepts.board.seals parts.seals_rest parts.seals_read).0 in
     let read : FrontRead (from_start board) front parts.seals_rest = record {
-      head_rest = parts.head_rest;
+      middle = parts.head_rest;
       head_read = parts.head_read;
       seals_read = parts.seals_read;
-      may = record { price = accepts.price; alone = accepts.alone; some = accepts.winner.some; within = accepts.winner.within; seat = accepts.winner.seat };
+      price = price_found accepts.board.head accepts.price;
+      winner = winner_found accepts.board.head accepts.board.seals accepts.position are accepts.winner;
     } in
     let is = read_is_front (from_start board) front parts.seals_rest read in
     let count : length accepts.reply ≡ shown.count =
@@ -174,7 +175,7 @@ accepted_files board challenge reply accepts =
       bits = (bits, challenge_found.0);
       lanes = (shown.count, shown.count_rest);
       rests = (parts.lanes_rest, shown.lanes_rest);
-      front_read = front_at_found (from_start board) front parts.seals_rest read is.seals;
+      front_read = ap in_front (front_at_found (from_start board) front parts.seals_rest read);
       challenge_read = challenge_found.1;
       reply_read = shown.head_read;
       same_bits = accepts.one_bit_each;

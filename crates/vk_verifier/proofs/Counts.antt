@@ -14,8 +14,9 @@ use Rattle.vk_board.specs.declared.board.LaneLines.{LaneLines}
 use Rattle.vk_board.specs.Values.{IsSealAfter, IsLaneLines}
 use Rattle.vk_reply.specs.Values.{AreShown}
 use Rattle.vk_vickrey.specs.VickreyPlans.{vickrey_plan}
-use Rattle.vk_verifier.specs.declared.front.Front.{Front}
-use Rattle.vk_verifier.specs.Verdicts.{IsFront, plan_of, case_of, later_wires, input_coms}
+use Rattle.vk_board.specs.declared.front.Front.{Front}
+use Rattle.vk_board.specs.Fronts.{IsFront}
+use Rattle.vk_verifier.specs.Verdicts.{plan_of, case_of, later_wires, input_coms}
 use Rattle.vk_verifier.specs.Parts.{Fits}
 
 each_has : (lanes index : ℕ) (before seals : List SealLines) → index < lanes → EachAfter (IsSealAfter lanes) before seals → All (λ seal. index < length seal.coms) seals

@@ -9,8 +9,8 @@ use Rattle.vk_reply.specs.Reading.{challenge_at, reply_head_at}
 use Rattle.vk_verifier.specs.declared.answers.Part.TheVariants as part
 use Rattle.vk_verifier.specs.declared.answers.BoardVerdict.{BoardVerdict}
 use Rattle.vk_verifier.specs.declared.answers.BoardVerdict.TheVariants.{Lanes}
-use Rattle.vk_verifier.specs.declared.front.Front.{Front}
-use Rattle.vk_verifier.specs.Verdicts.{in_part, front_at, plan_of, lanes_judged, counted, ends_judged, judged}
+use Rattle.vk_board.specs.declared.front.Front.{Front}
+use Rattle.vk_verifier.specs.Verdicts.{in_part, front_judged, plan_of, lanes_judged, counted, ends_judged, judged}
 use Rattle.vk_verifier.proofs.Steps.{bind_ok, bind_found, read_ok, read_found}
 
 -- ---- the numbers of lanes
@@ -61,7 +61,7 @@ pub record FilesRead (board challenge reply : Rest) : Type 0 where
   pub bits : Challenge × Rest
   pub lanes : ℕ × Rest
   pub rests : Rest × Rest
-  pub front_read : front_at board ≡ Ok front
+  pub front_read : front_judged board ≡ Ok front
   pub challenge_read : challenge_at challenge ≡ Ok bits
   pub reply_read : reply_head_at reply ≡ Ok lanes
   pub same_bits : length bits.0.bits ≡ front.0.head.lanes
@@ -87,7 +87,7 @@ front_then challenge reply front = in_part part.Challenge (challenge_at challeng
 pub judged_shown : (board challenge reply : Rest) (done : Unit {0}) → judged board challenge reply ≡ Ok done → FilesRead board challenge reply
 unfolding judged
 judged_shown board challenge reply done ok =
-    let front = bind_ok (front_at board) (front_then challenge reply) done ok in
+    let front = bind_ok (front_judged board) (front_then challenge reply) done ok in
     let bits = read_ok part.Challenge (challenge_at challenge) (bits_then reply front.0) done front.2 in
     let lanes = read_ok part.Reply (reply_head_at reply) (reply_then front.0 bits.0) done bits.2 in
     let same = bind_ok (counted front.0.0.head bits.0.0 lanes.0.0) (λ same. lanes_then front.0 bits.0 lanes.0) done lanes.2 in
@@ -110,7 +110,7 @@ judged_shown board challenge reply done ok =
 pub judged_found : (board challenge reply : Rest) → FilesRead board challenge reply → judged board challenge reply ≡ Ok tt
 unfolding judged
 judged_found board challenge reply read =
-    bind_found (front_at board) (front_then challenge reply) read.front read.front_read
+    bind_found (front_judged board) (front_then challenge reply) read.front read.front_read
     ∙ (read_found part.Challenge (challenge_at challenge) (bits_then reply read.front) read.bits read.challenge_read
     ∙ (read_found part.Reply (reply_head_at reply) (reply_then read.front read.bits) read.lanes read.reply_read
     ∙ (bind_found (counted read.front.0.head read.bits.0 read.lanes.0) (λ same. lanes_then read.front read.bits read.lanes) tt (counted_found read.front.0.head read.bits.0 read.lanes.0 read.same_bits read.same_lanes)

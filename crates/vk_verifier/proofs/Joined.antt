@@ -12,8 +12,8 @@ use Rattle.vk_reply.specs.declared.challenge.Challenge.{Challenge}
 use Rattle.vk_reply.specs.Reading.{challenge_at, reply_head_at, reply_lane_at}
 use Rattle.vk_verifier.specs.declared.answers.Part.TheVariants as part
 use Rattle.vk_verifier.specs.declared.answers.BoardVerdict.{BoardVerdict}
-use Rattle.vk_verifier.specs.declared.front.Front.{Front}
-use Rattle.vk_verifier.specs.Verdicts.{in_part, later_wires, case_of, plan_of, lane_verdict, lane_judged, lanes_judged, counted, ends_judged, front_at, judged}
+use Rattle.vk_board.specs.declared.front.Front.{Front}
+use Rattle.vk_verifier.specs.Verdicts.{in_part, later_wires, case_of, plan_of, lane_verdict, lane_judged, lanes_judged, counted, ends_judged, front_judged, judged}
 use Rattle.vk_verifier.specs.Parts.{case_at, reply_judged, attempt_at, rest_judged, judged_in_parts}
 
 abbrev pair : {X Y : Type 0} → X → Y → Result (X × Y) BoardVerdict
@@ -65,7 +65,7 @@ attempt_parts head challenge reply rest = by_two (in_part part.Challenge (challe
 pub judged_parts : (board challenge reply : Rest)
     → judged board challenge reply ≡ judged_in_parts board challenge reply
 unfolding judged judged_in_parts rest_judged
-judged_parts board challenge reply = by_front (front_at board)
+judged_parts board challenge reply = by_front (front_judged board)
   where
     by_front : (front : Result (Front × Rest) BoardVerdict)
         → (front >>= λ f. in_part part.Challenge (challenge_at challenge) >>= λ bits. in_part part.Reply (reply_head_at reply) >>= λ lanes. counted f.0.head bits.0 lanes.0 >>= λ _.

@@ -10,7 +10,7 @@ use Rattle.vk_row.specs.LaneTests.{checked_lane}
 use Rattle.vk_board.specs.declared.board.LaneLines.{LaneLines}
 use Rattle.vk_board.specs.Reading.{lane_at}
 use Rattle.vk_reply.specs.Reading.{reply_lane_at}
-use Rattle.vk_verifier.specs.declared.front.Front.{Front}
+use Rattle.vk_board.specs.declared.front.Front.{Front}
 use Rattle.vk_verifier.specs.Verdicts.{case_of, later_wires, lane_judged, lanes_judged}
 use Rattle.vk_verifier.specs.Acceptance.{no_lines}
 use Rattle.vk_verifier.proofs.Steps.{bind_ok, bind_found, value_same}

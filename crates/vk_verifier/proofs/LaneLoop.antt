@@ -7,7 +7,7 @@ use Rattle.vk_lines.specs.Lines.{Rest}
 use Rattle.vk_plan.specs.Plans.{PlanValue}
 use Rattle.vk_row.specs.LaneTests.{◌>>=◌}
 use Rattle.vk_verifier.specs.declared.answers.BoardVerdict.{BoardVerdict}
-use Rattle.vk_verifier.specs.declared.front.Front.{Front}
+use Rattle.vk_board.specs.declared.front.Front.{Front}
 use Rattle.vk_verifier.specs.declared.halt.Halt.{Halt}
 use Rattle.vk_verifier.specs.declared.halt.Halt.TheVariants.{Refused, Failed, NoMemory}
 use Rattle.vk_verifier.specs.Verdicts.{Judges, lane_judged, lanes_judged}

@@ -16,7 +16,7 @@ use Rattle.vk_board.specs.declared.board.LaneLines.{LaneLines}
 use Rattle.vk_board.specs.Reading.{lane_at}
 use Rattle.vk_reply.specs.Reading.{reply_lane_at}
 use Rattle.vk_verifier.specs.declared.answers.Part.TheVariants as part
-use Rattle.vk_verifier.specs.declared.front.Front.{Front}
+use Rattle.vk_board.specs.declared.front.Front.{Front}
 use Rattle.vk_verifier.specs.Verdicts.{in_part, case_of, later_wires, lane_verdict, lane_judged}
 use Rattle.vk_verifier.proofs.Steps.{bind_ok, bind_never, read_ok, read_found, value_same}
 

@@ -1,9 +1,8 @@
 pub mod Counts
 pub mod LaneLoop
 pub mod Steps
-pub mod Winners
-pub mod Plans
 pub mod Fronts
+pub mod Plans
 pub mod Many
 pub mod Lanes
 pub mod LaneLists

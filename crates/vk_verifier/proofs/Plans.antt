@@ -3,18 +3,13 @@ use Rattle.std.proofs.Common.{◌≡◌, ℕ, ◌-◌, length, inl, inr, sym, ap
 use Rattle.std.proofs.lemmas.Bool.{cases_eq, eq-eqb, ne_eqb}
 use Rattle.vk_plan.specs.Plans.{IsPlan}
 use Rattle.vk_vickrey.specs.VickreyPlans.{IsVickreyCase, vickrey_plan, wire_count, row_count}
-use Rattle.vk_vickrey.specs.VickreyLaws.{plan_alone, plan_many}
-use Rattle.vk_vickrey.specs.VickreySteps.{prices_plan, selection_room, wires_alone, wires_many, rows_alone, rows_many}
-use Rattle.vk_verifier.specs.declared.front.Front.{Front}
-use Rattle.vk_verifier.specs.Verdicts.{IsFront, plan_of, later_wires}
+use Rattle.vk_vickrey.specs.VickreySteps.{vickrey_is_plan, wires_alone, wires_many, rows_alone, rows_many}
+use Rattle.vk_board.specs.declared.front.Front.{Front}
+use Rattle.vk_board.specs.Fronts.{IsFront}
+use Rattle.vk_verifier.specs.Verdicts.{plan_of, later_wires}
 use Rattle.vk_verifier.specs.Acceptance.{shape_of}
 use Rattle.vk_verifier.proofs.Counts.{inputs_are}
-
-vickrey_is_plan : (seals width position price : ℕ) → IsVickreyCase seals width position price → IsPlan (vickrey_plan seals width position price)
-vickrey_is_plan seals width position price case = elim (cases_eq seals 1) [
-  | inl one ↦ subst IsPlan (sym (plan_alone seals width position price (eq-eqb seals 1 one))) (prices_plan seals width position price case)
-  | inr many ↦ subst IsPlan (sym (plan_many seals width position price (ne_eqb seals 1 many))) (selection_room seals width position price case many)
-]
+use Rattle.vk_verifier.proofs.Fronts.{front_case}
 
 vickrey_wires : (seals width position price : ℕ) → IsVickreyCase seals width position price → length (vickrey_plan seals width position price).kinds ≡ wire_count seals width
 vickrey_wires seals width position price case = elim (cases_eq seals 1) [
@@ -29,13 +24,13 @@ vickrey_rows seals width position price case = elim (cases_eq seals 1) [
 ]
 
 pub is_plan : (front : Front) → IsFront front → IsPlan (plan_of front)
-is_plan front is = vickrey_is_plan front.head.seals front.head.width front.position front.head.price is.case
+is_plan front is = vickrey_is_plan front.head.seals front.head.width front.position front.head.price (front_case front is)
 
 -- the shape of its lanes
 pub wires_are : (front : Front) → IsFront front → later_wires (plan_of front) ≡ (shape_of front.head).wires
 wires_are front is =
-    ap (λ n. n - (plan_of front).inputs) (vickrey_wires front.head.seals front.head.width front.position front.head.price is.case)
+    ap (λ n. n - (plan_of front).inputs) (vickrey_wires front.head.seals front.head.width front.position front.head.price (front_case front is))
     ∙ ap (λ n. wire_count front.head.seals front.head.width - n) (inputs_are front)
 
 pub rows_are : (front : Front) → IsFront front → length (plan_of front).rows ≡ (shape_of front.head).rows
-rows_are front is = vickrey_rows front.head.seals front.head.width front.position front.head.price is.case
+rows_are front is = vickrey_rows front.head.seals front.head.width front.position front.head.price (front_case front is)

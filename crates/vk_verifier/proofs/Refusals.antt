@@ -1,46 +1,34 @@
 -- No test that fails gives the verdict that there is no fault.
-use Rattle.std.proofs.Common.{◌≡◌, ◌≢◌, ℕ, ◌+◌, ◌==◌, ◌&&◌, Bool, true, false, if◌then◌else◌, List, [], ◌∷◌, length, Option, Some, None, Result, Ok, Err}
+use Rattle.std.proofs.Common.{◌≡◌, ◌≢◌, ℕ, ◌+◌, ◌==◌, ◌&&◌, Bool, true, false, if◌then◌else◌, List, [], ◌∷◌, length, Result, Ok, Err}
 use Rattle.vk_lines.specs.Lines.{Rest, end_at}
 use Rattle.vk_plan.specs.Plans.{PlanValue}
 use Rattle.vk_row.specs.declared.case.LaneFault.{LaneFault}
 use Rattle.vk_row.specs.declared.case.LaneFault.TheVariants as lane
 use Rattle.vk_row.specs.LaneTests.{checked_lane}
-use Rattle.vk_board.specs.declared.board.Head.{Head}
-use Rattle.vk_board.specs.declared.board.SealLines.{SealLines}
-use Rattle.vk_board.specs.Reading.{head_at, seals_at, lane_at}
+use Rattle.vk_board.specs.Fronts.{FrontFault, front_at}
+use Rattle.vk_board.specs.Fronts as fronts
+use Rattle.vk_board.specs.Reading.{lane_at}
 use Rattle.vk_reply.specs.Reading.{challenge_at, reply_head_at, reply_lane_at}
 use Rattle.vk_verifier.specs.declared.answers.Part.{Part}
 use Rattle.vk_verifier.specs.declared.answers.Part.TheVariants as part
 use Rattle.vk_verifier.specs.declared.answers.BoardVerdict.{BoardVerdict}
-use Rattle.vk_verifier.specs.declared.answers.BoardVerdict.TheVariants.{Accepted, Price, Lanes}
-use Rattle.vk_verifier.specs.declared.front.Front.{Front}
-use Rattle.vk_board.specs.Published.{price_stands, position_of}
-use Rattle.vk_verifier.specs.Verdicts.{in_part, front_at_position, front_of, front_at, plan_of, case_of, later_wires, lane_verdict, lane_judged, lanes_judged, counted, ends_judged, judged}
+use Rattle.vk_verifier.specs.declared.answers.BoardVerdict.TheVariants.{Accepted, Lanes}
+use Rattle.vk_board.specs.declared.front.Front.{Front}
+use Rattle.vk_verifier.specs.Verdicts.{in_part, in_front, front_judged, plan_of, case_of, later_wires, lane_verdict, lane_judged, lanes_judged, counted, ends_judged, judged}
 use Rattle.vk_verifier.proofs.Steps.{bind_never}
 
 part_never : {X : Type 0} (file : Part) (r : Result X ℕ) → in_part file r ≢ Err Accepted
 part_never file (Ok x) e = cc
 part_never file (Err line) e = cc
 
-place_never : (head : Head) (seals : List SealLines) (found : Option ℕ) → front_at_position head seals found ≢ Err Accepted
-place_never head seals None e = cc
-place_never head seals (Some position) e = cc
-
-price_never : (stands : Bool) (r : Result Front BoardVerdict) → r ≢ Err Accepted → (if stands then r else Err Price) ≢ Err Accepted
-price_never true r place e = place e
-price_never false r place e = cc
-
 ok_never : {X : Type 0} (x : X) → ◌≡◌ {A = Result X BoardVerdict} (Ok x) (Err Accepted) → ⊥
 ok_never x e = cc
 
-front_never : (board : Rest) → front_at board ≢ Err Accepted
-unfolding front_at front_of
-front_never board =
-    bind_never (in_part part.Board (head_at board)) _ Accepted (part_never part.Board (head_at board)) (λ head.
-    bind_never (in_part part.Board (seals_at head.0 head.1)) _ Accepted (part_never part.Board (seals_at head.0 head.1)) (λ seals.
-    bind_never (front_of head.0 seals.0) _ Accepted
-    (price_never (price_stands head.0) (front_at_position head.0 seals.0 (position_of head.0.winner seals.0)) (place_never head.0 seals.0 (position_of head.0.winner seals.0))) (λ front.
-    ok_never (front, seals.1))))
+front_never : {X : Type 0} (r : Result X FrontFault) → in_front r ≢ Err Accepted
+front_never (Ok x) e = cc
+front_never (Err (fronts.Malformed line)) e = cc
+front_never (Err fronts.Price) e = cc
+front_never (Err fronts.Winner) e = cc
 
 check_never : (number : ℕ) (checked : Result (List ℕ) LaneFault) → lane_verdict number checked ≢ Err Accepted
 check_never number (Ok halves) e = cc
@@ -78,7 +66,7 @@ ends_never board reply =
 pub judged_never : (board challenge reply : Rest) → judged board challenge reply ≢ Err Accepted
 unfolding judged
 judged_never board challenge reply =
-    bind_never (front_at board) _ Accepted (front_never board) (λ front.
+    bind_never (front_judged board) _ Accepted (front_never (front_at board)) (λ front.
     bind_never (in_part part.Challenge (challenge_at challenge)) _ Accepted (part_never part.Challenge (challenge_at challenge)) (λ bits.
     bind_never (in_part part.Reply (reply_head_at reply)) _ Accepted (part_never part.Reply (reply_head_at reply)) (λ lanes.
     bind_never (counted front.0.head bits.0 lanes.0) _ Accepted (same_never (length bits.0.bits == front.0.head.lanes && lanes.0 == front.0.head.lanes)) (λ same.

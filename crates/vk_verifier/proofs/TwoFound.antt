@@ -55,19 +55,17 @@ first_past {X} (Some files) now judged x rest told next P same is step later =
 
 -- the second reply was judged, and the first one on where there was a fault
 pub second_found : {X : Type 0} (held now : Option Files) (judged : Result X Halt) (first : Result (Unit {0}) Halt) (result : Result X TwoHalt) (asked : Bool)
-    (other : Files → Result (Unit {0}) BoardVerdict) (told : Files → Result (X × Rest) BoardVerdict) (rest new : Files → Rest)
+    (other : Files → Result (Unit {0}) BoardVerdict) (told : Files → Result (X × Rest) BoardVerdict) (rest : Files → Rest)
     → now ≡ held → asked ≡ is_refused judged
     → ((r : Rest) (expected : Result (X × Rest) BoardVerdict) (o : Result (Unit {0}) BoardVerdict) → Judges (λ x. (x, r)) judged expected
     → (IsTrue (is_refused judged) → Judges (λ (done : Unit {0}). done) first o) → Finds (λ x. (x, r)) result (of_second o expected))
     → IfSome held (λ files. Judges (λ x. (x, rest files)) judged (told files))
     → IfSome now (λ files. IsTrue asked → Judges (λ (done : Unit {0}). done) first (other files))
-    → ((files : Files) → new files ≡ rest files)
-    → IfSome held (λ files. Finds (λ x. (x, new files)) result (of_second (other files) (told files)))
-second_found None now judged first result asked other told rest new same is found step on kept = tt
-second_found {X} (Some files) now judged first result asked other told rest new same is found step on kept =
+    → IfSome held (λ files. Finds (λ x. (x, rest files)) result (of_second (other files) (told files)))
+second_found None now judged first result asked other told rest same is found step on = tt
+second_found {X} (Some files) now judged first result asked other told rest same is found step on =
     let on_held = subst (λ held. IfSome held (λ files. IsTrue asked → Judges (λ (done : Unit {0}). done) first (other files))) same on in
-    subst (λ r. Finds (λ (x : X). (x, r)) result (of_second (other files) (told files))) (sym (kept files))
-    (found (rest files) (told files) (other files) step (λ refused. on_held (is ∙ refused)))
+    found (rest files) (told files) (other files) step (λ refused. on_held (is ∙ refused))
 
 -- the ends of both replies
 pub ends_are : (held now : Option Files) (first second : Result (Unit {0}) Halt) (result : TwoHalt) (accepted expected : TwoVerdict) (asked : Bool)
@@ -94,12 +92,12 @@ next_ahead : (base : Base) (given : ℕ) (first_bit second_bit : Bool) (rests : 
     → given < length base.first_bits → given < length base.second_bits
     → first_bit ≡ get_or base.first_bits given first_bit → second_bit ≡ get_or base.second_bits given second_bit
     → ahead_on base given rests
-    ≡ ahead_after (two_lane_at base.front base.plan (given + 1) first_bit second_bit (drop (given + 1) base.first_bits) rests) (ahead_on base (given + 1))
+    ≡ ahead_after (two_lane_at base.statement.front base.statement.plan (given + 1) first_bit second_bit (drop (given + 1) base.first_bits) rests) (ahead_on base (given + 1))
 unfolding ahead_from
 next_ahead base given first_bit second_bit rests first second first_is second_is =
     let accepted = accepted_of base.first_bits base.second_bits in
-    ap (λ left. ahead_from base.front base.plan accepted (given + 1) left (drop given base.second_bits) rests) (bits_left base.first_bits given first_bit first first_is)
-    ∙ ap (λ left. ahead_from base.front base.plan accepted (given + 1) (first_bit ∷ drop (given + 1) base.first_bits) left rests) (bits_left base.second_bits given second_bit second second_is)
+    ap (λ left. ahead_from base.statement.front base.statement.plan accepted (given + 1) left (drop given base.second_bits) rests) (bits_left base.first_bits given first_bit first first_is)
+    ∙ ap (λ left. ahead_from base.statement.front base.statement.plan accepted (given + 1) (first_bit ∷ drop (given + 1) base.first_bits) left rests) (bits_left base.second_bits given second_bit second second_is)
 
 given_by : (result : Result TwoLane TwoHalt) (lane : Result (TwoLane × Rests) TwoVerdict) (new : Rests) (base : Base) (given : ℕ)
     → Finds (λ two. (two, new)) result lane → GivesLane (ahead_after lane (ahead_on base given)) result (ahead_on base given new)
@@ -113,7 +111,7 @@ pub lane_given : (held : Option Files) (base : Base) (given : ℕ) (first_bit se
     → given < length base.first_bits → given < length base.second_bits
     → first_bit ≡ get_or base.first_bits given first_bit → second_bit ≡ get_or base.second_bits given second_bit
     → IfSome held (λ files. Finds (λ two. (two, new files)) result
-    (two_lane_at base.front base.plan (given + 1) first_bit second_bit (drop (given + 1) base.first_bits) (old files)))
+    (two_lane_at base.statement.front base.statement.plan (given + 1) first_bit second_bit (drop (given + 1) base.first_bits) (old files)))
     → IfSome held (λ files. GivesLane (ahead_on base given (old files)) result (ahead_on base (given + 1) (new files)))
 lane_given None base given first_bit second_bit result old new first second first_is second_is step = tt
 lane_given (Some files) base given first_bit second_bit result old new first second first_is second_is step =
@@ -124,7 +122,7 @@ none_ahead : (base : Base) (given : ℕ) (rests : Rests) → length base.first_b
     → ahead_on base given rests ≡ over (ends_found (accepted_of base.first_bits base.second_bits) rests)
 unfolding ahead_from
 none_ahead base given rests past =
-    ap (λ left. ahead_from base.front base.plan (accepted_of base.first_bits base.second_bits) (given + 1) left (drop given base.second_bits) rests) (drop_of_length-le base.first_bits past)
+    ap (λ left. ahead_from base.statement.front base.statement.plan (accepted_of base.first_bits base.second_bits) (given + 1) left (drop given base.second_bits) rests) (drop_of_length-le base.first_bits past)
 
 ended_by : (halt : TwoHalt) (finding : TwoVerdict) (ahead after : Ahead) → ahead ≡ over finding → IsFound halt finding → GivesLane ahead (Err halt) after
 ended_by (Found f) finding ahead after is found = is ∙ ap over found

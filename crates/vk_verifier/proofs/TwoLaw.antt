@@ -10,23 +10,24 @@ use Rattle.vk_row.specs.declared.case.LaneFault.{LaneFault}
 use Rattle.vk_row.specs.declared.case.LaneFault.TheVariants as lane
 use Rattle.vk_row.specs.LaneTests.{◌>>=◌, checked_lane}
 use Rattle.vk_board.specs.declared.board.Head.{Head}
-use Rattle.vk_board.specs.declared.board.SealLines.{SealLines}
-use Rattle.vk_board.specs.Published.{price_stands, position_of}
-use Rattle.vk_board.specs.Reading.{head_at, seals_at, lane_at}
+use Rattle.vk_board.specs.Fronts.{FrontFault, front_at}
+use Rattle.vk_board.specs.Fronts as fronts
+use Rattle.vk_board.specs.Reading.{lane_at}
 use Rattle.vk_reply.specs.declared.challenge.Challenge.{Challenge}
 use Rattle.vk_reply.specs.Reading.{challenge_at, reply_head_at, reply_lane_at}
 use Rattle.vk_verifier.specs.declared.answers.Part.{Part}
 use Rattle.vk_verifier.specs.declared.answers.Part.TheVariants as part
 use Rattle.vk_verifier.specs.declared.answers.BoardVerdict.{BoardVerdict}
-use Rattle.vk_verifier.specs.declared.answers.BoardVerdict.TheVariants.{Price, Lanes}
+use Rattle.vk_verifier.specs.declared.answers.BoardVerdict.TheVariants.{Lanes}
 use Rattle.vk_verifier.specs.declared.answers.VErr.{VErr}
 use Rattle.vk_verifier.specs.declared.answers.VErr.TheVariants.{TooLong}
-use Rattle.vk_verifier.specs.declared.front.Front.{Front}
+use Rattle.vk_board.specs.declared.front.Front.{Front}
 use Rattle.vk_verifier.specs.declared.stage.Base.{Base}
 use Rattle.vk_verifier.specs.declared.stage.TwoLane.{TwoLane}
 use Rattle.vk_verifier.specs.declared.stage.TwoVerdict.{TwoVerdict}
 use Rattle.vk_verifier.specs.declared.stage.TwoVerdict.TheVariants.{Refused}
-use Rattle.vk_verifier.specs.Verdicts.{in_part, front_at, front_of, front_at_position, plan_of, later_wires, case_of, lane_verdict, lane_judged, lanes_judged, ends_judged, counted, verdict_by, verdict_of, from_start, begun}
+use Rattle.vk_verifier.specs.Verdicts.{in_part, in_front, front_judged, plan_of, later_wires, case_of, lane_verdict, lane_judged, lanes_judged, ends_judged, counted, verdict_by, verdict_of, from_start, begun}
+use Rattle.vk_verifier.specs.Statement.{statement_of}
 use Rattle.vk_verifier.specs.Parts.{case_at, reply_judged, attempt_at, rest_judged, judged_in_parts}
 use Rattle.vk_verifier.specs.Two.{Ahead, Rests, AreAccepted, as_second, is_accepted, accepted_of, two_verdict, of_first, of_second, second_told, found_by, two_lane_at, ends_found, ahead_from, ahead_after, ahead_at, base_at, ahead_by, two_on}
 use Rattle.vk_verifier.specs.TwoLaw.{bits_read, bits_in, ahead_in, FindsByVerdicts, AreAllGiven, GivesEachLane}
@@ -157,7 +158,7 @@ unfolding attempt_at
 attempt_is head challenge reply = attempt_by head (challenge_at challenge) (reply_head_at reply)
 
 abbrev base_of : Front × Rest → List Bool × Rest → List Bool × Rest → Result (Base × Rests) TwoVerdict
-base_of front first second = Ok (record { front = front.0; plan = plan_of front.0; first_bits = first.0; second_bits = second.0 }, record { board = front.1; first = first.1; second = second.1 })
+base_of front first second = Ok (record { statement = statement_of front.0; first_bits = first.0; second_bits = second.0 }, record { board = front.1; first = first.1; second = second.1 })
 
 -- the second attempt and what is ahead of it
 finding_second : (front : Front × Rest) (first : List Bool × Rest) (second : Result (List Bool × Rest) BoardVerdict) (bits others : List Bool)
@@ -191,7 +192,7 @@ finding_at : (board first_challenge first_reply second_challenge second_reply : 
     (judged_in_parts board first_challenge first_reply) (judged_in_parts board second_challenge second_reply)
 unfolding base_at judged_in_parts
 finding_at board first_challenge first_reply second_challenge second_reply =
-    finding_front (front_at board) (λ head. attempt_at head first_challenge first_reply) (λ head. attempt_at head second_challenge second_reply)
+    finding_front (front_judged board) (λ head. attempt_at head first_challenge first_reply) (λ head. attempt_at head second_challenge second_reply)
     (bits_read (challenge_at first_challenge)) (bits_read (challenge_at second_challenge)) (λ head. attempt_is head first_challenge first_reply) (λ head. attempt_is head second_challenge second_reply)
 
 -- ---- no fault is that there is none
@@ -217,18 +218,11 @@ fault_count : (test : Bool) → IsFault {X = Unit {0}} (if test then Ok tt else 
 fault_count true = record { is = tt }
 fault_count false = record { is = refl }
 
-fault_position : (head : Head) (seals : List SealLines) (position : Option ℕ) → IsFault (front_at_position head seals position)
-fault_position head seals None = record { is = refl }
-fault_position head seals (Some position) = record { is = tt }
-
-fault_price : (test : Bool) (front : Result Front BoardVerdict) → IsFault front → IsFault (if test then front else Err Price)
-fault_price true front is = is
-fault_price false front is = record { is = refl }
-
-fault_front : (board : Rest) → IsFault (front_at board)
-unfolding front_at front_of
-fault_front board = fault_then _ _ (fault_in part.Board (head_at board)) (λ head. fault_then _ _ (fault_in part.Board (seals_at head.0 head.1)) (λ seals.
-    fault_then _ _ (fault_price (price_stands head.0) _ (fault_position head.0 seals.0 (position_of head.0.winner seals.0))) (λ front. record { is = tt })))
+fault_front : {X : Type 0} (r : Result X FrontFault) → IsFault (in_front r)
+fault_front (Ok x) = record { is = tt }
+fault_front (Err (fronts.Malformed line)) = record { is = refl }
+fault_front (Err fronts.Price) = record { is = refl }
+fault_front (Err fronts.Winner) = record { is = refl }
 
 fault_attempt : (head : Head) (challenge reply : Rest) → IsFault (attempt_at head challenge reply)
 unfolding attempt_at
@@ -257,7 +251,7 @@ fault_rest front plan number bits board reply = fault_then _ _ (fault_lanes fron
 
 fault_whole : (board challenge reply : Rest) → IsFault (judged_in_parts board challenge reply)
 unfolding judged_in_parts
-fault_whole board challenge reply = fault_then _ _ (fault_front board) (λ front. fault_then _ _ (fault_attempt front.0.head challenge reply) (λ attempt.
+fault_whole board challenge reply = fault_then _ _ (fault_front (front_at board)) (λ front. fault_then _ _ (fault_attempt front.0.head challenge reply) (λ attempt.
     fault_rest front.0 (plan_of front.0) 1 attempt.0 front.1 attempt.1))
 
 by_verdicts : (first second : Result (Unit {0}) BoardVerdict) (bits others : List Bool) → IsFault first → IsFault second
@@ -347,7 +341,7 @@ given_in : (board first_challenge first_reply second_challenge second_reply : Li
     → AllGiven (ahead_in board first_challenge first_reply second_challenge second_reply) (bits_in first_challenge) (bits_in second_challenge)
 unfolding base_at
 given_in board first_challenge first_reply second_challenge second_reply =
-    given_front (front_at (from_start board)) (λ head. attempt_at head (from_start first_challenge) (from_start first_reply)) (λ head. attempt_at head (from_start second_challenge) (from_start second_reply))
+    given_front (front_judged (from_start board)) (λ head. attempt_at head (from_start first_challenge) (from_start first_reply)) (λ head. attempt_at head (from_start second_challenge) (from_start second_reply))
     (bits_in first_challenge) (bits_in second_challenge) (λ head. attempt_is head (from_start first_challenge) (from_start first_reply)) (λ head. attempt_is head (from_start second_challenge) (from_start second_reply))
 
 -- ---- files on a shelf

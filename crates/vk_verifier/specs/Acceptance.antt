@@ -1,18 +1,18 @@
 -- When a reply is accepted with a board and a challenge, by their whole texts.
-use Rattle.std.specs.Prelude.{◌≡◌, ◌↔◌, ℕ, ◌-◌, ◌^◌, ◌<◌, ◌≤◌, Bool, false, List, [], length, slice_index, slice_index_or}
+use Rattle.std.specs.Prelude.{◌≡◌, ◌↔◌, ℕ, ◌-◌, ◌≤◌, Bool, false, List, [], length, slice_index_or}
 use Rattle.vk_wire.specs.declared.wire.Shown.{Shown}
 use Rattle.vk_row.specs.Lanes.{IsAccepted}
 use Rattle.vk_board.specs.declared.board.Head.{Head}
 use Rattle.vk_board.specs.declared.board.LaneLines.{LaneLines}
 use Rattle.vk_board.specs.Values.{Board, Shape, IsBoard}
 use Rattle.vk_board.specs.Texts.{board_text}
-use Rattle.vk_board.specs.Reading.{seats_of}
+use Rattle.vk_board.specs.Fronts.{PriceStands, HasWinner}
 use Rattle.vk_reply.specs.declared.challenge.Challenge.{Challenge}
 use Rattle.vk_reply.specs.Values.{IsChallenge, IsReply}
 use Rattle.vk_reply.specs.Texts.{challenge_text, reply_text}
 use Rattle.vk_vickrey.specs.VickreyPlans.{wire_count, row_count}
 use Rattle.vk_verifier.specs.declared.answers.BoardVerdict.TheVariants.{Accepted}
-use Rattle.vk_verifier.specs.declared.front.Front.{Front}
+use Rattle.vk_board.specs.declared.front.Front.{Front}
 use Rattle.vk_verifier.specs.Verdicts.{plan_of, case_of, verdict_of}
 
 -- how many wires after the inputs, and how many rows, a lane of the auction has
@@ -31,12 +31,6 @@ no_lines = record { coms = []; posted = [] }
 abbrev pub front_with : Board → ℕ → Front
 front_with board position = record { head = board.head; seals = board.seals; position = position }
 
--- the seal at that position, counted from 1, has the winner's seat
-pub record WinsAt (board : Board) (position : ℕ) : Type 0 where
-  pub some : 1 ≤ position
-  pub within : position ≤ length board.seals
-  pub seat : slice_index (seats_of board.seals) (position - 1) ≡ board.head.winner
-
 -- what is shown of the lane, counted from 1, is accepted for its bit
 abbrev pub LaneIsAccepted : Board → ℕ → Challenge → List (List Shown) → ℕ → Type 0
 LaneIsAccepted board position challenge reply lane =
@@ -53,9 +47,8 @@ pub record Accepts (board_file challenge_file reply_file : List ℕ) : Type 0 wh
   pub board_is : (board_file ≡ board_text board) × IsBoard shape_of board
   pub challenge_is : (challenge_file ≡ challenge_text challenge) × IsChallenge challenge
   pub reply_is : (reply_file ≡ reply_text reply) × IsReply (plan_of (front_with board position)).kinds (bit_of challenge) reply
-  pub price : board.head.price < 2 ^ board.head.width
-  pub alone : board.head.seals ≡ 1 → board.head.price ≡ 0
-  pub winner : WinsAt board position
+  pub price : PriceStands board.head
+  pub winner : HasWinner (front_with board position)
   pub one_bit_each : length challenge.bits ≡ board.head.lanes
   pub one_reply_each : length reply ≡ board.head.lanes
   pub lanes : (lane : ℕ) → 1 ≤ lane → lane ≤ board.head.lanes → LaneIsAccepted board position challenge reply lane

@@ -13,8 +13,8 @@ use Rattle.vk_board.specs.Reading.{lane_at}
 use Rattle.vk_reply.specs.Reading.{challenge_at, reply_head_at, reply_lane_at}
 use Rattle.vk_verifier.specs.declared.answers.Part.TheVariants as part
 use Rattle.vk_verifier.specs.declared.answers.BoardVerdict.{BoardVerdict}
-use Rattle.vk_verifier.specs.declared.front.Front.{Front}
-use Rattle.vk_verifier.specs.Verdicts.{in_part, later_wires, case_of, lane_verdict, lanes_judged, counted, ends_judged, front_at, plan_of}
+use Rattle.vk_board.specs.declared.front.Front.{Front}
+use Rattle.vk_verifier.specs.Verdicts.{in_part, later_wires, case_of, lane_verdict, lanes_judged, counted, ends_judged, front_judged, plan_of}
 
 -- all that is public of the lane of that number
 unfoldable pub case_at : Front → PlanValue → ℕ → Rest → Result (LaneCase × Rest) BoardVerdict
@@ -46,7 +46,7 @@ rest_judged front plan number bits board reply = do
 -- the verdict's tests in their order, part by part
 unfoldable pub judged_in_parts : Rest → Rest → Rest → Result Unit BoardVerdict
 judged_in_parts board challenge reply = do
-  front ← front_at board
+  front ← front_judged board
   attempt ← attempt_at front.0.head challenge reply
   rest_judged front.0 (plan_of front.0) 1 attempt.0 front.1 attempt.1
 
@@ -59,7 +59,3 @@ pub record IsCase (front : Front) (plan : PlanValue) (number : ℕ) (case : Lane
 -- the counts of the case are those of the plan
 abbrev pub Fits : PlanValue → LaneCase → Type 0
 Fits plan case = (shown : List Shown) → length shown ≡ length plan.kinds → HasCounts plan case shown
-
--- what is shown of the lane is accepted for the bit
-abbrev pub IsChecked : PlanValue → LaneCase → Bool → List Shown → Type 0
-IsChecked plan case bit shown = (halves : List ℕ) × (checked_lane plan case bit shown ≡ Ok halves)

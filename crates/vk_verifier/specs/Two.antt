@@ -6,7 +6,7 @@ use Rattle.vk_lines.specs.Lines.{Rest, rest_of, end_at}
 use Rattle.vk_plan.specs.Plans.{PlanValue}
 use Rattle.vk_wire.specs.declared.wire.Shown.{Shown}
 use Rattle.vk_row.specs.declared.case.LaneCase.{LaneCase}
-use Rattle.vk_row.specs.Lanes.{HasCounts}
+use Rattle.vk_row.specs.Lanes.{IsAccepted}
 use Rattle.vk_row.specs.LaneTests.{◌>>=◌}
 use Rattle.vk_verifier.specs.declared.answers.Part.{Part}
 use Rattle.vk_verifier.specs.declared.answers.Part.TheVariants as part
@@ -15,7 +15,7 @@ use Rattle.vk_verifier.specs.declared.answers.BoardVerdict.TheVariants.{Accepted
 use Rattle.vk_verifier.specs.declared.answers.VErr.{VErr}
 use Rattle.vk_verifier.specs.declared.halt.Halt.{Halt}
 use Rattle.vk_verifier.specs.declared.halt.Halt.TheVariants as halt
-use Rattle.vk_verifier.specs.declared.front.Front.{Front}
+use Rattle.vk_board.specs.declared.front.Front.{Front}
 use Rattle.vk_verifier.specs.declared.stage.TwoLane.{TwoLane}
 use Rattle.vk_verifier.specs.declared.stage.TwoVerdict.{TwoVerdict}
 use Rattle.vk_verifier.specs.declared.stage.TwoVerdict.TheVariants.{Refused, Same, Ready}
@@ -26,8 +26,9 @@ use Rattle.vk_verifier.specs.declared.stage.Stage.{Stage}
 use Rattle.vk_verifier.specs.declared.stage.Stage.TheVariants.{Before, Running}
 use Rattle.vk_verifier.specs.declared.two_halt.TwoHalt.{TwoHalt}
 use Rattle.vk_verifier.specs.declared.two_halt.TwoHalt.TheVariants.{Found, Failed, NoMemory}
-use Rattle.vk_verifier.specs.Verdicts.{in_part, ends_judged, front_at, plan_of, IsFront, begun}
-use Rattle.vk_verifier.specs.Parts.{case_at, reply_judged, attempt_at, rest_judged, IsCase, IsChecked}
+use Rattle.vk_verifier.specs.Verdicts.{in_part, ends_judged, front_judged, plan_of, begun}
+use Rattle.vk_verifier.specs.Statement.{IsStatement, statement_of}
+use Rattle.vk_verifier.specs.Parts.{case_at, reply_judged, attempt_at, rest_judged, IsCase}
 
 -- ---- the finding
 
@@ -164,7 +165,7 @@ abbrev pub second_begun : Rest → Rest → Front × Rest → List Bool × Rest 
 second_begun challenge reply front first = do
   second ← of_second (rest_judged front.0 (plan_of front.0) 1 first.0 front.1 first.1) (attempt_at front.0.head challenge reply)
   Ok (
-    record { front = front.0; plan = plan_of front.0; first_bits = first.0; second_bits = second.0 },
+    record { statement = statement_of front.0; first_bits = first.0; second_bits = second.0 },
     record { board = front.1; first = first.1; second = second.1 },
   )
 
@@ -176,12 +177,12 @@ both_begun first_challenge first_reply second_challenge second_reply front =
 -- what is read before the first lane
 unfoldable pub base_at : Rest → Rest → Rest → Rest → Rest → Result (Base × Rests) TwoVerdict
 base_at board first_challenge first_reply second_challenge second_reply =
-    of_first (front_at board) >>= both_begun first_challenge first_reply second_challenge second_reply
+    of_first (front_judged board) >>= both_begun first_challenge first_reply second_challenge second_reply
 
 -- what is ahead after so many lanes
 abbrev pub ahead_on : Base → ℕ → Rests → Ahead
 ahead_on base given rests =
-    ahead_from base.front base.plan (accepted_of base.first_bits base.second_bits) (given + 1) (drop given base.first_bits) (drop given base.second_bits) rests
+    ahead_from base.statement.front base.statement.plan (accepted_of base.first_bits base.second_bits) (given + 1) (drop given base.first_bits) (drop given base.second_bits) rests
 
 abbrev pub ahead_by : Result (Base × Rests) TwoVerdict → Ahead
 ahead_by (Ok start) = ahead_on start.0 0 start.1
@@ -259,22 +260,19 @@ is_refused (Err halt.NoMemory) = false
 
 -- the board and both replies for the readers
 abbrev pub rests_of : TwoReaders → Files → Rests
-rests_of readers files = record { board = rest_of readers.board files; first = rest_of readers.first files; second = rest_of readers.second files }
+rests_of readers files = record { board = rest_of readers.pair.board files; first = rest_of readers.pair.reply files; second = rest_of readers.second files }
 
 -- what was read before the first lane: the circuit is the board's, and each challenge has a bit for each lane
 pub record IsBase (base : Base) : Type 0 where
-  pub front : IsFront base.front
-  pub plan : base.plan ≡ plan_of base.front
-  pub first : length base.first_bits ≡ base.front.head.lanes
-  pub second : length base.second_bits ≡ base.front.head.lanes
+  pub statement : IsStatement base.statement
+  pub first : length base.first_bits ≡ base.statement.front.head.lanes
+  pub second : length base.second_bits ≡ base.statement.front.head.lanes
 
 -- a lane that is given is that of the number, and what both replies show of it is accepted
 pub record IsTwoLane (front : Front) (plan : PlanValue) (number : ℕ) (lane : TwoLane) : Type 0 where
   pub case : IsCase front plan number lane.case
-  pub first_counts : HasCounts plan lane.case lane.first
-  pub first : IsChecked plan lane.case lane.first_bit lane.first
-  pub second_counts : HasCounts plan lane.case lane.second
-  pub second : IsChecked plan lane.case lane.second_bit lane.second
+  pub first : IsAccepted plan lane.case lane.first_bit lane.first
+  pub second : IsAccepted plan lane.case lane.second_bit lane.second
 
 -- ---- how far two replies were read
 
@@ -309,11 +307,11 @@ GoesOn before None stage files = (finding : TwoVerdict) × (finding_of stage ≡
 
 -- every lane was given, where both replies are accepted
 abbrev pub IsRight : Base → ℕ → TwoVerdict → Type 0
-IsRight base given finding = (¬ AreAccepted finding) ⊎ (given ≡ base.front.head.lanes)
+IsRight base given finding = (¬ AreAccepted finding) ⊎ (given ≡ base.statement.front.head.lanes)
 
 pub record IsCourse (course : Course) : Type 0 where
   pub base : IsBase course.base
-  pub within : course.given ≤ course.base.front.head.lanes
+  pub within : course.given ≤ course.base.statement.front.head.lanes
   pub finding : IfSome course.finding (IsRight course.base course.given)
 
 abbrev pub IsStage : Stage → Type 0
@@ -334,5 +332,5 @@ pub record IsNextLane (old new : Stage) (lane : TwoLane) : Type 0 where
   pub is : base_of new ≡ Some base
   pub right : IsBase base
   pub count : given_of new ≡ given_of old + 1
-  pub within : given_of new ≤ base.front.head.lanes
-  pub checked : IsTwoLane base.front base.plan (given_of new) lane
+  pub within : given_of new ≤ base.statement.front.head.lanes
+  pub checked : IsTwoLane base.statement.front base.statement.plan (given_of new) lane

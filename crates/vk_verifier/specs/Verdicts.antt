@@ -13,12 +13,13 @@ use Rattle.vk_row.specs.LaneTests.{◌>>=◌, checked_lane}
 use Rattle.vk_board.specs.declared.board.Head.{Head}
 use Rattle.vk_board.specs.declared.board.SealLines.{SealLines}
 use Rattle.vk_board.specs.declared.board.LaneLines.{LaneLines}
-use Rattle.vk_board.specs.Values.{IsHead, AreSeals}
-use Rattle.vk_board.specs.Reading.{head_at, seals_at, lane_at, seats_of}
-use Rattle.vk_board.specs.Published.{price_stands, position_of}
+use Rattle.vk_board.specs.declared.front.Front.{Front}
+use Rattle.vk_board.specs.Fronts.{FrontFault, front_at}
+use Rattle.vk_board.specs.Fronts as fronts
+use Rattle.vk_board.specs.Reading.{lane_at, seats_of}
 use Rattle.vk_reply.specs.declared.challenge.Challenge.{Challenge}
 use Rattle.vk_reply.specs.Reading.{challenge_at, reply_head_at, reply_lane_at}
-use Rattle.vk_vickrey.specs.VickreyPlans.{vickrey_plan, IsVickreyCase}
+use Rattle.vk_vickrey.specs.VickreyPlans.{vickrey_plan}
 use Rattle.vk_verifier.specs.declared.answers.Part.{Part}
 use Rattle.vk_verifier.specs.declared.answers.Part.TheVariants as part
 use Rattle.vk_verifier.specs.declared.answers.BoardVerdict.{BoardVerdict}
@@ -27,7 +28,6 @@ use Rattle.vk_verifier.specs.declared.answers.VErr.{VErr}
 use Rattle.vk_verifier.specs.declared.answers.VErr.TheVariants as verr
 use Rattle.vk_verifier.specs.declared.halt.Halt.{Halt}
 use Rattle.vk_verifier.specs.declared.halt.Halt.TheVariants.{Refused, Failed, NoMemory}
-use Rattle.vk_verifier.specs.declared.front.Front.{Front}
 
 -- what judging answers is what the definition gives: a value, or the verdict. After a failure of the
 -- outside or want of memory nothing is said
@@ -44,27 +44,19 @@ in_part file (Err line) = Err (Malformed file line)
 
 -- ---- before the first lane
 
-abbrev pub front_at_position : Head → List SealLines → Option ℕ → Result Front BoardVerdict
-front_at_position head seals None = Err Winner
-front_at_position head seals (Some position) = Ok (record { head = head; seals = seals; position = position })
+-- the verdict on a board with this fault before its first lane
+abbrev pub front_verdict : FrontFault → BoardVerdict
+front_verdict (fronts.Malformed line) = Malformed part.Board line
+front_verdict fronts.Price = Price
+front_verdict fronts.Winner = Winner
 
--- the price is tested first, then the winner
-unfoldable pub front_of : Head → List SealLines → Result Front BoardVerdict
-front_of head seals = if price_stands head then front_at_position head seals (position_of head.winner seals) else Err Price
+abbrev pub in_front : {X : Type 0} → Result X FrontFault → Result X BoardVerdict
+in_front (Ok x) = Ok x
+in_front (Err fault) = Err (front_verdict fault)
 
 -- what stands on a board before its first lane
-unfoldable pub front_at : Rest → Result (Front × Rest) BoardVerdict
-front_at rest = do
-  head ← in_part part.Board (head_at rest)
-  seals ← in_part part.Board (seals_at head.0 head.1)
-  front ← front_of head.0 seals.0
-  Ok (front, seals.1)
-
--- a front that was read: its numbers are within the limits of the circuit
-pub record IsFront (front : Front) : Type 0 where
-  pub head : IsHead front.head
-  pub seals : AreSeals front.head front.seals
-  pub case : IsVickreyCase front.head.seals front.head.width front.position front.head.price
+abbrev pub front_judged : Rest → Result (Front × Rest) BoardVerdict
+front_judged rest = in_front (front_at rest)
 
 -- the circuit of the board
 abbrev pub plan_of : Front → PlanValue
@@ -127,7 +119,7 @@ ends_judged board reply = do
 -- the tests in their order
 unfoldable pub judged : Rest → Rest → Rest → Result Unit BoardVerdict
 judged board challenge reply = do
-  front ← front_at board
+  front ← front_judged board
   bits ← in_part part.Challenge (challenge_at challenge)
   lanes ← in_part part.Reply (reply_head_at reply)
   same ← counted front.0.head bits.0 lanes.0

@@ -1,12 +1,16 @@
 // Why judging stopped.
-ghost use Rattle.std.specs.Prelude.{◌≡◌, ℕ, Result, Ok, IfOk, IsErrOf};
+ghost use Rattle.std.specs.Prelude.{◌≡◌, ℕ, Result, Ok, IfOk};
+ghost use Rattle.vk_io.specs.Faults.{Causes};
 ghost use Rattle.vk_lines.specs.Lines.{Reads, Rest};
-ghost use Rattle.vk_lines.specs.declared.errors.ReadErr.{ReadErr};
-ghost use Rattle.vk_verifier.specs.Verdicts.{Judges, in_part};
+ghost use Rattle.vk_board.specs.Gives.{Gives};
+ghost use Rattle.vk_board.specs.Fronts.{FrontFault, fault_of};
+ghost use Rattle.vk_verifier.specs.Verdicts.{Judges, in_part, in_front};
+ghost use Rattle.vk_verifier.specs.Answers.{read_answer, front_answer};
 ghost use Rattle.vk_verifier.specs.declared.halt.Halt.TheVariants.{NoMemory as OutOfMemory};
 
 use crate::answers::{BoardVerdict, Part};
 use std::alloc::{AllocError, AllocFailed};
+use vk_board::FrontErr;
 use vk_lines::ReadErr;
 use vk_residue::NoMemory;
 
@@ -46,10 +50,11 @@ impl<T: Drop> From<AllocFailed<T>> for Halt {
 
 /// What was read of a file. A fault of its form is the verdict.
 pub fn in_part<X>(part: Part, read: Result<X, ReadErr>) -> Result<X, Halt>
+    ensures exact { result ≡ read_answer part read }
     ensures judged { (rest : Rest) (expected : Result (X × Rest) ℕ)
         → Reads (λ x. x) read rest expected → Judges (λ x. (x, rest)) result (in_part part expected) }
     ensures value { IfOk result (λ x. read ≡ Ok x) }
-    ensures inside { IsErrOf result Halt.Failed → IsErrOf read ReadErr.Failed }
+    ensures causes { (before : ℕ) (after : ℕ) → Causes ReadErr.Failed read before after → Causes Halt.Failed result before after }
 {
     match read {
         Ok(value) => Ok(value),
@@ -58,5 +63,26 @@ pub fn in_part<X>(part: Part, read: Result<X, ReadErr>) -> Result<X, Halt>
         }
         Err(ReadErr::Failed) => Err(Halt::Failed),
         Err(ReadErr::NoMemory) => Err(Halt::NoMemory),
+    }
+}
+
+/// What was read of a board before its first lane. A fault of it is the verdict.
+pub fn in_front<X>(read: Result<X, FrontErr>) -> Result<X, Halt>
+    ensures exact { result ≡ front_answer read }
+    ensures judged { (rest : Rest) (expected : Result (X × Rest) FrontFault)
+        → Gives fault_of (λ x. (x, rest)) read expected → Judges (λ x. (x, rest)) result (in_front expected) }
+    ensures value { IfOk result (λ x. read ≡ Ok x) }
+    ensures causes { (before : ℕ) (after : ℕ) → Causes FrontErr.Failed read before after → Causes Halt.Failed result before after }
+{
+    match read {
+        Ok(value) => Ok(value),
+        Err(FrontErr::Malformed { line }) => Err(Halt::Refused(BoardVerdict::Malformed {
+            part: Part::Board,
+            line,
+        })),
+        Err(FrontErr::Price) => Err(Halt::Refused(BoardVerdict::Price)),
+        Err(FrontErr::Winner) => Err(Halt::Refused(BoardVerdict::Winner)),
+        Err(FrontErr::Failed) => Err(Halt::Failed),
+        Err(FrontErr::NoMemory) => Err(Halt::NoMemory),
     }
 }

@@ -1,18 +1,19 @@
 // The verdict on one lane.
 ghost use Rattle.std.specs.Prelude.{◌≡◌, ◌≤◌, ◌<◌, ◌+◌, ◌++◌, All, length, drop, IfSome, IfOk, OnOk, IsErrOf};
-ghost use Rattle.vk_io.specs.Faults.{Rose};
+ghost use Rattle.vk_io.specs.Reads.{OnlyReads};
 ghost use Rattle.vk_lines.specs.Lines.{rest_of};
-ghost use Rattle.vk_board.specs.Reading.{seats_of};
-ghost use Rattle.vk_row.specs.Lanes.{HasCounts};
+ghost use Rattle.vk_board.specs.Fronts.{IsFront};
+ghost use Rattle.vk_row.specs.Lanes.{HasCounts, IsAccepted};
 ghost use Rattle.vk_row.specs.LaneTests.{checked_lane};
-ghost use Rattle.vk_verifier.specs.Verdicts.{Judges, IsFront, plan_of, case_of, input_coms, lane_verdict, lane_judged, lanes_judged};
-ghost use Rattle.vk_verifier.specs.Parts.{case_at, reply_judged, IsCase, Fits, IsChecked};
+ghost use Rattle.vk_verifier.specs.Verdicts.{Judges, case_of, input_coms, lane_verdict, lane_judged, lanes_judged};
+ghost use Rattle.vk_verifier.specs.Parts.{case_at, reply_judged, IsCase, Fits};
 
 use crate::answers::{BoardVerdict, Part};
-use crate::front::Front;
 use crate::halt::{Halt, in_part};
+use crate::stage::Pair;
+use crate::statement::Statement;
 use std::alloc::Global;
-use vk_board::{LaneLines, SealLines, read_lane};
+use vk_board::{Front, LaneLines, SealLines, read_lane, seats_of};
 use vk_io::Shelf;
 use vk_lines::Lines;
 use vk_plan::Plan;
@@ -21,17 +22,6 @@ use vk_residue::NoMemory;
 use vk_row::{LaneCase, LaneFault, check_lane};
 use vk_seq::Seq;
 use vk_wire::{Shown, WireCom};
-
-/// The seats of the seals.
-fn seats_of(alloc: Global, seals: &[SealLines]) -> Result<Seq<u16>, NoMemory>
-    ensures { IfOk result (λ seats. seats ≡ seats_of seals.now) }
-{
-    let mut seats = Seq::new(alloc);
-    for seal in seals {
-        seats.push(seal.seat)?;
-    }
-    Ok(seats)
-}
 
 /// The commitments of the seals in the lane, counted from 0, and then these.
 fn coms_of(
@@ -75,29 +65,25 @@ fn case_of(alloc: Global, front: &Front, lane: u32, lines: LaneLines) -> Result<
 pub fn read_case<S: Shelf>(
     alloc: Global,
     shelf: &mut S,
-    front: &Front,
-    plan: &Plan,
+    statement: &Statement,
     lane: u32,
     board: &mut Lines,
 ) -> Result<LaneCase, Halt>
-    requires front { IsFront front.now }
-    requires plan { plan.now ≡ plan_of front.now }
     requires first { 1 ≤ lane }
-    requires last { lane ≤ front.now.head.lanes }
+    requires last { lane ≤ statement.now.front.head.lanes }
     ensures told { IfSome (S.held shelf.old) (λ files.
-        Judges (λ case. (case, rest_of board.new files)) result (case_at front.now plan.now lane (rest_of board.old files))) }
-    ensures right { IfOk result (IsCase front.now plan.now lane) }
-    ensures fits { IfOk result (Fits plan.now) }
-    ensures held { S.held shelf.new ≡ S.held shelf.old }
-    ensures later { S.Shelf.faults shelf.old ≤ S.Shelf.faults shelf.new }
-    ensures failed { IsErrOf result Halt.Failed → Rose (S.Shelf.faults shelf.old) (S.Shelf.faults shelf.new) }
+        Judges (λ case. (case, rest_of board.new files)) result (case_at statement.now.front statement.now.plan lane (rest_of board.old files))) }
+    ensures right { IfOk result (IsCase statement.now.front statement.now.plan lane) }
+    ensures fits { IfOk result (Fits statement.now.plan) }
+    ensures shelf { OnlyReads S.held S.Shelf.faults Halt.Failed result shelf.old shelf.new }
 {
+    let plan = statement.plan();
     let wires = plan.wires() - plan.inputs();
     let lines = in_part(
         Part::Board,
         read_lane(alloc, shelf, board, lane, wires, plan.rows()),
     )?;
-    let case = case_of(alloc, front, lane, lines)?;
+    let case = case_of(alloc, statement.front(), lane, lines)?;
     Ok(case)
 }
 
@@ -112,7 +98,7 @@ fn check(
 ) -> Result<(), Halt>
     requires { HasCounts plan.now case.now shown.now }
     ensures judged { Judges (λ done. done) result (lane_verdict lane (checked_lane plan.now case.now bit shown.now)) }
-    ensures checked { OnOk result (IsChecked plan.now case.now bit shown.now) }
+    ensures accepted { OnOk result (IsAccepted plan.now case.now bit shown.now) }
     ensures inside { IsErrOf result Halt.Failed → ⊥ }
 {
     match check_lane(alloc, plan, case, bit, shown) {
@@ -130,21 +116,19 @@ fn check(
 pub fn read_checked<S: Shelf>(
     alloc: Global,
     shelf: &mut S,
-    plan: &Plan,
+    statement: &Statement,
     case: &LaneCase,
     lane: u32,
     bit: bool,
     reply: &mut Lines,
 ) -> Result<Seq<Shown>, Halt>
-    requires { Fits plan.now case.now }
+    requires { Fits statement.now.plan case.now }
     ensures told { IfSome (S.held shelf.old) (λ files.
-        Judges (λ shown. (shown, rest_of reply.new files)) result (reply_judged plan.now case.now lane bit (rest_of reply.old files))) }
-    ensures counts { IfOk result (HasCounts plan.now case.now) }
-    ensures checked { IfOk result (IsChecked plan.now case.now bit) }
-    ensures held { S.held shelf.new ≡ S.held shelf.old }
-    ensures later { S.Shelf.faults shelf.old ≤ S.Shelf.faults shelf.new }
-    ensures failed { IsErrOf result Halt.Failed → Rose (S.Shelf.faults shelf.old) (S.Shelf.faults shelf.new) }
+        Judges (λ shown. (shown, rest_of reply.new files)) result (reply_judged statement.now.plan case.now lane bit (rest_of reply.old files))) }
+    ensures accepted { IfOk result (IsAccepted statement.now.plan case.now bit) }
+    ensures shelf { OnlyReads S.held S.Shelf.faults Halt.Failed result shelf.old shelf.new }
 {
+    let plan = statement.plan();
     let shown = in_part(
         Part::Reply,
         read_reply_lane(alloc, shelf, reply, lane, plan, bit),
@@ -158,26 +142,20 @@ pub fn read_checked<S: Shelf>(
 fn judge_lane<S: Shelf>(
     alloc: Global,
     shelf: &mut S,
-    front: &Front,
-    plan: &Plan,
+    statement: &Statement,
     lane: u32,
     bit: bool,
-    board: &mut Lines,
-    reply: &mut Lines,
+    pair: &mut Pair,
 ) -> Result<(), Halt>
-    requires front { IsFront front.now }
-    requires plan { plan.now ≡ plan_of front.now }
     requires first { 1 ≤ lane }
-    requires last { lane ≤ front.now.head.lanes }
+    requires last { lane ≤ statement.now.front.head.lanes }
     ensures told { IfSome (S.held shelf.old) (λ files.
-        Judges (λ _. (rest_of board.new files, rest_of reply.new files)) result
-        (lane_judged front.now plan.now lane bit (rest_of board.old files) (rest_of reply.old files))) }
-    ensures held { S.held shelf.new ≡ S.held shelf.old }
-    ensures later { S.Shelf.faults shelf.old ≤ S.Shelf.faults shelf.new }
-    ensures failed { IsErrOf result Halt.Failed → Rose (S.Shelf.faults shelf.old) (S.Shelf.faults shelf.new) }
+        Judges (λ _. (rest_of pair.new.board files, rest_of pair.new.reply files)) result
+        (lane_judged statement.now.front statement.now.plan lane bit (rest_of pair.old.board files) (rest_of pair.old.reply files))) }
+    ensures shelf { OnlyReads S.held S.Shelf.faults Halt.Failed result shelf.old shelf.new }
 {
-    let case = read_case(alloc, shelf, front, plan, lane, board)?;
-    read_checked(alloc, shelf, plan, &case, lane, bit, reply)?;
+    let case = read_case(alloc, shelf, statement, lane, &mut pair.board)?;
+    read_checked(alloc, shelf, statement, &case, lane, bit, &mut pair.reply)?;
     Ok(())
 }
 
@@ -185,35 +163,22 @@ fn judge_lane<S: Shelf>(
 pub fn judge_lanes<S: Shelf>(
     alloc: Global,
     shelf: &mut S,
-    front: &Front,
-    plan: &Plan,
+    statement: &Statement,
     judged: u32,
     bits: &[bool],
-    board: &mut Lines,
-    reply: &mut Lines,
+    pair: &mut Pair,
 ) -> Result<(), Halt>
-    requires front { IsFront front.now }
-    requires plan { plan.now ≡ plan_of front.now }
-    requires bits { length bits.now ≡ front.now.head.lanes }
-    requires within { judged ≤ front.now.head.lanes }
+    requires bits { length bits.now ≡ statement.now.front.head.lanes }
+    requires within { judged ≤ statement.now.front.head.lanes }
     ensures told { IfSome (S.held shelf.old) (λ files.
-        Judges (λ _. (rest_of board.new files, rest_of reply.new files)) result
-        (lanes_judged front.now plan.now (judged + 1) (drop judged bits.now) (rest_of board.old files) (rest_of reply.old files))) }
-    ensures held { S.held shelf.new ≡ S.held shelf.old }
-    ensures later { S.Shelf.faults shelf.old ≤ S.Shelf.faults shelf.new }
-    ensures failed { IsErrOf result Halt.Failed → Rose (S.Shelf.faults shelf.old) (S.Shelf.faults shelf.new) }
+        Judges (λ _. (rest_of pair.new.board files, rest_of pair.new.reply files)) result
+        (lanes_judged statement.now.front statement.now.plan (judged + 1) (drop judged bits.now) (rest_of pair.old.board files) (rest_of pair.old.reply files))) }
+    ensures shelf { OnlyReads S.held S.Shelf.faults Halt.Failed result shelf.old shelf.new }
 {
-    for index in judged as usize..bits.len() {
-        judge_lane(
-            alloc,
-            shelf,
-            front,
-            plan,
-            index as u32 + 1,
-            bits[index],
-            board,
-            reply,
-        )?;
+    let lanes = statement.front().head.lanes;
+    for index in judged..lanes {
+        let bit = bits[index as usize];
+        judge_lane(alloc, shelf, statement, index + 1, bit, pair)?;
     }
     Ok(())
 }

@@ -2,23 +2,23 @@
 #![tactic(auto)]
 
 mod answers;
-mod front;
 mod halt;
 mod judging;
 mod lane;
 mod laws;
 mod stage;
+mod statement;
 mod two;
 mod two_halt;
 mod two_lane;
 mod two_laws;
 
 pub use answers::{BoardVerdict, Part, VErr};
-pub use front::Front;
 pub use judging::verdict;
 pub use laws::a_verdict_accepts_what_is_accepted;
 pub use stage::{TwoLane, TwoVerdict};
-pub use two::{TwoChecker, TwoErr};
+pub use statement::Statement;
+pub use two::TwoChecker;
 pub use two_laws::{a_finding_is_by_both_verdicts, every_lane_is_given_of_accepted_replies};
 
 #[cfg(test)]

@@ -1,8 +1,7 @@
 // How far two replies to a board were read.
 use crate::answers::BoardVerdict;
-use crate::front::Front;
+use crate::statement::Statement;
 use vk_lines::Lines;
-use vk_plan::Plan;
 use vk_row::LaneCase;
 use vk_seq::Seq;
 use vk_wire::Shown;
@@ -29,20 +28,25 @@ pub enum TwoVerdict {
     Ready,
 }
 
-/// What was read before the first lane: the front of the board, its circuit, and the bits of both challenges.
+/// A board and a reply, each from where it is to be read on.
+#[derive(Drop)]
+pub struct Pair {
+    pub board: Lines,
+    pub reply: Lines,
+}
+
+/// What was read before the first lane: the board's statement, and the bits of both challenges.
 #[derive(Drop)]
 pub struct Base {
-    pub front: Front,
-    pub plan: Plan,
+    pub statement: Statement,
     pub first_bits: Seq<bool>,
     pub second_bits: Seq<bool>,
 }
 
-/// The board and both replies, each from where it is to be read on.
+/// The board with the first reply, and the second reply, each from where it is to be read on.
 #[derive(Drop)]
 pub struct TwoReaders {
-    pub board: Lines,
-    pub first: Lines,
+    pub pair: Pair,
     pub second: Lines,
 }
 

@@ -39,11 +39,11 @@ const REPLY_1: [u8; 32] = [
     0xf3, 0x17, 0x19, 0xde, 0x7a, 0x92, 0x20, 0xdc, 0xc3, 0x49, 0xf2, 0x56, 0x14, 0x7b, 0xac, 0x9e,
 ];
 
-const BITS_0: &[u8] = b"vickrey-challenge 1\nbits 0\nend\n";
+pub const BITS_0: &[u8] = b"vickrey-challenge 1\nbits 0\nend\n";
 
-const BITS_1: &[u8] = b"vickrey-challenge 1\nbits 1\nend\n";
+pub const BITS_1: &[u8] = b"vickrey-challenge 1\nbits 1\nend\n";
 
-const BITS_01: &[u8] = b"vickrey-challenge 1\nbits 01\nend\n";
+pub const BITS_01: &[u8] = b"vickrey-challenge 1\nbits 01\nend\n";
 
 fn residue(number: u64) -> Result<Residue, Fail> {
     let value = Residue::new(number).ok_or("not below the modulus")?;
@@ -85,7 +85,7 @@ fn smallest_lane(alloc: Global) -> Result<LaneLines, Fail> {
     Ok(LaneLines { coms, posted })
 }
 
-fn smallest_board(alloc: Global) -> Result<Vec<u8>, Fail> {
+pub fn smallest_board(alloc: Global) -> Result<Vec<u8>, Fail> {
     let mut coms = Seq::new(alloc);
     coms.push(WireCom {
         first: digest(7, 0, 0x11, 3)?,
@@ -108,7 +108,7 @@ fn reply_of(alloc: Global, shown: &[Shown]) -> Result<Vec<u8>, Fail> {
     Ok(text)
 }
 
-fn reply_to_0(alloc: Global) -> Result<Vec<u8>, Fail> {
+pub fn reply_to_0(alloc: Global) -> Result<Vec<u8>, Fail> {
     let shown = [
         Shown::Half(opening(0x11, 3)?),
         Shown::Half(opening(0x33, 10)?),
@@ -122,7 +122,7 @@ fn reply_to_0(alloc: Global) -> Result<Vec<u8>, Fail> {
 }
 
 /// The reply to bit 1, with this value of the second wire.
-fn reply_to_1(alloc: Global, second: u64) -> Result<Vec<u8>, Fail> {
+pub fn reply_to_1(alloc: Global, second: u64) -> Result<Vec<u8>, Fail> {
     let shown = [
         Shown::Half(opening(0x22, 2305843009213693948)?),
         Shown::Half(opening(0x44, second)?),

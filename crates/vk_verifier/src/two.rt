@@ -1,35 +1,28 @@
 // Two replies to a board, side by side.
-ghost use Rattle.std.specs.Prelude.{◌≡◌, ◌⊎◌, ◌≤◌, ◌<◌, ◌+◌, Some, None, Result, Ok, IsSome, IsSomeAnd, IfSome, IfOk, IfErr, OnOk, IsErrOf};
-ghost use Rattle.vk_io.specs.Faults.{Rose};
+ghost use Rattle.std.specs.Prelude.{◌≡◌, ◌⊎◌, ◌≤◌, ◌<◌, ◌+◌, ℕ, Some, None, Result, Ok, IsSome, IsSomeAnd, IfSome, IfOk, IfErr, OnOk};
+ghost use Rattle.vk_io.specs.Faults.{Causes};
+ghost use Rattle.vk_io.specs.Reads.{OnlyReads};
 ghost use Rattle.vk_io.specs.Files.{Files};
 ghost use Rattle.vk_lines.specs.Lines.{rest_of};
-ghost use Rattle.vk_verifier.specs.Verdicts.{IsFront, plan_of, Gives};
+ghost use Rattle.vk_verifier.specs.Verdicts.{Gives};
+ghost use Rattle.vk_verifier.specs.Statement.{IsStatement};
+ghost use Rattle.vk_verifier.specs.Answers.{start_answer, step_answer};
 ghost use Rattle.vk_verifier.specs.declared.stage.Base.{Base};
 ghost use Rattle.vk_verifier.specs.declared.stage.Stage.TheVariants.{Running};
 ghost use Rattle.vk_verifier.specs.declared.stage.TwoVerdict.{TwoVerdict};
 ghost use Rattle.vk_verifier.specs.Two.{Finds, GivesLane, GoesOn, Ahead, Rests, Refuses, AreAccepted, IsBase, IsTwoLane, IsCourse, IsStage, IsRight, IsNextLane, IsOver, HasBase, ahead_on, ahead_by, ahead_at, ahead_of, rests_of, finding_of, base_of, base_at, base_in, base_on, given_of, two_on};
 
 use crate::answers::{Part, VErr};
-use crate::front::Front;
 use crate::judging::begin;
-use crate::stage::{Base, Course, Stage, TwoLane, TwoReaders, TwoVerdict};
+use crate::stage::{Base, Course, Pair, Stage, TwoLane, TwoReaders, TwoVerdict};
+use crate::statement::Statement;
 use crate::two_halt::TwoHalt;
 use crate::two_lane::{begin_lanes, next_step};
 use std::alloc::Global;
 use std::marker::Model;
 use vk_board::Head;
 use vk_io::Shelf;
-use vk_lines::Lines;
-use vk_plan::Plan;
-
-/// Why no lane was given, and nothing found.
-#[derive(Clone, Copy, Debug, PartialEq, Eq)]
-pub enum TwoErr {
-    /// The outside failed. The shelf's count of faults rose in this call.
-    Failed,
-    /// Want of memory.
-    NoMemory,
-}
+use vk_lines::{LineErr, Lines};
 
 /// Reads a board, a challenge and the reply to it, and another challenge and the reply to that, lane by lane.
 /// A lane is given where both replies are accepted so far. Once no lane is given any more, it tells what the
@@ -69,9 +62,7 @@ impl TwoChecker {
         ensures base { IfSome (S.held shelf.old) (λ files. Gives (λ checker. base_of checker) result
             (base_on files board.now challenge1.now reply1.now challenge2.now reply2.now)) }
         ensures none_given { IfOk result (λ checker. given_of checker ≡ 0) }
-        ensures held { S.held shelf.new ≡ S.held shelf.old }
-        ensures later { S.Shelf.faults shelf.old ≤ S.Shelf.faults shelf.new }
-        ensures failed { IsErrOf result VErr.Failed → Rose (S.Shelf.faults shelf.old) (S.Shelf.faults shelf.new) }
+        ensures shelf { OnlyReads S.held S.Shelf.faults VErr.Failed result shelf.old shelf.new }
     {
         let board = begin(alloc, shelf, board, Part::Board)?;
         let first_challenge = begin(alloc, shelf, challenge1, Part::Challenge)?;
@@ -79,8 +70,10 @@ impl TwoChecker {
         let second_challenge = begin(alloc, shelf, challenge2, Part::SecondChallenge)?;
         let second = begin(alloc, shelf, reply2, Part::SecondReply)?;
         let readers = TwoReaders {
-            board,
-            first,
+            pair: Pair {
+                board,
+                reply: first,
+            },
             second,
         };
         let checker = begin_checker(alloc, shelf, first_challenge, second_challenge, readers)?;
@@ -93,14 +86,12 @@ impl TwoChecker {
         self,
         alloc: Global,
         shelf: &mut S,
-    ) -> Result<(TwoChecker, Option<TwoLane>), TwoErr>
+    ) -> Result<(TwoChecker, Option<TwoLane>), LineErr>
         ensures told { IfSome (S.held shelf.old) (λ files. IfOk result (λ next. GoesOn (ahead_of self files) next.1 next.0 files)) }
         ensures lane { IfOk result (λ next. IfSome next.1 (IsNextLane self next.0)) }
         ensures none { IfOk result (λ next. next.1 ≡ None → IsOver next.0 × (given_of next.0 ≡ given_of self)) }
         ensures base { IfOk result (λ next. base_of next.0 ≡ base_of self) }
-        ensures held { S.held shelf.new ≡ S.held shelf.old }
-        ensures later { S.Shelf.faults shelf.old ≤ S.Shelf.faults shelf.new }
-        ensures failed { IsErrOf result TwoErr.Failed → Rose (S.Shelf.faults shelf.old) (S.Shelf.faults shelf.new) }
+        ensures shelf { OnlyReads S.held S.Shelf.faults LineErr.Failed result shelf.old shelf.new }
     {
         let TwoChecker { stage } = self;
         match stage {
@@ -126,7 +117,7 @@ impl TwoChecker {
     pub fn finding(&self) -> TwoVerdict
         requires { IsOver self.now }
         ensures value { finding_of self.now ≡ Some result }
-        ensures all { AreAccepted result → IsSomeAnd (base_of self.now) (λ base. given_of self.now ≡ base.front.head.lanes) }
+        ensures all { AreAccepted result → IsSomeAnd (base_of self.now) (λ base. given_of self.now ≡ base.statement.front.head.lanes) }
     {
         match &self.stage {
             Stage::Before(finding) => *finding,
@@ -137,36 +128,24 @@ impl TwoChecker {
         }
     }
 
-    /// What stands on the board before its first lane.
-    pub fn front(&self) -> &Front
+    /// What stands on the board before its first lane, and its circuit.
+    pub fn statement(&self) -> &Statement
         requires { HasBase self.now }
-        ensures value { IfSome (base_of self.now) (λ base. base.front ≡ result.now) }
-        ensures right { IsFront result.now }
+        ensures value { IfSome (base_of self.now) (λ base. base.statement ≡ result.now) }
+        ensures right { IsStatement result.now }
     {
         match &self.stage {
             Stage::Before(_) => unreachable!(),
-            Stage::Running(course) => &course.base.front,
+            Stage::Running(course) => &course.base.statement,
         }
     }
 
     /// The head of the board.
     pub fn head(&self) -> Head
         requires { HasBase self.now }
-        ensures { IfSome (base_of self.now) (λ base. base.front.head ≡ result) }
+        ensures { IfSome (base_of self.now) (λ base. base.statement.front.head ≡ result) }
     {
-        self.front().head
-    }
-
-    /// The circuit of the board.
-    pub fn plan(&self) -> &Plan
-        requires { HasBase self.now }
-        ensures value { IfSome (base_of self.now) (λ base. base.plan ≡ result.now) }
-        ensures circuit { IfSome (base_of self.now) (λ base. result.now ≡ plan_of base.front) }
-    {
-        match &self.stage {
-            Stage::Before(_) => unreachable!(),
-            Stage::Running(course) => &course.base.plan,
-        }
+        self.statement().front().head
     }
 }
 
@@ -179,13 +158,11 @@ fn begin_checker<S: Shelf>(
     readers: TwoReaders,
 ) -> Result<TwoChecker, VErr>
     ensures told { IfSome (S.held shelf.old) (λ files. Gives (λ checker. ahead_of checker files) result
-        (Ok (ahead_at (rest_of readers.board files) (rest_of first_challenge files) (rest_of readers.first files) (rest_of second_challenge files) (rest_of readers.second files)))) }
+        (Ok (ahead_at (rest_of readers.pair.board files) (rest_of first_challenge files) (rest_of readers.pair.reply files) (rest_of second_challenge files) (rest_of readers.second files)))) }
     ensures base { IfSome (S.held shelf.old) (λ files. Gives (λ checker. base_of checker) result
-        (Ok (base_in (base_at (rest_of readers.board files) (rest_of first_challenge files) (rest_of readers.first files) (rest_of second_challenge files) (rest_of readers.second files))))) }
+        (Ok (base_in (base_at (rest_of readers.pair.board files) (rest_of first_challenge files) (rest_of readers.pair.reply files) (rest_of second_challenge files) (rest_of readers.second files))))) }
     ensures none_given { IfOk result (λ checker. given_of checker ≡ 0) }
-    ensures held { S.held shelf.new ≡ S.held shelf.old }
-    ensures later { S.Shelf.faults shelf.old ≤ S.Shelf.faults shelf.new }
-    ensures failed { IsErrOf result VErr.Failed → Rose (S.Shelf.faults shelf.old) (S.Shelf.faults shelf.new) }
+    ensures shelf { OnlyReads S.held S.Shelf.faults VErr.Failed result shelf.old shelf.new }
 {
     let mut first = first_challenge;
     let mut second = second_challenge;
@@ -199,12 +176,13 @@ fn begin_checker<S: Shelf>(
 fn checker_on(base: Result<Base, TwoHalt>, readers: TwoReaders) -> Result<TwoChecker, VErr>
     requires right { IfOk base IsBase }
     requires refuses { IfErr base Refuses }
+    ensures exact { result ≡ start_answer base readers }
     ensures told { (files : Files) (expected : Result (Base × Rests) TwoVerdict)
         → Finds (λ g. (g, rests_of readers files)) base expected → Gives (λ checker. ahead_of checker files) result (Ok (ahead_by expected)) }
     ensures base { (files : Files) (expected : Result (Base × Rests) TwoVerdict)
         → Finds (λ g. (g, rests_of readers files)) base expected → Gives (λ checker. base_of checker) result (Ok (base_in expected)) }
     ensures none_given { IfOk result (λ checker. given_of checker ≡ 0) }
-    ensures inside { IsErrOf result VErr.Failed → IsErrOf base TwoHalt.Failed }
+    ensures causes { (before : ℕ) (after : ℕ) → Causes TwoHalt.Failed base before after → Causes VErr.Failed result before after }
 {
     match base {
         Ok(base) => Ok(TwoChecker {
@@ -228,16 +206,14 @@ fn next_on_course<S: Shelf>(
     alloc: Global,
     shelf: &mut S,
     course: Course,
-) -> Result<(Course, Option<TwoLane>), TwoErr>
+) -> Result<(Course, Option<TwoLane>), LineErr>
     requires { IsCourse course }
     ensures told { IfSome (S.held shelf.old) (λ files. IfOk result (λ next. GoesOn (ahead_of (Running course) files) next.1 (Running next.0) files)) }
     ensures right { IfOk result (λ next. IsCourse next.0) }
     ensures lane { IfOk result (λ next. IfSome next.1 (IsNextLane (Running course) (Running next.0))) }
     ensures none { IfOk result (λ next. next.1 ≡ None → IsSome next.0.finding × (next.0.given ≡ course.given)) }
     ensures base { IfOk result (λ next. next.0.base ≡ course.base) }
-    ensures held { S.held shelf.new ≡ S.held shelf.old }
-    ensures later { S.Shelf.faults shelf.old ≤ S.Shelf.faults shelf.new }
-    ensures failed { IsErrOf result TwoErr.Failed → Rose (S.Shelf.faults shelf.old) (S.Shelf.faults shelf.new) }
+    ensures shelf { OnlyReads S.held S.Shelf.faults LineErr.Failed result shelf.old shelf.new }
 {
     let Course {
         base,
@@ -265,20 +241,21 @@ fn after_step(
     readers: TwoReaders,
     given: u32,
     step: Result<TwoLane, TwoHalt>,
-) -> Result<(Course, Option<TwoLane>), TwoErr>
+) -> Result<(Course, Option<TwoLane>), LineErr>
     requires base { IsBase base }
-    requires within { given ≤ base.front.head.lanes }
-    requires right { IfOk step (IsTwoLane base.front base.plan (given + 1)) }
-    requires more { OnOk step (given < base.front.head.lanes) }
-    requires all { IfErr step (λ halt. Refuses halt ⊎ (given ≡ base.front.head.lanes)) }
+    requires within { given ≤ base.statement.front.head.lanes }
+    requires right { IfOk step (IsTwoLane base.statement.front base.statement.plan (given + 1)) }
+    requires more { OnOk step (given < base.statement.front.head.lanes) }
+    requires all { IfErr step (λ halt. Refuses halt ⊎ (given ≡ base.statement.front.head.lanes)) }
+    ensures exact { result ≡ step_answer base readers given step }
     ensures told { (files : Files) (before : Ahead) → GivesLane before step (ahead_on base (given + 1) (rests_of readers files))
         → IfOk result (λ next. GoesOn before next.1 (Running next.0) files) }
     ensures right { IfOk result (λ next. IsCourse next.0) }
-    ensures lane { IfOk result (λ next. IfSome next.1 (IsTwoLane base.front base.plan next.0.given)) }
+    ensures lane { IfOk result (λ next. IfSome next.1 (IsTwoLane base.statement.front base.statement.plan next.0.given)) }
     ensures count { IfOk result (λ next. IfSome next.1 (λ lane. next.0.given ≡ given + 1)) }
     ensures none { IfOk result (λ next. next.1 ≡ None → IsSome next.0.finding × (next.0.given ≡ given)) }
     ensures base { IfOk result (λ next. next.0.base ≡ base) }
-    ensures inside { IsErrOf result TwoErr.Failed → IsErrOf step TwoHalt.Failed }
+    ensures causes { (before : ℕ) (after : ℕ) → Causes TwoHalt.Failed step before after → Causes LineErr.Failed result before after }
 {
     match step {
         Ok(lane) => {
@@ -299,7 +276,7 @@ fn after_step(
             };
             Ok((course, None))
         }
-        Err(TwoHalt::Failed) => Err(TwoErr::Failed),
-        Err(TwoHalt::NoMemory) => Err(TwoErr::NoMemory),
+        Err(TwoHalt::Failed) => Err(LineErr::Failed),
+        Err(TwoHalt::NoMemory) => Err(LineErr::NoMemory),
     }
 }

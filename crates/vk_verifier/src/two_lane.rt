@@ -1,23 +1,23 @@
 // What two replies show of a lane, side by side.
-ghost use Rattle.std.specs.Prelude.{◌≡◌, ◌⊎◌, ◌≤◌, ◌<◌, ◌+◌, length, drop, IsTrue, IsFalse, OnOk, IfSome, IfOk, IfErr, IsErrOf};
-ghost use Rattle.vk_io.specs.Faults.{Rose};
+ghost use Rattle.std.specs.Prelude.{◌≡◌, ◌⊎◌, ◌≤◌, ◌<◌, ◌+◌, length, drop, Err, IsTrue, IsFalse, IsOk, OnOk, IfSome, IfOk, IfErr};
+ghost use Rattle.vk_io.specs.Reads.{OnlyReads};
 ghost use Rattle.vk_lines.specs.Lines.{rest_of, end_at};
-ghost use Rattle.vk_row.specs.Lanes.{HasCounts};
-ghost use Rattle.vk_verifier.specs.Verdicts.{Judges, IsFront, plan_of, in_part};
-ghost use Rattle.vk_verifier.specs.Parts.{reply_judged, attempt_at, rest_judged, Fits, IsChecked};
+ghost use Rattle.vk_row.specs.Lanes.{IsAccepted};
+ghost use Rattle.vk_verifier.specs.Verdicts.{Judges, in_part};
+ghost use Rattle.vk_verifier.specs.Parts.{reply_judged, attempt_at, rest_judged, Fits};
 ghost use Rattle.vk_verifier.specs.Two.{Finds, IsFound, GivesLane, Refuses, of_second, two_lane_at, base_at, ends_found, accepted_of, ahead_on, rests_of, IsBase, IsTwoLane};
 
 use crate::answers::Part;
-use crate::front::{Front, plan_of, read_front};
-use crate::halt::{Halt, in_part};
+use crate::halt::{Halt, in_front, in_part};
 use crate::judging::{judge_rest, read_attempt, read_ends};
 use crate::lane::{read_case, read_checked};
-use crate::stage::{Base, TwoLane, TwoReaders};
+use crate::stage::{Base, Pair, TwoLane, TwoReaders};
+use crate::statement::Statement;
 use crate::two_halt::{TwoHalt, accepted_of, found_by, is_refused, of_first, of_second};
 use std::alloc::Global;
+use vk_board::read_front;
 use vk_io::Shelf;
 use vk_lines::Lines;
-use vk_plan::Plan;
 use vk_row::LaneCase;
 use vk_seq::Seq;
 use vk_wire::Shown;
@@ -26,38 +26,24 @@ use vk_wire::Shown;
 pub fn judge_on<S: Shelf>(
     alloc: Global,
     shelf: &mut S,
-    front: &Front,
-    plan: &Plan,
+    statement: &Statement,
     asked: bool,
     judged: u32,
     bits: &[bool],
-    readers: &mut TwoReaders,
+    pair: &mut Pair,
 ) -> Result<(), Halt>
-    requires front { IsFront front.now }
-    requires plan { plan.now ≡ plan_of front.now }
-    requires bits { length bits.now ≡ front.now.head.lanes }
-    requires within { judged ≤ front.now.head.lanes }
+    requires bits { length bits.now ≡ statement.now.front.head.lanes }
+    requires within { judged ≤ statement.now.front.head.lanes }
     ensures told { IfSome (S.held shelf.old) (λ files. IsTrue asked → Judges (λ done. done) result
-        (rest_judged front.now plan.now (judged + 1) (drop judged bits.now) (rest_of readers.old.board files) (rest_of readers.old.first files))) }
-    ensures second { readers.new.second ≡ readers.old.second }
-    ensures kept { IsFalse asked → readers.new ≡ readers.old }
-    ensures held { S.held shelf.new ≡ S.held shelf.old }
-    ensures later { S.Shelf.faults shelf.old ≤ S.Shelf.faults shelf.new }
-    ensures failed { IsErrOf result Halt.Failed → Rose (S.Shelf.faults shelf.old) (S.Shelf.faults shelf.new) }
+        (rest_judged statement.now.front statement.now.plan (judged + 1) (drop judged bits.now) (rest_of pair.old.board files) (rest_of pair.old.reply files))) }
+    ensures kept { IsFalse asked → pair.new ≡ pair.old }
+    ensures idle { IsFalse asked → IsOk result }
+    ensures shelf { OnlyReads S.held S.Shelf.faults Halt.Failed result shelf.old shelf.new }
 {
     if !asked {
         return Ok(());
     }
-    judge_rest(
-        alloc,
-        shelf,
-        front,
-        plan,
-        judged,
-        bits,
-        &mut readers.board,
-        &mut readers.first,
-    )?;
+    judge_rest(alloc, shelf, statement, judged, bits, pair)?;
     Ok(())
 }
 
@@ -73,24 +59,20 @@ fn read_second<S: Shelf>(
     readers: &mut TwoReaders,
 ) -> Result<Seq<Shown>, TwoHalt>
     requires base { IsBase base.now }
-    requires fits { Fits base.now.plan case.now }
-    requires within { lane ≤ base.now.front.head.lanes }
+    requires fits { Fits base.now.statement.plan case.now }
+    requires within { lane ≤ base.now.statement.front.head.lanes }
     ensures told { IfSome (S.held shelf.old) (λ files. Finds (λ shown. (shown, rest_of readers.new.second files)) result
-        (of_second (rest_judged base.now.front base.now.plan (lane + 1) (drop lane base.now.first_bits) (rest_of readers.old.board files) (rest_of readers.old.first files))
-        (reply_judged base.now.plan case.now lane bit (rest_of readers.old.second files)))) }
-    ensures board { OnOk result (readers.new.board ≡ readers.old.board) }
-    ensures first { OnOk result (readers.new.first ≡ readers.old.first) }
-    ensures counts { IfOk result (HasCounts base.now.plan case.now) }
-    ensures checked { IfOk result (IsChecked base.now.plan case.now bit) }
+        (of_second (rest_judged base.now.statement.front base.now.statement.plan (lane + 1) (drop lane base.now.first_bits) (rest_of readers.old.pair.board files) (rest_of readers.old.pair.reply files))
+        (reply_judged base.now.statement.plan case.now lane bit (rest_of readers.old.second files)))) }
+    ensures pair { OnOk result (readers.new.pair ≡ readers.old.pair) }
+    ensures accepted { IfOk result (IsAccepted base.now.statement.plan case.now bit) }
     ensures refuses { IfErr result Refuses }
-    ensures held { S.held shelf.new ≡ S.held shelf.old }
-    ensures later { S.Shelf.faults shelf.old ≤ S.Shelf.faults shelf.new }
-    ensures failed { IsErrOf result TwoHalt.Failed → Rose (S.Shelf.faults shelf.old) (S.Shelf.faults shelf.new) }
+    ensures shelf { OnlyReads S.held S.Shelf.faults TwoHalt.Failed result shelf.old shelf.new }
 {
     let judged = read_checked(
         alloc,
         shelf,
-        &base.plan,
+        &base.statement,
         case,
         lane,
         bit,
@@ -98,16 +80,8 @@ fn read_second<S: Shelf>(
     );
     let asked = is_refused(&judged);
     let bits = base.first_bits.as_slice();
-    let first = judge_on(
-        alloc,
-        shelf,
-        &base.front,
-        &base.plan,
-        asked,
-        lane,
-        bits,
-        readers,
-    );
+    let pair = &mut readers.pair;
+    let first = judge_on(alloc, shelf, &base.statement, asked, lane, bits, pair);
     let second = of_second(first, judged);
     second
 }
@@ -125,31 +99,23 @@ fn read_two<S: Shelf>(
 ) -> Result<TwoLane, TwoHalt>
     requires base { IsBase base.now }
     requires first { 1 ≤ lane }
-    requires last { lane ≤ base.now.front.head.lanes }
+    requires last { lane ≤ base.now.statement.front.head.lanes }
     ensures told { IfSome (S.held shelf.old) (λ files. Finds (λ two. (two, rests_of readers.new files)) result
-        (two_lane_at base.now.front base.now.plan lane first_bit second_bit (drop lane base.now.first_bits) (rests_of readers.old files))) }
-    ensures right { IfOk result (IsTwoLane base.now.front base.now.plan lane) }
+        (two_lane_at base.now.statement.front base.now.statement.plan lane first_bit second_bit (drop lane base.now.first_bits) (rests_of readers.old files))) }
+    ensures right { IfOk result (IsTwoLane base.now.statement.front base.now.statement.plan lane) }
     ensures refuses { IfErr result Refuses }
-    ensures held { S.held shelf.new ≡ S.held shelf.old }
-    ensures later { S.Shelf.faults shelf.old ≤ S.Shelf.faults shelf.new }
-    ensures failed { IsErrOf result TwoHalt.Failed → Rose (S.Shelf.faults shelf.old) (S.Shelf.faults shelf.new) }
+    ensures shelf { OnlyReads S.held S.Shelf.faults TwoHalt.Failed result shelf.old shelf.new }
 {
-    let case = of_first(read_case(
-        alloc,
-        shelf,
-        &base.front,
-        &base.plan,
-        lane,
-        &mut readers.board,
-    ))?;
+    let statement = &base.statement;
+    let case = of_first(read_case(alloc, shelf, statement, lane, &mut readers.pair.board))?;
     let first = of_first(read_checked(
         alloc,
         shelf,
-        &base.plan,
+        statement,
         &case,
         lane,
         first_bit,
-        &mut readers.first,
+        &mut readers.pair.reply,
     ))?;
     let second = read_second(alloc, shelf, base, &case, lane, second_bit, readers)?;
     Ok(TwoLane {
@@ -165,9 +131,8 @@ fn read_two<S: Shelf>(
 fn read_second_end<S: Shelf>(shelf: &mut S, standing: bool, second: &mut Lines) -> Result<(), Halt>
     ensures told { IfSome (S.held shelf.old) (λ files. IsTrue standing
         → Judges (λ done. (done, rest_of second.new files)) result (in_part Part.Reply (end_at (rest_of second.old files)))) }
-    ensures held { S.held shelf.new ≡ S.held shelf.old }
-    ensures later { S.Shelf.faults shelf.old ≤ S.Shelf.faults shelf.new }
-    ensures failed { IsErrOf result Halt.Failed → Rose (S.Shelf.faults shelf.old) (S.Shelf.faults shelf.new) }
+    ensures idle { IsFalse standing → IsOk result }
+    ensures shelf { OnlyReads S.held S.Shelf.faults Halt.Failed result shelf.old shelf.new }
 {
     if !standing {
         return Ok(());
@@ -181,12 +146,10 @@ fn read_second_end<S: Shelf>(shelf: &mut S, standing: bool, second: &mut Lines) 
 fn read_finding<S: Shelf>(shelf: &mut S, base: &Base, readers: &mut TwoReaders) -> TwoHalt
     ensures told { IfSome (S.held shelf.old) (λ files.
         IsFound result (ends_found (accepted_of base.now.first_bits base.now.second_bits) (rests_of readers.old files))) }
-    ensures held { S.held shelf.new ≡ S.held shelf.old }
-    ensures later { S.Shelf.faults shelf.old ≤ S.Shelf.faults shelf.new }
-    ensures failed { result ≡ TwoHalt.Failed → Rose (S.Shelf.faults shelf.old) (S.Shelf.faults shelf.new) }
+    ensures shelf { OnlyReads {T = Unit {0}} S.held S.Shelf.faults TwoHalt.Failed (Err result) shelf.old shelf.new }
 {
     let accepted = accepted_of(base.first_bits.as_slice(), base.second_bits.as_slice());
-    let first = read_ends(shelf, &mut readers.board, &mut readers.first);
+    let first = read_ends(shelf, &mut readers.pair);
     let second = read_second_end(shelf, first.is_ok(), &mut readers.second);
     let found = found_by(accepted, first, second);
     found
@@ -201,17 +164,15 @@ pub fn next_step<S: Shelf>(
     readers: &mut TwoReaders,
 ) -> Result<TwoLane, TwoHalt>
     requires base { IsBase base.now }
-    requires within { given ≤ base.now.front.head.lanes }
+    requires within { given ≤ base.now.statement.front.head.lanes }
     ensures told { IfSome (S.held shelf.old) (λ files.
         GivesLane (ahead_on base.now given (rests_of readers.old files)) result (ahead_on base.now (given + 1) (rests_of readers.new files))) }
-    ensures right { IfOk result (IsTwoLane base.now.front base.now.plan (given + 1)) }
-    ensures more { OnOk result (given < base.now.front.head.lanes) }
-    ensures all { IfErr result (λ halt. Refuses halt ⊎ (given ≡ base.now.front.head.lanes)) }
-    ensures held { S.held shelf.new ≡ S.held shelf.old }
-    ensures later { S.Shelf.faults shelf.old ≤ S.Shelf.faults shelf.new }
-    ensures failed { IsErrOf result TwoHalt.Failed → Rose (S.Shelf.faults shelf.old) (S.Shelf.faults shelf.new) }
+    ensures right { IfOk result (IsTwoLane base.now.statement.front base.now.statement.plan (given + 1)) }
+    ensures more { OnOk result (given < base.now.statement.front.head.lanes) }
+    ensures all { IfErr result (λ halt. Refuses halt ⊎ (given ≡ base.now.statement.front.head.lanes)) }
+    ensures shelf { OnlyReads S.held S.Shelf.faults TwoHalt.Failed result shelf.old shelf.new }
 {
-    if given == base.front.head.lanes {
+    if given == base.statement.front().head.lanes {
         let found = read_finding(shelf, base, readers);
         return Err(found);
     }
@@ -234,29 +195,25 @@ pub fn next_step<S: Shelf>(
 fn begin_second<S: Shelf>(
     alloc: Global,
     shelf: &mut S,
-    front: &Front,
-    plan: &Plan,
+    statement: &Statement,
     first_bits: &[bool],
     challenge: &mut Lines,
     readers: &mut TwoReaders,
 ) -> Result<Seq<bool>, TwoHalt>
-    requires front { IsFront front.now }
-    requires plan { plan.now ≡ plan_of front.now }
-    requires bits { length first_bits.now ≡ front.now.head.lanes }
+    requires { length first_bits.now ≡ statement.now.front.head.lanes }
     ensures told { IfSome (S.held shelf.old) (λ files. Finds (λ bits. (bits, rest_of readers.new.second files)) result
-        (of_second (rest_judged front.now (plan_of front.now) 1 first_bits.now (rest_of readers.old.board files) (rest_of readers.old.first files))
-        (attempt_at front.now.head (rest_of challenge.old files) (rest_of readers.old.second files)))) }
-    ensures board { OnOk result (readers.new.board ≡ readers.old.board) }
-    ensures first { OnOk result (readers.new.first ≡ readers.old.first) }
-    ensures bits { IfOk result (λ bits. length bits ≡ front.now.head.lanes) }
+        (of_second (rest_judged statement.now.front statement.now.plan 1 first_bits.now (rest_of readers.old.pair.board files) (rest_of readers.old.pair.reply files))
+        (attempt_at statement.now.front.head (rest_of challenge.old files) (rest_of readers.old.second files)))) }
+    ensures pair { OnOk result (readers.new.pair ≡ readers.old.pair) }
+    ensures bits { IfOk result (λ bits. length bits ≡ statement.now.front.head.lanes) }
     ensures refuses { IfErr result Refuses }
-    ensures held { S.held shelf.new ≡ S.held shelf.old }
-    ensures later { S.Shelf.faults shelf.old ≤ S.Shelf.faults shelf.new }
-    ensures failed { IsErrOf result TwoHalt.Failed → Rose (S.Shelf.faults shelf.old) (S.Shelf.faults shelf.new) }
+    ensures shelf { OnlyReads S.held S.Shelf.faults TwoHalt.Failed result shelf.old shelf.new }
 {
-    let attempt = read_attempt(alloc, shelf, &front.head, challenge, &mut readers.second);
+    let head = &statement.front().head;
+    let attempt = read_attempt(alloc, shelf, head, challenge, &mut readers.second);
     let asked = is_refused(&attempt);
-    let first = judge_on(alloc, shelf, front, plan, asked, 0, first_bits, readers);
+    let pair = &mut readers.pair;
+    let first = judge_on(alloc, shelf, statement, asked, 0, first_bits, pair);
     let second = of_second(first, attempt);
     second
 }
@@ -271,22 +228,20 @@ pub fn begin_lanes<S: Shelf>(
     readers: &mut TwoReaders,
 ) -> Result<Base, TwoHalt>
     ensures told { IfSome (S.held shelf.old) (λ files. Finds (λ base. (base, rests_of readers.new files)) result
-        (base_at (rest_of readers.old.board files) (rest_of first.old files) (rest_of readers.old.first files) (rest_of second.old files) (rest_of readers.old.second files))) }
+        (base_at (rest_of readers.old.pair.board files) (rest_of first.old files) (rest_of readers.old.pair.reply files) (rest_of second.old files) (rest_of readers.old.second files))) }
     ensures right { IfOk result IsBase }
     ensures refuses { IfErr result Refuses }
-    ensures held { S.held shelf.new ≡ S.held shelf.old }
-    ensures later { S.Shelf.faults shelf.old ≤ S.Shelf.faults shelf.new }
-    ensures failed { IsErrOf result TwoHalt.Failed → Rose (S.Shelf.faults shelf.old) (S.Shelf.faults shelf.new) }
+    ensures shelf { OnlyReads S.held S.Shelf.faults TwoHalt.Failed result shelf.old shelf.new }
 {
-    let front = of_first(read_front(alloc, shelf, &mut readers.board))?;
+    let pair = &mut readers.pair;
+    let front = of_first(in_front(read_front(alloc, shelf, &mut pair.board)))?;
     let head = &front.head;
-    let first_bits = of_first(read_attempt(alloc, shelf, head, first, &mut readers.first))?;
-    let plan = plan_of(alloc, &front)?;
+    let first_bits = of_first(read_attempt(alloc, shelf, head, first, &mut pair.reply))?;
+    let statement = Statement::of(alloc, front)?;
     let bits = first_bits.as_slice();
-    let second_bits = begin_second(alloc, shelf, &front, &plan, bits, second, readers)?;
+    let second_bits = begin_second(alloc, shelf, &statement, bits, second, readers)?;
     Ok(Base {
-        front,
-        plan,
+        statement,
         first_bits,
         second_bits,
     })

@@ -1,6 +1,7 @@
 use Rattle.std.proofs.Common.{rules, ◌≡◌, List, sym, ap, subst, ◌∙◌}
 use Rattle.std.proofs.lemmas.Result.{IfErr-weaker}
 use Rattle.vk_board.specs.declared.board.SealLines.{SealLines}
+use Rattle.vk_board.specs.declared.front.Front.{Front}
 use Rattle.vk_board.specs.Reading.{seats_of}
 use Rattle.vk_extractor.specs.Refused.{IsRefusalOf}
 use Rattle.vk_bids.specs.declared.bids.OpenedBid.{OpenedBid}
@@ -11,17 +12,17 @@ use Rattle.vk_bids.proofs.extracting.extract_bids.Goals as goal
 
 pub returns-clause-outcome : goal.returns-clause-outcome
 returns-clause-outcome c =
-    let front = c.args.front.now in
+    let front = c.args.statement.now.front in
     let bids : c.in_ok-bids.bids ≡ opened_bids (seats_of front.seals) c.args.zero.now c.args.one.now =
-    c.in_ok-bids.ensures ∙ ap (λ (seals : List SealLines). opened_bids (seats_of seals) c.args.zero.now c.args.one.now) c.as_slice.ensures in
+    c.in_ok-bids.ensures ∙ ap (λ (seals : List SealLines). opened_bids (seats_of seals) c.args.zero.now c.args.one.now) (c.as_slice.ensures ∙ ap (λ (front : Front). front.seals) c.front.ensures.value) in
     let P : List OpenedBid → Type 0 = λ bids. ShowsOutcome front c.args.lane bids in
     subst P (sym bids)
-    (case_shows front c.args.plan.now c.args.lane c.args.case.now c.args.zero.now c.args.one.now
-    c.requires.front c.requires.plan c.requires.first c.requires.last c.requires.case c.requires.zero c.requires.one c.in_ok-_values.ensures.agree)
+    (case_shows front c.args.statement.now.plan c.args.lane c.args.case.now c.args.zero.now c.args.one.now
+    c.front.ensures.right.front c.front.ensures.right.plan c.requires.first c.requires.last c.requires.case c.requires.zero c.requires.one c.in_ok-_values.ensures.agree)
 
 pub returns-in_err-_values-clause-opened_twice : goal.returns-in_err-_values-clause-opened_twice
 returns-in_err-_values-clause-opened_twice c =
-    let plan = c.args.plan.now in
+    let plan = c.args.statement.now.plan in
     let case = c.args.case.now in
     let zeros = c.args.zero.now in
     let ones = c.args.one.now in

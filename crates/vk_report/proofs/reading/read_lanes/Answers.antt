@@ -9,7 +9,7 @@ pub loop-index-init : goal.loop-index-init
 loop-index-init g c = record {
   passed = passed_none (g.S.Shelf.held c.args.shelf.now) (shape_of c.args.report.now) c.args.report.now.head.lanes _ (λ files. rest_of c.args.lines.now files) (search rules);
   held = search rules;
-  later = search rules;
+  kept = search rules;
 }
 
 pub returns-in_err-read_lane-clause-told : goal.returns-in_err-read_lane-clause-told
@@ -23,8 +23,8 @@ loop-index-preserved g c = record {
   passed = passed_turn (g.S.Shelf.held c.args.shelf.now) (g.S.Shelf.held c.loop-index.shelf) (shape_of c.args.report.now) (λ files. lanes_at (λ _. shape_of c.args.report.now) c.args.report.now.head (rest_of c.args.lines.now files))
       c.loop-index.index (c.args.report.now.head.lanes - c.loop-index.index) (c.args.report.now.head.lanes - (c.loop-index.index + 1)) c.in_ok-read_lane.field-0 (λ files. rest_of c.loop-index.lines files) (λ files. rest_of c.read_lane.new.lines files)
       c.loop-index.invariant.held (omega arith) c.loop-index.invariant.passed c.in_ok-read_lane.ensures.told;
-  held = c.in_ok-read_lane.ensures.held ∙ c.loop-index.invariant.held;
-  later = omega (arith, c.in_ok-read_lane.ensures.later, c.loop-index.invariant.later);
+  held = c.in_ok-read_lane.ensures.shelf.held ∙ c.loop-index.invariant.held;
+  kept = c.in_ok-read_lane.ensures.shelf.causes ∙ c.loop-index.invariant.kept;
 }
 
 pub returns-clause-told : goal.returns-clause-told

@@ -1,4 +1,4 @@
-use Rattle.std.proofs.Common.{◌≡◌, ◌-◌, ◌≤◌}
+use Rattle.std.proofs.Common.{◌≡◌, ◌-◌}
 use Rattle.vk_lines.specs.Lines.{rest_of}
 use Rattle.vk_board.specs.Reading.{lanes_at}
 use Rattle.vk_report.specs.Reports.{shape_of}
@@ -11,5 +11,5 @@ invariant-loop-index g l = record {
   passed : HasPassed (g.S.Shelf.held l.fn.shelf) (shape_of l.report) l.index (l.report.head.lanes - l.index) (λ files. rest_of l.lines files)
       (λ files. lanes_at (λ _. shape_of l.report) l.report.head (rest_of l.fn.lines files));
   held : g.S.Shelf.held l.shelf ≡ g.S.Shelf.held l.fn.shelf;
-  later : g.S.Shelf.faults l.fn.shelf ≤ g.S.Shelf.faults l.shelf;
+  kept : g.S.Shelf.faults l.shelf ≡ g.S.Shelf.faults l.fn.shelf;
 }

@@ -1,4 +1,4 @@
-use Rattle.std.proofs.Common.{◌≡◌, ◌+◌, ◌≤◌, drop, IfSome}
+use Rattle.std.proofs.Common.{◌≡◌, ◌+◌, drop, IfSome}
 use Rattle.vk_lines.specs.Lines.{rest_of}
 use Rattle.vk_verifier.specs.Verdicts.{lanes_judged}
 use Rattle.vk_verifier.proofs.lane.judge_lanes.Given as goal
@@ -7,8 +7,8 @@ use Rattle.vk_verifier.proofs.lane.judge_lanes.Given as goal
 abbrev pub invariant-loop-index : goal.invariant-loop-index
 invariant-loop-index g l = record {
   told : IfSome (g.S.Shelf.held l.fn.shelf) (λ files.
-      lanes_judged l.front l.plan (l.index + 1) (drop l.index l.bits) (rest_of l.board files) (rest_of l.reply files)
-      ≡ lanes_judged l.front l.plan (l.fn.judged + 1) (drop l.fn.judged l.bits) (rest_of l.fn.board files) (rest_of l.fn.reply files));
+      lanes_judged l.statement.front l.statement.plan (l.index + 1) (drop l.index l.bits) (rest_of l.pair.board files) (rest_of l.pair.reply files)
+      ≡ lanes_judged l.statement.front l.statement.plan (l.fn.judged + 1) (drop l.fn.judged l.bits) (rest_of l.fn.pair.board files) (rest_of l.fn.pair.reply files));
   held : g.S.Shelf.held l.shelf ≡ g.S.Shelf.held l.fn.shelf;
-  later : g.S.Shelf.faults l.fn.shelf ≤ g.S.Shelf.faults l.shelf;
+  kept : g.S.Shelf.faults l.shelf ≡ g.S.Shelf.faults l.fn.shelf;
 }

@@ -4,4 +4,5 @@ use Rattle.vk_verifier.proofs.lane.read_case.Goals as goal
 
 pub returns-clause-fits : goal.returns-clause-fits
 returns-clause-fits g c =
-    fits c.args.front.now c.args.plan.now c.args.lane c.in_ok-lines.lines c.in_ok-case.case c.requires.front c.wires.ensures.plan c.requires.plan (search rules) c.in_ok-case.ensures
+    fits c.args.statement.now.front c.args.statement.now.plan c.args.lane c.in_ok-lines.lines c.in_ok-case.case c.plan-plan.ensures.right.front (rw c.plan-plan.ensures.value at c.wires.ensures.plan)
+    c.plan-plan.ensures.right.plan (search rules) (search rules)
