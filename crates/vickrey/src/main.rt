@@ -1,18 +1,27 @@
 //! `vickrey`: a sealed-bid second-price auction whose auctioneer proves the outcome.
 #![tactic(auto)]
 
+ghost use Rattle.std.specs.Prelude.{◌≡◌, ◌≢◌, ◌⊎◌, IfSome, map, string_bytes};
+ghost use Rattle.std.specs.Process.{exit_status};
+ghost use Rattle.vk_io.specs.Faults.{Rose};
+ghost use Rattle.vk_app.specs.Effect.{effect_on};
+ghost use Rattle.vk_app.specs.Outside.{outside, Done};
+
 use std::env;
 use std::io::ErrorKind;
 use std::process::ExitCode;
-use std::rt::Env;
+use std::rt::{Env, Files};
 use vk_app::run;
-use vk_io::{FileShelf, OutSink};
+use vk_io::{FileShelf, OutSink, Shelf, Sink};
 use vk_residue::NoMemory;
 
+#[cfg(test)]
+mod tests;
+
 /// The words behind the program's own name. None where one of them is not UTF-8.
-fn words_of<R: Env + AllocGlobal>(rt: &R) -> Result<Vec<String>, NoMemory> {
-    let mut words = Vec::new(rt.alloc());
-    match env::args(rt) {
+fn words_of<E: Env + AllocGlobal>(env: &E) -> Result<Vec<String>, NoMemory> {
+    let mut words = Vec::new(env.alloc());
+    match env::args(env) {
         Ok(mut args) => {
             let _name = args.next();
             for word in args {
@@ -29,24 +38,52 @@ fn words_of<R: Env + AllocGlobal>(rt: &R) -> Result<Vec<String>, NoMemory> {
     }
 }
 
-/// Says on standard error why a command was stopped.
-fn report<R: Eprint>(rt: &R, status: u8) {
+/// Says on standard error why a command was stopped, and ends with its status.
+fn end<R: Eprint>(rt: &R, status: u8) -> ExitCode
+    ensures { exit_status result ≡ status }
+{
     let _ = match status {
         6 => eprintln!(rt; "outside fault"),
         9 => eprintln!(rt; "no memory"),
         _ => Ok(()),
     };
+    ExitCode::from(status)
+}
+
+/// Does what the words say over the shelf, prints to the sink, and ends with the status.
+fn perform<R: Eprint + AllocGlobal, S: Shelf, W: Sink>(
+    rt: &R,
+    words: &[String],
+    shelf: &mut S,
+    out: &mut W,
+) -> ExitCode
+    ensures done { IfSome (effect_on (S.held shelf.old) (map string_bytes words.now))
+        (λ effect. exit_status result ≢ 6 → exit_status result ≢ 9
+        → Done (exit_status result) effect (outside (S.held shelf.old) (W.taken out.old)) (outside (S.held shelf.new) (W.taken out.new))) }
+    ensures fault { exit_status result ≡ 6
+        → Rose (S.Shelf.faults shelf.old) (S.Shelf.faults shelf.new) ⊎ Rose (W.Sink.faults out.old) (W.Sink.faults out.new) }
+    ensures no_fault { exit_status result ≢ 6
+        → (S.Shelf.faults shelf.new ≡ S.Shelf.faults shelf.old) × (W.Sink.faults out.new ≡ W.Sink.faults out.old) }
+{
+    let status = run(rt.alloc(), words, shelf, out);
+    end(rt, status)
+}
+
+/// Does what the words of `env` say, over the files and the standard output of `rt`.
+fn program<E: Env + AllocGlobal, R: Files + Print + Eprint + AllocGlobal>(
+    env: &E,
+    rt: &R,
+) -> ExitCode {
+    match words_of(env) {
+        Ok(words) => {
+            let mut shelf = FileShelf::new(rt, rt.alloc());
+            let mut out = OutSink::new(rt);
+            perform(rt, words.as_slice(), &mut shelf, &mut out)
+        }
+        Err(NoMemory) => end(rt, 9),
+    }
 }
 
 fn main(rt: HostRuntime) -> ExitCode {
-    let status = match words_of(&rt) {
-        Ok(words) => {
-            let mut shelf = FileShelf::new(&rt, rt.alloc());
-            let mut out = OutSink::new(&rt);
-            run(rt.alloc(), words.as_slice(), &mut shelf, &mut out)
-        }
-        Err(NoMemory) => 9,
-    };
-    report(&rt, status);
-    ExitCode::from(status)
+    program(&rt, &rt)
 }

@@ -2,11 +2,8 @@
 use Rattle.std.proofs.Common.{◌≡◌, ℕ, suc, ◌+◌, Bool, true, List, [], ◌∷◌, length, refl, ap}
 use Rattle.std.specs.Cmp.Derive.{both_true}
 use Rattle.std.proofs.lemmas.Bool.{and_parts, eqb-true, eq-eqb}
-use Rattle.std.proofs.lemmas.Slice.Eq.{bytes_eq-Decides}
 use Rattle.vk_residue.specs.Residue.{difference}
-use Rattle.vk_commit.specs.Commitment.{Opens, opens_test, digest_of}
-use Rattle.vk_commit.specs.declared.place.Place.{Place}
-use Rattle.vk_commit.specs.declared.place.Opening.{Opening}
+use Rattle.vk_commit.proofs.Openings.{opens_decides}
 use Rattle.vk_app.specs.declared.board.BoardLane.{BoardLane}
 use Rattle.vk_app.specs.declared.board.Board.{Board}
 use Rattle.vk_app.specs.declared.challenge.Challenge.{Challenge}
@@ -14,25 +11,19 @@ use Rattle.vk_app.specs.declared.reply.ReplyLane.{ReplyLane}
 use Rattle.vk_app.specs.declared.reply.Reply.{Reply}
 use Rattle.vk_app.specs.Acceptance.{half_of, bid_place, copy_place, claimed, IsAcceptedLane, AreAcceptedLanes, accepts_lane, accepts_lanes, accepts}
 
-opens_from_test : (place : Place) (digest : List ℕ) (opening : Opening) → opens_test place digest opening ≡ true → Opens place digest opening
-opens_from_test place digest opening h = (bytes_eq-Decides (digest_of place opening) digest).0 h
-
-test_from_opens : (place : Place) (digest : List ℕ) (opening : Opening) → Opens place digest opening → opens_test place digest opening ≡ true
-test_from_opens place digest opening h = (bytes_eq-Decides (digest_of place opening) digest).1 h
-
 pub lane_from_test : (board : Board) (number : ℕ) (lane : BoardLane) (bit : Bool) (reply : ReplyLane) → accepts_lane board number lane bit reply ≡ true → IsAcceptedLane board number lane bit reply
 lane_from_test board number lane bit reply h =
     let p = and_parts _ _ h in
     let q = and_parts _ _ p.0 in
     record {
-      bid = opens_from_test (bid_place board number bit) (half_of bit lane.bid) reply.bid q.0;
-      copy = opens_from_test (copy_place board number bit) (half_of bit lane.copy) reply.copy q.1;
+      bid = (opens_decides (bid_place board number bit) (half_of bit lane.bid) reply.bid).0 q.0;
+      copy = (opens_decides (copy_place board number bit) (half_of bit lane.copy) reply.copy).0 q.1;
       posted = eqb-true _ _ p.1;
     }
 
 pub test_from_lane : (board : Board) (number : ℕ) (lane : BoardLane) (bit : Bool) (reply : ReplyLane) → IsAcceptedLane board number lane bit reply → accepts_lane board number lane bit reply ≡ true
 test_from_lane board number lane bit reply is =
-    both_true (both_true (test_from_opens (bid_place board number bit) (half_of bit lane.bid) reply.bid is.bid) (test_from_opens (copy_place board number bit) (half_of bit lane.copy) reply.copy is.copy))
+    both_true (both_true ((opens_decides (bid_place board number bit) (half_of bit lane.bid) reply.bid).1 is.bid) ((opens_decides (copy_place board number bit) (half_of bit lane.copy) reply.copy).1 is.copy))
     (eq-eqb (difference reply.bid.value reply.copy.value) (claimed bit lane.posted) is.posted)
 
 lanes_from_test : (board : Board) (number : ℕ) (lanes : List BoardLane) (bits : List Bool) (replies : List ReplyLane) → accepts_lanes board number lanes bits replies ≡ true → AreAcceptedLanes board number lanes bits replies

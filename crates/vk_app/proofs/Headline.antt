@@ -1,9 +1,9 @@
 -- Status 0 and the relation on files are one.
-use Rattle.std.proofs.Common.{◌≡◌, ◌≢◌, ℕ, ◌≤◌, Bool, true, false, cond, List, length, Option, Some, None, Ok, refl, sym, ap, subst, ◌∙◌, arith, ltb, eqb}
+use Rattle.std.proofs.Common.{◌≡◌, ◌≢◌, ℕ, ◌≤◌, Bool, true, false, cond, List, ◌++◌, length, Option, Some, None, refl, sym, ap, subst, ◌∙◌, arith, ltb, eqb}
 use Rattle.std.specs.FinMap.{get}
 use Rattle.std.proofs.lemmas.Bool.{false_from_ne_true, le-ltb, eqb-true, eq-eqb}
 use Rattle.std.proofs.lemmas.List.{nil_from_length}
-use Rattle.std.specs.Prelude.{IfSome}
+use Rattle.std.specs.Prelude.{IfSome, option_map}
 use Rattle.vk_io.specs.Files.{Files, Told}
 use Rattle.vk_io.specs.Content.{content_by}
 use Rattle.vk_io.specs.declared.content.Content.TheVariants.{TooLong, Held}
@@ -18,9 +18,9 @@ use Rattle.vk_app.specs.Acceptance.{accepts}
 use Rattle.vk_app.specs.Extraction.{extraction_text}
 use Rattle.vk_app.specs.Extract.{attempt_of, lanes_between, extraction_of}
 use Rattle.vk_app.specs.Words.{AttemptWords, ExtractWords, extract_words}
-use Rattle.vk_app.specs.Effect.{largest_file, held_bytes, file_at, attempt_files, extract_files, extraction_effect, extract_effect, effect_of}
-use Rattle.vk_app.specs.Outcome.{Effect, Ends}
-use Rattle.vk_app.proofs.Effects.{effect_of-extract}
+use Rattle.vk_app.specs.Effect.{largest_file, held_bytes, file_at, attempt_files, extract_files, extraction_said, extract_effect, effect_on}
+use Rattle.vk_app.specs.Outside.{Effect, outside, Done}
+use Rattle.vk_app.proofs.Effects.{effect_on-extract}
 use Rattle.vk_app.specs.Headline.{AcceptsFiles, BothAccepted, Extracts, PutsExtraction}
 use Rattle.vk_app.proofs.Texts.{after, if_some, unless_some}
 use Rattle.vk_app.proofs.WholeTexts.{board_found, board_again, challenge_found, challenge_again, reply_found, reply_again}
@@ -118,33 +118,38 @@ extraction_to files names both =
 -- ---- a whole run
 
 -- status 0 only where the files give bids, and wherever both replies are accepted and the challenges differ
-effect_from : (files : Files) (names : ExtractWords) (extraction : Option Extraction) → extraction_of (extract_files files names) ≡ extraction → (extraction_effect extraction).status ≡ 0 → Extracts files names (extraction_effect extraction).text
-effect_from files names None is h = absurd (omega arith)
-effect_from files names (Some extraction) is h = extraction_from files names extraction is
+said_from : (files : Files) (names : ExtractWords) (extraction : Option Extraction) → extraction_of (extract_files files names) ≡ extraction → (extraction_said extraction).status ≡ 0 → Extracts files names (extraction_said extraction).text
+said_from files names None is h = absurd (omega arith)
+said_from files names (Some extraction) is h = extraction_from files names extraction is
 
-effect_to : (files : Files) (names : ExtractWords) → BothAccepted files names → (extract_effect files names).status ≡ 0
-effect_to files names both = ap (λ extraction. (extraction_effect extraction).status) (extraction_to files names both).1
+said_to : (files : Files) (names : ExtractWords) → BothAccepted files names → (extract_effect files names).status ≡ 0
+said_to files names both = ap (λ extraction. (extraction_said extraction).status) (extraction_to files names both).1
 
-put_told : (files : Files) (names : ExtractWords) (status : ℕ) (old new : Option (List ℕ)) → status ≡ (extract_effect files names).status → Told (Ends (Ok status) (extract_effect files names)) old new → status ≡ 0 → Told (PutsExtraction files names) old new
-put_told files names status None new is ends zero_is = ends
-put_told files names status (Some old) None is ends zero_is = ends
-put_told files names status (Some old) (Some new) is ends zero_is =
-    ((extract_effect files names).text, ends, effect_from files names (extraction_of (extract_files files names)) refl (sym is ∙ zero_is))
+put_told : (files : Files) (names : ExtractWords) (status : ℕ) (old new : Option (List ℕ)) → status ≡ (extract_effect files names).status → new ≡ option_map (λ before. before ++ (extract_effect files names).text) old → status ≡ 0 → Told (PutsExtraction files names) old new
+put_told files names status None new is taken zero_is = taken
+put_told files names status (Some old) new is taken zero_is =
+    subst (λ o. Told (PutsExtraction files names) (Some old) o) (sym taken)
+    ((extract_effect files names).text, refl, said_from files names (extraction_of (extract_files files names)) refl (sym is ∙ zero_is))
 
-puts_extraction : (files : Files) (words : List (List ℕ)) (names : Option ExtractWords) → extract_words words ≡ names → (status : ℕ) (old new : Option (List ℕ)) → status ≡ (effect_of files words).status → Told (Ends (Ok status) (effect_of files words)) old new → IfSome names (λ found. status ≡ 0 → Told (PutsExtraction files found) old new)
-puts_extraction files words None is status old new status_is ends = tt
-puts_extraction files words (Some names) is status old new status_is ends =
-    let effect_is = effect_of-extract files words names is in
-    put_told files names status old new (status_is ∙ ap (λ (effect : Effect). effect.status) effect_is) (subst (λ effect. Told (Ends (Ok status) effect) old new) effect_is ends)
+-- the effect of an `extract` that came to its end
+done_extract : (files : Files) (left : Option Files) (words : List (List ℕ)) (names : ExtractWords) (status : ℕ) (old new : Option (List ℕ)) → extract_words words ≡ Some names → IfSome (effect_on (Some files) words) (λ effect. Done status effect (outside (Some files) old) (outside left new)) → Done status (extract_effect files names) (outside (Some files) old) (outside left new)
+done_extract files left words names status old new is done =
+    subst (λ o. IfSome o (λ effect. Done status effect (outside (Some files) old) (outside left new))) (effect_on-extract (Some files) words names is) done
 
-pub ended_extracts : (held : Option Files) (words : List (List ℕ)) (status : ℕ) (old new : Option (List ℕ)) → IfSome held (λ files. status ≡ (effect_of files words).status) → IfSome held (λ files. Told (Ends (Ok status) (effect_of files words)) old new) → IfSome held (λ files. IfSome (extract_words words) (λ names. status ≡ 0 → Told (PutsExtraction files names) old new))
-ended_extracts None words status old new is ends = tt
-ended_extracts (Some files) words status old new is ends = puts_extraction files words (extract_words words) refl status old new is ends
+extracts_words : (files : Files) (left : Option Files) (words : List (List ℕ)) (names : Option ExtractWords) → extract_words words ≡ names → (status : ℕ) (old new : Option (List ℕ)) → IfSome (effect_on (Some files) words) (λ effect. Done status effect (outside (Some files) old) (outside left new)) → IfSome names (λ found. status ≡ 0 → Told (PutsExtraction files found) old new)
+extracts_words files left words None is status old new done = tt
+extracts_words files left words (Some names) is status old new done =
+    let ended = done_extract files left words names status old new is done in
+    put_told files names status old new ended.status_is ended.taken_is
 
-accepts_words : (files : Files) (words : List (List ℕ)) (names : Option ExtractWords) → extract_words words ≡ names → (status : ℕ) → status ≡ (effect_of files words).status → IfSome names (λ found. BothAccepted files found → status ≢ 6 → status ≢ 9 → status ≡ 0)
-accepts_words files words None is status status_is = tt
-accepts_words files words (Some names) is status status_is = λ both _ _. status_is ∙ ap (λ (effect : Effect). effect.status) (effect_of-extract files words names is) ∙ effect_to files names both
+pub ended_extracts : (held left : Option Files) (words : List (List ℕ)) (status : ℕ) (old new : Option (List ℕ)) → IfSome (effect_on held words) (λ effect. Done status effect (outside held old) (outside left new)) → IfSome held (λ files. IfSome (extract_words words) (λ names. status ≡ 0 → Told (PutsExtraction files names) old new))
+ended_extracts None left words status old new done = tt
+ended_extracts (Some files) left words status old new done = extracts_words files left words (extract_words words) refl status old new done
 
-pub ended_accepted : (held : Option Files) (words : List (List ℕ)) (status : ℕ) → IfSome held (λ files. status ≡ (effect_of files words).status) → IfSome held (λ files. IfSome (extract_words words) (λ names. BothAccepted files names → status ≢ 6 → status ≢ 9 → status ≡ 0))
-ended_accepted None words status is = tt
-ended_accepted (Some files) words status is = accepts_words files words (extract_words words) refl status is
+accepts_words : (files : Files) (left : Option Files) (words : List (List ℕ)) (names : Option ExtractWords) → extract_words words ≡ names → (status : ℕ) (old new : Option (List ℕ)) → IfSome (effect_on (Some files) words) (λ effect. Done status effect (outside (Some files) old) (outside left new)) → IfSome names (λ found. BothAccepted files found → status ≢ 6 → status ≢ 9 → status ≡ 0)
+accepts_words files left words None is status old new done = tt
+accepts_words files left words (Some names) is status old new done = λ both _ _. (done_extract files left words names status old new is done).status_is ∙ said_to files names both
+
+pub ended_accepted : (held left : Option Files) (words : List (List ℕ)) (status : ℕ) (old new : Option (List ℕ)) → IfSome (effect_on held words) (λ effect. Done status effect (outside held old) (outside left new)) → IfSome held (λ files. IfSome (extract_words words) (λ names. BothAccepted files names → status ≢ 6 → status ≢ 9 → status ≡ 0))
+ended_accepted None left words status old new done = tt
+ended_accepted (Some files) left words status old new done = accepts_words files left words (extract_words words) refl status old new done

@@ -7,4 +7,4 @@ pub mod Extracting
 pub mod Lengths
 pub mod Effects
 pub mod Headline
-pub mod Leaving
+pub mod Acting

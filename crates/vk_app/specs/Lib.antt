@@ -5,7 +5,7 @@ pub mod Acceptance
 pub mod Extraction
 pub mod Extract
 pub mod Words
-pub mod Outcome
+pub mod Outside
 pub mod Sealing
 pub mod Effect
 pub mod Stops

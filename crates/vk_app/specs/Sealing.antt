@@ -9,7 +9,7 @@ use Rattle.vk_seal.specs.Made.{made_seal}
 use Rattle.vk_seal.specs.Texts.{secret_text, seal_text}
 use Rattle.vk_app.specs.Texts.{◌+++◌, line_feed}
 use Rattle.vk_app.specs.Words.{SealWords}
-use Rattle.vk_app.specs.Outcome.{Effect}
+use Rattle.vk_app.specs.Outside.{Effect, SaidValue, writes_and_says}
 
 -- the stream of the bidder at that seat
 abbrev pub stream_of : ℕ → ℕ
@@ -19,23 +19,23 @@ stream_of seat = 65536 + seat
 abbrev pub sealed_line : ℕ → ℕ → List ℕ
 sealed_line seat lanes = codes "sealed seat " +++ decimal seat +++ codes " lanes " +++ decimal lanes +++ line_feed
 
--- the secret's file is written, then the seal's
-abbrev pub sealed_effect : SealWords → Secret × Seal → Effect
-sealed_effect order made = record {
-  status = 0;
-  text = sealed_line order.seat order.lanes;
-  writes = (order.secret, secret_text made.0) ∷ (order.seal, seal_text made.1) ∷ [];
-}
-
 -- a refusal, before any file is made
-abbrev pub refused_effect : List ℕ → Effect
-refused_effect line = record { status = 8; text = line; writes = [] }
+abbrev pub refused_said : List ℕ → SaidValue
+refused_said line = record { status = 8; text = line }
+
+abbrev pub made_said : SealWords → Result (Secret × Seal) SealErr → SaidValue
+made_said order (Ok made) = record { status = 0; text = sealed_line order.seat order.lanes }
+made_said order (Err BidTooLarge) = refused_said (codes "seal bid too large" ++ line_feed)
+made_said order (Err (DrySeed lane)) = refused_said (codes "seal dry seed lane " +++ decimal lane +++ line_feed)
+made_said order (Err NoMemory) = refused_said []
+
+-- the secret's file is written, then the seal's
+abbrev pub made_writes : SealWords → Result (Secret × Seal) SealErr → List (List ℕ × List ℕ)
+made_writes order (Ok made) = (order.secret, secret_text made.0) ∷ (order.seal, seal_text made.1) ∷ []
+made_writes order (Err refusal) = []
 
 abbrev pub made_effect : SealWords → Result (Secret × Seal) SealErr → Effect
-made_effect order (Ok made) = sealed_effect order made
-made_effect order (Err BidTooLarge) = refused_effect (codes "seal bid too large" ++ line_feed)
-made_effect order (Err (DrySeed lane)) = refused_effect (codes "seal dry seed lane " +++ decimal lane +++ line_feed)
-made_effect order (Err NoMemory) = refused_effect []
+made_effect order made = writes_and_says (made_writes order made) (made_said order made)
 
 -- the seal is drawn from the seed's words in the stream of the seat
 unfoldable pub seal_effect : SealWords → Effect

@@ -12,7 +12,7 @@ use Rattle.vk_verifier.specs.declared.answers.VErr.TheVariants.{Missing, TooLong
 use Rattle.vk_verifier.specs.Verdicts.{verdict_on}
 use Rattle.vk_app.specs.Texts.{◌+++◌, line_feed}
 use Rattle.vk_app.specs.Words.{VerifyWords}
-use Rattle.vk_app.specs.Outcome.{Effect}
+use Rattle.vk_app.specs.Outside.{Effect, SaidValue, says}
 
 -- the name of the file as it was given; there is one challenge and one reply
 abbrev pub name_of : VerifyWords → Part → List ℕ
@@ -21,10 +21,6 @@ name_of names Challenge = names.attempt.challenge
 name_of names Reply = names.attempt.reply
 name_of names SecondChallenge = names.attempt.challenge
 name_of names SecondReply = names.attempt.reply
-
--- one line, and no files
-abbrev pub line_effect : ℕ → List ℕ → Effect
-line_effect status line = record { status = status; text = line; writes = [] }
 
 -- why a wire reads nothing
 abbrev pub fault_text : WireFault → List ℕ
@@ -54,12 +50,12 @@ verdict_line names (Wire lane wire fault) =
 verdict_line names (Row lane row) = codes "refused " +++ names.attempt.reply +++ codes " lane " +++ decimal lane +++ codes " row " +++ decimal row +++ line_feed
 
 -- of the verdict, or of the first file that is missing or too long
-abbrev pub answer_effect : VerifyWords → Result BoardVerdict VErr → Effect
-answer_effect names (Ok verdict) = line_effect (verdict_status verdict) (verdict_line names verdict)
-answer_effect names (Err (Missing part)) = line_effect 5 (codes "missing " +++ name_of names part +++ line_feed)
-answer_effect names (Err (TooLong part)) = line_effect 4 (codes "too long " +++ name_of names part +++ line_feed)
-answer_effect names (Err Failed) = line_effect 4 []
-answer_effect names (Err NoMemory) = line_effect 4 []
+abbrev pub answer_said : VerifyWords → Result BoardVerdict VErr → SaidValue
+answer_said names (Ok verdict) = record { status = verdict_status verdict; text = verdict_line names verdict }
+answer_said names (Err (Missing part)) = record { status = 5; text = codes "missing " +++ name_of names part +++ line_feed }
+answer_said names (Err (TooLong part)) = record { status = 4; text = codes "too long " +++ name_of names part +++ line_feed }
+answer_said names (Err Failed) = record { status = 4; text = [] }
+answer_said names (Err NoMemory) = record { status = 4; text = [] }
 
 abbrev pub verify_effect : Files → VerifyWords → Effect
-verify_effect files names = answer_effect names (verdict_on files names.board names.attempt.challenge names.attempt.reply)
+verify_effect files names = says (answer_said names (verdict_on files names.board names.attempt.challenge names.attempt.reply))

@@ -1,47 +1,47 @@
 //! The top call.
 
-ghost use Rattle.std.specs.Prelude.{◌≡◌, ◌≢◌, ◌≤◌, ◌⊎◌, IfSome, IfOk, IsErrOf, map, string_bytes};
+ghost use Rattle.std.specs.Prelude.{◌≡◌, ◌≢◌, ◌⊎◌, IfSome, IfOk, map, string_bytes};
 ghost use Rattle.std.specs.List.{flat_map};
-ghost use Rattle.vk_io.specs.Faults.{Rose};
+ghost use Rattle.vk_io.specs.Faults.{Causes, Rose};
 ghost use Rattle.vk_io.specs.Files.{Told, Takes};
-ghost use Rattle.vk_app.specs.Effect.{effect_of};
+ghost use Rattle.vk_app.specs.Effect.{effect_on};
 ghost use Rattle.vk_app.specs.Headline.{BothAccepted, PutsExtraction};
-ghost use Rattle.vk_app.specs.Outcome.{IsEnd, Ends, Prints, Leaves, LeavesFiles, PrintsLast};
+ghost use Rattle.vk_app.specs.Outside.{IsEnd, outside, Acts, Ends, Done, Stopped};
+ghost use Rattle.vk_app.specs.Stops.{CausesTwo};
 ghost use Rattle.vk_app.specs.Words.{extract_words};
 
-use crate::files::read_extract_files;
-use crate::outcome::{Outcome, extract, usage};
-use crate::sealing::seal;
+use crate::extract::extract;
+use crate::said::Said;
+use crate::seal::seal;
 use crate::stop::Stop;
-use crate::verifying::verify;
+use crate::usage::usage;
+use crate::verify::verify;
 use crate::words::{Command, command_of};
 use std::alloc::Global;
-use vk_io::{Shelf, Sink, write_files};
+use vk_io::{Shelf, Sink};
 
-/// What the words answer.
-fn outcome_of<S: Shelf>(alloc: Global, words: &[String], shelf: &mut S) -> Result<Outcome, Stop>
-    ensures told { IfSome (S.held shelf.old) (λ files. IfOk result (λ outcome. outcome ≡ effect_of files (map string_bytes words.now))) }
-    ensures held { S.held shelf.new ≡ S.held shelf.old }
-    ensures later { S.Shelf.faults shelf.old ≤ S.Shelf.faults shelf.new }
-    ensures failed { IsErrOf result Stop.Failed → Rose (S.Shelf.faults shelf.old) (S.Shelf.faults shelf.new) }
+/// Does what the words say, but for printing.
+fn act<S: Shelf>(alloc: Global, words: &[String], shelf: &mut S) -> Result<Said, Stop>
+    ensures acts { IfSome (effect_on (S.held shelf.old) (map string_bytes words.now))
+        (λ effect. Acts result effect (S.held shelf.old) (S.held shelf.new)) }
+    ensures causes { Causes Stop.Failed result (S.Shelf.faults shelf.old) (S.Shelf.faults shelf.new) }
 {
     match command_of(words) {
         None => {
-            let outcome = usage(alloc)?;
-            Ok(outcome)
+            let said = usage(alloc)?;
+            Ok(said)
         }
         Some(Command::Extract(names)) => {
-            let files = read_extract_files(alloc, shelf, &names)?;
-            let outcome = extract(alloc, &files)?;
-            Ok(outcome)
+            let said = extract(alloc, shelf, &names)?;
+            Ok(said)
         }
         Some(Command::Verify(names)) => {
-            let outcome = verify(alloc, shelf, &names)?;
-            Ok(outcome)
+            let said = verify(alloc, shelf, &names)?;
+            Ok(said)
         }
         Some(Command::Seal(order)) => {
-            let outcome = seal(alloc, &order)?;
-            Ok(outcome)
+            let said = seal(alloc, shelf, &order)?;
+            Ok(said)
         }
     }
 }
@@ -49,8 +49,7 @@ fn outcome_of<S: Shelf>(alloc: Global, words: &[String], shelf: &mut S) -> Resul
 /// Prints the lines, each by itself.
 fn print<W: Sink>(lines: &[String], out: &mut W) -> Result<(), Stop>
     ensures printed { Told (Takes (flat_map string_bytes lines.now) result) (W.taken out.old) (W.taken out.new) }
-    ensures later { W.Sink.faults out.old ≤ W.Sink.faults out.new }
-    ensures failed { IsErrOf result Stop.Failed → Rose (W.Sink.faults out.old) (W.Sink.faults out.new) }
+    ensures causes { Causes Stop.Failed result (W.Sink.faults out.old) (W.Sink.faults out.new) }
 {
     for line in lines {
         out.put(line.as_bytes())?;
@@ -58,39 +57,32 @@ fn print<W: Sink>(lines: &[String], out: &mut W) -> Result<(), Stop>
     Ok(())
 }
 
-/// Does what the words say, and answers the status.
+/// Does what the words say, prints at the end, and answers the status.
 fn answer<S: Shelf, W: Sink>(
     alloc: Global,
     words: &[String],
     shelf: &mut S,
     out: &mut W,
 ) -> Result<u8, Stop>
-    ensures status { IfSome (S.held shelf.old) (λ files. IfOk result (λ status. status ≡ (effect_of files (map string_bytes words.now)).status)) }
+    ensures ends { IfSome (effect_on (S.held shelf.old) (map string_bytes words.now))
+        (λ effect. Ends result effect (outside (S.held shelf.old) (W.taken out.old)) (outside (S.held shelf.new) (W.taken out.new))) }
     ensures end { IfOk result IsEnd }
-    ensures printed { IfSome (S.held shelf.old)
-        (λ files. Told (Ends result (effect_of files (map string_bytes words.now))) (W.taken out.old) (W.taken out.new)) }
-    ensures left { Told (λ old new. Leaves result (effect_of old (map string_bytes words.now)) old new) (S.held shelf.old) (S.held shelf.new) }
-    ensures last { PrintsLast (λ files. effect_of files (map string_bytes words.now)) (S.held shelf.old) (S.held shelf.new) (W.taken out.old) (W.taken out.new) }
-    ensures later_shelf { S.Shelf.faults shelf.old ≤ S.Shelf.faults shelf.new }
-    ensures later_out { W.Sink.faults out.old ≤ W.Sink.faults out.new }
-    ensures failed { IsErrOf result Stop.Failed
-        → Rose (S.Shelf.faults shelf.old) (S.Shelf.faults shelf.new) ⊎ Rose (W.Sink.faults out.old) (W.Sink.faults out.new) }
+    ensures causes { CausesTwo Stop.Failed result (S.Shelf.faults shelf.old) (S.Shelf.faults shelf.new) (W.Sink.faults out.old) (W.Sink.faults out.new) }
 {
-    let outcome = outcome_of(alloc, words, shelf)?;
-    write_files(shelf, outcome.files())?;
-    print(outcome.lines(), out)?;
-    Ok(outcome.status())
+    let said = act(alloc, words, shelf)?;
+    print(said.lines(), out)?;
+    Ok(said.status())
 }
 
 /// Does what the words say over the shelf, prints to the sink, and answers the status: that of the
 /// command, 6 where the outside failed, or 9 for want of memory.
 pub fn run<S: Shelf, W: Sink>(alloc: Global, words: &[String], shelf: &mut S, out: &mut W) -> u8
-    ensures status { IfSome (S.held shelf.old)
-        (λ files. result ≢ 6 → result ≢ 9 → result ≡ (effect_of files (map string_bytes words.now)).status) }
-    ensures printed { IfSome (S.held shelf.old)
-        (λ files. Told (Prints result (effect_of files (map string_bytes words.now))) (W.taken out.old) (W.taken out.new)) }
-    ensures left { Told (λ old new. LeavesFiles result (effect_of old (map string_bytes words.now)) old new) (S.held shelf.old) (S.held shelf.new) }
-    ensures last { PrintsLast (λ files. effect_of files (map string_bytes words.now)) (S.held shelf.old) (S.held shelf.new) (W.taken out.old) (W.taken out.new) }
+    ensures done { IfSome (effect_on (S.held shelf.old) (map string_bytes words.now))
+        (λ effect. result ≢ 6 → result ≢ 9
+        → Done result effect (outside (S.held shelf.old) (W.taken out.old)) (outside (S.held shelf.new) (W.taken out.new))) }
+    ensures stopped { IfSome (effect_on (S.held shelf.old) (map string_bytes words.now))
+        (λ effect. (result ≡ 6) ⊎ (result ≡ 9)
+        → Stopped effect (outside (S.held shelf.old) (W.taken out.old)) (outside (S.held shelf.new) (W.taken out.new))) }
 
     // What status 0 of an `extract` means: the text is that of the bids which the files give, and it
     // is put wherever they give any.
@@ -99,10 +91,11 @@ pub fn run<S: Shelf, W: Sink>(alloc: Global, words: &[String], shelf: &mut S, ou
     ensures accepted { IfSome (S.held shelf.old) (λ files. IfSome (extract_words (map string_bytes words.now))
         (λ names. BothAccepted files names → result ≢ 6 → result ≢ 9 → result ≡ 0)) }
 
-    ensures later_shelf { S.Shelf.faults shelf.old ≤ S.Shelf.faults shelf.new }
-    ensures later_out { W.Sink.faults out.old ≤ W.Sink.faults out.new }
+    // Status 6 comes exactly where a count rose in this call.
     ensures fault { result ≡ 6
         → Rose (S.Shelf.faults shelf.old) (S.Shelf.faults shelf.new) ⊎ Rose (W.Sink.faults out.old) (W.Sink.faults out.new) }
+    ensures no_fault { result ≢ 6
+        → (S.Shelf.faults shelf.new ≡ S.Shelf.faults shelf.old) × (W.Sink.faults out.new ≡ W.Sink.faults out.old) }
 {
     match answer(alloc, words, shelf, out) {
         Ok(status) => status,

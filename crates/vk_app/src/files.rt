@@ -1,7 +1,7 @@
 //! The inputs of a command, from a shelf.
 
-ghost use Rattle.std.specs.Prelude.{◌≡◌, ◌≤◌, IfSome, IfOk, IsErrOf, map, string_bytes};
-ghost use Rattle.vk_io.specs.Faults.{Rose};
+ghost use Rattle.std.specs.Prelude.{◌≡◌, IfSome, IfOk};
+ghost use Rattle.vk_io.specs.Reads.{OnlyReads};
 ghost use Rattle.vk_app.specs.Effect.{held_bytes, file_at, attempt_files, extract_files};
 ghost use Rattle.vk_app.specs.Words.{attempt_seen, extract_seen};
 
@@ -30,9 +30,7 @@ fn bytes_in(content: Content) -> Option<Seq<u8>>
 #[tactic(auto, unfolding(crate::specs::Effect::file_at))]
 fn read_file<S: Shelf>(alloc: Global, shelf: &mut S, name: &str) -> Result<Option<Seq<u8>>, Stop>
     ensures told { IfSome (S.held shelf.old) (λ files. IfOk result (λ bytes. bytes ≡ file_at files name.now)) }
-    ensures held { S.held shelf.new ≡ S.held shelf.old }
-    ensures later { S.Shelf.faults shelf.old ≤ S.Shelf.faults shelf.new }
-    ensures failed { IsErrOf result Stop.Failed → Rose (S.Shelf.faults shelf.old) (S.Shelf.faults shelf.new) }
+    ensures shelf { OnlyReads S.held S.Shelf.faults Stop.Failed result shelf.old shelf.new }
 {
     let content = read_whole(alloc, shelf, name, LARGEST_FILE)?;
     let bytes = bytes_in(content);
@@ -47,9 +45,7 @@ fn read_attempt_files<S: Shelf>(
     names: &AttemptNames<'_>,
 ) -> Result<AttemptFiles, Stop>
     ensures told { IfSome (S.held shelf.old) (λ files. IfOk result (λ read. read ≡ attempt_files files (attempt_seen names.now))) }
-    ensures held { S.held shelf.new ≡ S.held shelf.old }
-    ensures later { S.Shelf.faults shelf.old ≤ S.Shelf.faults shelf.new }
-    ensures failed { IsErrOf result Stop.Failed → Rose (S.Shelf.faults shelf.old) (S.Shelf.faults shelf.new) }
+    ensures shelf { OnlyReads S.held S.Shelf.faults Stop.Failed result shelf.old shelf.new }
 {
     let challenge = read_file(alloc, shelf, names.challenge)?;
     let reply = read_file(alloc, shelf, names.reply)?;
@@ -64,9 +60,7 @@ pub fn read_extract_files<S: Shelf>(
     names: &ExtractNames<'_>,
 ) -> Result<ExtractFiles, Stop>
     ensures told { IfSome (S.held shelf.old) (λ files. IfOk result (λ read. read ≡ extract_files files (extract_seen names.now))) }
-    ensures held { S.held shelf.new ≡ S.held shelf.old }
-    ensures later { S.Shelf.faults shelf.old ≤ S.Shelf.faults shelf.new }
-    ensures failed { IsErrOf result Stop.Failed → Rose (S.Shelf.faults shelf.old) (S.Shelf.faults shelf.new) }
+    ensures shelf { OnlyReads S.held S.Shelf.faults Stop.Failed result shelf.old shelf.new }
 {
     let board = read_file(alloc, shelf, names.board)?;
     let first = read_attempt_files(alloc, shelf, &names.first)?;

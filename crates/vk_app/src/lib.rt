@@ -8,13 +8,14 @@ mod command;
 mod extract;
 mod extraction;
 mod files;
-mod outcome;
 mod reader;
 mod refusal;
 mod reply;
-mod sealing;
+mod said;
+mod seal;
 mod stop;
-mod verifying;
+mod usage;
+mod verify;
 mod words;
 
 pub use command::run;

@@ -2,7 +2,7 @@ use super::*;
 use std::alloc::{AllocError, Global};
 use std::process::Abort;
 use std::test::Fail;
-use vk_io::{MemShelf, MemSink};
+use vk_io::{MemShelf, MemSink, Shelf, ShelfErr};
 
 const BOARD: &str = "vickrey-board 0
 auction 000102030405060708090a0b0c0d0e0f
@@ -315,6 +315,62 @@ fn a_refused_seal_writes_nothing(rt: HostRuntime) -> Result<(), Fail> {
         assert_eq!(rt; answer, status);
         assert_eq!(rt; out.bytes(), text.as_bytes());
         assert!(rt; shelf.file("a").is_none());
+    }
+    Ok(())
+}
+
+/// A shelf on which every file has 2^30 + 1 bytes, none of which are there.
+#[derive(Drop)]
+struct LongFiles;
+
+impl Shelf for LongFiles {
+    ghost use Rattle.std.specs.Prelude.{None};
+
+    ghost held = { λ _. None };
+
+    ghost faults = { λ _. 0 };
+
+    fn length(&mut self, _name: &str) -> Result<Option<u64>, ShelfErr> {
+        Ok(Some(1073741825))
+    }
+
+    fn read_at(&mut self, _name: &str, _at: u64, _into: &mut [u8]) -> Result<usize, ShelfErr> {
+        Ok(0)
+    }
+
+    fn create(&mut self, _name: &str) -> Result<(), ShelfErr> {
+        Ok(())
+    }
+
+    fn append(&mut self, _name: &str, _piece: &[u8]) -> Result<(), ShelfErr> {
+        Ok(())
+    }
+}
+
+#[test]
+fn a_file_that_is_too_long_is_named(rt: HostRuntime) -> Result<(), Fail> {
+    let words = words_of(rt.alloc(), &["verify", "board", "challenge-0", "reply-0"])?;
+    let mut out = MemSink::new(rt.alloc());
+    let status = run(rt.alloc(), words.as_slice(), &mut LongFiles, &mut out);
+    assert_eq!(rt; status, 4);
+    assert_eq!(rt; out.bytes(), b"too long board\n".as_slice());
+    Ok(())
+}
+
+/// The status of a `verify` whose shelf fails at this call, from 1.
+fn stopped_verdict(alloc: Global, call: u64) -> Result<u8, Fail> {
+    let words = words_of(alloc, &["verify", "board", "challenge-0", "reply-0"])?;
+    let mut shelf = shelf_with(alloc, BOARD, FIRST_REPLY)?;
+    let mut out = MemSink::new(alloc);
+    shelf.fail_at(call)?;
+    let status = run(alloc, words.as_slice(), &mut shelf, &mut out);
+    Ok(status)
+}
+
+#[test]
+fn a_fault_in_a_verdict_is_no_verdict(rt: HostRuntime) -> Result<(), Fail> {
+    for call in 1..=3 {
+        assert_eq!(rt; stopped_verdict(rt.alloc(), call)?, 6, "shelf call {call}");
     }
     Ok(())
 }

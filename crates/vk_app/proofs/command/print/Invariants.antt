@@ -1,4 +1,4 @@
-use Rattle.std.proofs.Common.{◌≡◌, ◌≤◌, ◌++◌, take, string_bytes}
+use Rattle.std.proofs.Common.{◌≡◌, ◌++◌, take, string_bytes}
 use Rattle.std.specs.Prelude.{option_map}
 use Rattle.std.specs.List.{flat_map}
 use Rattle.vk_app.proofs.command.print.Given as goal
@@ -7,5 +7,5 @@ use Rattle.vk_app.proofs.command.print.Given as goal
 abbrev pub invariant-loop-line : goal.invariant-loop-line
 invariant-loop-line g l = record {
   taken : g.W.Sink.taken l.out ≡ option_map (λ before. before ++ flat_map string_bytes (take l.line-index l.lines)) (g.W.Sink.taken l.fn.out);
-  later : g.W.Sink.faults l.fn.out ≤ g.W.Sink.faults l.out;
+  kept : g.W.Sink.faults l.out ≡ g.W.Sink.faults l.fn.out;
 }

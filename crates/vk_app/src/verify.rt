@@ -1,16 +1,17 @@
-//! What `verify` answers.
+//! `verify`: a verdict on a board, a challenge and a reply.
 
-ghost use Rattle.std.specs.Prelude.{◌≡◌, ◌≤◌, IfSome, IfOk, IsErrOf, Result, codes, string_bytes};
-ghost use Rattle.vk_io.specs.Faults.{Rose};
+ghost use Rattle.std.specs.Prelude.{◌≡◌, ℕ, IfSome, IfOk, Result, codes, string_bytes};
+ghost use Rattle.vk_io.specs.Faults.{Causes};
 ghost use Rattle.vk_verifier.specs.declared.answers.BoardVerdict.{BoardVerdict};
 ghost use Rattle.vk_verifier.specs.declared.answers.VErr.{VErr};
 ghost use Rattle.vk_verifier.specs.Verdicts.{Gives};
-ghost use Rattle.vk_app.specs.Outcome.{IsEnd};
-ghost use Rattle.vk_app.specs.Verifying.{name_of, fault_text, line_effect, verdict_status, verdict_line, answer_effect, verify_effect};
+ghost use Rattle.vk_app.specs.Effect.{verify_on};
+ghost use Rattle.vk_app.specs.Outside.{IsEnd, Acts};
+ghost use Rattle.vk_app.specs.Verifying.{name_of, fault_text, verdict_status, verdict_line, answer_said};
 ghost use Rattle.vk_app.specs.Words.{verify_seen};
 ghost use Rattle.vk_app.specs.Texts.{◌+++◌, line_feed};
 
-use crate::outcome::Outcome;
+use crate::said::Said;
 use crate::stop::Stop;
 use crate::words::VerifyNames;
 use std::alloc::Global;
@@ -93,34 +94,30 @@ fn verdict_line(
 }
 
 /// Of a verdict.
-fn judged(
-    alloc: Global,
-    names: &VerifyNames<'_>,
-    verdict: BoardVerdict,
-) -> Result<Outcome, NoMemory>
-    ensures { IfOk result (λ outcome. outcome ≡ line_effect (verdict_status verdict) (verdict_line (verify_seen names.now) verdict)) }
+fn judged(alloc: Global, names: &VerifyNames<'_>, verdict: BoardVerdict) -> Result<Said, NoMemory>
+    ensures { IfOk result (λ said. said ≡ record { status = verdict_status verdict; text = verdict_line (verify_seen names.now) verdict }) }
 {
     let line = verdict_line(alloc, names, verdict)?;
-    let outcome = Outcome::of_line(alloc, verdict_status(verdict), line.as_str())?;
-    Ok(outcome)
+    let said = Said::of_line(alloc, verdict_status(verdict), line.as_str())?;
+    Ok(said)
 }
 
 /// Of a file that isn't held.
-fn missing(alloc: Global, name: &str) -> Result<Outcome, NoMemory>
-    ensures { IfOk result (λ outcome. outcome ≡ line_effect 5 (codes "missing " +++ name.now +++ line_feed)) }
+fn missing(alloc: Global, name: &str) -> Result<Said, NoMemory>
+    ensures { IfOk result (λ said. said ≡ record { status = 5; text = codes "missing " +++ name.now +++ line_feed }) }
 {
     let line = format!(in alloc; "missing {name}\n")?;
-    let outcome = Outcome::of_line(alloc, 5, line.as_str())?;
-    Ok(outcome)
+    let said = Said::of_line(alloc, 5, line.as_str())?;
+    Ok(said)
 }
 
 /// Of a file that has too many bytes.
-fn too_long(alloc: Global, name: &str) -> Result<Outcome, NoMemory>
-    ensures { IfOk result (λ outcome. outcome ≡ line_effect 4 (codes "too long " +++ name.now +++ line_feed)) }
+fn too_long(alloc: Global, name: &str) -> Result<Said, NoMemory>
+    ensures { IfOk result (λ said. said ≡ record { status = 4; text = codes "too long " +++ name.now +++ line_feed }) }
 {
     let line = format!(in alloc; "too long {name}\n")?;
-    let outcome = Outcome::of_line(alloc, 4, line.as_str())?;
-    Ok(outcome)
+    let said = Said::of_line(alloc, 4, line.as_str())?;
+    Ok(said)
 }
 
 /// Of what the verifier answered.
@@ -128,23 +125,23 @@ fn verified(
     alloc: Global,
     names: &VerifyNames<'_>,
     answer: Result<BoardVerdict, VErr>,
-) -> Result<Outcome, Stop>
+) -> Result<Said, Stop>
     ensures told { (expected : Result BoardVerdict VErr) → Gives (λ verdict. verdict) answer expected
-        → IfOk result (λ outcome. outcome ≡ answer_effect (verify_seen names.now) expected) }
-    ensures inside { IsErrOf result Stop.Failed → IsErrOf answer VErr.Failed }
+        → IfOk result (λ said. said ≡ answer_said (verify_seen names.now) expected) }
+    ensures causes { (before after : ℕ) → Causes VErr.Failed answer before after → Causes Stop.Failed result before after }
 {
     match answer {
         Ok(verdict) => {
-            let outcome = judged(alloc, names, verdict)?;
-            Ok(outcome)
+            let said = judged(alloc, names, verdict)?;
+            Ok(said)
         }
         Err(VErr::Missing(part)) => {
-            let outcome = missing(alloc, name_of(names, part))?;
-            Ok(outcome)
+            let said = missing(alloc, name_of(names, part))?;
+            Ok(said)
         }
         Err(VErr::TooLong(part)) => {
-            let outcome = too_long(alloc, name_of(names, part))?;
-            Ok(outcome)
+            let said = too_long(alloc, name_of(names, part))?;
+            Ok(said)
         }
         Err(VErr::Failed) => Err(Stop::Failed),
         Err(VErr::NoMemory) => Err(Stop::NoMemory),
@@ -152,18 +149,13 @@ fn verified(
 }
 
 /// Judges the named files.
-pub fn verify<S: Shelf>(
-    alloc: Global,
-    shelf: &mut S,
-    names: &VerifyNames<'_>,
-) -> Result<Outcome, Stop>
-    ensures told { IfSome (S.held shelf.old) (λ files. IfOk result (λ outcome. outcome ≡ verify_effect files (verify_seen names.now))) }
-    ensures held { S.held shelf.new ≡ S.held shelf.old }
-    ensures later { S.Shelf.faults shelf.old ≤ S.Shelf.faults shelf.new }
-    ensures failed { IsErrOf result Stop.Failed → Rose (S.Shelf.faults shelf.old) (S.Shelf.faults shelf.new) }
+pub fn verify<S: Shelf>(alloc: Global, shelf: &mut S, names: &VerifyNames<'_>) -> Result<Said, Stop>
+    ensures acts { IfSome (verify_on (S.held shelf.old) (verify_seen names.now))
+        (λ effect. Acts result effect (S.held shelf.old) (S.held shelf.new)) }
+    ensures causes { Causes Stop.Failed result (S.Shelf.faults shelf.old) (S.Shelf.faults shelf.new) }
 {
     let attempt = &names.attempt;
     let answer = verdict(alloc, shelf, names.board, attempt.challenge, attempt.reply);
-    let outcome = verified(alloc, names, answer);
-    outcome
+    let said = verified(alloc, names, answer);
+    said
 }

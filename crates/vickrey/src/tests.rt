@@ -1,0 +1,92 @@
+use super::*;
+use std::env::FillError;
+use std::test::Fail;
+
+/// The words of a command line, behind a program's name.
+#[derive(Clone, Copy)]
+struct Words<'a> {
+    words: &'a [&'a str],
+}
+
+impl Env for Words<'_> {
+    fn arg(&self, i: usize, buf: &mut [u8]) -> Result<usize, FillError> {
+        let word = if i == 0 {
+            "vickrey"
+        } else {
+            self.words.get(i - 1).copied().ok_or(FillError::NotPresent)?
+        };
+        let room = buf.get_mut(..word.len()).ok_or(FillError::TooLong)?;
+        room.copy_from_slice(word.as_bytes());
+        Ok(word.len())
+    }
+
+    fn var(&self, _name: &str, _buf: &mut [u8]) -> Result<usize, FillError> {
+        Err(FillError::NotPresent)
+    }
+
+    fn var_at(&self, _i: usize, _buf: &mut [u8]) -> Result<usize, FillError> {
+        Err(FillError::NotPresent)
+    }
+}
+
+#[test]
+fn each_status_is_ended_with(rt: HostRuntime) -> Result<(), Fail> {
+    let auction = "000102030405060708090a0b0c0d0e0f";
+    let seed = "000102030405060708090a0b0c0d0e0f101112131415161718191a1b1c1d1e1f";
+    let missing = "/nowhere/at-all";
+    let table: [(&[&str], u8); 8] = [
+        (
+            &[
+                "seal",
+                auction,
+                "7",
+                "15",
+                "4",
+                "2",
+                seed,
+                "/dev/null",
+                "/dev/../dev/null",
+            ],
+            0,
+        ),
+        (&["extract", missing, missing, missing, missing, missing], 1),
+        (&[], 2),
+        (&["verify", "/etc/passwd", missing, missing], 5),
+        (&["verify", "/etc/passwd", "/etc/passwd", "/etc/passwd"], 4),
+        (&["verify", "/", missing, missing], 6),
+        (
+            &[
+                "seal",
+                auction,
+                "7",
+                "15",
+                "4",
+                "2",
+                seed,
+                "/dev/null",
+                "/dev/full",
+            ],
+            6,
+        ),
+        (
+            &[
+                "seal",
+                auction,
+                "7",
+                "16",
+                "4",
+                "2",
+                seed,
+                "/dev/null",
+                "/dev/full",
+            ],
+            8,
+        ),
+    ];
+    for (words, status) in table {
+        let env = (Words { words }, rt.alloc());
+        let code = program(&env, &rt);
+        assert_eq!(rt; code, ExitCode::from(status));
+    }
+    Ok(())
+}

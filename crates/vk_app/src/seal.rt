@@ -1,0 +1,144 @@
+//! `seal`: a bidder's secret and seal.
+
+ghost use Rattle.std.specs.Prelude.{◌≡◌, ◌∷◌, [], IfOk, codes, decimal, string_bytes};
+ghost use Rattle.vk_io.specs.Faults.{Causes};
+ghost use Rattle.vk_io.specs.Writing.{texts_of, whole_files};
+ghost use Rattle.vk_seal.specs.Texts.{secret_text as text_of_secret, seal_text as text_of_seal};
+ghost use Rattle.vk_app.specs.Outside.{Acts, said_of};
+ghost use Rattle.vk_app.specs.Sealing.{sealed_line, refused_said, seal_effect};
+ghost use Rattle.vk_app.specs.Words.{seal_seen, IsSealOrder};
+ghost use Rattle.vk_app.specs.Texts.{◌+++◌, line_feed};
+
+use crate::said::Said;
+use crate::stop::Stop;
+use crate::words::SealOrder;
+use std::alloc::Global;
+use vk_dice::ChaChaWords;
+use vk_io::{FileText, Shelf, write_files};
+use vk_residue::NoMemory;
+use vk_seal::{Seal, SealErr, Secret, make_seal, seal_text, secret_text};
+use vk_seq::Seq;
+
+/// A file that is to be written.
+fn file(alloc: Global, name: &str, text: Vec<u8>) -> Result<FileText, NoMemory>
+    ensures name { IfOk result (λ file. string_bytes file.name ≡ name.now) }
+    ensures text { IfOk result (λ file. file.text ≡ text.items) }
+{
+    let name = String::from_str(alloc, name)?;
+    let text = Seq::from_vec(text);
+    Ok(FileText { name, text })
+}
+
+/// The files of a secret and its seal.
+fn files_of(
+    alloc: Global,
+    order: &SealOrder<'_>,
+    secret: &Secret,
+    seal: &Seal,
+) -> Result<Seq<FileText>, NoMemory>
+    ensures { IfOk result (λ files. texts_of (whole_files files) ≡ (order.now.secret.now, text_of_secret secret.now) ∷ (order.now.seal.now, text_of_seal seal.now) ∷ []) }
+{
+    let mut files = Vec::new(alloc);
+    let text = secret_text(alloc, secret)?;
+    let first = file(alloc, order.secret, text)?;
+    files.push(first)?;
+    let text = seal_text(alloc, seal)?;
+    let second = file(alloc, order.seal, text)?;
+    files.push(second)?;
+    Ok(Seq::from_vec(files))
+}
+
+/// What a seal that was made says.
+fn sealed(alloc: Global, order: &SealOrder<'_>) -> Result<Said, NoMemory>
+    ensures { IfOk result (λ said. said ≡ record { status = 0; text = sealed_line order.now.seat order.now.lanes }) }
+{
+    let seat = order.seat;
+    let lanes = order.lanes;
+    let line = format!(in alloc; "sealed seat {seat} lanes {lanes}\n")?;
+    let said = Said::of_line(alloc, 0, line.as_str())?;
+    Ok(said)
+}
+
+/// Of a seed that gives no residue for the lane.
+fn dry_seed(alloc: Global, lane: u32) -> Result<Said, NoMemory>
+    ensures { IfOk result (λ said. said ≡ refused_said (codes "seal dry seed lane " +++ decimal lane +++ line_feed)) }
+{
+    let line = format!(in alloc; "seal dry seed lane {lane}\n")?;
+    let said = Said::of_line(alloc, 8, line.as_str())?;
+    Ok(said)
+}
+
+/// What is said, and the files that are to be written before.
+#[derive(Drop)]
+struct Sealing {
+    said: Said,
+    files: Seq<FileText>,
+}
+
+/// Of a seal that was made.
+fn made(
+    alloc: Global,
+    order: &SealOrder<'_>,
+    secret: &Secret,
+    seal: &Seal,
+) -> Result<Sealing, NoMemory>
+    ensures said { IfOk result (λ made. made.said ≡ record { status = 0; text = sealed_line order.now.seat order.now.lanes }) }
+    ensures files { IfOk result (λ made. texts_of (whole_files made.files) ≡ (order.now.secret.now, text_of_secret secret.now) ∷ (order.now.seal.now, text_of_seal seal.now) ∷ []) }
+{
+    let said = sealed(alloc, order)?;
+    let files = files_of(alloc, order, secret, seal)?;
+    Ok(Sealing { said, files })
+}
+
+/// What is said, with no files.
+fn unmade(alloc: Global, said: Said) -> Sealing
+    ensures said { result.said ≡ said }
+    ensures files { texts_of (whole_files result.files) ≡ [] }
+{
+    Sealing {
+        said,
+        files: Seq::new(alloc),
+    }
+}
+
+/// Makes the seal and its secret, from the seed's words in the stream of the seat.
+#[tactic(auto, unfolding(crate::specs::Sealing::seal_effect))]
+fn make(alloc: Global, order: &SealOrder<'_>) -> Result<Sealing, NoMemory>
+    requires { IsSealOrder (seal_seen order.now) }
+    ensures said { IfOk result (λ made. made.said ≡ said_of (seal_effect (seal_seen order.now))) }
+    ensures files { IfOk result (λ made. texts_of (whole_files made.files) ≡ (seal_effect (seal_seen order.now)).writes) }
+{
+    let stream = 65536 + u64::from(order.seat);
+    let mut words = ChaChaWords::of(&order.seed, &order.auction, stream);
+    match make_seal(
+        alloc,
+        order.bid,
+        order.seat,
+        &order.auction,
+        order.width,
+        order.lanes,
+        &mut words,
+    ) {
+        Ok((secret, seal)) => made(alloc, order, &secret, &seal),
+        Err(SealErr::BidTooLarge) => {
+            let said = Said::of_line(alloc, 8, "seal bid too large\n")?;
+            Ok(unmade(alloc, said))
+        }
+        Err(SealErr::DrySeed { lane }) => {
+            let said = dry_seed(alloc, lane)?;
+            Ok(unmade(alloc, said))
+        }
+        Err(SealErr::NoMemory) => Err(NoMemory),
+    }
+}
+
+/// Makes a seal and its secret, and writes both.
+pub fn seal<S: Shelf>(alloc: Global, shelf: &mut S, order: &SealOrder<'_>) -> Result<Said, Stop>
+    requires { IsSealOrder (seal_seen order.now) }
+    ensures acts { Acts result (seal_effect (seal_seen order.now)) (S.held shelf.old) (S.held shelf.new) }
+    ensures causes { Causes Stop.Failed result (S.Shelf.faults shelf.old) (S.Shelf.faults shelf.new) }
+{
+    let made = make(alloc, order)?;
+    write_files(alloc, shelf, &made.files)?;
+    Ok(made.said)
+}
