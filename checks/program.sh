@@ -1,0 +1,84 @@
+#!/usr/bin/env bash
+# checks/program.sh PROGRAM: the built program over real files, in an empty folder: each status that it can end with, what
+# it prints, and what it leaves. It is no part of the gate. The last line says how many cases passed and failed.
+set -u
+[ $# -eq 1 ] || { sed -n '2,3p' "$0"; exit 2; }
+program=$(realpath "$1")
+data=$(realpath "$(dirname "$0")/../crates/vickrey/data")
+folder=$(mktemp -d)
+trap 'rm -rf "$folder"' EXIT
+cd "$folder" || exit 1
+cp "$data"/* .
+passed=0
+failed=0
+id=000102030405060708090a0b0c0d0e0f
+seed=$(printf '%064d' 7)
+
+# case STATUS TEXT ERROR WORD..: the program with these words ends so, prints the text, and says the error
+case_of() {
+  local status=$1 text=$2 error=$3
+  shift 3
+  "$program" "$@" >out 2>err
+  local got=$?
+  if [ "$got" = "$status" ] && [ "$(cat out)" = "$text" ] && [ "$(cat err)" = "$error" ]; then
+    passed=$((passed + 1))
+  else
+    failed=$((failed + 1))
+    echo "FAILED: $* : status $got, not $status; printed '$(cat out)', said '$(cat err)'"
+  fi
+}
+
+# holds TEXT COMMAND..: a command prints the text
+holds() {
+  local text=$1
+  shift
+  if [ "$("$@" 2>&1)" = "$text" ]; then
+    passed=$((passed + 1))
+  else
+    failed=$((failed + 1))
+    echo "FAILED: $* : '$("$@" 2>&1)', not '$text'"
+  fi
+}
+
+usage='usage: vickrey seal|announce|submit|prove|answer|show|verify|extract|confront|report|sample|ceremony'
+umask 022
+
+case_of 0 accepted '' verify smallest-board challenge-0 smallest-reply
+sed 's/^price 0$/price 1/' smallest-board >dear
+case_of 1 'refused dear price' '' verify dear challenge-0 smallest-reply
+case_of 2 "$usage" '' verify
+case_of 2 "$usage" '' frobnicate
+case_of 2 "$usage" '' verify smallest-board challenge-0 "$(printf '\377')"
+head -n 14 smallest-board >cut
+case_of 4 'malformed cut line 15' '' verify cut challenge-0 smallest-reply
+truncate -s 1073741825 huge
+case_of 4 'too long huge' '' verify huge challenge-0 smallest-reply
+case_of 5 'missing nothing' '' verify smallest-board nothing smallest-reply
+case_of 5 'missing cut/below' '' verify smallest-board cut/below smallest-reply
+mkdir inner
+case_of 6 '' 'outside fault' verify inner challenge-0 smallest-reply
+case_of 0 'sealed seat 7 lanes 2' '' seal $id 7 15 4 2 "$seed" secret seal
+case_of 8 'seal bid too large' '' seal $id 7 16 4 2 "$seed" none none-either
+holds '' ls -A inner
+holds 'ls: cannot access '\''none'\'': No such file or directory' ls none
+holds '8 secret' wc -l secret
+holds '7 seal' wc -l seal
+holds '600' stat -c %a secret
+holds '600' stat -c %a seal
+cp secret first
+chmod 644 secret
+case_of 0 'sealed seat 7 lanes 2' '' seal $id 7 15 4 2 "$seed" secret seal
+holds '644' stat -c %a secret
+holds '' cmp secret first
+case_of 6 '' 'outside fault' seal $id 7 15 4 2 "$seed" inner seal-2
+holds '' ls -A inner
+case_of 6 '' 'outside fault' seal $id 7 15 4 2 "$seed" secret-3 /dev/full
+holds '' cmp secret-3 first
+
+# a full output: what was to be written is written, nothing is claimed to be printed
+"$program" seal $id 7 15 4 2 "$seed" secret-4 seal-4 >/dev/full 2>err
+if [ $? = 6 ] && [ "$(cat err)" = 'outside fault' ]; then passed=$((passed + 1)); else failed=$((failed + 1)); echo 'FAILED: a full output'; fi
+holds '' cmp secret-4 first
+
+echo "$passed passed, $failed failed"
+[ "$failed" = 0 ]
