@@ -4,7 +4,8 @@ ghost use Rattle.vk_io.specs.Faults.{Causes};
 ghost use Rattle.vk_io.specs.Reads.{OnlyReads};
 ghost use Rattle.vk_io.specs.Files.{bytes_of};
 
-use crate::errors::ShelfErr;
+use crate::errors::OutsideErr;
+use crate::pieces::put_behind;
 use crate::shelf::Shelf;
 use std::alloc::Global;
 use vk_seq::Seq;
@@ -30,11 +31,11 @@ pub fn read_whole<S: Shelf>(
     shelf: &mut S,
     name: &str,
     most: u64,
-) -> Result<Content, ShelfErr>
+) -> Result<Content, OutsideErr>
     ensures told { IfSome (S.held shelf.old)
         (λ files. IfOk result (λ content. content ≡ content_of files name.now most)) }
     ensures within { IfOk result (IsWithin most) }
-    ensures shelf { OnlyReads S.held S.Shelf.faults ShelfErr.Failed result shelf.old shelf.new }
+    ensures shelf { OnlyReads S.held S.Shelf.faults OutsideErr.Failed result shelf.old shelf.new }
 {
     let length = shelf.length(name)?;
     match length {
@@ -55,11 +56,11 @@ fn read_bytes<S: Shelf>(
     shelf: &mut S,
     name: &str,
     size: u64,
-) -> Result<Vec<u8>, ShelfErr>
+) -> Result<Vec<u8>, OutsideErr>
     ensures told { IfSome (S.held shelf.old)
         (λ files. IfOk result (λ bytes. bytes.items ≡ take size (bytes_of files name.now))) }
     ensures within { IfOk result (λ bytes. vec_len bytes ≤ size) }
-    ensures shelf { OnlyReads S.held S.Shelf.faults ShelfErr.Failed result shelf.old shelf.new }
+    ensures shelf { OnlyReads S.held S.Shelf.faults OutsideErr.Failed result shelf.old shelf.new }
 {
     let mut bytes = Vec::new(alloc);
     let mut piece = [0u8; PIECE];
@@ -70,7 +71,7 @@ fn read_bytes<S: Shelf>(
         if count == 0 {
             return Ok(bytes);
         }
-        bytes.extend_from_slice(&piece[..count])?;
+        put_behind(&mut bytes, &piece[..count])?;
         at += count as u64;
     }
     Ok(bytes)

@@ -1,12 +1,11 @@
 use crate::outcome::Fault;
-use std::alloc::{AllocError, AllocFailed};
 use thiserror::Error;
 use vk_residue::NoMemory;
 
-/// Why a call of a shelf was refused.
+/// Why something outside of the program did not do what it was called for.
 #[derive(Clone, Copy, Debug, PartialEq, Eq, Error)]
-pub enum ShelfErr {
-    /// The outside failed. The shelf's count of faults rose in this call.
+pub enum OutsideErr {
+    /// The outside failed. The count of faults of what was called rose in this call.
     #[error("outside fault")]
     Failed,
     /// Want of memory.
@@ -14,79 +13,24 @@ pub enum ShelfErr {
     NoMemory,
 }
 
-/// Why a call of a sink was refused.
-#[derive(Clone, Copy, Debug, PartialEq, Eq, Error)]
-pub enum SinkErr {
-    /// The outside failed. The sink's count of faults rose in this call.
-    #[error("outside fault")]
-    Failed,
-    /// Want of memory.
-    #[error("no memory")]
-    NoMemory,
-}
-
-impl From<AllocError> for ShelfErr {
+impl From<NoMemory> for OutsideErr {
     ghost use Rattle.std.specs.Prelude.{◌≡◌};
-    ghost use Rattle.vk_io.specs.declared.errors.ShelfErr.TheVariants.{NoMemory};
+    ghost use Rattle.vk_io.specs.declared.errors.OutsideErr.TheVariants.{NoMemory};
 
     ghost from_gives = { λ _ e. e ≡ NoMemory };
 
-    fn from(_refused: AllocError) -> ShelfErr {
-        ShelfErr::NoMemory
+    fn from(_refused: NoMemory) -> OutsideErr {
+        OutsideErr::NoMemory
     }
 }
 
-impl<T: Drop> From<AllocFailed<T>> for ShelfErr {
+impl From<Fault> for OutsideErr {
     ghost use Rattle.std.specs.Prelude.{◌≡◌};
-    ghost use Rattle.vk_io.specs.declared.errors.ShelfErr.TheVariants.{NoMemory};
-
-    ghost from_gives = { λ _ e. e ≡ NoMemory };
-
-    fn from(_refused: AllocFailed<T>) -> ShelfErr {
-        ShelfErr::NoMemory
-    }
-}
-
-impl From<AllocError> for SinkErr {
-    ghost use Rattle.std.specs.Prelude.{◌≡◌};
-    ghost use Rattle.vk_io.specs.declared.errors.SinkErr.TheVariants.{NoMemory};
-
-    ghost from_gives = { λ _ e. e ≡ NoMemory };
-
-    fn from(_refused: AllocError) -> SinkErr {
-        SinkErr::NoMemory
-    }
-}
-
-impl From<NoMemory> for ShelfErr {
-    ghost use Rattle.std.specs.Prelude.{◌≡◌};
-    ghost use Rattle.vk_io.specs.declared.errors.ShelfErr.TheVariants.{NoMemory};
-
-    ghost from_gives = { λ _ e. e ≡ NoMemory };
-
-    fn from(_refused: NoMemory) -> ShelfErr {
-        ShelfErr::NoMemory
-    }
-}
-
-impl From<Fault> for ShelfErr {
-    ghost use Rattle.std.specs.Prelude.{◌≡◌};
-    ghost use Rattle.vk_io.specs.declared.errors.ShelfErr.TheVariants.{Failed};
+    ghost use Rattle.vk_io.specs.declared.errors.OutsideErr.TheVariants.{Failed};
 
     ghost from_gives = { λ _ e. e ≡ Failed };
 
-    fn from(_counted: Fault) -> ShelfErr {
-        ShelfErr::Failed
-    }
-}
-
-impl From<Fault> for SinkErr {
-    ghost use Rattle.std.specs.Prelude.{◌≡◌};
-    ghost use Rattle.vk_io.specs.declared.errors.SinkErr.TheVariants.{Failed};
-
-    ghost from_gives = { λ _ e. e ≡ Failed };
-
-    fn from(_counted: Fault) -> SinkErr {
-        SinkErr::Failed
+    fn from(_counted: Fault) -> OutsideErr {
+        OutsideErr::Failed
     }
 }

@@ -1,7 +1,7 @@
 ghost use Rattle.std.specs.Prelude.{◌≡◌, ◌≢◌, ◌<◌, ◌≤◌, length, Err, IfSome, IfOk};
 ghost use Rattle.vk_io.specs.Faults.{Causes};
 
-use crate::errors::ShelfErr;
+use crate::errors::OutsideErr;
 use crate::outcome::counted;
 use crate::pieces::{read_fully, write_fully};
 use crate::shelf::Shelf;
@@ -11,6 +11,7 @@ use std::io::{ErrorKind, Read, Seek, SeekFrom};
 use std::os::unix::fs::OpenOptionsExt;
 use std::rt::Files;
 use std::{fs, io};
+use vk_residue::NoMemory;
 
 /// Who may read and write a file that is made anew: its owner alone, since a bidder's secret may be
 /// in it. No umask widens this. A file that is there keeps what it has.
@@ -33,7 +34,7 @@ struct OpenFile<F> {
 pub struct FileShelf<'a, R: Files> {
     rt: &'a R,
     alloc: Global,
-    open: Vec<OpenFile<R::File>>,
+    kept: Vec<OpenFile<R::File>>,
     faults: u64,
 }
 
@@ -45,7 +46,7 @@ impl<'a, R: Files> FileShelf<'a, R> {
         FileShelf {
             rt,
             alloc,
-            open: Vec::new(alloc),
+            kept: Vec::new(alloc),
             faults: 0,
         }
     }
@@ -54,9 +55,9 @@ impl<'a, R: Files> FileShelf<'a, R> {
 impl<R: Files> FileShelf<'_, R> {
     /// The place of the file that is open under that name.
     fn place_of(&self, name: &str) -> Option<usize>
-        ensures { IfSome result (λ place. place < length self.now.open.items) }
+        ensures { IfSome result (λ place. place < length self.now.kept.items) }
     {
-        for (place, kept) in self.open.iter().enumerate() {
+        for (place, kept) in self.kept.iter().enumerate() {
             if name == kept.name.as_str() {
                 return Some(place);
             }
@@ -69,29 +70,28 @@ impl<R: Files> FileShelf<'_, R> {
         ensures { self.new.faults ≡ self.old.faults }
     {
         if let Some(place) = self.place_of(name) {
-            self.open.swap_remove(place);
+            self.kept.swap_remove(place);
         }
     }
 
     /// Keeps a file open under its name, and answers its place. Of too many the first is closed.
-    fn keep(&mut self, name: &str, file: R::File) -> Result<usize, ShelfErr>
-        ensures place { IfOk result (λ place. place < length self.new.open.items) }
+    fn keep(&mut self, name: &str, file: R::File) -> Result<usize, NoMemory>
+        ensures place { IfOk result (λ place. place < length self.new.kept.items) }
         ensures kept { self.new.faults ≡ self.old.faults }
-        ensures inside { result ≢ Err ShelfErr.Failed }
     {
         let name = String::from_str(self.alloc, name)?;
-        if MOST_OPEN <= self.open.len() {
-            self.open.swap_remove(0);
+        if MOST_OPEN <= self.kept.len() {
+            self.kept.swap_remove(0);
         }
-        self.open.push(OpenFile { name, file })?;
-        Ok(self.open.len() - 1)
+        self.kept.push(OpenFile { name, file })?;
+        Ok(self.kept.len() - 1)
     }
 
     /// The place of the file under that name, which is opened where it isn't open. None where
     /// nothing is there.
-    fn opened(&mut self, name: &str) -> Result<Option<usize>, ShelfErr>
-        ensures place { IfOk result (λ found. IfSome found (λ place. place < length self.new.open.items)) }
-        ensures causes { Causes ShelfErr.Failed result self.old.faults self.new.faults }
+    fn opened(&mut self, name: &str) -> Result<Option<usize>, OutsideErr>
+        ensures place { IfOk result (λ found. IfSome found (λ place. place < length self.new.kept.items)) }
+        ensures causes { Causes OutsideErr.Failed result self.old.faults self.new.faults }
     {
         if let Some(place) = self.place_of(name) {
             return Ok(Some(place));
@@ -113,30 +113,30 @@ impl<R: Files> Shelf for FileShelf<'_, R> {
 
     ghost faults = { λ s. s.faults };
 
-    fn length(&mut self, name: &str) -> Result<Option<u64>, ShelfErr> {
+    fn length(&mut self, name: &str) -> Result<Option<u64>, OutsideErr> {
         self.close(name);
         let length = counted(length_of(self.rt, name), &mut self.faults)?;
         Ok(length)
     }
 
-    fn read_at(&mut self, name: &str, at: u64, into: &mut [u8]) -> Result<usize, ShelfErr> {
+    fn read_at(&mut self, name: &str, at: u64, into: &mut [u8]) -> Result<usize, OutsideErr> {
         match self.opened(name)? {
             None => Ok(0),
             Some(place) => {
-                let outcome = read_from(&mut self.open[place].file, at, into);
+                let outcome = read_from(&mut self.kept[place].file, at, into);
                 let count = counted(outcome, &mut self.faults)?;
                 Ok(count)
             }
         }
     }
 
-    fn create(&mut self, name: &str) -> Result<(), ShelfErr> {
+    fn create(&mut self, name: &str) -> Result<(), OutsideErr> {
         self.close(name);
         counted(empty(self.rt, name), &mut self.faults)?;
         Ok(())
     }
 
-    fn append(&mut self, name: &str, piece: &[u8]) -> Result<(), ShelfErr> {
+    fn append(&mut self, name: &str, piece: &[u8]) -> Result<(), OutsideErr> {
         self.close(name);
         counted(add(self.rt, name, piece), &mut self.faults)?;
         Ok(())

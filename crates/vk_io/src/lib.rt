@@ -19,7 +19,7 @@ mod writing;
 
 pub use calls::CallCount;
 pub use content::{Content, read_whole};
-pub use errors::{ShelfErr, SinkErr};
+pub use errors::OutsideErr;
 pub use file_shelf::FileShelf;
 pub use mem_shelf::MemShelf;
 pub use mem_sink::MemSink;

@@ -2,10 +2,10 @@ ghost use Rattle.std.specs.Prelude.{◌≡◌, ℕ, ◌+◌, ◌≤◌, ◌++◌
 ghost use Rattle.std.specs.FinMap as map;
 ghost use Rattle.vk_io.specs.Faults.{Causes, fails_next, after_call};
 ghost use Rattle.vk_io.specs.Files.{bytes_of, part_of, Told, Creates, Appends};
-ghost use Rattle.vk_io.specs.declared.errors.ShelfErr.TheVariants.{Failed};
+ghost use Rattle.vk_io.specs.declared.errors.OutsideErr.TheVariants.{Failed};
 
 use crate::calls::CallCount;
-use crate::errors::ShelfErr;
+use crate::errors::OutsideErr;
 use crate::named::{NamedFile, append_to, bytes_at, length_in, read_in, write_over};
 use crate::shelf::Shelf;
 use std::alloc::Global;
@@ -83,20 +83,20 @@ impl Shelf for MemShelf {
 
     ghost faults = { λ s. s.calls.faults };
 
-    fn length(&mut self, name: &str) -> Result<Option<u64>, ShelfErr>
+    fn length(&mut self, name: &str) -> Result<Option<u64>, OutsideErr>
         ensures exact { result ≡ (if fails_next self.old.calls then Err Failed
             else Ok (option_map length (map.get self.old.files name.now))) }
         ensures files { self.new.files ≡ self.old.files }
         ensures counted { self.new.calls ≡ after_call self.old.calls }
-        ensures causes { Causes ShelfErr.Failed result self.old.calls.faults self.new.calls.faults }
+        ensures causes { Causes OutsideErr.Failed result self.old.calls.faults self.new.calls.faults }
     {
         if self.calls.count() {
-            return Err(ShelfErr::Failed);
+            return Err(OutsideErr::Failed);
         }
         Ok(length_in(&self.files, name))
     }
 
-    fn read_at(&mut self, name: &str, at: u64, into: &mut [u8]) -> Result<usize, ShelfErr>
+    fn read_at(&mut self, name: &str, at: u64, into: &mut [u8]) -> Result<usize, OutsideErr>
         ensures exact { result ≡ (if fails_next self.old.calls then Err Failed
             else Ok (length (part_of (bytes_of self.old.files name.now) at (length into.old)))) }
         ensures read { IfOk result (λ n. into.new
@@ -104,38 +104,38 @@ impl Shelf for MemShelf {
         ensures unread { OnErr result (into.new ≡ into.old) }
         ensures files { self.new.files ≡ self.old.files }
         ensures counted { self.new.calls ≡ after_call self.old.calls }
-        ensures causes { Causes ShelfErr.Failed result self.old.calls.faults self.new.calls.faults }
+        ensures causes { Causes OutsideErr.Failed result self.old.calls.faults self.new.calls.faults }
     {
         if self.calls.count() {
-            return Err(ShelfErr::Failed);
+            return Err(OutsideErr::Failed);
         }
         Ok(read_in(&self.files, name, at, into))
     }
 
-    fn create(&mut self, name: &str) -> Result<(), ShelfErr>
-        ensures fails { IsErrOf result ShelfErr.Failed ↔ IsTrue (fails_next self.old.calls) }
+    fn create(&mut self, name: &str) -> Result<(), OutsideErr>
+        ensures fails { IsErrOf result OutsideErr.Failed ↔ IsTrue (fails_next self.old.calls) }
         ensures created { OnOk result (self.new.files ≡ map.insert self.old.files name.now []) }
         ensures refused { OnErr result (self.new.files ≡ self.old.files) }
         ensures counted { self.new.calls ≡ after_call self.old.calls }
-        ensures causes { Causes ShelfErr.Failed result self.old.calls.faults self.new.calls.faults }
+        ensures causes { Causes OutsideErr.Failed result self.old.calls.faults self.new.calls.faults }
     {
         if self.calls.count() {
-            return Err(ShelfErr::Failed);
+            return Err(OutsideErr::Failed);
         }
         write_over(self.alloc, &mut self.files, name, Vec::new(self.alloc))?;
         Ok(())
     }
 
-    fn append(&mut self, name: &str, piece: &[u8]) -> Result<(), ShelfErr>
-        ensures fails { IsErrOf result ShelfErr.Failed ↔ IsTrue (fails_next self.old.calls) }
+    fn append(&mut self, name: &str, piece: &[u8]) -> Result<(), OutsideErr>
+        ensures fails { IsErrOf result OutsideErr.Failed ↔ IsTrue (fails_next self.old.calls) }
         ensures appended { OnOk result
             (self.new.files ≡ map.insert self.old.files name.now (bytes_of self.old.files name.now ++ piece.now)) }
         ensures refused { OnErr result (self.new.files ≡ self.old.files) }
         ensures counted { self.new.calls ≡ after_call self.old.calls }
-        ensures causes { Causes ShelfErr.Failed result self.old.calls.faults self.new.calls.faults }
+        ensures causes { Causes OutsideErr.Failed result self.old.calls.faults self.new.calls.faults }
     {
         if self.calls.count() {
-            return Err(ShelfErr::Failed);
+            return Err(OutsideErr::Failed);
         }
         append_to(self.alloc, &mut self.files, name, piece)?;
         Ok(())

@@ -3,7 +3,8 @@ ghost use Rattle.vk_io.specs.Faults.{Causes, fails_next, after_call};
 ghost use Rattle.vk_io.specs.Files.{Told, Takes};
 
 use crate::calls::CallCount;
-use crate::errors::SinkErr;
+use crate::errors::OutsideErr;
+use crate::pieces::put_behind;
 use crate::sink::Sink;
 use std::alloc::Global;
 use std::marker::Model;
@@ -62,17 +63,17 @@ impl Sink for MemSink {
 
     ghost faults = { λ s. s.calls.faults };
 
-    fn put(&mut self, piece: &[u8]) -> Result<(), SinkErr>
-        ensures fails { IsErrOf result SinkErr.Failed ↔ IsTrue (fails_next self.old.calls) }
+    fn put(&mut self, piece: &[u8]) -> Result<(), OutsideErr>
+        ensures fails { IsErrOf result OutsideErr.Failed ↔ IsTrue (fails_next self.old.calls) }
         ensures put { OnOk result (self.new.taken ≡ self.old.taken ++ piece.now) }
         ensures refused { OnErr result (self.new.taken ≡ self.old.taken) }
         ensures counted { self.new.calls ≡ after_call self.old.calls }
-        ensures causes { Causes SinkErr.Failed result self.old.calls.faults self.new.calls.faults }
+        ensures causes { Causes OutsideErr.Failed result self.old.calls.faults self.new.calls.faults }
     {
         if self.calls.count() {
-            return Err(SinkErr::Failed);
+            return Err(OutsideErr::Failed);
         }
-        self.taken.extend_from_slice(piece)?;
+        put_behind(&mut self.taken, piece)?;
         Ok(())
     }
 }

@@ -1,6 +1,6 @@
 ghost use Rattle.std.specs.Prelude.{◌≡◌};
 
-use crate::errors::SinkErr;
+use crate::errors::OutsideErr;
 use crate::outcome::counted;
 use crate::pieces::write_fully;
 use crate::sink::Sink;
@@ -30,7 +30,7 @@ impl<P: Print> Sink for OutSink<'_, P> {
 
     ghost faults = { λ s. s.faults };
 
-    fn put(&mut self, piece: &[u8]) -> Result<(), SinkErr> {
+    fn put(&mut self, piece: &[u8]) -> Result<(), OutsideErr> {
         let outcome = write_fully(&mut io::writer(self.to), piece);
         counted(outcome, &mut self.faults)?;
         Ok(())

@@ -3,7 +3,7 @@ ghost use Rattle.std.specs.FinMap as map;
 ghost use Rattle.vk_io.specs.Faults.{Causes, fails_next, one_more};
 ghost use Rattle.vk_io.specs.Files.{bytes_of, part_of, Creates, Appends};
 
-use crate::errors::ShelfErr;
+use crate::errors::OutsideErr;
 use crate::mem_shelf::MemShelf;
 use crate::shelf::Shelf;
 use std::marker::Model;
@@ -49,22 +49,22 @@ impl PieceShelf {
     }
 
     /// Counts a fault.
-    fn fault(&mut self) -> ShelfErr
+    fn fault(&mut self) -> OutsideErr
         ensures counted { self.new ≡ record self.old { faults = one_more self.old.faults } }
-        ensures fault { result ≡ ShelfErr.Failed }
+        ensures fault { result ≡ OutsideErr.Failed }
     {
         self.faults = self.faults.saturating_add(1);
-        ShelfErr::Failed
+        OutsideErr::Failed
     }
 
     /// The answer of the shelf under it. A fault is counted here too.
-    fn passed<T>(&mut self, answer: Result<T, ShelfErr>) -> Result<T, ShelfErr>
+    fn passed<T>(&mut self, answer: Result<T, OutsideErr>) -> Result<T, OutsideErr>
         ensures same { result ≡ answer }
         ensures inner { self.new.inner ≡ self.old.inner }
-        ensures causes { Causes ShelfErr.Failed result self.old.faults self.new.faults }
+        ensures causes { Causes OutsideErr.Failed result self.old.faults self.new.faults }
     {
         match answer {
-            Err(ShelfErr::Failed) => Err(self.fault()),
+            Err(OutsideErr::Failed) => Err(self.fault()),
             other => other,
         }
     }
@@ -77,25 +77,25 @@ impl Shelf for PieceShelf {
 
     ghost faults = { λ s. s.faults };
 
-    fn length(&mut self, name: &str) -> Result<Option<u64>, ShelfErr>
+    fn length(&mut self, name: &str) -> Result<Option<u64>, OutsideErr>
         ensures answer { IfOk result (λ n. n ≡ option_map length (map.get self.old.inner.files name.now)) }
-        ensures fails { IsErrOf result ShelfErr.Failed ↔ IsTrue (fails_next self.old.inner.calls) }
+        ensures fails { IsErrOf result OutsideErr.Failed ↔ IsTrue (fails_next self.old.inner.calls) }
         ensures files { self.new.inner.files ≡ self.old.inner.files }
-        ensures causes { Causes ShelfErr.Failed result self.old.faults self.new.faults }
+        ensures causes { Causes OutsideErr.Failed result self.old.faults self.new.faults }
     {
         let answer = self.inner.length(name);
         self.passed(answer)
     }
 
-    fn read_at(&mut self, name: &str, at: u64, into: &mut [u8]) -> Result<usize, ShelfErr>
+    fn read_at(&mut self, name: &str, at: u64, into: &mut [u8]) -> Result<usize, OutsideErr>
         ensures bound { IfOk result (λ n. n ≤ length into.old) }
         ensures count { IfOk result (λ n. n ≡ length (part_of (bytes_of self.old.inner.files name.now) at (length into.old))) }
         ensures bytes { IfOk result (λ n. into.new
             ≡ part_of (bytes_of self.old.inner.files name.now) at (length into.old) ++ drop n into.old) }
-        ensures fails { IsErrOf result ShelfErr.Failed
+        ensures fails { IsErrOf result OutsideErr.Failed
             ↔ IsTrue (nat_lt 4096 (length into.old) || fails_next self.old.inner.calls) }
         ensures files { self.new.inner.files ≡ self.old.inner.files }
-        ensures causes { Causes ShelfErr.Failed result self.old.faults self.new.faults }
+        ensures causes { Causes OutsideErr.Failed result self.old.faults self.new.faults }
     {
         if MOST_READ < into.len() {
             return Err(self.fault());
@@ -104,20 +104,20 @@ impl Shelf for PieceShelf {
         self.passed(answer)
     }
 
-    fn create(&mut self, name: &str) -> Result<(), ShelfErr>
+    fn create(&mut self, name: &str) -> Result<(), OutsideErr>
         ensures created { Creates name.now result self.old.inner.files self.new.inner.files }
-        ensures fails { IsErrOf result ShelfErr.Failed ↔ IsTrue (fails_next self.old.inner.calls) }
-        ensures causes { Causes ShelfErr.Failed result self.old.faults self.new.faults }
+        ensures fails { IsErrOf result OutsideErr.Failed ↔ IsTrue (fails_next self.old.inner.calls) }
+        ensures causes { Causes OutsideErr.Failed result self.old.faults self.new.faults }
     {
         let answer = self.inner.create(name);
         self.passed(answer)
     }
 
-    fn append(&mut self, name: &str, piece: &[u8]) -> Result<(), ShelfErr>
+    fn append(&mut self, name: &str, piece: &[u8]) -> Result<(), OutsideErr>
         ensures appended { Appends name.now piece.now result self.old.inner.files self.new.inner.files }
-        ensures fails { IsErrOf result ShelfErr.Failed
+        ensures fails { IsErrOf result OutsideErr.Failed
             ↔ IsTrue (nat_lt 2097152 (length piece.now) || fails_next self.old.inner.calls) }
-        ensures causes { Causes ShelfErr.Failed result self.old.faults self.new.faults }
+        ensures causes { Causes OutsideErr.Failed result self.old.faults self.new.faults }
     {
         if MOST_APPENDED < piece.len() {
             return Err(self.fault());

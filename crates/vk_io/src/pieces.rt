@@ -1,10 +1,21 @@
-//! Whole pieces from a reader and to a writer. A call that a signal interrupts is made again.
+//! Whole pieces from a reader and to a writer, where a call that a signal interrupts is made again; and behind
+//! bytes in memory.
 
-ghost use Rattle.std.specs.Prelude.{◌<◌, ◌≤◌, length, take, IfOk, OnOk};
+ghost use Rattle.std.specs.Prelude.{◌≡◌, ◌<◌, ◌≤◌, ◌++◌, length, take, IfOk, OnOk, OnErr};
 ghost use Rattle.std.specs.Io.KnownBytes.{Consumes, IsAtEnd, Appends, ReadConsumes, WriteAppends};
 
 use std::io;
 use std::io::{ErrorKind, Read, Write};
+use vk_residue::NoMemory;
+
+/// Puts the piece behind the bytes. Errs for want of memory alone, and then these are as before.
+pub fn put_behind(bytes: &mut Vec<u8>, piece: &[u8]) -> Result<(), NoMemory>
+    ensures put { OnOk result (bytes.new.items ≡ bytes.old.items ++ piece.now) }
+    ensures as_before { OnErr result (bytes.new.items ≡ bytes.old.items) }
+{
+    bytes.extend_from_slice(piece)?;
+    Ok(())
+}
 
 /// One read, made again where a signal interrupts it.
 fn read_some<R: Read>(reader: &mut R, into: &mut [u8]) -> io::Result<usize>

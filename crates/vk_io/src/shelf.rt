@@ -4,7 +4,7 @@ ghost use Rattle.vk_io.specs.Faults.{Causes};
 ghost use Rattle.vk_io.specs.Reads.{OnlyReads};
 ghost use Rattle.vk_io.specs.Files.{Files, bytes_of, part_of, Told, Creates, Appends};
 
-use crate::errors::ShelfErr;
+use crate::errors::OutsideErr;
 
 /// Files under names. A shelf that tells its content has `held`; of one that doesn't only counts and
 /// bounds are known. No call changes whether it tells.
@@ -16,14 +16,14 @@ pub trait Shelf {
     ghost faults: { Self → ℕ };
 
     /// The number of bytes of the named file. None where the name isn't held.
-    fn length(&mut self, name: &str) -> Result<Option<u64>, ShelfErr>
+    fn length(&mut self, name: &str) -> Result<Option<u64>, OutsideErr>
         ensures answer { IfSome (held self.old)
             (λ files. IfOk result (λ n. n ≡ option_map length (map.get files name.now))) }
-        ensures shelf { OnlyReads held faults ShelfErr.Failed result self.old self.new };
+        ensures shelf { OnlyReads held faults OutsideErr.Failed result self.old self.new };
 
     /// Puts the bytes of the named file from byte `at` on into the front of `into`, as many as are
     /// left or fit, and answers their number. The rest of `into` stays. 0 where the name isn't held.
-    fn read_at(&mut self, name: &str, at: u64, into: &mut [u8]) -> Result<usize, ShelfErr>
+    fn read_at(&mut self, name: &str, at: u64, into: &mut [u8]) -> Result<usize, OutsideErr>
         ensures bound { IfOk result (λ n. n ≤ length into.old) }
         ensures count { IfSome (held self.old)
             (λ files. IfOk result (λ n.
@@ -31,17 +31,17 @@ pub trait Shelf {
         ensures bytes { IfSome (held self.old)
             (λ files. IfOk result (λ n.
             into.new ≡ part_of (bytes_of files name.now) at (length into.old) ++ drop n into.old)) }
-        ensures shelf { OnlyReads held faults ShelfErr.Failed result self.old self.new };
+        ensures shelf { OnlyReads held faults OutsideErr.Failed result self.old self.new };
 
     /// Makes the name hold no bytes, whether or not it was held. Refused, the file is as before or
     /// holds nothing.
-    fn create(&mut self, name: &str) -> Result<(), ShelfErr>
+    fn create(&mut self, name: &str) -> Result<(), OutsideErr>
         ensures created { Told (Creates name.now result) (held self.old) (held self.new) }
-        ensures causes { Causes ShelfErr.Failed result (faults self.old) (faults self.new) };
+        ensures causes { Causes OutsideErr.Failed result (faults self.old) (faults self.new) };
 
     /// Adds the piece at the end of the named file, which counts as empty where it isn't held.
     /// Refused, the file has grown by a prefix of the piece, or is as before.
-    fn append(&mut self, name: &str, piece: &[u8]) -> Result<(), ShelfErr>
+    fn append(&mut self, name: &str, piece: &[u8]) -> Result<(), OutsideErr>
         ensures appended { Told (Appends name.now piece.now result) (held self.old) (held self.new) }
-        ensures causes { Causes ShelfErr.Failed result (faults self.old) (faults self.new) };
+        ensures causes { Causes OutsideErr.Failed result (faults self.old) (faults self.new) };
 }

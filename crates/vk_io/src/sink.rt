@@ -2,7 +2,7 @@ ghost use Rattle.std.specs.Prelude.{◌≡◌, ℕ, ◌≤◌, List, Option, IsE
 ghost use Rattle.vk_io.specs.Faults.{Causes};
 ghost use Rattle.vk_io.specs.Files.{Told, Takes};
 
-use crate::errors::SinkErr;
+use crate::errors::OutsideErr;
 
 /// What is printed goes here. A sink that tells its content has `taken`. No call changes whether it
 /// tells.
@@ -14,7 +14,7 @@ pub trait Sink {
     ghost faults: { Self → ℕ };
 
     /// Takes the piece. Refused, a prefix of it was taken.
-    fn put(&mut self, piece: &[u8]) -> Result<(), SinkErr>
+    fn put(&mut self, piece: &[u8]) -> Result<(), OutsideErr>
         ensures put { Told (Takes piece.now result) (taken self.old) (taken self.new) }
-        ensures causes { Causes SinkErr.Failed result (faults self.old) (faults self.new) };
+        ensures causes { Causes OutsideErr.Failed result (faults self.old) (faults self.new) };
 }

@@ -34,15 +34,15 @@ fn the_named_calls_fail_and_change_nothing(rt: HostRuntime) -> Result<(), Fail> 
         shelf.fail_at(call)?;
     }
     let mut into = [7u8; 2];
-    assert_eq!(rt; shelf.length("a"), Err(ShelfErr::Failed));
-    assert_eq!(rt; shelf.read_at("a", 0, &mut into), Err(ShelfErr::Failed));
-    assert_eq!(rt; shelf.create("a"), Err(ShelfErr::Failed));
-    assert_eq!(rt; shelf.append("a", b"d"), Err(ShelfErr::Failed));
+    assert_eq!(rt; shelf.length("a"), Err(OutsideErr::Failed));
+    assert_eq!(rt; shelf.read_at("a", 0, &mut into), Err(OutsideErr::Failed));
+    assert_eq!(rt; shelf.create("a"), Err(OutsideErr::Failed));
+    assert_eq!(rt; shelf.append("a", b"d"), Err(OutsideErr::Failed));
     assert_eq!(rt; shelf.length("a"), Ok(Some(3)));
     let mut sink = MemSink::new(rt.alloc());
     sink.fail_at(2)?;
     sink.put(b"ab")?;
-    assert_eq!(rt; sink.put(b"cd"), Err(SinkErr::Failed));
+    assert_eq!(rt; sink.put(b"cd"), Err(OutsideErr::Failed));
     sink.put(b"e")?;
     assert_eq!(rt; sink.bytes(), b"abe".as_slice());
     Ok(())
@@ -86,7 +86,7 @@ fn files_are_written_up_to_the_call_that_fails(rt: HostRuntime) -> Result<(), Fa
     let files = vk_seq::Seq::from_vec(files);
     assert_eq!(rt;
         write_files(rt.alloc(), &mut shelf, &files),
-        Err(ShelfErr::Failed)
+        Err(OutsideErr::Failed)
     );
     assert_eq!(rt; shelf.file("a"), Some(b"first".as_slice()));
     assert_eq!(rt; shelf.file("b"), Some(b"".as_slice()));
@@ -139,7 +139,7 @@ fn a_file_is_written_piece_by_piece(rt: HostRuntime) -> Result<(), Fail> {
     shelf.fail_at(3)?;
     assert_eq!(rt;
         write_files(rt.alloc(), &mut shelf, &poem),
-        Err(ShelfErr::Failed)
+        Err(OutsideErr::Failed)
     );
     assert_eq!(rt; shelf.file("poem").ok_or("no file")?, b"one ".as_slice());
     assert_eq!(rt; write_files(rt.alloc(), &mut shelf, &poem), Ok(()));
@@ -165,13 +165,13 @@ fn more_than_a_piece_at_once_is_a_fault(rt: HostRuntime) -> Result<(), Fail> {
     let mut more = zeros(rt.alloc(), 4097)?;
     let mut most = zeros(rt.alloc(), 4096)?;
     assert_eq!(rt; shelf.read_at("a", 1, &mut most)?, 2);
-    assert_eq!(rt; shelf.read_at("a", 1, &mut more), Err(ShelfErr::Failed));
+    assert_eq!(rt; shelf.read_at("a", 1, &mut more), Err(OutsideErr::Failed));
     let more = zeros(rt.alloc(), 2097153)?;
-    assert_eq!(rt; shelf.append("b", &more), Err(ShelfErr::Failed));
+    assert_eq!(rt; shelf.append("b", &more), Err(OutsideErr::Failed));
     let most = zeros(rt.alloc(), 2097152)?;
     shelf.append("b", &most)?;
     assert_eq!(rt; shelf.length("b")?, Some(2097152));
-    assert_eq!(rt; shelf.create("a"), Err(ShelfErr::Failed));
+    assert_eq!(rt; shelf.create("a"), Err(OutsideErr::Failed));
     assert_eq!(rt;
         shelf.inner().file("a").ok_or("no file")?,
         b"abc".as_slice()
@@ -265,22 +265,22 @@ fn what_is_no_file_is_a_fault_and_what_is_not_there_is_none(rt: HostRuntime) -> 
     let mut into = [0u8; 4];
     let inner = folder.at(&rt, "folder")?;
     fs::create_dir(&rt, inner.as_str())?;
-    assert_eq!(rt; shelf.length(inner.as_str()), Err(ShelfErr::Failed));
+    assert_eq!(rt; shelf.length(inner.as_str()), Err(OutsideErr::Failed));
     assert_eq!(rt;
         shelf.read_at(inner.as_str(), 0, &mut into),
-        Err(ShelfErr::Failed)
+        Err(OutsideErr::Failed)
     );
-    assert_eq!(rt; shelf.create(inner.as_str()), Err(ShelfErr::Failed));
-    assert_eq!(rt; shelf.append(inner.as_str(), b"a"), Err(ShelfErr::Failed));
+    assert_eq!(rt; shelf.create(inner.as_str()), Err(OutsideErr::Failed));
+    assert_eq!(rt; shelf.append(inner.as_str(), b"a"), Err(OutsideErr::Failed));
     let file = folder.at(&rt, "file")?;
     shelf.create(file.as_str())?;
     let below = folder.at(&rt, "file/below")?;
     assert_eq!(rt; shelf.length(below.as_str())?, None);
     assert_eq!(rt; shelf.read_at(below.as_str(), 0, &mut into)?, 0);
-    assert_eq!(rt; shelf.append("/dev/full", b"a"), Err(ShelfErr::Failed));
+    assert_eq!(rt; shelf.append("/dev/full", b"a"), Err(OutsideErr::Failed));
     assert_eq!(rt;
         shelf.read_at("/proc/self/mem", 0, &mut into),
-        Err(ShelfErr::Failed)
+        Err(OutsideErr::Failed)
     );
     folder.remove(&rt)?;
     Ok(())

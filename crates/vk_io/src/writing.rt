@@ -3,7 +3,7 @@ ghost use Rattle.vk_io.specs.Faults.{Causes};
 ghost use Rattle.vk_io.specs.Files.{Told};
 ghost use Rattle.vk_io.specs.Writing.{WrittenFile, Writes, WritesAll, no_file, text_of, texts_of};
 
-use crate::errors::ShelfErr;
+use crate::errors::OutsideErr;
 use crate::shelf::Shelf;
 use std::alloc::Global;
 use vk_residue::NoMemory;
@@ -72,9 +72,9 @@ pub fn write_files<S: Shelf, F: WrittenFiles>(
     alloc: Global,
     shelf: &mut S,
     files: &F,
-) -> Result<(), ShelfErr>
+) -> Result<(), OutsideErr>
     ensures written { Told (WritesAll (texts_of (F.files files.now)) result) (S.held shelf.old) (S.held shelf.new) }
-    ensures causes { Causes ShelfErr.Failed result (S.Shelf.faults shelf.old) (S.Shelf.faults shelf.new) }
+    ensures causes { Causes OutsideErr.Failed result (S.Shelf.faults shelf.old) (S.Shelf.faults shelf.new) }
 {
     for file in 0..files.count() {
         write_file(alloc, shelf, files, file)?;
@@ -88,11 +88,11 @@ fn write_file<S: Shelf, F: WrittenFiles>(
     shelf: &mut S,
     files: &F,
     file: usize,
-) -> Result<(), ShelfErr>
+) -> Result<(), OutsideErr>
     requires { file < length (F.files files.now) }
     ensures written { Told (Writes (slice_index_or (F.files files.now) file no_file).name (text_of (slice_index_or (F.files files.now) file no_file)) result)
         (S.held shelf.old) (S.held shelf.new) }
-    ensures causes { Causes ShelfErr.Failed result (S.Shelf.faults shelf.old) (S.Shelf.faults shelf.new) }
+    ensures causes { Causes OutsideErr.Failed result (S.Shelf.faults shelf.old) (S.Shelf.faults shelf.new) }
 {
     shelf.create(files.name(file))?;
     for index in 0..files.pieces(file) {

@@ -6,7 +6,7 @@ ghost use Rattle.vk_keeper.specs.Auctions.{IsAuction};
 ghost use Rattle.vk_keeper.specs.Ledgers.{Ledger, Keeps};
 
 use crate::auction::Auction;
-use crate::errors::KeeperErr;
+use vk_io::OutsideErr;
 
 /// Auctions under their ids. A keeper that tells its content has a `ledger`; of one that doesn't only
 /// which auctions it answers and its count are known. No call changes whether it tells.
@@ -18,17 +18,17 @@ pub trait Keeper {
     ghost faults: { Self → ℕ };
 
     /// The auction of that id. None where none is kept under it.
-    fn get(&mut self, id: &[u8; 16]) -> Result<Option<Auction>, KeeperErr>
+    fn get(&mut self, id: &[u8; 16]) -> Result<Option<Auction>, OutsideErr>
         ensures answer { IfSome (ledger self.old) (λ kept. IfOk result (λ found. found ≡ map.get kept id.now)) }
         ensures id { IfOk result (λ found. IfSome found (λ auction. auction.id ≡ id.now)) }
         ensures right { IfOk result (λ found. IfSome found IsAuction) }
         ensures kept { ledger self.new ≡ ledger self.old }
-        ensures causes { Causes KeeperErr.Failed result (faults self.old) (faults self.new) };
+        ensures causes { Causes OutsideErr.Failed result (faults self.old) (faults self.new) };
 
     /// Keeps the auction under its id, in place of the one that was kept there. Refused, the ledger is
     /// as before.
-    fn put(&mut self, auction: Auction) -> Result<(), KeeperErr>
+    fn put(&mut self, auction: Auction) -> Result<(), OutsideErr>
         requires { IsAuction auction }
         ensures put { Told (Keeps auction result) (ledger self.old) (ledger self.new) }
-        ensures causes { Causes KeeperErr.Failed result (faults self.old) (faults self.new) };
+        ensures causes { Causes OutsideErr.Failed result (faults self.old) (faults self.new) };
 }

@@ -4,13 +4,11 @@
 
 mod auction;
 mod copying;
-mod errors;
 mod keeper;
 mod kept;
 mod mem_keeper;
 
 pub use auction::{Auction, Phase, SealRow};
-pub use errors::KeeperErr;
 pub use keeper::Keeper;
 pub use mem_keeper::MemKeeper;
 

@@ -4,12 +4,11 @@ ghost use Rattle.vk_io.specs.Faults.{Causes, fails_next, after_call};
 ghost use Rattle.vk_keeper.specs.Auctions.{IsAuction};
 
 use crate::auction::Auction;
-use crate::errors::KeeperErr;
 use crate::keeper::Keeper;
 use crate::kept::{copy_of, keep};
 use std::alloc::Global;
 use std::marker::Model;
-use vk_io::CallCount;
+use vk_io::{CallCount, OutsideErr};
 use vk_residue::NoMemory;
 
 /// A keeper in memory, which tells its ledger. The calls of the trait are counted from 1 over its
@@ -60,14 +59,14 @@ impl MemKeeper {
     }
 
     /// Counts one call of the trait. Errs where it is one that is to fail, and changes no auction.
-    fn begin(&mut self) -> Result<(), KeeperErr>
+    fn begin(&mut self) -> Result<(), OutsideErr>
         ensures fails { IsErr result ↔ IsTrue (fails_next self.old.calls) }
-        ensures outside { IfErr result (λ refusal. refusal ≡ KeeperErr.Failed) }
+        ensures outside { IfErr result (λ refusal. refusal ≡ OutsideErr.Failed) }
         ensures counted { self.new ≡ record self.old { calls = after_call self.old.calls } }
-        ensures causes { Causes KeeperErr.Failed result self.old.calls.faults self.new.calls.faults }
+        ensures causes { Causes OutsideErr.Failed result self.old.calls.faults self.new.calls.faults }
     {
         if self.calls.count() {
-            return Err(KeeperErr::Failed);
+            return Err(OutsideErr::Failed);
         }
         Ok(())
     }
@@ -80,27 +79,27 @@ impl Keeper for MemKeeper {
 
     ghost faults = { λ k. k.calls.faults };
 
-    fn get(&mut self, id: &[u8; 16]) -> Result<Option<Auction>, KeeperErr>
-        ensures fails { IsErrOf result KeeperErr.Failed ↔ IsTrue (fails_next self.old.calls) }
+    fn get(&mut self, id: &[u8; 16]) -> Result<Option<Auction>, OutsideErr>
+        ensures fails { IsErrOf result OutsideErr.Failed ↔ IsTrue (fails_next self.old.calls) }
         ensures answer { IfOk result (λ found. found ≡ map.get self.old.ledger id.now) }
         ensures id { IfOk result (λ found. IfSome found (λ auction. auction.id ≡ id.now)) }
         ensures right { IfOk result (λ found. IfSome found IsAuction) }
         ensures kept { self.new.ledger ≡ self.old.ledger }
         ensures counted { self.new.calls ≡ after_call self.old.calls }
-        ensures causes { Causes KeeperErr.Failed result self.old.calls.faults self.new.calls.faults }
+        ensures causes { Causes OutsideErr.Failed result self.old.calls.faults self.new.calls.faults }
     {
         self.begin()?;
         let found = copy_of(self.alloc, &self.auctions, id)?;
         Ok(found)
     }
 
-    fn put(&mut self, auction: Auction) -> Result<(), KeeperErr>
+    fn put(&mut self, auction: Auction) -> Result<(), OutsideErr>
         requires { IsAuction auction }
-        ensures fails { IsErrOf result KeeperErr.Failed ↔ IsTrue (fails_next self.old.calls) }
+        ensures fails { IsErrOf result OutsideErr.Failed ↔ IsTrue (fails_next self.old.calls) }
         ensures put { OnOk result (self.new.ledger ≡ map.insert self.old.ledger auction.id auction) }
         ensures refused { OnErr result (self.new.ledger ≡ self.old.ledger) }
         ensures counted { self.new.calls ≡ after_call self.old.calls }
-        ensures causes { Causes KeeperErr.Failed result self.old.calls.faults self.new.calls.faults }
+        ensures causes { Causes OutsideErr.Failed result self.old.calls.faults self.new.calls.faults }
     {
         self.begin()?;
         keep(&mut self.auctions, auction)?;

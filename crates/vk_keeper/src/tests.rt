@@ -7,6 +7,7 @@ use std::alloc::Global;
 use std::process::Abort;
 use std::test::Fail;
 use vk_dice::ChaChaWords;
+use vk_io::OutsideErr;
 use vk_reply::Challenge;
 use vk_seal::make_seal;
 use vk_seq::Seq;
@@ -39,7 +40,7 @@ fn opened(alloc: Global, id: &[u8; 16], width: u32) -> Auction
 }
 
 /// The width of the auction that a keeper has under that id.
-fn width_of<K: Keeper>(keeper: &mut K, id: &[u8; 16]) -> Result<Option<u32>, KeeperErr> {
+fn width_of<K: Keeper>(keeper: &mut K, id: &[u8; 16]) -> Result<Option<u32>, OutsideErr> {
     let found = keeper.get(id)?;
     Ok(found.map(|auction| auction.width))
 }
@@ -64,9 +65,9 @@ fn the_named_calls_fail_and_change_nothing(rt: HostRuntime) -> Result<(), Fail> 
     keeper.fail_at(3)?;
     keeper.put(opened(rt.alloc(), &ONE, 4))?;
     let refused = keeper.put(opened(rt.alloc(), &ONE, 5));
-    assert_eq!(rt; refused, Err(KeeperErr::Failed));
+    assert_eq!(rt; refused, Err(OutsideErr::Failed));
     let unanswered = width_of(&mut keeper, &ONE);
-    assert_eq!(rt; unanswered, Err(KeeperErr::Failed));
+    assert_eq!(rt; unanswered, Err(OutsideErr::Failed));
     assert_eq!(rt; width_of(&mut keeper, &ONE)?, Some(4));
     Ok(())
 }
