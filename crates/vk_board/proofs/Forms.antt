@@ -1,11 +1,11 @@
 -- The head, the seals and a lane of a board are read from their texts alone.
-use Rattle.std.proofs.Common.{◌≡◌, ℕ, ◌-◌, ◌^◌, ◌<◌, ◌≤◌, nat_le, true, List, [], ◌∷◌, ◌++◌, length, codes, decimal, flat_map, Result, Ok, refl, ap, ◌∙◌, arith, append-nil}
+use Rattle.std.proofs.Common.{◌≡◌, ℕ, ◌-◌, ◌^◌, ◌<◌, ◌≤◌, nat_le, true, List, [], ◌∷◌, ◌++◌, length, codes, decimal, flat_map, Result, Ok, refl, ap, arith}
 use Rattle.hex.specs.Hex.{IsBytes}
 use Rattle.vk_lines.specs.Lines.{Rest, ◌>>=◌, line_by}
 use Rattle.vk_lines.specs.Forms.{line, spaced, IsLine, IsPart, EachAfter, many_at}
 use Rattle.vk_lines.specs.Tokens.{hex_text, id_line, number_line}
-use Rattle.vk_lines.proofs.Words.{fixed_line, number_line_is, id_line_is}
-use Rattle.vk_lines.proofs.Parts.{line_part, many_part, part_then, part_done, part_same, each_from_all, all_from_each}
+use Rattle.vk_lines.proofs.Words.{fixed_line, number_line_is, id_line_is, from_test, to_test, InRange, below_from, below_to}
+use Rattle.vk_lines.proofs.Parts.{line_part, many_part, part_then, part_last, part_same, each_from_all, all_from_each}
 use Rattle.vk_residue.specs.Residue.{modulus}
 use Rattle.vk_wire.specs.declared.wire.WireCom.{WireCom}
 use Rattle.vk_wire.specs.Values.{IsCom}
@@ -16,23 +16,12 @@ use Rattle.vk_board.specs.Values.{IsHead, IsSealAfter, AreSeals, IsLaneLines}
 use Rattle.vk_board.specs.Texts.{com_text, posted_text, head_text, seal_lines_text, lane_text}
 use Rattle.vk_board.specs.Reading.{com_line, posted_line, seats_of, head_at, seal_at, seals_at, lane_at}
 use Rattle.vk_board.proofs.Seats.{new_from_test, new_to_test}
-use Rattle.vk_board.proofs.Lines.{com_line_is, posted_line_is, seat_line_is, from_test, to_test, to_residues, from_residues}
-
--- the last part of a value, which is made of it
-pub part_last : {X Z : Type 0} {IsX : X → Type 0} {text_x : X → List ℕ} {read_x : Rest → Result (X × Rest) ℕ} → (show : Z → X) (make : X → Z) → ((x : X) → show (make x) ≡ x) → IsPart IsX text_x read_x
-    → IsPart (λ z. IsX (show z) × (z ≡ make (show z))) (λ z. text_x (show z)) (λ rest. read_x rest >>= λ p. Ok (make p.0, p.1))
-part_last {text_x = text_x} show make back part =
-    part_same (part_then {IsZ = λ x z. z ≡ make x} {text_z = λ x z. []} {read_z = λ x rest. Ok (make x, rest)} show part (λ x _. part_done (make x)) (λ x z same. ap show same ∙ back x))
-    (λ z is. is) (λ z is. is) (λ z. append-nil (text_x (show z)))
+use Rattle.vk_board.proofs.Lines.{com_line_is, posted_line_is, seat_line_is, to_residues, from_residues}
 
 -- ---- the head
 
 abbrev pub head_with : List ℕ → ℕ → ℕ → ℕ → ℕ → ℕ → Head
 head_with auction width lanes seals winner price = record { auction = auction; width = width; lanes = lanes; seals = seals; winner = winner; price = price }
-
--- a number in its range, as it is read
-abbrev InRange : ℕ → ℕ → ℕ → Type 0
-InRange least most number = (number ≤ most) × (nat_le least number ≡ true)
 
 -- what is read from the price, the winner, the seals, the lanes, the width and the id on
 abbrev PriceOf : List ℕ → ℕ → ℕ → ℕ → ℕ → Head → Type 0
@@ -119,22 +108,13 @@ id_part =
     part_then {IsZ = λ auction head. WidthOf auction head} {text_z = λ auction head. width_text head} (λ head. head.auction)
     (line_part (id_line_is (codes "auction") refl (omega arith))) (λ auction _. width_part auction) (λ auction head is. ap (λ h. h.auction) is.1.1.1.1.1)
 
-head_part : IsPart (λ head. Unit {0} × IdOf head) (λ head. line (codes "vickrey-board 1") ++ id_text head) head_at
-unfolding head_at
-head_part =
-    part_then {X = Unit {0}} {IsZ = λ _ head. IdOf head} {text_z = λ _ head. id_text head} (λ head. tt)
-    (line_part (fixed_line (codes "vickrey-board 1") refl (omega arith))) (λ heading _. id_part) (λ heading head is. refl)
-
-below_from : {n : ℕ} → n ≤ 2 ^ 64 - 1 → n < 2 ^ 64
-below_from most = omega arith
-
-below_to : {n : ℕ} → n < 2 ^ 64 → n ≤ 2 ^ 64 - 1
-below_to below = omega arith
-
 pub head_is_part : IsPart IsHead head_text head_at
 unfolding head_text head_at
 head_is_part =
-    part_same head_part
+    part_same (
+    part_then {X = Unit {0}} {IsZ = λ _ head. IdOf head} {text_z = λ _ head. id_text head} (λ head. tt)
+    (line_part (fixed_line (codes "vickrey-board 1") refl (omega arith))) (λ heading _. id_part) (λ heading head is. refl)
+    )
     (λ head is. record {
       id = is.1.0;
       some_width = from_test 1 head.width is.1.1.0.1;
@@ -145,7 +125,7 @@ head_is_part =
       few_seals = is.1.1.1.1.0.0;
       some_winner = from_test 1 head.winner is.1.1.1.1.1.0.1;
       last_winner = is.1.1.1.1.1.0.0;
-      price = below_from is.1.1.1.1.1.1.0.0;
+      price = below_from (2 ^ 64) head.price (omega arith) is.1.1.1.1.1.1.0.0;
     })
     (λ head is. (
       tt,
@@ -159,7 +139,7 @@ head_is_part =
               (is.few_seals, to_test 1 head.seals is.some_seal),
               (
                 (is.last_winner, to_test 1 head.winner is.some_winner),
-                ((below_to is.price, to_test 0 head.price (omega arith)), refl),
+                ((below_to (2 ^ 64) head.price is.price, to_test 0 head.price (omega arith)), refl),
               ),
             ),
           ),

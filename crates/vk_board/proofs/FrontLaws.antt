@@ -12,7 +12,7 @@ use Rattle.vk_board.specs.Texts.{head_text, seal_lines_text}
 use Rattle.vk_board.specs.Tables.{board_table}
 use Rattle.vk_board.specs.Reading.{head_at, seals_at}
 use Rattle.vk_board.specs.Published.{price_stands, position_of}
-use Rattle.vk_board.specs.Gives.{◌>>=◌}
+use Rattle.vk_lines.specs.Gives.{◌>>=◌}
 use Rattle.vk_board.specs.Fronts.{PriceStands, FrontFault, Malformed, Price, Winner, front_placed, front_of, front_at, FrontsAreRead, Begins, PriceFails, WinnerFails, LineFails, FrontsAreRefused}
 use Rattle.vk_board.proofs.Forms.{head_is_part, seals_are_part}
 use Rattle.vk_board.proofs.Faults.{head_follows, seals_follow}

@@ -7,7 +7,7 @@ use Rattle.vk_board.specs.declared.front.Front.{Front}
 use Rattle.vk_board.specs.Values.{IsHead, AreSeals}
 use Rattle.vk_board.specs.Reading.{head_at, seals_at}
 use Rattle.vk_board.specs.Published.{price_stands, position_of}
-use Rattle.vk_board.specs.Gives.{◌>>=◌}
+use Rattle.vk_lines.specs.Gives.{◌>>=◌}
 use Rattle.vk_board.specs.Fronts.{IsFront, FrontFault, Price, in_front, front_with, front_placed, front_of, front_at}
 use Rattle.vk_board.proofs.Prices.{price_shown, price_found}
 use Rattle.vk_board.proofs.Winners.{winner_shown, winner_found}

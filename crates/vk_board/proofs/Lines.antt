@@ -1,7 +1,6 @@
 -- The lines of a board are read from their texts alone.
 use Rattle.std.proofs.Common.{◌≡◌, ℕ, ◌-◌, ◌≤◌, nat_le, true, List, [], ◌∷◌, length, codes, decimal, refl, arith}
 use Rattle.std.specs.List.{AllByRecursion}
-use Rattle.std.proofs.lemmas.Bool.{le-leb, leb-true}
 use Rattle.vk_lines.specs.Forms.{IsLine, is_word, spaced}
 use Rattle.vk_lines.proofs.Words.{decimal_token, hex_token, meeting_token, one_line, two_line}
 use Rattle.vk_residue.specs.Residue.{modulus, IsResidue}
@@ -19,13 +18,6 @@ posted_line_is = one_line (codes "d") refl (decimal_token (modulus - 1) (omega a
 
 pub seat_line_is : (seats : List ℕ) → IsLine (λ seat. ((seat ≤ 65535) × (nat_le 1 seat ≡ true)) × (is_new_seat seats seat ≡ true)) (λ seat. spaced (codes "seal" ∷ decimal seat ∷ [])) (seat_line seats)
 seat_line_is seats = one_line (codes "seal") refl (meeting_token (is_new_seat seats) (meeting_token (nat_le 1) (decimal_token 65535 (omega arith)))) (omega arith)
-
--- least numbers as tests and as facts
-pub from_test : (least n : ℕ) → nat_le least n ≡ true → least ≤ n
-from_test least n test = leb-true least n test
-
-pub to_test : (least n : ℕ) → least ≤ n → nat_le least n ≡ true
-to_test least n fact = le-leb least n fact
 
 -- numbers that are at most the greatest residue are residues
 pub to_residues : (numbers : List ℕ) → AllByRecursion (λ number. number ≤ modulus - 1) numbers → AllByRecursion IsResidue numbers

@@ -13,7 +13,7 @@ use Rattle.vk_board.specs.Texts.{head_text, seal_lines_text}
 use Rattle.vk_board.specs.Reading.{head_at, seals_at, seats_of}
 use Rattle.vk_board.specs.Tables.{board_table}
 use Rattle.vk_board.specs.Published.{price_stands, position_of}
-use Rattle.vk_board.specs.Gives.{◌>>=◌}
+use Rattle.vk_lines.specs.Gives.{◌>>=◌}
 
 -- the price is below 2^width, and 0 where there is one seal
 pub record PriceStands (head : Head) : Type 0 where

@@ -3,6 +3,5 @@ pub mod Texts
 pub mod Reading
 pub mod Tables
 pub mod Published
-pub mod Gives
 pub mod Fronts
 pub mod Causes

@@ -1,7 +1,7 @@
 -- The text of a board, part by part and line by line.
 use Rattle.std.specs.Prelude.{ℕ, List, [], ◌∷◌, ◌++◌, codes, decimal}
 use Rattle.std.specs.List.{flat_map}
-use Rattle.vk_lines.specs.Forms.{line, spaced, numbered_text}
+use Rattle.vk_lines.specs.Forms.{digests_text, line, spaced, numbered_text}
 use Rattle.vk_lines.specs.Tokens.{hex_text}
 use Rattle.vk_wire.specs.declared.wire.WireCom.{WireCom}
 use Rattle.vk_board.specs.declared.board.Head.{Head}
@@ -11,7 +11,7 @@ use Rattle.vk_board.specs.Values.{Board}
 
 -- the word, the digests of the first and the second commitment
 abbrev pub com_text : List ℕ → WireCom → List ℕ
-com_text word digests = spaced (word ∷ hex_text digests.first ∷ hex_text digests.second ∷ [])
+com_text word digests = digests_text word digests.first digests.second
 
 -- `d`, the number of a row
 abbrev pub posted_text : ℕ → List ℕ

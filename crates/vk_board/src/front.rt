@@ -4,7 +4,7 @@ ghost use Rattle.vk_io.specs.Reads.{OnlyReads};
 ghost use Rattle.vk_lines.specs.Lines.{KeepsFile, rest_of};
 ghost use Rattle.vk_board.specs.Values.{IsHead, AreSeals};
 ghost use Rattle.vk_board.specs.Reading.{seats_of};
-ghost use Rattle.vk_board.specs.Gives.{Gives};
+ghost use Rattle.vk_lines.specs.Gives.{Gives};
 ghost use Rattle.vk_board.specs.Fronts.{IsFront, fault_of, front_of, front_at};
 
 use crate::board::{Head, SealLines};

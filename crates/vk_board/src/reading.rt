@@ -5,7 +5,7 @@ ghost use Rattle.vk_commit.specs.Values.{AreBytes};
 ghost use Rattle.vk_wire.specs.Values.{IsCom};
 ghost use Rattle.vk_residue.specs.Residue.{IsResidue};
 ghost use Rattle.vk_lines.specs.Forms.{many_at};
-ghost use Rattle.vk_lines.specs.Lines.{KeepsFile, Reads, line_by, rest_of};
+ghost use Rattle.vk_lines.specs.Lines.{KeepsFile, ReadsPart, line_by};
 ghost use Rattle.vk_lines.specs.declared.errors.ReadErr.TheVariants.{Failed};
 ghost use Rattle.vk_board.specs.Values.{IsHead, IsSealAfter, AreSeals, IsLaneLines};
 ghost use Rattle.vk_board.specs.Reading.{com_line, posted_line, seats_of, is_new_seat, seat_line, head_at, seal_at, seals_at, lane_at};
@@ -25,8 +25,7 @@ use vk_wire::WireCom;
 /// that isn't what its place demands.
 #[tactic(auto, unfolding(crate::specs::Reading::head_at))]
 pub fn read_head<S: Shelf>(shelf: &mut S, lines: &mut Lines) -> Result<Head, ReadErr>
-    ensures told { IfSome (S.held shelf.old) (λ files.
-        Reads (λ x. x) result (rest_of lines.new files) (head_at (rest_of lines.old files))) }
+    ensures told { ReadsPart head_at (S.held shelf.old) lines.old lines.new result }
     ensures right { IfOk result IsHead }
     ensures file { KeepsFile lines.old lines.new }
     ensures shelf { OnlyReads S.held S.Shelf.faults ReadErr.Failed result shelf.old shelf.new }
@@ -76,8 +75,7 @@ pub fn read_seals<S: Shelf>(
     lines: &mut Lines,
     head: &Head,
 ) -> Result<Seq<SealLines>, ReadErr>
-    ensures told { IfSome (S.held shelf.old) (λ files.
-        Reads (λ x. x) result (rest_of lines.new files) (seals_at head.now (rest_of lines.old files))) }
+    ensures told { ReadsPart (seals_at head.now) (S.held shelf.old) lines.old lines.new result }
     ensures right { IfOk result (AreSeals head.now) }
     ensures file { KeepsFile lines.old lines.new }
     ensures shelf { OnlyReads S.held S.Shelf.faults ReadErr.Failed result shelf.old shelf.new }
@@ -99,8 +97,7 @@ fn read_seal<S: Shelf>(
     lanes: u32,
     before: &Seq<SealLines>,
 ) -> Result<SealLines, ReadErr>
-    ensures told { IfSome (S.held shelf.old) (λ files.
-        Reads (λ x. x) result (rest_of lines.new files) (seal_at lanes before.now (rest_of lines.old files))) }
+    ensures told { ReadsPart (seal_at lanes before.now) (S.held shelf.old) lines.old lines.new result }
     ensures right { IfOk result (IsSealAfter lanes before.now) }
     ensures file { KeepsFile lines.old lines.new }
     ensures shelf { OnlyReads S.held S.Shelf.faults ReadErr.Failed result shelf.old shelf.new }
@@ -129,8 +126,7 @@ fn read_seat<S: Shelf>(
     lines: &mut Lines,
     before: &Seq<SealLines>,
 ) -> Result<u16, ReadErr>
-    ensures told { IfSome (S.held shelf.old) (λ files.
-        Reads (λ x. x) result (rest_of lines.new files) (line_by (seat_line (seats_of before.now)) (rest_of lines.old files))) }
+    ensures told { ReadsPart (line_by (seat_line (seats_of before.now))) (S.held shelf.old) lines.old lines.new result }
     ensures some { IfOk result (λ seat. 1 ≤ seat) }
     ensures new { IfOk result (λ seat. is_new_seat (seats_of before.now) seat ≡ true) }
     ensures file { KeepsFile lines.old lines.new }
@@ -184,8 +180,7 @@ pub fn read_lane<S: Shelf>(
     wires: u32,
     rows: u32,
 ) -> Result<LaneLines, ReadErr>
-    ensures told { IfSome (S.held shelf.old) (λ files.
-        Reads (λ x. x) result (rest_of lines.new files) (lane_at lane wires rows (rest_of lines.old files))) }
+    ensures told { ReadsPart (lane_at lane wires rows) (S.held shelf.old) lines.old lines.new result }
     ensures right { IfOk result (IsLaneLines wires rows) }
     ensures file { KeepsFile lines.old lines.new }
     ensures shelf { OnlyReads S.held S.Shelf.faults ReadErr.Failed result shelf.old shelf.new }
@@ -216,8 +211,7 @@ fn read_coms<S: Shelf>(
     word: &[u8],
     count: u32,
 ) -> Result<Seq<WireCom>, ReadErr>
-    ensures told { IfSome (S.held shelf.old) (λ files.
-        Reads (λ x. x) result (rest_of lines.new files) (many_at count (λ _. line_by (com_line word.now)) (rest_of lines.old files))) }
+    ensures told { ReadsPart (many_at count (λ _. line_by (com_line word.now))) (S.held shelf.old) lines.old lines.new result }
     ensures number { IfOk result (λ coms. length coms ≡ count) }
     ensures digests { IfOk result (All IsCom) }
     ensures file { KeepsFile lines.old lines.new }
@@ -268,8 +262,7 @@ fn read_posted<S: Shelf>(
     lines: &mut Lines,
     count: u32,
 ) -> Result<Seq<Residue>, ReadErr>
-    ensures told { IfSome (S.held shelf.old) (λ files.
-        Reads (λ x. x) result (rest_of lines.new files) (many_at count (λ _. line_by posted_line) (rest_of lines.old files))) }
+    ensures told { ReadsPart (many_at count (λ _. line_by posted_line)) (S.held shelf.old) lines.old lines.new result }
     ensures number { IfOk result (λ posted. length posted ≡ count) }
     ensures right { IfOk result (All IsResidue) }
     ensures file { KeepsFile lines.old lines.new }
@@ -297,17 +290,8 @@ impl LineKind for PostedLine {
     ghost is_item = { λ _ _ number. IsResidue number };
 
     fn read(&self, _number: u32, text: &[u8]) -> Option<Residue> {
-        let number = posted_of(text);
-        number
+        let field = one_field(behind_word(text, b"d")?)?;
+        let number = read_residue(field)?;
+        Some(number)
     }
-}
-
-/// The number of a row's line.
-fn posted_of(text: &[u8]) -> Option<Residue>
-    ensures value { result ≡ posted_line text.now }
-    ensures right { IfSome result IsResidue }
-{
-    let field = one_field(behind_word(text, b"d")?)?;
-    let number = read_residue(field)?;
-    Some(number)
 }

@@ -14,22 +14,12 @@ use Rattle.vk_lines.specs.Lines.{Rest, ◌>>=◌, feed_at, step_of, step_by, tex
 use Rattle.vk_lines.specs.Forms.{Table, Follows, Ends, fault_after, fault_at, fault_from, fault_line, many_onto, whole, IsWhole, FaultsAllButTexts, Answers}
 use Rattle.vk_lines.specs.Tokens.{word_of}
 use Rattle.vk_lines.proofs.Parts.{bind_ok, ok_same}
+use Rattle.vk_lines.proofs.Words.{split_some}
 
 -- ---- the pieces between line feeds
 
 abbrev pieces : List ℕ → List (List ℕ)
 pieces left = slice_split (λ byte. byte == 10) left
-
--- there is always one
-pieces_some : (left : List ℕ) → (first : List ℕ) × (rest : List (List ℕ)) × (pieces left ≡ first ∷ rest)
-pieces_some [] = ([], [], refl)
-pieces_some (b ∷ left) =
-    elim (cases_Bool (b == 10)) [
-      | inl feed ↦ ([], pieces left, rw feed refl)
-      | inr other ↦
-          let rest = pieces_some left in
-          (b ∷ rest.0, rest.1, rw (other, rest.2) refl)
-    ]
 
 -- the first line and what is left after it
 pieces_feed : (left : List ℕ) → feed_at left < length left → pieces left ≡ take (feed_at left) left ∷ pieces (drop (feed_at left + 1) left)
@@ -77,7 +67,7 @@ text_fault table place rest text =
     let near = text_tells (feed_at rest.left) (length rest.left) text in
     let line : List ℕ = take (feed_at rest.left) rest.left in
     let left : List ℕ = drop (feed_at rest.left + 1) rest.left in
-    let some = pieces_some left in
+    let some = split_some 10 left in
     let short : length line ≡ feed_at rest.left = length-take-le (feed_at rest.left) rest.left (omega arith) in
     let small : nat_lt (length line) 256 ≡ true = small_is (length line) (omega arith) in
     ap (fault_from table place rest.taken) (pieces_feed rest.left near.1 ∙ ap (λ ps. line ∷ ps) some.2)
@@ -96,7 +86,7 @@ other_fault table place rest other open_ =
       | inl within ↦
           let far = not_text_tells (feed_at rest.left) (length rest.left) other within in
           let line : List ℕ = take (feed_at rest.left) rest.left in
-          let some = pieces_some (drop (feed_at rest.left + 1) rest.left) in
+          let some = split_some 10 (drop (feed_at rest.left + 1) rest.left) in
           let same : length line ≡ feed_at rest.left = length-take-le (feed_at rest.left) rest.left (omega arith) in
           ap (fault_from table place rest.taken) (pieces_feed rest.left within ∙ ap (λ ps. line ∷ ps) some.2)
           ∙ from_long table place rest.taken line some.0 some.1 (long_is (length line) (omega arith))
@@ -177,31 +167,37 @@ line_follows table place parse after next inside = record {
       ];
 }
 
+-- where two readings gave a value, the first led to where the second began
+ok_then : {Place X Z : Type 0} (table : Table Place) (place : Place) {read_x : Rest → Result (X × Rest) ℕ} (read_z : X → Rest → Result (Z × Rest) ℕ) {between : X → Place}
+    → Follows table place read_x between → (rest : Rest) (z : Z) (more : Rest) → (read_x rest >>= λ p. read_z p.0 p.1) ≡ Ok (z, more)
+    → (x : X) × (middle : Rest) × (read_z x middle ≡ Ok (z, more)) × (fault_at table place rest ≡ fault_at table (between x) middle)
+ok_then table place {read_x} read_z first rest z more some =
+    let step = bind_ok (read_x rest) (λ p. read_z p.0 p.1) (z, more) some in
+    (step.0.0, step.0.1, step.2, first.ok rest step.0.0 step.0.1 step.1)
+
+-- the first of them stopped at the fault, or the second did
+err_then : {Place X Z : Type 0} (table : Table Place) (place : Place) {read_x : Rest → Result (X × Rest) ℕ} (read_z : X → Rest → Result (Z × Rest) ℕ) {between : X → Place}
+    → Follows table place read_x between → ((x : X) (rest : Rest) (number : ℕ) → read_z x rest ≡ Err number → fault_at table (between x) rest ≡ Some number)
+    → (rest : Rest) (number : ℕ) → (read_x rest >>= λ p. read_z p.0 p.1) ≡ Err number → fault_at table place rest ≡ Some number
+err_then table place {read_x} read_z first next rest number none =
+    elim (bind_err (read_x rest) (λ p. read_z p.0 p.1) number none) [
+      | inl stop ↦ first.err rest number stop
+      | inr step ↦ first.ok rest step.0.0 step.0.1 step.1 ∙ next step.0.0 step.0.1 number step.2
+    ]
+
 -- one reading after another
 pub follows_then : {Place X Z : Type 0} (table : Table Place) (place : Place) {read_x : Rest → Result (X × Rest) ℕ} {read_z : X → Rest → Result (Z × Rest) ℕ} {between : X → Place} {after : Z → Place}
     → Follows table place read_x between → ((x : X) → Follows table (between x) (read_z x) after) → Follows table place (λ rest. read_x rest >>= λ p. read_z p.0 p.1) after
-follows_then table place {read_x} {read_z} first next = record {
-  ok = λ rest z more some.
-      let step = bind_ok (read_x rest) (λ p. read_z p.0 p.1) (z, more) some in
-      first.ok rest step.0.0 step.0.1 step.1 ∙ (next step.0.0).ok step.0.1 z more step.2;
-  err = λ rest number none.
-      elim (bind_err (read_x rest) (λ p. read_z p.0 p.1) number none) [
-        | inl stop ↦ first.err rest number stop
-        | inr step ↦ first.ok rest step.0.0 step.0.1 step.1 ∙ (next step.0.0).err step.0.1 number step.2
-      ];
+follows_then table place {read_z = read_z} first next = record {
+  ok = λ rest z more some. let step = ok_then table place read_z first rest z more some in step.3 ∙ (next step.0).ok step.1 z more step.2;
+  err = err_then table place read_z first (λ x. (next x).err);
 }
 
 pub ends_then : {Place X Z : Type 0} (table : Table Place) (place : Place) {read_x : Rest → Result (X × Rest) ℕ} {read_z : X → Rest → Result (Z × Rest) ℕ} {between : X → Place}
     → Follows table place read_x between → ((x : X) → Ends table (between x) (read_z x)) → Ends table place (λ rest. read_x rest >>= λ p. read_z p.0 p.1)
-ends_then table place {read_x} {read_z} first next = record {
-  ok = λ rest z more some.
-      let step = bind_ok (read_x rest) (λ p. read_z p.0 p.1) (z, more) some in
-      first.ok rest step.0.0 step.0.1 step.1 ∙ (next step.0.0).ok step.0.1 z more step.2;
-  err = λ rest number none.
-      elim (bind_err (read_x rest) (λ p. read_z p.0 p.1) number none) [
-        | inl stop ↦ first.err rest number stop
-        | inr step ↦ first.ok rest step.0.0 step.0.1 step.1 ∙ (next step.0.0).err step.0.1 number step.2
-      ];
+ends_then table place {read_z = read_z} first next = record {
+  ok = λ rest z more some. let step = ok_then table place read_z first rest z more some in step.3 ∙ (next step.0).ok step.1 z more step.2;
+  err = err_then table place read_z first (λ x. (next x).err);
 }
 
 -- the value where its parts were read
@@ -269,16 +265,20 @@ end_ends table place over next inside none ended =
           ];
     }
 
--- the same with the value at the end
-pub ends_done : {Place Z : Type 0} (table : Table Place) (place : Place) (z : Z) → Ends table place end_at → Ends table place (λ rest. end_at rest >>= λ e. Ok (z, e.1))
-ends_done table place z ends = record {
-  ok = λ rest y more some. let last = bind_ok (end_at rest) (λ e. Ok (z, e.1)) (y, more) some in ends.ok rest last.0.0 last.0.1 last.1;
+-- a value that is made of what was read to the end
+pub ends_made : {Place X Z : Type 0} (table : Table Place) (place : Place) {read : Rest → Result (X × Rest) ℕ} (make : X → Z) → Ends table place read → Ends table place (λ rest. read rest >>= λ p. Ok (make p.0, p.1))
+ends_made table place {read} make ends = record {
+  ok = λ rest y more some. let last = bind_ok (read rest) (λ p. Ok (make p.0, p.1)) (y, more) some in ends.ok rest last.0.0 last.0.1 last.1;
   err = λ rest number stop.
-      elim (bind_err (end_at rest) (λ e. Ok (z, e.1)) number stop) [
+      elim (bind_err (read rest) (λ p. Ok (make p.0, p.1)) number stop) [
         | inl bad ↦ ends.err rest number bad
         | inr last ↦ cc last.2
       ];
 }
+
+-- the same with the value at the end
+pub ends_done : {Place Z : Type 0} (table : Table Place) (place : Place) (z : Z) → Ends table place end_at → Ends table place (λ rest. end_at rest >>= λ e. Ok (z, e.1))
+ends_done table place z ends = ends_made table place (λ _. z) ends
 
 line_is : {Place X : Type 0} (table : Table Place) (rest : Rest) (read : Rest → Result (X × Rest) ℕ) → Ends table table.first read
     → (r : Result (X × Rest) ℕ) → read rest ≡ r → fault_at table table.first rest ≡ result_err r

@@ -136,6 +136,15 @@ whole_end z = record {
 
 -- ---- parts one after another: `show` gives the first part's value from the whole value
 
+-- where a part and what is read behind it gave a value, the part stood in front
+then_shown : {X Z : Type 0} {IsX : X → Type 0} {text_x : X → List ℕ} {read_x : Rest → Result (X × Rest) ℕ} (read_z : X → Rest → Result (Z × Rest) ℕ) → IsPart IsX text_x read_x
+    → (rest : Rest) (z : Z) (end : Rest) → (read_x rest >>= λ p. read_z p.0 p.1) ≡ Ok (z, end)
+    → (x : X) × (middle : Rest) × (read_z x middle ≡ Ok (z, end)) × IsX x × (rest.left ≡ text_x x ++ middle.left)
+then_shown {read_x = read_x} read_z part rest z end some =
+    let first = bind_ok (read_x rest) (λ p. read_z p.0 p.1) (z, end) some in
+    let is = part.shown rest first.0.0 first.0.1 first.1 in
+    (first.0.0, first.0.1, first.2, is.0, is.1)
+
 pub whole_then : {X Z : Type 0} {IsX : X → Type 0} {IsZ : X → Z → Type 0} {text_x : X → List ℕ} {text_z : X → Z → List ℕ} {read_x : Rest → Result (X × Rest) ℕ} {read_z : X → Rest → Result (Z × Rest) ℕ}
     → (show : Z → X) → IsPart IsX text_x read_x → ((x : X) → IsX x → IsWhole (IsZ x) (text_z x) (read_z x)) → ((x : X) (z : Z) → IsZ x z → show z ≡ x)
     → IsWhole (λ z. IsX (show z) × IsZ (show z) z) (λ z. text_x (show z) ++ text_z (show z) z) (λ rest. read_x rest >>= λ p. read_z p.0 p.1)
@@ -145,12 +154,10 @@ whole_then {X = X} {IsX = IsX} {IsZ = IsZ} {text_x = text_x} {text_z = text_z} {
       let next = (after (show z) is.0).found (record { taken = first.0; left = text_z (show z) z }) z is.1 refl in
       (next.0, ap (λ r. r >>= λ p. read_z p.0 p.1) first.1 ∙ next.1);
   shown = λ rest z end some.
-      let first = bind_ok (read_x rest) (λ p. read_z p.0 p.1) (z, end) some in
-      let is_x = part.shown rest first.0.0 first.0.1 first.1 in
-      let next = (after first.0.0 is_x.0).shown first.0.1 z end first.2 in
-      let same = shows first.0.0 z next.0 in
+      let first = then_shown read_z part rest z end some in
+      let next = (after first.0 first.3).shown first.1 z end first.2 in
       let P : X → Type 0 = λ x. (IsX x × IsZ x z) × (rest.left ≡ text_x x ++ text_z x z) in
-      subst P (sym same) ((is_x.0, next.0), is_x.1 ∙ ap (λ more. text_x first.0.0 ++ more) next.1);
+      subst P (sym (shows first.0 z next.0)) ((first.3, next.0), first.4 ∙ ap (λ more. text_x first.0 ++ more) next.1);
 }
 
 pub part_then : {X Z : Type 0} {IsX : X → Type 0} {IsZ : X → Z → Type 0} {text_x : X → List ℕ} {text_z : X → Z → List ℕ} {read_x : Rest → Result (X × Rest) ℕ} {read_z : X → Rest → Result (Z × Rest) ℕ}
@@ -162,12 +169,10 @@ part_then {X = X} {IsX = IsX} {IsZ = IsZ} {text_x = text_x} {text_z = text_z} {r
       let next = (after (show z) is.0).found (record { taken = first.0; left = text_z (show z) z ++ more }) z more is.1 refl in
       (next.0, ap (λ r. r >>= λ p. read_z p.0 p.1) first.1 ∙ next.1);
   shown = λ rest z end some.
-      let first = bind_ok (read_x rest) (λ p. read_z p.0 p.1) (z, end) some in
-      let is_x = part.shown rest first.0.0 first.0.1 first.1 in
-      let next = (after first.0.0 is_x.0).shown first.0.1 z end first.2 in
-      let same = shows first.0.0 z next.0 in
+      let first = then_shown read_z part rest z end some in
+      let next = (after first.0 first.3).shown first.1 z end first.2 in
       let P : X → Type 0 = λ x. (IsX x × IsZ x z) × (rest.left ≡ (text_x x ++ text_z x z) ++ end.left) in
-      subst P (sym same) ((is_x.0, next.0), is_x.1 ∙ ap (λ more. text_x first.0.0 ++ more) next.1 ∙ sym (append_assoc (text_x first.0.0) (text_z first.0.0 z) end.left));
+      subst P (sym (shows first.0 z next.0)) ((first.3, next.0), first.4 ∙ ap (λ more. text_x first.0 ++ more) next.1 ∙ sym (append_assoc (text_x first.0) (text_z first.0 z) end.left));
 }
 
 -- the value where its parts were read
@@ -249,4 +254,26 @@ pub part_same : {X : Type 0} {IsValue Is : X → Type 0} {text words : X → Lis
 part_same form to from same = record {
   found = λ rest x more is left. form.found rest x more (from x is) (left ∙ ap (λ t. t ++ more) (sym (same x)));
   shown = λ rest x after some. let shown = form.shown rest x after some in (to x shown.0, shown.1 ∙ ap (λ t. t ++ after.left) (same x));
+}
+
+-- the last part of a value, which is made of it
+pub part_last : {X Z : Type 0} {IsX : X → Type 0} {text_x : X → List ℕ} {read_x : Rest → Result (X × Rest) ℕ} → (show : Z → X) (make : X → Z) → ((x : X) → show (make x) ≡ x) → IsPart IsX text_x read_x
+    → IsPart (λ z. IsX (show z) × (z ≡ make (show z))) (λ z. text_x (show z)) (λ rest. read_x rest >>= λ p. Ok (make p.0, p.1))
+part_last {text_x = text_x} show make back part =
+    part_same (part_then {IsZ = λ x z. z ≡ make x} {text_z = λ x z. []} {read_z = λ x rest. Ok (make x, rest)} show part (λ x _. part_done (make x)) (λ x z same. ap show same ∙ back x))
+    (λ z is. is) (λ z is. is) (λ z. append-nil (text_x (show z)))
+
+-- the same at the end of a file
+pub whole_last : {X Z : Type 0} {IsX : X → Type 0} {text_x : X → List ℕ} {read_x : Rest → Result (X × Rest) ℕ} → (show : Z → X) (make : X → Z) → ((x : X) → show (make x) ≡ x) → IsWhole IsX text_x read_x
+    → IsWhole (λ z. IsX (show z) × (z ≡ make (show z))) (λ z. text_x (show z)) (λ rest. read_x rest >>= λ p. Ok (make p.0, p.1))
+whole_last {X} {Z} {IsX} {text_x} {read_x} show make back form = record {
+  found = λ rest z is left.
+      let last = form.found rest (show z) is.0 left in
+      (last.0, ap (λ r. r >>= λ p. Ok (make p.0, p.1)) last.1 ∙ ap (λ y. Ok (y, last.0)) (sym is.1));
+  shown = λ rest z after some.
+      let last = bind_ok (read_x rest) (λ p. Ok (make p.0, p.1)) (z, after) some in
+      let is = form.shown rest last.0.0 last.0.1 last.1 in
+      let P : Z → Type 0 = λ y. (IsX (show y) × (y ≡ make (show y))) × (rest.left ≡ text_x (show y)) in
+      let Q : X → Type 0 = λ x. (IsX x × (make last.0.0 ≡ make x)) × (rest.left ≡ text_x x) in
+      subst P (ap (λ p. p.0) (ok_same (make last.0.0, last.0.1) (z, after) last.2)) (subst Q (sym (back last.0.0)) ((is.0, refl), is.1));
 }

@@ -1,8 +1,8 @@
 -- Words, and lines of words between single spaces.
 use Rattle.std.proofs.Common.{nat_le, ◌≡◌, if◌then◌else◌, ℕ, ◌+◌, ◌-◌, ◌*◌, ◌^◌, ◌<◌, ◌≤◌, ◌==◌, nat_lt, Bool, true, false, List, [], ◌∷◌, ◌++◌, length, take, drop, decimal, Option, Some, None, refl, ap, sym, ◌∙◌, arith, length-append, inl, inr}
-use Rattle.std.specs.List.{list_all, join_with_byte, position, position_or_len}
+use Rattle.std.specs.List.{list_all, join_with_byte, position, position_or_len, slice_split}
 use Rattle.std.specs.Str.{bytes_eq, all_ascii_digits}
-use Rattle.std.proofs.lemmas.Bool.{and_parts, cases_Bool, ltb-true}
+use Rattle.std.proofs.lemmas.Bool.{and_parts, cases_Bool, le-leb, leb-true, ltb-true}
 use Rattle.std.proofs.lemmas.Bool.Decides.{nat_tests}
 use Rattle.std.proofs.lemmas.Fmt.{digits_decimal, length-decimal-le}
 use Rattle.std.proofs.lemmas.List.Folds.{list_all-append}
@@ -150,22 +150,22 @@ fixed_line text plain short = record {
 
 -- ---- fields one after another
 
--- there is always a field
-fields_some : (text : List ℕ) → (field : List ℕ) × (more : List (List ℕ)) × (fields_of text ≡ field ∷ more)
-fields_some [] = ([], [], refl)
-fields_some (b ∷ text) =
-    elim (cases_Bool (b == 32)) [
-      | inl space ↦ ([], fields_of text, rw space refl)
+-- there is always a piece
+pub split_some : (mark : ℕ) (text : List ℕ) → (first : List ℕ) × (rest : List (List ℕ)) × (slice_split (λ byte. byte == mark) text ≡ first ∷ rest)
+split_some mark [] = ([], [], refl)
+split_some mark (b ∷ text) =
+    elim (cases_Bool (b == mark)) [
+      | inl cut ↦ ([], slice_split (λ byte. byte == mark) text, rw cut refl)
       | inr other ↦
-          let rest = fields_some text in
+          let rest = split_some mark text in
           (b ∷ rest.0, rest.1, rw (other, rest.2) refl)
     ]
 
 pub behind_word_more : (word tag text : List ℕ) → behind_word word (tag ∷ fields_of text) ≡ (word_of word tag >>= λ _. Some (fields_of text))
-behind_word_more word tag text = let some = fields_some text in rw some.2 refl
+behind_word_more word tag text = let some = split_some 32 text in rw some.2 refl
 
 pub one_of_more : (field text : List ℕ) → one_of (field ∷ fields_of text) ≡ None
-one_of_more field text = let some = fields_some text in rw some.2 refl
+one_of_more field text = let some = split_some 32 text in rw some.2 refl
 
 -- the fields of a text that is cut at its first space, or that has none
 pub cut_at : (text : List ℕ) (at : ℕ) → position (λ byte. byte == 32) text ≡ Some at → fields_of text ≡ take at text ∷ fields_of (take (length text - (at + 1)) (drop (at + 1) text))
@@ -409,3 +409,31 @@ pub digests_line_is : (word : List ℕ) → is_word word ≡ true → length wor
     → IsLine {X = List ℕ × List ℕ} (λ two. ((length two.0 ≡ 32) × IsBytes two.0) × ((length two.1 ≡ 32) × IsBytes two.1)) (λ two. spaced (word ∷ hex_text two.0 ∷ hex_text two.1 ∷ [])) (digests_line word)
 digests_line_is word is_a_word short =
     two_line word is_a_word (hex_token 32) (hex_token 32) (omega arith) (λ a b. (a, b)) (λ two. two.0) (λ two. two.1) (λ two. refl) (λ a b. refl) (λ a b. refl)
+
+-- the same line, where its values are said in other words
+pub line_same : {X : Type 0} {IsValue Is : X → Type 0} {text : X → List ℕ} {parse : List ℕ → Option X} → IsLine IsValue text parse
+    → ((x : X) → IsValue x → Is x) → ((x : X) → Is x → IsValue x) → IsLine Is text parse
+line_same form to from = record {
+  found = λ x is. form.found x (from x is);
+  shown = λ line x some. let shown = form.shown line x some in (to x shown.0, shown.1);
+  plain = λ x is. form.plain x (from x is);
+  short = λ x is. form.short x (from x is);
+}
+
+-- least numbers as tests and as facts
+pub from_test : (least n : ℕ) → nat_le least n ≡ true → least ≤ n
+from_test least n test = leb-true least n test
+
+pub to_test : (least n : ℕ) → least ≤ n → nat_le least n ≡ true
+to_test least n fact = le-leb least n fact
+
+-- a number in its range, as it is read
+abbrev pub InRange : ℕ → ℕ → ℕ → Type 0
+InRange least most number = (number ≤ most) × (nat_le least number ≡ true)
+
+-- below a bound, or at most what is one less
+pub below_from : (bound n : ℕ) → 1 ≤ bound → n ≤ bound - 1 → n < bound
+below_from bound n some most = omega arith
+
+pub below_to : (bound n : ℕ) → n < bound → n ≤ bound - 1
+below_to bound n below = omega arith

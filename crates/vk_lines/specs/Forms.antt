@@ -1,10 +1,12 @@
 -- A form of file, said three ways that agree: the text of a value, what is read, and the first line
 -- that isn't as its place demands.
-use Rattle.std.specs.Prelude.{◌≡◌, ◌↔◌, ℕ, ◌+◌, ◌≤◌, ◌==◌, ◌&&◌, ◌<◌, slice_index_or, nat_lt, zero, suc, Bool, true, if◌then◌else◌, List, [], ◌∷◌, ◌++◌, length, Option, Some, None, Result, Ok, Err}
+use Rattle.std.specs.Prelude.{◌≡◌, ◌↔◌, ℕ, ◌+◌, ◌≤◌, ◌==◌, ◌&&◌, ◌<◌, slice_index_or, nat_lt, zero, suc, Bool, true, if◌then◌else◌, List, [], ◌∷◌, ◌++◌, length, Option, Some, None, Result, Ok, Err, IfSome}
 use Rattle.std.specs.List.{list_all, slice_split, join_with_byte}
+use Rattle.vk_io.specs.Files.{Files}
 use Rattle.vk_lines.specs.declared.errors.ReadErr.{ReadErr}
 use Rattle.vk_lines.specs.declared.errors.ReadErr.TheVariants.{Malformed, Failed, NoMemory}
-use Rattle.vk_lines.specs.Lines.{Rest, ◌>>=◌}
+use Rattle.vk_lines.specs.Lines.{Rest, LinesValue, rest_of, ◌>>=◌}
+use Rattle.vk_lines.specs.Tokens.{hex_text}
 
 -- ---- the text of a value, and what is read
 
@@ -37,6 +39,10 @@ spaced words = join_with_byte 32 words
 -- a text as a line of a file
 abbrev pub line : List ℕ → List ℕ
 line text = text ++ 10 ∷ []
+
+-- a line of a word and two digests, as text
+abbrev pub digests_text : List ℕ → List ℕ → List ℕ → List ℕ
+digests_text word first second = spaced (word ∷ hex_text first ∷ hex_text second ∷ [])
 
 -- a part of a file: each value has one text, and is read where what is left begins with that text alone
 pub record IsPart {X : Type 0} (IsValue : X → Type 0) (text : X → List ℕ) (read : Rest → Result (X × Rest) ℕ) : Type 0 where
@@ -129,3 +135,8 @@ Answers IsValue text table value bytes (Ok x) = IsValue (value x) × (bytes ≡ 
 Answers IsValue text table value bytes (Err (Malformed line)) = fault_line table bytes ≡ Some line
 Answers IsValue text table value bytes (Err Failed) = Unit {0}
 Answers IsValue text table value bytes (Err NoMemory) = Unit {0}
+
+-- the same of a reader that stands before the first line, where the files' bytes are told
+abbrev pub AnswersWhole : {Place X : Type 0} → (X → Type 0) → (X → List ℕ) → Table Place → Option Files → LinesValue → Result X ReadErr → Type 0
+AnswersWhole {X = X} IsValue text table held lines result =
+    IfSome held (λ files. (bytes : List ℕ) → rest_of lines files ≡ record { taken = 0; left = bytes } → Answers IsValue text table (λ (x : X). x) bytes result)

@@ -1,5 +1,6 @@
 pub mod Buffers
 pub mod Causes
 pub mod Forms
+pub mod Gives
 pub mod Lines
 pub mod Tokens

@@ -1,5 +1,5 @@
 -- Files as lines: what is left of a file, its next line, and how a form is read line by line.
-use Rattle.std.specs.Prelude.{◌≡◌, ◌≢◌, ℕ, ◌+◌, ◌-◌, ◌^◌, ◌==◌, ◌<◌, ◌≤◌, nat_lt, min, if◌then◌else◌, List, [], length, unwrap_or, take, drop, Option, Some, None, Result, Ok, Err, codes, IsSome, ◌++◌}
+use Rattle.std.specs.Prelude.{◌≡◌, ◌≢◌, ℕ, ◌+◌, ◌-◌, ◌^◌, ◌==◌, ◌<◌, ◌≤◌, nat_lt, min, Bool, true, false, if◌then◌else◌, List, [], length, unwrap_or, take, drop, Option, Some, None, Result, Ok, Err, codes, IsSome, IfSome, ◌++◌}
 use Rattle.std.specs.List.{position_or_len}
 use Rattle.std.specs.FinMap.{get}
 use Rattle.vk_io.specs.Files.{Files, bytes_of, part_of}
@@ -11,6 +11,8 @@ use Rattle.vk_lines.specs.declared.errors.StartErr.TheVariants as refused
 use Rattle.vk_lines.specs.declared.step.Step.{Step}
 use Rattle.vk_lines.specs.declared.step.Step.TheVariants.{Text, End, Long, Cut}
 use Rattle.vk_lines.specs.Tokens.{word_of}
+use Rattle.vk_lines.specs.Gives.{Gives}
+pub use Rattle.vk_lines.specs.Gives.{◌>>=◌}
 
 -- what is left of a file: how many lines of it were taken, and the bytes after them
 pub record Rest : Type 0 where
@@ -98,6 +100,11 @@ Starts files name (Err TooLong) = IsSome (get files name) × (2 ^ 30 < length (b
 Starts files name (Err refused.Failed) = Unit {0}
 Starts files name (Err refused.NoMemory) = Unit {0}
 
+-- a file from its first line on, where it is held and has at most 2^30 bytes
+abbrev pub started : Option (List ℕ) → Result Rest StartErr
+started None = Err Missing
+started (Some bytes) = if nat_lt (2 ^ 30) (length bytes) then Err TooLong else Ok (record { taken = 0; left = bytes })
+
 -- why a file of this length isn't read as lines, if it isn't
 abbrev pub refusal_of : Option ℕ → Option StartErr
 refusal_of None = Some Missing
@@ -123,19 +130,19 @@ pub record IsNext (step : Step) (old new : LinesValue) (files : Files) : Type 0 
 
 -- ---- reading a form
 
--- a reader's answer is what the definition gives: the value with what is left, or the fault line.
--- After a failure of the outside or want of memory nothing is said
-abbrev pub Reads : {T X : Type 0} → (T → X) → Result T ReadErr → Rest → Result (X × Rest) ℕ → Type 0
-Reads value (Ok x) rest expected = expected ≡ Ok (value x, rest)
-Reads value (Err (Malformed line)) rest expected = expected ≡ Err line
-Reads value (Err Failed) rest expected = Unit {0}
-Reads value (Err NoMemory) rest expected = Unit {0}
+-- the fault line that a refusal tells
+abbrev pub line_of : ReadErr → Option ℕ
+line_of (Malformed line) = Some line
+line_of Failed = None
+line_of NoMemory = None
 
--- one reading after another: the first fault is the fault
-infixl 10 ◌>>=◌
-abbrev pub ◌>>=◌ : {A B : Type 0} → Result A ℕ → (A → Result B ℕ) → Result B ℕ
-Ok x >>= f = f x
-Err line >>= f = Err line
+-- a reader's answer is what the definition gives: the value with what is left, or the fault line
+abbrev pub Reads : {T X : Type 0} → (T → X) → Result T ReadErr → Rest → Result (X × Rest) ℕ → Type 0
+Reads value result rest expected = Gives line_of (λ x. (value x, rest)) result expected
+
+-- a call's answer is that of this reading of what was left before it, where the files' bytes are told
+abbrev pub ReadsPart : {X : Type 0} → (Rest → Result (X × Rest) ℕ) → Option Files → LinesValue → LinesValue → Result X ReadErr → Type 0
+ReadsPart read held old new result = IfSome held (λ files. Reads (λ x. x) result (rest_of new files) (read (rest_of old files)))
 
 -- the value of a line, or the line's number where it has none
 abbrev pub value_at : {X : Type 0} → Option X → Rest → Result (X × Rest) ℕ
@@ -159,19 +166,17 @@ ended Text rest = Err (rest.taken + 1)
 ended Long rest = Err (rest.taken + 1)
 ended Cut rest = Err (rest.taken + 1)
 
--- what is answered where a line is to stand next
-abbrev pub line_answer : Step → ℕ → Result Unit ReadErr
-line_answer Text before = Ok tt
-line_answer End before = Err (Malformed (before + 1))
-line_answer Long before = Err (Malformed (before + 1))
-line_answer Cut before = Err (Malformed (before + 1))
+abbrev pub is_text : Step → Bool
+is_text Text = true
+is_text _ = false
 
--- what is answered where the end is to stand next
-abbrev pub end_answer : Step → ℕ → Result Unit ReadErr
-end_answer End before = Ok tt
-end_answer Text before = Err (Malformed (before + 1))
-end_answer Long before = Err (Malformed (before + 1))
-end_answer Cut before = Err (Malformed (before + 1))
+abbrev pub is_end : Step → Bool
+is_end End = true
+is_end _ = false
+
+-- what is answered after so many lines, by whether what is to stand next does
+abbrev pub answer_by : Bool → ℕ → Result Unit ReadErr
+answer_by stands before = if stands then Ok tt else Err (Malformed (before + 1))
 
 -- the line `end`, and nothing after it
 unfoldable pub end_at : Rest → Result (Unit × Rest) ℕ

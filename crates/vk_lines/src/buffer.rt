@@ -2,11 +2,10 @@ ghost use Rattle.std.specs.Prelude.{◌≡◌, ◌+◌, ◌<◌, ◌≤◌, ◌+
 ghost use Rattle.vk_io.specs.Files.{bytes_of, part_of};
 ghost use Rattle.vk_io.specs.Reads.{OnlyReads};
 ghost use Rattle.vk_lines.specs.Buffers.{IsEnough};
-ghost use Rattle.vk_lines.specs.declared.errors.LineErr.TheVariants.{Failed};
+ghost use Rattle.vk_io.specs.declared.errors.OutsideErr.TheVariants.{Failed};
 
-use crate::errors::LineErr;
 use std::marker::Model;
-use vk_io::Shelf;
+use vk_io::{OutsideErr, Shelf};
 
 /// The most bytes of a line, its line feed included.
 pub const MOST_LINE: usize = 256;
@@ -83,14 +82,14 @@ impl Buffer {
         name: &str,
         at: u64,
         left: u64,
-    ) -> Result<usize, LineErr>
+    ) -> Result<usize, OutsideErr>
         ensures told { IfSome (S.held shelf.old) (λ files.
             IfOk result (λ asked. self.new.ahead ≡ self.old.ahead ++ part_of (bytes_of files name.now) at asked)) }
         ensures enough { IfOk result (λ asked. IsEnough (length self.old.ahead) left asked) }
         ensures within { IfOk result (λ asked. length self.new.ahead ≤ length self.old.ahead + asked) }
         ensures text { self.new.text ≡ self.old.text }
         ensures refused { OnErr result (self.new.ahead ≡ self.old.ahead) }
-        ensures shelf { OnlyReads S.held S.Shelf.faults LineErr.Failed result shelf.old shelf.new }
+        ensures shelf { OnlyReads S.held S.Shelf.faults OutsideErr.Failed result shelf.old shelf.new }
     {
         let room = self.make_room(left);
         if room == 0 {
@@ -146,14 +145,14 @@ impl Buffer {
         name: &str,
         at: u64,
         room: usize,
-    ) -> Result<(), LineErr>
+    ) -> Result<(), OutsideErr>
         requires { room ≤ self.old.free }
         ensures told { IfSome (S.held shelf.old) (λ files.
             IfOk result (λ _. self.new.ahead ≡ self.old.ahead ++ part_of (bytes_of files name.now) at room)) }
         ensures within { length self.new.ahead ≤ length self.old.ahead + room }
         ensures text { self.new.text ≡ self.old.text }
         ensures refused { OnErr result (self.new.ahead ≡ self.old.ahead) }
-        ensures shelf { OnlyReads S.held S.Shelf.faults LineErr.Failed result shelf.old shelf.new }
+        ensures shelf { OnlyReads S.held S.Shelf.faults OutsideErr.Failed result shelf.old shelf.new }
     {
         let count = read_behind(shelf, name, at, &mut self.bytes, self.end, room)?;
         self.end += count;
@@ -169,13 +168,13 @@ fn read_behind<S: Shelf>(
     bytes: &mut [u8; 4096],
     end: usize,
     room: usize,
-) -> Result<usize, LineErr>
+) -> Result<usize, OutsideErr>
     requires { end + room ≤ 4096 }
     ensures few { IfOk result (λ count. count ≤ room) }
     ensures front { take end bytes.new ≡ take end bytes.old }
     ensures told { IfSome (S.held shelf.old) (λ files.
         IfOk result (λ count. take count (drop end bytes.new) ≡ part_of (bytes_of files name.now) at room)) }
-    ensures shelf { OnlyReads S.held S.Shelf.faults LineErr.Failed result shelf.old shelf.new }
+    ensures shelf { OnlyReads S.held S.Shelf.faults OutsideErr.Failed result shelf.old shelf.new }
 {
     let count = shelf.read_at(name, at, &mut bytes[end..end + room])?;
     Ok(count)

@@ -1,5 +1,5 @@
 use std::alloc::{AllocError, AllocFailed};
-use vk_io::ShelfErr;
+use vk_io::OutsideErr;
 
 /// The most bytes of a file that is read as lines.
 pub const MOST_BYTES: u64 = 1 << 30;
@@ -11,15 +11,6 @@ pub enum StartErr {
     Missing,
     /// The file has more than 2^30 bytes.
     TooLong,
-    /// The outside failed. The shelf's count of faults rose in this call.
-    Failed,
-    /// Want of memory.
-    NoMemory,
-}
-
-/// Why a line was not taken.
-#[derive(Clone, Copy, Debug, PartialEq, Eq)]
-pub enum LineErr {
     /// The outside failed. The shelf's count of faults rose in this call.
     Failed,
     /// Want of memory.
@@ -48,56 +39,31 @@ impl From<AllocError> for StartErr {
     }
 }
 
-impl From<ShelfErr> for StartErr {
+impl From<OutsideErr> for StartErr {
     ghost use Rattle.std.specs.Prelude.{◌≡◌};
     ghost use Rattle.vk_lines.specs.Causes.{start_err_of};
 
     ghost from_gives = { λ refused e. e ≡ start_err_of refused };
 
-    fn from(refused: ShelfErr) -> StartErr {
+    fn from(refused: OutsideErr) -> StartErr {
         match refused {
-            ShelfErr::Failed => StartErr::Failed,
-            ShelfErr::NoMemory => StartErr::NoMemory,
+            OutsideErr::Failed => StartErr::Failed,
+            OutsideErr::NoMemory => StartErr::NoMemory,
         }
     }
 }
 
-impl From<ShelfErr> for LineErr {
-    ghost use Rattle.std.specs.Prelude.{◌≡◌};
-    ghost use Rattle.vk_lines.specs.Causes.{line_err_of};
-
-    ghost from_gives = { λ refused e. e ≡ line_err_of refused };
-
-    fn from(refused: ShelfErr) -> LineErr {
-        match refused {
-            ShelfErr::Failed => LineErr::Failed,
-            ShelfErr::NoMemory => LineErr::NoMemory,
-        }
-    }
-}
-
-impl From<LineErr> for ReadErr {
+impl From<OutsideErr> for ReadErr {
     ghost use Rattle.std.specs.Prelude.{◌≡◌};
     ghost use Rattle.vk_lines.specs.Causes.{read_err_of};
 
     ghost from_gives = { λ refused e. e ≡ read_err_of refused };
 
-    fn from(refused: LineErr) -> ReadErr {
+    fn from(refused: OutsideErr) -> ReadErr {
         match refused {
-            LineErr::Failed => ReadErr::Failed,
-            LineErr::NoMemory => ReadErr::NoMemory,
+            OutsideErr::Failed => ReadErr::Failed,
+            OutsideErr::NoMemory => ReadErr::NoMemory,
         }
-    }
-}
-
-impl From<AllocError> for ReadErr {
-    ghost use Rattle.std.specs.Prelude.{◌≡◌};
-    ghost use Rattle.vk_lines.specs.declared.errors.ReadErr.TheVariants.{NoMemory};
-
-    ghost from_gives = { λ _ e. e ≡ NoMemory };
-
-    fn from(_refused: AllocError) -> ReadErr {
-        ReadErr::NoMemory
     }
 }
 

@@ -15,7 +15,7 @@ pub use cutting::{
     behind_word, field, four_fields, one_field, read_word, three_fields, two_fields,
 };
 pub use digits::{push_hex, read_hex16, read_hex32};
-pub use errors::{LineErr, ReadErr, StartErr};
+pub use errors::{ReadErr, StartErr};
 pub use lines::Lines;
 pub use many::{LineKind, read_item, read_many};
 pub use step::Step;

@@ -3,19 +3,19 @@ ghost use Rattle.std.specs.FinMap as map;
 ghost use Rattle.hex.specs.Hex.{IsBytes};
 ghost use Rattle.vk_io.specs.Reads.{OnlyReads};
 ghost use Rattle.vk_io.specs.Files.{Files, bytes_of, part_of};
-ghost use Rattle.vk_lines.specs.Tokens.{word_of, number_line, id_line, digests_line};
+ghost use Rattle.vk_lines.specs.Tokens.{word_of, number_line, id_line};
 ghost use Rattle.vk_lines.specs.Buffers.{HasLooked, after_step};
-ghost use Rattle.vk_lines.specs.Lines.{Starts, KeepsFile, IsBefore, IsBegun, Reads, IsNext, line_by, text_at, rest_of, unread, feed_at, step_by, step_of, none_left, value_at, line_answer, end_answer, end_at, LinesValue};
+ghost use Rattle.vk_lines.specs.Lines.{Starts, KeepsFile, IsBefore, IsBegun, Reads, ReadsPart, IsNext, line_by, text_at, rest_of, unread, feed_at, step_by, step_of, none_left, value_at, is_text, is_end, answer_by, end_at, LinesValue};
 
 use crate::buffer::{Buffer, MOST_LINE};
 use crate::cutting::read_word;
-use crate::errors::{LineErr, MOST_BYTES, ReadErr, StartErr};
+use crate::errors::{MOST_BYTES, ReadErr, StartErr};
 use crate::step::Step;
-use crate::tokens::{read_digests, read_id, read_number};
+use crate::tokens::{read_id, read_number};
 use memchr::memchr;
 use std::alloc::Global;
 use std::marker::Model;
-use vk_io::Shelf;
+use vk_io::{OutsideErr, Shelf};
 
 /// A reader of a file's lines, one after another from the first.
 #[derive(Drop)]
@@ -73,14 +73,14 @@ impl Lines {
     }
 
     /// Takes the next line, where one stands there. After a refusal the value is as before.
-    pub fn next_line<S: Shelf>(&mut self, shelf: &mut S) -> Result<Step, LineErr>
+    pub fn next_line<S: Shelf>(&mut self, shelf: &mut S) -> Result<Step, OutsideErr>
         ensures told { IfSome (S.held shelf.old) (λ files. IfOk result (λ step. IsNext step self.old self.new files)) }
         ensures file { KeepsFile self.old self.new }
         ensures same { IfOk result (λ step. step ≢ Step.Text → self.new.taken ≡ self.old.taken) }
         ensures text { IfOk result (λ step. step ≢ Step.Text → self.new.text ≡ self.old.text) }
         ensures taken { IfOk result (λ step. step ≡ Step.Text → self.new.taken ≡ self.old.taken + 1) }
         ensures refused { OnErr result (self.new ≡ self.old) }
-        ensures shelf { OnlyReads S.held S.Shelf.faults LineErr.Failed result shelf.old shelf.new }
+        ensures shelf { OnlyReads S.held S.Shelf.faults OutsideErr.Failed result shelf.old shelf.new }
     {
         self.look_ahead(shelf)?;
         let step = self.take_next();
@@ -88,13 +88,13 @@ impl Lines {
     }
 
     /// Reads on where fewer bytes are ahead than a line may have.
-    fn look_ahead<S: Shelf>(&mut self, shelf: &mut S) -> Result<(), LineErr>
+    fn look_ahead<S: Shelf>(&mut self, shelf: &mut S) -> Result<(), OutsideErr>
         ensures told { IfSome (S.held shelf.old) (λ files. IfOk result (λ _. HasLooked self.old self.new files)) }
         ensures file { KeepsFile self.old self.new }
         ensures taken { self.new.taken ≡ self.old.taken }
         ensures text { self.new.text ≡ self.old.text }
         ensures refused { OnErr result (self.new ≡ self.old) }
-        ensures shelf { OnlyReads S.held S.Shelf.faults LineErr.Failed result shelf.old shelf.new }
+        ensures shelf { OnlyReads S.held S.Shelf.faults OutsideErr.Failed result shelf.old shelf.new }
     {
         let at = self.unread();
         let left = self.left();
@@ -176,8 +176,7 @@ impl Lines {
     /// that isn't so.
     #[tactic(auto, unfolding(crate::specs::Lines::end_at, crate::specs::Lines::line_by))]
     pub fn read_end<S: Shelf>(&mut self, shelf: &mut S) -> Result<(), ReadErr>
-        ensures told { IfSome (S.held shelf.old) (λ files.
-            Reads (λ x. x) result (rest_of self.new files) (end_at (rest_of self.old files))) }
+        ensures told { ReadsPart end_at (S.held shelf.old) self.old self.new result }
         ensures file { KeepsFile self.old self.new }
         ensures shelf { OnlyReads S.held S.Shelf.faults ReadErr.Failed result shelf.old shelf.new }
     {
@@ -192,8 +191,7 @@ impl Lines {
     /// Reads a line that is this text. Malformed, with its number, where the next line is another.
     #[tactic(auto, unfolding(crate::specs::Lines::line_by))]
     pub fn read_fixed<S: Shelf>(&mut self, shelf: &mut S, line: &[u8]) -> Result<(), ReadErr>
-        ensures told { IfSome (S.held shelf.old) (λ files.
-            Reads (λ x. x) result (rest_of self.new files) (line_by (word_of line.now) (rest_of self.old files))) }
+        ensures told { ReadsPart (line_by (word_of line.now)) (S.held shelf.old) self.old self.new result }
         ensures file { KeepsFile self.old self.new }
         ensures shelf { OnlyReads S.held S.Shelf.faults ReadErr.Failed result shelf.old shelf.new }
     {
@@ -211,8 +209,7 @@ impl Lines {
         least: u64,
         most: u64,
     ) -> Result<u64, ReadErr>
-        ensures told { IfSome (S.held shelf.old) (λ files.
-            Reads (λ x. x) result (rest_of self.new files) (line_by (number_line word.now least most) (rest_of self.old files))) }
+        ensures told { ReadsPart (line_by (number_line word.now least most)) (S.held shelf.old) self.old self.new result }
         ensures file { KeepsFile self.old self.new }
         ensures within { IfOk result (λ number. (least ≤ number) × (number ≤ most)) }
         ensures shelf { OnlyReads S.held S.Shelf.faults ReadErr.Failed result shelf.old shelf.new }
@@ -225,31 +222,13 @@ impl Lines {
     /// Reads a line of this word and an id. Malformed, with its number, where the next line is another.
     #[tactic(auto, unfolding(crate::specs::Lines::line_by))]
     pub fn read_id<S: Shelf>(&mut self, shelf: &mut S, word: &[u8]) -> Result<[u8; 16], ReadErr>
-        ensures told { IfSome (S.held shelf.old) (λ files.
-            Reads (λ x. x) result (rest_of self.new files) (line_by (id_line word.now) (rest_of self.old files))) }
+        ensures told { ReadsPart (line_by (id_line word.now)) (S.held shelf.old) self.old self.new result }
         ensures file { KeepsFile self.old self.new }
         ensures bytes { IfOk result (λ id. (length id ≡ 16) × IsBytes id) }
         ensures shelf { OnlyReads S.held S.Shelf.faults ReadErr.Failed result shelf.old shelf.new }
     {
         self.read_text(shelf)?;
         let value = self.found(read_id(self.text(), word));
-        value
-    }
-
-    /// Reads a line of this word and two digests. Malformed, with its number, where the next line is another.
-    #[tactic(auto, unfolding(crate::specs::Lines::line_by))]
-    pub fn read_digests<S: Shelf>(
-        &mut self,
-        shelf: &mut S,
-        word: &[u8],
-    ) -> Result<([u8; 32], [u8; 32]), ReadErr>
-        ensures told { IfSome (S.held shelf.old) (λ files.
-            Reads (λ x. x) result (rest_of self.new files) (line_by (digests_line word.now) (rest_of self.old files))) }
-        ensures file { KeepsFile self.old self.new }
-        ensures shelf { OnlyReads S.held S.Shelf.faults ReadErr.Failed result shelf.old shelf.new }
-    {
-        self.read_text(shelf)?;
-        let value = self.found(read_digests(self.text(), word));
         value
     }
 
@@ -299,7 +278,7 @@ fn line_found(step: Step, before: u64) -> Result<(), ReadErr>
     requires { before ≤ 2 ^ 30 }
     ensures told { (files : Files) (old new : LinesValue) → before ≡ old.taken → IsNext step old new files
         → Reads (λ _. new.text) result (rest_of new files) (text_at (rest_of old files)) }
-    ensures exact { result ≡ line_answer step before }
+    ensures exact { result ≡ answer_by (is_text step) before }
 {
     match step {
         Step::Text => Ok(()),
@@ -312,7 +291,7 @@ fn nothing_left(step: Step, before: u64) -> Result<(), ReadErr>
     requires { before ≤ 2 ^ 30 }
     ensures told { (files : Files) (old new : LinesValue) → before ≡ old.taken → IsNext step old new files
         → Reads (λ x. x) result (rest_of new files) (none_left (rest_of old files)) }
-    ensures exact { result ≡ end_answer step before }
+    ensures exact { result ≡ answer_by (is_end step) before }
 {
     let answer = end_answer(step, before);
     answer
@@ -321,7 +300,7 @@ fn nothing_left(step: Step, before: u64) -> Result<(), ReadErr>
 /// The same, by the step alone.
 fn end_answer(step: Step, before: u64) -> Result<(), ReadErr>
     requires { before ≤ 2 ^ 30 }
-    ensures { result ≡ end_answer step before }
+    ensures { result ≡ answer_by (is_end step) before }
 {
     match step {
         Step::End => Ok(()),

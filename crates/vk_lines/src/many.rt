@@ -1,9 +1,9 @@
 //! So many lines of a kind, one after another.
 
-ghost use Rattle.std.specs.Prelude.{◌≡◌, ◌<◌, ◌≤◌, length, IfSome, IfOk};
+ghost use Rattle.std.specs.Prelude.{◌≡◌, ◌<◌, ◌≤◌, length, IfOk};
 ghost use Rattle.vk_io.specs.Reads.{OnlyReads};
 ghost use Rattle.vk_lines.specs.Forms.{EachNumbered, many_at};
-ghost use Rattle.vk_lines.specs.Lines.{KeepsFile, Reads, line_by, rest_of};
+ghost use Rattle.vk_lines.specs.Lines.{KeepsFile, ReadsPart, line_by};
 ghost use Rattle.vk_lines.specs.declared.errors.ReadErr.TheVariants.{Failed};
 
 use crate::errors::ReadErr;
@@ -44,8 +44,7 @@ pub fn read_many<S: Shelf, K: LineKind>(
     count: u32,
 ) -> Result<Seq<K::Item>, ReadErr>
     requires { count ≤ K.most kind.now }
-    ensures told { IfSome (S.held shelf.old) (λ files. Reads (λ x. x) result (rest_of lines.new files)
-        (many_at count (λ before. line_by (K.item_of kind.now (length before))) (rest_of lines.old files))) }
+    ensures told { ReadsPart (many_at count (λ before. line_by (K.item_of kind.now (length before)))) (S.held shelf.old) lines.old lines.new result }
     ensures number { IfOk result (λ items. length items ≡ count) }
     ensures each { IfOk result (EachNumbered (K.is_item kind.now)) }
     ensures file { KeepsFile lines.old lines.new }
@@ -68,8 +67,7 @@ pub fn read_item<S: Shelf, K: LineKind>(
     number: u32,
 ) -> Result<K::Item, ReadErr>
     requires { number < K.most kind.now }
-    ensures told { IfSome (S.held shelf.old) (λ files. Reads (λ x. x) result (rest_of lines.new files)
-        (line_by (K.item_of kind.now number) (rest_of lines.old files))) }
+    ensures told { ReadsPart (line_by (K.item_of kind.now number)) (S.held shelf.old) lines.old lines.new result }
     ensures right { IfOk result (K.is_item kind.now number) }
     ensures file { KeepsFile lines.old lines.new }
     ensures shelf { OnlyReads S.held S.Shelf.faults ReadErr.Failed result shelf.old shelf.new }

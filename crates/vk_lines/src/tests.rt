@@ -1,13 +1,13 @@
 // Tokens from outside, and the lines of files in memory.
 use crate::{
-    LineErr, LineKind, Lines, ReadErr, StartErr, Step, behind_word, field, four_fields, one_field,
+    LineKind, Lines, ReadErr, StartErr, Step, behind_word, field, four_fields, one_field,
     push_decimal, push_hex, read_decimal, read_digests, read_hex16, read_hex32, read_many,
     read_number,
 };
 use std::alloc::Global;
 use std::process::Abort;
 use std::test::Fail;
-use vk_io::{MemShelf, PieceShelf, Shelf, ShelfErr};
+use vk_io::{MemShelf, OutsideErr, PieceShelf, Shelf};
 
 /// A shelf whose one file has a length and no bytes.
 #[derive(Drop)]
@@ -22,19 +22,19 @@ impl Shelf for Vast {
 
     ghost faults = { λ _. 0 };
 
-    fn length(&mut self, _name: &str) -> Result<Option<u64>, ShelfErr> {
+    fn length(&mut self, _name: &str) -> Result<Option<u64>, OutsideErr> {
         Ok(Some(self.length))
     }
 
-    fn read_at(&mut self, _name: &str, _at: u64, _into: &mut [u8]) -> Result<usize, ShelfErr> {
+    fn read_at(&mut self, _name: &str, _at: u64, _into: &mut [u8]) -> Result<usize, OutsideErr> {
         Ok(0)
     }
 
-    fn create(&mut self, _name: &str) -> Result<(), ShelfErr> {
+    fn create(&mut self, _name: &str) -> Result<(), OutsideErr> {
         Ok(())
     }
 
-    fn append(&mut self, _name: &str, _piece: &[u8]) -> Result<(), ShelfErr> {
+    fn append(&mut self, _name: &str, _piece: &[u8]) -> Result<(), OutsideErr> {
         Ok(())
     }
 }
@@ -231,13 +231,13 @@ fn a_refused_read_leaves_the_line_and_what_is_left(rt: HostRuntime) -> Result<()
     shelf.fail_at(2)?;
     shelf.fail_at(4)?;
     let mut lines = Lines::start(rt.alloc(), &mut shelf, "f")?;
-    assert_eq!(rt; lines.next_line(&mut shelf), Err(LineErr::Failed));
+    assert_eq!(rt; lines.next_line(&mut shelf), Err(OutsideErr::Failed));
     assert_eq!(rt; lines.text().len(), 0);
     assert_eq!(rt; lines.number(), 0);
     for _line in 0..16 {
         assert_eq!(rt; lines.read_text(&mut shelf), Ok(()));
     }
-    assert_eq!(rt; lines.next_line(&mut shelf), Err(LineErr::Failed));
+    assert_eq!(rt; lines.next_line(&mut shelf), Err(OutsideErr::Failed));
     assert_eq!(rt; lines.text(), [b'O'; 255].as_slice());
     assert_eq!(rt; lines.number(), 16);
     assert_eq!(rt; lines.read_text(&mut shelf), Ok(()));

@@ -2,7 +2,7 @@
 
 ghost use Rattle.std.specs.Prelude.{◌≡◌, ◌++◌, ◌∷◌, [], decimal, OnOk};
 ghost use Rattle.vk_lines.specs.Tokens.{hex_text};
-ghost use Rattle.vk_lines.specs.Forms.{line, spaced};
+ghost use Rattle.vk_lines.specs.Forms.{digests_text, line, spaced};
 
 use crate::digits::push_hex;
 use crate::tokens::push_decimal;
@@ -47,7 +47,7 @@ pub fn push_digests_line(
     second: &[u8; 32],
 ) -> Result<(), NoMemory>
     ensures { OnOk result
-        (out.new.items ≡ out.old.items ++ line (spaced (word.now ∷ hex_text first.now ∷ hex_text second.now ∷ []))) }
+        (out.new.items ≡ out.old.items ++ line (digests_text word.now first.now second.now)) }
 {
     out.extend_from_slice(word)?;
     push_space(out)?;

@@ -1,7 +1,7 @@
-ghost use Rattle.std.specs.Prelude.{length, ◌≡◌, ℕ, List, ◌<◌, ◌≤◌, slice_index_or, IfSome, IfOk};
+ghost use Rattle.std.specs.Prelude.{length, ◌≡◌, ◌<◌, ◌≤◌, slice_index_or, IfSome, IfOk};
 ghost use Rattle.vk_io.specs.Reads.{OnlyReads};
-ghost use Rattle.vk_lines.specs.Forms.{Answers};
-ghost use Rattle.vk_lines.specs.Lines.{KeepsFile, Reads, line_by, rest_of};
+ghost use Rattle.vk_lines.specs.Forms.{AnswersWhole};
+ghost use Rattle.vk_lines.specs.Lines.{KeepsFile, ReadsPart, line_by};
 ghost use Rattle.vk_lines.specs.declared.errors.ReadErr.TheVariants.{Failed};
 ghost use Rattle.vk_plan.specs.declared.wire.WireKind.TheVariants.{Split};
 ghost use Rattle.vk_reply.specs.Values.{AreShown, IsChallenge, IsShown};
@@ -28,10 +28,8 @@ pub fn read_challenge<S: Shelf>(
     shelf: &mut S,
     lines: &mut Lines,
 ) -> Result<Challenge, ReadErr>
-    ensures told { IfSome (S.held shelf.old) (λ files.
-        Reads (λ x. x) result (rest_of lines.new files) (challenge_at (rest_of lines.old files))) }
-    ensures answers { IfSome (S.held shelf.old) (λ files. (bytes : List ℕ) → rest_of lines.old files ≡ record { taken = 0; left = bytes }
-        → Answers IsChallenge challenge_text challenge_table (λ x. x) bytes result) }
+    ensures told { ReadsPart challenge_at (S.held shelf.old) lines.old lines.new result }
+    ensures answers { AnswersWhole IsChallenge challenge_text challenge_table (S.held shelf.old) lines.old result }
     ensures right { IfOk result IsChallenge }
     ensures file { KeepsFile lines.old lines.new }
     ensures shelf { OnlyReads S.held S.Shelf.faults ReadErr.Failed result shelf.old shelf.new }
@@ -47,8 +45,7 @@ fn challenge_read<S: Shelf>(
     shelf: &mut S,
     lines: &mut Lines,
 ) -> Result<Challenge, ReadErr>
-    ensures told { IfSome (S.held shelf.old) (λ files.
-        Reads (λ x. x) result (rest_of lines.new files) (challenge_at (rest_of lines.old files))) }
+    ensures told { ReadsPart challenge_at (S.held shelf.old) lines.old lines.new result }
     ensures right { IfOk result IsChallenge }
     ensures file { KeepsFile lines.old lines.new }
     ensures shelf { OnlyReads S.held S.Shelf.faults ReadErr.Failed result shelf.old shelf.new }
@@ -76,8 +73,7 @@ fn read_bits<S: Shelf>(
     shelf: &mut S,
     lines: &mut Lines,
 ) -> Result<Seq<bool>, ReadErr>
-    ensures told { IfSome (S.held shelf.old) (λ files.
-        Reads (λ x. x) result (rest_of lines.new files) (line_by bits_line (rest_of lines.old files))) }
+    ensures told { ReadsPart (line_by bits_line) (S.held shelf.old) lines.old lines.new result }
     ensures some_bit { IfOk result (λ bits. 1 ≤ length bits) }
     ensures few_bits { IfOk result (λ bits. length bits ≤ 64) }
     ensures file { KeepsFile lines.old lines.new }
@@ -93,8 +89,7 @@ fn read_bits<S: Shelf>(
 /// the number of the first line that isn't what its place demands.
 #[tactic(auto, unfolding(crate::specs::Reading::reply_head_at))]
 pub fn read_reply_head<S: Shelf>(shelf: &mut S, lines: &mut Lines) -> Result<u32, ReadErr>
-    ensures told { IfSome (S.held shelf.old) (λ files.
-        Reads (λ x. x) result (rest_of lines.new files) (reply_head_at (rest_of lines.old files))) }
+    ensures told { ReadsPart reply_head_at (S.held shelf.old) lines.old lines.new result }
     ensures right { IfOk result (λ lanes. (1 ≤ lanes) × (lanes ≤ 64)) }
     ensures file { KeepsFile lines.old lines.new }
     ensures shelf { OnlyReads S.held S.Shelf.faults ReadErr.Failed result shelf.old shelf.new }
@@ -116,8 +111,7 @@ pub fn read_reply_lane<S: Shelf>(
     plan: &Plan,
     bit: bool,
 ) -> Result<Seq<Shown>, ReadErr>
-    ensures told { IfSome (S.held shelf.old) (λ files.
-        Reads (λ x. x) result (rest_of lines.new files) (reply_lane_at lane plan.now.kinds bit (rest_of lines.old files))) }
+    ensures told { ReadsPart (reply_lane_at lane plan.now.kinds bit) (S.held shelf.old) lines.old lines.new result }
     ensures right { IfOk result (AreShown plan.now.kinds bit) }
     ensures file { KeepsFile lines.old lines.new }
     ensures shelf { OnlyReads S.held S.Shelf.faults ReadErr.Failed result shelf.old shelf.new }
@@ -135,8 +129,7 @@ fn read_wires<S: Shelf>(
     plan: &Plan,
     bit: bool,
 ) -> Result<Seq<Shown>, ReadErr>
-    ensures told { IfSome (S.held shelf.old) (λ files.
-        Reads (λ x. x) result (rest_of lines.new files) (wires_at plan.now.kinds bit (rest_of lines.old files))) }
+    ensures told { ReadsPart (wires_at plan.now.kinds bit) (S.held shelf.old) lines.old lines.new result }
     ensures right { IfOk result (AreShown plan.now.kinds bit) }
     ensures file { KeepsFile lines.old lines.new }
     ensures shelf { OnlyReads S.held S.Shelf.faults ReadErr.Failed result shelf.old shelf.new }

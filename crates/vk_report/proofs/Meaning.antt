@@ -3,7 +3,7 @@ use Rattle.std.proofs.Common.{◌≡◌, ℕ, ◌^◌, ◌≤◌, nat_lt, Bool, 
 use Rattle.std.specs.FinMap.{get}
 use Rattle.std.proofs.lemmas.Bool.Decides.{nat_tests}
 use Rattle.vk_io.specs.Files.{Files}
-use Rattle.vk_lines.specs.Lines.{Rest, end_at}
+use Rattle.vk_lines.specs.Lines.{Rest, end_at, started}
 use Rattle.vk_lines.specs.Lines as lines
 use Rattle.vk_lines.proofs.Parts.{bind_ok, ok_same}
 use Rattle.vk_board.specs.declared.board.Head.{Head}
@@ -15,14 +15,14 @@ use Rattle.vk_board.specs.declared.front.Front.{Front}
 use Rattle.vk_board.specs.Fronts.{FrontFault, front_with, front_at}
 use Rattle.vk_board.specs.Fronts as fronts
 use Rattle.vk_board.specs.Published.{price_stands, position_of}
-use Rattle.vk_board.specs.Gives.{◌>>=◌}
+use Rattle.vk_lines.specs.Gives.{◌>>=◌}
 use Rattle.vk_board.proofs.Boards.{board_is_whole, board_with}
 use Rattle.vk_board.proofs.Prices.{price_found}
 use Rattle.vk_board.proofs.Fronts.{FrontRead, front_right, front_at_shown, front_at_found}
 use Rattle.vk_report.specs.declared.report.Report.{Report}
 use Rattle.vk_report.specs.declared.report.ReportErr.{ReportErr}
-use Rattle.vk_report.specs.declared.report.ReportErr.TheVariants.{TooLong}
-use Rattle.vk_report.specs.Reports.{in_board, in_front, passed, lanes_passed, report_with, report_at, begun, report_on}
+use Rattle.vk_lines.specs.declared.errors.StartErr.TheVariants.{TooLong}
+use Rattle.vk_report.specs.Reports.{in_board, in_front, passed, lanes_passed, report_with, report_at, in_start, report_on}
 use Rattle.vk_report.proofs.Winner.{winner_is, place_found}
 use Rattle.vk_report.specs.Meaning.{auction_shape, IsReportOn}
 
@@ -135,25 +135,25 @@ board_shown rest report some =
 
 -- ---- files
 
-begun_by : (test : Bool) (bytes : List ℕ) (rest : Rest) → nat_lt (2 ^ 30) (length bytes) ≡ test
-    → ◌≡◌ {A = Result Rest ReportErr} (if test then Err TooLong else Ok (record { taken = 0; left = bytes })) (Ok rest)
+started_by : (test : Bool) (bytes : List ℕ) (rest : Rest) → nat_lt (2 ^ 30) (length bytes) ≡ test
+    → in_start (if test then Err TooLong else Ok (record { taken = 0; left = bytes })) ≡ Ok rest
     → (length bytes ≤ 2 ^ 30) × (record { taken = 0; left = bytes } ≡ rest)
-begun_by true bytes rest is some = cc
-begun_by false bytes rest is some = (grind (arith, nat_tests, is), given (record { taken = 0; left = bytes }) rest some)
+started_by true bytes rest is some = cc
+started_by false bytes rest is some = (grind (arith, nat_tests, is), given (record { taken = 0; left = bytes }) rest some)
 
-begun_shown : (told : Option (List ℕ)) (rest : Rest) → begun told ≡ Ok rest
+started_shown : (told : Option (List ℕ)) (rest : Rest) → in_start (started told) ≡ Ok rest
     → (bytes : List ℕ) × (told ≡ Some bytes) × (length bytes ≤ 2 ^ 30) × (record { taken = 0; left = bytes } ≡ rest)
-begun_shown None rest some = cc
-begun_shown (Some bytes) rest some = let is = begun_by (nat_lt (2 ^ 30) (length bytes)) bytes rest refl some in (bytes, refl, is.0, is.1)
+started_shown None rest some = cc
+started_shown (Some bytes) rest some = let is = started_by (nat_lt (2 ^ 30) (length bytes)) bytes rest refl some in (bytes, refl, is.0, is.1)
 
-begun_found : (bytes : List ℕ) → length bytes ≤ 2 ^ 30 → begun (Some bytes) ≡ Ok (record { taken = 0; left = bytes })
-begun_found bytes short = let no : nat_lt (2 ^ 30) (length bytes) ≡ false = grind (arith, nat_tests, short) in rw no refl
+started_found : (bytes : List ℕ) → length bytes ≤ 2 ^ 30 → in_start (started (Some bytes)) ≡ Ok (record { taken = 0; left = bytes })
+started_found bytes short = let no : nat_lt (2 ^ 30) (length bytes) ≡ false = grind (arith, nat_tests, short) in rw no refl
 
 pub reported : (files : Files) (name : List ℕ) (report : Report) → report_on files name ≡ Ok report → IsReportOn files name report
 unfolding report_on
 reported files name report some =
-    let start = then_ok (begun (get files name)) report_at report some in
-    let held = begun_shown (get files name) start.0 start.1 in
+    let start = then_ok (in_start (started (get files name))) report_at report some in
+    let held = started_shown (get files name) start.0 start.1 in
     let rest : Rest = record { taken = 0; left = held.0 } in
     let is = board_shown rest report (ap report_at held.3 ∙ start.2) in
     let board : Board = board_with is.front.head is.front.seals is.lanes in
@@ -183,7 +183,7 @@ is_reported files name report is =
     let parts = board_parts rest board read.0 read.1 in
     let winner = place_found board.head.winner 1 board.seals publishes.winner in
     let front : Front = front_with board.head board.seals winner.0 in
-    ap (λ told. begun told >>= report_at) is.held
-    ∙ ap (λ begins. begins >>= report_at) (begun_found is.file is.short)
+    ap (λ told. in_start (started told) >>= report_at) is.held
+    ∙ ap (λ begins. begins >>= report_at) (started_found is.file is.short)
     ∙ report_joined rest front board.lanes read.0 parts (price_found board.head publishes.price) winner.1
     ∙ ap (λ made. Ok made) (sym publishes.report_is)

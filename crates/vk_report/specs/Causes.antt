@@ -1,8 +1,6 @@
 -- A refusal of a reader, handed on as the refusal of a report.
 use Rattle.vk_lines.specs.declared.errors.StartErr.{StartErr}
 use Rattle.vk_lines.specs.declared.errors.StartErr.TheVariants as start
-use Rattle.vk_lines.specs.declared.errors.ReadErr.{ReadErr}
-use Rattle.vk_lines.specs.declared.errors.ReadErr.TheVariants as read
 use Rattle.vk_board.specs.declared.front.FrontErr.{FrontErr}
 use Rattle.vk_board.specs.declared.front.FrontErr.TheVariants as unread
 use Rattle.vk_report.specs.declared.report.ReportErr.{ReportErr}
@@ -20,8 +18,3 @@ of_front unread.Price = Price
 of_front unread.Winner = Winner
 of_front unread.Failed = Failed
 of_front unread.NoMemory = NoMemory
-
-abbrev pub of_read : ReadErr → ReportErr
-of_read (read.Malformed line) = Malformed line
-of_read read.Failed = Failed
-of_read read.NoMemory = NoMemory

@@ -1,10 +1,11 @@
 -- What is reported of a board's file, and the text of a report.
-use Rattle.std.specs.Prelude.{◌≡◌, ℕ, ◌-◌, ◌*◌, ◌^◌, nat_lt, if◌then◌else◌, List, [], ◌∷◌, ◌++◌, length, Contains, codes, decimal, Option, Some, None, Result, Ok, Err}
+use Rattle.std.specs.Prelude.{◌≡◌, ℕ, ◌-◌, ◌*◌, List, [], ◌∷◌, ◌++◌, length, Contains, codes, decimal, Option, Some, None, Result, Ok, Err}
 use Rattle.std.specs.List.{flat_map}
 use Rattle.std.specs.FinMap.{get}
 use Rattle.vk_io.specs.Files.{Files}
 use Rattle.vk_lines.specs.Forms.{line, spaced}
-use Rattle.vk_lines.specs.Lines.{Rest, end_at}
+use Rattle.vk_lines.specs.declared.errors.StartErr.{StartErr}
+use Rattle.vk_lines.specs.Lines.{Rest, end_at, started}
 use Rattle.vk_lines.specs.Tokens.{hex_text}
 use Rattle.vk_board.specs.declared.board.Head.{Head}
 use Rattle.vk_board.specs.declared.front.Front.{Front}
@@ -12,8 +13,9 @@ use Rattle.vk_board.specs.Values.{IsHead, Shape}
 use Rattle.vk_board.specs.Reading.{lanes_at, seats_of}
 use Rattle.vk_board.specs.Fronts.{FrontFault, PriceStands, front_at}
 use Rattle.vk_board.specs.Fronts as fronts
-use Rattle.vk_board.specs.Gives.{◌>>=◌}
+use Rattle.vk_lines.specs.Gives.{◌>>=◌}
 use Rattle.vk_vickrey.specs.VickreyPlans.{wire_count, row_count}
+use Rattle.vk_report.specs.Causes.{of_start}
 use Rattle.vk_report.specs.declared.report.Report.{Report}
 use Rattle.vk_report.specs.declared.report.ReportErr.{ReportErr}
 use Rattle.vk_report.specs.declared.report.ReportErr.TheVariants.{Missing, TooLong, Malformed, Price, Winner, Failed, NoMemory}
@@ -85,15 +87,15 @@ report_at rest = do
 
 -- ---- files on a shelf
 
--- a file from its first line on, where it is held and has at most 2^30 bytes
-abbrev pub begun : Option (List ℕ) → Result Rest ReportErr
-begun None = Err Missing
-begun (Some bytes) = if nat_lt (2 ^ 30) (length bytes) then Err TooLong else Ok (record { taken = 0; left = bytes })
+-- a refusal to start is the fault
+abbrev pub in_start : {X : Type 0} → Result X StartErr → Result X ReportErr
+in_start (Ok x) = Ok x
+in_start (Err refusal) = Err (of_start refusal)
 
 -- the report of the named file, or its first fault
 unfoldable pub report_on : Files → List ℕ → Result Report ReportErr
 report_on files name = do
-  rest ← begun (get files name)
+  rest ← in_start (started (get files name))
   report_at rest
 
 -- ---- the text of a report

@@ -9,7 +9,7 @@ mod writing;
 pub use laws::a_file_is_reported_on_where_it_is_a_board;
 pub use reading::read_report;
 pub use report::{Report, ReportErr};
-pub use writing::report_text;
+pub use writing::{report_lines, report_text};
 
 #[cfg(test)]
 mod tests;

@@ -1,15 +1,15 @@
 ghost use Rattle.std.specs.Prelude.{◌≡◌, IfSome, IfOk, Ok};
 ghost use Rattle.vk_io.specs.Reads.{OnlyReads};
-ghost use Rattle.vk_lines.specs.Lines.{Reads, rest_of};
+ghost use Rattle.vk_lines.specs.Lines.{ReadsPart, rest_of};
 ghost use Rattle.vk_board.specs.Values.{IsHead};
 ghost use Rattle.vk_board.specs.Fronts.{IsFront};
-ghost use Rattle.vk_board.specs.Gives.{Gives};
+ghost use Rattle.vk_lines.specs.Gives.{Gives};
 ghost use Rattle.vk_vickrey.specs.VickreyPlans.{wire_count, row_count};
 ghost use Rattle.vk_report.specs.Reports.{IsReport, fault_of, report_with, lanes_passed, report_at, report_on};
 
 use crate::report::{Report, ReportErr};
 use std::alloc::Global;
-use vk_board::{Front, Head, read_front, read_lane, seats_of};
+use vk_board::{Front, FrontErr, Head, read_front, read_lane, seats_of};
 use vk_io::Shelf;
 use vk_lines::{Lines, ReadErr};
 use vk_residue::NoMemory;
@@ -57,8 +57,7 @@ fn read_lanes<S: Shelf>(
     report: &Report,
 ) -> Result<(), ReadErr>
     requires { IsReport report.now }
-    ensures told { IfSome (S.held shelf.old) (λ files.
-        Reads (λ x. x) result (rest_of lines.new files) (lanes_passed report.now (rest_of lines.old files))) }
+    ensures told { ReadsPart (lanes_passed report.now) (S.held shelf.old) lines.old lines.new result }
     ensures shelf { OnlyReads S.held S.Shelf.faults ReadErr.Failed result shelf.old shelf.new }
 {
     let wires = report.wires - report.head.seals;
@@ -82,8 +81,8 @@ fn read_board<S: Shelf>(
 {
     let front = read_front(alloc, shelf, lines)?;
     let report = report_from(alloc, &front)?;
-    read_lanes(alloc, shelf, lines, &report)?;
-    lines.read_end(shelf)?;
+    read_lanes(alloc, shelf, lines, &report).map_err(FrontErr::from)?;
+    lines.read_end(shelf).map_err(FrontErr::from)?;
     Ok(report)
 }
 

@@ -1,7 +1,7 @@
 ghost use Rattle.std.specs.Prelude.{◌≡◌};
 
 use vk_board::{FrontErr, Head};
-use vk_lines::{ReadErr, StartErr};
+use vk_lines::StartErr;
 use vk_residue::NoMemory;
 use vk_seq::Seq;
 
@@ -73,20 +73,6 @@ impl From<FrontErr> for ReportErr {
             FrontErr::Winner => ReportErr::Winner,
             FrontErr::Failed => ReportErr::Failed,
             FrontErr::NoMemory => ReportErr::NoMemory,
-        }
-    }
-}
-
-impl From<ReadErr> for ReportErr {
-    ghost use Rattle.vk_report.specs.Causes.{of_read};
-
-    ghost from_gives = { λ refused e. e ≡ of_read refused };
-
-    fn from(refused: ReadErr) -> ReportErr {
-        match refused {
-            ReadErr::Malformed { line } => ReportErr::Malformed { line },
-            ReadErr::Failed => ReportErr::Failed,
-            ReadErr::NoMemory => ReportErr::NoMemory,
         }
     }
 }

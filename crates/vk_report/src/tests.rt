@@ -2,7 +2,7 @@
 use crate::{ReportErr, read_report, report_text};
 use std::alloc::Global;
 use std::test::Fail;
-use vk_io::{MemShelf, Shelf, ShelfErr};
+use vk_io::{MemShelf, OutsideErr, Shelf};
 
 /// A shelf whose every file has a length and no bytes.
 #[derive(Drop)]
@@ -17,19 +17,19 @@ impl Shelf for Vast {
 
     ghost faults = { λ _. 0 };
 
-    fn length(&mut self, _name: &str) -> Result<Option<u64>, ShelfErr> {
+    fn length(&mut self, _name: &str) -> Result<Option<u64>, OutsideErr> {
         Ok(Some(self.length))
     }
 
-    fn read_at(&mut self, _name: &str, _at: u64, _into: &mut [u8]) -> Result<usize, ShelfErr> {
+    fn read_at(&mut self, _name: &str, _at: u64, _into: &mut [u8]) -> Result<usize, OutsideErr> {
         Ok(0)
     }
 
-    fn create(&mut self, _name: &str) -> Result<(), ShelfErr> {
+    fn create(&mut self, _name: &str) -> Result<(), OutsideErr> {
         Ok(())
     }
 
-    fn append(&mut self, _name: &str, _piece: &[u8]) -> Result<(), ShelfErr> {
+    fn append(&mut self, _name: &str, _piece: &[u8]) -> Result<(), OutsideErr> {
         Ok(())
     }
 }

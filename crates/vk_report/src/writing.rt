@@ -1,65 +1,129 @@
-ghost use Rattle.std.specs.Prelude.{◌≡◌, ◌++◌, IfOk, OnOk};
+ghost use Rattle.std.specs.Prelude.{◌≡◌, ◌++◌, [], ◌∷◌, codes, decimal, IfOk, OnOk, string_bytes};
 ghost use Rattle.std.specs.List.{flat_map};
-ghost use Rattle.vk_lines.specs.Forms.{line};
+ghost use Rattle.vk_lines.specs.Forms.{line, spaced};
+ghost use Rattle.vk_lines.specs.Tokens.{hex_text};
 ghost use Rattle.vk_report.specs.Reports.{IsReport, commitment_count, head_lines, seat_text, count_lines, report_text};
 
 use crate::report::Report;
 use std::alloc::Global;
 use vk_board::Head;
-use vk_lines::{push_hex_line, push_line, push_number_line};
 use vk_residue::NoMemory;
 
 /// The text of a report.
-#[tactic(auto, unfolding(crate::specs::Reports::report_text))]
 pub fn report_text(alloc: Global, report: &Report) -> Result<Vec<u8>, NoMemory>
     requires { IsReport report.now }
     ensures { IfOk result (λ text. text.items ≡ report_text report.now) }
 {
+    let lines = report_lines(alloc, report)?;
+    let text = joined(alloc, lines.as_slice())?;
+    Ok(text)
+}
+
+/// The lines one after another.
+fn joined(alloc: Global, lines: &[String]) -> Result<Vec<u8>, NoMemory>
+    ensures { IfOk result (λ text. text.items ≡ flat_map string_bytes lines.now) }
+{
     let mut text = Vec::new(alloc);
-    push_head(&mut text, &report.head)?;
-    push_seats(&mut text, report.seats.as_slice())?;
+    for line in lines {
+        text.extend_from_slice(line.as_bytes())?;
+    }
+    Ok(text)
+}
+
+/// The lines of a report, each with its line feed.
+#[tactic(auto, unfolding(crate::specs::Reports::report_text))]
+pub fn report_lines(alloc: Global, report: &Report) -> Result<Vec<String>, NoMemory>
+    requires { IsReport report.now }
+    ensures { IfOk result (λ lines. flat_map string_bytes lines.items ≡ report_text report.now) }
+{
+    let mut lines = Vec::new(alloc);
+    push_head(alloc, &mut lines, &report.head)?;
+    push_seats(alloc, &mut lines, report.seats.as_slice())?;
     push_counts(
-        &mut text,
+        alloc,
+        &mut lines,
         report.wires,
         report.rows,
         commitment_count(report),
     )?;
-    push_line(&mut text, b"end")?;
-    Ok(text)
+    push_end(alloc, &mut lines)?;
+    Ok(lines)
+}
+
+/// A word and a number.
+fn push_number(
+    alloc: Global,
+    lines: &mut Vec<String>,
+    word: &str,
+    number: u64,
+) -> Result<(), NoMemory>
+    ensures { OnOk result (flat_map string_bytes lines.new.items
+        ≡ flat_map string_bytes lines.old.items ++ line (spaced (word.now ∷ decimal number ∷ []))) }
+{
+    let text = format!(in alloc; "{word} {number}\n")?;
+    lines.push(text)?;
+    Ok(())
+}
+
+/// The id of the auction.
+fn push_auction(alloc: Global, lines: &mut Vec<String>, id: &[u8; 16]) -> Result<(), NoMemory>
+    ensures { OnOk result (flat_map string_bytes lines.new.items
+        ≡ flat_map string_bytes lines.old.items ++ line (spaced (codes "auction" ∷ hex_text id.now ∷ []))) }
+{
+    let id = hex::encode(alloc, id.as_slice())?;
+    let text = format!(in alloc; "auction {id}\n")?;
+    lines.push(text)?;
+    Ok(())
+}
+
+fn push_end(alloc: Global, lines: &mut Vec<String>) -> Result<(), NoMemory>
+    ensures { OnOk result (flat_map string_bytes lines.new.items ≡ flat_map string_bytes lines.old.items ++ line (codes "end")) }
+{
+    let text = format!(in alloc; "end\n")?;
+    lines.push(text)?;
+    Ok(())
 }
 
 /// Appends the lines of what the head says.
 #[tactic(auto, unfolding(crate::specs::Reports::head_lines))]
-fn push_head(out: &mut Vec<u8>, head: &Head) -> Result<(), NoMemory>
-    ensures { OnOk result (out.new.items ≡ out.old.items ++ head_lines head.now) }
+fn push_head(alloc: Global, lines: &mut Vec<String>, head: &Head) -> Result<(), NoMemory>
+    ensures { OnOk result (flat_map string_bytes lines.new.items ≡ flat_map string_bytes lines.old.items ++ head_lines head.now) }
 {
-    push_hex_line(out, b"auction", &head.auction)?;
-    push_number_line(out, b"width", u64::from(head.width))?;
-    push_number_line(out, b"lanes", u64::from(head.lanes))?;
-    push_number_line(out, b"seals", u64::from(head.seals))?;
-    push_number_line(out, b"winner", u64::from(head.winner))?;
-    push_number_line(out, b"price", head.price)?;
+    push_auction(alloc, lines, &head.auction)?;
+    push_number(alloc, lines, "width", u64::from(head.width))?;
+    push_number(alloc, lines, "lanes", u64::from(head.lanes))?;
+    push_number(alloc, lines, "seals", u64::from(head.seals))?;
+    push_number(alloc, lines, "winner", u64::from(head.winner))?;
+    push_number(alloc, lines, "price", head.price)?;
     Ok(())
 }
 
 /// Appends the line of each seat.
-fn push_seats(out: &mut Vec<u8>, seats: &[u16]) -> Result<(), NoMemory>
-    ensures { OnOk result (out.new.items ≡ out.old.items ++ flat_map (λ seat. line (seat_text seat)) seats.now) }
+fn push_seats(alloc: Global, lines: &mut Vec<String>, seats: &[u16]) -> Result<(), NoMemory>
+    ensures { OnOk result (flat_map string_bytes lines.new.items
+        ≡ flat_map string_bytes lines.old.items ++ flat_map (λ seat. line (seat_text seat)) seats.now) }
 {
     for seat in seats {
-        push_number_line(out, b"seat", u64::from(*seat))?;
+        push_number(alloc, lines, "seat", u64::from(*seat))?;
     }
     Ok(())
 }
 
 /// Appends the lines of how many wires, rows and commitments there are.
 #[tactic(auto, unfolding(crate::specs::Reports::count_lines))]
-fn push_counts(out: &mut Vec<u8>, wires: u32, rows: u32, commitments: u64) -> Result<(), NoMemory>
-    ensures { OnOk result (out.new.items ≡ out.old.items ++ count_lines wires rows commitments) }
+fn push_counts(
+    alloc: Global,
+    lines: &mut Vec<String>,
+    wires: u32,
+    rows: u32,
+    commitments: u64,
+) -> Result<(), NoMemory>
+    ensures { OnOk result (flat_map string_bytes lines.new.items
+        ≡ flat_map string_bytes lines.old.items ++ count_lines wires rows commitments) }
 {
-    push_number_line(out, b"wires", u64::from(wires))?;
-    push_number_line(out, b"rows", u64::from(rows))?;
-    push_number_line(out, b"commitments", commitments)?;
+    push_number(alloc, lines, "wires", u64::from(wires))?;
+    push_number(alloc, lines, "rows", u64::from(rows))?;
+    push_number(alloc, lines, "commitments", commitments)?;
     Ok(())
 }
 

@@ -1,285 +1,214 @@
 -- Seals and secrets are read from their texts alone, and reading stops at the fault line.
-use Rattle.std.proofs.Common.{◌≡◌, ℕ, zero, suc, ◌-◌, ◌^◌, ◌<◌, ◌≤◌, nat_le, true, List, [], ◌∷◌, ◌++◌, length, codes, decimal, flat_map, Result, refl, ap, arith}
-use Rattle.std.proofs.lemmas.Bool.{le-leb, leb-true}
+use Rattle.std.proofs.Common.{◌≡◌, ℕ, zero, suc, ◌-◌, ◌^◌, ◌<◌, ◌≤◌, nat_le, true, List, [], ◌∷◌, ◌++◌, length, codes, decimal, flat_map, Option, option_map, Result, Ok, refl, ap, arith}
 use Rattle.std.specs.Result.{result_err}
 use Rattle.std.specs.List.{AllByRecursion}
-use Rattle.vk_lines.specs.Lines.{Rest, ◌>>=◌, line_by}
 use Rattle.hex.specs.Hex.{IsBytes}
-use Rattle.vk_lines.specs.Forms.{line, spaced, IsLine, IsWhole, EachAfter, Ends, fault_line, whole}
-use Rattle.vk_lines.specs.Tokens.{hex_text, id_line, number_line}
-use Rattle.vk_lines.proofs.Words.{decimal_token, hex_token, fixed_line, number_line_is, id_line_is, two_line, three_line}
-use Rattle.vk_lines.proofs.Parts.{line_part, many_part, whole_then, whole_end, whole_same, each_from_all, all_from_each}
-use Rattle.vk_lines.proofs.Faults.{line_follows, many_follows, ends_then, end_ends, ends_done, fault_line_is}
 use Rattle.vk_residue.specs.Residue.{modulus}
-use Rattle.vk_wire.specs.declared.wire.WireCom.{WireCom}
-use Rattle.vk_seal.specs.declared.secret.XTape.{XTape}
+use Rattle.vk_lines.specs.Lines.{Rest, ◌>>=◌, line_by}
+use Rattle.vk_lines.specs.Forms.{line, spaced, is_plain, IsLine, IsPart, IsWhole, EachAfter, Follows, Ends, fault_line, whole}
+use Rattle.vk_lines.specs.Tokens.{hex_text, id_line, number_line, word_of}
+use Rattle.vk_lines.proofs.Words.{decimal_token, hex_token, fixed_line, number_line_is, id_line_is, two_line, three_line, line_same, from_test, to_test, InRange, below_from, below_to}
+use Rattle.vk_lines.proofs.Parts.{line_part, many_part, part_then, part_last, part_same, whole_then, whole_last, whole_end, whole_same, each_from_all, all_from_each}
+use Rattle.vk_lines.proofs.Faults.{line_follows, many_follows, follows_then, follows_done, ends_then, ends_made, end_ends, ends_done, fault_line_is}
+use Rattle.vk_wire.specs.Values.{IsCom}
 use Rattle.vk_seal.specs.declared.secret.Secret.{Secret}
 use Rattle.vk_seal.specs.declared.secret.Seal.{Seal}
-use Rattle.vk_wire.specs.Values.{IsCom}
 use Rattle.vk_seal.specs.Values.{IsSeal, IsSecret, IsXTape}
-use Rattle.vk_seal.specs.Texts.{com_text, tape_text, seal_text, secret_text}
-use Rattle.vk_seal.specs.Reading.{com_by, com_line, tape_by, tape_line, seal_at, seal_lanes_at, secret_at, secret_lanes_at}
-use Rattle.vk_seal.specs.Tables.{Heading, Auction, Seat, Bid, Count, Lanes, Over, seal_table, secret_table}
+use Rattle.vk_seal.specs.Texts.{com_text, tape_text, seat_text, lanes_text, seal_text, secret_text}
+use Rattle.vk_seal.specs.Reading.{com_by, com_line, com_at, tape_by, tape_line, tape_at, seat_at, lanes_at, seal_with, seal_at, secret_with, secret_at}
+use Rattle.vk_seal.specs.Tables.{Place, Heading, Auction, Seat, Bid, Count, Lanes, Over, table_by, seal_table, secret_table}
 
 -- ---- lines
 
-com_line_is : IsLine IsCom com_text com_line
-com_line_is =
+com_line_is : (lane : ℕ) → IsLine IsCom com_text (com_at lane)
+unfolding com_at
+com_line_is lane =
     two_line (codes "x") refl (hex_token 32) (hex_token 32) (omega arith) com_by (λ digests. digests.first) (λ digests. digests.second)
     (λ x. refl) (λ a b. refl) (λ a b. refl)
 
-tape_line_is : IsLine (λ tape. (tape.mask ≤ modulus - 1) × (((length tape.first_key ≡ 32) × IsBytes tape.first_key)) × ((length tape.second_key ≡ 32) × IsBytes tape.second_key)) tape_text tape_line
-tape_line_is =
+-- a mask that is at most the greatest residue is a residue
+tape_line_is : (lane : ℕ) → IsLine IsXTape tape_text (tape_at lane)
+unfolding tape_at
+tape_line_is lane =
+    line_same (
     three_line (codes "x") refl (decimal_token (modulus - 1) (omega arith)) (hex_token 32) (hex_token 32) (omega arith) tape_by
     (λ tape. tape.mask) (λ tape. tape.first_key) (λ tape. tape.second_key) (λ x. refl) (λ a b c. refl) (λ a b c. refl) (λ a b c. refl)
+    )
+    (λ tape is. let small = is.0 in (omega arith, is.1, is.2)) (λ tape is. let small = is.0 in (omega arith, is.1, is.2))
 
--- ---- a seal and its text
+-- ---- the first line, the id and the seat
 
-abbrev seal_with : List ℕ → ℕ → List WireCom → Seal
-seal_with auction seat lanes = record { auction = auction; seat = seat; lanes = lanes }
+-- an id and a seat
+abbrev IsPlace : List ℕ × ℕ → Type 0
+IsPlace place = ((length place.0 ≡ 16) × IsBytes place.0) × ((1 ≤ place.1) × (place.1 ≤ 65535))
 
--- what is read from the lanes, the count, the seat and the id on
-abbrev LanesOf : List ℕ → ℕ → ℕ → Seal → Type 0
-LanesOf auction seat count seal = ((length seal.lanes ≡ count) × EachAfter (λ _. IsCom) [] seal.lanes) × (seal ≡ seal_with auction seat seal.lanes)
+-- what is read from the seat and from the id on
+abbrev SeatOf : List ℕ → List ℕ × ℕ → Type 0
+SeatOf auction place = InRange 1 65535 place.1 × (place ≡ (auction, place.1))
 
-abbrev CountOf : List ℕ → ℕ → Seal → Type 0
-CountOf auction seat seal = ((length seal.lanes ≤ 64) × (nat_le 1 (length seal.lanes) ≡ true)) × LanesOf auction seat (length seal.lanes) seal
+abbrev IdOf : List ℕ × ℕ → Type 0
+IdOf place = ((length place.0 ≡ 16) × IsBytes place.0) × SeatOf place.0 place
 
-abbrev SeatOf : List ℕ → Seal → Type 0
-SeatOf auction seal = ((seal.seat ≤ 65535) × (nat_le 1 seal.seat ≡ true)) × CountOf auction seal.seat seal
+abbrev seat_line : List ℕ × ℕ → List ℕ
+seat_line place = line (spaced (codes "seat" ∷ decimal place.1 ∷ []))
 
-abbrev IdOf : Seal → Type 0
-IdOf seal = ((length seal.auction ≡ 16) × IsBytes seal.auction) × SeatOf seal.auction seal
+abbrev id_text : List ℕ × ℕ → List ℕ
+id_text place = line (spaced (codes "auction" ∷ hex_text place.0 ∷ [])) ++ seat_line place
 
-abbrev lanes_text : Seal → List ℕ
-lanes_text seal = flat_map (λ digests. line (com_text digests)) seal.lanes ++ line (codes "end")
+abbrev place_at : List ℕ → Rest → Result ((List ℕ × ℕ) × Rest) ℕ
+place_at auction rest = line_by (number_line (codes "seat") 1 65535) rest >>= λ seat. Ok ((auction, seat.0), seat.1)
 
-abbrev count_text : Seal → List ℕ
-count_text seal = line (spaced (codes "lanes" ∷ decimal (length seal.lanes) ∷ [])) ++ lanes_text seal
+abbrev id_at : Rest → Result ((List ℕ × ℕ) × Rest) ℕ
+id_at rest = line_by (id_line (codes "auction")) rest >>= λ auction. place_at auction.0 auction.1
 
-abbrev seat_text : Seal → List ℕ
-seat_text seal = line (spaced (codes "seat" ∷ decimal seal.seat ∷ [])) ++ count_text seal
+seat_part : (auction : List ℕ) → IsPart (SeatOf auction) seat_line (place_at auction)
+seat_part auction = part_last (λ place. place.1) (λ seat. (auction, seat)) (λ seat. refl) (line_part (number_line_is (codes "seat") 1 65535 refl (omega arith) (omega arith)))
 
-abbrev id_text : Seal → List ℕ
-id_text seal = line (spaced (codes "auction" ∷ hex_text seal.auction ∷ [])) ++ seat_text seal
+id_part : IsPart IdOf id_text id_at
+id_part =
+    part_then {IsZ = λ auction place. SeatOf auction place} {text_z = λ auction place. seat_line place} (λ place. place.0)
+    (line_part (id_line_is (codes "auction") refl (omega arith))) (λ auction _. seat_part auction) (λ auction place is. ap (λ p. p.0) is.1)
 
-lanes_whole : (auction : List ℕ) (seat count : ℕ) → IsWhole (LanesOf auction seat count) lanes_text (seal_lanes_at auction seat count)
-lanes_whole auction seat count =
-    whole_then {IsZ = λ lanes seal. seal ≡ seal_with auction seat lanes} {text_z = λ lanes seal. line (codes "end")} (λ seal. seal.lanes)
-    (many_part count (λ _. line_part com_line_is)) (λ lanes _. whole_end (seal_with auction seat lanes)) (λ lanes seal same. ap (λ s. s.lanes) same)
+place_is_part : (heading : List ℕ) → is_plain heading ≡ true → length heading ≤ 255 → IsPart IsPlace (λ place. seat_text heading place.0 place.1) (seat_at heading)
+unfolding seat_at seat_text
+place_is_part heading plain short =
+    part_same (
+    part_then {X = Unit {0}} {IsZ = λ _ place. IdOf place} {text_z = λ _ place. id_text place} (λ place. tt)
+    (line_part (fixed_line heading plain short)) (λ first _. id_part) (λ first place is. refl)
+    )
+    (λ place is. (is.1.0, (from_test 1 place.1 is.1.1.0.1, is.1.1.0.0)))
+    (λ place is. (tt, (is.0, ((is.1.1, to_test 1 place.1 is.1.0), refl))))
+    (λ place. refl)
 
-count_whole : (auction : List ℕ) (seat : ℕ) → IsWhole (CountOf auction seat) count_text (λ rest. line_by (number_line (codes "lanes") 1 64) rest >>= λ count. seal_lanes_at auction seat count.0 count.1)
-count_whole auction seat =
-    whole_then {IsZ = λ count seal. LanesOf auction seat count seal} {text_z = λ count seal. lanes_text seal} (λ seal. length seal.lanes)
-    (line_part (number_line_is (codes "lanes") 1 64 refl (omega arith) (omega arith))) (λ count _. lanes_whole auction seat count) (λ count seal is. is.0.0)
+-- ---- the lanes and the end
 
-abbrev count_at : List ℕ → ℕ → Rest → Result (Seal × Rest) ℕ
-count_at auction seat rest = line_by (number_line (codes "lanes") 1 64) rest >>= λ count. seal_lanes_at auction seat count.0 count.1
+abbrev AreLanes : {X : Type 0} → (X → Type 0) → List X → Type 0
+AreLanes IsValue lanes = (1 ≤ length lanes) × (length lanes ≤ 64) × AllByRecursion IsValue lanes
 
-abbrev seat_at : List ℕ → Rest → Result (Seal × Rest) ℕ
-seat_at auction rest = line_by (number_line (codes "seat") 1 65535) rest >>= λ seat. count_at auction seat.0 seat.1
+abbrev CountOf : {X : Type 0} → (X → Type 0) → ℕ → List X → Type 0
+CountOf IsValue count lanes = ((length lanes ≡ count) × EachAfter (λ _. IsValue) [] lanes) × (lanes ≡ lanes)
 
-seat_whole : (auction : List ℕ) → IsWhole (SeatOf auction) seat_text (seat_at auction)
-seat_whole auction =
-    whole_then {IsZ = λ seat seal. CountOf auction seat seal} {text_z = λ seat seal. count_text seal} (λ seal. seal.seat)
-    (line_part (number_line_is (codes "seat") 1 65535 refl (omega arith) (omega arith))) (λ seat _. count_whole auction seat) (λ seat seal is. ap (λ s. s.seat) is.1.1)
+abbrev count_text : {X : Type 0} → (X → List ℕ) → List X → List ℕ
+count_text text lanes = flat_map (λ lane. line (text lane)) lanes ++ line (codes "end")
 
-abbrev id_at : Rest → Result (Seal × Rest) ℕ
-id_at rest = line_by (id_line (codes "auction")) rest >>= λ auction. seat_at auction.0 auction.1
+lanes_is_whole : {X : Type 0} {IsValue : X → Type 0} {text : X → List ℕ} {parse : ℕ → List ℕ → Option X} → ((lane : ℕ) → IsLine IsValue text (parse lane))
+    → IsWhole (AreLanes IsValue) (lanes_text text) (lanes_at parse)
+unfolding lanes_at lanes_text
+lanes_is_whole {IsValue = IsValue} {text = text} {parse = parse} form =
+    whole_same (
+    whole_then {IsZ = λ count lanes. CountOf IsValue count lanes} {text_z = λ count lanes. count_text text lanes} (λ lanes. length lanes)
+    (line_part (number_line_is (codes "lanes") 1 64 refl (omega arith) (omega arith)))
+    (λ count _.
+    whole_then {IsZ = λ read lanes. lanes ≡ read} {text_z = λ read lanes. line (codes "end")} (λ lanes. lanes)
+    (many_part count (λ before. line_part (form (length before)))) (λ read _. whole_end read) (λ read lanes same. same))
+    (λ count lanes is. is.0.0)
+    )
+    (λ lanes is. (from_test 1 (length lanes) is.0.1, is.0.0, all_from_each IsValue [] lanes is.1.0.1))
+    (λ lanes is. ((is.1, to_test 1 (length lanes) is.0), ((refl, each_from_all IsValue [] lanes is.2), refl)))
+    (λ lanes. refl)
 
-id_whole : IsWhole IdOf id_text id_at
-id_whole =
-    whole_then {IsZ = λ auction seal. SeatOf auction seal} {text_z = λ auction seal. seat_text seal} (λ seal. seal.auction)
-    (line_part (id_line_is (codes "auction") refl (omega arith))) (λ auction _. seat_whole auction) (λ auction seal is. ap (λ s. s.auction) is.1.1.1)
+-- ---- a seal and a secret
 
-seal_whole : IsWhole (λ seal. Unit {0} × IdOf seal) (λ seal. line (codes "vickrey-seal 1") ++ id_text seal) seal_at
-unfolding seal_at
-seal_whole =
-    whole_then {X = Unit {0}} {IsZ = λ _ seal. IdOf seal} {text_z = λ _ seal. id_text seal} (λ seal. tt)
-    (line_part (fixed_line (codes "vickrey-seal 1") refl (omega arith))) (λ heading _. id_whole) (λ heading seal is. refl)
-
--- least and greatest numbers as tests and as facts
-from_test : (least n : ℕ) → nat_le least n ≡ true → least ≤ n
-from_test least n test = leb-true least n test
-
-to_test : (least n : ℕ) → least ≤ n → nat_le least n ≡ true
-to_test least n fact = le-leb least n fact
+abbrev SealOf : List ℕ × ℕ → Seal → Type 0
+SealOf place seal = AreLanes IsCom seal.lanes × (seal ≡ seal_with place seal.lanes)
 
 pub seal_is_whole : IsWhole IsSeal seal_text seal_at
 unfolding seal_text seal_at
 seal_is_whole =
-    whole_same seal_whole
+    whole_same (
+    whole_then {IsZ = λ place seal. SealOf place seal} {text_z = λ place seal. lanes_text com_text seal.lanes} (λ seal. (seal.auction, seal.seat))
+    (place_is_part (codes "vickrey-seal 1") refl (omega arith))
+    (λ place _. whole_last (λ seal. seal.lanes) (seal_with place) (λ lanes. refl) (lanes_is_whole com_line_is))
+    (λ place seal is. ap (λ s. (s.auction, s.seat)) is.1)
+    )
     (λ seal is. record {
-      id = is.1.0;
-      some_seat = from_test 1 seal.seat is.1.1.0.1;
-      last_seat = is.1.1.0.0;
-      some_lane = from_test 1 (length seal.lanes) is.1.1.1.0.1;
-      few_lanes = is.1.1.1.0.0;
-      coms = all_from_each IsCom [] seal.lanes is.1.1.1.1.0.1;
+      id = is.0.0;
+      some_seat = is.0.1.0;
+      last_seat = is.0.1.1;
+      some_lane = is.1.0.0;
+      few_lanes = is.1.0.1;
+      coms = is.1.0.2;
     })
-    (λ seal is. (tt, (is.id, ((is.last_seat, to_test 1 seal.seat is.some_seat), ((is.few_lanes, to_test 1 (length seal.lanes) is.some_lane), ((refl, each_from_all IsCom [] seal.lanes is.coms), refl))))))
+    (λ seal is. ((is.id, (is.some_seat, is.last_seat)), ((is.some_lane, is.few_lanes, is.coms), refl)))
     (λ seal. refl)
 
--- ---- a secret and its text
+abbrev TapesOf : List ℕ × ℕ → ℕ → Secret → Type 0
+TapesOf place bid secret = AreLanes IsXTape secret.lanes × (secret ≡ secret_with place bid secret.lanes)
 
-abbrev secret_with : List ℕ → ℕ → ℕ → List XTape → Secret
-secret_with auction seat bid lanes = record { auction = auction; seat = seat; bid = bid; lanes = lanes }
-
-abbrev TapeFacts : XTape → Type 0
-TapeFacts tape = (tape.mask ≤ modulus - 1) × ((length tape.first_key ≡ 32) × IsBytes tape.first_key) × ((length tape.second_key ≡ 32) × IsBytes tape.second_key)
-
-abbrev SecretLanesOf : List ℕ → ℕ → ℕ → ℕ → Secret → Type 0
-SecretLanesOf auction seat bid count secret = ((length secret.lanes ≡ count) × EachAfter (λ _. TapeFacts) [] secret.lanes) × (secret ≡ secret_with auction seat bid secret.lanes)
-
-abbrev SecretCountOf : List ℕ → ℕ → ℕ → Secret → Type 0
-SecretCountOf auction seat bid secret = ((length secret.lanes ≤ 64) × (nat_le 1 (length secret.lanes) ≡ true)) × SecretLanesOf auction seat bid (length secret.lanes) secret
-
-abbrev BidOf : List ℕ → ℕ → Secret → Type 0
-BidOf auction seat secret = ((secret.bid ≤ 2 ^ 40 - 1) × (nat_le 0 secret.bid ≡ true)) × SecretCountOf auction seat secret.bid secret
-
-abbrev SecretSeatOf : List ℕ → Secret → Type 0
-SecretSeatOf auction secret = ((secret.seat ≤ 65535) × (nat_le 1 secret.seat ≡ true)) × BidOf auction secret.seat secret
-
-abbrev SecretIdOf : Secret → Type 0
-SecretIdOf secret = ((length secret.auction ≡ 16) × IsBytes secret.auction) × SecretSeatOf secret.auction secret
-
-abbrev secret_lanes_text : Secret → List ℕ
-secret_lanes_text secret = flat_map (λ tape. line (tape_text tape)) secret.lanes ++ line (codes "end")
-
-abbrev secret_count_text : Secret → List ℕ
-secret_count_text secret = line (spaced (codes "lanes" ∷ decimal (length secret.lanes) ∷ [])) ++ secret_lanes_text secret
+abbrev BidOf : List ℕ × ℕ → Secret → Type 0
+BidOf place secret = InRange 0 (2 ^ 40 - 1) secret.bid × TapesOf place secret.bid secret
 
 abbrev bid_text : Secret → List ℕ
-bid_text secret = line (spaced (codes "bid" ∷ decimal secret.bid ∷ [])) ++ secret_count_text secret
+bid_text secret = line (spaced (codes "bid" ∷ decimal secret.bid ∷ [])) ++ lanes_text tape_text secret.lanes
 
-abbrev secret_seat_text : Secret → List ℕ
-secret_seat_text secret = line (spaced (codes "seat" ∷ decimal secret.seat ∷ [])) ++ bid_text secret
-
-abbrev secret_id_text : Secret → List ℕ
-secret_id_text secret = line (spaced (codes "auction" ∷ hex_text secret.auction ∷ [])) ++ secret_seat_text secret
-
-abbrev secret_count_at : List ℕ → ℕ → ℕ → Rest → Result (Secret × Rest) ℕ
-secret_count_at auction seat bid rest = line_by (number_line (codes "lanes") 1 64) rest >>= λ count. secret_lanes_at auction seat bid count.0 count.1
-
-abbrev bid_at : List ℕ → ℕ → Rest → Result (Secret × Rest) ℕ
-bid_at auction seat rest = line_by (number_line (codes "bid") 0 (2 ^ 40 - 1)) rest >>= λ bid. secret_count_at auction seat bid.0 bid.1
-
-abbrev secret_seat_at : List ℕ → Rest → Result (Secret × Rest) ℕ
-secret_seat_at auction rest = line_by (number_line (codes "seat") 1 65535) rest >>= λ seat. bid_at auction seat.0 seat.1
-
-abbrev secret_id_at : Rest → Result (Secret × Rest) ℕ
-secret_id_at rest = line_by (id_line (codes "auction")) rest >>= λ auction. secret_seat_at auction.0 auction.1
-
-secret_lanes_whole : (auction : List ℕ) (seat bid count : ℕ) → IsWhole (SecretLanesOf auction seat bid count) secret_lanes_text (secret_lanes_at auction seat bid count)
-secret_lanes_whole auction seat bid count =
-    whole_then {IsZ = λ lanes secret. secret ≡ secret_with auction seat bid lanes} {text_z = λ lanes secret. line (codes "end")} (λ secret. secret.lanes)
-    (many_part count (λ _. line_part tape_line_is)) (λ lanes _. whole_end (secret_with auction seat bid lanes)) (λ lanes secret same. ap (λ s. s.lanes) same)
-
-secret_count_whole : (auction : List ℕ) (seat bid : ℕ) → IsWhole (SecretCountOf auction seat bid) secret_count_text (secret_count_at auction seat bid)
-secret_count_whole auction seat bid =
-    whole_then {IsZ = λ count secret. SecretLanesOf auction seat bid count secret} {text_z = λ count secret. secret_lanes_text secret} (λ secret. length secret.lanes)
-    (line_part (number_line_is (codes "lanes") 1 64 refl (omega arith) (omega arith))) (λ count _. secret_lanes_whole auction seat bid count) (λ count secret is. is.0.0)
-
-bid_whole : (auction : List ℕ) (seat : ℕ) → IsWhole (BidOf auction seat) bid_text (bid_at auction seat)
-bid_whole auction seat =
-    whole_then {IsZ = λ bid secret. SecretCountOf auction seat bid secret} {text_z = λ bid secret. secret_count_text secret} (λ secret. secret.bid)
-    (line_part (number_line_is (codes "bid") 0 (2 ^ 40 - 1) refl (omega arith) (omega arith))) (λ bid _. secret_count_whole auction seat bid) (λ bid secret is. ap (λ s. s.bid) is.1.1)
-
-secret_seat_whole : (auction : List ℕ) → IsWhole (SecretSeatOf auction) secret_seat_text (secret_seat_at auction)
-secret_seat_whole auction =
-    whole_then {IsZ = λ seat secret. BidOf auction seat secret} {text_z = λ seat secret. bid_text secret} (λ secret. secret.seat)
-    (line_part (number_line_is (codes "seat") 1 65535 refl (omega arith) (omega arith))) (λ seat _. bid_whole auction seat) (λ seat secret is. ap (λ s. s.seat) is.1.1.1)
-
-secret_id_whole : IsWhole SecretIdOf secret_id_text secret_id_at
-secret_id_whole =
-    whole_then {IsZ = λ auction secret. SecretSeatOf auction secret} {text_z = λ auction secret. secret_seat_text secret} (λ secret. secret.auction)
-    (line_part (id_line_is (codes "auction") refl (omega arith))) (λ auction _. secret_seat_whole auction) (λ auction secret is. ap (λ s. s.auction) is.1.1.1.1)
-
-secret_whole : IsWhole (λ secret. Unit {0} × SecretIdOf secret) (λ secret. line (codes "vickrey-secret 1") ++ secret_id_text secret) secret_at
-unfolding secret_at
-secret_whole =
-    whole_then {X = Unit {0}} {IsZ = λ _ secret. SecretIdOf secret} {text_z = λ _ secret. secret_id_text secret} (λ secret. tt)
-    (line_part (fixed_line (codes "vickrey-secret 1") refl (omega arith))) (λ heading _. secret_id_whole) (λ heading secret is. refl)
-
--- a mask that is at most the greatest residue is a residue
-to_tapes : (tapes : List XTape) → AllByRecursion TapeFacts tapes → AllByRecursion IsXTape tapes
-to_tapes [] all = tt
-to_tapes (tape ∷ tapes) all = let small = all.0.0 in ((omega arith, all.0.1, all.0.2), to_tapes tapes all.1)
-
-from_tapes : (tapes : List XTape) → AllByRecursion IsXTape tapes → AllByRecursion TapeFacts tapes
-from_tapes [] all = tt
-from_tapes (tape ∷ tapes) all = let small = all.0.0 in ((omega arith, all.0.1, all.0.2), from_tapes tapes all.1)
-
-below_from : {n : ℕ} → n ≤ 2 ^ 40 - 1 → n < 2 ^ 40
-below_from most = omega arith
-
-below_to : {n : ℕ} → n < 2 ^ 40 → n ≤ 2 ^ 40 - 1
-below_to below = omega arith
+bid_whole : (place : List ℕ × ℕ) → IsWhole (BidOf place) bid_text (λ rest. line_by (number_line (codes "bid") 0 (2 ^ 40 - 1)) rest >>= λ bid. lanes_at tape_at bid.1 >>= λ lanes. Ok (secret_with place bid.0 lanes.0, lanes.1))
+bid_whole place =
+    whole_then {IsZ = λ bid secret. TapesOf place bid secret} {text_z = λ bid secret. lanes_text tape_text secret.lanes} (λ secret. secret.bid)
+    (line_part (number_line_is (codes "bid") 0 (2 ^ 40 - 1) refl (omega arith) (omega arith)))
+    (λ bid _. whole_last (λ secret. secret.lanes) (secret_with place bid) (λ lanes. refl) (lanes_is_whole tape_line_is))
+    (λ bid secret is. ap (λ s. s.bid) is.1)
 
 pub secret_is_whole : IsWhole IsSecret secret_text secret_at
 unfolding secret_text secret_at
 secret_is_whole =
-    whole_same secret_whole
+    whole_same (
+    whole_then {IsZ = λ place secret. BidOf place secret} {text_z = λ place secret. bid_text secret} (λ secret. (secret.auction, secret.seat))
+    (place_is_part (codes "vickrey-secret 1") refl (omega arith))
+    (λ place _. bid_whole place)
+    (λ place secret is. ap (λ s. (s.auction, s.seat)) is.1.1)
+    )
     (λ secret is. record {
-      id = is.1.0;
-      some_seat = from_test 1 secret.seat is.1.1.0.1;
-      last_seat = is.1.1.0.0;
-      small_bid = below_from is.1.1.1.0.0;
-      some_lane = from_test 1 (length secret.lanes) is.1.1.1.1.0.1;
-      few_lanes = is.1.1.1.1.0.0;
-      tapes = to_tapes secret.lanes (all_from_each TapeFacts [] secret.lanes is.1.1.1.1.1.0.1);
+      id = is.0.0;
+      some_seat = is.0.1.0;
+      last_seat = is.0.1.1;
+      small_bid = below_from (2 ^ 40) secret.bid (omega arith) is.1.0.0;
+      some_lane = is.1.1.0.0;
+      few_lanes = is.1.1.0.1;
+      tapes = is.1.1.0.2;
     })
     (λ secret is. (
-      tt,
-      (
-        is.id,
-        (
-          (is.last_seat, to_test 1 secret.seat is.some_seat),
-          (
-            (below_to is.small_bid, to_test 0 secret.bid (omega arith)),
-            (
-              (is.few_lanes, to_test 1 (length secret.lanes) is.some_lane),
-              ((refl, each_from_all TapeFacts [] secret.lanes (from_tapes secret.lanes is.tapes)), refl),
-            ),
-          ),
-        ),
-      ),
+      (is.id, (is.some_seat, is.last_seat)),
+      ((below_to (2 ^ 40) secret.bid is.small_bid, to_test 0 secret.bid (omega arith)), ((is.some_lane, is.few_lanes, is.tapes), refl)),
     ))
     (λ secret. refl)
 
 -- ---- the fault lines
 
-seal_lanes_end : (auction : List ℕ) (seat count : ℕ) → Ends seal_table (Lanes count) (seal_lanes_at auction seat count)
-seal_lanes_end auction seat count =
-    ends_then seal_table (Lanes count) (many_follows seal_table (λ left before. Lanes left) (λ _. line_by com_line) (λ left before. line_follows seal_table (Lanes (suc left)) com_line (λ _. Lanes left) (λ text. refl) refl) count [])
-    (λ lanes. ends_done seal_table (Lanes zero) (seal_with auction seat lanes) (end_ends seal_table (Lanes zero) Over (λ text. refl) refl (λ text. refl) refl))
+place_follows : {X : Type 0} (heading : List ℕ) (behind : Place) (parse : List ℕ → Option X) → Follows (table_by heading behind parse) Heading (seat_at heading) (λ _. behind)
+unfolding seat_at
+place_follows heading behind parse =
+    let table = table_by heading behind parse in
+    follows_then table Heading (line_follows table Heading (word_of heading) (λ _. Auction) (λ text. refl) refl) (λ first.
+    follows_then table Auction (line_follows table Auction (id_line (codes "auction")) (λ _. Seat) (λ text. refl) refl) (λ auction.
+    follows_then table Seat (line_follows table Seat (number_line (codes "seat") 1 65535) (λ _. behind) (λ text. refl) refl) (λ seat.
+    follows_done table (λ _. behind) (auction, seat))))
 
-secret_lanes_end : (auction : List ℕ) (seat bid count : ℕ) → Ends secret_table (Lanes count) (secret_lanes_at auction seat bid count)
-secret_lanes_end auction seat bid count =
-    ends_then secret_table (Lanes count) (many_follows secret_table (λ left before. Lanes left) (λ _. line_by tape_line) (λ left before. line_follows secret_table (Lanes (suc left)) tape_line (λ _. Lanes left) (λ text. refl) refl) count [])
-    (λ lanes. ends_done secret_table (Lanes zero) (secret_with auction seat bid lanes) (end_ends secret_table (Lanes zero) Over (λ text. refl) refl (λ text. refl) refl))
+lanes_end : {X : Type 0} (heading : List ℕ) (behind : Place) (parse : List ℕ → Option X) (read : ℕ → List ℕ → Option X) → ((lane : ℕ) (text : List ℕ) → parse text ≡ read lane text)
+    → Ends (table_by heading behind parse) Count (lanes_at read)
+unfolding lanes_at
+lanes_end heading behind parse read same =
+    let table = table_by heading behind parse in
+    ends_then table Count (line_follows table Count (number_line (codes "lanes") 1 64) Lanes (λ text. refl) refl) (λ count.
+    ends_then table (Lanes count)
+    (many_follows table (λ left before. Lanes left) (λ before. line_by (read (length before)))
+    (λ left before. line_follows table (Lanes (suc left)) (read (length before)) (λ _. Lanes left) (λ text. ap (option_map (λ _. Lanes left)) (same (length before) text)) refl) count [])
+    (λ lanes. ends_done table (Lanes zero) lanes (end_ends table (Lanes zero) Over (λ text. refl) refl (λ text. refl) refl)))
 
 pub seal_ends : Ends seal_table Heading seal_at
-unfolding seal_at
+unfolding seal_at com_at
 seal_ends =
-    ends_then seal_table Heading (line_follows seal_table Heading _ (λ _. Auction) (λ text. refl) refl) (λ heading.
-    ends_then seal_table Auction (line_follows seal_table Auction _ (λ _. Seat) (λ text. refl) refl) (λ auction.
-    ends_then seal_table Seat (line_follows seal_table Seat _ (λ _. Count) (λ text. refl) refl) (λ seat.
-    ends_then seal_table Count (line_follows seal_table Count _ Lanes (λ text. refl) refl) (λ count.
-    seal_lanes_end auction seat count))))
+    ends_then seal_table Heading (place_follows (codes "vickrey-seal 1") Count com_line)
+    (λ place. ends_made seal_table Count (seal_with place) (lanes_end (codes "vickrey-seal 1") Count com_line com_at (λ lane text. refl)))
 
 pub seal_fault : (bytes : List ℕ) → fault_line seal_table bytes ≡ result_err (whole seal_at bytes)
 seal_fault bytes = fault_line_is seal_table seal_at seal_ends bytes
 
 pub secret_ends : Ends secret_table Heading secret_at
-unfolding secret_at
+unfolding secret_at tape_at
 secret_ends =
-    ends_then secret_table Heading (line_follows secret_table Heading _ (λ _. Auction) (λ text. refl) refl) (λ heading.
-    ends_then secret_table Auction (line_follows secret_table Auction _ (λ _. Seat) (λ text. refl) refl) (λ auction.
-    ends_then secret_table Seat (line_follows secret_table Seat _ (λ _. Bid) (λ text. refl) refl) (λ seat.
-    ends_then secret_table Bid (line_follows secret_table Bid _ (λ _. Count) (λ text. refl) refl) (λ bid.
-    ends_then secret_table Count (line_follows secret_table Count _ Lanes (λ text. refl) refl) (λ count.
-    secret_lanes_end auction seat bid count)))))
+    ends_then secret_table Heading (place_follows (codes "vickrey-secret 1") Bid tape_line) (λ place.
+    ends_then secret_table Bid (line_follows secret_table Bid (number_line (codes "bid") 0 (2 ^ 40 - 1)) (λ _. Count) (λ text. refl) refl)
+    (λ bid. ends_made secret_table Count (secret_with place bid) (lanes_end (codes "vickrey-secret 1") Bid tape_line tape_at (λ lane text. refl))))
 
 pub secret_fault : (bytes : List ℕ) → fault_line secret_table bytes ≡ result_err (whole secret_at bytes)
 secret_fault bytes = fault_line_is secret_table secret_at secret_ends bytes

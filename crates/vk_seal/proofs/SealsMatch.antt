@@ -12,7 +12,7 @@ use Rattle.vk_seal.specs.declared.secret.XTape.{XTape}
 use Rattle.vk_seal.specs.declared.secret.Secret.{Secret}
 use Rattle.vk_seal.specs.declared.secret.Seal.{Seal}
 use Rattle.vk_seal.specs.Made.{lane_com, lane_coms, seal_of}
-use Rattle.vk_seal.specs.Match.{and_then, com_match, coms_match, match_of}
+use Rattle.vk_seal.specs.Match.{and_then, com_match, half_match, coms_match, match_of}
 use Rattle.vk_seal.proofs.Tapes.{length-lane_coms}
 
 same_bytes : (bytes : List ℕ) → bytes_eq bytes bytes ≡ true
@@ -43,8 +43,9 @@ com_same kept made first second =
 
 com_match-ok : (lane : ℕ) (kept made : WireCom) → IsOk (com_match lane kept made) → kept ≡ made
 com_match-ok lane kept made ok =
-    let first = ok_if (bytes_eq kept.first made.first) (if bytes_eq kept.second made.second then Ok tt else Err (Digest lane true kept.second made.second)) (Digest lane false kept.first made.first) ok in
-    let second = ok_if (bytes_eq kept.second made.second) (Ok tt) (Digest lane true kept.second made.second) first.1 in
+    let both = ok_then (half_match lane false kept.first made.first) (half_match lane true kept.second made.second) ok in
+    let first = ok_if (bytes_eq kept.first made.first) (Ok tt) (Digest lane false kept.first made.first) both.0 in
+    let second = ok_if (bytes_eq kept.second made.second) (Ok tt) (Digest lane true kept.second made.second) both.1 in
     com_same kept made ((bytes_eq-Decides kept.first made.first).0 first.0) ((bytes_eq-Decides kept.second made.second).0 second.0)
 
 coms_match-ok : (auction : List ℕ) (seat bid lane : ℕ) (tapes : List XTape) (coms : List WireCom) → length coms ≡ length tapes → IsOk (coms_match auction seat bid lane tapes coms) → coms ≡ lane_coms auction seat bid lane tapes

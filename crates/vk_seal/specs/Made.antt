@@ -106,12 +106,12 @@ Leaves (Ok x) expected left = left ≡ expected
 Leaves (Err BidTooLarge) expected left = left ≡ expected
 Leaves (Err (DrySeed lane)) expected left = left ≡ expected
 
--- an answer, unless it is want of memory
-abbrev pub Answers : {T : Type 0} → Result T SealErr → Result T SealErr → Type 0
-Answers (Err NoMemory) expected = Unit {0}
-Answers (Ok x) expected = Ok x ≡ expected
-Answers (Err BidTooLarge) expected = Err BidTooLarge ≡ expected
-Answers (Err (DrySeed lane)) expected = Err (DrySeed lane) ≡ expected
+-- an answer is the expected one, unless it is want of memory
+abbrev pub IsExpected : {T : Type 0} → Result T SealErr → Result T SealErr → Type 0
+IsExpected (Err NoMemory) expected = Unit {0}
+IsExpected (Ok x) expected = Ok x ≡ expected
+IsExpected (Err BidTooLarge) expected = Err BidTooLarge ≡ expected
+IsExpected (Err (DrySeed lane)) expected = Err (DrySeed lane) ≡ expected
 
 -- the tapes that were drawn, or the first lane whose tape can't be, unless it is want of memory
 abbrev pub TapesAnswer : Result (List XTape) SealErr → Result (List XTape) ℕ → Type 0

@@ -1,5 +1,5 @@
 -- Whether a seal is that of a secret, and if not, the first field that differs.
-use Rattle.std.specs.Prelude.{ℕ, ◌+◌, ◌==◌, if◌then◌else◌, true, false, List, [], ◌∷◌, length, Result, Ok, Err}
+use Rattle.std.specs.Prelude.{ℕ, ◌+◌, ◌==◌, if◌then◌else◌, Bool, true, false, List, [], ◌∷◌, length, Result, Ok, Err}
 use Rattle.std.specs.Str.{bytes_eq}
 use Rattle.vk_wire.specs.declared.wire.WireCom.{WireCom}
 use Rattle.vk_seal.specs.declared.matching.Mismatch.{Mismatch}
@@ -14,12 +14,13 @@ abbrev pub and_then : Result Unit Mismatch → Result Unit Mismatch → Result U
 and_then (Ok done) next = next
 and_then (Err mismatch) next = Err mismatch
 
+-- the digest of a half, where the kept one isn't the one made from the secret
+abbrev pub half_match : ℕ → Bool → List ℕ → List ℕ → Result Unit Mismatch
+half_match lane second kept made = if bytes_eq kept made then Ok tt else Err (Digest lane second kept made)
+
 -- the first digest of a lane that differs, of the kept commitments and those made from the secret
 abbrev pub com_match : ℕ → WireCom → WireCom → Result Unit Mismatch
-com_match lane kept made =
-    if bytes_eq kept.first made.first
-    then (if bytes_eq kept.second made.second then Ok tt else Err (Digest lane true kept.second made.second))
-    else Err (Digest lane false kept.first made.first)
+com_match lane kept made = and_then (half_match lane false kept.first made.first) (half_match lane true kept.second made.second)
 
 -- lane by lane from that number on
 abbrev pub coms_match : List ℕ → ℕ → ℕ → ℕ → List XTape → List WireCom → Result Unit Mismatch

@@ -4,7 +4,7 @@ use Rattle.vk_lines.specs.Forms.{Table}
 use Rattle.vk_lines.specs.Tokens.{word_of, number_line, id_line}
 use Rattle.vk_seal.specs.Reading.{com_line, tape_line}
 
--- the places of both forms; a seal has no bid. At `Lanes` so many lines of lanes are left
+-- the places of both forms; in a seal the count stands behind the seat, and no place leads to a bid. At `Lanes` so many lines of lanes are left
 pub data Place : Type 0 where
   Heading : Place
   Auction : Place
@@ -18,28 +18,22 @@ abbrev pub is_over : Place → Bool
 is_over Over = true
 is_over _ = false
 
-abbrev pub seal_next : Place → List ℕ → Option Place
-seal_next Heading text = option_map (λ _. Auction) (word_of (codes "vickrey-seal 1") text)
-seal_next Auction text = option_map (λ _. Seat) (id_line (codes "auction") text)
-seal_next Seat text = option_map (λ _. Count) (number_line (codes "seat") 1 65535 text)
-seal_next Bid text = None
-seal_next Count text = option_map Lanes (number_line (codes "lanes") 1 64 text)
-seal_next (Lanes zero) text = option_map (λ _. Over) (word_of (codes "end") text)
-seal_next (Lanes (suc more)) text = option_map (λ _. Lanes more) (com_line text)
-seal_next Over text = None
+-- a form with this first line, this place behind the seat and these lines of lanes
+abbrev pub next_by : {X : Type 0} → List ℕ → Place → (List ℕ → Option X) → Place → List ℕ → Option Place
+next_by heading behind parse Heading text = option_map (λ _. Auction) (word_of heading text)
+next_by heading behind parse Auction text = option_map (λ _. Seat) (id_line (codes "auction") text)
+next_by heading behind parse Seat text = option_map (λ _. behind) (number_line (codes "seat") 1 65535 text)
+next_by heading behind parse Bid text = option_map (λ _. Count) (number_line (codes "bid") 0 (2 ^ 40 - 1) text)
+next_by heading behind parse Count text = option_map Lanes (number_line (codes "lanes") 1 64 text)
+next_by heading behind parse (Lanes zero) text = option_map (λ _. Over) (word_of (codes "end") text)
+next_by heading behind parse (Lanes (suc more)) text = option_map (λ _. Lanes more) (parse text)
+next_by heading behind parse Over text = None
+
+abbrev pub table_by : {X : Type 0} → List ℕ → Place → (List ℕ → Option X) → Table Place
+table_by heading behind parse = record { first = Heading; next = next_by heading behind parse; over = is_over }
 
 abbrev pub seal_table : Table Place
-seal_table = record { first = Heading; next = seal_next; over = is_over }
-
-abbrev pub secret_next : Place → List ℕ → Option Place
-secret_next Heading text = option_map (λ _. Auction) (word_of (codes "vickrey-secret 1") text)
-secret_next Auction text = option_map (λ _. Seat) (id_line (codes "auction") text)
-secret_next Seat text = option_map (λ _. Bid) (number_line (codes "seat") 1 65535 text)
-secret_next Bid text = option_map (λ _. Count) (number_line (codes "bid") 0 (2 ^ 40 - 1) text)
-secret_next Count text = option_map Lanes (number_line (codes "lanes") 1 64 text)
-secret_next (Lanes zero) text = option_map (λ _. Over) (word_of (codes "end") text)
-secret_next (Lanes (suc more)) text = option_map (λ _. Lanes more) (tape_line text)
-secret_next Over text = None
+seal_table = table_by (codes "vickrey-seal 1") Count com_line
 
 abbrev pub secret_table : Table Place
-secret_table = record { first = Heading; next = secret_next; over = is_over }
+secret_table = table_by (codes "vickrey-secret 1") Bid tape_line

@@ -1,6 +1,6 @@
 ghost use Rattle.std.specs.Prelude.{◌≡◌, ◌<◌, ◌≤◌, ◌^◌, [], length, Ok, IfOk, IfErr, IfSome};
 ghost use Rattle.std.specs.List.{All};
-ghost use Rattle.vk_seal.specs.Made.{Answers, Leaves, TapesAnswer, made_seal, sealed_tapes, tapes_onto, drawn_tape, after_drawn, after_tapes, after_seal, lane_com, lane_coms};
+ghost use Rattle.vk_seal.specs.Made.{IsExpected, Leaves, TapesAnswer, made_seal, sealed_tapes, tapes_onto, drawn_tape, after_drawn, after_tapes, after_seal, lane_com, lane_coms};
 ghost use Rattle.vk_seal.specs.Match.{match_of};
 ghost use Rattle.vk_wire.specs.Values.{IsCom};
 ghost use Rattle.vk_seal.specs.Values.{IsSeal, IsSecret, IsXTape};
@@ -53,7 +53,7 @@ pub fn make_seal<W: Words>(
     requires most_width { width ≤ 40 }
     requires some_lane { 1 ≤ lanes }
     requires few_lanes { lanes ≤ 64 }
-    ensures made { Answers result (made_seal bid seat auction.now width lanes (W.ahead words.old)) }
+    ensures made { IsExpected result (made_seal bid seat auction.now width lanes (W.ahead words.old)) }
     ensures left { Leaves result (after_seal bid width lanes (W.ahead words.old)) (W.ahead words.new) }
     ensures secret { IfOk result (λ made. IsSecret made.0) }
     ensures seal { IfOk result (λ made. IsSeal made.1) }

@@ -1,6 +1,6 @@
 ghost use Rattle.std.specs.Prelude.{◌≡◌, ◌↔◌, ◌<◌, ◌≤◌, ◌^◌, length, IsOk};
 ghost use Rattle.vk_seal.specs.Made.{seal_of};
-ghost use Rattle.vk_seal.specs.Match.{match_of, com_match, coms_match};
+ghost use Rattle.vk_seal.specs.Match.{match_of, com_match, half_match, coms_match};
 
 use crate::making::commit_lane;
 use crate::secret::{Seal, Secret, XTape};
@@ -91,21 +91,21 @@ fn match_lanes(secret: &Secret, tapes: &[XTape], coms: &[WireCom]) -> Result<(),
 fn match_lane(lane: u16, kept: &WireCom, made: &WireCom) -> Result<(), Mismatch>
     ensures { result ≡ com_match lane kept.now made.now }
 {
-    let lane = u32::from(lane);
-    if kept.first != made.first {
+    match_half(lane, false, &kept.first, &made.first)?;
+    match_half(lane, true, &kept.second, &made.second)?;
+    Ok(())
+}
+
+/// Whether the kept commitment of a half is the one made from the secret.
+fn match_half(lane: u16, second: bool, kept: &[u8; 32], made: &[u8; 32]) -> Result<(), Mismatch>
+    ensures { result ≡ half_match lane second kept.now made.now }
+{
+    if kept != made {
         return Err(Mismatch::Digest {
-            lane,
-            second: false,
-            kept: kept.first,
-            made: made.first,
-        });
-    }
-    if kept.second != made.second {
-        return Err(Mismatch::Digest {
-            lane,
-            second: true,
-            kept: kept.second,
-            made: made.second,
+            lane: u32::from(lane),
+            second,
+            kept: *kept,
+            made: *made,
         });
     }
     Ok(())

@@ -1,15 +1,15 @@
-ghost use Rattle.std.specs.Prelude.{length, ◌≡◌, List, ◌<◌, ◌≤◌, ◌-◌, ◌^◌, ℕ, IfSome, IfOk};
+ghost use Rattle.std.specs.Prelude.{length, ◌≡◌, ◌<◌, ◌≤◌, ◌^◌, IfOk};
 ghost use Rattle.std.specs.List.{All};
 ghost use Rattle.vk_io.specs.Reads.{OnlyReads};
 ghost use Rattle.vk_commit.specs.Values.{AreBytes};
 ghost use Rattle.vk_wire.specs.Values.{IsCom};
 ghost use Rattle.vk_seal.specs.Values.{IsSeal, IsSecret, IsXTape};
-ghost use Rattle.vk_lines.specs.Forms.{Answers, many_at};
-ghost use Rattle.vk_lines.specs.Lines.{KeepsFile, Reads, line_by, rest_of};
+ghost use Rattle.vk_lines.specs.Forms.{AnswersWhole, EachNumbered};
+ghost use Rattle.vk_lines.specs.Lines.{KeepsFile, ReadsPart};
 ghost use Rattle.vk_lines.specs.declared.errors.ReadErr.TheVariants.{Failed};
 ghost use Rattle.vk_seal.specs.Texts.{seal_text, secret_text};
 ghost use Rattle.vk_seal.specs.Tables.{seal_table, secret_table};
-ghost use Rattle.vk_seal.specs.Reading.{com_line, tape_line, seal_at, secret_at};
+ghost use Rattle.vk_seal.specs.Reading.{seat_at, lanes_at, seal_at, secret_at};
 
 use crate::secret::{Seal, Secret, XTape};
 use std::alloc::Global;
@@ -27,10 +27,8 @@ const MOST_BID: u64 = (1 << 40) - 1;
 /// Reads a seal's file whole. Malformed carries the number of the first line that isn't what its
 /// place demands.
 pub fn read_seal<S: Shelf>(alloc: Global, shelf: &mut S, lines: &mut Lines) -> Result<Seal, ReadErr>
-    ensures told { IfSome (S.held shelf.old) (λ files.
-        Reads (λ x. x) result (rest_of lines.new files) (seal_at (rest_of lines.old files))) }
-    ensures answers { IfSome (S.held shelf.old) (λ files. (bytes : List ℕ) → rest_of lines.old files ≡ record { taken = 0; left = bytes }
-        → Answers IsSeal seal_text seal_table (λ x. x) bytes result) }
+    ensures told { ReadsPart seal_at (S.held shelf.old) lines.old lines.new result }
+    ensures answers { AnswersWhole IsSeal seal_text seal_table (S.held shelf.old) lines.old result }
     ensures right { IfOk result IsSeal }
     ensures file { KeepsFile lines.old lines.new }
     ensures shelf { OnlyReads S.held S.Shelf.faults ReadErr.Failed result shelf.old shelf.new }
@@ -42,26 +40,21 @@ pub fn read_seal<S: Shelf>(alloc: Global, shelf: &mut S, lines: &mut Lines) -> R
 /// The same, part by part.
 #[tactic(auto, unfolding(crate::specs::Reading::seal_at))]
 fn seal_read<S: Shelf>(alloc: Global, shelf: &mut S, lines: &mut Lines) -> Result<Seal, ReadErr>
-    ensures told { IfSome (S.held shelf.old) (λ files.
-        Reads (λ x. x) result (rest_of lines.new files) (seal_at (rest_of lines.old files))) }
+    ensures told { ReadsPart seal_at (S.held shelf.old) lines.old lines.new result }
     ensures right { IfOk result IsSeal }
     ensures file { KeepsFile lines.old lines.new }
     ensures shelf { OnlyReads S.held S.Shelf.faults ReadErr.Failed result shelf.old shelf.new }
 {
-    lines.read_fixed(shelf, b"vickrey-seal 1")?;
-    let auction = lines.read_id(shelf, b"auction")?;
-    let seat = lines.read_number(shelf, b"seat", 1, 65535)?;
-    let count = lines.read_number(shelf, b"lanes", 1, 64)?;
-    let lanes = read_coms(alloc, shelf, lines, count)?;
-    lines.read_end(shelf)?;
+    let (auction, seat) = read_seat(shelf, lines, b"vickrey-seal 1")?;
+    let lanes = read_lanes(alloc, shelf, lines, &ComLine)?;
     Ok(seal_from(&auction, seat, lanes))
 }
 
 /// A seal of what was read.
-fn seal_from(auction: &[u8; 16], seat: u64, lanes: Seq<WireCom>) -> Seal
+#[tactic(auto, using(std::proofs::lemmas::List::Elements::recursion_from_All))]
+fn seal_from(auction: &[u8; 16], seat: u16, lanes: Seq<WireCom>) -> Seal
     requires id { AreBytes 16 auction.now }
     requires some_seat { 1 ≤ seat }
-    requires last_seat { seat ≤ 65535 }
     requires some_lane { 1 ≤ length lanes }
     requires few_lanes { length lanes ≤ 64 }
     requires digests { All IsCom lanes }
@@ -70,28 +63,50 @@ fn seal_from(auction: &[u8; 16], seat: u64, lanes: Seq<WireCom>) -> Seal
 {
     Seal {
         auction: *auction,
-        seat: seat as u16,
+        seat,
         lanes,
     }
 }
 
-/// Reads the lines of a seal's lanes.
-fn read_coms<S: Shelf>(
-    alloc: Global,
+/// Reads the first line of a form, the id of an auction and a seat.
+#[tactic(auto, unfolding(crate::specs::Reading::seat_at))]
+fn read_seat<S: Shelf>(
     shelf: &mut S,
     lines: &mut Lines,
-    count: u64,
-) -> Result<Seq<WireCom>, ReadErr>
-    requires { count ≤ 64 }
-    ensures told { IfSome (S.held shelf.old) (λ files.
-        Reads (λ x. x) result (rest_of lines.new files) (many_at count (λ _. line_by com_line) (rest_of lines.old files))) }
-    ensures number { IfOk result (λ coms. length coms ≡ count) }
-    ensures digests { IfOk result (All IsCom) }
+    heading: &[u8],
+) -> Result<([u8; 16], u16), ReadErr>
+    ensures told { ReadsPart (seat_at heading.now) (S.held shelf.old) lines.old lines.new result }
+    ensures id { IfOk result (λ place. AreBytes 16 place.0) }
+    ensures some_seat { IfOk result (λ place. 1 ≤ place.1) }
     ensures file { KeepsFile lines.old lines.new }
     ensures shelf { OnlyReads S.held S.Shelf.faults ReadErr.Failed result shelf.old shelf.new }
 {
-    let coms = read_many(alloc, shelf, lines, &ComLine, count as u32)?;
-    Ok(coms)
+    lines.read_fixed(shelf, heading)?;
+    let auction = lines.read_id(shelf, b"auction")?;
+    let seat = lines.read_number(shelf, b"seat", 1, 65535)?;
+    Ok((auction, seat as u16))
+}
+
+/// Reads how many lanes there are, the line of each, and the end.
+#[tactic(auto, unfolding(crate::specs::Reading::lanes_at))]
+fn read_lanes<S: Shelf, K: LineKind>(
+    alloc: Global,
+    shelf: &mut S,
+    lines: &mut Lines,
+    kind: &K,
+) -> Result<Seq<K::Item>, ReadErr>
+    requires { 64 ≤ K.most kind.now }
+    ensures told { ReadsPart (lanes_at (K.item_of kind.now)) (S.held shelf.old) lines.old lines.new result }
+    ensures some { IfOk result (λ lanes. 1 ≤ length lanes) }
+    ensures few { IfOk result (λ lanes. length lanes ≤ 64) }
+    ensures each { IfOk result (EachNumbered (K.is_item kind.now)) }
+    ensures file { KeepsFile lines.old lines.new }
+    ensures shelf { OnlyReads S.held S.Shelf.faults ReadErr.Failed result shelf.old shelf.new }
+{
+    let count = lines.read_number(shelf, b"lanes", 1, 64)?;
+    let lanes = read_many(alloc, shelf, lines, kind, count as u32)?;
+    lines.read_end(shelf)?;
+    Ok(lanes)
 }
 
 /// The line of one lane of a seal.
@@ -101,29 +116,21 @@ struct ComLine;
 impl LineKind for ComLine {
     ghost use Rattle.std.specs.Prelude.{◌^◌};
     ghost use Rattle.vk_wire.specs.Values.{IsCom};
-    ghost use Rattle.vk_seal.specs.Reading.{com_line};
+    ghost use Rattle.vk_seal.specs.Reading.{com_at};
 
     type Item = WireCom;
 
     ghost most = { λ _. 2 ^ 32 };
 
-    ghost item_of = { λ _ _ text. com_line text };
+    ghost item_of = { λ _. com_at };
 
     ghost is_item = { λ _ _ digests. IsCom digests };
 
-    fn read(&self, _number: u32, text: &[u8]) -> Option<WireCom> {
-        let digests = com_of(text);
-        digests
+    #[tactic(auto, unfolding(crate::specs::Reading::com_at))]
+    fn read(&self, _lane: u32, text: &[u8]) -> Option<WireCom> {
+        let (first, second) = read_digests(text, b"x")?;
+        Some(WireCom { first, second })
     }
-}
-
-/// The commitments of a seal's line.
-fn com_of(text: &[u8]) -> Option<WireCom>
-    ensures value { result ≡ com_line text.now }
-    ensures digests { IfSome result IsCom }
-{
-    let (first, second) = read_digests(text, b"x")?;
-    Some(WireCom { first, second })
 }
 
 /// Reads a secret's file whole. Malformed carries the number of the first line that isn't what its
@@ -133,10 +140,8 @@ pub fn read_secret<S: Shelf>(
     shelf: &mut S,
     lines: &mut Lines,
 ) -> Result<Secret, ReadErr>
-    ensures told { IfSome (S.held shelf.old) (λ files.
-        Reads (λ x. x) result (rest_of lines.new files) (secret_at (rest_of lines.old files))) }
-    ensures answers { IfSome (S.held shelf.old) (λ files. (bytes : List ℕ) → rest_of lines.old files ≡ record { taken = 0; left = bytes }
-        → Answers IsSecret secret_text secret_table (λ x. x) bytes result) }
+    ensures told { ReadsPart secret_at (S.held shelf.old) lines.old lines.new result }
+    ensures answers { AnswersWhole IsSecret secret_text secret_table (S.held shelf.old) lines.old result }
     ensures right { IfOk result IsSecret }
     ensures file { KeepsFile lines.old lines.new }
     ensures shelf { OnlyReads S.held S.Shelf.faults ReadErr.Failed result shelf.old shelf.new }
@@ -148,27 +153,22 @@ pub fn read_secret<S: Shelf>(
 /// The same, part by part.
 #[tactic(auto, unfolding(crate::specs::Reading::secret_at))]
 fn secret_read<S: Shelf>(alloc: Global, shelf: &mut S, lines: &mut Lines) -> Result<Secret, ReadErr>
-    ensures told { IfSome (S.held shelf.old) (λ files.
-        Reads (λ x. x) result (rest_of lines.new files) (secret_at (rest_of lines.old files))) }
+    ensures told { ReadsPart secret_at (S.held shelf.old) lines.old lines.new result }
     ensures right { IfOk result IsSecret }
     ensures file { KeepsFile lines.old lines.new }
     ensures shelf { OnlyReads S.held S.Shelf.faults ReadErr.Failed result shelf.old shelf.new }
 {
-    lines.read_fixed(shelf, b"vickrey-secret 1")?;
-    let auction = lines.read_id(shelf, b"auction")?;
-    let seat = lines.read_number(shelf, b"seat", 1, 65535)?;
+    let (auction, seat) = read_seat(shelf, lines, b"vickrey-secret 1")?;
     let bid = lines.read_number(shelf, b"bid", 0, MOST_BID)?;
-    let count = lines.read_number(shelf, b"lanes", 1, 64)?;
-    let lanes = read_tapes(alloc, shelf, lines, count)?;
-    lines.read_end(shelf)?;
+    let lanes = read_lanes(alloc, shelf, lines, &TapeLine)?;
     Ok(secret_from(&auction, seat, bid, lanes))
 }
 
 /// A secret of what was read.
-fn secret_from(auction: &[u8; 16], seat: u64, bid: u64, lanes: Seq<XTape>) -> Secret
+#[tactic(auto, using(std::proofs::lemmas::List::Elements::recursion_from_All))]
+fn secret_from(auction: &[u8; 16], seat: u16, bid: u64, lanes: Seq<XTape>) -> Secret
     requires id { AreBytes 16 auction.now }
     requires some_seat { 1 ≤ seat }
-    requires last_seat { seat ≤ 65535 }
     requires small_bid { bid < 2 ^ 40 }
     requires some_lane { 1 ≤ length lanes }
     requires few_lanes { length lanes ≤ 64 }
@@ -178,29 +178,10 @@ fn secret_from(auction: &[u8; 16], seat: u64, bid: u64, lanes: Seq<XTape>) -> Se
 {
     Secret {
         auction: *auction,
-        seat: seat as u16,
+        seat,
         bid,
         lanes,
     }
-}
-
-/// Reads the lines of a secret's lanes.
-fn read_tapes<S: Shelf>(
-    alloc: Global,
-    shelf: &mut S,
-    lines: &mut Lines,
-    count: u64,
-) -> Result<Seq<XTape>, ReadErr>
-    requires { count ≤ 64 }
-    ensures told { IfSome (S.held shelf.old) (λ files.
-        Reads (λ x. x) result (rest_of lines.new files) (many_at count (λ _. line_by tape_line) (rest_of lines.old files))) }
-    ensures number { IfOk result (λ tapes. length tapes ≡ count) }
-    ensures right { IfOk result (All IsXTape) }
-    ensures file { KeepsFile lines.old lines.new }
-    ensures shelf { OnlyReads S.held S.Shelf.faults ReadErr.Failed result shelf.old shelf.new }
-{
-    let tapes = read_many(alloc, shelf, lines, &TapeLine, count as u32)?;
-    Ok(tapes)
 }
 
 /// The line of one lane of a secret.
@@ -210,34 +191,26 @@ struct TapeLine;
 impl LineKind for TapeLine {
     ghost use Rattle.std.specs.Prelude.{◌^◌};
     ghost use Rattle.vk_seal.specs.Values.{IsXTape};
-    ghost use Rattle.vk_seal.specs.Reading.{tape_line};
+    ghost use Rattle.vk_seal.specs.Reading.{tape_at};
 
     type Item = XTape;
 
     ghost most = { λ _. 2 ^ 32 };
 
-    ghost item_of = { λ _ _ text. tape_line text };
+    ghost item_of = { λ _. tape_at };
 
     ghost is_item = { λ _ _ tape. IsXTape tape };
 
-    fn read(&self, _number: u32, text: &[u8]) -> Option<XTape> {
-        let tape = tape_of(text);
-        tape
+    #[tactic(auto, unfolding(crate::specs::Reading::tape_at))]
+    fn read(&self, _lane: u32, text: &[u8]) -> Option<XTape> {
+        let (mask, first_key, second_key) = three_fields(behind_word(text, b"x")?)?;
+        let mask = read_residue(mask)?;
+        let first_key = read_hex32(first_key)?;
+        let second_key = read_hex32(second_key)?;
+        Some(XTape {
+            mask,
+            first_key,
+            second_key,
+        })
     }
-}
-
-/// The tape of a secret's line.
-fn tape_of(text: &[u8]) -> Option<XTape>
-    ensures value { result ≡ tape_line text.now }
-    ensures right { IfSome result IsXTape }
-{
-    let (mask, first_key, second_key) = three_fields(behind_word(text, b"x")?)?;
-    let mask = read_residue(mask)?;
-    let first_key = read_hex32(first_key)?;
-    let second_key = read_hex32(second_key)?;
-    Some(XTape {
-        mask,
-        first_key,
-        second_key,
-    })
 }
