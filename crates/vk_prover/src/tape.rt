@@ -1,14 +1,15 @@
 // The tape of a lane, and how it is drawn.
-ghost use Rattle.std.specs.Prelude.{◌≡◌, ◌-◌, All, length, IfErr, IfOk, IfSome};
+ghost use Rattle.std.specs.Prelude.{◌≡◌, ◌-◌, ◌++◌, ◌∷◌, [], All, length, IfOk, IfSome, OnOk};
 ghost use Rattle.vk_dice.specs.Draws.{after_residue};
 ghost use Rattle.vk_wire.specs.Values.{IsTape};
 ghost use Rattle.vk_prover.specs.Drawn.{TapeAnswer, TapeWords, drawn_tape, drawn_wire, after_wire, after_wires, words_after};
 ghost use Rattle.vk_prover.specs.Laws.{IsTapeOf};
-ghost use Rattle.vk_prover.specs.declared.tape.DrawErr.TheVariants.{NoMemory};
+ghost use Rattle.vk_prover.specs.declared.tape.DrawErr.TheVariants.{NoMemory as MemoryRefused};
 
-use std::alloc::{AllocError, AllocFailed, Global};
+use std::alloc::Global;
 use vk_dice::{Words, draw_bit, draw_key, draw_residue};
 use vk_plan::Plan;
+use vk_residue::NoMemory;
 use vk_seq::Seq;
 use vk_wire::WireTape;
 
@@ -27,18 +28,10 @@ pub enum DrawErr {
     NoMemory,
 }
 
-impl From<AllocError> for DrawErr {
-    ghost from_gives = { λ _ e. e ≡ NoMemory };
+impl From<NoMemory> for DrawErr {
+    ghost from_gives = { λ _ e. e ≡ MemoryRefused };
 
-    fn from(_refused: AllocError) -> DrawErr {
-        DrawErr::NoMemory
-    }
-}
-
-impl<T: Drop> From<AllocFailed<T>> for DrawErr {
-    ghost from_gives = { λ _ e. e ≡ NoMemory };
-
-    fn from(_refused: AllocFailed<T>) -> DrawErr {
+    fn from(_refused: NoMemory) -> DrawErr {
         DrawErr::NoMemory
     }
 }
@@ -60,7 +53,7 @@ pub fn draw_tape<W: Words>(
     let mut wires = copied(alloc, given)?;
     for wire in plan.inputs()..plan.wires() {
         let tape = draw_wire(words).ok_or(DrawErr::DrySeed { wire })?;
-        wires.push(tape)?;
+        keep(&mut wires, tape)?;
     }
     Ok(LaneTape { wires })
 }
@@ -84,16 +77,22 @@ fn draw_wire<W: Words>(words: &mut W) -> Option<WireTape>
 }
 
 /// The tapes in memory of their own.
-fn copied(alloc: Global, given: &[WireTape]) -> Result<Seq<WireTape>, DrawErr>
+fn copied(alloc: Global, given: &[WireTape]) -> Result<Seq<WireTape>, NoMemory>
     ensures same { IfOk result (λ wires. wires ≡ given.now) }
     ensures tapes { IfOk result (λ wires. All IsTape wires) }
-    ensures memory { IfErr result (λ refused. refused ≡ NoMemory) }
 {
     let mut wires = Seq::new(alloc);
     for tape in given {
         wires.push(itself(*tape))?;
     }
     Ok(wires)
+}
+
+fn keep(wires: &mut Seq<WireTape>, tape: WireTape) -> Result<(), NoMemory>
+    ensures { OnOk result (wires.new ≡ wires.old ++ tape ∷ []) }
+{
+    wires.push(tape)?;
+    Ok(())
 }
 
 /// The tape. That it is one is what its type says.

@@ -2,7 +2,6 @@
 ghost use Rattle.vk_row.specs.declared.case.LaneFault.TheVariants.{NoMemory as OutOfMemory};
 ghost use Rattle.std.specs.Prelude.{◌≡◌};
 
-use std::alloc::{AllocError, AllocFailed};
 use vk_residue::{NoMemory, Residue};
 use vk_seq::Seq;
 use vk_wire::{WireCom, WireFault};
@@ -33,22 +32,6 @@ impl From<NoMemory> for LaneFault {
     ghost from_gives = { λ _ fault. fault ≡ OutOfMemory };
 
     fn from(_refused: NoMemory) -> LaneFault {
-        LaneFault::NoMemory
-    }
-}
-
-impl From<AllocError> for LaneFault {
-    ghost from_gives = { λ _ fault. fault ≡ OutOfMemory };
-
-    fn from(_refused: AllocError) -> LaneFault {
-        LaneFault::NoMemory
-    }
-}
-
-impl<T: Drop> From<AllocFailed<T>> for LaneFault {
-    ghost from_gives = { λ _ fault. fault ≡ OutOfMemory };
-
-    fn from(_refused: AllocFailed<T>) -> LaneFault {
         LaneFault::NoMemory
     }
 }

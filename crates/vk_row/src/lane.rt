@@ -1,18 +1,18 @@
 // The check of what is shown of a lane.
-ghost use Rattle.std.specs.Prelude.{◌≡◌, ◌⊎◌, ◌<◌, [], length, slice_index, slice_index_or, IfOk, IfErr, Ok, Err};
+ghost use Rattle.std.specs.Prelude.{◌≡◌, ◌⊎◌, ◌<◌, ◌++◌, [], ◌∷◌, length, slice_index, slice_index_or, IfOk, IfErr, OnOk, Ok, Err};
 ghost use Rattle.vk_plan.specs.Plans.{IsPlan};
 ghost use Rattle.vk_plan.specs.declared.wire.WireKind.TheVariants.{Split};
 ghost use Rattle.vk_wire.specs.Reads.{read_of};
 ghost use Rattle.vk_row.specs.Lanes.{HasCounts, IsAcceptedLane, HasLaneFault, place_in, no_digests, nothing_shown, no_row};
 ghost use Rattle.vk_row.specs.Rows.{has_side};
 ghost use Rattle.vk_row.specs.LaneTests.{at_wire, halves_from, first_false_row, checked_lane};
-ghost use Rattle.vk_row.specs.declared.case.LaneFault.TheVariants.{NoMemory};
+ghost use Rattle.vk_row.specs.declared.case.LaneFault.TheVariants.{NoMemory as OutOfMemory};
 
 use crate::case::{LaneCase, LaneFault};
 use crate::row::check;
 use std::alloc::Global;
 use vk_plan::Plan;
-use vk_residue::Residue;
+use vk_residue::{NoMemory, Residue};
 use vk_wire::{Shown, read, wire_place};
 
 /// The halves of the wires of the lane, if each wire reads one and each row is met.
@@ -31,11 +31,11 @@ pub fn check_lane(
     ensures accepted { IfOk result
         (λ halves. IsAcceptedLane plan.now case.now bit shown.now halves.items) }
     ensures refused { IfErr result
-        (λ fault. (fault ≡ NoMemory) ⊎ HasLaneFault plan.now case.now bit shown.now fault) }
+        (λ fault. (fault ≡ OutOfMemory) ⊎ HasLaneFault plan.now case.now bit shown.now fault) }
     ensures halves { IfOk result
         (λ halves. checked_lane plan.now case.now bit shown.now ≡ Ok halves.items) }
     ensures fault { IfErr result
-        (λ fault. (fault ≡ NoMemory) ⊎ (checked_lane plan.now case.now bit shown.now ≡ Err fault)) }
+        (λ fault. (fault ≡ OutOfMemory) ⊎ (checked_lane plan.now case.now bit shown.now ≡ Err fault)) }
 {
     let halves = read_wires(alloc, plan, case, bit, shown)?;
     match first_unmet_row(plan, case, bit, halves.as_slice()) {
@@ -60,16 +60,31 @@ fn read_wires(
         (λ halves. halves_from case.now bit [] plan.now.kinds case.now.coms shown.now
         ≡ Ok halves.items) }
     ensures fault { IfErr result
-        (λ fault. (fault ≡ NoMemory)
+        (λ fault. (fault ≡ OutOfMemory)
         ⊎ (halves_from case.now bit [] plan.now.kinds case.now.coms shown.now ≡ Err fault)) }
 {
     let wires = plan.wires();
-    let mut halves = Vec::with_capacity(alloc, wires as usize)?;
+    let mut halves = room_for(alloc, wires)?;
     for wire in 0..wires {
         let half = read_wire(plan, case, bit, shown, wire)?;
-        halves.push(half)?;
+        keep(&mut halves, half)?;
     }
     Ok(halves)
+}
+
+/// No halves yet, with room for so many.
+fn room_for(alloc: Global, wires: u32) -> Result<Vec<Residue>, NoMemory>
+    ensures { IfOk result (λ halves. halves.items ≡ []) }
+{
+    let halves = Vec::with_capacity(alloc, wires as usize)?;
+    Ok(halves)
+}
+
+fn keep(halves: &mut Vec<Residue>, half: Residue) -> Result<(), NoMemory>
+    ensures { OnOk result (halves.new.items ≡ halves.old.items ++ half ∷ []) }
+{
+    halves.push(half)?;
+    Ok(())
 }
 
 /// The half of one wire.

@@ -58,16 +58,20 @@ first_alone bids best is_best = record {
   held = λ h. absurd (omega arith);
 }
 
+-- what is true of each place so far and of the next is true of all of these
+next_holds : (P : ℕ → Type 0) (count : ℕ) → P count → ((j : ℕ) → j < count → P j) → (j : ℕ) → j < count + 1 → P j
+next_holds P count here before j h = elim (cases_lt j count) [
+  | inl q ↦ before j q
+  | inr q ↦ (let e : j ≡ count = omega arith in subst P (sym e) here)
+]
+
 -- the next bid is above the best: its holder wins, and the price is the best so far
 pub next_wins : (bids : List ℕ) (count winner best price : ℕ) → 1 ≤ count → best < slice_index bids count
     → IsOutcomeOfFirst bids count winner best price → IsOutcomeOfFirst bids (count + 1) count (slice_index bids count) best
 next_wins bids count winner best price some above so_far = record {
   inside = omega arith;
   is_best = refl;
-  most = λ j h. elim (cases_lt j count) [
-    | inl q ↦ omega (arith, so_far.most j q)
-    | inr q ↦ (let e : j ≡ count = omega arith in omega (arith, ap (slice_index bids) e))
-  ];
+  most = next_holds (λ j. slice_index bids j ≤ slice_index bids count) count (omega arith) (λ j q. omega (arith, so_far.most j q));
   first = λ j h. omega (arith, so_far.most j h);
   alone = λ h. absurd (omega arith);
   within = λ j h ne. so_far.most j (omega (arith, ne));
@@ -80,16 +84,10 @@ pub next_is_price : (bids : List ℕ) (count winner best price : ℕ) → slice_
 next_is_price bids count winner best price below above so_far = record {
   inside = omega (arith, so_far.inside);
   is_best = so_far.is_best;
-  most = λ j h. elim (cases_lt j count) [
-    | inl q ↦ so_far.most j q
-    | inr q ↦ (let e : j ≡ count = omega arith in omega (arith, ap (slice_index bids) e))
-  ];
+  most = next_holds (λ j. slice_index bids j ≤ best) count below so_far.most;
   first = so_far.first;
   alone = λ h. absurd (omega (arith, so_far.inside));
-  within = λ j h ne. elim (cases_lt j count) [
-    | inl q ↦ omega (arith, so_far.within j q ne)
-    | inr q ↦ (let e : j ≡ count = omega arith in omega (arith, ap (slice_index bids) e))
-  ];
+  within = next_holds (λ j. j ≢ winner → slice_index bids j ≤ slice_index bids count) count (λ ne. omega arith) (λ j q ne. omega (arith, so_far.within j q ne));
   held = λ h. (count, omega arith, (λ e. omega (arith, so_far.inside)), refl);
 }
 
@@ -99,16 +97,10 @@ pub next_is_lower : (bids : List ℕ) (count winner best price : ℕ) → slice_
 next_is_lower bids count winner best price below low so_far = record {
   inside = omega (arith, so_far.inside);
   is_best = so_far.is_best;
-  most = λ j h. elim (cases_lt j count) [
-    | inl q ↦ so_far.most j q
-    | inr q ↦ (let e : j ≡ count = omega arith in omega (arith, ap (slice_index bids) e))
-  ];
+  most = next_holds (λ j. slice_index bids j ≤ best) count below so_far.most;
   first = so_far.first;
   alone = λ h. absurd (omega (arith, so_far.inside));
-  within = λ j h ne. elim (cases_lt j count) [
-    | inl q ↦ so_far.within j q ne
-    | inr q ↦ (let e : j ≡ count = omega arith in omega (arith, ap (slice_index bids) e))
-  ];
+  within = next_holds (λ j. j ≢ winner → slice_index bids j ≤ price) count (λ ne. low) so_far.within;
   held = λ h. elim (cases_lt 1 count) [
     | inl q ↦ (let before = so_far.held (omega arith) in (before.0, omega (arith, before.1), before.2, before.3))
     | inr q ↦

@@ -1,5 +1,5 @@
 -- The plan of a second-price auction shows its outcome, and every outcome can be shown.
-use Rattle.std.specs.Prelude.{ℕ, ◌+◌, ◌-◌, ◌*◌, ◌%◌, ◌^◌, ◌<◌, ◌≤◌, ◌≡◌, ◌≢◌, ◌==◌, true, false, if◌then◌else◌, nat_lt, List, [], ◌∷◌, ◌++◌, All, length, take, replicate, slice_index}
+use Rattle.std.specs.Prelude.{ℕ, ◌+◌, ◌-◌, ◌*◌, ◌%◌, ◌^◌, ◌<◌, ◌≤◌, ◌≡◌, ◌≢◌, ◌==◌, Bool, true, false, if◌then◌else◌, nat_lt, List, [], ◌∷◌, ◌++◌, All, length, take, replicate, slice_index}
 use Rattle.std.proofs.Common.{refl, sym, ap, ◌∙◌, subst, arith, inl, inr, length-append, get_or-take}
 use Rattle.std.proofs.lemmas.List.{append-nil, get_or_default, length-replicate, get_or_append_left, get_or-append-add, length-take-le, take_all}
 use Rattle.std.proofs.lemmas.List.Elements.{All-cons, All-nil}
@@ -204,34 +204,43 @@ rows_are seals width winner price =
     ∙ ap (λ n. rows_from seals width winner price (length (copies seals seals).kinds) n (2 * seals + seals * width + (seals - 1) * width)) (sym (length_bids seals width))
     ∙ ap (λ n. rows_from seals width winner price (length (copies seals seals).kinds) (length (with_bids seals width).kinds) n) (sym (length_wins seals width winner))
 
+-- the rows before the selection, as the listed plan has them
+abbrev listed_rows : ℕ → ℕ → ℕ → ℕ → List Form
+listed_rows seals width winner price = rows_from seals width winner price (2 * seals) (2 * seals + seals * width) (2 * seals + seals * width + (seals - 1) * width)
+
+-- the listed plan, where there is one seal or where there are more
+listed_by : (seals width position price : ℕ) (one : Bool) → (seals == 1) ≡ one → vickrey_plan seals width position price ≡ record {
+  inputs = seals;
+  kinds = (with_prices seals width (position - 1) price).kinds ++ (if one then [] else selected_wires (price_selection seals width (position - 1) price));
+  rows = (with_prices seals width (position - 1) price).rows
+      ++ (if one then [] else selected_rows (price_selection seals width (position - 1) price) (2 * seals + seals * width + (seals - 1) * width + (seals - 1) * width));
+}
+unfolding vickrey_plan
+listed_by seals width position price one is =
+    let winner = position - 1 in
+    let plan = with_prices seals width winner price in
+    let relation = price_selection seals width winner price in
+    let more : Bool → List Form = λ b. if b then [] else selected_rows relation (2 * seals + seals * width + (seals - 1) * width + (seals - 1) * width) in
+    same_plan seals (plan.kinds ++ (if seals == 1 then [] else selected_wires relation)) (plan.kinds ++ (if one then [] else selected_wires relation))
+    (listed_rows seals width winner price ++ more (seals == 1)) (plan.rows ++ more one)
+    (ap (λ b. plan.kinds ++ (if b then [] else selected_wires relation)) is)
+    (ap (λ b. listed_rows seals width winner price ++ more b) is ∙ ap (λ rows. rows ++ more one) (rows_are seals width winner price))
+
 -- the listed plan is that of the relations one after another
 pub plan_alone : (seals width position price : ℕ) → (seals == 1) ≡ true → vickrey_plan seals width position price ≡ with_prices seals width (position - 1) price
-unfolding vickrey_plan
 plan_alone seals width position price one =
-    let winner = position - 1 in
-    let plan = with_prices seals width winner price in
-    let relation = price_selection seals width winner price in
-    let selectors = 2 * seals + seals * width + (seals - 1) * width + (seals - 1) * width in
-    same_plan seals (plan.kinds ++ (if seals == 1 then [] else selected_wires relation)) plan.kinds
-    (rows_from seals width winner price (2 * seals) (2 * seals + seals * width) (2 * seals + seals * width + (seals - 1) * width) ++ (if seals == 1 then [] else selected_rows relation selectors)) plan.rows
-    (ap (λ b. plan.kinds ++ (if b then [] else selected_wires relation)) one ∙ append-nil plan.kinds)
-    (ap (λ b. rows_from seals width winner price (2 * seals) (2 * seals + seals * width) (2 * seals + seals * width + (seals - 1) * width) ++ (if b then [] else selected_rows relation selectors)) one
-    ∙ (append-nil (rows_from seals width winner price (2 * seals) (2 * seals + seals * width) (2 * seals + seals * width + (seals - 1) * width)) ∙ rows_are seals width winner price))
+    let plan = with_prices seals width (position - 1) price in
+    listed_by seals width position price true one
+    ∙ same_plan seals (plan.kinds ++ []) plan.kinds (plan.rows ++ []) plan.rows (append-nil plan.kinds) (append-nil plan.rows)
 
 pub plan_many : (seals width position price : ℕ) → (seals == 1) ≡ false → vickrey_plan seals width position price ≡ with_selection seals width (position - 1) price
-unfolding vickrey_plan
 plan_many seals width position price many =
-    let winner = position - 1 in
-    let plan = with_prices seals width winner price in
-    let relation = price_selection seals width winner price in
-    let selectors = 2 * seals + seals * width + (seals - 1) * width + (seals - 1) * width in
-    same_plan seals (plan.kinds ++ (if seals == 1 then [] else selected_wires relation)) (plan.kinds ++ selected_wires relation)
-    (rows_from seals width winner price (2 * seals) (2 * seals + seals * width) (2 * seals + seals * width + (seals - 1) * width) ++ (if seals == 1 then [] else selected_rows relation selectors))
-    (plan.rows ++ selected_rows relation (length plan.kinds))
-    (ap (λ b. plan.kinds ++ (if b then [] else selected_wires relation)) many)
-    (ap (λ b. rows_from seals width winner price (2 * seals) (2 * seals + seals * width) (2 * seals + seals * width + (seals - 1) * width) ++ (if b then [] else selected_rows relation selectors)) many
-    ∙ ap (λ rows. rows ++ selected_rows relation selectors) (rows_are seals width winner price)
-    ∙ ap (λ start. plan.rows ++ selected_rows relation start) (sym (length_prices seals width winner price)))
+    let plan = with_prices seals width (position - 1) price in
+    let relation = price_selection seals width (position - 1) price in
+    let start = 2 * seals + seals * width + (seals - 1) * width + (seals - 1) * width in
+    listed_by seals width position price false many
+    ∙ same_plan seals (plan.kinds ++ selected_wires relation) (plan.kinds ++ selected_wires relation) (plan.rows ++ selected_rows relation start) (plan.rows ++ selected_rows relation (length plan.kinds))
+    refl (ap (λ start. plan.rows ++ selected_rows relation start) (sym (length_prices seals width (position - 1) price)))
 
 -- what holds for the plan before the selection, in whole numbers
 record IsShown (seals width winner price : ℕ) (values : List ℕ) : Type 0 where

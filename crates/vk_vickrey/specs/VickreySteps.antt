@@ -9,7 +9,7 @@ use Rattle.vk_residue.specs.Residue.{modulus}
 use Rattle.vk_plan.specs.declared.wire.WireKind.TheVariants.{Split}
 use Rattle.vk_plan.specs.declared.form.Form.{Form}
 use Rattle.vk_plan.specs.Forms.{form_value, NamesBelow}
-use Rattle.vk_plan.specs.FormLaws.{form_value_within, NamesBelow-more}
+use Rattle.vk_plan.specs.FormLaws.{form_value_within}
 use Rattle.vk_plan.specs.Plans.{PlanValue, IsPlan, Holds, HasWeight, plan_of_inputs, extended}
 use Rattle.vk_plan.specs.PlanLaws.{IsPlan-inputs, IsPlan-extended}
 use Rattle.vk_range.specs.declared.selected.SelectedIs.{SelectedIs}
@@ -17,7 +17,7 @@ use Rattle.vk_range.specs.Sets.{listed, IsOfWidth, test_set, set_row}
 use Rattle.vk_range.specs.Forms.{difference_form, IsRange}
 use Rattle.vk_range.specs.SetLaws.{length_listed, listed_more, All-listed}
 use Rattle.vk_range.specs.Laws.{difference_names}
-use Rattle.vk_range.specs.Series.{same_plan, series, series_rows, series_values, IsSeries, length_series, series_more, series_room, next_range}
+use Rattle.vk_range.specs.Series.{same_plan, series, series_rows, series_values, IsSeries, length_series, series_more, series_room}
 use Rattle.vk_range.specs.Selected.{IsSelection, selected_wires, selected_rows, selected_values}
 use Rattle.vk_range.specs.Rooms.{selected_room}
 use Rattle.vk_range.specs.Selected.{place_row}
@@ -56,8 +56,8 @@ products : (count width : ℕ) → count ≤ 64 → width ≤ 40 → count * wid
 products count width few small = omega (arith, mul-le-mul_right width few, mul-le-mul_left 64 small)
 
 -- a plan that is small, with sets at its end
-record IsSmall (plan : PlanValue) (wires rows : ℕ) : Type 0 where
-  is_plan : IsPlan plan
+pub record IsSmall (plan : PlanValue) (wires rows : ℕ) : Type 0 where
+  pub is_plan : IsPlan plan
   wires_within : length plan.kinds ≤ wires
   rows_within : length plan.rows ≤ rows
 
@@ -80,67 +80,32 @@ small_copies seals few = record {
   rows_within = omega (arith, length_listed (λ j. difference_form j (seals + j) false) seals);
 }
 
-small_bids : (seals width count : ℕ) → seals ≤ 64 → 1 ≤ width → width ≤ 40 → count ≤ seals → IsSmall (series (copies seals seals) (bid_form seals) width count) 2688 128
+pub small_bids : (seals width count : ℕ) → seals ≤ 64 → 1 ≤ width → width ≤ 40 → count ≤ seals → IsSmall (series (copies seals seals) (bid_form seals) width count) 2688 128
 small_bids seals width count few some most le =
     small_series (copies seals seals) (bid_form seals) width (seals + seals) seals count 128 64 (small_copies seals few) (bids_series seals width some most) le few (lit≤ tt) (lit≤ tt)
 
-small_wins : (seals width winner count : ℕ) → seals ≤ 64 → winner < seals → 1 ≤ width → width ≤ 40 → count ≤ seals - 1
+pub small_wins : (seals width winner count : ℕ) → seals ≤ 64 → winner < seals → 1 ≤ width → width ≤ 40 → count ≤ seals - 1
     → IsSmall (series (with_bids seals width) (win_form seals winner) width count) 5248 192
 small_wins seals width winner count few w some most le =
     small_series (with_bids seals width) (win_form seals winner) width (seals + seals) (seals - 1) count 2688 128 (small_bids seals width seals few some most (omega arith))
     (wins_series seals width winner w some most) le (omega arith) (lit≤ tt) (lit≤ tt)
 
-small_prices : (seals width winner price count : ℕ) → seals ≤ 64 → winner < seals → 1 ≤ width → width ≤ 40 → count ≤ seals - 1
+pub small_prices : (seals width winner price count : ℕ) → seals ≤ 64 → winner < seals → 1 ≤ width → width ≤ 40 → count ≤ seals - 1
     → IsSmall (series (with_wins seals width winner) (price_form seals winner price) width count) 7808 256
 small_prices seals width winner price count few w some most le =
     small_series (with_wins seals width winner) (price_form seals winner price) width (seals + seals) (seals - 1) count 5248 192
     (small_wins seals width winner (seals - 1) few w some most (omega arith)) (prices_series seals width winner price w some most) le (omega arith) (lit≤ tt) (lit≤ tt)
 
 -- room for the next set of each part
-next_room : (plan now : PlanValue) (form : ℕ → Form) (width count : ℕ) → now ≡ series plan form width count → IsPlan (series plan form width (count + 1))
+pub next_room : (plan now : PlanValue) (form : ℕ → Form) (width count : ℕ) → now ≡ series plan form width count → IsPlan (series plan form width (count + 1))
     → IsPlan (extended now (test_set width) (set_row (form count) (length now.kinds) width ∷ []))
 next_room plan now form width count same is_plan =
     subst (λ p. IsPlan (extended p (test_set width) (set_row (form count) (length p.kinds) width ∷ []))) (sym same)
     (subst IsPlan (series_more plan form width count) is_plan)
 
-next_fits : (plan now : PlanValue) (form : ℕ → Form) (width base most count : ℕ) → now ≡ series plan form width count → IsSeries plan form width base most → count < most
-    → IsRange (form count) width now
-next_fits plan now form width base most count same is_series h = subst (IsRange (form count) width) (sym same) (next_range plan form width base most count h is_series)
-
 module _ (seals width position price : ℕ) (case : IsVickreyCase seals width position price) where
-  is_winner : position - 1 < seals
+  pub is_winner : position - 1 < seals
   is_winner = omega (arith, case.some_position, case.within_seals)
-
-  pub bids_room : (now : PlanValue) (count : ℕ) → now ≡ series (copies seals seals) (bid_form seals) width count → count < seals
-      → IsPlan (extended now (test_set width) (set_row (bid_form seals count) (length now.kinds) width ∷ []))
-  bids_room now count same h =
-      next_room (copies seals seals) now (bid_form seals) width count same (small_bids seals width (count + 1) case.most_seals case.some_width case.most_width (omega arith)).is_plan
-
-  pub bids_fits : (now : PlanValue) (count : ℕ) → now ≡ series (copies seals seals) (bid_form seals) width count → count < seals → IsRange (bid_form seals count) width now
-  bids_fits now count same h = next_fits (copies seals seals) now (bid_form seals) width (seals + seals) seals count same (bids_series seals width case.some_width case.most_width) h
-
-  pub wins_room : (now : PlanValue) (count : ℕ) → now ≡ series (with_bids seals width) (win_form seals (position - 1)) width count → count < seals - 1
-      → IsPlan (extended now (test_set width) (set_row (win_form seals (position - 1) count) (length now.kinds) width ∷ []))
-  wins_room now count same h =
-      next_room (with_bids seals width) now (win_form seals (position - 1)) width count same
-      (small_wins seals width (position - 1) (count + 1) case.most_seals is_winner case.some_width case.most_width (omega arith)).is_plan
-
-  pub wins_long : (now : PlanValue) (count : ℕ) → now ≡ series (with_bids seals width) (win_form seals (position - 1)) width count → seals + seals ≤ length now.kinds
-  wins_long now count same =
-      let series' = wins_series seals width (position - 1) is_winner case.some_width case.most_width in
-      omega (arith, ap (λ p. length p.kinds) same, length_series (with_bids seals width) (win_form seals (position - 1)) width count, series'.base_within)
-
-  pub prices_room : (now : PlanValue) (count : ℕ) → now ≡ series (with_wins seals width (position - 1)) (price_form seals (position - 1) price) width count → count < seals - 1
-      → IsPlan (extended now (test_set width) (set_row (price_form seals (position - 1) price count) (length now.kinds) width ∷ []))
-  prices_room now count same h =
-      next_room (with_wins seals width (position - 1)) now (price_form seals (position - 1) price) width count same
-      (small_prices seals width (position - 1) price (count + 1) case.most_seals is_winner case.some_width case.most_width (omega arith)).is_plan
-
-  pub prices_fits : (now : PlanValue) (count : ℕ) → now ≡ series (with_wins seals width (position - 1)) (price_form seals (position - 1) price) width count → count < seals - 1
-      → IsRange (price_form seals (position - 1) price count) width now
-  prices_fits now count same h =
-      next_fits (with_wins seals width (position - 1)) now (price_form seals (position - 1) price) width (seals + seals) (seals - 1) count same
-      (prices_series seals width (position - 1) price is_winner case.some_width case.most_width) h
 
 -- the values begin with the bids
 pub honest_begins : (seals width position price : ℕ) (bids : List ℕ) → length bids ≡ seals → take seals (honest_values seals width position price bids) ≡ bids
@@ -201,20 +166,7 @@ pub still_of_width : (form : Form) (width : ℕ) (values more now : List ℕ) �
 still_of_width form width values more now same names below =
     subst (IsOfWidth width) (sym (ap (form_value form) same ∙ form_value_within form values more names)) below
 
-pub longer_names : (form : Form) (few : ℕ) (values more now : List ℕ) → now ≡ values ++ more → few ≤ length values → NamesBelow few form.terms → NamesBelow (length now) form.terms
-longer_names form few values more now same enough names =
-    NamesBelow-more few (length now) form.terms (omega (arith, ap length same, length-append values more)) names
-
 module _ (seals width position price : ℕ) (case : IsVickreyCase seals width position price) where
-  pub bid_names : (j : ℕ) → j < seals → NamesBelow (seals + seals) (bid_form seals j).terms
-  bid_names j h = (bids_series seals width case.some_width case.most_width).names j h
-
-  pub win_names : (k : ℕ) → k < seals - 1 → NamesBelow (seals + seals) (win_form seals (position - 1) k).terms
-  win_names k h = (wins_series seals width (position - 1) (is_winner seals width position price case) case.some_width case.most_width).names k h
-
-  pub price_names : (k : ℕ) → k < seals - 1 → NamesBelow (seals + seals) (price_form seals (position - 1) price k).terms
-  price_names k h = (prices_series seals width (position - 1) price (is_winner seals width position price case) case.some_width case.most_width).names k h
-
   pub wins_fits : (wires count : ℕ) → seals + seals ≤ wires → count < seals - 1
       → (seals + (position - 1) < wires) × (seals + other (position - 1) count < wires) × (1 ≤ width) × (width ≤ 40)
   wins_fits wires count enough h =
@@ -240,28 +192,22 @@ module _ (seals width position price : ℕ) (case : IsVickreyCase seals width po
       selected_room (with_prices seals width (position - 1) price) relation prices_plan (selection_fits many)
       (omega (arith, products (length relation.wires) width few case.most_width, small.wires_within)) (omega (arith, small.rows_within))
 
-  -- the values on the way, and at the end
-  values_before : (bids v0 v1 v2 v3 : List ℕ) → v0 ≡ bids ++ bids → v1 ≡ after_bids seals width v0
-      → v2 ≡ after_wins seals width (position - 1) v1 → v3 ≡ after_prices seals width (position - 1) price v2
-      → v3 ≡ after_prices seals width (position - 1) price (after_wins seals width (position - 1) (after_bids seals width (bids ++ bids)))
-  values_before bids v0 v1 v2 v3 e0 e1 e2 e3 =
-      e3 ∙ ap (after_prices seals width (position - 1) price) (e2 ∙ ap (after_wins seals width (position - 1)) (e1 ∙ ap (after_bids seals width) e0))
-
-  pub honest_alone : (bids v0 v1 v2 v3 : List ℕ) → seals ≡ 1 → v0 ≡ bids ++ bids → v1 ≡ after_bids seals width v0
-      → v2 ≡ after_wins seals width (position - 1) v1 → v3 ≡ after_prices seals width (position - 1) price v2
-      → v3 ≡ honest_values seals width position price bids
+  -- the values before the selection, and at the end
+  pub honest_alone : (bids before : List ℕ) → seals ≡ 1
+      → before ≡ after_prices seals width (position - 1) price (after_wins seals width (position - 1) (after_bids seals width (bids ++ bids)))
+      → before ≡ honest_values seals width position price bids
   unfolding honest_values
-  honest_alone bids v0 v1 v2 v3 one e0 e1 e2 e3 =
-      sym (ap (λ b. if b then v3 else v3 ++ selected_values (price_selection seals width (position - 1) price) v3) (eq-eqb seals 1 one))
-      ∙ ap (after_selection seals width (position - 1) price) (values_before bids v0 v1 v2 v3 e0 e1 e2 e3)
+  honest_alone bids before one same =
+      sym (ap (λ b. if b then before else before ++ selected_values (price_selection seals width (position - 1) price) before) (eq-eqb seals 1 one))
+      ∙ ap (after_selection seals width (position - 1) price) same
 
-  pub honest_many : (bids v0 v1 v2 v3 v4 : List ℕ) → seals ≢ 1 → v0 ≡ bids ++ bids → v1 ≡ after_bids seals width v0
-      → v2 ≡ after_wins seals width (position - 1) v1 → v3 ≡ after_prices seals width (position - 1) price v2
-      → v4 ≡ v3 ++ selected_values (price_selection seals width (position - 1) price) v3 → v4 ≡ honest_values seals width position price bids
+  pub honest_many : (bids before after : List ℕ) → seals ≢ 1
+      → before ≡ after_prices seals width (position - 1) price (after_wins seals width (position - 1) (after_bids seals width (bids ++ bids)))
+      → after ≡ before ++ selected_values (price_selection seals width (position - 1) price) before → after ≡ honest_values seals width position price bids
   unfolding honest_values
-  honest_many bids v0 v1 v2 v3 v4 many e0 e1 e2 e3 e4 =
-      e4 ∙ (sym (ap (λ b. if b then v3 else v3 ++ selected_values (price_selection seals width (position - 1) price) v3) (ne_eqb seals 1 many))
-      ∙ ap (after_selection seals width (position - 1) price) (values_before bids v0 v1 v2 v3 e0 e1 e2 e3))
+  honest_many bids before after many same filled =
+      filled ∙ (sym (ap (λ b. if b then before else before ++ selected_values (price_selection seals width (position - 1) price) before) (ne_eqb seals 1 many))
+      ∙ ap (after_selection seals width (position - 1) price) same)
 
   pub wins_over : (values : List ℕ) (count : ℕ) → seals + seals ≤ length values → count < seals - 1
       → (plan : PlanValue) × (((seals + (position - 1) < length plan.kinds) × (seals + other (position - 1) count < length plan.kinds) × (1 ≤ width) × (width ≤ 40))
@@ -296,9 +242,6 @@ begins_here bids values same = subst (BeginsWith bids) (sym same) (begins_alone 
 
 pub begins_next : (bids values more next : List ℕ) → next ≡ values ++ more → BeginsWith bids values → BeginsWith bids next
 begins_next bids values more next same begins = subst (BeginsWith bids) (sym same) (begins_longer bids values more begins)
-
-pub twice : (none once both bids : List ℕ) → none ≡ [] → once ≡ none ++ bids → both ≡ once ++ bids → both ≡ bids ++ bids
-twice none once both bids e0 e1 e2 = e2 ∙ ap (λ v. v ++ bids) (e1 ∙ ap (λ v. v ++ bids) e0)
 
 -- a price of at most 40 bits is a residue
 pub price_is_residue : (made : Option ℕ) (width price : ℕ) → width ≤ 40 → price < 2 ^ width → (IsNone made → modulus ≤ price) → IfSome made (λ r. r ≡ price)

@@ -1,10 +1,11 @@
-ghost use Rattle.std.specs.Prelude.{◌≡◌, ◌+◌, ◌-◌, ◌*◌, ◌<◌, ◌≤◌, ◌↔◌, ◌++◌, List, ℕ, length, take, IsSome, IfSome, IfOk, OnOk, nat_lt};
-ghost use Rattle.vk_plan.specs.Plans.{PlanValue, Holds};
-ghost use Rattle.vk_range.specs.Sets.{IsOfWidth};
-ghost use Rattle.vk_range.specs.Series.{series_values};
+ghost use Rattle.std.specs.Prelude.{◌≡◌, ◌+◌, ◌-◌, ◌*◌, ◌<◌, ◌≤◌, ◌↔◌, ◌++◌, ◌∷◌, [], List, ℕ, length, take, IsSome, IfSome, IfOk, OnOk, nat_lt};
+ghost use Rattle.vk_plan.specs.Plans.{PlanValue, Holds, IsPlan, extended};
+ghost use Rattle.vk_range.specs.Sets.{IsOfWidth, bit_parts, set_row, test_set};
+ghost use Rattle.vk_range.specs.Series.{series, series_values};
 ghost use Rattle.vk_plan.specs.Forms.{form_value};
-ghost use Rattle.vk_vickrey.specs.VickreyPlans.{IsVickreyCase, IsVickreyClaim, vickrey_plan, wire_count, row_count, honest_values, bid_form, win_form, price_form, price_selection, other};
-ghost use Rattle.vk_vickrey.specs.VickreyLaws.{copies, with_bids, with_wins, with_prices, vickrey_complete};
+ghost use Rattle.vk_vickrey.specs.VickreyPlans.{IsVickreyCase, IsVickreyClaim, vickrey_plan, wire_count, row_count, honest_values, bid_form, price_form, price_selection, other};
+ghost use Rattle.vk_vickrey.specs.VickreyLaws.{copies, vickrey_complete};
+ghost use Rattle.vk_vickrey.specs.VickreySets.{sets_before, sets_count, sets_form, values_before};
 ghost use Rattle.vk_vickrey.specs.VickreySelectors.{IsFirstHolder, SelectsAt, selectors_start};
 ghost use Rattle.vk_vickrey.specs.VickreySteps.{circuit_begins, circuit_sound, vickrey_is_plan};
 
@@ -27,6 +28,17 @@ pub struct VickreyPlan {
     /// What the winner pays, below 2^width, and 0 where there is one bid.
     pub price: u64,
     pub ghost in_limits: { IsVickreyCase seals width position price },
+}
+
+/// What the sets of the plan that stand one after another are of.
+#[derive(Clone, Copy, Debug)]
+enum Sets {
+    /// The copy of each bid.
+    Bids,
+    /// The winner's copy less each other, less 1 where the other stands before.
+    Wins,
+    /// The price less each other copy.
+    Prices,
 }
 
 impl VickreyPlan {
@@ -86,9 +98,9 @@ impl Circuit for VickreyPlan {
     {
         let mut plan = Plan::new(alloc, self.seals)?;
         self.add_copies(alloc, &mut plan)?;
-        self.add_bids(alloc, &mut plan)?;
-        self.add_wins(alloc, &mut plan)?;
-        self.add_prices(alloc, &mut plan)?;
+        self.add_sets(alloc, Sets::Bids, &mut plan)?;
+        self.add_sets(alloc, Sets::Wins, &mut plan)?;
+        self.add_sets(alloc, Sets::Prices, &mut plan)?;
         if self.seals == 1 {
             return Ok(plan);
         }
@@ -106,12 +118,7 @@ impl Circuit for VickreyPlan {
             (place : ℕ) → place < self.now.seals - 1 → IsFirstHolder inputs.now (self.now.position - 1) self.now.price place
             → SelectsAt values.items (selectors_start self.now.seals self.now.width) (self.now.seals - 1) place) }
     {
-        let mut values = Vec::new(alloc);
-        values.extend_from_slice(inputs)?;
-        values.extend_from_slice(inputs)?;
-        self.fill_bids(alloc, &mut values)?;
-        self.fill_wins(&mut values)?;
-        self.fill_prices(alloc, &mut values)?;
+        let mut values = self.before_selection(alloc, inputs)?;
         if self.seals == 1 {
             return Ok(values);
         }
@@ -231,77 +238,123 @@ impl VickreyPlan {
         Ok(())
     }
 
-    fn add_bids(&self, alloc: Global, plan: &mut Plan) -> Result<(), NoMemory>
-        requires { plan.old ≡ copies self.now.seals self.now.seals }
-        ensures { OnOk result (plan.new ≡ with_bids self.now.seals self.now.width) }
+    /// The bids, their copies, and the values of the sets of the bids, the wins and the prices.
+    fn before_selection(&self, alloc: Global, bids: &[Residue]) -> Result<Vec<Residue>, NoMemory>
+        requires { IsVickreyClaim self.now.seals self.now.width self.now.position self.now.price bids.now }
+        ensures { IfOk result (λ values.
+            values.items ≡ values_before self.now.seals self.now.width (self.now.position - 1) self.now.price bids.now) }
     {
-        for j in 0..self.seals {
-            let range = self.bid_range(alloc, j)?;
-            range.add(alloc, plan)?;
+        let mut values = with_copies(alloc, bids)?;
+        self.fill_sets(alloc, Sets::Bids, &mut values)?;
+        self.fill_sets(alloc, Sets::Wins, &mut values)?;
+        self.fill_sets(alloc, Sets::Prices, &mut values)?;
+        Ok(values)
+    }
+
+    /// How many there are.
+    fn count(&self, sets: Sets) -> u32
+        ensures { result ≡ sets_count sets self.now.seals }
+    {
+        match sets {
+            Sets::Bids => self.seals,
+            Sets::Wins | Sets::Prices => self.seals - 1,
+        }
+    }
+
+    /// Appends the k-th set, and the row that makes its form the set's sum.
+    fn add_set(&self, alloc: Global, sets: Sets, k: u32, plan: &mut Plan) -> Result<(), NoMemory>
+        requires inside { k < sets_count sets self.now.seals }
+        requires enough { self.now.seals + self.now.seals ≤ length plan.old.kinds }
+        requires room { IsPlan (extended plan.old (test_set self.now.width)
+            (set_row (sets_form sets self.now.seals (self.now.position - 1) self.now.price k) (length plan.old.kinds) self.now.width ∷ [])) }
+        ensures { OnOk result (plan.new ≡ extended plan.old (test_set self.now.width)
+            (set_row (sets_form sets self.now.seals (self.now.position - 1) self.now.price k) (length plan.old.kinds) self.now.width ∷ [])) }
+    {
+        match sets {
+            Sets::Bids => {
+                let range = self.bid_range(alloc, k)?;
+                range.add(alloc, plan)?;
+            }
+            Sets::Wins => {
+                let at_least = self.win(k);
+                at_least.add(alloc, plan)?;
+            }
+            Sets::Prices => {
+                let range = self.price_range(alloc, k)?;
+                range.add(alloc, plan)?;
+            }
         }
         Ok(())
     }
 
-    fn add_wins(&self, alloc: Global, plan: &mut Plan) -> Result<(), NoMemory>
-        requires { plan.old ≡ with_bids self.now.seals self.now.width }
-        ensures { OnOk result (plan.new ≡ with_wins self.now.seals self.now.width (self.now.position - 1)) }
+    fn add_sets(&self, alloc: Global, sets: Sets, plan: &mut Plan) -> Result<(), NoMemory>
+        requires { plan.old ≡ sets_before sets self.now.seals self.now.width (self.now.position - 1) }
+        ensures { OnOk result (plan.new ≡ series (sets_before sets self.now.seals self.now.width (self.now.position - 1))
+            (sets_form sets self.now.seals (self.now.position - 1) self.now.price) self.now.width (sets_count sets self.now.seals)) }
     {
-        for k in 0..self.seals - 1 {
-            let at_least = self.win(k);
-            at_least.add(alloc, plan)?;
+        for k in 0..self.count(sets) {
+            self.add_set(alloc, sets, k, plan)?;
         }
         Ok(())
     }
 
-    fn add_prices(&self, alloc: Global, plan: &mut Plan) -> Result<(), NoMemory>
-        requires { plan.old ≡ with_wins self.now.seals self.now.width (self.now.position - 1) }
-        ensures { OnOk result (plan.new ≡ with_prices self.now.seals self.now.width (self.now.position - 1) self.now.price) }
-    {
-        for k in 0..self.seals - 1 {
-            let range = self.price_range(alloc, k)?;
-            range.add(alloc, plan)?;
-        }
-        Ok(())
-    }
-
-    fn fill_bids(&self, alloc: Global, values: &mut Vec<Residue>) -> Result<(), NoMemory>
+    /// Appends the values of the k-th set, which come to its form's value.
+    fn fill_set(
+        &self,
+        alloc: Global,
+        sets: Sets,
+        k: u32,
+        values: &mut Vec<Residue>,
+    ) -> Result<(), NoMemory>
+        requires inside { k < sets_count sets self.now.seals }
         requires enough { self.now.seals + self.now.seals ≤ length values.old.items }
-        requires each { (j : ℕ) → j < self.now.seals → IsOfWidth self.now.width (form_value (bid_form self.now.seals j) values.old.items) }
+        requires of_width { IsOfWidth self.now.width
+            (form_value (sets_form sets self.now.seals (self.now.position - 1) self.now.price k) values.old.items) }
         ensures { OnOk result (values.new.items ≡ values.old.items
-            ++ series_values values.old.items (bid_form self.now.seals) self.now.width self.now.seals) }
+            ++ bit_parts (form_value (sets_form sets self.now.seals (self.now.position - 1) self.now.price k) values.old.items) self.now.width) }
     {
-        for j in 0..self.seals {
-            let range = self.bid_range(alloc, j)?;
-            range.fill(values)?;
+        match sets {
+            Sets::Bids => {
+                let range = self.bid_range(alloc, k)?;
+                range.fill(values)?;
+            }
+            Sets::Wins => {
+                let at_least = self.win(k);
+                at_least.fill(values)?;
+            }
+            Sets::Prices => {
+                let range = self.price_range(alloc, k)?;
+                range.fill(values)?;
+            }
         }
         Ok(())
     }
 
-    fn fill_wins(&self, values: &mut Vec<Residue>) -> Result<(), NoMemory>
+    fn fill_sets(
+        &self,
+        alloc: Global,
+        sets: Sets,
+        values: &mut Vec<Residue>,
+    ) -> Result<(), NoMemory>
         requires enough { self.now.seals + self.now.seals ≤ length values.old.items }
-        requires each { (k : ℕ) → k < self.now.seals - 1
-            → IsOfWidth self.now.width (form_value (win_form self.now.seals (self.now.position - 1) k) values.old.items) }
+        requires each { (k : ℕ) → k < sets_count sets self.now.seals
+            → IsOfWidth self.now.width (form_value (sets_form sets self.now.seals (self.now.position - 1) self.now.price k) values.old.items) }
         ensures { OnOk result (values.new.items ≡ values.old.items
-            ++ series_values values.old.items (win_form self.now.seals (self.now.position - 1)) self.now.width (self.now.seals - 1)) }
+            ++ series_values values.old.items (sets_form sets self.now.seals (self.now.position - 1) self.now.price) self.now.width (sets_count sets self.now.seals)) }
     {
-        for k in 0..self.seals - 1 {
-            let at_least = self.win(k);
-            at_least.fill(values)?;
+        for k in 0..self.count(sets) {
+            self.fill_set(alloc, sets, k, values)?;
         }
         Ok(())
     }
+}
 
-    fn fill_prices(&self, alloc: Global, values: &mut Vec<Residue>) -> Result<(), NoMemory>
-        requires enough { self.now.seals + self.now.seals ≤ length values.old.items }
-        requires each { (k : ℕ) → k < self.now.seals - 1
-            → IsOfWidth self.now.width (form_value (price_form self.now.seals (self.now.position - 1) self.now.price k) values.old.items) }
-        ensures { OnOk result (values.new.items ≡ values.old.items
-            ++ series_values values.old.items (price_form self.now.seals (self.now.position - 1) self.now.price) self.now.width (self.now.seals - 1)) }
-    {
-        for k in 0..self.seals - 1 {
-            let range = self.price_range(alloc, k)?;
-            range.fill(values)?;
-        }
-        Ok(())
-    }
+/// The bids, and behind them their copies.
+fn with_copies(alloc: Global, bids: &[Residue]) -> Result<Vec<Residue>, NoMemory>
+    ensures { IfOk result (λ values. values.items ≡ bids.now ++ bids.now) }
+{
+    let mut values = Vec::new(alloc);
+    values.extend_from_slice(bids)?;
+    values.extend_from_slice(bids)?;
+    Ok(values)
 }

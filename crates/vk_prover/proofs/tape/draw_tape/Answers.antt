@@ -23,13 +23,13 @@ pub loop-wire-preserved : goal.loop-wire-preserved
 loop-wire-preserved g c =
     let drawn : c.draw_wire.result ≡ Some c.in_ok-tape.tape = c.in_ok-tape.ensures.ok_part in
     record {
-      drawn = drawn_turn c.loop-wire.wires c.push.new.self c.in_ok-tape.tape (length c.args.plan.now.kinds - c.loop-wire.wire) (length c.args.plan.now.kinds - (c.loop-wire.wire + 1))
+      drawn = drawn_turn c.loop-wire.wires c.keep.new.wires c.in_ok-tape.tape (length c.args.plan.now.kinds - c.loop-wire.wire) (length c.args.plan.now.kinds - (c.loop-wire.wire + 1))
           (g.W.Words.ahead c.loop-wire.words) (g.W.Words.ahead c.draw_wire.new.words) (drawn_tape c.args.given.now (length c.args.plan.now.kinds - c.args.plan.now.inputs) (g.W.Words.ahead c.args.words.now))
-          (omega arith) c.in_ok-push.ensures.pushed (sym c.draw_wire.ensures.drawn ∙ drawn) (rw drawn at c.draw_wire.ensures.after) c.loop-wire.invariant.drawn;
+          (omega arith) c.in_ok-keep.ensures (sym c.draw_wire.ensures.drawn ∙ drawn) (rw drawn at c.draw_wire.ensures.after) c.loop-wire.invariant.drawn;
       after = after_turn c.draw_wire.result c.in_ok-tape.tape (length c.args.plan.now.kinds - c.loop-wire.wire) (length c.args.plan.now.kinds - (c.loop-wire.wire + 1))
           (g.W.Words.ahead c.loop-wire.words) (g.W.Words.ahead c.draw_wire.new.words) (after_wires (length c.args.plan.now.kinds - c.args.plan.now.inputs) (g.W.Words.ahead c.args.words.now))
           (omega arith) drawn c.draw_wire.ensures.drawn c.draw_wire.ensures.after c.loop-wire.invariant.after;
-      tapes = rw c.in_ok-push.ensures.pushed
+      tapes = rw c.in_ok-keep.ensures
           (All-push IsTape c.loop-wire.wires c.in_ok-tape.tape c.loop-wire.invariant.tapes (tape_of_some c.draw_wire.result c.in_ok-tape.tape drawn c.draw_wire.ensures.tape));
       count = grind (arith, common_steps, length-append);
     }
