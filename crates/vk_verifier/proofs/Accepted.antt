@@ -1,6 +1,6 @@
 -- Every test is passed exactly where a reply is accepted.
 use Rattle.std.proofs.Common.{◌≡◌, ℕ, ◌+◌, ◌-◌, ◌<◌, ◌≤◌, Bool, false, List, [], length, Result, Ok, Err, refl, ap, sym, ◌∙◌, subst, arith}
-use Rattle.std.specs.Prelude.{slice_index_or}
+use Rattle.std.specs.Prelude.{slice_index_or, slice_get, Some}
 use Rattle.std.proofs.lemmas.List.Elements.{All-from_recursion}
 use Rattle.std.proofs.lemmas.Option.{slice_get-get_or}
 use Rattle.vk_lines.specs.Lines.{Rest}
@@ -10,12 +10,13 @@ use Rattle.vk_wire.specs.declared.wire.Shown.{Shown}
 use Rattle.vk_row.specs.Lanes.{HasCounts, IsAccepted}
 use Rattle.vk_row.proofs.Whole.{ok_accepted, accepted_ok}
 use Rattle.vk_board.specs.declared.board.LaneLines.{LaneLines}
-use Rattle.vk_board.specs.Values.{Board, IsBoard, IsLaneLines}
+use Rattle.vk_board.specs.Values.{Board, IsLaneLines}
 use Rattle.vk_board.specs.Reading.{lane_at, lanes_at}
 use Rattle.vk_board.proofs.Forms.{seals_are_part}
 use Rattle.vk_board.proofs.Boards.{board_with, board_is_whole}
 use Rattle.vk_reply.specs.declared.challenge.Challenge.{Challenge}
-use Rattle.vk_reply.specs.Values.{IsReply}
+use Rattle.vk_reply.specs.Values.{AreShown}
+use Rattle.vk_reply.specs.Reading.{challenge_at, reply_head_at}
 use Rattle.vk_reply.proofs.Challenges.{challenge_is_whole}
 use Rattle.vk_reply.proofs.Replies.{reply_is_whole}
 use Rattle.vk_verifier.specs.declared.answers.BoardVerdict.{BoardVerdict}
@@ -25,25 +26,26 @@ use Rattle.vk_board.specs.Fronts.{IsFront, front_at}
 use Rattle.vk_board.proofs.Prices.{price_found}
 use Rattle.vk_board.proofs.Winners.{winner_found}
 use Rattle.vk_board.proofs.Fronts.{FrontRead, front_at_shown, front_at_found}
-use Rattle.vk_verifier.specs.Verdicts.{in_front, plan_of, case_of, later_wires, judged, verdict_by, from_start}
+use Rattle.vk_verifier.specs.Verdicts.{in_front, front_judged, plan_of, case_of, later_wires, judged, verdict_by, from_start}
 use Rattle.vk_verifier.specs.Acceptance.{shape_of, bit_of, no_lines, front_with, Accepts, AcceptedExactly}
+use Rattle.vk_verifier.specs.Refusals.{AreLanes}
 use Rattle.vk_verifier.proofs.Counts.{has_counts}
 use Rattle.vk_verifier.proofs.Plans.{is_plan, wires_are, rows_are}
 use Rattle.vk_verifier.proofs.Fronts.{in_front_ok, read_is_front}
 use Rattle.vk_verifier.proofs.Many.{many_count}
 use Rattle.vk_verifier.proofs.LaneLists.{next_lines, next_shown, IsChecked, LanesRead, AreBits, lanes_shown, lanes_found}
 use Rattle.vk_verifier.proofs.Refusals.{judged_never}
-use Rattle.vk_verifier.proofs.Files.{FilesRead, judged_shown, judged_found}
+use Rattle.vk_verifier.proofs.Files.{FilesRead, EndsRead, judged_shown, judged_found}
 use Rattle.vk_verifier.proofs.Wholes.{board_split, board_joined, reply_split, reply_joined}
 
 -- the bits of the challenge, from that of lane 1 on
-bits_are : (challenge : Challenge) → AreBits (bit_of challenge) 0 challenge.bits
+pub bits_are : (challenge : Challenge) → AreBits (bit_of challenge) 0 challenge.bits
 bits_are challenge index within =
     let here : 0 + index + 1 - 1 ≡ index = omega arith in
     ap (λ i. slice_index_or challenge.bits i false) here
 
 -- the lanes of a board with this front
-same_lanes : (front : Front) (count : ℕ) (rest : Rest) → IsFront front → count ≡ front.head.lanes → many_onto [] count (next_lines (plan_of front)) rest ≡ lanes_at shape_of front.head rest
+pub same_lanes : (front : Front) (count : ℕ) (rest : Rest) → IsFront front → count ≡ front.head.lanes → many_onto [] count (next_lines (plan_of front)) rest ≡ lanes_at shape_of front.head rest
 same_lanes front count rest is same =
     let rows : ℕ = length (plan_of front).rows in
     ap (λ n. many_onto [] n (next_lines (plan_of front)) rest) same
@@ -54,26 +56,29 @@ same_lanes front count rest is same =
 
 module _ (front : Front) (is : IsFront front) (bit_of : ℕ → Bool) (lines : List LaneLines) (shown : List (List Shown)) where
   -- what is shown of the lane of that number is accepted, with what stands at that index
-  abbrev AcceptedAt : ℕ → ℕ → Type 0
+  abbrev pub AcceptedAt : ℕ → ℕ → Type 0
   AcceptedAt number index = IsAccepted (plan_of front) (case_of front number (slice_index_or lines index no_lines)) (bit_of number) (slice_index_or shown index [])
 
-  counts_at : (index : ℕ) → index < length lines → index < length shown → IsBoard shape_of (board_with front.head front.seals lines) → IsReply (plan_of front).kinds bit_of shown
+  abbrev pub AreShownAll : Type 0
+  AreShownAll = (index : ℕ) (one : List Shown) → slice_get shown index ≡ Some one → AreShown (plan_of front).kinds (bit_of (index + 1)) one
+
+  counts_at : (index : ℕ) → index < length lines → index < length shown → AreLanes front.head lines → AreShownAll
       → HasCounts (plan_of front) (case_of front (index + 1) (slice_index_or lines index no_lines)) (slice_index_or shown index [])
-  counts_at index within inside board reply =
+  counts_at index within inside are each =
       let Right : ℕ → ℕ → Type 0 = λ wires rows. IsLaneLines wires rows (slice_index_or lines index no_lines) in
       let right : Right (shape_of front.head).wires (shape_of front.head).rows =
-      All-from_recursion (IsLaneLines (shape_of front.head).wires (shape_of front.head).rows) lines board.lanes index no_lines within in
+      All-from_recursion (IsLaneLines (shape_of front.head).wires (shape_of front.head).rows) lines are index no_lines within in
       let wires : Right (later_wires (plan_of front)) (shape_of front.head).rows = subst (λ w. Right w (shape_of front.head).rows) (sym (wires_are front is)) right in
       let both : Right (later_wires (plan_of front)) (length (plan_of front).rows) = subst (λ r. Right (later_wires (plan_of front)) r) (sym (rows_are front is)) wires in
       has_counts front (plan_of front) (index + 1) (bit_of (index + 1)) (slice_index_or lines index no_lines) (slice_index_or shown index []) is (is_plan front is) refl both
-      (reply.each index (slice_index_or shown index []) (slice_get-get_or shown index [] inside))
+      (each index (slice_index_or shown index []) (slice_get-get_or shown index [] inside))
 
-  accepted_at : (lane : ℕ) → 1 ≤ lane → lane ≤ length lines → lane ≤ length shown → IsBoard shape_of (board_with front.head front.seals lines) → IsReply (plan_of front).kinds bit_of shown
+  pub accepted_at : (lane : ℕ) → 1 ≤ lane → lane ≤ length lines → lane ≤ length shown → AreLanes front.head lines → AreShownAll
       → IsChecked front (plan_of front) bit_of lines shown (lane - 1) → AcceptedAt lane (lane - 1)
-  accepted_at lane some within inside board reply check =
+  accepted_at lane some within inside are each check =
       let index : ℕ = lane - 1 in
       let number : index + 1 ≡ lane = omega (arith, some) in
-      let counts = counts_at index (omega (arith, some, within)) (omega (arith, some, inside)) board reply in
+      let counts = counts_at index (omega (arith, some, within)) (omega (arith, some, inside)) are each in
       let here : AcceptedAt (index + 1) index = (
         check.0,
         ok_accepted (plan_of front) (case_of front (index + 1) (slice_index_or lines index no_lines)) (bit_of (index + 1)) (slice_index_or shown index []) check.0 (is_plan front is) counts check.1,
@@ -81,7 +86,7 @@ module _ (front : Front) (is : IsFront front) (bit_of : ℕ → Bool) (lines : L
       let P : ℕ → Type 0 = λ n. AcceptedAt n index in
       subst P number here
 
-  checked_at : (index : ℕ) → AcceptedAt (index + 1) (index + 1 - 1) → IsChecked front (plan_of front) bit_of lines shown index
+  pub checked_at : (index : ℕ) → AcceptedAt (index + 1) (index + 1 - 1) → IsChecked front (plan_of front) bit_of lines shown index
   checked_at index accepted =
       let here : index + 1 - 1 ≡ index = omega arith in
       let P : ℕ → Type 0 = λ i. AcceptedAt (index + 1) i in
@@ -135,14 +140,29 @@ files_accept board challenge reply files =
       one_bit_each = files.same_bits;
       one_reply_each = replies;
       lanes = λ lane some within.
-          accepted_at front is (bit_of bits) lanes.lines lanes.shown lane some (omega (arith, within, is_board.0.count)) (omega (arith, within, replies)) is_board.0 is_reply.0
+          accepted_at front is (bit_of bits) lanes.lines lanes.shown lane some (omega (arith, within, is_board.0.count)) (omega (arith, within, replies)) is_board.0.lanes is_reply.0.each
           (lanes.checked (lane - 1) (omega arith) (omega (arith, some, within, files.same_bits)));
     }
 
 -- ---- and back
 
-accepted_files : (board challenge reply : List ℕ) → Accepts board challenge reply → FilesRead (from_start board) (from_start challenge) (from_start reply)
-accepted_files board challenge reply accepts =
+-- what is read of the three files: these values, and every lane is checked
+pub record ValuesRead (board challenge reply : List ℕ) (front : Front) (lines : List LaneLines) (bits : Challenge) (shown : List (List Shown)) : Type 0 where
+  pub board_rest : Rest
+  pub challenge_rest : Rest
+  pub reply_rest : Rest
+  pub rests : Rest × Rest
+  pub front_read : front_judged (from_start board) ≡ Ok (front, board_rest)
+  pub challenge_read : challenge_at (from_start challenge) ≡ Ok (bits, challenge_rest)
+  pub reply_read : reply_head_at (from_start reply) ≡ Ok (front.head.lanes, reply_rest)
+  pub lines_read : many_onto [] (length bits.bits) (next_lines (plan_of front)) board_rest ≡ Ok (lines, rests.0)
+  pub shown_read : many_onto [] (length bits.bits) (next_shown (plan_of front) (bit_of bits)) reply_rest ≡ Ok (shown, rests.1)
+  pub checked : (index : ℕ) → index < length bits.bits → IsChecked front (plan_of front) (bit_of bits) lines shown index
+  pub ends : EndsRead rests.0 rests.1
+
+pub accepted_values : (board challenge reply : List ℕ) (accepts : Accepts board challenge reply)
+    → ValuesRead board challenge reply (front_with accepts.board accepts.position) accepts.board.lanes accepts.challenge accepts.reply
+accepted_values board challenge reply accepts =
     let front : Front = front_with accepts.board accepts.position in
     let plan : PlanValue = plan_of front in
     let bits : Challenge = accepts.challenge in
@@ -163,25 +183,46 @@ accepted_files board challenge reply accepts =
     let count : length accepts.reply ≡ shown.count =
     many_count (next_shown plan (bit_of bits)) [] shown.count shown.count_rest accepts.reply shown.lanes_rest shown.lanes_read ∙ omega arith in
     let as_many : length bits.bits ≡ shown.count = omega (arith, count, accepts.one_bit_each, accepts.one_reply_each) in
-    let lanes : LanesRead front plan (bit_of bits) [] [] (length bits.bits) parts.seals_rest shown.count_rest (parts.lanes_rest, shown.lanes_rest) = record {
-      lines = accepts.board.lanes;
-      shown = accepts.reply;
-      board_read = same_lanes front (length bits.bits) parts.seals_rest is accepts.one_bit_each ∙ parts.lanes_read;
-      reply_read = ap (λ n. many_onto [] n (next_shown plan (bit_of bits)) shown.count_rest) as_many ∙ shown.lanes_read;
-      checked = λ index low high. checked_at front is (bit_of bits) accepts.board.lanes accepts.reply index (accepts.lanes (index + 1) (omega arith) (omega (arith, high, accepts.one_bit_each)));
-    } in
+    let same : shown.count ≡ front.head.lanes = omega (arith, as_many, accepts.one_bit_each) in
     record {
-      front = (front, parts.seals_rest);
-      bits = (bits, challenge_found.0);
-      lanes = (shown.count, shown.count_rest);
+      board_rest = parts.seals_rest;
+      challenge_rest = challenge_found.0;
+      reply_rest = shown.count_rest;
       rests = (parts.lanes_rest, shown.lanes_rest);
       front_read = ap in_front (front_at_found (from_start board) front parts.seals_rest read);
       challenge_read = challenge_found.1;
-      reply_read = shown.head_read;
-      same_bits = accepts.one_bit_each;
-      same_lanes = omega (arith, as_many, accepts.one_bit_each);
-      lanes_pass = lanes_found front plan (bit_of bits) [] [] bits.bits parts.seals_rest shown.count_rest (parts.lanes_rest, shown.lanes_rest) refl (bits_are bits) lanes;
+      reply_read = shown.head_read ∙ ap (λ n. Ok (n, shown.count_rest)) same;
+      lines_read = same_lanes front (length bits.bits) parts.seals_rest is accepts.one_bit_each ∙ parts.lanes_read;
+      shown_read = ap (λ n. many_onto [] n (next_shown plan (bit_of bits)) shown.count_rest) as_many ∙ shown.lanes_read;
+      checked = λ index within. checked_at front is (bit_of bits) accepts.board.lanes accepts.reply index (accepts.lanes (index + 1) (omega arith) (omega (arith, within, accepts.one_bit_each)));
       ends = record { board_over = parts.over; reply_over = shown.over; board_read = parts.end_read; reply_read = shown.end_read };
+    }
+
+accepted_files : (board challenge reply : List ℕ) → Accepts board challenge reply → FilesRead (from_start board) (from_start challenge) (from_start reply)
+accepted_files board challenge reply accepts =
+    let front : Front = front_with accepts.board accepts.position in
+    let plan : PlanValue = plan_of front in
+    let bits : Challenge = accepts.challenge in
+    let read = accepted_values board challenge reply accepts in
+    let lanes : LanesRead front plan (bit_of bits) [] [] (length bits.bits) read.board_rest read.reply_rest read.rests = record {
+      lines = accepts.board.lanes;
+      shown = accepts.reply;
+      board_read = read.lines_read;
+      reply_read = read.shown_read;
+      checked = λ index low high. read.checked index (omega (arith, high));
+    } in
+    record {
+      front = (front, read.board_rest);
+      bits = (bits, read.challenge_rest);
+      lanes = (front.head.lanes, read.reply_rest);
+      rests = read.rests;
+      front_read = read.front_read;
+      challenge_read = read.challenge_read;
+      reply_read = read.reply_read;
+      same_bits = accepts.one_bit_each;
+      same_lanes = refl;
+      lanes_pass = lanes_found front plan (bit_of bits) [] [] bits.bits read.board_rest read.reply_rest read.rests refl (bits_are bits) lanes;
+      ends = read.ends;
     }
 
 -- the verdict is that there is no fault where no test fails

@@ -15,7 +15,7 @@ use Rattle.vk_verifier.proofs.Steps.{bind_ok, bind_found, read_ok, read_found}
 
 -- ---- the numbers of lanes
 
-abbrev counts : Head → Challenge → ℕ → Bool
+abbrev pub counts : Head → Challenge → ℕ → Bool
 counts head challenge lanes = length challenge.bits == head.lanes && lanes == head.lanes
 
 same_shown : (same : Bool) (done : Unit {0}) → ◌≡◌ {A = Result (Unit {0}) BoardVerdict} (if same then Ok tt else Err Lanes) (Ok done) → same ≡ true
@@ -48,7 +48,7 @@ ends_shown board reply done ok =
     let end = read_ok part.Reply (end_at reply) (λ end. Ok tt) done over.2 in
     record { board_over = over.0; reply_over = end.0; board_read = over.1; reply_read = end.1 }
 
-ends_found : (board reply : Rest) → EndsRead board reply → ends_judged board reply ≡ Ok tt
+pub ends_found : (board reply : Rest) → EndsRead board reply → ends_judged board reply ≡ Ok tt
 unfolding ends_judged
 ends_found board reply read =
     read_found part.Board (end_at board) (λ over. in_part part.Reply (end_at reply) >>= λ end. Ok tt) read.board_over read.board_read
@@ -69,19 +69,19 @@ pub record FilesRead (board challenge reply : Rest) : Type 0 where
   pub lanes_pass : lanes_judged front.0 (plan_of front.0) 1 bits.0.bits front.1 lanes.1 ≡ Ok rests
   pub ends : EndsRead rests.0 rests.1
 
-abbrev ends_then : Rest × Rest → Result (Unit {0}) BoardVerdict
+abbrev pub ends_then : Rest × Rest → Result (Unit {0}) BoardVerdict
 ends_then rests = ends_judged rests.0 rests.1
 
-abbrev lanes_then : Front × Rest → Challenge × Rest → ℕ × Rest → Result (Unit {0}) BoardVerdict
+abbrev pub lanes_then : Front × Rest → Challenge × Rest → ℕ × Rest → Result (Unit {0}) BoardVerdict
 lanes_then front bits lanes = lanes_judged front.0 (plan_of front.0) 1 bits.0.bits front.1 lanes.1 >>= ends_then
 
-abbrev reply_then : Front × Rest → Challenge × Rest → ℕ × Rest → Result (Unit {0}) BoardVerdict
+abbrev pub reply_then : Front × Rest → Challenge × Rest → ℕ × Rest → Result (Unit {0}) BoardVerdict
 reply_then front bits lanes = counted front.0.head bits.0 lanes.0 >>= λ same. lanes_then front bits lanes
 
-abbrev bits_then : Rest → Front × Rest → Challenge × Rest → Result (Unit {0}) BoardVerdict
+abbrev pub bits_then : Rest → Front × Rest → Challenge × Rest → Result (Unit {0}) BoardVerdict
 bits_then reply front bits = in_part part.Reply (reply_head_at reply) >>= reply_then front bits
 
-abbrev front_then : Rest → Rest → Front × Rest → Result (Unit {0}) BoardVerdict
+abbrev pub front_then : Rest → Rest → Front × Rest → Result (Unit {0}) BoardVerdict
 front_then challenge reply front = in_part part.Challenge (challenge_at challenge) >>= bits_then reply front
 
 pub judged_shown : (board challenge reply : Rest) (done : Unit {0}) → judged board challenge reply ≡ Ok done → FilesRead board challenge reply

@@ -10,8 +10,13 @@ pub mod Refusals
 pub mod Files
 pub mod Wholes
 pub mod Accepted
+pub mod LaneStops
+pub mod Passed
+pub mod Reasons
+pub mod Exact
 pub mod Joined
 pub mod Bits
 pub mod TwoFound
 pub mod TwoLaw
+pub mod TwoValues
 pub mod TwoBegun

@@ -1,5 +1,5 @@
 -- So many parts of a file one after another: the first of them, and those that were read before.
-use Rattle.std.proofs.Common.{◌≡◌, ℕ, zero, suc, ◌+◌, List, [], ◌∷◌, ◌++◌, length, Result, Ok, refl, sym, ap, ◌∙◌, append_assoc, append-nil, length-append, arith}
+use Rattle.std.proofs.Common.{◌≡◌, ℕ, zero, suc, ◌+◌, ◌<◌, List, [], ◌∷◌, ◌++◌, length, Result, Ok, Err, refl, sym, ap, ◌∙◌, append_assoc, append-nil, length-append, arith}
 use Rattle.std.specs.Prelude.{slice_index_or}
 use Rattle.std.proofs.lemmas.List.{get_or_at}
 use Rattle.vk_lines.specs.Lines.{Rest, ◌>>=◌}
@@ -46,3 +46,26 @@ module _ {X : Type 0} (read : List X → Rest → Result (X × Rest) ℕ) where
       let begins = many_begins (before ++ x ∷ []) count rest ys after some in
       ap (λ zs. slice_index_or zs (length before) default) (begins.1 ∙ append_assoc before (x ∷ []) begins.0)
       ∙ get_or_at before x begins.0 default (length before) refl
+
+  -- one part more
+  pub many_more : (before : List X) (count : ℕ) (rest : Rest) (ys : List X) (after : Rest) (y : X) (next : Rest) → many_onto before count read rest ≡ Ok (ys, after) → read ys after ≡ Ok (y, next)
+      → many_onto before (suc count) read rest ≡ Ok (ys ++ y ∷ [], next)
+  unfolding many_onto
+  many_more before zero rest ys after y next some last =
+      let same = ok_same (before, rest) (ys, after) some in
+      ap (λ p. read p.0 p.1 >>= λ q. Ok (p.0 ++ q.0 ∷ [], q.1)) same ∙ ap (λ r. r >>= λ q. Ok (ys ++ q.0 ∷ [], q.1)) last
+  many_more before (suc count) rest ys after y next some last =
+      let first = bind_ok (read before rest) (λ p. many_onto (before ++ p.0 ∷ []) count read p.1) (ys, after) some in
+      ap (λ r. r >>= λ p. many_onto (before ++ p.0 ∷ []) (suc count) read p.1) first.1 ∙ many_more (before ++ first.0.0 ∷ []) count first.0.1 ys after y next first.2 last
+
+  -- reading stops in a part
+  pub many_stop : (before : List X) (count total : ℕ) (rest : Rest) (ys : List X) (after : Rest) (line : ℕ) → count < total → many_onto before count read rest ≡ Ok (ys, after) → read ys after ≡ Err line
+      → many_onto before total read rest ≡ Err line
+  unfolding many_onto
+  many_stop before count zero rest ys after line within some stop = absurd (omega (arith, within))
+  many_stop before zero (suc total) rest ys after line within some stop =
+      let same = ok_same (before, rest) (ys, after) some in
+      ap (λ p. read p.0 p.1 >>= λ q. many_onto (p.0 ++ q.0 ∷ []) total read q.1) same ∙ ap (λ r. r >>= λ q. many_onto (ys ++ q.0 ∷ []) total read q.1) stop
+  many_stop before (suc count) (suc total) rest ys after line within some stop =
+      let first = bind_ok (read before rest) (λ p. many_onto (before ++ p.0 ∷ []) count read p.1) (ys, after) some in
+      ap (λ r. r >>= λ p. many_onto (before ++ p.0 ∷ []) total read p.1) first.1 ∙ many_stop (before ++ first.0.0 ∷ []) count total first.0.1 ys after line (omega (arith, within)) first.2 stop

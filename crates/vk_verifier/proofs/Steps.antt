@@ -1,8 +1,9 @@
 -- One test after another, for files: what each gave where all were passed.
-use Rattle.std.proofs.Common.{◌≡◌, ◌≢◌, ℕ, Result, Ok, Err, refl, ap}
+use Rattle.std.proofs.Common.{◌≡◌, ◌≢◌, ℕ, ◌⊎◌, inl, inr, Result, Ok, Err, refl, ap}
 use Rattle.vk_row.specs.LaneTests.{◌>>=◌}
 use Rattle.vk_verifier.specs.declared.answers.Part.{Part}
 use Rattle.vk_verifier.specs.declared.answers.BoardVerdict.{BoardVerdict}
+use Rattle.vk_verifier.specs.declared.answers.BoardVerdict.TheVariants.{Malformed}
 use Rattle.vk_verifier.specs.Verdicts.{in_part}
 
 pub bind_ok : {A B E : Type 0} (r : Result A E) (f : A → Result B E) (y : B) → (r >>= f) ≡ Ok y → (x : A) × (r ≡ Ok x) × (f x ≡ Ok y)
@@ -32,3 +33,26 @@ read_ok file r f y h =
 
 pub read_found : {X Y : Type 0} (file : Part) (r : Result X ℕ) (f : X → Result Y BoardVerdict) (x : X) → r ≡ Ok x → (in_part file r >>= f) ≡ f x
 read_found file r f x found = ap (λ q. in_part file q >>= f) found
+
+-- ---- where a test fails
+
+pub bind_err : {A B E : Type 0} (r : Result A E) (f : A → Result B E) (fault : E) → (r >>= f) ≡ Err fault → (r ≡ Err fault) ⊎ ((x : A) × (r ≡ Ok x) × (f x ≡ Err fault))
+bind_err (Ok x) f fault h = inr (x, refl, h)
+bind_err (Err other) f fault h = let same : other ≡ fault = cc in inl (ap (λ z. Err z) same)
+
+-- the file has a fault in that line, which is the verdict
+pub record Unread {X : Type 0} (file : Part) (r : Result X ℕ) (verdict : BoardVerdict) : Type 0 where
+  pub line : ℕ
+  pub stop : r ≡ Err line
+  pub is : Malformed file line ≡ verdict
+
+part_err : {X : Type 0} (file : Part) (r : Result X ℕ) (verdict : BoardVerdict) → in_part file r ≡ Err verdict → Unread file r verdict
+part_err file (Ok x) verdict h = cc
+part_err file (Err line) verdict h = record { line = line; stop = refl; is = cc }
+
+pub read_err : {X Y : Type 0} (file : Part) (r : Result X ℕ) (f : X → Result Y BoardVerdict) (verdict : BoardVerdict) → (in_part file r >>= f) ≡ Err verdict
+    → Unread file r verdict ⊎ ((x : X) × (r ≡ Ok x) × (f x ≡ Err verdict))
+read_err file r f verdict h = elim (bind_err (in_part file r) f verdict h) [
+  | inl stop ↦ inl (part_err file r verdict stop)
+  | inr read ↦ inr (read.0, part_ok file r read.0 read.1, read.2)
+]

@@ -30,7 +30,7 @@ use Rattle.vk_verifier.specs.Verdicts.{in_part, in_front, front_judged, plan_of,
 use Rattle.vk_verifier.specs.Statement.{statement_of}
 use Rattle.vk_verifier.specs.Parts.{case_at, reply_judged, attempt_at, rest_judged, judged_in_parts}
 use Rattle.vk_verifier.specs.Two.{Ahead, Rests, AreAccepted, as_second, is_accepted, accepted_of, two_verdict, of_first, of_second, second_told, found_by, two_lane_at, ends_found, ahead_from, ahead_after, ahead_at, base_at, ahead_by, two_on}
-use Rattle.vk_verifier.specs.TwoLaw.{bits_read, bits_in, ahead_in, FindsByVerdicts, AreAllGiven, GivesEachLane}
+use Rattle.vk_verifier.specs.TwoLaw.{bits_read, bits_in, ahead_in, FindsByVerdicts}
 use Rattle.vk_verifier.proofs.Joined.{lane_parts, judged_parts}
 
 -- ---- by what judging comes to
@@ -261,7 +261,8 @@ by_verdicts (Ok done) (Err verdict) bits others is other_is = ap (λ test. if te
 by_verdicts (Err verdict) second bits others is other_is =
     ap (λ test. if test then (if is_accepted (verdict_by second) then accepted_of bits others else Refused true (as_second (verdict_by second))) else Refused false verdict) (sym is.is)
 
-found_in : (board first_challenge first_reply second_challenge second_reply : List ℕ)
+-- what is found of the bytes
+pub found_in : (board first_challenge first_reply second_challenge second_reply : List ℕ)
     → (ahead_in board first_challenge first_reply second_challenge second_reply).finding
     ≡ two_verdict (verdict_of board first_challenge first_reply) (verdict_of board second_challenge second_reply) (bits_in first_challenge) (bits_in second_challenge)
 found_in board first_challenge first_reply second_challenge second_reply =
@@ -273,76 +274,6 @@ found_in board first_challenge first_reply second_challenge second_reply =
     ∙ by_verdicts first second bits others (fault_whole (from_start board) (from_start first_challenge) (from_start first_reply)) (fault_whole (from_start board) (from_start second_challenge) (from_start second_reply))
     ∙ ap (λ r. two_verdict (verdict_by r) (verdict_by second) bits others) (sym (judged_parts (from_start board) (from_start first_challenge) (from_start first_reply)))
     ∙ ap (λ r. two_verdict (verdict_of board first_challenge first_reply) (verdict_by r) bits others) (sym (judged_parts (from_start board) (from_start second_challenge) (from_start second_reply)))
-
--- ---- the lanes that are given
-
-abbrev AllGiven : Ahead → List Bool → List Bool → Type 0
-AllGiven ahead bits others = AreAccepted ahead.finding → AreAllGiven ahead bits others
-
-told_refuses : (verdict : BoardVerdict) (first : Result (Unit {0}) BoardVerdict) → AreAccepted (second_told verdict first) → ⊥
-told_refuses verdict (Ok done) accepted = accepted
-told_refuses verdict (Err other) accepted = accepted
-
-given_after : (second : Result (List Shown × Rest) BoardVerdict) (case : LaneCase × Rest) (shown : List Shown × Rest) (first_bit second_bit : Bool) (bits others : List Bool)
-    (rest : Rest → Rest → Result (Unit {0}) BoardVerdict) (next : Rests → Ahead) → ((rests : Rests) → AllGiven (next rests) bits others)
-    → AllGiven (ahead_after (both (Ok case) (λ _. Ok shown) (λ _. second) first_bit second_bit rest) next) (first_bit ∷ bits) (second_bit ∷ others)
-given_after (Err verdict) case shown first_bit second_bit bits others rest next later accepted = absurd (told_refuses verdict (rest case.1 shown.1) accepted)
-given_after (Ok last) case shown first_bit second_bit bits others rest next later accepted =
-    let left = later (record { board = case.1; first = shown.1; second = last.1 }) accepted in
-    record { first = ap (λ b. first_bit ∷ b) left.first; second = ap (λ b. second_bit ∷ b) left.second }
-
-given_first : (first second : Result (List Shown × Rest) BoardVerdict) (case : LaneCase × Rest) (first_bit second_bit : Bool) (bits others : List Bool)
-    (rest : Rest → Rest → Result (Unit {0}) BoardVerdict) (next : Rests → Ahead) → ((rests : Rests) → AllGiven (next rests) bits others)
-    → AllGiven (ahead_after (both (Ok case) (λ _. first) (λ _. second) first_bit second_bit rest) next) (first_bit ∷ bits) (second_bit ∷ others)
-given_first (Err verdict) second case first_bit second_bit bits others rest next later accepted = absurd accepted
-given_first (Ok shown) second case first_bit second_bit bits others rest next later accepted = given_after second case shown first_bit second_bit bits others rest next later accepted
-
-given_lane : (case : Result (LaneCase × Rest) BoardVerdict) (first second : LaneCase → Result (List Shown × Rest) BoardVerdict) (first_bit second_bit : Bool) (bits others : List Bool)
-    (rest : Rest → Rest → Result (Unit {0}) BoardVerdict) (next : Rests → Ahead) → ((rests : Rests) → AllGiven (next rests) bits others)
-    → AllGiven (ahead_after (both case first second first_bit second_bit rest) next) (first_bit ∷ bits) (second_bit ∷ others)
-given_lane (Err verdict) first second first_bit second_bit bits others rest next later accepted = absurd accepted
-given_lane (Ok case) first second first_bit second_bit bits others rest next later accepted = given_first (first case.0) (second case.0) case first_bit second_bit bits others rest next later accepted
-
--- from a lane on, where both replies are accepted
-given_from : (front : Front) (plan : PlanValue) (accepted : TwoVerdict) (number : ℕ) (bits others : List Bool) (rests : Rests) → length bits ≡ length others
-    → AllGiven (ahead_from front plan accepted number bits others rests) bits others
-unfolding ahead_from two_lane_at
-given_from front plan accepted number [] [] rests same are = record { first = refl; second = refl }
-given_from front plan accepted number [] (other ∷ others) rests same are = cc
-given_from front plan accepted number (bit ∷ bits) [] rests same are = cc
-given_from front plan accepted number (bit ∷ bits) (other ∷ others) rests same are =
-    given_lane (case_at front plan number rests.board) (λ case. reply_judged plan case number bit rests.first) (λ case. reply_judged plan case number other rests.second) bit other bits others
-    (rest_judged front plan (number + 1) bits) (ahead_from front plan accepted (number + 1) bits others)
-    (λ next. given_from front plan accepted (number + 1) bits others next (omega (arith, same))) are
-
-given_second : (front : Front × Rest) (first : List Bool × Rest) (second : Result (List Bool × Rest) BoardVerdict) (bits others : List Bool)
-    → IsAttempt front.0.head bits first → IfOk second (IsAttempt front.0.head others)
-    → AllGiven (ahead_by (of_second (rest_judged front.0 (plan_of front.0) 1 first.0 front.1 first.1) second >>= λ s. base_of front first s)) bits others
-given_second front first (Err verdict) bits others is other_is accepted = absurd (told_refuses verdict (rest_judged front.0 (plan_of front.0) 1 first.0 front.1 first.1) accepted)
-given_second front first (Ok second) bits others is other_is accepted =
-    let rests : Rests = record { board = front.1; first = first.1; second = second.1 } in
-    let given = given_from front.0 (plan_of front.0) (accepted_of first.0 second.0) 1 first.0 second.0 rests (is.count ∙ sym other_is.count) accepted in
-    record { first = given.first ∙ is.same; second = given.second ∙ other_is.same }
-
-given_attempts : (front : Front × Rest) (first second : Result (List Bool × Rest) BoardVerdict) (bits others : List Bool)
-    → IfOk first (IsAttempt front.0.head bits) → IfOk second (IsAttempt front.0.head others)
-    → AllGiven (ahead_by (of_first first >>= λ f. of_second (rest_judged front.0 (plan_of front.0) 1 f.0 front.1 f.1) second >>= λ s. base_of front f s)) bits others
-given_attempts front (Err verdict) second bits others is other_is accepted = absurd accepted
-given_attempts front (Ok first) second bits others is other_is accepted = given_second front first second bits others is other_is accepted
-
-given_front : (front : Result (Front × Rest) BoardVerdict) (first second : Head → Result (List Bool × Rest) BoardVerdict) (bits others : List Bool)
-    → ((head : Head) → IfOk (first head) (IsAttempt head bits)) → ((head : Head) → IfOk (second head) (IsAttempt head others))
-    → AllGiven (ahead_by (of_first front >>= λ b. of_first (first b.0.head) >>= λ f. of_second (rest_judged b.0 (plan_of b.0) 1 f.0 b.1 f.1) (second b.0.head) >>= λ s. base_of b f s)) bits others
-given_front (Err verdict) first second bits others is other_is accepted = absurd accepted
-given_front (Ok front) first second bits others is other_is accepted =
-    given_attempts front (first front.0.head) (second front.0.head) bits others (is front.0.head) (other_is front.0.head) accepted
-
-given_in : (board first_challenge first_reply second_challenge second_reply : List ℕ)
-    → AllGiven (ahead_in board first_challenge first_reply second_challenge second_reply) (bits_in first_challenge) (bits_in second_challenge)
-unfolding base_at
-given_in board first_challenge first_reply second_challenge second_reply =
-    given_front (front_judged (from_start board)) (λ head. attempt_at head (from_start first_challenge) (from_start first_reply)) (λ head. attempt_at head (from_start second_challenge) (from_start second_reply))
-    (bits_in first_challenge) (bits_in second_challenge) (λ head. attempt_is head (from_start first_challenge) (from_start first_reply)) (λ head. attempt_is head (from_start second_challenge) (from_start second_reply))
 
 -- ---- files on a shelf
 
@@ -387,14 +318,3 @@ finds_by_verdicts files board first_challenge first_reply second_challenge secon
     ok_so (two_on files board first_challenge first_reply second_challenge second_reply) (ahead_in b c r d s)
     (λ ahead. ahead.finding ≡ two_verdict (verdict_of b c r) (verdict_of b d s) (bits_in c) (bits_in d))
     (two_on_is files board first_challenge first_reply second_challenge second_reply) (found_in b c r d s)
-
-pub gives_each_lane : GivesEachLane
-gives_each_lane files board first_challenge first_reply second_challenge second_reply =
-    let b = bytes_of files board in
-    let c = bytes_of files first_challenge in
-    let r = bytes_of files first_reply in
-    let d = bytes_of files second_challenge in
-    let s = bytes_of files second_reply in
-    ok_so (two_on files board first_challenge first_reply second_challenge second_reply) (ahead_in b c r d s)
-    (λ ahead. AllGiven ahead (bits_in c) (bits_in d))
-    (two_on_is files board first_challenge first_reply second_challenge second_reply) (given_in b c r d s)

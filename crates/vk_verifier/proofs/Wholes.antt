@@ -1,5 +1,5 @@
 -- A board and a reply as whole files, and the parts that they are read in.
-use Rattle.std.proofs.Common.{◌≡◌, ℕ, Bool, List, Result, Ok, ap, ◌∙◌, subst}
+use Rattle.std.proofs.Common.{◌≡◌, ℕ, Bool, List, Result, Ok, Err, ap, ◌∙◌, subst}
 use Rattle.vk_lines.specs.Lines.{Rest, ◌>>=◌, end_at}
 use Rattle.vk_lines.proofs.Parts.{bind_ok, ok_same}
 use Rattle.vk_plan.specs.declared.wire.WireKind.{WireKind}
@@ -67,6 +67,25 @@ board_joined shape rest board parts =
     ∙ (step (lanes_at shape board.head parts.seals_rest) (lanes_then board.head board.seals) (board.lanes, parts.lanes_rest) parts.lanes_read
     ∙ step (end_at parts.lanes_rest) (λ over. Ok (board, over.1)) parts.over parts.end_read))
 
+-- reading stops in a lane, or at the end
+pub board_no_lanes : (shape : Head → Shape) (rest : Rest) (head : Head) (seals : List SealLines) (head_rest seals_rest : Rest) (line : ℕ)
+    → head_at rest ≡ Ok (head, head_rest) → seals_at head head_rest ≡ Ok (seals, seals_rest) → lanes_at shape head seals_rest ≡ Err line → board_at shape rest ≡ Err line
+unfolding board_at
+board_no_lanes shape rest head seals head_rest seals_rest line head_read seals_read stop =
+    step (head_at rest) (head_then shape) (head, head_rest) head_read
+    ∙ (step (seals_at head head_rest) (seals_then shape head) (seals, seals_rest) seals_read
+    ∙ ap (λ r. r >>= lanes_then head seals) stop)
+
+pub board_no_end : (shape : Head → Shape) (rest : Rest) (board : Board) (head_rest seals_rest lanes_rest : Rest) (line : ℕ)
+    → head_at rest ≡ Ok (board.head, head_rest) → seals_at board.head head_rest ≡ Ok (board.seals, seals_rest) → lanes_at shape board.head seals_rest ≡ Ok (board.lanes, lanes_rest)
+    → end_at lanes_rest ≡ Err line → board_at shape rest ≡ Err line
+unfolding board_at
+board_no_end shape rest board head_rest seals_rest lanes_rest line head_read seals_read lanes_read stop =
+    step (head_at rest) (head_then shape) (board.head, head_rest) head_read
+    ∙ (step (seals_at board.head head_rest) (seals_then shape board.head) (board.seals, seals_rest) seals_read
+    ∙ (step (lanes_at shape board.head seals_rest) (lanes_then board.head board.seals) (board.lanes, lanes_rest) lanes_read
+    ∙ ap (λ r. r >>= λ (over : Unit × Rest). Ok (board, over.1)) stop))
+
 -- ---- a reply
 
 pub record ReplyParts (kinds : List WireKind) (bit_of : ℕ → Bool) (rest : Rest) (lanes : List (List Shown)) : Type 0 where
@@ -109,3 +128,22 @@ reply_joined kinds bit_of rest lanes parts =
     step (reply_head_at rest) (count_then kinds bit_of) (parts.count, parts.count_rest) parts.head_read
     ∙ (step (reply_lanes_at kinds bit_of parts.count parts.count_rest) shown_then (lanes, parts.lanes_rest) parts.lanes_read
     ∙ step (end_at parts.lanes_rest) (λ over. Ok (lanes, over.1)) parts.over parts.end_read)
+
+-- reading stops in the head, in a lane, or at the end
+pub reply_no_head : (kinds : List WireKind) (bit_of : ℕ → Bool) (rest : Rest) (line : ℕ) → reply_head_at rest ≡ Err line → reply_at kinds bit_of rest ≡ Err line
+unfolding reply_at
+reply_no_head kinds bit_of rest line stop = ap (λ r. r >>= count_then kinds bit_of) stop
+
+pub reply_no_lanes : (kinds : List WireKind) (bit_of : ℕ → Bool) (rest : Rest) (count : ℕ) (count_rest : Rest) (line : ℕ)
+    → reply_head_at rest ≡ Ok (count, count_rest) → reply_lanes_at kinds bit_of count count_rest ≡ Err line → reply_at kinds bit_of rest ≡ Err line
+unfolding reply_at
+reply_no_lanes kinds bit_of rest count count_rest line head_read stop =
+    step (reply_head_at rest) (count_then kinds bit_of) (count, count_rest) head_read ∙ ap (λ r. r >>= shown_then) stop
+
+pub reply_no_end : (kinds : List WireKind) (bit_of : ℕ → Bool) (rest : Rest) (count : ℕ) (lanes : List (List Shown)) (count_rest lanes_rest : Rest) (line : ℕ)
+    → reply_head_at rest ≡ Ok (count, count_rest) → reply_lanes_at kinds bit_of count count_rest ≡ Ok (lanes, lanes_rest) → end_at lanes_rest ≡ Err line → reply_at kinds bit_of rest ≡ Err line
+unfolding reply_at
+reply_no_end kinds bit_of rest count lanes count_rest lanes_rest line head_read lanes_read stop =
+    step (reply_head_at rest) (count_then kinds bit_of) (count, count_rest) head_read
+    ∙ (step (reply_lanes_at kinds bit_of count count_rest) shown_then (lanes, lanes_rest) lanes_read
+    ∙ ap (λ r. r >>= λ (over : Unit × Rest). Ok (lanes, over.1)) stop)

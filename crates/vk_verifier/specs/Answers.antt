@@ -6,8 +6,8 @@ use Rattle.vk_lines.specs.declared.errors.ReadErr.{ReadErr}
 use Rattle.vk_lines.specs.declared.errors.ReadErr.TheVariants as read
 use Rattle.vk_lines.specs.declared.errors.StartErr.{StartErr}
 use Rattle.vk_lines.specs.declared.errors.StartErr.TheVariants as start
-use Rattle.vk_lines.specs.declared.errors.LineErr.{LineErr}
-use Rattle.vk_lines.specs.declared.errors.LineErr.TheVariants as line
+use Rattle.vk_io.specs.declared.errors.OutsideErr.{OutsideErr}
+use Rattle.vk_io.specs.declared.errors.OutsideErr.TheVariants as line
 use Rattle.vk_board.specs.declared.front.FrontErr.{FrontErr}
 use Rattle.vk_board.specs.declared.front.FrontErr.TheVariants as unread
 use Rattle.vk_verifier.specs.declared.answers.Part.{Part}
@@ -29,6 +29,11 @@ use Rattle.vk_verifier.specs.declared.stage.Stage.TheVariants.{Before, Running}
 use Rattle.vk_verifier.specs.declared.two_halt.TwoHalt.{TwoHalt}
 use Rattle.vk_verifier.specs.declared.two_halt.TwoHalt.TheVariants.{Found, Failed, NoMemory}
 use Rattle.vk_verifier.specs.Two.{as_second}
+
+-- a failure of the outside, or want of memory
+abbrev pub verr_of : OutsideErr → VErr
+verr_of line.Failed = verr.Failed
+verr_of line.NoMemory = verr.NoMemory
 
 -- what was read of a file: a fault of its form is the verdict
 abbrev pub read_answer : {X : Type 0} → Part → Result X ReadErr → Result X Halt
@@ -100,7 +105,7 @@ start_answer (Err Failed) readers = Err verr.Failed
 start_answer (Err NoMemory) readers = Err verr.NoMemory
 
 -- after a step from so many lanes
-abbrev pub step_answer : Base → TwoReaders → ℕ → Result TwoLane TwoHalt → Result (Course × Option TwoLane) LineErr
+abbrev pub step_answer : Base → TwoReaders → ℕ → Result TwoLane TwoHalt → Result (Course × Option TwoLane) OutsideErr
 step_answer base readers given (Ok lane) = Ok (record { base = base; readers = readers; given = given + 1; finding = None }, Some lane)
 step_answer base readers given (Err (Found finding)) = Ok (record { base = base; readers = readers; given = given; finding = Some finding }, None)
 step_answer base readers given (Err Failed) = Err line.Failed

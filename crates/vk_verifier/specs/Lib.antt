@@ -5,3 +5,5 @@ pub mod Two
 pub mod Answers
 pub mod TwoLaw
 pub mod Acceptance
+pub mod TwoValues
+pub mod Refusals

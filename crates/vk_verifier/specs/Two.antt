@@ -193,15 +193,20 @@ abbrev pub ahead_at : Rest → Rest → Rest → Rest → Rest → Ahead
 ahead_at board first_challenge first_reply second_challenge second_reply =
     ahead_by (base_at board first_challenge first_reply second_challenge second_reply)
 
--- the same of the named files; or the first of them, in this order, that is missing or too long
-unfoldable pub two_on : Files → List ℕ → List ℕ → List ℕ → List ℕ → List ℕ → Result Ahead VErr
-two_on files board first_challenge first_reply second_challenge second_reply = do
+-- what five named files come to from their first lines on; or the first of them, in this order, that is missing or
+-- too long
+abbrev pub of_files : {X : Type 0} → (Rest → Rest → Rest → Rest → Rest → X) → Files → List ℕ → List ℕ → List ℕ → List ℕ → List ℕ → Result X VErr
+of_files whole files board first_challenge first_reply second_challenge second_reply = do
   board ← begun part.Board (get files board)
   first_challenge ← begun part.Challenge (get files first_challenge)
   first_reply ← begun part.Reply (get files first_reply)
   second_challenge ← begun part.SecondChallenge (get files second_challenge)
   second_reply ← begun part.SecondReply (get files second_reply)
-  Ok (ahead_at board first_challenge first_reply second_challenge second_reply)
+  Ok (whole board first_challenge first_reply second_challenge second_reply)
+
+-- what is given and found of the named files
+unfoldable pub two_on : Files → List ℕ → List ℕ → List ℕ → List ℕ → List ℕ → Result Ahead VErr
+two_on = of_files ahead_at
 
 -- what was read before the first lane, where there was no fault before it
 abbrev pub base_in : Result (Base × Rests) TwoVerdict → Option Base
@@ -210,13 +215,7 @@ base_in (Err finding) = None
 
 -- the same of the named files
 unfoldable pub base_on : Files → List ℕ → List ℕ → List ℕ → List ℕ → List ℕ → Result (Option Base) VErr
-base_on files board first_challenge first_reply second_challenge second_reply = do
-  board ← begun part.Board (get files board)
-  first_challenge ← begun part.Challenge (get files first_challenge)
-  first_reply ← begun part.Reply (get files first_reply)
-  second_challenge ← begun part.SecondChallenge (get files second_challenge)
-  second_reply ← begun part.SecondReply (get files second_reply)
-  Ok (base_in (base_at board first_challenge first_reply second_challenge second_reply))
+base_on = of_files (λ board first_challenge first_reply second_challenge second_reply. base_in (base_at board first_challenge first_reply second_challenge second_reply))
 
 -- ---- what the code answers
 

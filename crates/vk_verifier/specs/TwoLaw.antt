@@ -27,14 +27,3 @@ FindsByVerdicts = (files : Files) (board first_challenge first_reply second_chal
     ≡ two_verdict (verdict_of (bytes_of files board) (bytes_of files first_challenge) (bytes_of files first_reply))
     (verdict_of (bytes_of files board) (bytes_of files second_challenge) (bytes_of files second_reply))
     (bits_in (bytes_of files first_challenge)) (bits_in (bytes_of files second_challenge)))
-
--- the lanes are given one for each bit of both challenges, in their order
-pub record AreAllGiven (ahead : Ahead) (first_bits second_bits : List Bool) : Type 0 where
-  pub first : map (λ lane. lane.first_bit) ahead.lanes ≡ first_bits
-  pub second : map (λ lane. lane.second_bit) ahead.lanes ≡ second_bits
-
--- where both replies are accepted, every lane is given
-abbrev pub GivesEachLane : Type 0
-GivesEachLane = (files : Files) (board first_challenge first_reply second_challenge second_reply : List ℕ)
-    → IfOk (two_on files board first_challenge first_reply second_challenge second_reply) (λ ahead. AreAccepted ahead.finding
-    → AreAllGiven ahead (bits_in (bytes_of files first_challenge)) (bits_in (bytes_of files second_challenge)))

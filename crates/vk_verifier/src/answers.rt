@@ -1,3 +1,4 @@
+use vk_io::OutsideErr;
 use vk_wire::WireFault;
 
 /// A file that a verdict is given on.
@@ -50,4 +51,18 @@ pub enum VErr {
     Failed,
     /// Want of memory.
     NoMemory,
+}
+
+impl From<OutsideErr> for VErr {
+    ghost use Rattle.std.specs.Prelude.{◌≡◌};
+    ghost use Rattle.vk_verifier.specs.Answers.{verr_of};
+
+    ghost from_gives = { λ outside e. e ≡ verr_of outside };
+
+    fn from(outside: OutsideErr) -> VErr {
+        match outside {
+            OutsideErr::Failed => VErr::Failed,
+            OutsideErr::NoMemory => VErr::NoMemory,
+        }
+    }
 }

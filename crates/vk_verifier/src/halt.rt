@@ -2,14 +2,13 @@
 ghost use Rattle.std.specs.Prelude.{◌≡◌, ℕ, Result, Ok, IfOk};
 ghost use Rattle.vk_io.specs.Faults.{Causes};
 ghost use Rattle.vk_lines.specs.Lines.{Reads, Rest};
-ghost use Rattle.vk_board.specs.Gives.{Gives};
+ghost use Rattle.vk_lines.specs.Gives.{Gives};
 ghost use Rattle.vk_board.specs.Fronts.{FrontFault, fault_of};
 ghost use Rattle.vk_verifier.specs.Verdicts.{Judges, in_part, in_front};
 ghost use Rattle.vk_verifier.specs.Answers.{read_answer, front_answer};
 ghost use Rattle.vk_verifier.specs.declared.halt.Halt.TheVariants.{NoMemory as OutOfMemory};
 
 use crate::answers::{BoardVerdict, Part};
-use std::alloc::{AllocError, AllocFailed};
 use vk_board::FrontErr;
 use vk_lines::ReadErr;
 use vk_residue::NoMemory;
@@ -28,22 +27,6 @@ impl From<NoMemory> for Halt {
     ghost from_gives = { λ _ halt. halt ≡ OutOfMemory };
 
     fn from(_refused: NoMemory) -> Halt {
-        Halt::NoMemory
-    }
-}
-
-impl From<AllocError> for Halt {
-    ghost from_gives = { λ _ halt. halt ≡ OutOfMemory };
-
-    fn from(_refused: AllocError) -> Halt {
-        Halt::NoMemory
-    }
-}
-
-impl<T: Drop> From<AllocFailed<T>> for Halt {
-    ghost from_gives = { λ _ halt. halt ≡ OutOfMemory };
-
-    fn from(_refused: AllocFailed<T>) -> Halt {
         Halt::NoMemory
     }
 }

@@ -15,11 +15,14 @@ mod two_laws;
 
 pub use answers::{BoardVerdict, Part, VErr};
 pub use judging::verdict;
-pub use laws::a_verdict_accepts_what_is_accepted;
+pub use laws::{a_verdict_accepts_what_is_accepted, verdicts_are_given_exactly_where_they_hold};
 pub use stage::{TwoLane, TwoVerdict};
 pub use statement::Statement;
 pub use two::TwoChecker;
-pub use two_laws::{a_finding_is_by_both_verdicts, every_lane_is_given_of_accepted_replies};
+pub use two_laws::{
+    a_finding_is_by_both_verdicts, accepted_replies_give_their_values,
+    only_accepted_replies_are_found_to_be,
+};
 
 #[cfg(test)]
 mod tests;

@@ -46,6 +46,15 @@ impl Statement {
         &self.front
     }
 
+    /// What stands on the board before its first lane, without its circuit.
+    pub fn into_front(self) -> Front
+        ensures value { result ≡ self.front }
+        ensures right { IsFront result }
+    {
+        let Statement { front, plan: _plan } = self;
+        front
+    }
+
     /// The circuit of the lanes.
     pub fn plan(&self) -> &Plan
         ensures value { result.now ≡ self.now.plan }

@@ -4,6 +4,7 @@ ghost use Rattle.vk_io.specs.Faults.{Causes};
 ghost use Rattle.vk_io.specs.Reads.{OnlyReads};
 ghost use Rattle.vk_io.specs.Files.{Files};
 ghost use Rattle.vk_lines.specs.Lines.{rest_of};
+ghost use Rattle.vk_board.specs.Fronts.{IsFront};
 ghost use Rattle.vk_verifier.specs.Verdicts.{Gives};
 ghost use Rattle.vk_verifier.specs.Statement.{IsStatement};
 ghost use Rattle.vk_verifier.specs.Answers.{start_answer, step_answer};
@@ -20,9 +21,9 @@ use crate::two_halt::TwoHalt;
 use crate::two_lane::{begin_lanes, next_step};
 use std::alloc::Global;
 use std::marker::Model;
-use vk_board::Head;
-use vk_io::Shelf;
-use vk_lines::{LineErr, Lines};
+use vk_board::{Front, Head};
+use vk_io::{OutsideErr, Shelf};
+use vk_lines::Lines;
 
 /// Reads a board, a challenge and the reply to it, and another challenge and the reply to that, lane by lane.
 /// A lane is given where both replies are accepted so far. Once no lane is given any more, it tells what the
@@ -86,12 +87,12 @@ impl TwoChecker {
         self,
         alloc: Global,
         shelf: &mut S,
-    ) -> Result<(TwoChecker, Option<TwoLane>), LineErr>
+    ) -> Result<(TwoChecker, Option<TwoLane>), OutsideErr>
         ensures told { IfSome (S.held shelf.old) (λ files. IfOk result (λ next. GoesOn (ahead_of self files) next.1 next.0 files)) }
         ensures lane { IfOk result (λ next. IfSome next.1 (IsNextLane self next.0)) }
         ensures none { IfOk result (λ next. next.1 ≡ None → IsOver next.0 × (given_of next.0 ≡ given_of self)) }
         ensures base { IfOk result (λ next. base_of next.0 ≡ base_of self) }
-        ensures shelf { OnlyReads S.held S.Shelf.faults LineErr.Failed result shelf.old shelf.new }
+        ensures shelf { OnlyReads S.held S.Shelf.faults OutsideErr.Failed result shelf.old shelf.new }
     {
         let TwoChecker { stage } = self;
         match stage {
@@ -137,6 +138,23 @@ impl TwoChecker {
         match &self.stage {
             Stage::Before(_) => unreachable!(),
             Stage::Running(course) => &course.base.statement,
+        }
+    }
+
+    /// What stands on the board before its first lane, without the rest.
+    pub fn into_front(self) -> Front
+        requires { HasBase self }
+        ensures value { IfSome (base_of self) (λ base. base.statement.front ≡ result) }
+        ensures right { IsFront result }
+    {
+        let TwoChecker { stage } = self;
+        match stage {
+            Stage::Before(_) => unreachable!(),
+            Stage::Running(course) => {
+                let Base { statement, .. } = course.base;
+                let front = statement.into_front();
+                front
+            }
         }
     }
 
@@ -206,14 +224,14 @@ fn next_on_course<S: Shelf>(
     alloc: Global,
     shelf: &mut S,
     course: Course,
-) -> Result<(Course, Option<TwoLane>), LineErr>
+) -> Result<(Course, Option<TwoLane>), OutsideErr>
     requires { IsCourse course }
     ensures told { IfSome (S.held shelf.old) (λ files. IfOk result (λ next. GoesOn (ahead_of (Running course) files) next.1 (Running next.0) files)) }
     ensures right { IfOk result (λ next. IsCourse next.0) }
     ensures lane { IfOk result (λ next. IfSome next.1 (IsNextLane (Running course) (Running next.0))) }
     ensures none { IfOk result (λ next. next.1 ≡ None → IsSome next.0.finding × (next.0.given ≡ course.given)) }
     ensures base { IfOk result (λ next. next.0.base ≡ course.base) }
-    ensures shelf { OnlyReads S.held S.Shelf.faults LineErr.Failed result shelf.old shelf.new }
+    ensures shelf { OnlyReads S.held S.Shelf.faults OutsideErr.Failed result shelf.old shelf.new }
 {
     let Course {
         base,
@@ -241,7 +259,7 @@ fn after_step(
     readers: TwoReaders,
     given: u32,
     step: Result<TwoLane, TwoHalt>,
-) -> Result<(Course, Option<TwoLane>), LineErr>
+) -> Result<(Course, Option<TwoLane>), OutsideErr>
     requires base { IsBase base }
     requires within { given ≤ base.statement.front.head.lanes }
     requires right { IfOk step (IsTwoLane base.statement.front base.statement.plan (given + 1)) }
@@ -255,7 +273,7 @@ fn after_step(
     ensures count { IfOk result (λ next. IfSome next.1 (λ lane. next.0.given ≡ given + 1)) }
     ensures none { IfOk result (λ next. next.1 ≡ None → IsSome next.0.finding × (next.0.given ≡ given)) }
     ensures base { IfOk result (λ next. next.0.base ≡ base) }
-    ensures causes { (before : ℕ) (after : ℕ) → Causes TwoHalt.Failed step before after → Causes LineErr.Failed result before after }
+    ensures causes { (before : ℕ) (after : ℕ) → Causes TwoHalt.Failed step before after → Causes OutsideErr.Failed result before after }
 {
     match step {
         Ok(lane) => {
@@ -276,7 +294,7 @@ fn after_step(
             };
             Ok((course, None))
         }
-        Err(TwoHalt::Failed) => Err(LineErr::Failed),
-        Err(TwoHalt::NoMemory) => Err(LineErr::NoMemory),
+        Err(TwoHalt::Failed) => Err(OutsideErr::Failed),
+        Err(TwoHalt::NoMemory) => Err(OutsideErr::NoMemory),
     }
 }
