@@ -4,3 +4,4 @@ pub mod FirstClash
 pub mod Refused
 pub mod Values
 pub mod Laws
+pub mod Confronting

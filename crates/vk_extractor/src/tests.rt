@@ -1,16 +1,17 @@
 // A lane that an independent implementation made, and a lane with a pair.
-ghost use Rattle.std.specs.Prelude.{◌≡◌, IfOk, IsTrue, length};
+ghost use Rattle.std.specs.Prelude.{◌≡◌, ◌<◌, ◌^◌, IfOk, IsTrue, length};
 ghost use Rattle.vk_row.specs.Lanes.{HasCounts};
 ghost use Rattle.vk_plan.specs.Plans.{HasWeight, MayHave};
 ghost use Rattle.vk_plan.specs.declared.wire.WireKind.TheVariants.{Pair};
 
-use crate::extract_lane;
+use crate::{confront, extract_lane};
 use std::alloc::Global;
 use std::test::Fail;
-use vk_commit::Opening;
+use vk_commit::{Opening, Place, TwoOpenings, opens};
 use vk_plan::{Form, Plan, Term, WireKind};
 use vk_residue::Residue;
 use vk_row::{LaneCase, check_lane};
+use vk_seal::{Secret, XTape};
 use vk_seq::Seq;
 use vk_wire::{Shown, WireCom, WireTape, make, show, wire_place};
 
@@ -42,7 +43,9 @@ const COPY: WireCom = WireCom {
     ],
 };
 
-fn residue(number: u64) -> Result<Residue, Fail> {
+fn residue(number: u64) -> Result<Residue, Fail>
+    ensures { IfOk result (λ value. value ≡ number) }
+{
     Ok(Residue::new(number).ok_or("not below the modulus")?)
 }
 
@@ -276,5 +279,65 @@ fn many_wires_of_lane_2_give_their_values(rt: HostRuntime) -> Result<(), Fail> {
             "wire {wire}"
         );
     }
+    Ok(())
+}
+
+/// The bid 5 at seat 7, which lane 1 splits into 3 and 2.
+fn secret_of_five(alloc: Global) -> Result<Secret, Fail>
+    ensures bid { IfOk result (λ secret. secret.bid ≡ 5) }
+    ensures lanes { IfOk result (λ secret. length secret.lanes ≡ 1) }
+{
+    let mask = residue(3)?;
+    let mut lanes = Seq::new(alloc);
+    lanes.push(XTape {
+        mask,
+        first_key: [0x11; 32],
+        second_key: [0x22; 32],
+    })?;
+    Ok(Secret {
+        auction: AUCTION,
+        seat: 7,
+        bid: 5,
+        lanes,
+    })
+}
+
+/// Lane 1 of the secret against two openings, which are tested to open its commitments.
+fn confront_lane_1(
+    secret: &Secret,
+    first: &Opening,
+    second: &Opening,
+) -> Result<Option<TwoOpenings>, Fail>
+    requires bid { secret.now.bid < 2 ^ 40 }
+    requires lanes { length secret.now.lanes ≡ 1 }
+{
+    let place = wire_place(&secret.auction, 1, &[secret.seat], 0);
+    let next = Place { slot: 1, ..place };
+    let bid = residue(secret.bid)?;
+    let digests = make(
+        WireKind::Split,
+        &place,
+        bid,
+        &secret.lanes.as_slice()[0].wire(),
+    );
+    if !opens(&place, &digests.first, first) || !opens(&next, &digests.second, second) {
+        return Err(Fail::from("not opened"));
+    }
+    Ok(confront(secret, 1, first, second))
+}
+
+#[test]
+fn a_bidder_holds_the_halves_of_its_own_secret(rt: HostRuntime) -> Result<(), Fail> {
+    let secret = secret_of_five(rt.alloc())?;
+    let first = Opening {
+        key: [0x11; 32],
+        value: residue(3)?,
+    };
+    let second = Opening {
+        key: [0x22; 32],
+        value: residue(2)?,
+    };
+    let two = confront_lane_1(&secret, &first, &second)?;
+    assert!(rt; two.is_none());
     Ok(())
 }
