@@ -1,9 +1,9 @@
--- What is gathered of lanes that two accepted replies give shows the published outcome, or a clash.
-use Rattle.std.proofs.Common.{◌≡◌, ℕ, ◌+◌, ◌≤◌, Bool, true, false, if◌then◌else◌, nat_lt, All, List, [], ◌∷◌, ◌++◌, length, map, Option, Some, None, Result, Ok, Err, IfSome, IfErr, refl, sym, ap, subst, ◌∙◌, arith, append_assoc, append-nil}
+-- What is gathered of lanes that two accepted replies show gives the published outcome, or a clash.
+use Rattle.std.proofs.Common.{◌≡◌, ℕ, ◌+◌, ◌<◌, ◌≤◌, Bool, true, false, if◌then◌else◌, nat_lt, All, List, [], ◌∷◌, ◌++◌, length, map, Option, Some, None, Result, Ok, Err, IfSome, IfErr, refl, sym, ap, subst, ◌∙◌, arith, append_assoc, append-nil}
 use Rattle.std.specs.Option.{option_to_list}
 use Rattle.std.specs.List.{Contains}
 use Rattle.std.proofs.lemmas.List.{map-append}
-use Rattle.std.proofs.lemmas.List.Elements.{All-nil, All-cons, All-append, All-weaker, Contains-get_or, Contains-append_left, Contains-append_right}
+use Rattle.std.proofs.lemmas.List.Elements.{All-nil, All-cons, All-append, All-weaker, Contains-get_or, Contains-append_right}
 use Rattle.vk_commit.specs.Commitment.{TwoOpeningsSeen}
 use Rattle.vk_commit.specs.declared.place.Place.{Place}
 use Rattle.vk_plan.specs.Plans.{PlanValue}
@@ -23,9 +23,8 @@ use Rattle.vk_verifier.specs.Verdicts.{plan_of}
 use Rattle.vk_bids.specs.declared.bids.LaneBids.{LaneBids}
 use Rattle.vk_bids.specs.Bids.{opened_bids}
 use Rattle.vk_bids.specs.Gathering.{bids_by, lane_by, lane_found, shown_for, lane_shown, added, gathered_from}
-use Rattle.vk_bids.specs.Headline.{AreShownOf, differing}
+use Rattle.vk_bids.specs.Headline.{differing}
 use Rattle.vk_bids.specs.Outcome.{IsCaseOf, AreShownIn, ShowsOutcome}
-use Rattle.vk_bids.proofs.Given.{IsGiven, AreGiven}
 use Rattle.vk_bids.proofs.Showing.{case_shows, case_shown}
 
 abbrev pub ShowsLane : Front → LaneBids → Type 0
@@ -34,33 +33,50 @@ ShowsLane front lane = ShowsOutcome front lane.number lane.bids
 abbrev pub number_of : LaneBids → ℕ
 number_of lane = lane.number
 
+-- what is shown of the lane, for bit 0 and for bit 1, opens the bids
+abbrev pub IsShown : (ℕ → TwoLane) → LaneBids → Type 0
+IsShown at bids = AreShownIn (lane_shown false (at bids.number)) (lane_shown true (at bids.number)) bids.bids
+
+-- what the lane has: the openings of its first clash, if any
+abbrev pub clash_of : TwoLane → Option TwoOpeningsSeen
+clash_of lane = clash_of_lane lane.case (lane_shown false lane) (lane_shown true lane)
+
+abbrev pub Agrees : (ℕ → TwoLane) → ℕ → Type 0
+Agrees at number = clash_of (at number) ≡ None
+
 -- two openings of a commitment of this lane, which has that number
-pub record ClashesAt (front : Front) (plan : PlanValue) (number : ℕ) (case : LaneCase) (two : TwoOpeningsSeen) : Type 0 where
+pub record ClashesAt (front : Front) (number : ℕ) (case : LaneCase) (two : TwoOpeningsSeen) : Type 0 where
   pub lane : two.place.lane ≡ number
   pub auction : two.place.auction ≡ front.head.auction
-  pub of_lane : AreOfLane plan case two
+  pub of_lane : AreOfLane (plan_of front) case two
 
--- the same of one of these lanes, whose number is one of these: its first clash
-pub record ClashesIn (front : Front) (plan : PlanValue) (lanes : List TwoLane) (numbers : List ℕ) (two : TwoOpeningsSeen) : Type 0 where
+-- the first clash of one of the lanes with these numbers; those before it have none
+pub record ClashesIn (front : Front) (at : ℕ → TwoLane) (numbers : List ℕ) (two : TwoOpeningsSeen) : Type 0 where
   pub number : ℕ
   pub within : Contains numbers number
-  pub given : TwoLane
-  pub is_given : Contains lanes given
-  pub clash : ClashesAt front plan number given.case two
-  pub found : clash_of_lane given.case (lane_shown false given) (lane_shown true given) ≡ Some two
+  pub earlier : All (λ n. n < number → Agrees at n) numbers
+  pub clash : ClashesAt front number (at number).case two
+  pub found : clash_of (at number) ≡ Some two
 
--- bids of just the lanes with these numbers were added
-pub record AddsBids (front : Front) (lanes : List TwoLane) (before : List LaneBids) (numbers : List ℕ) (all : List LaneBids) : Type 0 where
+-- bids of just the lanes with these numbers were added, and none of these has a clash
+pub record AddsBids (front : Front) (at : ℕ → TwoLane) (before : List LaneBids) (numbers : List ℕ) (all : List LaneBids) : Type 0 where
   pub more : List LaneBids
   pub are : all ≡ before ++ more
   pub numbered : map number_of more ≡ numbers
-  pub shown : All (AreShownOf lanes) more
+  pub shown : All (IsShown at) more
   pub each : All (ShowsLane front) more
+  pub agree : All (Agrees at) numbers
 
 -- bids were added, or there is a clash in one of the lanes
-abbrev pub AddsLanes : Front → PlanValue → List TwoLane → List LaneBids → List ℕ → Result (List LaneBids) TwoOpeningsSeen → Type 0
-AddsLanes front plan lanes before numbers (Ok all) = AddsBids front lanes before numbers all
-AddsLanes front plan lanes before numbers (Err two) = ClashesIn front plan lanes numbers two
+abbrev pub AddsLanes : Front → (ℕ → TwoLane) → List LaneBids → List ℕ → Result (List LaneBids) TwoOpeningsSeen → Type 0
+AddsLanes front at before numbers (Ok all) = AddsBids front at before numbers all
+AddsLanes front at before numbers (Err two) = ClashesIn front at numbers two
+
+-- the lane is that of the number, and what both replies show of it is accepted
+pub record IsLane (front : Front) (number : ℕ) (lane : TwoLane) : Type 0 where
+  pub case : IsCaseOf front number lane.case
+  pub first : IsAccepted (plan_of front) lane.case lane.first_bit lane.first
+  pub second : IsAccepted (plan_of front) lane.case lane.second_bit lane.second
 
 -- the number of a lane whose bits these are, where they differ
 abbrev number_here : ℕ → Bool → Bool → List ℕ
@@ -80,6 +96,22 @@ none_differ : (number : ℕ) (first_bit : Bool) (first : List Bool) → differin
 none_differ number false first = refl
 none_differ number true first = refl
 
+here_from : (number : ℕ) (first_bit second_bit : Bool) → All (λ n. number ≤ n) (number_here number first_bit second_bit)
+here_from number false false = All-nil (λ n. number ≤ n)
+here_from number true true = All-nil (λ n. number ≤ n)
+here_from number false true = All-cons (λ n. number ≤ n) number [] (omega arith) (All-nil (λ n. number ≤ n))
+here_from number true false = All-cons (λ n. number ≤ n) number [] (omega arith) (All-nil (λ n. number ≤ n))
+
+-- these are of the lanes from that number on
+later_lanes : (number : ℕ) (first second : List Bool) → All (λ n. number ≤ n) (differing number first second)
+later_lanes number [] second = All-nil (λ n. number ≤ n)
+later_lanes number (first_bit ∷ first) [] = subst (All (λ n. number ≤ n)) (sym (none_differ number first_bit first)) (All-nil (λ n. number ≤ n))
+later_lanes number (first_bit ∷ first) (second_bit ∷ second) =
+    let P : ℕ → Type 0 = λ n. number ≤ n in
+    let later : All P (differing (number + 1) first second) = All-weaker (λ n. number + 1 ≤ n) P (λ n le. omega (arith, le)) (differing (number + 1) first second) (later_lanes (number + 1) first second) in
+    subst (All P) (sym (differing_first number first_bit second_bit first second))
+    (All-append P (number_here number first_bit second_bit) (differing (number + 1) first second) (here_from number first_bit second_bit) later)
+
 -- ---- where a clash stands
 
 either_place : (test : Bool) (one other : Place) (lane : ℕ) (auction : List ℕ) → (one.lane ≡ lane) × (one.auction ≡ auction) → (other.lane ≡ lane) × (other.auction ≡ auction)
@@ -94,8 +126,8 @@ entry_in : (place : Place) (second : Bool) → ((entry_place place second).lane 
 entry_in place false = (refl, refl)
 entry_in place true = (refl, refl)
 
-clashes_in : (front : Front) (plan : PlanValue) (number : ℕ) (case : LaneCase) (two : TwoOpeningsSeen) → IsCaseOf front number case → AreOfLane plan case two → ClashesAt front plan number case two
-clashes_in front plan number case two of_lane are =
+clashes_in : (front : Front) (number : ℕ) (case : LaneCase) (two : TwoOpeningsSeen) → IsCaseOf front number case → AreOfLane (plan_of front) case two → ClashesAt front number case two
+clashes_in front number case two of_lane are =
     let entry = entry_in (place_in case are.wire) are.second in
     let wire = wire_in case.auction case.lane case.seats are.wire in
     record {
@@ -111,45 +143,53 @@ abbrev IsOfLane : ℕ → List Shown → List Shown → LaneBids → Type 0
 IsOfLane number zero one bids = (number ≡ bids.number) × AreShownIn zero one bids.bids
 
 -- what a lane gives, of which these are shown for bit 0 and for bit 1
-record GivesBids (front : Front) (number : ℕ) (zero one : List Shown) (numbers : List ℕ) (found : List LaneBids) : Type 0 where
+record GivesBids (front : Front) (case : LaneCase) (number : ℕ) (zero one : List Shown) (numbers : List ℕ) (found : List LaneBids) : Type 0 where
   numbered : map number_of found ≡ numbers
   shown : All (IsOfLane number zero one) found
   each : All (ShowsLane front) found
+  agree : All (λ n. (n ≡ number) × (clash_of_lane case zero one ≡ None)) numbers
 
-record GivesClash (front : Front) (plan : PlanValue) (case : LaneCase) (number : ℕ) (zero one : List Shown) (numbers : List ℕ) (two : TwoOpeningsSeen) : Type 0 where
-  within : Contains numbers number
-  clash : ClashesAt front plan number case two
+record GivesClash (front : Front) (case : LaneCase) (number : ℕ) (zero one : List Shown) (numbers : List ℕ) (two : TwoOpeningsSeen) : Type 0 where
+  only : numbers ≡ number ∷ []
+  clash : ClashesAt front number case two
   found : clash_of_lane case zero one ≡ Some two
 
-abbrev GivesLane : Front → PlanValue → LaneCase → ℕ → List Shown → List Shown → List ℕ → Result (Option LaneBids) TwoOpeningsSeen → Type 0
-GivesLane front plan case number zero one numbers (Ok found) = GivesBids front number zero one numbers (option_to_list found)
-GivesLane front plan case number zero one numbers (Err two) = GivesClash front plan case number zero one numbers two
+abbrev GivesLane : Front → LaneCase → ℕ → List Shown → List Shown → List ℕ → Result (Option LaneBids) TwoOpeningsSeen → Type 0
+GivesLane front case number zero one numbers (Ok found) = GivesBids front case number zero one numbers (option_to_list found)
+GivesLane front case number zero one numbers (Err two) = GivesClash front case number zero one numbers two
 
-nothing_given : (front : Front) (number : ℕ) (zero one : List Shown) → GivesBids front number zero one [] []
-nothing_given front number zero one = record { numbered = refl; shown = All-nil (IsOfLane number zero one); each = All-nil (ShowsLane front) }
+nothing_given : (front : Front) (case : LaneCase) (number : ℕ) (zero one : List Shown) → GivesBids front case number zero one [] []
+nothing_given front case number zero one = record {
+  numbered = refl;
+  shown = All-nil (IsOfLane number zero one);
+  each = All-nil (ShowsLane front);
+  agree = All-nil (λ n. (n ≡ number) × (clash_of_lane case zero one ≡ None));
+}
 
-module _ (front : Front) (plan : PlanValue) (number : ℕ) (case : LaneCase) (is : IsFront front) (same : plan ≡ plan_of front) (some : 1 ≤ number) (last : number ≤ front.head.lanes) (of_lane : IsCaseOf front number case) where
-  by_clash : (zero one : List Shown) → IsAccepted plan case false zero → IsAccepted plan case true one → (clash : Option TwoOpeningsSeen) → clash_of_lane case zero one ≡ clash
-      → GivesLane front plan case number zero one (number ∷ []) (bids_by front number zero one clash)
+module _ (front : Front) (number : ℕ) (case : LaneCase) (is : IsFront front) (some : 1 ≤ number) (last : number ≤ front.head.lanes) (of_lane : IsCaseOf front number case) where
+  by_clash : (zero one : List Shown) → IsAccepted (plan_of front) case false zero → IsAccepted (plan_of front) case true one → (clash : Option TwoOpeningsSeen) → clash_of_lane case zero one ≡ clash
+      → GivesLane front case number zero one (number ∷ []) (bids_by front number zero one clash)
   by_clash zero one first second None none =
       let bids : LaneBids = record { number = number; bids = opened_bids (seats_of front.seals) zero one } in
-      let shown = case_shown front plan number case zero one is same some last of_lane first second in
-      let outcome = case_shows front plan number case zero one is same some last of_lane first second none in
+      let shown = case_shown front (plan_of front) number case zero one is refl some last of_lane first second in
+      let outcome = case_shows front (plan_of front) number case zero one is refl some last of_lane first second none in
+      let P : ℕ → Type 0 = λ n. (n ≡ number) × (clash_of_lane case zero one ≡ None) in
       record {
         numbered = refl;
         shown = All-cons (IsOfLane number zero one) bids [] (refl, shown) (All-nil (IsOfLane number zero one));
         each = All-cons (ShowsLane front) bids [] outcome (All-nil (ShowsLane front));
+        agree = All-cons P number [] (refl, none) (All-nil P);
       }
   by_clash zero one first second (Some two) found = record {
-    within = Contains-get_or (number ∷ []) 0 number (omega arith);
-    clash = clashes_in front plan number case two of_lane (clash_opens plan case zero one first.0 second.0 two first.1 second.1 found);
+    only = refl;
+    clash = clashes_in front number case two of_lane (clash_opens (plan_of front) case zero one first.0 second.0 two first.1 second.1 found);
     found = found;
   }
 
-  by_bits : (first_bit second_bit : Bool) (first second : List Shown) → IsAccepted plan case first_bit first → IsAccepted plan case second_bit second
-      → GivesLane front plan case number (shown_for false first_bit first second) (shown_for true first_bit first second) (number_here number first_bit second_bit) (lane_by first_bit second_bit front number case first second)
-  by_bits false false first second one other = nothing_given front number first second
-  by_bits true true first second one other = nothing_given front number second first
+  by_bits : (first_bit second_bit : Bool) (first second : List Shown) → IsAccepted (plan_of front) case first_bit first → IsAccepted (plan_of front) case second_bit second
+      → GivesLane front case number (shown_for false first_bit first second) (shown_for true first_bit first second) (number_here number first_bit second_bit) (lane_by first_bit second_bit front number case first second)
+  by_bits false false first second one other = nothing_given front case number first second
+  by_bits true true first second one other = nothing_given front case number second first
   by_bits false true first second one other = by_clash first second one other (clash_of_lane case first second) refl
   by_bits true false first second one other = by_clash second first other one (clash_of_lane case second first) refl
 
@@ -165,103 +205,114 @@ accepted_for plan case bit wanted shown passed accepted is_wanted is_passed =
     let Q : List Shown → Type 0 = λ s. IsAccepted plan case wanted s in
     subst Q (sym is_passed) (subst P is_wanted accepted)
 
--- of a lane that is given
-abbrev GivenGives : Front → PlanValue → TwoLane → ℕ → List ℕ → Result (Option LaneBids) TwoOpeningsSeen → Type 0
-GivenGives front plan lane number numbers found = GivesLane front plan lane.case number (lane_shown false lane) (lane_shown true lane) numbers found
-
-lane_gives : (front : Front) (plan : PlanValue) (number : ℕ) (first_bit second_bit : Bool) (lane : TwoLane) → IsFront front → plan ≡ plan_of front → 1 ≤ number → number ≤ front.head.lanes
-    → IsGiven front plan number first_bit second_bit lane → GivenGives front plan lane number (number_here number first_bit second_bit) (lane_found front number lane)
-lane_gives front plan number first_bit second_bit lane is same some last given =
-    let right = given.right in
-    let found = by_bits front plan number lane.case is same some last (right.case.lines, right.case.is) lane.first_bit lane.second_bit lane.first lane.second right.first right.second in
-    let P : Bool → Type 0 = λ bit. GivenGives front plan lane number (number_here number bit lane.second_bit) (lane_found front number lane) in
-    let Q : Bool → Type 0 = λ bit. GivenGives front plan lane number (number_here number first_bit bit) (lane_found front number lane) in
-    subst Q given.second_bit_is (subst P given.first_bit_is found)
-
 -- ---- one lane after another
 
--- what a clash was answered with stays
+-- a clash that was found stays
 stays : (front : Front) (two : TwoOpeningsSeen) (number : ℕ) (lanes : List TwoLane) → gathered_from front (Err two) number lanes ≡ Err two
 unfolding gathered_from
 stays front two number [] = refl
 stays front two number (lane ∷ lanes) = stays front two (number + 1) lanes
 
--- what is shown of the lanes after this one is shown of these
-later_shown : (lane : TwoLane) (lanes : List TwoLane) (bids : LaneBids) → AreShownOf lanes bids → AreShownOf (lane ∷ lanes) bids
-later_shown lane lanes bids are = record {
-  given = are.given;
-  is_given = Contains-append_right (lane ∷ []) lanes are.given are.is_given;
-  number = are.number;
-  openings = are.openings;
-}
+module _ (front : Front) (at : ℕ → TwoLane) where
+  -- of the lane of that number
+  abbrev LaneGives : ℕ → List ℕ → Result (Option LaneBids) TwoOpeningsSeen → Type 0
+  LaneGives number numbers found = GivesLane front (at number).case number (lane_shown false (at number)) (lane_shown true (at number)) numbers found
 
-first_contained : (lane : TwoLane) (lanes : List TwoLane) → Contains (lane ∷ lanes) lane
-first_contained lane lanes = Contains-append_left (lane ∷ []) lanes lane (Contains-get_or (lane ∷ []) 0 lane (omega arith))
+  lane_gives : (number : ℕ) → IsFront front → 1 ≤ number → number ≤ front.head.lanes → IsLane front number (at number)
+      → LaneGives number (number_here number (at number).first_bit (at number).second_bit) (lane_found front number (at number))
+  lane_gives number is some last right =
+      by_bits front number (at number).case is some last right.case (at number).first_bit (at number).second_bit (at number).first (at number).second right.first right.second
 
-here_shown : (lane : TwoLane) (lanes : List TwoLane) (number : ℕ) (bids : LaneBids) → lane.case.lane ≡ number → IsOfLane number (lane_shown false lane) (lane_shown true lane) bids → AreShownOf (lane ∷ lanes) bids
-here_shown lane lanes number bids numbered is = record {
-  given = lane;
-  is_given = first_contained lane lanes;
-  number = numbered ∙ is.0;
-  openings = is.1;
-}
+  here_shown : (number : ℕ) (bids : LaneBids) → IsOfLane number (lane_shown false (at number)) (lane_shown true (at number)) bids → IsShown at bids
+  here_shown number bids is =
+      let P : ℕ → Type 0 = λ n. AreShownIn (lane_shown false (at n)) (lane_shown true (at n)) bids.bids in
+      subst P is.0 is.1
 
-adds_more : (front : Front) (plan : PlanValue) (lane : TwoLane) (number : ℕ) (lanes : List TwoLane) (before here : List LaneBids) (numbers later : List ℕ) (all : Result (List LaneBids) TwoOpeningsSeen)
-    → lane.case.lane ≡ number → GivesBids front number (lane_shown false lane) (lane_shown true lane) numbers here → AddsLanes front plan lanes (before ++ here) later all
-    → AddsLanes front plan (lane ∷ lanes) before (numbers ++ later) all
-adds_more front plan lane number lanes before here numbers later (Ok all) numbered gives adds = record {
-  more = here ++ adds.more;
-  are = adds.are ∙ append_assoc before here adds.more;
-  numbered = map-append number_of here adds.more ∙ (ap (λ ns. ns ++ map number_of adds.more) gives.numbered ∙ ap (λ ns. numbers ++ ns) adds.numbered);
-  shown = All-append (AreShownOf (lane ∷ lanes)) here adds.more
-      (All-weaker (IsOfLane number (lane_shown false lane) (lane_shown true lane)) (AreShownOf (lane ∷ lanes)) (λ bids is. here_shown lane lanes number bids numbered is) here gives.shown)
-      (All-weaker (AreShownOf lanes) (AreShownOf (lane ∷ lanes)) (later_shown lane lanes) adds.more adds.shown);
-  each = All-append (ShowsLane front) here adds.more gives.each adds.each;
-}
-adds_more front plan lane number lanes before here numbers later (Err two) numbered gives adds = record {
-  number = adds.number;
-  within = Contains-append_right numbers later adds.number adds.within;
-  given = adds.given;
-  is_given = Contains-append_right (lane ∷ []) lanes adds.given adds.is_given;
-  clash = adds.clash;
-  found = adds.found;
-}
+  here_agrees : (number n : ℕ) → (n ≡ number) × (clash_of (at number) ≡ None) → Agrees at n
+  here_agrees number n is = subst (Agrees at) (sym is.0) is.1
 
-next_adds : (front : Front) (plan : PlanValue) (lane : TwoLane) (number : ℕ) (numbers later : List ℕ) (before : List LaneBids) (lanes : List TwoLane) (found : Result (Option LaneBids) TwoOpeningsSeen)
-    → lane.case.lane ≡ number → GivenGives front plan lane number numbers found → ((before : List LaneBids) → AddsLanes front plan lanes before later (gathered_from front (Ok before) (number + 1) lanes))
-    → AddsLanes front plan (lane ∷ lanes) before (numbers ++ later) (gathered_from front (found >>= λ f. Ok (before ++ option_to_list f)) (number + 1) lanes)
-next_adds front plan lane number numbers later before lanes (Ok found) numbered gives rest =
-    adds_more front plan lane number lanes before (option_to_list found) numbers later (gathered_from front (Ok (before ++ option_to_list found)) (number + 1) lanes) numbered gives (rest (before ++ option_to_list found))
-next_adds front plan lane number numbers later before lanes (Err two) numbered gives rest =
-    let P : Result (List LaneBids) TwoOpeningsSeen → Type 0 = λ all. AddsLanes front plan (lane ∷ lanes) before (numbers ++ later) all in
-    subst P (sym (stays front two (number + 1) lanes)) (record {
-      number = number;
-      within = Contains-append_left numbers later number gives.within;
-      given = lane;
-      is_given = first_contained lane lanes;
-      clash = gives.clash;
-      found = gives.found;
-    })
+  adds_more : (number : ℕ) (before here : List LaneBids) (numbers later : List ℕ) (all : Result (List LaneBids) TwoOpeningsSeen)
+      → GivesBids front (at number).case number (lane_shown false (at number)) (lane_shown true (at number)) numbers here → AddsLanes front at (before ++ here) later all
+      → AddsLanes front at before (numbers ++ later) all
+  adds_more number before here numbers later (Ok all) gives adds = record {
+    more = here ++ adds.more;
+    are = adds.are ∙ append_assoc before here adds.more;
+    numbered = map-append number_of here adds.more ∙ (ap (λ ns. ns ++ map number_of adds.more) gives.numbered ∙ ap (λ ns. numbers ++ ns) adds.numbered);
+    shown = All-append (IsShown at) here adds.more
+        (All-weaker (IsOfLane number (lane_shown false (at number)) (lane_shown true (at number))) (IsShown at) (here_shown number) here gives.shown) adds.shown;
+    each = All-append (ShowsLane front) here adds.more gives.each adds.each;
+    agree = All-append (Agrees at) numbers later
+        (All-weaker (λ n. (n ≡ number) × (clash_of (at number) ≡ None)) (Agrees at) (here_agrees number) numbers gives.agree) adds.agree;
+  }
+  adds_more number before here numbers later (Err two) gives adds =
+      let P : ℕ → Type 0 = λ n. n < adds.number → Agrees at n in
+      record {
+        number = adds.number;
+        within = Contains-append_right numbers later adds.number adds.within;
+        earlier = All-append P numbers later
+            (All-weaker (λ n. (n ≡ number) × (clash_of (at number) ≡ None)) P (λ n is lt. here_agrees number n is) numbers gives.agree) adds.earlier;
+        clash = adds.clash;
+        found = adds.found;
+      }
 
-none_added : (front : Front) (plan : PlanValue) (before : List LaneBids) (number : ℕ) (numbers : List ℕ) (lanes : List TwoLane) → numbers ≡ [] → lanes ≡ []
-    → AddsLanes front plan lanes before numbers (gathered_from front (Ok before) number lanes)
-unfolding gathered_from
-none_added front plan before number numbers lanes no_numbers no_lanes =
-    let P : List ℕ → Type 0 = λ ns. AddsLanes front plan [] before ns (Ok before) in
-    let Q : List TwoLane → Type 0 = λ ls. AddsLanes front plan ls before numbers (gathered_from front (Ok before) number ls) in
-    subst Q (sym no_lanes) (subst P (sym no_numbers) (record { more = []; are = sym (append-nil before); numbered = refl; shown = All-nil (AreShownOf []); each = All-nil (ShowsLane front) }))
+  -- the clash of the lane of that number comes before those of later ones
+  clash_here : (number : ℕ) (later : List ℕ) (two : TwoOpeningsSeen) → All (λ n. number + 1 ≤ n) later → ClashesAt front number (at number).case two → clash_of (at number) ≡ Some two
+      → ClashesIn front at (number ∷ later) two
+  clash_here number later two after clash found =
+      let P : ℕ → Type 0 = λ n. n < number → Agrees at n in
+      record {
+        number = number;
+        within = Contains-get_or (number ∷ later) 0 number (omega arith);
+        earlier = All-cons P number later (λ lt. absurd (omega (arith, lt))) (All-weaker (λ n. number + 1 ≤ n) P (λ n le lt. absurd (omega (arith, le, lt))) later after);
+        clash = clash;
+        found = found;
+      }
 
-pub gathered_adds : (front : Front) (plan : PlanValue) (number : ℕ) (first second : List Bool) (lanes : List TwoLane) (before : List LaneBids)
-    → IsFront front → plan ≡ plan_of front → 1 ≤ number → number + length first ≤ front.head.lanes + 1 → AreGiven front plan number first second lanes
-    → AddsLanes front plan lanes before (differing number first second) (gathered_from front (Ok before) number lanes)
-unfolding gathered_from
-gathered_adds front plan number [] second lanes before is same some within given = none_added front plan before number [] lanes refl given
-gathered_adds front plan number (first_bit ∷ first) [] lanes before is same some within given =
-    none_added front plan before number (differing number (first_bit ∷ first) []) lanes (none_differ number first_bit first) given
-gathered_adds front plan number (first_bit ∷ first) (second_bit ∷ second) [] before is same some within given = absurd given
-gathered_adds front plan number (first_bit ∷ first) (second_bit ∷ second) (lane ∷ lanes) before is same some within given =
-    let P : List ℕ → Type 0 = λ numbers. AddsLanes front plan (lane ∷ lanes) before numbers (gathered_from front (added front number lane (Ok before)) (number + 1) lanes) in
-    subst P (sym (differing_first number first_bit second_bit first second)) (
-    next_adds front plan lane number (number_here number first_bit second_bit) (differing (number + 1) first second) before lanes (lane_found front number lane) (ap (λ (c : LaneCase). c.lane) given.0.right.case.is)
-    (lane_gives front plan number first_bit second_bit lane is same some (omega (arith, within)) given.0)
-    (λ before. gathered_adds front plan (number + 1) first second lanes before is same (omega arith) (omega (arith, within)) given.1))
+  next_adds : (number : ℕ) (numbers later : List ℕ) (before : List LaneBids) (lanes : List TwoLane) (found : Result (Option LaneBids) TwoOpeningsSeen)
+      → LaneGives number numbers found → All (λ n. number + 1 ≤ n) later → ((before : List LaneBids) → AddsLanes front at before later (gathered_from front (Ok before) (number + 1) lanes))
+      → AddsLanes front at before (numbers ++ later) (gathered_from front (found >>= λ f. Ok (before ++ option_to_list f)) (number + 1) lanes)
+  next_adds number numbers later before lanes (Ok found) gives after rest =
+      adds_more number before (option_to_list found) numbers later (gathered_from front (Ok (before ++ option_to_list found)) (number + 1) lanes) gives (rest (before ++ option_to_list found))
+  next_adds number numbers later before lanes (Err two) gives after rest =
+      let P : Result (List LaneBids) TwoOpeningsSeen → Type 0 = λ all. AddsLanes front at before (numbers ++ later) all in
+      let Q : List ℕ → Type 0 = λ here. ClashesIn front at (here ++ later) two in
+      subst P (sym (stays front two (number + 1) lanes)) (subst Q (sym gives.only) (clash_here number later two after gives.clash gives.found))
+
+  -- these are the lanes from that number on, and these are their bits
+  abbrev pub AreGiven : ℕ → List Bool → List Bool → List TwoLane → Type 0
+  AreGiven number [] [] [] = Unit {0}
+  AreGiven number (first_bit ∷ first) (second_bit ∷ second) (lane ∷ lanes) =
+      ((lane ≡ at number) × (first_bit ≡ (at number).first_bit) × (second_bit ≡ (at number).second_bit)) × AreGiven (number + 1) first second lanes
+  AreGiven number _ _ _ = ⊥
+
+  none_added : (before : List LaneBids) → AddsBids front at before [] before
+  none_added before = record {
+    more = [];
+    are = sym (append-nil before);
+    numbered = refl;
+    shown = All-nil (IsShown at);
+    each = All-nil (ShowsLane front);
+    agree = All-nil (Agrees at);
+  }
+
+  pub gathered_adds : (number : ℕ) (first second : List Bool) (lanes : List TwoLane) (before : List LaneBids)
+      → IsFront front → 1 ≤ number → number + length first ≤ front.head.lanes + 1
+      → ((n : ℕ) → 1 ≤ n → n ≤ front.head.lanes → IsLane front n (at n)) → AreGiven number first second lanes
+      → AddsLanes front at before (differing number first second) (gathered_from front (Ok before) number lanes)
+  unfolding gathered_from
+  gathered_adds number [] [] [] before is some within right given = none_added before
+  gathered_adds number [] [] (lane ∷ lanes) before is some within right given = absurd given
+  gathered_adds number [] (second_bit ∷ second) lanes before is some within right given = absurd given
+  gathered_adds number (first_bit ∷ first) [] lanes before is some within right given = absurd given
+  gathered_adds number (first_bit ∷ first) (second_bit ∷ second) [] before is some within right given = absurd given
+  gathered_adds number (first_bit ∷ first) (second_bit ∷ second) (lane ∷ lanes) before is some within right given =
+      let gives = lane_gives number is some (omega (arith, within)) (right number some (omega (arith, within))) in
+      let here : number_here number first_bit second_bit ≡ number_here number (at number).first_bit (at number).second_bit =
+      ap (λ bit. number_here number bit second_bit) given.0.1 ∙ ap (λ bit. number_here number (at number).first_bit bit) given.0.2 in
+      let all : differing number (first_bit ∷ first) (second_bit ∷ second) ≡ number_here number (at number).first_bit (at number).second_bit ++ differing (number + 1) first second =
+      differing_first number first_bit second_bit first second ∙ ap (λ ns. ns ++ differing (number + 1) first second) here in
+      let P : List ℕ → Type 0 = λ numbers. AddsLanes front at before numbers (gathered_from front (added front number lane (Ok before)) (number + 1) lanes) in
+      let Q : TwoLane → Type 0 = λ l. AddsLanes front at before (number_here number (at number).first_bit (at number).second_bit ++ differing (number + 1) first second) (gathered_from front (added front number l (Ok before)) (number + 1) lanes) in
+      subst P (sym all) (subst Q (sym given.0.0) (
+      next_adds number (number_here number (at number).first_bit (at number).second_bit) (differing (number + 1) first second) before lanes (lane_found front number (at number)) gives (later_lanes (number + 1) first second)
+      (λ before. gathered_adds (number + 1) first second lanes before is (omega arith) (omega (arith, within)) right given.1)))

@@ -1,7 +1,15 @@
+pub mod Agreeing
+pub mod Begun
+pub mod Binding
+pub mod Confronted
+pub mod ConfrontedFiles
+pub mod ConfrontNamed
 pub mod Gathered
-pub mod Given
+pub mod Halves
 pub mod Headlines
+pub mod Leading
+pub mod Named
 pub mod Opening
 pub mod Seals
 pub mod Showing
-pub mod Smallest
+pub mod Shown

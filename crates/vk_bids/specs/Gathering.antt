@@ -1,5 +1,5 @@
 -- What is gathered of the lanes that two replies give: their bids, or the first two openings of one commitment.
-use Rattle.std.specs.Prelude.{◌≡◌, ℕ, ◌+◌, Bool, true, false, List, [], ◌∷◌, ◌++◌, Option, Some, None, Result, Ok, Err}
+use Rattle.std.specs.Prelude.{◌≡◌, ℕ, ◌+◌, ◌≤◌, Bool, true, false, List, [], ◌∷◌, ◌++◌, Option, Some, None, Result, Ok, Err}
 use Rattle.std.specs.Option.{option_to_list}
 use Rattle.vk_commit.specs.Commitment.{TwoOpeningsSeen}
 use Rattle.vk_wire.specs.declared.wire.Shown.{Shown}
@@ -11,6 +11,9 @@ use Rattle.vk_extractor.specs.declared.lane.LaneErr.{LaneErr}
 use Rattle.vk_extractor.specs.declared.lane.LaneErr.TheVariants.{Clash, NoMemory}
 use Rattle.vk_board.specs.declared.front.Front.{Front}
 use Rattle.vk_verifier.specs.declared.stage.TwoLane.{TwoLane}
+use Rattle.vk_verifier.specs.declared.stage.Base.{Base}
+use Rattle.vk_verifier.specs.declared.stage.Stage.{Stage}
+use Rattle.vk_verifier.specs.Two.{IsTwoLane, base_of, given_of}
 use Rattle.vk_bids.specs.declared.bids.LaneBids.{LaneBids}
 use Rattle.vk_bids.specs.Bids.{opened_bids}
 
@@ -61,3 +64,11 @@ gathered_from front state number (lane ∷ lanes) = gathered_from front (added f
 abbrev pub IsClashOf : {X : Type 0} → LaneErr → Result X TwoOpeningsSeen → Type 0
 IsClashOf (Clash two) given = given ≡ Err two
 IsClashOf NoMemory given = Unit {0}
+
+-- the lane is the last that was given
+pub record IsLastLane (stage : Stage) (lane : TwoLane) : Type 0 where
+  pub base : Base
+  pub is : base_of stage ≡ Some base
+  pub some : 1 ≤ given_of stage
+  pub within : given_of stage ≤ base.statement.front.head.lanes
+  pub checked : IsTwoLane base.statement.front base.statement.plan (given_of stage) lane

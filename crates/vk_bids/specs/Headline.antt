@@ -1,55 +1,34 @@
--- The law of two replies that are accepted for different challenges: what is gathered of them shows the
--- published outcome, or two openings of one commitment.
-use Rattle.std.specs.Prelude.{◌≡◌, ◌≢◌, ℕ, ◌+◌, Bool, true, false, All, List, [], ◌∷◌, length, map, Option, Some, None, Result, Ok, Err}
+-- The law of two replies that are accepted for different challenges: they give the published outcome, or two
+-- openings of one commitment.
+use Rattle.std.specs.Prelude.{◌≡◌, ◌≢◌, ◌↔◌, ℕ, ◌+◌, ◌^◌, ◌<◌, ◌≤◌, Bool, true, false, All, List, [], ◌∷◌, length, map, Some, Ok}
 use Rattle.std.specs.List.{Contains}
 use Rattle.std.specs.FinMap.{get}
 use Rattle.vk_commit.specs.Commitment.{AreTwoOpenings, TwoOpeningsSeen}
 use Rattle.vk_io.specs.Files.{Files}
-use Rattle.vk_lines.specs.Lines.{Rest}
-use Rattle.vk_extractor.specs.Laws.{AreOfLane}
-use Rattle.vk_extractor.specs.FirstClash.{IsFirstClash}
-use Rattle.vk_reply.specs.declared.challenge.Challenge.{Challenge}
-use Rattle.vk_reply.specs.Reading.{challenge_at}
-use Rattle.vk_board.specs.declared.front.Front.{Front}
-use Rattle.vk_verifier.specs.declared.stage.Base.{Base}
-use Rattle.vk_verifier.specs.declared.stage.TwoLane.{TwoLane}
-use Rattle.vk_verifier.specs.declared.stage.TwoVerdict.TheVariants.{Ready}
-use Rattle.vk_board.specs.Fronts.{FrontFault, IsFront, front_at}
-use Rattle.vk_verifier.specs.Verdicts.{plan_of, from_start}
-use Rattle.vk_verifier.specs.Two.{Ahead, two_on, Rests, base_at, ahead_at}
-use Rattle.vk_bids.specs.declared.bids.LaneBids.{LaneBids}
-use Rattle.vk_bids.specs.Gathering.{gathered_from, lane_shown}
+use Rattle.vk_wire.specs.declared.wire.Shown.{Shown}
+use Rattle.vk_extractor.specs.FirstClash.{IsFirstClash, WireAgrees}
+use Rattle.vk_verifier.specs.Acceptance.{Accepts}
+use Rattle.vk_verifier.specs.TwoValues.{case_in, front_in, two_lane_in}
+use Rattle.vk_bids.specs.declared.extraction.Extracted.{Extracted}
+use Rattle.vk_bids.specs.declared.extraction.Extraction.{Extraction}
+use Rattle.vk_bids.specs.declared.extraction.Extraction.TheVariants.{Refused, Same, Clash, Bids}
+use Rattle.vk_bids.specs.Extraction.{extraction_in, extraction_on}
+use Rattle.vk_bids.specs.Gathering.{lane_shown}
 use Rattle.vk_bids.specs.Outcome.{AreShownIn, ShowsOutcome}
 
--- ---- the files that are named
+-- two replies are accepted with one board, each with its challenge, and the challenges differ
+pub record TwoAccepted (board first_challenge first_reply second_challenge second_reply : List ℕ) : Type 0 where
+  pub first : Accepts board first_challenge first_reply
+  pub second : Accepts board second_challenge second_reply
+  pub differ : first.challenge.bits ≢ second.challenge.bits
 
-abbrev pub front_in : Result (Front × Rest) FrontFault → Option Front
-front_in (Ok read) = Some read.0
-front_in (Err fault) = None
+-- two replies are accepted, and the challenges are the same
+pub record SameAccepted (board first_challenge first_reply second_challenge second_reply : List ℕ) : Type 0 where
+  pub first : Accepts board first_challenge first_reply
+  pub second : Accepts board second_challenge second_reply
+  pub same : first.challenge.bits ≡ second.challenge.bits
 
--- what stands in these bytes before the first lane of a board, if they are held
-abbrev pub front_by : Option (List ℕ) → Option Front
-front_by None = None
-front_by (Some bytes) = front_in (front_at (from_start bytes))
-
--- the same of the named file
-abbrev pub front_on : Files → List ℕ → Option Front
-front_on files board = front_by (get files board)
-
-abbrev pub bits_in : Result (Challenge × Rest) ℕ → Option (List Bool)
-bits_in (Ok read) = Some read.0.bits
-bits_in (Err line) = None
-
--- the bits of the challenge that is these bytes, if they are held
-abbrev pub bits_by : Option (List ℕ) → Option (List Bool)
-bits_by None = None
-bits_by (Some bytes) = bits_in (challenge_at (from_start bytes))
-
--- the same of the named file
-abbrev pub bits_on : Files → List ℕ → Option (List Bool)
-bits_on files challenge = bits_by (get files challenge)
-
--- ---- what is shown
+-- ---- lanes
 
 -- the numbers of the lanes whose two bits differ, numbered on from the given number
 abbrev pub differing : ℕ → List Bool → List Bool → List ℕ
@@ -59,69 +38,114 @@ differing number (false ∷ bits) (true ∷ others) = number ∷ differing (numb
 differing number (true ∷ bits) (false ∷ others) = number ∷ differing (number + 1) bits others
 differing number _ _ = []
 
--- the openings of the bids are those that the two replies show of a lane of that number
-pub record AreShownOf (lanes : List TwoLane) (bids : LaneBids) : Type 0 where
-  pub given : TwoLane
-  pub is_given : Contains lanes given
-  pub number : given.case.lane ≡ bids.number
-  pub openings : AreShownIn (lane_shown false given) (lane_shown true given) bids.bids
+-- the same of both challenges, from lane 1
+abbrev pub differing_in : {board first_challenge first_reply second_challenge second_reply : List ℕ}
+    → TwoAccepted board first_challenge first_reply second_challenge second_reply → List ℕ
+differing_in two = differing 1 two.first.challenge.bits two.second.challenge.bits
 
--- there are bids of just the lanes whose two bits differ, in order; those of each lane are opened by what the
--- replies show of it, open its seals, and have the published outcome
-pub record ShowsBids (front : Front) (first_bits second_bits : List Bool) (lanes : List TwoLane) (found : List LaneBids) : Type 0 where
-  pub numbers : map (λ bids. bids.number) found ≡ differing 1 first_bits second_bits
-  pub shown : All (AreShownOf lanes) found
-  pub each : All (λ bids. ShowsOutcome front bids.number bids.bids) found
+-- what the reply whose bit for the lane of that number is this one shows of the lane
+abbrev pub shown_of : {board first_challenge first_reply second_challenge second_reply : List ℕ}
+    → TwoAccepted board first_challenge first_reply second_challenge second_reply → Bool → ℕ → List Shown
+shown_of two bit number = lane_shown bit (two_lane_in two.first two.second number)
 
--- one commitment of one of these lanes, whose two bits differ, is opened with different values: the first of the
--- lane that the two replies open so
-pub record ShowsClash (front : Front) (first_bits second_bits : List Bool) (lanes : List TwoLane) (two : TwoOpeningsSeen) : Type 0 where
+-- in the lane of that number each spent entry agrees with the same entry opened whole
+abbrev pub LaneAgrees : {board first_challenge first_reply second_challenge second_reply : List ℕ}
+    → TwoAccepted board first_challenge first_reply second_challenge second_reply → ℕ → Type 0
+LaneAgrees two number = (wire : ℕ) → wire < length (case_in two.first number).coms → WireAgrees (shown_of two false number) (shown_of two true number) wire
+
+-- ---- what is found
+
+-- the bids are of just the lanes whose two bits differ, in order. Those of each lane are opened by what the
+-- replies show of it, they open its seals, and the published outcome is theirs. In each of these lanes the
+-- spent entries agree
+pub record IsExtraction {board first_challenge first_reply second_challenge second_reply : List ℕ}
+    (two : TwoAccepted board first_challenge first_reply second_challenge second_reply) (found : Extracted) : Type 0 where
+  pub front : found.front ≡ front_in two.first
+  pub numbers : map (λ lane. lane.number) found.lanes ≡ differing_in two
+  pub shown : All (λ lane. AreShownIn (shown_of two false lane.number) (shown_of two true lane.number) lane.bids) found.lanes
+  pub outcomes : All (λ lane. ShowsOutcome (front_in two.first) lane.number lane.bids) found.lanes
+  pub agree : All (LaneAgrees two) (differing_in two)
+
+-- one commitment of the board is opened with different values: in the first of these lanes whose spent entries
+-- don't all agree, the first entry that doesn't
+pub record IsExtractionClash {board first_challenge first_reply second_challenge second_reply : List ℕ}
+    (two : TwoAccepted board first_challenge first_reply second_challenge second_reply) (clash : TwoOpeningsSeen) : Type 0 where
   pub number : ℕ
-  pub differs : Contains (differing 1 first_bits second_bits) number
-  pub lane : two.place.lane ≡ number
-  pub auction : two.place.auction ≡ front.head.auction
-  pub openings : AreTwoOpenings two.place two.digest two.first two.second
-  pub given : TwoLane
-  pub is_given : Contains lanes given
-  pub of_lane : AreOfLane (plan_of front) given.case two
+  pub differs : Contains (differing_in two) number
+  pub earlier : All (λ lane. lane < number → LaneAgrees two lane) (differing_in two)
   pub wire : ℕ
-  pub first : IsFirstClash given.case (lane_shown false given) (lane_shown true given) wire two
+  pub first : IsFirstClash (case_in two.first number) (shown_of two false number) (shown_of two true number) wire clash
+  pub lane : clash.place.lane ≡ number
+  pub auction : clash.place.auction ≡ two.first.board.head.auction
+  pub openings : AreTwoOpenings clash.place clash.digest clash.first clash.second
 
--- the board publishes this front, the challenges have these bits, which differ, and what is gathered of the
--- lanes shows the board's outcome, or a clash
-pub record ShowsPublished (board first_challenge second_challenge : Option (List ℕ)) (front : Front) (first_bits second_bits : List Bool) (lanes : List TwoLane) : Type 0 where
-  pub published : front_by board ≡ Some front
-  pub first_is : bits_by first_challenge ≡ Some first_bits
-  pub second_is : bits_by second_challenge ≡ Some second_bits
-  pub right : IsFront front
-  pub one_first_bit_each : length first_bits ≡ front.head.lanes
-  pub one_second_bit_each : length second_bits ≡ front.head.lanes
-  pub differ : first_bits ≢ second_bits
-  pub bids : (found : List LaneBids) → gathered_from front (Ok []) 1 lanes ≡ Ok found → ShowsBids front first_bits second_bits lanes found
-  pub clash : (two : TwoOpeningsSeen) → gathered_from front (Ok []) 1 lanes ≡ Err two → ShowsClash front first_bits second_bits lanes two
+-- the extraction is the bids of the replies, or a clash of them
+abbrev pub IsOf : {board first_challenge first_reply second_challenge second_reply : List ℕ}
+    → TwoAccepted board first_challenge first_reply second_challenge second_reply → Extraction → Type 0
+IsOf two (Refused second verdict) = ⊥
+IsOf two Same = ⊥
+IsOf two (Clash clash) = IsExtractionClash two clash
+IsOf two (Bids found) = IsExtraction two found
+
+-- it is bids, or a clash
+abbrev pub IsFound : Extraction → Type 0
+IsFound (Refused second verdict) = ⊥
+IsFound Same = ⊥
+IsFound (Clash clash) = Unit {0}
+IsFound (Bids found) = Unit {0}
 
 -- ---- the laws
 
--- of any five files that are read side by side, where both replies are accepted and the challenges differ
-abbrev pub GatheredShows : Type 0
-GatheredShows =
-    (board first_challenge first_reply second_challenge second_reply : List ℕ) (base : Base) (rests : Rests)
-    → base_at (from_start board) (from_start first_challenge) (from_start first_reply) (from_start second_challenge) (from_start second_reply) ≡ Ok (base, rests)
-    → (ahead_at (from_start board) (from_start first_challenge) (from_start first_reply) (from_start second_challenge) (from_start second_reply)).finding ≡ Ready
-    → ShowsPublished (Some board) (Some first_challenge) (Some second_challenge) base.statement.front base.first_bits base.second_bits
-    (ahead_at (from_start board) (from_start first_challenge) (from_start first_reply) (from_start second_challenge) (from_start second_reply)).lanes
+-- two replies that are accepted for different challenges give the bids or a clash
+abbrev pub AcceptedAreExtracted : Type 0
+AcceptedAreExtracted = (board first_challenge first_reply second_challenge second_reply : List ℕ)
+    (two : TwoAccepted board first_challenge first_reply second_challenge second_reply)
+    → IsOf two (extraction_in board first_challenge first_reply second_challenge second_reply)
 
--- where both replies are accepted and the challenges differ, there is a base
-abbrev pub ReadyHasBase : Type 0
-ReadyHasBase =
-    (board first_challenge first_reply second_challenge second_reply : Rest)
-    → (ahead_at board first_challenge first_reply second_challenge second_reply).finding ≡ Ready
-    → (base : Base) × (rests : Rests) × (base_at board first_challenge first_reply second_challenge second_reply ≡ Ok (base, rests))
+-- only such replies give them
+abbrev pub OnlyAcceptedAreExtracted : Type 0
+OnlyAcceptedAreExtracted = (board first_challenge first_reply second_challenge second_reply : List ℕ)
+    → IsFound (extraction_in board first_challenge first_reply second_challenge second_reply)
+    → TwoAccepted board first_challenge first_reply second_challenge second_reply
 
--- the same of the named files
-abbrev pub FilesShow : Type 0
-FilesShow =
-    (files : Files) (board first_challenge first_reply second_challenge second_reply : List ℕ) (ahead : Ahead)
-    → two_on files board first_challenge first_reply second_challenge second_reply ≡ Ok ahead → ahead.finding ≡ Ready
-    → (front : Front) × (first_bits : List Bool) × (second_bits : List Bool)
-    × ShowsPublished (get files board) (get files first_challenge) (get files second_challenge) front first_bits second_bits ahead.lanes
+-- challenges are found to be the same exactly where both replies are accepted and they are
+abbrev pub SameIsFound : Type 0
+SameIsFound = (board first_challenge first_reply second_challenge second_reply : List ℕ)
+    → (extraction_in board first_challenge first_reply second_challenge second_reply ≡ Same)
+    ↔ SameAccepted board first_challenge first_reply second_challenge second_reply
+
+-- the file is held with these bytes, at most 2^30
+pub record IsHeld (files : Files) (name bytes : List ℕ) : Type 0 where
+  pub is : get files name ≡ Some bytes
+  pub short : length bytes ≤ 2 ^ 30
+
+-- the files of a challenge and of the reply to it are held
+pub record HeldAttempt (files : Files) (challenge reply : List ℕ) : Type 0 where
+  pub challenge_bytes : List ℕ
+  pub reply_bytes : List ℕ
+  pub challenge_is : IsHeld files challenge challenge_bytes
+  pub reply_is : IsHeld files reply reply_bytes
+
+-- so are those of a board, and of two challenges and the replies to them
+pub record HeldFiles (files : Files) (board first_challenge first_reply second_challenge second_reply : List ℕ) : Type 0 where
+  pub board_bytes : List ℕ
+  pub board_is : IsHeld files board board_bytes
+  pub first : HeldAttempt files first_challenge first_reply
+  pub second : HeldAttempt files second_challenge second_reply
+
+-- what their bytes come to
+abbrev pub extraction_of_held : {files : Files} {board first_challenge first_reply second_challenge second_reply : List ℕ}
+    → HeldFiles files board first_challenge first_reply second_challenge second_reply → Extraction
+extraction_of_held held =
+    extraction_in held.board_bytes held.first.challenge_bytes held.first.reply_bytes held.second.challenge_bytes held.second.reply_bytes
+
+-- the five files are held, and their bytes come to this extraction
+pub record ComesOf (files : Files) (board first_challenge first_reply second_challenge second_reply : List ℕ) (extraction : Extraction) : Type 0 where
+  pub held : HeldFiles files board first_challenge first_reply second_challenge second_reply
+  pub is : extraction ≡ extraction_of_held held
+
+-- the extraction of named files is that of their bytes, where all are held and none is too long
+abbrev pub FilesAreExtracted : Type 0
+FilesAreExtracted = (files : Files) (board first_challenge first_reply second_challenge second_reply : List ℕ) (extraction : Extraction)
+    → (extraction_on files board first_challenge first_reply second_challenge second_reply ≡ Ok extraction)
+    ↔ ComesOf files board first_challenge first_reply second_challenge second_reply extraction

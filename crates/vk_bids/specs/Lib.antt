@@ -2,5 +2,9 @@ pub mod Bids
 pub mod Outcome
 pub mod Texts
 pub mod Gathering
+pub mod Extraction
 pub mod Headline
 pub mod Laws
+pub mod Confrontation
+pub mod ConfrontTexts
+pub mod Binding

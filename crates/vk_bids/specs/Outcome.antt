@@ -18,6 +18,7 @@ use Rattle.vk_extractor.specs.declared.lane.LaneErr.{LaneErr}
 use Rattle.vk_extractor.specs.declared.lane.LaneErr.TheVariants.{Clash, NoMemory}
 use Rattle.vk_board.specs.declared.front.Front.{Front}
 use Rattle.vk_verifier.specs.Verdicts.{case_of}
+use Rattle.vk_bids.specs.declared.bids.LaneBids.{LaneBids}
 use Rattle.vk_bids.specs.declared.bids.OpenedBid.{OpenedBid}
 
 -- all that is public of the lane of that number, from 1, with some lines on the board
@@ -53,6 +54,10 @@ pub record ShowsOutcome (front : Front) (number : ℕ) (bids : List OpenedBid) :
   pub opened : (index : ℕ) (bid : OpenedBid) → slice_get bids index ≡ Some bid → OpensSeal front number index bid
   pub within_width : All (λ bid. bid < 2 ^ front.head.width) (map (λ bid. bid.bid) bids)
   pub outcome : IsVickreyOutcome (map (λ bid. bid.bid) bids) front.position front.head.price
+
+-- the bids of the lane do
+abbrev pub LaneShows : Front → LaneBids → Type 0
+LaneShows front lane = ShowsOutcome front lane.number lane.bids
 
 -- a clash is two openings of one entry of the lane, with different values; want of memory says nothing
 abbrev pub OpensTwice : LaneErr → PlanValue → LaneCase → Type 0

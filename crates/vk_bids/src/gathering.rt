@@ -1,20 +1,70 @@
 // What is gathered of the lanes that two replies give.
-ghost use Rattle.std.specs.Prelude.{◌≡◌, ◌≤◌, ◌++◌, Ok, Err, IfErr, IfOk, OnErr, OnOk, false, true};
+ghost use Rattle.std.specs.Prelude.{◌≡◌, ◌≤◌, ◌++◌, Ok, Err, All, IfErr, IfOk, IfSome, OnErr, OnOk, false, true};
 ghost use Rattle.std.specs.Option.{option_to_list};
 ghost use Rattle.vk_row.specs.Lanes.{IsAccepted};
-ghost use Rattle.vk_verifier.specs.Two.{IsTwoLane};
-ghost use Rattle.vk_bids.specs.Gathering.{IsClashOf, added, bids_of, lane_found};
-ghost use Rattle.vk_bids.specs.Outcome.{IsCaseOf};
+ghost use Rattle.vk_verifier.specs.Two.{IsTwoLane, base_of, given_of};
+ghost use Rattle.vk_bids.specs.Gathering.{IsClashOf, IsLastLane, added, bids_of, lane_found};
+ghost use Rattle.vk_bids.specs.Outcome.{IsCaseOf, LaneShows};
 
 use crate::bids::LaneBids;
 use crate::extracting::extract_bids;
 use std::alloc::Global;
+use vk_commit::TwoOpenings;
 use vk_extractor::LaneErr;
 use vk_residue::NoMemory;
 use vk_row::LaneCase;
 use vk_seq::Seq;
-use vk_verifier::{Statement, TwoLane};
+use vk_verifier::{Statement, TwoChecker, TwoLane};
 use vk_wire::Shown;
+
+/// The bids of the lanes so far, or the first clash.
+pub type Gathered = Result<Seq<LaneBids>, TwoOpenings>;
+
+/// With what the lane gives, which is the last that was given. After a clash nothing is gathered.
+pub fn with_lane(
+    alloc: Global,
+    checker: &TwoChecker,
+    lane: &TwoLane,
+    before: Gathered,
+) -> Result<Gathered, NoMemory>
+    requires { IsLastLane checker.now lane.now }
+    ensures added { IfSome (base_of checker.now) (λ base. IfOk result (λ after.
+        added base.statement.front (given_of checker.now) lane.now before ≡ after)) }
+    ensures shows { IfSome (base_of checker.now) (λ base. IfOk before (All (LaneShows base.statement.front))
+        → IfOk result (λ after. IfOk after (All (LaneShows base.statement.front)))) }
+{
+    match before {
+        Ok(bids) => {
+            let after = with_more(alloc, checker, lane, bids)?;
+            Ok(after)
+        }
+        Err(two) => Ok(Err(two)),
+    }
+}
+
+/// With the bids of the lane, or its first clash.
+fn with_more(
+    alloc: Global,
+    checker: &TwoChecker,
+    lane: &TwoLane,
+    before: Seq<LaneBids>,
+) -> Result<Gathered, NoMemory>
+    requires { IsLastLane checker.now lane.now }
+    ensures added { IfSome (base_of checker.now) (λ base. IfOk result (λ after.
+        added base.statement.front (given_of checker.now) lane.now (Ok before) ≡ after)) }
+    ensures shows { IfSome (base_of checker.now) (λ base. All (LaneShows base.statement.front) before
+        → IfOk result (λ after. IfOk after (All (LaneShows base.statement.front)))) }
+{
+    let mut bids = before;
+    let number = u32::from(lane.case.lane);
+    match add_lane(alloc, checker.statement(), number, lane, &mut bids) {
+        Ok(()) => Ok(Ok(bids)),
+        Err(refused) => match refused.clash() {
+            Some(two) => Ok(Err(two)),
+            None => Err(NoMemory),
+        },
+    }
+}
 
 /// Appends the bids of the lane, counted from 1, where its two bits differ. Nothing is appended where they
 /// are the same.
@@ -32,6 +82,7 @@ pub fn add_lane(
     requires last { number ≤ statement.now.front.head.lanes }
     requires lane { IsTwoLane statement.now.front statement.now.plan number lane.now }
     ensures added { OnOk result (added statement.now.front number lane.now (Ok bids.old) ≡ Ok bids.new) }
+    ensures shows { OnOk result (All (LaneShows statement.now.front) bids.old → All (LaneShows statement.now.front) bids.new) }
     ensures clash { IfErr (lane_found statement.now.front number lane.now) (λ two. result ≡ Err (LaneErr.Clash two)) }
     ensures refused { IfErr result (λ refused. IsClashOf refused (lane_found statement.now.front number lane.now)) }
     ensures as_before { OnErr result (bids.new ≡ bids.old) }
@@ -66,6 +117,7 @@ fn bids_in(
     requires last { number ≤ statement.now.front.head.lanes }
     requires lane { IsTwoLane statement.now.front statement.now.plan number lane.now }
     ensures found { IfOk result (λ found. lane_found statement.now.front number lane.now ≡ Ok found) }
+    ensures shows { IfOk result (λ found. IfSome found (LaneShows statement.now.front)) }
     ensures clash { IfErr (lane_found statement.now.front number lane.now) (λ two. result ≡ Err (LaneErr.Clash two)) }
     ensures refused { IfErr result (λ refused. IsClashOf refused (lane_found statement.now.front number lane.now)) }
 {
@@ -93,6 +145,7 @@ fn bids_of(
     requires zero { IsAccepted statement.now.plan case.now false zero.now }
     requires one { IsAccepted statement.now.plan case.now true one.now }
     ensures found { IfOk result (λ found. bids_of statement.now.front number case.now zero.now one.now ≡ Ok found) }
+    ensures shows { IfOk result (λ found. IfSome found (LaneShows statement.now.front)) }
     ensures clash { IfErr (bids_of statement.now.front number case.now zero.now one.now) (λ two. result ≡ Err (LaneErr.Clash two)) }
     ensures refused { IfErr result (λ refused. IsClashOf refused (bids_of statement.now.front number case.now zero.now one.now)) }
 {

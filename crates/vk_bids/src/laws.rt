@@ -1,5 +1,6 @@
 // What holds of every lane that is accepted for both bits, and of two replies to a board.
-ghost use Rattle.vk_bids.specs.Headline.{FilesShow, GatheredShows, ReadyHasBase};
+ghost use Rattle.vk_bids.specs.Binding.{FilesAreConfronted, OnlyAcceptedAreConfronted, OthersAreMalformed, SealedAreHeldOrClash, SecretsAreBound};
+ghost use Rattle.vk_bids.specs.Headline.{AcceptedAreExtracted, FilesAreExtracted, OnlyAcceptedAreExtracted, SameIsFound};
 ghost use Rattle.vk_bids.specs.Laws.{AcceptedLanesShow};
 
 /// Of any board's front and any of its lanes, where a reply is accepted for bit 0 and another for bit 1: the
@@ -9,15 +10,34 @@ pub fn accepted_lanes_show_the_outcome()
     ensures { AcceptedLanesShow }
 {}
 
-/// Of any board and any two challenges and replies that are read with it side by side, where both replies are
-/// accepted and the challenges differ: what was read before the first lane is the board's front, whose winner
-/// has a seal on it, and the bits of both challenges, which differ.
+/// Of any five files, where both replies are accepted with the board and the challenges differ: the extraction is
+/// the bids of just the lanes whose two bits differ. In each of these they are below 2^width, open the lane's
+/// seals by what the replies show, and have the published outcome. Or the extraction is a clash: of the first of
+/// these lanes that has one, the first commitment with two openings of different values.
 ///
-/// The bids that are gathered are those of just the lanes whose two bits differ. In each of these they are
-/// below 2^width, open the lane's seals, and have the published outcome. Or a commitment of such a lane has
-/// two openings with different values.
-pub fn gathered_bids_show_the_outcome()
-    ensures shows { GatheredShows }
-    ensures base { ReadyHasBase }
-    ensures files { FilesShow }
+/// Only such files give bids or a clash, and the challenges are found to be the same exactly where both replies
+/// are accepted and the bits are equal. The extraction of named files is that of their bytes.
+pub fn accepted_replies_give_bids_or_a_clash()
+    ensures given { AcceptedAreExtracted }
+    ensures only { OnlyAcceptedAreExtracted }
+    ensures same { SameIsFound }
+    ensures files { FilesAreExtracted }
+{}
+
+/// Of any six files, where both replies are accepted with the board, the challenges differ, and the last file is the
+/// text of a secret: where the secret is held, it matches the board's seal of its seat, and in every lane whose two
+/// bits differ both halves that were opened of that seal are the secret's, and so is the bid. Else no seal has the
+/// seat; or that seal isn't the secret's; or one commitment has two openings of different values: one that the
+/// replies open, or one of that seal, which the secret opens and a reply opens with another value.
+///
+/// Where a seal on the board is the secret's, the secret is held or there is a clash, so there is one where a half
+/// that was opened isn't the secret's. A file that is no secret is named with its fault line, and only replies
+/// that are accepted for different challenges come to any of this. The confrontation of named files is that of
+/// their bytes.
+pub fn a_secret_is_bound_by_accepted_replies()
+    ensures bound { SecretsAreBound }
+    ensures sealed { SealedAreHeldOrClash }
+    ensures malformed { OthersAreMalformed }
+    ensures only { OnlyAcceptedAreConfronted }
+    ensures files { FilesAreConfronted }
 {}

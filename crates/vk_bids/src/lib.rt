@@ -1,18 +1,28 @@
-//! What two accepted replies to a lane say of its bids, for different bits: that they open the lane's
-//! seals, and that the published outcome is theirs. Or two openings of one commitment.
+//! What two replies to a board come to. Where both are accepted and the challenges differ, they open the bids
+//! of the lanes whose bits differ, and the published outcome is theirs; or there are two openings of one
+//! commitment. And what a bidder's secret comes to against them.
 #![tactic(auto)]
 
 mod bids;
+mod confront_printing;
+mod confrontation;
 mod extracting;
+mod extraction;
 mod gathering;
 mod laws;
 mod printing;
 
 pub use bids::{LaneBids, OpenedBid};
+pub use confront_printing::confrontation_lines;
+pub use confrontation::{ConfrontErr, ConfrontNames, Confrontation, confront};
 pub use extracting::extract_bids;
+pub use extraction::{Extracted, Extraction, extract};
 pub use gathering::add_lane;
-pub use laws::{accepted_lanes_show_the_outcome, gathered_bids_show_the_outcome};
-pub use printing::{clash_line, lane_bids_lines};
+pub use laws::{
+    a_secret_is_bound_by_accepted_replies, accepted_lanes_show_the_outcome,
+    accepted_replies_give_bids_or_a_clash,
+};
+pub use printing::{clash_line, extraction_lines};
 
 #[cfg(test)]
 mod tests;

@@ -1,15 +1,17 @@
-// What is printed of a lane's bids, and of two openings of one commitment.
-ghost use Rattle.std.specs.Prelude.{◌≡◌, IfOk, string_bytes};
+// What is printed of the bids that two replies give, and of two openings of one commitment.
+ghost use Rattle.std.specs.Prelude.{◌≡◌, ◌++◌, IfOk, OnOk, string_bytes};
 ghost use Rattle.std.specs.List.{flat_map};
-ghost use Rattle.vk_bids.specs.Texts.{bid_line, clash_text, lane_bids_text, opening_text, openings_text};
+ghost use Rattle.vk_bids.specs.Texts.{agreement, agreements_text, bid_in, bid_line, clash_text, extraction_text, first_bid, has_one_bid, lane_bids_text, opening_text, openings_text};
 
 use crate::bids::{LaneBids, OpenedBid};
+use crate::extraction::Extracted;
 use std::alloc::Global;
+use vk_board::SealLines;
 use vk_commit::{Opening, Place, TwoOpenings};
-use vk_residue::NoMemory;
+use vk_residue::{NoMemory, Residue};
 
 /// The lines of a lane's bids, one for each seal in order.
-pub fn lane_bids_lines(alloc: Global, lane: &LaneBids) -> Result<Vec<String>, NoMemory>
+fn lane_bids_lines(alloc: Global, lane: &LaneBids) -> Result<Vec<String>, NoMemory>
     ensures { IfOk result (λ lines. flat_map string_bytes lines.items ≡ lane_bids_text lane.now) }
 {
     let mut lines = Vec::new(alloc);
@@ -44,6 +46,92 @@ pub fn clash_line(alloc: Global, two: &TwoOpenings) -> Result<String, NoMemory>
         &two.second(),
     )?;
     Ok(line)
+}
+
+/// The lines of an extraction: the bids of each lane, the winner and the price that the board publishes, of each
+/// seal whether its bids are equal in all lanes, and the end.
+pub fn extraction_lines(alloc: Global, found: &Extracted) -> Result<Vec<String>, NoMemory>
+    ensures { IfOk result (λ lines. flat_map string_bytes lines.items ≡ extraction_text found.now) }
+{
+    let mut lines = Vec::new(alloc);
+    let lanes = found.lanes.as_slice();
+    add_lanes(alloc, lanes, &mut lines)?;
+    let winner = found.front.head.winner;
+    let price = found.front.head.price;
+    let line = format!(in alloc; "winner {winner} price {price}\n")?;
+    lines.push(line)?;
+    add_agreements(alloc, found.front.seals.as_slice(), lanes, &mut lines)?;
+    let end = String::from_str(alloc, "end\n")?;
+    lines.push(end)?;
+    Ok(lines)
+}
+
+/// Appends the lines of the lanes' bids.
+fn add_lanes(alloc: Global, lanes: &[LaneBids], lines: &mut Vec<String>) -> Result<(), NoMemory>
+    ensures { OnOk result (flat_map string_bytes lines.new.items ≡ flat_map string_bytes lines.old.items ++ flat_map lane_bids_text lanes.now) }
+{
+    for lane in lanes {
+        let mut bids = lane_bids_lines(alloc, lane)?;
+        lines.append(&mut bids)?;
+    }
+    Ok(())
+}
+
+/// Appends a line for each seal.
+fn add_agreements(
+    alloc: Global,
+    seals: &[SealLines],
+    lanes: &[LaneBids],
+    lines: &mut Vec<String>,
+) -> Result<(), NoMemory>
+    ensures { OnOk result (flat_map string_bytes lines.new.items ≡ flat_map string_bytes lines.old.items ++ agreements_text 0 seals.now lanes.now) }
+{
+    for (index, seal) in seals.iter().enumerate() {
+        let seat = seal.seat;
+        let agreement = agreement(index, lanes);
+        let line = format!(in alloc; "seat {seat} {agreement}\n")?;
+        lines.push(line)?;
+    }
+    Ok(())
+}
+
+/// The word for whether the bids of the seal at that index are equal in all lanes.
+fn agreement(index: usize, lanes: &[LaneBids]) -> &'static str
+    ensures { result.now ≡ agreement (has_one_bid index lanes.now) }
+{
+    if has_one_bid(index, lanes) {
+        "same"
+    } else {
+        "differs"
+    }
+}
+
+/// Whether the bids of the seal at that index are equal in all lanes.
+fn has_one_bid(index: usize, lanes: &[LaneBids]) -> bool
+    ensures { result ≡ has_one_bid index lanes.now }
+{
+    let bid = first_bid(index, lanes);
+    lanes.iter().all(|lane| bid_in(index, lane) == bid)
+}
+
+/// The bid of the seal at that index in the first lane, or 0 where there is none.
+fn first_bid(index: usize, lanes: &[LaneBids]) -> Residue
+    ensures { result ≡ first_bid index lanes.now }
+{
+    match lanes {
+        [] => Residue::ZERO,
+        [first, ..] => bid_in(index, first),
+    }
+}
+
+/// The bid of the seal at that index in the lane, or 0 where there is none.
+fn bid_in(index: usize, lane: &LaneBids) -> Residue
+    ensures { result ≡ bid_in index lane.now }
+{
+    match lane.bids.as_slice().get(index) {
+        Some(bid) => bid.bid,
+        None => Residue::ZERO,
+    }
 }
 
 /// The line of two openings of a digest at a place.

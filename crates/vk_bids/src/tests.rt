@@ -1,72 +1,122 @@
-// Lane 2 of a board of one seal, of seat 7, with a bid of 0 below 2^1.
-ghost use Rattle.std.specs.Prelude.{◌≡◌, ◌≤◌, ◌<◌, ◌^◌, ◌∷◌, [], IfOk, length};
-ghost use Rattle.std.specs.List.{AllByRecursion};
-ghost use Rattle.vk_residue.specs.Residue.{IsResidue};
-ghost use Rattle.vk_plan.specs.Plans.{HasWeight, MayHave};
-ghost use Rattle.vk_wire.specs.Values.{IsCom};
-ghost use Rattle.vk_row.specs.Lanes.{HasCounts};
-ghost use Rattle.vk_verifier.specs.Statement.{statement_of};
-ghost use Rattle.vk_verifier.specs.Parts.{IsCase};
-
+// Files of the smallest board, made by another program, and bids and openings written out by hand.
 use crate::printing::openings_line;
-use crate::{LaneBids, OpenedBid, add_lane, lane_bids_lines};
+use crate::{
+    ConfrontNames, Extracted, Extraction, LaneBids, OpenedBid, confront, confrontation_lines,
+    extract, extraction_lines,
+};
 use std::alloc::Global;
 use std::test::Fail;
 use vk_board::{Front, Head, SealLines};
 use vk_commit::{Opening, Place};
-use vk_plan::WireKind;
+use vk_io::MemShelf;
 use vk_residue::Residue;
-use vk_row::{LaneCase, check_lane};
 use vk_seq::Seq;
-use vk_verifier::{Statement, TwoLane};
-use vk_wire::{Shown, WireCom, WireTape, make, show, wire_place};
 
 const ID: [u8; 16] = [0, 1, 2, 3, 4, 5, 6, 7, 8, 9, 10, 11, 12, 13, 14, 15];
 
-fn residue(number: u64) -> Result<Residue, Fail> {
-    Ok(Residue::new(number).ok_or("not below the modulus")?)
+const BOARD: &str = "vickrey-board 1
+auction 000102030405060708090a0b0c0d0e0f
+width 1
+lanes 1
+seals 1
+winner 7
+price 0
+seal 7
+x 023dd1cc99177aec8e6b75b847227ff4a8dd6e2328310f0ffa91f2d60aecd426 774401009878493d88b3ad371899fe26d73791fadb6afe02ad901833daf73de4
+lane 1
+w 3e081a820047b942fb53d64cc48e73072c8bab60338122a8b6cc7d2574478294 b66b11c7a3a9e463f7cc889a27081e01e290916f55650e641b6a2815af4d3a94
+w dcc34ee7a886c4a195cc136f37ec174e14e203f3f6cb45c6c0c8e9ab4b1a3736 88f52883e737aaed134b26aaf44218f208901120c18c8f715c4e7c2cc4641072
+d 2305843009213693944
+d 6
+end
+";
+
+const REPLY_0: &str = "vickrey-reply 1
+lanes 1
+lane 1
+h 1111111111111111111111111111111111111111111111111111111111111111 3
+h 3333333333333333333333333333333333333333333333333333333333333333 10
+a 5555555555555555555555555555555555555555555555555555555555555555 2305843009213693947 6666666666666666666666666666666666666666666666666666666666666666 2305843009213693948
+end
+";
+
+const REPLY_1: &str = "vickrey-reply 1
+lanes 1
+lane 1
+h 2222222222222222222222222222222222222222222222222222222222222222 2305843009213693948
+h 4444444444444444444444444444444444444444444444444444444444444444 2305843009213693941
+s 0 5555555555555555555555555555555555555555555555555555555555555555 2305843009213693947
+end
+";
+
+const BID: &str =
+    "lane 1 seat 7 bid 0 u 1111111111111111111111111111111111111111111111111111111111111111 3 v 2222222222222222222222222222222222222222222222222222222222222222 2305843009213693948
+";
+
+fn shelf_of_smallest(alloc: Global) -> Result<MemShelf, Fail> {
+    let mut shelf = MemShelf::new(alloc);
+    shelf.put_file("board", BOARD.as_bytes())?;
+    shelf.put_file("0", b"vickrey-challenge 1\nbits 0\nend\n")?;
+    shelf.put_file("1", b"vickrey-challenge 1\nbits 1\nend\n")?;
+    shelf.put_file("to 0", REPLY_0.as_bytes())?;
+    shelf.put_file("to 1", REPLY_1.as_bytes())?;
+    Ok(shelf)
 }
 
-fn tape(mask: u64, first: u8, second: u8) -> Result<WireTape, Fail> {
-    Ok(WireTape {
-        mask: residue(mask)?,
-        swap: false,
-        first_key: [first; 32],
-        second_key: [second; 32],
-    })
+#[test]
+fn the_smallest_board_gives_its_bid(rt: HostRuntime) -> Result<(), Fail> {
+    let alloc = rt.alloc();
+    let mut shelf = shelf_of_smallest(alloc)?;
+    let same = extract(alloc, &mut shelf, "board", "1", "to 1", "1", "to 1")?;
+    assert!(rt; matches!(&same, Extraction::Same));
+    match extract(alloc, &mut shelf, "board", "1", "to 1", "0", "to 0")? {
+        Extraction::Bids(found) => {
+            let lines = extraction_lines(alloc, &found)?;
+            assert_eq!(rt; lines.len(), 4);
+            assert_eq!(rt; lines[0].as_str(), BID);
+            assert_eq!(rt; lines[1].as_str(), "winner 7 price 0\n");
+            assert_eq!(rt; lines[2].as_str(), "seat 7 same\n");
+            assert_eq!(rt; lines[3].as_str(), "end\n");
+            Ok(())
+        }
+        _ => Err(Fail::from("no bids")),
+    }
 }
 
-/// The commitments to a wire with the value 0.
-fn wire(kind: WireKind, number: u32, tape: &WireTape) -> WireCom
-    requires weight { HasWeight kind }
-    requires value { MayHave kind 0 }
-    requires number { number < 2 ^ 24 }
-    ensures { IsCom result }
-{
-    let place = wire_place(&ID, 2, &[7], number);
-    let digests = make(kind, &place, Residue::ZERO, tape);
-    digests
+/// The bid of one seal in a lane.
+fn lane_of(alloc: Global, number: u32, bid: Residue) -> Result<LaneBids, Fail> {
+    let first = Opening {
+        key: [0x11; 32],
+        value: bid,
+    };
+    let second = Opening {
+        key: [0x22; 32],
+        value: Residue::ZERO,
+    };
+    let mut bids = Seq::new(alloc);
+    bids.push(OpenedBid {
+        seat: 7,
+        bid,
+        first,
+        second,
+    })?;
+    Ok(LaneBids { number, bids })
 }
 
-/// The statement of the board, with these commitments of the seal in both lanes.
-fn statement_of_one(alloc: Global, first: WireCom, second: WireCom) -> Result<Statement, Fail>
-    requires first { IsCom first }
-    requires second { IsCom second }
-    ensures { IfOk result (λ statement. statement ≡ statement_of (record {
-      head = record { auction = ID; width = 1; lanes = 2; seals = 1; winner = 7; price = 0 };
-      seals = record { seat = 7; coms = first ∷ second ∷ [] } ∷ [];
-      position = 1;
-    })) }
-{
-    let mut coms = Seq::new(alloc);
-    coms.push(first)?;
-    coms.push(second)?;
+/// Two lanes of a board of one seal, with the bids 0 and this one.
+fn two_lanes(alloc: Global, bid: Residue) -> Result<Extracted, Fail> {
     let mut seals = Seq::new(alloc);
-    seals.push(SealLines { seat: 7, coms })?;
+    seals.push(SealLines {
+        seat: 7,
+        coms: Seq::new(alloc),
+    })?;
+    let mut lanes = Seq::new(alloc);
+    lanes.push(lane_of(alloc, 3, Residue::ZERO)?)?;
+    lanes.push(lane_of(alloc, 5, bid)?)?;
     let head = Head {
         auction: ID,
         width: 1,
-        lanes: 2,
+        lanes: 5,
         seals: 1,
         winner: 7,
         price: 0,
@@ -76,141 +126,16 @@ fn statement_of_one(alloc: Global, first: WireCom, second: WireCom) -> Result<St
         seals,
         position: 1,
     };
-    let statement = Statement::of(alloc, front)?;
-    Ok(statement)
-}
-
-fn case_of_one(alloc: Global, bid: WireCom, copy: WireCom, pair: WireCom) -> Result<LaneCase, Fail>
-    ensures auction { IfOk result (λ case. case.auction ≡ ID) }
-    ensures lane { IfOk result (λ case. case.lane ≡ 2) }
-    ensures seats { IfOk result (λ case. case.seats ≡ 7 ∷ []) }
-    ensures coms { IfOk result (λ case. case.coms ≡ bid ∷ copy ∷ pair ∷ []) }
-    ensures posted { IfOk result (λ case. length case.posted ≡ 2) }
-    ensures residues { IfOk result (λ case. AllByRecursion IsResidue case.posted) }
-{
-    let first = residue(2305843009213693944)?;
-    let second = residue(6)?;
-    let mut seats = Seq::new(alloc);
-    seats.push(7)?;
-    let mut coms = Seq::new(alloc);
-    coms.push(bid)?;
-    coms.push(copy)?;
-    coms.push(pair)?;
-    let mut posted = Seq::new(alloc);
-    posted.push(first)?;
-    posted.push(second)?;
-    Ok(LaneCase {
-        auction: ID,
-        lane: 2,
-        seats,
-        coms,
-        posted,
-    })
-}
-
-fn shown_of_one(alloc: Global, bid: Shown, copy: Shown, pair: Shown) -> Result<Seq<Shown>, Fail>
-    ensures { IfOk result (λ shown. length shown ≡ 3) }
-{
-    let mut shown = Seq::new(alloc);
-    shown.push(bid)?;
-    shown.push(copy)?;
-    shown.push(pair)?;
-    Ok(shown)
-}
-
-/// What is gathered of lane 2, once both replies are accepted.
-fn gathered_of_lane(
-    alloc: Global,
-    statement: &Statement,
-    lane: &TwoLane,
-) -> Result<Seq<LaneBids>, Fail>
-    requires lanes { 2 ≤ statement.now.front.head.lanes }
-    requires case { IsCase statement.now.front statement.now.plan 2 lane.now.case }
-    requires first { HasCounts statement.now.plan lane.now.case lane.now.first }
-    requires second { HasCounts statement.now.plan lane.now.case lane.now.second }
-{
-    let plan = statement.plan();
-    check_lane(
-        alloc,
-        plan,
-        &lane.case,
-        lane.first_bit,
-        lane.first.as_slice(),
-    )?;
-    check_lane(
-        alloc,
-        plan,
-        &lane.case,
-        lane.second_bit,
-        lane.second.as_slice(),
-    )?;
-    let mut bids = Seq::new(alloc);
-    add_lane(alloc, statement, 2, lane, &mut bids)?;
-    Ok(bids)
-}
-
-/// What is gathered of the lane.
-fn smallest(alloc: Global) -> Result<Seq<LaneBids>, Fail> {
-    let bid = tape(3, 0x11, 0x22)?;
-    let copy = tape(10, 0x33, 0x44)?;
-    let pair = tape(4, 0x55, 0x66)?;
-    let other = wire(WireKind::Split, 0, &copy);
-    let digests = wire(WireKind::Split, 0, &bid);
-    let statement = statement_of_one(alloc, other, digests)?;
-    let case = case_of_one(
-        alloc,
-        digests,
-        wire(WireKind::Split, 1, &copy),
-        wire(WireKind::Pair(0), 2, &pair),
-    )?;
-    let zero = shown_of_one(
-        alloc,
-        show(WireKind::Split, Residue::ZERO, &bid, false),
-        show(WireKind::Split, Residue::ZERO, &copy, false),
-        show(WireKind::Pair(0), Residue::ZERO, &pair, false),
-    )?;
-    let one = shown_of_one(
-        alloc,
-        show(WireKind::Split, Residue::ZERO, &bid, true),
-        show(WireKind::Split, Residue::ZERO, &copy, true),
-        show(WireKind::Pair(0), Residue::ZERO, &pair, true),
-    )?;
-    let lane = TwoLane {
-        case,
-        first_bit: true,
-        first: one,
-        second_bit: false,
-        second: zero,
-    };
-    let found = gathered_of_lane(alloc, &statement, &lane)?;
-    Ok(found)
+    Ok(Extracted { front, lanes })
 }
 
 #[test]
-fn lane_2_gives_its_bid(rt: HostRuntime) -> Result<(), Fail> {
-    let alloc = rt.alloc();
-    let gathered = smallest(alloc)?;
-    assert_eq!(rt; gathered.len(), 1);
-    let found = &gathered.as_slice()[0];
-    let expected = OpenedBid {
-        seat: 7,
-        bid: Residue::ZERO,
-        first: Opening {
-            key: [0x11; 32],
-            value: residue(3)?,
-        },
-        second: Opening {
-            key: [0x22; 32],
-            value: residue(2305843009213693948)?,
-        },
-    };
-    assert_eq!(rt; found.bids.as_slice(), [expected].as_slice());
-    let lines = lane_bids_lines(alloc, found)?;
-    assert_eq!(rt; lines.len(), 1);
-    assert_eq!(rt;
-        lines[0].as_str(),
-        "lane 2 seat 7 bid 0 u 1111111111111111111111111111111111111111111111111111111111111111 3 v 2222222222222222222222222222222222222222222222222222222222222222 2305843009213693948\n"
-    );
+fn bids_that_differ_are_told(rt: HostRuntime) -> Result<(), Fail> {
+    let one = Residue::new(1).ok_or("not below the modulus")?;
+    let found = two_lanes(rt.alloc(), one)?;
+    let lines = extraction_lines(rt.alloc(), &found)?;
+    assert_eq!(rt; lines.len(), 5);
+    assert_eq!(rt; lines[3].as_str(), "seat 7 differs\n");
     Ok(())
 }
 
@@ -224,7 +149,7 @@ fn two_openings_are_printed(rt: HostRuntime) -> Result<(), Fail> {
     };
     let first = Opening {
         key: [0x0a; 32],
-        value: residue(2305843009213693950)?,
+        value: Residue::new(2305843009213693950).ok_or("not below the modulus")?,
     };
     let second = Opening {
         key: [0xb0; 32],
@@ -235,5 +160,65 @@ fn two_openings_are_printed(rt: HostRuntime) -> Result<(), Fail> {
         line.as_str(),
         "clash lane 64 seat 65535 slot 7 digest 5c5c5c5c5c5c5c5c5c5c5c5c5c5c5c5c5c5c5c5c5c5c5c5c5c5c5c5c5c5c5c5c first 0a0a0a0a0a0a0a0a0a0a0a0a0a0a0a0a0a0a0a0a0a0a0a0a0a0a0a0a0a0a0a0a 2305843009213693950 second b0b0b0b0b0b0b0b0b0b0b0b0b0b0b0b0b0b0b0b0b0b0b0b0b0b0b0b0b0b0b0b0 0\n"
     );
+    Ok(())
+}
+
+const SECRET: &str = "vickrey-secret 1
+auction 000102030405060708090a0b0c0d0e0f
+seat 7
+bid 0
+lanes 1
+x 3 1111111111111111111111111111111111111111111111111111111111111111 2222222222222222222222222222222222222222222222222222222222222222
+end
+";
+
+const OTHER_FIRST_KEY: &str = "vickrey-secret 1
+auction 000102030405060708090a0b0c0d0e0f
+seat 7
+bid 0
+lanes 1
+x 3 7777777777777777777777777777777777777777777777777777777777777777 2222222222222222222222222222222222222222222222222222222222222222
+end
+";
+
+const OTHER_SEAT: &str = "vickrey-secret 1
+auction 000102030405060708090a0b0c0d0e0f
+seat 8
+bid 0
+lanes 1
+x 3 1111111111111111111111111111111111111111111111111111111111111111 2222222222222222222222222222222222222222222222222222222222222222
+end
+";
+
+const MISMATCH: &str =
+    "confront mismatch lane 1 half 0 kept 023dd1cc99177aec8e6b75b847227ff4a8dd6e2328310f0ffa91f2d60aecd426 made 4df8c20d372faa19f03963bfb91a29f106512d1418de63d4d9f4b22562e038a7
+";
+
+/// The line that is printed of a secret against both replies to the smallest board.
+fn line_of_secret(alloc: Global, secret: &str) -> Result<String, Fail> {
+    let mut shelf = shelf_of_smallest(alloc)?;
+    shelf.put_file("secret", secret.as_bytes())?;
+    let names = ConfrontNames {
+        board: "board",
+        challenge1: "0",
+        reply1: "to 0",
+        challenge2: "1",
+        reply2: "to 1",
+        secret: "secret",
+    };
+    let confrontation = confront(alloc, &mut shelf, &names)?;
+    let mut lines = confrontation_lines(alloc, &confrontation)?;
+    let line = lines.pop().ok_or("no line")?;
+    Ok(line)
+}
+
+#[test]
+fn a_secret_is_held_mismatched_or_has_no_seal(rt: HostRuntime) -> Result<(), Fail> {
+    let held = line_of_secret(rt.alloc(), SECRET)?;
+    assert_eq!(rt; held.as_str(), "held seat 7\n");
+    let mismatch = line_of_secret(rt.alloc(), OTHER_FIRST_KEY)?;
+    assert_eq!(rt; mismatch.as_str(), MISMATCH);
+    let no_seal = line_of_secret(rt.alloc(), OTHER_SEAT)?;
+    assert_eq!(rt; no_seal.as_str(), "confront no seal 8\n");
     Ok(())
 }
