@@ -43,20 +43,29 @@ holds() {
 usage='usage: vickrey seal|announce|submit|prove|answer|show|verify|extract|confront|report|sample|ceremony'
 umask 022
 
-case_of 0 accepted '' verify smallest-board challenge-0 smallest-reply
-sed 's/^price 0$/price 1/' smallest-board >dear
-case_of 1 'refused dear price' '' verify dear challenge-0 smallest-reply
+case_of 0 accepted '' verify board challenge-0 reply-0
+sed 's/^price 0$/price 1/' board >dear
+case_of 1 'refused dear price' '' verify dear challenge-0 reply-0
+case_of 0 'lane 1 seat 7 bid 0 u 1111111111111111111111111111111111111111111111111111111111111111 3 v 2222222222222222222222222222222222222222222222222222222222222222 2305843009213693948
+winner 7 price 0
+seat 7 same
+end' '' extract board challenge-0 reply-0 challenge-1 reply-1
+case_of 7 'same challenge' '' extract board challenge-0 reply-0 challenge-0 reply-0
+sed 's/^s 0 5/s 0 6/' reply-1 >other
+case_of 1 'refused other lane 1 wire 2 digest 0' '' extract board challenge-0 reply-0 challenge-1 other
+case_of 4 'malformed reply-0 line 6' '' extract board challenge-0 reply-0 challenge-1 reply-0
+case_of 5 'missing nothing' '' extract board challenge-0 reply-0 challenge-1 nothing
 case_of 2 "$usage" '' verify
 case_of 2 "$usage" '' frobnicate
-case_of 2 "$usage" '' verify smallest-board challenge-0 "$(printf '\377')"
-head -n 14 smallest-board >cut
-case_of 4 'malformed cut line 15' '' verify cut challenge-0 smallest-reply
+case_of 2 "$usage" '' verify board challenge-0 "$(printf '\377')"
+head -n 14 board >cut
+case_of 4 'malformed cut line 15' '' verify cut challenge-0 reply-0
 truncate -s 1073741825 huge
-case_of 4 'too long huge' '' verify huge challenge-0 smallest-reply
-case_of 5 'missing nothing' '' verify smallest-board nothing smallest-reply
-case_of 5 'missing cut/below' '' verify smallest-board cut/below smallest-reply
+case_of 4 'too long huge' '' verify huge challenge-0 reply-0
+case_of 5 'missing nothing' '' verify board nothing reply-0
+case_of 5 'missing cut/below' '' verify board cut/below reply-0
 mkdir inner
-case_of 6 '' 'outside fault' verify inner challenge-0 smallest-reply
+case_of 6 '' 'outside fault' verify inner challenge-0 reply-0
 case_of 0 'sealed seat 7 lanes 2' '' seal $id 7 15 4 2 "$seed" secret seal
 case_of 8 'seal bid too large' '' seal $id 7 16 4 2 "$seed" none none-either
 holds '' ls -A inner

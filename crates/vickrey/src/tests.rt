@@ -49,7 +49,7 @@ fn each_status_is_ended_with(rt: HostRuntime) -> Result<(), Fail> {
             ],
             0,
         ),
-        (&["extract", missing, missing, missing, missing, missing], 1),
+        (&["extract", missing, missing, missing, missing, missing], 5),
         (&[], 2),
         (&["verify", "/etc/passwd", missing, missing], 5),
         (&["verify", "/etc/passwd", "/etc/passwd", "/etc/passwd"], 4),

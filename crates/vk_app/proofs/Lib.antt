@@ -1,10 +1,7 @@
-pub mod Lanes
-pub mod Texts
-pub mod WholeTexts
 pub mod Printing
-pub mod Accepting
-pub mod Extracting
-pub mod Lengths
 pub mod Effects
+pub mod Verified
+pub mod Extracted
+pub mod Bound
 pub mod Headline
 pub mod Acting

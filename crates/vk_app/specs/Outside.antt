@@ -4,7 +4,7 @@ use Rattle.std.specs.FinMap.{empty}
 use Rattle.vk_io.specs.Files.{Files, Told}
 use Rattle.vk_io.specs.Writing.{written, IsDivided}
 use Rattle.vk_keeper.specs.Ledgers.{Ledger}
-use Rattle.vk_app.specs.declared.stop.Stop.{Stop}
+use Rattle.vk_io.specs.declared.errors.OutsideErr.{OutsideErr}
 
 -- what is outside of a command, as far as it is told: the files, the auctions that are kept, and the
 -- text that was printed
@@ -83,13 +83,13 @@ Stopped effect old new =
     ⊎ ((new.ledger ≡ option_map (λ kept. effect.ledger) old.ledger) × (StopsWriting effect old new ⊎ StopsPrinting effect old new))
 
 -- what a command's answer means for what is outside
-abbrev pub Ends : Result ℕ Stop → Effect → Outside → Outside → Type 0
+abbrev pub Ends : Result ℕ OutsideErr → Effect → Outside → Outside → Type 0
 Ends (Ok status) effect old new = Done status effect old new
 Ends (Err stop) effect old new = Stopped effect old new
 
 -- ---- all of a command but its printing
 
 -- it said what its effect does and wrote the files; stopped, these are divided at one of them
-abbrev pub Acts : Result SaidValue Stop → Effect → Option Files → Option Files → Type 0
+abbrev pub Acts : Result SaidValue OutsideErr → Effect → Option Files → Option Files → Type 0
 Acts (Ok said) effect old new = (said ≡ said_of effect) × (new ≡ option_map (written effect.writes) old)
 Acts (Err stop) effect old new = Told (IsDivided effect.writes) old new

@@ -1,12 +1,12 @@
 -- The words of a command line.
 use Rattle.std.specs.Prelude.{ℕ, ◌+◌, ◌-◌, ◌^◌, ◌<◌, ◌≤◌, ◌==◌, ◌&&◌, nat_le, nat_lt, Bool, if◌then◌else◌, List, [], length, slice_index_or, codes, Option, Some, None, option_map}
 use Rattle.std.specs.Str.{bytes_eq}
-use Rattle.vk_lines.specs.Tokens.{decimal_of, hex_of}
-use Rattle.vk_app.specs.Pieces.{◌>>=◌}
+use Rattle.vk_lines.specs.Tokens.{◌>>=◌, decimal_of, hex_of}
 use Rattle.vk_app.specs.declared.words.SealOrder.{SealOrder}
 use Rattle.vk_app.specs.declared.words.Command.{Command}
 use Rattle.vk_app.specs.declared.words.Command.TheVariants as commands
 use Rattle.vk_app.specs.declared.words.AttemptNames.{AttemptNames}
+use Rattle.vk_app.specs.declared.words.ConfrontNames.{ConfrontNames}
 use Rattle.vk_app.specs.declared.words.ExtractNames.{ExtractNames}
 use Rattle.vk_app.specs.declared.words.VerifyNames.{VerifyNames}
 
@@ -27,6 +27,10 @@ attempt_seen names = record { challenge = names.challenge.now; reply = names.rep
 abbrev pub extract_seen : ExtractNames → ExtractWords
 extract_seen names = record { board = names.board.now; first = attempt_seen names.first; second = attempt_seen names.second }
 
+-- there are so many words, and this is the first
+abbrev pub is_form : ℕ → List ℕ → List (List ℕ) → Bool
+is_form count first words = length words == count && bytes_eq (slice_index_or words 0 []) first
+
 -- a name has 1 to 255 bytes
 abbrev pub is_name : List ℕ → Bool
 is_name word = nat_lt 0 (length word) && nat_le (length word) 255
@@ -42,7 +46,7 @@ attempt_words words place = do
   reply ← name_at words (place + 1)
   Some (record { challenge = challenge; reply = reply })
 
--- the names that six words give, the first of them aside
+-- the names that the second to the sixth word give
 unfoldable pub names_in : List (List ℕ) → Option ExtractWords
 names_in words = do
   board ← name_at words 1
@@ -52,7 +56,7 @@ names_in words = do
 
 -- the names, where the words are `extract` and five names
 unfoldable pub extract_words : List (List ℕ) → Option ExtractWords
-extract_words words = if length words == 6 && bytes_eq (slice_index_or words 0 []) (codes "extract") then names_in words else None
+extract_words words = if is_form 6 (codes "extract") words then names_in words else None
 
 -- ---- `verify`
 
@@ -73,7 +77,28 @@ verify_in words = do
 
 -- the names, where the words are `verify` and three names
 unfoldable pub verify_words : List (List ℕ) → Option VerifyWords
-verify_words words = if length words == 4 && bytes_eq (slice_index_or words 0 []) (codes "verify") then verify_in words else None
+verify_words words = if is_form 4 (codes "verify") words then verify_in words else None
+
+-- ---- `confront`
+
+-- the names of the files of `confront`
+pub record ConfrontWords : Type 0 where
+  pub replies : ExtractWords
+  pub secret : List ℕ
+
+abbrev pub confront_seen : ConfrontNames → ConfrontWords
+confront_seen names = record { replies = extract_seen names.replies; secret = names.secret.now }
+
+-- the names that seven words give, the first of them aside
+unfoldable pub confront_in : List (List ℕ) → Option ConfrontWords
+confront_in words = do
+  replies ← names_in words
+  secret ← name_at words 6
+  Some (record { replies = replies; secret = secret })
+
+-- the names, where the words are `confront` and six names
+unfoldable pub confront_words : List (List ℕ) → Option ConfrontWords
+confront_words words = if is_form 7 (codes "confront") words then confront_in words else None
 
 -- ---- `seal`
 
@@ -123,10 +148,6 @@ order_in words = do
   seal ← name_at words 8
   or_same secret (record { auction = auction; seat = seat; bid = bid; width = width; lanes = lanes; seed = seed; secret = secret; seal = seal })
 
--- the order, where the words are `seal`, its numbers and two different names
-unfoldable pub seal_words : List (List ℕ) → Option SealWords
-seal_words words = if length words == 9 && bytes_eq (slice_index_or words 0 []) (codes "seal") then order_in words else None
-
 -- what making a seal asks of its numbers
 pub record IsSealOrder (order : SealWords) : Type 0 where
   pub seat : 0 < order.seat
@@ -138,25 +159,31 @@ pub record IsSealOrder (order : SealWords) : Type 0 where
 pub data CommandWords : Type 0 where
   Extract : ExtractWords → CommandWords
   Verify : VerifyWords → CommandWords
+  Confront : ConfrontWords → CommandWords
+  Report : List ℕ → CommandWords
   Seal : SealWords → CommandWords
 
 abbrev pub command_seen : Command → CommandWords
 command_seen (commands.Extract names) = Extract (extract_seen names)
 command_seen (commands.Verify names) = Verify (verify_seen names)
+command_seen (commands.Confront names) = Confront (confront_seen names)
+command_seen (commands.Report board) = Report board.now
 command_seen (commands.Seal order) = Seal (seal_seen order)
 
 -- the order of a `seal` is one of which it can be made
 abbrev pub IsCommand : Command → Type 0
 IsCommand (commands.Extract names) = Unit {0}
 IsCommand (commands.Verify names) = Unit {0}
+IsCommand (commands.Confront names) = Unit {0}
+IsCommand (commands.Report board) = Unit {0}
 IsCommand (commands.Seal order) = IsSealOrder (seal_seen order)
-
--- one of two, the first where there is one
-abbrev pub or_else : Option CommandWords → Option CommandWords → Option CommandWords
-or_else (Some command) other = Some command
-or_else None other = other
 
 -- the command that the words are, if they are one
 abbrev pub command_words : List (List ℕ) → Option CommandWords
 command_words words =
-    or_else (option_map Extract (extract_words words)) (or_else (option_map Verify (verify_words words)) (option_map Seal (seal_words words)))
+    if is_form 6 (codes "extract") words then option_map Extract (names_in words)
+    else if is_form 4 (codes "verify") words then option_map Verify (verify_in words)
+    else if is_form 7 (codes "confront") words then option_map Confront (confront_in words)
+    else if is_form 9 (codes "seal") words then option_map Seal (order_in words)
+    else if is_form 2 (codes "report") words then option_map Report (name_at words 1)
+    else None

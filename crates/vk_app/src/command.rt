@@ -5,26 +5,27 @@ ghost use Rattle.std.specs.List.{flat_map};
 ghost use Rattle.vk_io.specs.Faults.{Causes, Rose};
 ghost use Rattle.vk_io.specs.Files.{Told, Takes};
 ghost use Rattle.vk_app.specs.Effect.{effect_on};
-ghost use Rattle.vk_app.specs.Headline.{BothAccepted, PutsExtraction};
+ghost use Rattle.vk_app.specs.Headline.{IsVerified, AcceptsTwoFiles, IsExtracted, IsSame, BindsSecret};
 ghost use Rattle.vk_app.specs.Outside.{IsEnd, outside, Acts, Ends, Done, Stopped};
 ghost use Rattle.vk_app.specs.Stops.{CausesTwo};
-ghost use Rattle.vk_app.specs.Words.{extract_words};
+ghost use Rattle.vk_app.specs.Words.{confront_words, extract_words, verify_words};
 
+use crate::confront::confront;
 use crate::extract::extract;
+use crate::report::report;
 use crate::said::Said;
 use crate::seal::seal;
-use crate::stop::Stop;
 use crate::usage::usage;
 use crate::verify::verify;
 use crate::words::{Command, command_of};
 use std::alloc::Global;
-use vk_io::{Shelf, Sink};
+use vk_io::{OutsideErr, Shelf, Sink};
 
 /// Does what the words say, but for printing.
-fn act<S: Shelf>(alloc: Global, words: &[String], shelf: &mut S) -> Result<Said, Stop>
+fn act<S: Shelf>(alloc: Global, words: &[String], shelf: &mut S) -> Result<Said, OutsideErr>
     ensures acts { IfSome (effect_on (S.held shelf.old) (map string_bytes words.now))
         (λ effect. Acts result effect (S.held shelf.old) (S.held shelf.new)) }
-    ensures causes { Causes Stop.Failed result (S.Shelf.faults shelf.old) (S.Shelf.faults shelf.new) }
+    ensures causes { Causes OutsideErr.Failed result (S.Shelf.faults shelf.old) (S.Shelf.faults shelf.new) }
 {
     match command_of(words) {
         None => {
@@ -39,6 +40,14 @@ fn act<S: Shelf>(alloc: Global, words: &[String], shelf: &mut S) -> Result<Said,
             let said = verify(alloc, shelf, &names)?;
             Ok(said)
         }
+        Some(Command::Confront(names)) => {
+            let said = confront(alloc, shelf, &names)?;
+            Ok(said)
+        }
+        Some(Command::Report(board)) => {
+            let said = report(alloc, shelf, board)?;
+            Ok(said)
+        }
         Some(Command::Seal(order)) => {
             let said = seal(alloc, shelf, &order)?;
             Ok(said)
@@ -47,9 +56,9 @@ fn act<S: Shelf>(alloc: Global, words: &[String], shelf: &mut S) -> Result<Said,
 }
 
 /// Prints the lines, each by itself.
-fn print<W: Sink>(lines: &[String], out: &mut W) -> Result<(), Stop>
+fn print<W: Sink>(lines: &[String], out: &mut W) -> Result<(), OutsideErr>
     ensures printed { Told (Takes (flat_map string_bytes lines.now) result) (W.taken out.old) (W.taken out.new) }
-    ensures causes { Causes Stop.Failed result (W.Sink.faults out.old) (W.Sink.faults out.new) }
+    ensures causes { Causes OutsideErr.Failed result (W.Sink.faults out.old) (W.Sink.faults out.new) }
 {
     for line in lines {
         out.put(line.as_bytes())?;
@@ -63,11 +72,11 @@ fn answer<S: Shelf, W: Sink>(
     words: &[String],
     shelf: &mut S,
     out: &mut W,
-) -> Result<u8, Stop>
+) -> Result<u8, OutsideErr>
     ensures ends { IfSome (effect_on (S.held shelf.old) (map string_bytes words.now))
         (λ effect. Ends result effect (outside (S.held shelf.old) (W.taken out.old)) (outside (S.held shelf.new) (W.taken out.new))) }
     ensures end { IfOk result IsEnd }
-    ensures causes { CausesTwo Stop.Failed result (S.Shelf.faults shelf.old) (S.Shelf.faults shelf.new) (W.Sink.faults out.old) (W.Sink.faults out.new) }
+    ensures causes { CausesTwo OutsideErr.Failed result (S.Shelf.faults shelf.old) (S.Shelf.faults shelf.new) (W.Sink.faults out.old) (W.Sink.faults out.new) }
 {
     let said = act(alloc, words, shelf)?;
     print(said.lines(), out)?;
@@ -84,12 +93,26 @@ pub fn run<S: Shelf, W: Sink>(alloc: Global, words: &[String], shelf: &mut S, ou
         (λ effect. (result ≡ 6) ⊎ (result ≡ 9)
         → Stopped effect (outside (S.held shelf.old) (W.taken out.old)) (outside (S.held shelf.new) (W.taken out.new))) }
 
-    // What status 0 of an `extract` means: the text is that of the bids which the files give, and it
-    // is put wherever they give any.
-    ensures extracted { IfSome (S.held shelf.old) (λ files. IfSome (extract_words (map string_bytes words.now))
-        (λ names. result ≡ 0 → Told (PutsExtraction files names) (W.taken out.old) (W.taken out.new))) }
-    ensures accepted { IfSome (S.held shelf.old) (λ files. IfSome (extract_words (map string_bytes words.now))
-        (λ names. BothAccepted files names → result ≢ 6 → result ≢ 9 → result ≡ 0)) }
+    // Status 0 of a `verify` is that the reply is accepted.
+    ensures verified { IfSome (S.held shelf.old) (λ files. IfSome (verify_words (map string_bytes words.now))
+        (λ names. IsVerified files names result)) }
+
+    // Of two replies that are accepted for different challenges, an `extract` puts the bids whose outcome
+    // the board publishes, or two openings of one commitment; and it puts such of no others.
+    ensures headline { IfSome (S.held shelf.old) (λ files. IfSome (extract_words (map string_bytes words.now))
+        (λ names. (accepted : AcceptsTwoFiles files names) → result ≢ 6 → result ≢ 9
+        → IsExtracted accepted.two result (W.taken out.old) (W.taken out.new))) }
+    ensures only { IfSome (S.held shelf.old) (λ files. IfSome (extract_words (map string_bytes words.now))
+        (λ names. (result ≡ 0) ⊎ (result ≡ 3) → AcceptsTwoFiles files names)) }
+
+    // Status 7 of an `extract` is that both are accepted and the challenges don't differ.
+    ensures same { IfSome (S.held shelf.old) (λ files. IfSome (extract_words (map string_bytes words.now))
+        (λ names. IsSame files names result)) }
+
+    // Status 0 of a `confront` is that the secret has the board's seal of its seat, and that the replies open just
+    // its halves. Where the seal is the secret's and they open another, two openings of one commitment are put.
+    ensures bound { IfSome (S.held shelf.old) (λ files. IfSome (confront_words (map string_bytes words.now))
+        (λ names. BindsSecret files names result (W.taken out.old) (W.taken out.new))) }
 
     // Status 6 comes exactly where a count rose in this call.
     ensures fault { result ≡ 6
@@ -99,7 +122,7 @@ pub fn run<S: Shelf, W: Sink>(alloc: Global, words: &[String], shelf: &mut S, ou
 {
     match answer(alloc, words, shelf, out) {
         Ok(status) => status,
-        Err(Stop::Failed) => 6,
-        Err(Stop::NoMemory) => 9,
+        Err(OutsideErr::Failed) => 6,
+        Err(OutsideErr::NoMemory) => 9,
     }
 }

@@ -1,19 +1,13 @@
 //! The top call: what the words of a command line do, over any shelf of files and any sink of text.
 #![tactic(auto)]
 
-mod acceptance;
-mod board;
-mod challenge;
 mod command;
+mod confront;
 mod extract;
-mod extraction;
-mod files;
-mod reader;
-mod refusal;
-mod reply;
+mod judged;
+mod report;
 mod said;
 mod seal;
-mod stop;
 mod usage;
 mod verify;
 mod words;

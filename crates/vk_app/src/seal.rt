@@ -10,11 +10,10 @@ ghost use Rattle.vk_app.specs.Words.{seal_seen, IsSealOrder};
 ghost use Rattle.vk_app.specs.Texts.{◌+++◌, line_feed};
 
 use crate::said::Said;
-use crate::stop::Stop;
 use crate::words::SealOrder;
 use std::alloc::Global;
 use vk_dice::ChaChaWords;
-use vk_io::{FileText, Shelf, write_files};
+use vk_io::{FileText, OutsideErr, Shelf, write_files};
 use vk_residue::NoMemory;
 use vk_seal::{Seal, SealErr, Secret, make_seal, seal_text, secret_text};
 use vk_seq::Seq;
@@ -133,10 +132,14 @@ fn make(alloc: Global, order: &SealOrder<'_>) -> Result<Sealing, NoMemory>
 }
 
 /// Makes a seal and its secret, and writes both.
-pub fn seal<S: Shelf>(alloc: Global, shelf: &mut S, order: &SealOrder<'_>) -> Result<Said, Stop>
+pub fn seal<S: Shelf>(
+    alloc: Global,
+    shelf: &mut S,
+    order: &SealOrder<'_>,
+) -> Result<Said, OutsideErr>
     requires { IsSealOrder (seal_seen order.now) }
     ensures acts { Acts result (seal_effect (seal_seen order.now)) (S.held shelf.old) (S.held shelf.new) }
-    ensures causes { Causes Stop.Failed result (S.Shelf.faults shelf.old) (S.Shelf.faults shelf.new) }
+    ensures causes { Causes OutsideErr.Failed result (S.Shelf.faults shelf.old) (S.Shelf.faults shelf.new) }
 {
     let made = make(alloc, order)?;
     write_files(alloc, shelf, &made.files)?;

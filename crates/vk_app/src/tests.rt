@@ -1,52 +1,56 @@
 use super::*;
 use std::alloc::{AllocError, Global};
-use std::process::Abort;
 use std::test::Fail;
-use vk_io::{MemShelf, MemSink, Shelf, ShelfErr};
+use vk_io::{MemShelf, MemSink, OutsideErr, Shelf};
 
-const BOARD: &str = "vickrey-board 0
+const BOARD: &str = "vickrey-board 1
 auction 000102030405060708090a0b0c0d0e0f
+width 1
 lanes 1
-seat 7
+seals 1
+winner 7
+price 0
+seal 7
+x 023dd1cc99177aec8e6b75b847227ff4a8dd6e2328310f0ffa91f2d60aecd426 774401009878493d88b3ad371899fe26d73791fadb6afe02ad901833daf73de4
 lane 1
-x 023dd1cc99177aec8e6b75b847227ff4a8dd6e2328310f0ffa91f2d60aecd426 7d27f5e5fa17020234fafc9b7235c84f4b92bb9abc754d2a12e18a0b24ec8e75
-w 3e081a820047b942fb53d64cc48e73072c8bab60338122a8b6cc7d2574478294 c5914c575cecb21a7d4884fbba3cb91424529f836890e5b3c8358d4e3cc6a53c
+w 3e081a820047b942fb53d64cc48e73072c8bab60338122a8b6cc7d2574478294 b66b11c7a3a9e463f7cc889a27081e01e290916f55650e641b6a2815af4d3a94
+w dcc34ee7a886c4a195cc136f37ec174e14e203f3f6cb45c6c0c8e9ab4b1a3736 88f52883e737aaed134b26aaf44218f208901120c18c8f715c4e7c2cc4641072
 d 2305843009213693944
+d 6
 end
 ";
 
-const FIRST_REPLY: &str = "vickrey-reply 0
+const FIRST_REPLY: &str = "vickrey-reply 1
 lanes 1
 lane 1
 h 1111111111111111111111111111111111111111111111111111111111111111 3
 h 3333333333333333333333333333333333333333333333333333333333333333 10
+a 5555555555555555555555555555555555555555555555555555555555555555 2305843009213693947 6666666666666666666666666666666666666666666666666666666666666666 2305843009213693948
 end
 ";
 
-const SECOND_REPLY: &str = "vickrey-reply 0
+const SECOND_REPLY: &str = "vickrey-reply 1
 lanes 1
 lane 1
-h 2222222222222222222222222222222222222222222222222222222222222222 2
-h 4444444444444444444444444444444444444444444444444444444444444444 2305843009213693946
+h 2222222222222222222222222222222222222222222222222222222222222222 2305843009213693948
+h 4444444444444444444444444444444444444444444444444444444444444444 2305843009213693941
+s 0 5555555555555555555555555555555555555555555555555555555555555555 2305843009213693947
 end
 ";
 
 const EXTRACTION: &str =
-    "lane 1 seat 7 bid 5 u 1111111111111111111111111111111111111111111111111111111111111111 3 v 2222222222222222222222222222222222222222222222222222222222222222 2
+    "lane 1 seat 7 bid 0 u 1111111111111111111111111111111111111111111111111111111111111111 3 v 2222222222222222222222222222222222222222222222222222222222222222 2305843009213693948
 winner 7 price 0
 seat 7 same
 end
 ";
 
-const NOT_ACCEPTED: &str = "not accepted
-";
-
-/// A shelf with the worked board, its two challenges and the replies to them.
-fn shelf_with(alloc: Global, board: &str, first_reply: &str) -> Result<MemShelf, Fail> {
+/// A shelf with the smallest board, its two challenges and the replies to them.
+fn smallest(alloc: Global) -> Result<MemShelf, Fail> {
     let mut shelf = MemShelf::new(alloc);
-    shelf.put_file("board", board.as_bytes())?;
+    shelf.put_file("board", BOARD.as_bytes())?;
     shelf.put_file("challenge-0", b"vickrey-challenge 1\nbits 0\nend\n")?;
-    shelf.put_file("reply-0", first_reply.as_bytes())?;
+    shelf.put_file("reply-0", FIRST_REPLY.as_bytes())?;
     shelf.put_file("challenge-1", b"vickrey-challenge 1\nbits 1\nend\n")?;
     shelf.put_file("reply-1", SECOND_REPLY.as_bytes())?;
     Ok(shelf)
@@ -60,28 +64,29 @@ fn words_of(alloc: Global, words: &[&str]) -> Result<Vec<String>, AllocError> {
     Ok(all)
 }
 
-const EXTRACT: [&str; 6] = [
-    "extract",
-    "board",
-    "challenge-0",
-    "reply-0",
-    "challenge-1",
-    "reply-1",
-];
+/// The words of an `extract` whose second challenge and reply these are.
+fn extract_words<'a>(challenge: &'a str, reply: &'a str) -> [&'a str; 6] {
+    [
+        "extract",
+        "board",
+        "challenge-0",
+        "reply-0",
+        challenge,
+        reply,
+    ]
+}
 
 #[test]
-fn status_and_text_of_worked_files(rt: HostRuntime) -> Result<(), Fail> {
-    let words = words_of(rt.alloc(), &EXTRACT)?;
+fn status_and_text_of_the_smallest_board(rt: HostRuntime) -> Result<(), Fail> {
     let table = [
-        (BOARD, FIRST_REPLY, 0, EXTRACTION),
-        // The bid's half has another value.
-        (BOARD, SECOND_REPLY, 1, NOT_ACCEPTED),
-        // A board of another version, and none.
-        (EXTRACTION, FIRST_REPLY, 1, NOT_ACCEPTED),
-        ("", FIRST_REPLY, 1, NOT_ACCEPTED),
+        ("challenge-1", "reply-1", 0, EXTRACTION),
+        ("challenge-0", "reply-0", 7, "same challenge\n"),
+        ("challenge-1", "reply-0", 4, "malformed reply-0 line 6\n"),
+        ("challenge-1", "reply-2", 5, "missing reply-2\n"),
     ];
-    for (board, first_reply, status, text) in table {
-        let mut shelf = shelf_with(rt.alloc(), board, first_reply)?;
+    for (challenge, reply, status, text) in table {
+        let words = words_of(rt.alloc(), &extract_words(challenge, reply))?;
+        let mut shelf = smallest(rt.alloc())?;
         let mut out = MemSink::new(rt.alloc());
         let answer = run(rt.alloc(), words.as_slice(), &mut shelf, &mut out);
         assert_eq!(rt; answer, status);
@@ -90,10 +95,48 @@ fn status_and_text_of_worked_files(rt: HostRuntime) -> Result<(), Fail> {
     Ok(())
 }
 
+const MISMATCH: &str =
+    "confront mismatch lane 1 half 0 kept 023dd1cc99177aec8e6b75b847227ff4a8dd6e2328310f0ffa91f2d60aecd426 made 4df8c20d372faa19f03963bfb91a29f106512d1418de63d4d9f4b22562e038a7
+";
+
+/// The status and the text of a `confront` with the secret of that seat and first key.
+fn confronted(alloc: Global, seat: u16, key: &str) -> Result<(u8, MemSink), Fail> {
+    let [_, board, challenge, reply, other, second] = extract_words("challenge-1", "reply-1");
+    let words = words_of(
+        alloc,
+        &["confront", board, challenge, reply, other, second, "secret"],
+    )?;
+    let secret = format!(in alloc;
+        "vickrey-secret 1\nauction 000102030405060708090a0b0c0d0e0f\nseat {seat}\nbid 0\nlanes 1\nx 3 {key} 2222222222222222222222222222222222222222222222222222222222222222\nend\n"
+    )?;
+    let mut shelf = smallest(alloc)?;
+    shelf.put_file("secret", secret.as_bytes())?;
+    let mut out = MemSink::new(alloc);
+    let status = run(alloc, words.as_slice(), &mut shelf, &mut out);
+    Ok((status, out))
+}
+
+#[test]
+fn a_secret_against_the_smallest_board(rt: HostRuntime) -> Result<(), Fail> {
+    let own = "1111111111111111111111111111111111111111111111111111111111111111";
+    let other = "7777777777777777777777777777777777777777777777777777777777777777";
+    let table = [
+        (7, own, 0, "held seat 7\n"),
+        (7, other, 8, MISMATCH),
+        (8, own, 8, "confront no seal 8\n"),
+    ];
+    for (seat, key, status, text) in table {
+        let (answer, out) = confronted(rt.alloc(), seat, key)?;
+        assert_eq!(rt; answer, status);
+        assert_eq!(rt; out.bytes(), text.as_bytes());
+    }
+    Ok(())
+}
+
 /// The status and the text of an `extract` whose shelf and sink fail at these calls, from 1; 0 for none.
 fn stopped(alloc: Global, shelf_call: u64, sink_call: u64) -> Result<(u8, MemSink), Fail> {
-    let words = words_of(alloc, &EXTRACT)?;
-    let mut shelf = shelf_with(alloc, BOARD, FIRST_REPLY)?;
+    let words = words_of(alloc, &extract_words("challenge-1", "reply-1"))?;
+    let mut shelf = smallest(alloc)?;
     let mut out = MemSink::new(alloc);
     shelf.fail_at(shelf_call)?;
     out.fail_at(sink_call)?;
@@ -117,13 +160,10 @@ fn a_failing_call_stops_with_a_prefix(rt: HostRuntime) -> Result<(), Fail> {
         );
         assert!(rt; out.bytes().len() < EXTRACTION.len(), "sink call {call}");
     }
-    let (status, out) = stopped(rt.alloc(), 11, 5)?;
-    assert_eq!(rt; status, 0);
-    assert_eq!(rt; out.bytes(), EXTRACTION.as_bytes());
     Ok(())
 }
 
-const FIRST_WORDS: [&str; 9] = [
+const SEAL_WORDS: [&str; 9] = [
     "seal",
     "82c225ed713705de399dba655bb75c8c",
     "7",
@@ -135,10 +175,10 @@ const FIRST_WORDS: [&str; 9] = [
     "b",
 ];
 
-const FIRST_LINE: &str = "sealed seat 7 lanes 2
+const SEAL_LINE: &str = "sealed seat 7 lanes 2
 ";
 
-const FIRST_SECRET: &str = "vickrey-secret 1
+const SECRET: &str = "vickrey-secret 1
 auction 82c225ed713705de399dba655bb75c8c
 seat 7
 bid 15
@@ -148,80 +188,12 @@ x 1470082618544223223 6a6f261a0ca494b383f41509a2b2908f582f01f9d07ebe9ee0b299e0fa
 end
 ";
 
-const FIRST_SEAL: &str = "vickrey-seal 1
+const SEAL: &str = "vickrey-seal 1
 auction 82c225ed713705de399dba655bb75c8c
 seat 7
 lanes 2
 x 1635c9814067ec2a58866d656b5ca0502f2fe0f2bf01a46023915ccc0fe40d42 d2f3850d1501cf8381a79ac79eaf4564b15aa27e3180791e5b706f0f526b8b0b
 x 6e639ca0fb67b4bb6734abb7208b29973327ef977c54d7befc15db6208c7538c 57fca8127e6ea2dd4712632fc9537615d997e294f26988899352fa27862fe03e
-end
-";
-
-const SECOND_WORDS: [&str; 9] = [
-    "seal",
-    "0f2e573ebe4da7d6bdc4908077d7628d",
-    "7",
-    "0",
-    "1",
-    "1",
-    "b6bc74291c11ff3e699e3bd275475dfe92ff3c3b0f3525d5e268658daf937e41",
-    "a",
-    "b",
-];
-
-const SECOND_LINE: &str = "sealed seat 7 lanes 1
-";
-
-const SECOND_SECRET: &str = "vickrey-secret 1
-auction 0f2e573ebe4da7d6bdc4908077d7628d
-seat 7
-bid 0
-lanes 1
-x 1536227386385706451 769c4eb7edb00a69c4363a87159b5a3cbdd569a899bdc8a68f4ba951235adec8 bb6a7c5323f1357a407318de87163ec96ff342ceb615d99352d8857e1609c660
-end
-";
-
-const SECOND_SEAL: &str = "vickrey-seal 1
-auction 0f2e573ebe4da7d6bdc4908077d7628d
-seat 7
-lanes 1
-x 52efb7f55b148f6e228296429df3357011834059942c42b7ca82bd8a8c9aa5f3 6b46dbaf383cac4707d70852d5dafc7a48ef9cd7894ab1f257dc916f5f93d022
-end
-";
-
-const THIRD_WORDS: [&str; 9] = [
-    "seal",
-    "456f015eb593f472eb4022c919451bcb",
-    "101",
-    "1",
-    "1",
-    "3",
-    "80332aed173a24db06251ac3813b10a6367f7b3114d1a7c39c3ba2c28c958b07",
-    "a",
-    "b",
-];
-
-const THIRD_LINE: &str = "sealed seat 101 lanes 3
-";
-
-const THIRD_SECRET: &str = "vickrey-secret 1
-auction 456f015eb593f472eb4022c919451bcb
-seat 101
-bid 1
-lanes 3
-x 1721965571360904845 708753c6a5a09202489e482d28672959d4c320d3466aed145016c78fc68df946 773ea0df550835178acb2d04638be78efca2f8d083232ed5693a1e62a18d989b
-x 2292240493654270685 5c086a7b2f0882cb300fb1b4a4c62d3677ec411265b4640dd20f7a22c06d5dec fd825a242428aa58b127ddd4cc4f953088c7ea9500a97efa3a51783f5d2ce82e
-x 1216475077654813362 1bb6c9b9d7132a489479791e25361269c98d0f96ab4a2b84d2b56286b8d06655 e874ae60143f051298e999a85a79caaeb6bf558b9767ba563f2e4cd8750c59f9
-end
-";
-
-const THIRD_SEAL: &str = "vickrey-seal 1
-auction 456f015eb593f472eb4022c919451bcb
-seat 101
-lanes 3
-x 58fd661171d16958edf24188fa7d323dab7b71bcc98611117f62809035337cae cdcb948fdd2b4248d319ae45db6ff64f44c5321e49ff012c5616634484c76a47
-x 44b48fcfb30138567bebb83b29cb2bc995f8839aae5cbeb85b04d8dd267e19e7 dd8a6e8af40a53218f9b796baf2ddfcd4eb0ac705294c4aa81010c7cd293664a
-x 172ffd43f89c9c9e8dc0d7b125fdd48e025143a0ffd1c01f49642e1046cb8f9e b3a28536a314757ec92b6028b55d512ae6043d3728f6628c60e720c27f5526fa
 end
 ";
 
@@ -253,55 +225,18 @@ const USAGE: &str =
     "usage: vickrey seal|announce|submit|prove|answer|show|verify|extract|confront|report|sample|ceremony
 ";
 
-/// Runs a `seal`, and compares what it prints and writes.
-fn check_seal(
-    rt: &impl Abort,
-    alloc: Global,
-    words: &[&str],
-    line: &str,
-    secret: &str,
-    seal: &str,
-) -> Result<(), Fail> {
-    let words = words_of(alloc, words)?;
-    let mut shelf = MemShelf::new(alloc);
-    let mut out = MemSink::new(alloc);
-    let status = run(alloc, words.as_slice(), &mut shelf, &mut out);
-    assert_eq!(rt; status, 0);
-    assert_eq!(rt; out.bytes(), line.as_bytes());
-    let written = shelf.file("a").ok_or("the secret is held")?;
-    assert_eq!(rt; written, secret.as_bytes());
-    let written = shelf.file("b").ok_or("the seal is held")?;
-    assert_eq!(rt; written, seal.as_bytes());
-    Ok(())
-}
-
 #[test]
-fn seals_are_written_as_elsewhere(rt: HostRuntime) -> Result<(), Fail> {
-    let alloc = rt.alloc();
-    check_seal(
-        &rt,
-        alloc,
-        &FIRST_WORDS,
-        FIRST_LINE,
-        FIRST_SECRET,
-        FIRST_SEAL,
-    )?;
-    check_seal(
-        &rt,
-        alloc,
-        &SECOND_WORDS,
-        SECOND_LINE,
-        SECOND_SECRET,
-        SECOND_SEAL,
-    )?;
-    check_seal(
-        &rt,
-        alloc,
-        &THIRD_WORDS,
-        THIRD_LINE,
-        THIRD_SECRET,
-        THIRD_SEAL,
-    )?;
+fn a_seal_is_written_as_elsewhere(rt: HostRuntime) -> Result<(), Fail> {
+    let words = words_of(rt.alloc(), &SEAL_WORDS)?;
+    let mut shelf = MemShelf::new(rt.alloc());
+    let mut out = MemSink::new(rt.alloc());
+    let status = run(rt.alloc(), words.as_slice(), &mut shelf, &mut out);
+    assert_eq!(rt; status, 0);
+    assert_eq!(rt; out.bytes(), SEAL_LINE.as_bytes());
+    let written = shelf.file("a").ok_or("the secret is held")?;
+    assert_eq!(rt; written, SECRET.as_bytes());
+    let written = shelf.file("b").ok_or("the seal is held")?;
+    assert_eq!(rt; written, SEAL.as_bytes());
     Ok(())
 }
 
@@ -330,19 +265,19 @@ impl Shelf for LongFiles {
 
     ghost faults = { λ _. 0 };
 
-    fn length(&mut self, _name: &str) -> Result<Option<u64>, ShelfErr> {
+    fn length(&mut self, _name: &str) -> Result<Option<u64>, OutsideErr> {
         Ok(Some(1073741825))
     }
 
-    fn read_at(&mut self, _name: &str, _at: u64, _into: &mut [u8]) -> Result<usize, ShelfErr> {
+    fn read_at(&mut self, _name: &str, _at: u64, _into: &mut [u8]) -> Result<usize, OutsideErr> {
         Ok(0)
     }
 
-    fn create(&mut self, _name: &str) -> Result<(), ShelfErr> {
+    fn create(&mut self, _name: &str) -> Result<(), OutsideErr> {
         Ok(())
     }
 
-    fn append(&mut self, _name: &str, _piece: &[u8]) -> Result<(), ShelfErr> {
+    fn append(&mut self, _name: &str, _piece: &[u8]) -> Result<(), OutsideErr> {
         Ok(())
     }
 }
@@ -354,23 +289,5 @@ fn a_file_that_is_too_long_is_named(rt: HostRuntime) -> Result<(), Fail> {
     let status = run(rt.alloc(), words.as_slice(), &mut LongFiles, &mut out);
     assert_eq!(rt; status, 4);
     assert_eq!(rt; out.bytes(), b"too long board\n".as_slice());
-    Ok(())
-}
-
-/// The status of a `verify` whose shelf fails at this call, from 1.
-fn stopped_verdict(alloc: Global, call: u64) -> Result<u8, Fail> {
-    let words = words_of(alloc, &["verify", "board", "challenge-0", "reply-0"])?;
-    let mut shelf = shelf_with(alloc, BOARD, FIRST_REPLY)?;
-    let mut out = MemSink::new(alloc);
-    shelf.fail_at(call)?;
-    let status = run(alloc, words.as_slice(), &mut shelf, &mut out);
-    Ok(status)
-}
-
-#[test]
-fn a_fault_in_a_verdict_is_no_verdict(rt: HostRuntime) -> Result<(), Fail> {
-    for call in 1..=3 {
-        assert_eq!(rt; stopped_verdict(rt.alloc(), call)?, 6, "shelf call {call}");
-    }
     Ok(())
 }

@@ -1,7 +1,7 @@
 //! The words of a command line.
 
-ghost use Rattle.std.specs.Prelude.{◌≡◌, ◌+◌, ◌<◌, ◌≤◌, [], length, map, option_map, string_bytes, slice_index_or, IfSome};
-ghost use Rattle.vk_app.specs.Words.{attempt_seen, extract_seen, verify_seen, is_name, name_at, attempt_words, names_in, extract_words, verify_in, verify_words, seal_seen, count_of, order_in, seal_words, IsSealOrder, command_seen, IsCommand, command_words};
+ghost use Rattle.std.specs.Prelude.{◌≡◌, ◌+◌, ◌<◌, ◌≤◌, [], IsTrue, length, map, option_map, string_bytes, slice_index_or, IfSome};
+ghost use Rattle.vk_app.specs.Words.{attempt_seen, extract_seen, verify_seen, confront_seen, is_form, is_name, name_at, attempt_words, names_in, verify_in, confront_in, seal_seen, count_of, order_in, IsSealOrder, command_seen, IsCommand, command_words};
 
 use vk_lines::{read_decimal, read_hex16, read_hex32};
 
@@ -28,6 +28,18 @@ fn word(words: &[String], place: usize) -> &str
     words[place].as_str()
 }
 
+/// Whether there are so many words, and this is the first.
+fn is_form(words: &[String], count: usize, first: &str) -> bool
+    requires { 0 < count }
+    ensures value { result ≡ is_form count first.now (map string_bytes words.now) }
+    ensures many { IsTrue result → length words.now ≡ count }
+{
+    if words.len() != count {
+        return false;
+    }
+    word(words, 0) == first
+}
+
 /// The name at that place, which has 1 to 255 bytes.
 fn name(words: &[String], place: usize) -> Option<&str>
     requires { place < length words.now }
@@ -51,10 +63,10 @@ fn attempt_names(words: &[String], place: usize) -> Option<AttemptNames<'_>>
     Some(AttemptNames { challenge, reply })
 }
 
-/// The names that six words give.
+/// The names that the second to the sixth word give.
 #[tactic(auto, unfolding(crate::specs::Words::names_in))]
 fn names_in(words: &[String]) -> Option<ExtractNames<'_>>
-    requires { length words.now ≡ 6 }
+    requires { 6 ≤ length words.now }
     ensures { option_map extract_seen result ≡ names_in (map string_bytes words.now) }
 {
     let board = name(words, 1)?;
@@ -65,17 +77,6 @@ fn names_in(words: &[String]) -> Option<ExtractNames<'_>>
         first,
         second,
     })
-}
-
-/// The names, where the words are `extract` and five names.
-#[tactic(auto, unfolding(crate::specs::Words::extract_words))]
-fn extract_names(words: &[String]) -> Option<ExtractNames<'_>>
-    ensures { option_map extract_seen result ≡ extract_words (map string_bytes words.now) }
-{
-    if words.len() != 6 || word(words, 0) != "extract" {
-        return None;
-    }
-    names_in(words)
 }
 
 /// The names of the files of `verify`.
@@ -96,15 +97,22 @@ fn verify_in(words: &[String]) -> Option<VerifyNames<'_>>
     Some(VerifyNames { board, attempt })
 }
 
-/// The names, where the words are `verify` and three names.
-#[tactic(auto, unfolding(crate::specs::Words::verify_words))]
-fn verify_names(words: &[String]) -> Option<VerifyNames<'_>>
-    ensures { option_map verify_seen result ≡ verify_words (map string_bytes words.now) }
+/// The names of the files of `confront`.
+#[derive(Clone, Copy, Debug)]
+pub struct ConfrontNames<'a> {
+    pub replies: ExtractNames<'a>,
+    pub secret: &'a str,
+}
+
+/// The names that seven words give.
+#[tactic(auto, unfolding(crate::specs::Words::confront_in))]
+fn confront_in(words: &[String]) -> Option<ConfrontNames<'_>>
+    requires { length words.now ≡ 7 }
+    ensures { option_map confront_seen result ≡ confront_in (map string_bytes words.now) }
 {
-    if words.len() != 4 || word(words, 0) != "verify" {
-        return None;
-    }
-    verify_in(words)
+    let replies = names_in(words)?;
+    let secret = name(words, 6)?;
+    Some(ConfrontNames { replies, secret })
 }
 
 /// What `seal` is to make, and the names of its files.
@@ -168,23 +176,14 @@ fn order_in(words: &[String]) -> Option<SealOrder<'_>>
     })
 }
 
-/// The order, where the words are `seal`, its numbers and two different names.
-#[tactic(auto, unfolding(crate::specs::Words::seal_words))]
-fn seal_order(words: &[String]) -> Option<SealOrder<'_>>
-    ensures value { option_map seal_seen result ≡ seal_words (map string_bytes words.now) }
-    ensures limits { IfSome result (λ order. IsSealOrder (seal_seen order)) }
-{
-    if words.len() != 9 || word(words, 0) != "seal" {
-        return None;
-    }
-    order_in(words)
-}
-
 /// A command.
 #[derive(Clone, Copy, Debug)]
 pub enum Command<'a> {
     Extract(ExtractNames<'a>),
     Verify(VerifyNames<'a>),
+    Confront(ConfrontNames<'a>),
+    /// The name of the board.
+    Report(&'a str),
     Seal(SealOrder<'a>),
 }
 
@@ -193,12 +192,25 @@ pub fn command_of(words: &[String]) -> Option<Command<'_>>
     ensures value { option_map command_seen result ≡ command_words (map string_bytes words.now) }
     ensures limits { IfSome result IsCommand }
 {
-    if let Some(names) = extract_names(words) {
+    if is_form(words, 6, "extract") {
+        let names = names_in(words)?;
         return Some(Command::Extract(names));
     }
-    if let Some(names) = verify_names(words) {
+    if is_form(words, 4, "verify") {
+        let names = verify_in(words)?;
         return Some(Command::Verify(names));
     }
-    let order = seal_order(words)?;
-    Some(Command::Seal(order))
+    if is_form(words, 7, "confront") {
+        let names = confront_in(words)?;
+        return Some(Command::Confront(names));
+    }
+    if is_form(words, 9, "seal") {
+        let order = order_in(words)?;
+        return Some(Command::Seal(order));
+    }
+    if is_form(words, 2, "report") {
+        let board = name(words, 1)?;
+        return Some(Command::Report(board));
+    }
+    None
 }

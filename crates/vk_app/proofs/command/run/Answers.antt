@@ -1,11 +1,25 @@
 use Rattle.std.proofs.Common.{map, string_bytes}
-use Rattle.vk_app.proofs.Headline.{ended_extracts, ended_accepted}
+use Rattle.vk_app.proofs.Headline.{Means, ended_means}
+use Rattle.vk_app.proofs.command.run.Given.{Over}
+use Rattle.vk_app.proofs.command.run.Goals.{In-Ok}
 use Rattle.vk_app.proofs.command.run.Goals as goal
 
-pub returns-in-Ok-clause-extracted : goal.returns-in-Ok-clause-extracted
-returns-in-Ok-clause-extracted g c =
-    ended_extracts (g.S.Shelf.held c.args.shelf.now) (g.S.Shelf.held c.answer.new.shelf) (map string_bytes c.args.words.now) c.in-Ok.status (g.W.Sink.taken c.args.out.now) (g.W.Sink.taken c.answer.new.out) c.in-Ok.ensures.ends
+-- what the status means at the end of the command
+means : (g : Over) (c : In-Ok g) → Means (g.S.Shelf.held c.args.shelf.now) (map string_bytes c.args.words.now) c.in-Ok.status (g.W.Sink.taken c.args.out.now) (g.W.Sink.taken c.answer.new.out)
+means g c =
+    ended_means (g.S.Shelf.held c.args.shelf.now) (g.S.Shelf.held c.answer.new.shelf) (map string_bytes c.args.words.now) c.in-Ok.status (g.W.Sink.taken c.args.out.now) (g.W.Sink.taken c.answer.new.out) c.in-Ok.ensures.ends
 
-pub returns-in-Ok-clause-accepted : goal.returns-in-Ok-clause-accepted
-returns-in-Ok-clause-accepted g c =
-    ended_accepted (g.S.Shelf.held c.args.shelf.now) (g.S.Shelf.held c.answer.new.shelf) (map string_bytes c.args.words.now) c.in-Ok.status (g.W.Sink.taken c.args.out.now) (g.W.Sink.taken c.answer.new.out) c.in-Ok.ensures.ends
+pub returns-in-Ok-clause-verified : goal.returns-in-Ok-clause-verified
+returns-in-Ok-clause-verified g c = (means g (goal.at.returns-in-Ok-clause-verified g c).In-Ok).verified
+
+pub returns-in-Ok-clause-headline : goal.returns-in-Ok-clause-headline
+returns-in-Ok-clause-headline g c = (means g (goal.at.returns-in-Ok-clause-headline g c).In-Ok).headline
+
+pub returns-in-Ok-clause-only : goal.returns-in-Ok-clause-only
+returns-in-Ok-clause-only g c = (means g (goal.at.returns-in-Ok-clause-only g c).In-Ok).only
+
+pub returns-in-Ok-clause-same : goal.returns-in-Ok-clause-same
+returns-in-Ok-clause-same g c = (means g (goal.at.returns-in-Ok-clause-same g c).In-Ok).same
+
+pub returns-in-Ok-clause-bound : goal.returns-in-Ok-clause-bound
+returns-in-Ok-clause-bound g c = (means g (goal.at.returns-in-Ok-clause-bound g c).In-Ok).bound
