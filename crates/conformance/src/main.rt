@@ -1,11 +1,17 @@
 //! Replays what independent implementations worked out: words and draws, wires, outcomes, which line of
 //! a changed file is the first that may not stand there, and runs of the whole program. What is printed is
 //! to be, byte for byte, what those implementations wrote.
+//!
+//! Behind them come honest auctions, whose files the library's own parts make and the program judges and
+//! extracts from, and whether a fault at each call of a command is told.
 #![tactic(auto)]
 
+mod auctions;
 mod bids;
 mod cases;
+mod faults;
 mod files;
+mod honest;
 mod lists;
 mod runs;
 mod streams;
@@ -100,6 +106,8 @@ fn replay_all<S: Shelf, W: Sink>(
     ] {
         replay(alloc, form, shelf, out)?;
     }
+    auctions::replay_auctions(alloc, out)?;
+    faults::replay_faults(alloc, shelf, out)?;
     Ok(())
 }
 

@@ -45,7 +45,7 @@ fn run_of(case: &[u8]) -> Result<Run<'_>, Unreplayed> {
 }
 
 /// The words of a part.
-fn words_of(alloc: Global, part: &[u8]) -> Result<Vec<String>, Unreplayed> {
+pub fn words_of(alloc: Global, part: &[u8]) -> Result<Vec<String>, Unreplayed> {
     let mut words = Vec::new(alloc);
     for word in part.split(|byte| *byte == b' ') {
         if !word.is_empty() {
@@ -61,7 +61,11 @@ fn text_of(alloc: Global, bytes: &[u8]) -> Result<String, Unreplayed> {
 }
 
 /// The files of a part, in memory. Each stands there as `NAME=FILE`.
-fn files_of<S: Shelf>(alloc: Global, shelf: &mut S, part: &[u8]) -> Result<MemShelf, Unreplayed> {
+pub fn files_of<S: Shelf>(
+    alloc: Global,
+    shelf: &mut S,
+    part: &[u8],
+) -> Result<MemShelf, Unreplayed> {
     let mut files = MemShelf::new(alloc);
     for word in part.split(|byte| *byte == b' ') {
         if !word.is_empty() {

@@ -1,6 +1,6 @@
 use std::alloc::{AllocError, AllocFailed};
 use thiserror::Error;
-use vk_io::{ShelfErr, SinkErr};
+use vk_io::OutsideErr;
 use vk_lines::{ReadErr, StartErr};
 use vk_residue::NoMemory;
 
@@ -17,20 +17,11 @@ pub enum Unreplayed {
     NoMemory,
 }
 
-impl From<ShelfErr> for Unreplayed {
-    fn from(refusal: ShelfErr) -> Unreplayed {
+impl From<OutsideErr> for Unreplayed {
+    fn from(refusal: OutsideErr) -> Unreplayed {
         match refusal {
-            ShelfErr::Failed => Unreplayed::Outside,
-            ShelfErr::NoMemory => Unreplayed::NoMemory,
-        }
-    }
-}
-
-impl From<SinkErr> for Unreplayed {
-    fn from(refusal: SinkErr) -> Unreplayed {
-        match refusal {
-            SinkErr::Failed => Unreplayed::Outside,
-            SinkErr::NoMemory => Unreplayed::NoMemory,
+            OutsideErr::Failed => Unreplayed::Outside,
+            OutsideErr::NoMemory => Unreplayed::NoMemory,
         }
     }
 }

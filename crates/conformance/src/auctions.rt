@@ -1,0 +1,265 @@
+// Honest auctions as files, judged and extracted from by the program.
+use crate::honest::{Asked, Honest, seat_at};
+use crate::runs::words_of;
+use crate::unreplayed::Unreplayed;
+use std::alloc::Global;
+use vk_app::run;
+use vk_io::{MemShelf, MemSink, PieceShelf, Sink};
+use vk_lines::{end_line, push_decimal, push_space};
+
+/// The bids of an auction, and the outcome that they are known to have.
+#[derive(Clone, Copy)]
+struct Auction {
+    bids: &'static [u64],
+    width: u32,
+    lanes: u16,
+    /// The place of the winner's seal, from 1.
+    position: u32,
+    price: u64,
+}
+
+/// The greatest bid of all, by as many as there may be.
+const MOST: [u64; 64] = [1099511627775; 64];
+
+const AUCTIONS: [Auction; 5] = [
+    Auction {
+        bids: &MOST,
+        width: 40,
+        lanes: 2,
+        position: 1,
+        price: 1099511627775,
+    },
+    Auction {
+        bids: &[7, 9, 9, 4],
+        width: 4,
+        lanes: 3,
+        position: 2,
+        price: 9,
+    },
+    Auction {
+        bids: &[1],
+        width: 1,
+        lanes: 64,
+        position: 1,
+        price: 0,
+    },
+    Auction {
+        bids: &[13, 250, 0, 255, 250],
+        width: 8,
+        lanes: 1,
+        position: 4,
+        price: 250,
+    },
+    Auction {
+        bids: &[255, 0, 255, 13, 1],
+        width: 8,
+        lanes: 2,
+        position: 1,
+        price: 255,
+    },
+];
+
+/// Makes each auction, and tells what its files come to.
+pub fn replay_auctions<W: Sink>(alloc: Global, out: &mut W) -> Result<(), Unreplayed> {
+    for auction in &AUCTIONS {
+        let text = auction_text(alloc, auction)?;
+        out.put(text.as_slice())?;
+    }
+    Ok(())
+}
+
+/// How large the auction's files are, and what the program says of them.
+fn auction_text(alloc: Global, auction: &Auction) -> Result<Vec<u8>, Unreplayed> {
+    let honest = Honest::of(alloc, auction.bids, auction.width, auction.lanes)?;
+    let mut shelf = PieceShelf::over(MemShelf::new(alloc));
+    honest.write(alloc, &mut shelf)?;
+    let mut text = Vec::new(alloc);
+    push_sizes(&mut text, auction, &honest, shelf.inner())?;
+    for asked in [Asked::Zeros, Asked::Ones, Asked::Last] {
+        push_verified(alloc, &mut text, &mut shelf, asked)?;
+    }
+    push_extracted(alloc, &mut text, &mut shelf, auction, Asked::Ones)?;
+    push_extracted(alloc, &mut text, &mut shelf, auction, Asked::Last)?;
+    Ok(text)
+}
+
+/// The counts of the auction, of its wires and rows in a lane, and of the lines of its files.
+fn push_sizes(
+    text: &mut Vec<u8>,
+    auction: &Auction,
+    honest: &Honest,
+    files: &MemShelf,
+) -> Result<(), Unreplayed> {
+    text.extend_from_slice(b"auction")?;
+    push_count(text, b"bids", auction.bids.len() as u64)?;
+    push_count(text, b"width", u64::from(auction.width))?;
+    push_count(text, b"lanes", u64::from(auction.lanes))?;
+    push_count(text, b"wires", u64::from(honest.wires))?;
+    push_count(text, b"rows", u64::from(honest.rows))?;
+    push_count(text, b"board", lines_in(files, "board"))?;
+    push_count(text, b"reply", lines_in(files, Asked::Zeros.reply()))?;
+    end_line(text)?;
+    Ok(())
+}
+
+/// A word and its number, each behind a space.
+fn push_count(text: &mut Vec<u8>, word: &[u8], number: u64) -> Result<(), Unreplayed> {
+    push_space(text)?;
+    text.extend_from_slice(word)?;
+    push_space(text)?;
+    push_decimal(text, number)?;
+    Ok(())
+}
+
+/// How many lines the named file has.
+fn lines_in(files: &MemShelf, name: &str) -> u64 {
+    let mut lines = 0u64;
+    for byte in files.file(name).unwrap_or(&[]) {
+        if *byte == b'\n' {
+            lines = lines.saturating_add(1);
+        }
+    }
+    lines
+}
+
+/// What `verify` says of the reply.
+fn push_verified(
+    alloc: Global,
+    text: &mut Vec<u8>,
+    shelf: &mut PieceShelf,
+    asked: Asked,
+) -> Result<(), Unreplayed> {
+    let challenge = asked.name();
+    let reply = asked.reply();
+    let line = format!(in alloc; "verify board {challenge} {reply}")?;
+    let out = push_run(alloc, text, shelf, line.as_bytes())?;
+    text.extend_from_slice(out.bytes())?;
+    Ok(())
+}
+
+/// The words of a command and its status. What it printed is handed on.
+fn push_run(
+    alloc: Global,
+    text: &mut Vec<u8>,
+    shelf: &mut PieceShelf,
+    line: &[u8],
+) -> Result<MemSink, Unreplayed> {
+    let words = words_of(alloc, line)?;
+    let mut out = MemSink::new(alloc);
+    let status = run(alloc, words.as_slice(), shelf, &mut out);
+    push_status(text, line, status)?;
+    Ok(out)
+}
+
+/// A command and its status.
+fn push_status(text: &mut Vec<u8>, words: &[u8], status: u8) -> Result<(), Unreplayed> {
+    text.extend_from_slice(words)?;
+    text.extend_from_slice(b" | ")?;
+    push_decimal(text, u64::from(status))?;
+    end_line(text)?;
+    Ok(())
+}
+
+/// What `extract` says of the reply to zeros and that to another challenge: its text without the
+/// openings, or, where this is as it has to be, that the bids are as given, the line of the
+/// winner, and that the bids of every seat are the same in all lanes.
+fn push_extracted(
+    alloc: Global,
+    text: &mut Vec<u8>,
+    shelf: &mut PieceShelf,
+    auction: &Auction,
+    asked: Asked,
+) -> Result<(), Unreplayed> {
+    let challenge = asked.name();
+    let reply = asked.reply();
+    let line = format!(in alloc; "extract board zeros reply-zeros {challenge} {reply}")?;
+    let out = push_run(alloc, text, shelf, line.as_bytes())?;
+    let said = without_openings(alloc, out.bytes())?;
+    let winner = winner_line(alloc, auction)?;
+    if said.as_slice() == expected(alloc, auction, asked)?.as_slice() {
+        text.extend_from_slice(b"bids as given\n")?;
+        text.extend_from_slice(winner.as_bytes())?;
+        text.extend_from_slice(b"all seats same\n")?;
+    } else {
+        text.extend_from_slice(said.as_slice())?;
+    }
+    Ok(())
+}
+
+/// The text of an extraction, each line as far as its openings.
+fn without_openings(alloc: Global, said: &[u8]) -> Result<Vec<u8>, Unreplayed> {
+    let mut text = Vec::new(alloc);
+    for line in said.split(|byte| *byte == b'\n') {
+        if !line.is_empty() {
+            push_before_openings(&mut text, line)?;
+        }
+    }
+    Ok(text)
+}
+
+/// The words of the line before `u`, behind which the openings stand.
+fn push_before_openings(text: &mut Vec<u8>, line: &[u8]) -> Result<(), Unreplayed> {
+    let mut begun = false;
+    for word in line.split(|byte| *byte == b' ') {
+        if word == b"u".as_slice() {
+            break;
+        }
+        if begun {
+            push_space(text)?;
+        }
+        text.extend_from_slice(word)?;
+        begun = true;
+    }
+    end_line(text)?;
+    Ok(())
+}
+
+/// What an extraction without its openings has to be: the bids of each lane where more than
+/// zeros is asked for, the outcome, and that each seat's bids are the same.
+fn expected(alloc: Global, auction: &Auction, asked: Asked) -> Result<Vec<u8>, Unreplayed> {
+    let mut text = Vec::new(alloc);
+    for lane in 1..=auction.lanes {
+        if asked.bit(u32::from(lane), u32::from(auction.lanes)) {
+            push_bids(alloc, &mut text, auction, lane)?;
+        }
+    }
+    let winner = winner_line(alloc, auction)?;
+    text.extend_from_slice(winner.as_bytes())?;
+    push_same(alloc, &mut text, auction)?;
+    text.extend_from_slice(b"end\n")?;
+    Ok(text)
+}
+
+/// The line of each bid in a lane.
+fn push_bids(
+    alloc: Global,
+    text: &mut Vec<u8>,
+    auction: &Auction,
+    lane: u16,
+) -> Result<(), Unreplayed> {
+    for (bid, position) in auction.bids.iter().zip(1u32..=64) {
+        let bid = *bid;
+        let seat = seat_at(position);
+        let line = format!(in alloc; "lane {lane} seat {seat} bid {bid}\n")?;
+        text.extend_from_slice(line.as_bytes())?;
+    }
+    Ok(())
+}
+
+/// The line of the outcome that is known.
+fn winner_line(alloc: Global, auction: &Auction) -> Result<String, Unreplayed> {
+    let seat = seat_at(auction.position);
+    let price = auction.price;
+    let line = format!(in alloc; "winner {seat} price {price}\n")?;
+    Ok(line)
+}
+
+/// The line of each seat whose bids are the same in all lanes.
+fn push_same(alloc: Global, text: &mut Vec<u8>, auction: &Auction) -> Result<(), Unreplayed> {
+    for (_bid, position) in auction.bids.iter().zip(1u32..=64) {
+        let seat = seat_at(position);
+        let line = format!(in alloc; "seat {seat} same\n")?;
+        text.extend_from_slice(line.as_bytes())?;
+    }
+    Ok(())
+}

@@ -1,0 +1,341 @@
+// An honest auction by the library's own parts, as files: its board, three challenges, and the replies to them.
+ghost use Rattle.std.specs.Prelude.{◌≡◌, ◌<◌, ◌≤◌, ◌^◌, All, IfOk, IfSome, length};
+ghost use Rattle.vk_plan.specs.Plans.{Holds};
+
+use crate::unreplayed::Unreplayed;
+use std::alloc::Global;
+use vk_board::{Head, LaneLines, SealLines, head_text, lane_text, seal_lines_text};
+use vk_dice::ChaChaWords;
+use vk_io::{PieceShelf, Shelf};
+use vk_plan::{Circuit, Plan};
+use vk_prover::{LaneTape, answer_lane, draw_tape, make_lane};
+use vk_reply::{Challenge, challenge_text, reply_head_text, reply_lane_text};
+use vk_residue::{NoMemory, Residue};
+use vk_seal::{Seal, Secret, make_seal};
+use vk_seq::Seq;
+use vk_vickrey::{VickreyPlan, outcome};
+use vk_wire::Shown;
+
+const ID: [u8; 16] = [0, 1, 2, 3, 4, 5, 6, 7, 8, 9, 10, 11, 12, 13, 14, 15];
+
+const AUCTIONEER: [u8; 32] = [0xa5; 32];
+
+const BIDDERS: [u8; 32] = [0x5a; 32];
+
+/// What is asked for in each lane.
+#[derive(Clone, Copy)]
+pub enum Asked {
+    /// The first halves.
+    Zeros,
+    /// The second halves.
+    Ones,
+    /// The second halves of the last lane, and the first ones of all others.
+    Last,
+}
+
+impl Asked {
+    /// The name of the challenge's file.
+    pub fn name(self) -> &'static str {
+        match self {
+            Asked::Zeros => "zeros",
+            Asked::Ones => "ones",
+            Asked::Last => "last",
+        }
+    }
+
+    /// The name of the reply's file.
+    pub fn reply(self) -> &'static str {
+        match self {
+            Asked::Zeros => "reply-zeros",
+            Asked::Ones => "reply-ones",
+            Asked::Last => "reply-last",
+        }
+    }
+
+    /// The bit of a lane, from 1.
+    pub fn bit(self, lane: u32, lanes: u32) -> bool {
+        match self {
+            Asked::Zeros => false,
+            Asked::Ones => true,
+            Asked::Last => lane == lanes,
+        }
+    }
+}
+
+/// The seat at a position, from 1: the last seat of all, then those before it.
+pub fn seat_at(position: u32) -> u16 {
+    u16::try_from(65536u32.saturating_sub(position)).unwrap_or(0)
+}
+
+/// What is published of a lane, and what is shown of it for each bit.
+#[derive(Drop)]
+struct HonestLane {
+    lines: LaneLines,
+    zeros: Seq<Shown>,
+    ones: Seq<Shown>,
+}
+
+/// An honest auction: what its board says, and the answer to each challenge.
+#[derive(Drop)]
+pub struct Honest {
+    head: Head,
+    /// How many wires a lane has.
+    pub wires: u32,
+    /// How many rows a lane has.
+    pub rows: u32,
+    seals: Vec<SealLines>,
+    lanes: Vec<HonestLane>,
+}
+
+impl Honest {
+    /// The auction of these bids, where they are within the limits.
+    pub fn of(alloc: Global, bids: &[u64], width: u32, lanes: u16) -> Result<Honest, Unreplayed> {
+        if bids.is_empty() || 64 < bids.len() || 40 < width {
+            return Err(Unreplayed::NoCase);
+        }
+        let (plan, values) = plan_of_bids(alloc, bids, width)?;
+        let (secrets, seals) = sealed_bids(alloc, bids, width, lanes)?;
+        let made = honest_lanes(alloc, &plan, values.as_slice(), secrets.as_slice(), lanes)?;
+        let won = outcome(bids);
+        let head = Head {
+            auction: ID,
+            width,
+            lanes: u32::from(lanes),
+            seals: plan.inputs(),
+            winner: seat_at(won.position),
+            price: won.price,
+        };
+        Ok(Honest {
+            head,
+            wires: plan.wires(),
+            rows: plan.rows(),
+            seals,
+            lanes: made,
+        })
+    }
+
+    /// Writes the board, and each challenge with its reply.
+    pub fn write(&self, alloc: Global, shelf: &mut PieceShelf) -> Result<(), Unreplayed> {
+        self.write_front(alloc, shelf)?;
+        self.write_lanes(alloc, shelf)?;
+        for asked in [Asked::Zeros, Asked::Ones, Asked::Last] {
+            self.write_challenge(alloc, shelf, asked)?;
+            self.write_reply(alloc, shelf, asked)?;
+        }
+        Ok(())
+    }
+
+    /// Writes the board's lines before its first lane.
+    fn write_front(&self, alloc: Global, shelf: &mut PieceShelf) -> Result<(), Unreplayed> {
+        shelf.create("board")?;
+        let text = head_text(alloc, &self.head)?;
+        shelf.append("board", text.as_slice())?;
+        for seal in &self.seals {
+            let text = seal_lines_text(alloc, seal)?;
+            shelf.append("board", text.as_slice())?;
+        }
+        Ok(())
+    }
+
+    /// Writes the board's lanes and its end.
+    fn write_lanes(&self, alloc: Global, shelf: &mut PieceShelf) -> Result<(), Unreplayed> {
+        for (lane, number) in self.lanes.iter().zip(1u32..=64) {
+            let text = lane_text(alloc, number, &lane.lines)?;
+            shelf.append("board", text.as_slice())?;
+        }
+        shelf.append("board", b"end\n")?;
+        Ok(())
+    }
+
+    fn write_challenge(
+        &self,
+        alloc: Global,
+        shelf: &mut PieceShelf,
+        asked: Asked,
+    ) -> Result<(), Unreplayed> {
+        let mut bits = Seq::new(alloc);
+        for (_lane, number) in self.lanes.iter().zip(1u32..=64) {
+            bits.push(asked.bit(number, self.head.lanes))?;
+        }
+        let text = challenge_text(alloc, &Challenge { bits })?;
+        shelf.create(asked.name())?;
+        shelf.append(asked.name(), text.as_slice())?;
+        Ok(())
+    }
+
+    fn write_reply(
+        &self,
+        alloc: Global,
+        shelf: &mut PieceShelf,
+        asked: Asked,
+    ) -> Result<(), Unreplayed> {
+        shelf.create(asked.reply())?;
+        let text = reply_head_text(alloc, self.head.lanes)?;
+        shelf.append(asked.reply(), text.as_slice())?;
+        for (lane, number) in self.lanes.iter().zip(1u32..=64) {
+            let shown = lane.shown(asked.bit(number, self.head.lanes));
+            let text = reply_lane_text(alloc, number, shown)?;
+            shelf.append(asked.reply(), text.as_slice())?;
+        }
+        shelf.append(asked.reply(), b"end\n")?;
+        Ok(())
+    }
+}
+
+impl HonestLane {
+    /// What is shown for the bit.
+    fn shown(&self, bit: bool) -> &[Shown] {
+        if bit {
+            self.ones.as_slice()
+        } else {
+            self.zeros.as_slice()
+        }
+    }
+}
+
+/// All lanes. The values hold for the plan.
+fn honest_lanes(
+    alloc: Global,
+    plan: &Plan,
+    values: &[Residue],
+    secrets: &[Secret],
+    lanes: u16,
+) -> Result<Vec<HonestLane>, Unreplayed>
+    requires { Holds plan.now values.now }
+{
+    let mut all = Vec::new(alloc);
+    for lane in 1..=lanes {
+        let tape = lane_tape(alloc, plan, secrets, lane)?;
+        all.push(honest_lane(alloc, plan, values, &tape, lane)?)?;
+    }
+    Ok(all)
+}
+
+/// One lane, from 1. The values hold for the plan.
+fn honest_lane(
+    alloc: Global,
+    plan: &Plan,
+    values: &[Residue],
+    tape: &LaneTape,
+    lane: u16,
+) -> Result<HonestLane, Unreplayed>
+    requires holds { Holds plan.now values.now }
+    requires one_each { length tape.now.wires ≡ length plan.now.kinds }
+{
+    let lines = make_lane(alloc, plan, &ID, lane, values, tape)?;
+    let zeros = answer_lane(alloc, plan, values, tape, false)?;
+    let ones = answer_lane(alloc, plan, values, tape, true)?;
+    Ok(HonestLane { lines, zeros, ones })
+}
+
+/// The tape of a lane, from 1: those of the bids in it, and what the auctioneer draws.
+fn lane_tape(
+    alloc: Global,
+    plan: &Plan,
+    secrets: &[Secret],
+    lane: u16,
+) -> Result<LaneTape, Unreplayed>
+    ensures { IfOk result (λ tape. length tape.wires ≡ length plan.now.kinds) }
+{
+    let mut given = Vec::new(alloc);
+    for secret in secrets {
+        let index = usize::from(lane.saturating_sub(1));
+        let tape = secret
+            .lanes
+            .as_slice()
+            .get(index)
+            .ok_or(Unreplayed::NoCase)?;
+        given.push(tape.wire())?;
+    }
+    if given.len() != plan.inputs() as usize {
+        return Err(Unreplayed::NoCase);
+    }
+    let mut words = ChaChaWords::of(&AUCTIONEER, &ID, u64::from(lane));
+    let tape = draw_tape(alloc, plan, given.as_slice(), &mut words).map_err(|_refused| {
+        Unreplayed::NoCase
+    })?;
+    Ok(tape)
+}
+
+/// What each bidder keeps and hands in.
+fn sealed_bids(
+    alloc: Global,
+    bids: &[u64],
+    width: u32,
+    lanes: u16,
+) -> Result<(Vec<Secret>, Vec<SealLines>), Unreplayed> {
+    let mut secrets = Vec::new(alloc);
+    let mut seals = Vec::new(alloc);
+    for (bid, position) in bids.iter().zip(1u32..=64) {
+        let (secret, seal) = sealed_bid(alloc, *bid, seat_at(position), width, u32::from(lanes))?;
+        secrets.push(secret)?;
+        seals.push(SealLines {
+            seat: seal.seat,
+            coms: seal.lanes,
+        })?;
+    }
+    Ok((secrets, seals))
+}
+
+/// What one bidder keeps and hands in.
+fn sealed_bid(
+    alloc: Global,
+    bid: u64,
+    seat: u16,
+    width: u32,
+    lanes: u32,
+) -> Result<(Secret, Seal), Unreplayed> {
+    if seat == 0 || width == 0 || 40 < width || lanes == 0 || 64 < lanes {
+        return Err(Unreplayed::NoCase);
+    }
+    let mut words = ChaChaWords::of(&BIDDERS, &ID, 65536 + u64::from(seat));
+    let made = make_seal(alloc, bid, seat, &ID, width, lanes, &mut words).map_err(|_refused| {
+        Unreplayed::NoCase
+    })?;
+    Ok(made)
+}
+
+/// The plan of the bids at their outcome, and the values that hold for it.
+fn plan_of_bids(alloc: Global, bids: &[u64], width: u32) -> Result<(Plan, Vec<Residue>), Unreplayed>
+    requires some { 1 ≤ length bids.now }
+    requires most { length bids.now ≤ 64 }
+    requires width { width ≤ 40 }
+    ensures { IfOk result (λ made. Holds made.0 made.1.items) }
+{
+    let inputs = residues(alloc, bids, width)?.ok_or(Unreplayed::NoCase)?;
+    let circuit = VickreyPlan::new(bids.len() as u32, width, outcome(bids)).ok_or(
+        Unreplayed::NoCase,
+    )?;
+    let made = plan_and_values(alloc, &circuit, inputs.as_slice())?;
+    Ok(made)
+}
+
+/// The plan of the circuit, and the values that hold for it.
+fn plan_and_values<C: Circuit>(
+    alloc: Global,
+    circuit: &C,
+    inputs: &[Residue],
+) -> Result<(Plan, Vec<Residue>), NoMemory>
+    requires { C.claim circuit.now inputs.now }
+    ensures { IfOk result (λ made. Holds made.0 made.1.items) }
+{
+    let plan = circuit.plan(alloc)?;
+    let values = circuit.fill(alloc, inputs)?;
+    Ok((plan, values))
+}
+
+/// The bids as residues. None where one is not of the width.
+fn residues(alloc: Global, bids: &[u64], width: u32) -> Result<Option<Vec<Residue>>, NoMemory>
+    requires { width ≤ 40 }
+    ensures same { IfOk result (λ made. IfSome made (λ inputs. inputs.items ≡ bids.now)) }
+    ensures within { IfOk result (λ made. IfSome made (λ inputs. All (λ bid. bid < 2 ^ width) bids.now)) }
+{
+    let mut inputs = Vec::new(alloc);
+    for bid in bids {
+        if *bid >= Residue::pow2(width).get() {
+            return Ok(None);
+        }
+        inputs.push(Residue::new(*bid).unwrap_or(Residue::ZERO))?;
+    }
+    Ok(Some(inputs))
+}
