@@ -8,7 +8,7 @@ mod place;
 mod tests;
 mod two_openings;
 
-pub use commitment::{commit, opens};
+pub use commitment::{commit, commit_four, opens, opens_made};
 pub use laws::{commitments_are_bytes, messages_tell_values_apart};
 pub use place::{Opening, Place};
 pub use two_openings::TwoOpenings;

@@ -1,6 +1,6 @@
 // Values from outside: a message written out by hand, and digests made by another program.
 use crate::commitment::message_of;
-use crate::{Opening, Place, TwoOpenings, commit, opens};
+use crate::{Opening, Place, TwoOpenings, commit, commit_four, opens};
 use sha2::{Digest, Sha256};
 use std::test::Fail;
 use vk_residue::Residue;
@@ -29,12 +29,42 @@ const DIGEST: [u8; 32] = [
     0x06, 0xae, 0x21, 0xb9, 0x72, 0xb4, 0x63, 0x01, 0xc8, 0x34, 0x98, 0xe8, 0x95, 0xdf, 0xb9, 0xe9,
 ];
 
+const AUCTION: [u8; 16] = [0, 1, 2, 3, 4, 5, 6, 7, 8, 9, 10, 11, 12, 13, 14, 15];
+
 const PLACE: Place = Place {
-    auction: [0, 1, 2, 3, 4, 5, 6, 7, 8, 9, 10, 11, 12, 13, 14, 15],
+    auction: AUCTION,
     seat: 7,
     lane: 1,
     slot: 0,
 };
+
+const FOUR: [[u8; 32]; 4] = [
+    DIGEST,
+    [
+        0xe9, 0xf8, 0x5a, 0x7c, 0x6a, 0x2d, 0x87, 0x7b, 0x9c, 0xe3, 0x50, 0xbb, 0xa2, 0x8c, 0x36,
+        0x4c, 0xe2, 0x54, 0x9c, 0xcb, 0x31, 0x0d, 0x54, 0x38, 0x15, 0x9e, 0x3f, 0x4e, 0xd6, 0xac,
+        0x21, 0x1e,
+    ],
+    [
+        0x02, 0xa2, 0x53, 0x2d, 0x67, 0xca, 0xe1, 0x76, 0x2d, 0xaa, 0xbe, 0xbc, 0xb9, 0x84, 0x48,
+        0x38, 0x6e, 0x57, 0x2d, 0x4b, 0x88, 0x7c, 0x5e, 0x48, 0x8e, 0x18, 0xa2, 0xe0, 0xe3, 0x02,
+        0xda, 0x81,
+    ],
+    [
+        0x4b, 0x5c, 0xdc, 0x17, 0xaf, 0x72, 0x34, 0x99, 0x03, 0x51, 0xf7, 0x20, 0x9e, 0x75, 0xf1,
+        0x61, 0x0f, 0xfd, 0x23, 0xcf, 0x75, 0x2a, 0xf5, 0x38, 0xf5, 0x2f, 0x5f, 0x0f, 0xd2, 0x2b,
+        0xe2, 0x29,
+    ],
+];
+
+fn at(seat: u16, lane: u16, slot: u32) -> Place {
+    Place {
+        auction: AUCTION,
+        seat,
+        lane,
+        slot,
+    }
+}
 
 fn opening(number: u64) -> Result<Opening, Fail> {
     let value = Residue::new(number).ok_or("not below the modulus")?;
@@ -56,6 +86,19 @@ fn a_commitment_is_the_digest_of_its_message(rt: HostRuntime) -> Result<(), Fail
     assert_eq!(rt; message_of(&PLACE, &five), MESSAGE);
     assert_eq!(rt; commit(&PLACE, &five), DIGEST);
     assert!(rt; opens(&PLACE, &DIGEST, &five));
+    Ok(())
+}
+
+#[test]
+fn four_commitments_are_those_of_each(rt: HostRuntime) -> Result<(), Fail> {
+    let places = [PLACE, at(7, 1, 1), at(0, 64, 20621), at(65535, 2, 40)];
+    let openings = [
+        opening(5)?,
+        opening(6)?,
+        opening(0)?,
+        opening(2305843009213693950)?,
+    ];
+    assert_eq!(rt; commit_four(&places, &openings), FOUR);
     Ok(())
 }
 

@@ -2,6 +2,8 @@
 ghost use Rattle.std.specs.Prelude.{◌≡◌, ◌<◌, ◌≤◌, [], drop, length, map, slice_index, slice_index_or, IfOk};
 ghost use Rattle.vk_plan.specs.Plans.{Holds};
 ghost use Rattle.vk_plan.specs.declared.wire.WireKind.TheVariants.{Split};
+ghost use Rattle.vk_wire.specs.Made.{made_com};
+ghost use Rattle.vk_wire.specs.Values.{CanBeMade};
 ghost use Rattle.vk_row.specs.Lanes.{no_row};
 ghost use Rattle.vk_prover.specs.Honest.{com_of, honest_lane, honest_reply, each_wire, masks, no_tape, posted_on, shown_of};
 
@@ -12,7 +14,7 @@ use vk_plan::Plan;
 use vk_residue::{NoMemory, Residue};
 use vk_row::posted;
 use vk_seq::Seq;
-use vk_wire::{Shown, WireCom, WireTape, make, show, wire_place};
+use vk_wire::{HonestWire, Shown, WireCom, WireTape, make, make_two, show, wire_place};
 
 /// What is published of the lane, counted from 1: the commitments to each wire after the inputs, and
 /// the posted number of each row. The values are those of all wires, and hold for the plan.
@@ -70,33 +72,49 @@ fn commit_wires(
         (λ coms. coms ≡ each_wire (com_of auction.now lane []) plan.now.inputs (drop plan.now.inputs plan.now.kinds)
         (drop plan.now.inputs values.now) (drop plan.now.inputs tape.now.wires)) }
 {
+    let inputs = plan.inputs();
+    let count = plan.wires() - inputs;
     let mut coms = Seq::new(alloc);
-    for wire in plan.inputs()..plan.wires() {
-        coms.push(commit_wire(plan, auction, lane, values, tape, wire))?;
+    for two in 0..count / 2 {
+        let wire = inputs + 2 * two;
+        let first = honest_wire(plan, auction, lane, values, tape, wire);
+        let second = honest_wire(plan, auction, lane, values, tape, wire + 1);
+        let (first, second) = make_two(&first, &second);
+        coms.push(first)?;
+        coms.push(second)?;
+    }
+    if count % 2 == 1 {
+        let last = honest_wire(plan, auction, lane, values, tape, plan.wires() - 1);
+        coms.push(make(last.kind, &last.place, last.value, &last.tape))?;
     }
     Ok(coms)
 }
 
-/// The commitments to one wire after the inputs.
-fn commit_wire(
+/// One wire after the inputs, to be made.
+fn honest_wire(
     plan: &Plan,
     auction: &[u8; 16],
     lane: u16,
     values: &[Residue],
     tape: &LaneTape,
     wire: u32,
-) -> WireCom
+) -> HonestWire
     requires holds { Holds plan.now values.now }
     requires one_each { length tape.now.wires ≡ length plan.now.kinds }
     requires wire { wire < length plan.now.kinds }
     requires few { length plan.now.kinds ≤ 16777216 }
-    ensures { result ≡ com_of auction.now lane [] wire (slice_index_or plan.now.kinds wire Split)
+    ensures can { CanBeMade result }
+    ensures coms { made_com result.kind result.place result.value result.tape
+        ≡ com_of auction.now lane [] wire (slice_index_or plan.now.kinds wire Split)
         (slice_index values.now wire) (slice_index_or tape.now.wires wire no_tape) }
 {
     let at = wire as usize;
-    let place = wire_place(auction, lane, &[], wire);
-    let wire_tape = &tape.wires.as_slice()[at];
-    make(plan.kind(wire), &place, values[at], wire_tape)
+    HonestWire {
+        kind: plan.kind(wire),
+        place: wire_place(auction, lane, &[], wire),
+        value: values[at],
+        tape: tape.wires.as_slice()[at],
+    }
 }
 
 /// What is shown of one wire.

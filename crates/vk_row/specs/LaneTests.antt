@@ -1,17 +1,19 @@
 -- What definitions compute of a lane: its halves, or its first fault.
-use Rattle.std.specs.Prelude.{ℕ, ◌+◌, Bool, List, [], ◌∷◌, ◌++◌, length, Option, Some, None, Result, Ok, Err, if◌then◌else◌}
+use Rattle.std.specs.Prelude.{◌≡◌, ℕ, ◌+◌, ◌<◌, Bool, List, [], ◌∷◌, ◌++◌, length, drop, slice_index_or, Option, Some, None, Result, Ok, Err, if◌then◌else◌}
 use Rattle.vk_plan.specs.Plans.{PlanValue}
 use Rattle.vk_plan.specs.declared.form.Form.{Form}
 use Rattle.vk_plan.specs.declared.wire.WireKind.{WireKind}
+use Rattle.vk_wire.specs.Opened.{opened_by}
 use Rattle.vk_wire.specs.Reads.{read_of}
 use Rattle.vk_wire.specs.declared.wire.WireCom.{WireCom}
+use Rattle.vk_wire.specs.declared.wire.Opened.{Opened}
 use Rattle.vk_wire.specs.declared.wire.Shown.{Shown}
 use Rattle.vk_wire.specs.declared.wire.WireFault.{WireFault}
 use Rattle.vk_row.specs.declared.case.LaneCase.{LaneCase}
 use Rattle.vk_row.specs.declared.case.LaneFault.{LaneFault}
 use Rattle.vk_row.specs.declared.case.LaneFault.TheVariants.{Wire, Row}
 use Rattle.vk_row.specs.Rows.{has_side}
-use Rattle.vk_row.specs.Lanes.{place_in}
+use Rattle.vk_row.specs.Lanes.{place_in, nothing_opened, nothing_shown}
 
 infixl 10 ◌>>=◌
 abbrev pub ◌>>=◌ : {A B E : Type 0} → Result A E → (A → Result B E) → Result B E
@@ -29,6 +31,18 @@ halves_from case bit halves (kind ∷ kinds) (digests ∷ coms) (shown ∷ other
   half ← at_wire (length halves) (read_of kind (place_in case (length halves)) digests shown bit)
   halves_from case bit (halves ++ half ∷ []) kinds coms others
 halves_from case bit halves _ _ _ = Ok halves
+
+-- the same, where those are all the wires after the halves
+abbrev pub halves_after : PlanValue → LaneCase → Bool → List Shown → List ℕ → Result (List ℕ) LaneFault
+halves_after plan case bit shown halves =
+    let wire = length halves in
+    halves_from case bit halves (drop wire plan.kinds) (drop wire case.coms) (drop wire shown)
+
+-- the digests are those of what four wires of the lane open, from that one on, as far as there are so many
+abbrev pub AreHashed : LaneCase → Bool → List Shown → ℕ → List Opened → Type 0
+AreHashed case bit shown from opened =
+    (k : ℕ) → k < 4 → from + k < length shown
+    → slice_index_or opened k nothing_opened ≡ opened_by (place_in case (from + k)) (slice_index_or shown (from + k) nothing_shown) bit
 
 -- the first row from that one on that the halves don't meet
 unfoldable pub first_false_row : Bool → List ℕ → ℕ → List Form → List ℕ → Option ℕ

@@ -7,6 +7,7 @@ use Rattle.vk_plan.specs.declared.wire.WireKind.TheVariants.{Split}
 use Rattle.vk_wire.specs.Places.{place_of_wire}
 use Rattle.vk_wire.specs.Reads.{Reads, HasFault}
 use Rattle.vk_wire.specs.declared.wire.WireCom.{WireCom}
+use Rattle.vk_wire.specs.declared.wire.Opened.{Opened}
 use Rattle.vk_wire.specs.declared.wire.Shown.{Shown}
 use Rattle.vk_wire.specs.declared.wire.Shown.TheVariants.{Half}
 use Rattle.vk_wire.specs.declared.wire.WireFault.{WireFault}
@@ -21,6 +22,9 @@ no_digests = record { first = []; second = [] }
 
 abbrev pub nothing_shown : Shown
 nothing_shown = Half (record { key = []; value = 0 })
+
+abbrev pub nothing_opened : Opened
+nothing_opened = record { first = []; last = [] }
 
 abbrev pub no_row : Form
 no_row = record { terms = []; constant = 0 }

@@ -1,19 +1,17 @@
 // The check of what is shown of a lane.
-ghost use Rattle.std.specs.Prelude.{◌≡◌, ◌⊎◌, ◌<◌, ◌++◌, [], ◌∷◌, length, slice_index, slice_index_or, IfOk, IfErr, OnOk, Ok, Err};
-ghost use Rattle.vk_plan.specs.Plans.{IsPlan};
-ghost use Rattle.vk_plan.specs.declared.wire.WireKind.TheVariants.{Split};
-ghost use Rattle.vk_wire.specs.Reads.{read_of};
-ghost use Rattle.vk_row.specs.Lanes.{HasCounts, IsAcceptedLane, HasLaneFault, place_in, no_digests, nothing_shown, no_row};
+ghost use Rattle.std.specs.Prelude.{◌≡◌, ◌⊎◌, ◌<◌, length, slice_index, slice_index_or, IfOk, IfErr, Ok, Err};
+ghost use Rattle.vk_row.specs.Lanes.{HasCounts, IsAcceptedLane, HasLaneFault, no_row};
 ghost use Rattle.vk_row.specs.Rows.{has_side};
-ghost use Rattle.vk_row.specs.LaneTests.{at_wire, halves_from, first_false_row, checked_lane};
+ghost use Rattle.vk_row.specs.LaneTests.{first_false_row, checked_lane};
 ghost use Rattle.vk_row.specs.declared.case.LaneFault.TheVariants.{NoMemory as OutOfMemory};
 
 use crate::case::{LaneCase, LaneFault};
 use crate::row::check;
+use crate::wires::read_wires;
 use std::alloc::Global;
 use vk_plan::Plan;
-use vk_residue::{NoMemory, Residue};
-use vk_wire::{Shown, read, wire_place};
+use vk_residue::Residue;
+use vk_wire::Shown;
 
 /// The halves of the wires of the lane, if each wire reads one and each row is met.
 ///
@@ -41,73 +39,6 @@ pub fn check_lane(
     match first_unmet_row(plan, case, bit, halves.as_slice()) {
         Some(row) => Err(LaneFault::Row { row }),
         None => Ok(halves),
-    }
-}
-
-/// The halves of all wires.
-#[tactic(auto, using(crate::proofs::Steps::halves_from_step), unfolding(crate::specs::LaneTests::halves_from))]
-fn read_wires(
-    alloc: Global,
-    plan: &Plan,
-    case: &LaneCase,
-    bit: bool,
-    shown: &[Shown],
-) -> Result<Vec<Residue>, LaneFault>
-    requires { HasCounts plan.now case.now shown.now }
-    ensures plan { IsPlan plan.now }
-    ensures one_each { IfOk result (λ halves. length halves.items ≡ length plan.now.kinds) }
-    ensures halves { IfOk result
-        (λ halves. halves_from case.now bit [] plan.now.kinds case.now.coms shown.now
-        ≡ Ok halves.items) }
-    ensures fault { IfErr result
-        (λ fault. (fault ≡ OutOfMemory)
-        ⊎ (halves_from case.now bit [] plan.now.kinds case.now.coms shown.now ≡ Err fault)) }
-{
-    let wires = plan.wires();
-    let mut halves = room_for(alloc, wires)?;
-    for wire in 0..wires {
-        let half = read_wire(plan, case, bit, shown, wire)?;
-        keep(&mut halves, half)?;
-    }
-    Ok(halves)
-}
-
-/// No halves yet, with room for so many.
-fn room_for(alloc: Global, wires: u32) -> Result<Vec<Residue>, NoMemory>
-    ensures { IfOk result (λ halves. halves.items ≡ []) }
-{
-    let halves = Vec::with_capacity(alloc, wires as usize)?;
-    Ok(halves)
-}
-
-fn keep(halves: &mut Vec<Residue>, half: Residue) -> Result<(), NoMemory>
-    ensures { OnOk result (halves.new.items ≡ halves.old.items ++ half ∷ []) }
-{
-    halves.push(half)?;
-    Ok(())
-}
-
-/// The half of one wire.
-fn read_wire(
-    plan: &Plan,
-    case: &LaneCase,
-    bit: bool,
-    shown: &[Shown],
-    wire: u32,
-) -> Result<Residue, LaneFault>
-    requires plan { IsPlan plan.now }
-    requires counts { HasCounts plan.now case.now shown.now }
-    requires wire { wire < length plan.now.kinds }
-    ensures { result ≡ at_wire wire (read_of
-        (slice_index_or plan.now.kinds wire Split) (place_in case.now wire)
-        (slice_index_or case.now.coms wire no_digests) (slice_index_or shown.now wire nothing_shown) bit) }
-{
-    let place = wire_place(&case.auction, case.lane, case.seats.as_slice(), wire);
-    let digests = &case.coms.as_slice()[wire as usize];
-    let shown = &shown[wire as usize];
-    match read(plan.kind(wire), &place, digests, shown, bit) {
-        Ok(half) => Ok(half),
-        Err(fault) => Err(LaneFault::Wire { wire, fault }),
     }
 }
 

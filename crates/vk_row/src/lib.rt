@@ -7,6 +7,7 @@ mod laws;
 mod row;
 #[cfg(test)]
 mod tests;
+mod wires;
 
 pub use case::{LaneCase, LaneFault};
 pub use lane::check_lane;

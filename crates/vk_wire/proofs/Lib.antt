@@ -1,1 +1,2 @@
+pub mod FourWires
 pub mod Readings

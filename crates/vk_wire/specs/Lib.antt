@@ -2,4 +2,5 @@ pub mod Places
 pub mod Values
 pub mod Made
 pub mod Reads
+pub mod Opened
 pub mod Laws

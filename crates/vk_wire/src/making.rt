@@ -2,10 +2,11 @@
 ghost use Rattle.std.specs.Prelude.{◌≡◌, ◌%◌};
 ghost use Rattle.vk_plan.specs.Plans.{HasWeight, MayHave};
 ghost use Rattle.vk_wire.specs.Made.{first_opening, second_opening, made_com, shown_wire};
+ghost use Rattle.vk_wire.specs.Values.{CanBeMade};
 
 use crate::place::place_of_entry;
-use crate::wire::{Shown, WireCom, WireTape};
-use vk_commit::{Opening, Place, commit};
+use crate::wire::{HonestWire, Shown, WireCom, WireTape};
+use vk_commit::{Opening, Place, commit, commit_four};
 use vk_plan::WireKind;
 use vk_residue::Residue;
 
@@ -25,6 +26,36 @@ pub fn make(kind: WireKind, place: &Place, value: Residue, tape: &WireTape) -> W
         first: commit(place, &first),
         second: commit(&next, &second),
     }
+}
+
+/// The commitments to the entries of two wires, hashed side by side.
+pub fn make_two(first: &HonestWire, second: &HonestWire) -> (WireCom, WireCom)
+    requires first { CanBeMade first.now }
+    requires second { CanBeMade second.now }
+    ensures first { result.0
+        ≡ made_com first.now.kind first.now.place first.now.value first.now.tape }
+    ensures second { result.1
+        ≡ made_com second.now.kind second.now.place second.now.value second.now.tape }
+{
+    let (a, b) = entries(first.kind, first.value, &first.tape);
+    let (c, d) = entries(second.kind, second.value, &second.tape);
+    let places = [
+        first.place,
+        place_of_entry(&first.place, true),
+        second.place,
+        place_of_entry(&second.place, true),
+    ];
+    let [a, b, c, d] = commit_four(&places, &[a, b, c, d]);
+    (
+        WireCom {
+            first: a,
+            second: b,
+        },
+        WireCom {
+            first: c,
+            second: d,
+        },
+    )
 }
 
 /// What is shown of the wire for the bit: of a split value the half that the bit names, of a pair both

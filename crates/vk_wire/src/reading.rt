@@ -1,13 +1,16 @@
 // What a shown wire reads.
-ghost use Rattle.std.specs.Prelude.{◌≡◌, ◌↔◌, ◌<◌, ◌%◌, Ok, Err, ℕ};
+ghost use Rattle.std.specs.Prelude.{◌≡◌, ◌↔◌, ◌<◌, ◌%◌, Ok, Err, ℕ, false};
 ghost use Rattle.vk_plan.specs.Plans.{HasWeight};
 ghost use Rattle.vk_residue.specs.Residue.{IsResidue};
+ghost use Rattle.vk_commit.specs.declared.place.Place.{Place};
+ghost use Rattle.vk_wire.specs.Opened.{entry_made, opened_by};
 ghost use Rattle.vk_wire.specs.Reads.{Reads, HasFault, read_of, entry_read, whole_read, set_read};
+ghost use Rattle.vk_wire.specs.declared.wire.Shown.TheVariants.{Whole};
 ghost use Rattle.vk_wire.specs.declared.wire.WireFault.{WireFault};
 
-use crate::place::place_of_entry;
-use crate::wire::{Shown, WireCom, WireFault};
-use vk_commit::{Opening, Place, opens};
+use crate::hashing::hash_opened;
+use crate::wire::{Opened, Shown, WireCom, WireFault};
+use vk_commit::{Opening, Place, opens_made};
 use vk_plan::WireKind;
 use vk_residue::Residue;
 
@@ -28,52 +31,55 @@ pub fn read(
         → (result ≡ Err f) ↔ HasFault kind place.now digests.now shown.now bit f }
     ensures computed { result ≡ read_of kind place.now digests.now shown.now bit }
 {
-    let half = read_formed(kind, place, digests, shown, bit);
+    let opened = hash_opened(place, shown, bit);
+    let half = read_opened(kind, digests, shown, bit, &opened);
     half
 }
 
-/// The half of a shown wire, or the first fault.
-fn read_formed(
+/// The same, with the digests of what the wire opens made before.
+#[tactic(auto, unfolding(crate::specs::Opened::opened_by))]
+pub fn read_opened(
     kind: WireKind,
-    place: &Place,
     digests: &WireCom,
     shown: &Shown,
     bit: bool,
+    opened: &Opened,
 ) -> Result<Residue, WireFault>
-    requires weight { HasWeight kind }
-    requires slot { place.now.slot % 2 ≡ 0 }
-    ensures { result ≡ read_of kind place.now digests.now shown.now bit }
+    requires { HasWeight kind }
+    ensures { (place : Place) → opened.now ≡ opened_by place shown.now bit
+        → result ≡ read_of kind place digests.now shown.now bit }
 {
     match (kind, bit, shown) {
-        (WireKind::Split, _, Shown::Half(opening)) => read_entry(place, digests, bit, opening),
+        (WireKind::Split, _, Shown::Half(opening)) => {
+            read_entry(digests, bit, opening, &opened.first)
+        }
         (WireKind::Pair(i), false, Shown::Whole(first, second)) => {
-            read_whole(i, place, digests, first, second)
+            read_whole(i, digests, first, second, opened)
         }
         (WireKind::Pair(_), true, Shown::Spent { second, opening }) => {
-            read_entry(place, digests, *second, opening)
+            read_entry(digests, *second, opening, &opened.first)
         }
         _ => Err(WireFault::Form),
     }
 }
 
-/// The value of the opening, if it opens the digest that `second` names.
+/// The value of the opening, if the digest that it makes is the one that `second` names.
 fn read_entry(
-    place: &Place,
     digests: &WireCom,
     second: bool,
     opening: &Opening,
+    made: &[u8; 32],
 ) -> Result<Residue, WireFault>
-    requires { place.now.slot % 2 ≡ 0 }
-    ensures computed { result ≡ entry_read place.now digests.now second opening.now }
+    ensures computed { (place : Place) → made.now ≡ entry_made place (second, opening.now)
+        → result ≡ entry_read place digests.now second opening.now }
     ensures residue { IsResidue opening.now.value }
 {
-    let at = place_of_entry(place, second);
     let digest = if second {
         digests.second
     } else {
         digests.first
     };
-    if opens(&at, &digest, opening) {
+    if opens_made(&digest, opening, made) {
         Ok(opening.value)
     } else {
         Err(WireFault::Digest { second })
@@ -81,19 +87,20 @@ fn read_entry(
 }
 
 /// The half that a pair of weight 2^i reads when it is opened whole.
+#[tactic(auto, unfolding(crate::specs::Opened::opened_by))]
 fn read_whole(
     i: u32,
-    place: &Place,
     digests: &WireCom,
     first: &Opening,
     second: &Opening,
+    opened: &Opened,
 ) -> Result<Residue, WireFault>
     requires weight { i < 61 }
-    requires slot { place.now.slot % 2 ≡ 0 }
-    ensures { result ≡ whole_read i place.now digests.now first.now second.now }
+    ensures { (place : Place) → opened.now ≡ opened_by place (Whole first.now second.now) false
+        → result ≡ whole_read i place digests.now first.now second.now }
 {
-    read_entry(place, digests, false, first)?;
-    read_entry(place, digests, true, second)?;
+    read_entry(digests, false, first, &opened.first)?;
+    read_entry(digests, true, second, &opened.last)?;
     read_set(i, first.value, second.value)
 }
 

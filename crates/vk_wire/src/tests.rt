@@ -2,7 +2,7 @@
 ghost use Rattle.std.specs.Prelude.{◌≡◌, ◌%◌, IsTrue};
 ghost use Rattle.vk_plan.specs.Plans.{HasWeight, MayHave};
 
-use crate::{Shown, WireCom, WireFault, WireTape, make, read, show, wire_place};
+use crate::{Opened, Shown, WireCom, WireFault, WireTape, hash_four, make, read, show, wire_place};
 use std::process::Abort;
 use std::test::Fail;
 use vk_commit::{Opening, Place, commit};
@@ -79,6 +79,61 @@ fn try_row(rt: &impl Abort, row: &Row) -> Result<(), Fail> {
 fn wires_made_elsewhere_are_made_and_shown_and_read_alike(rt: HostRuntime) -> Result<(), Fail> {
     for row in &WIRES {
         try_row(&rt, row)?;
+    }
+    Ok(())
+}
+
+/// The digests of what the wire opens for the bit.
+fn opened(row: &Row, bit: bool) -> Opened {
+    match (row.kind, bit) {
+        (WireKind::Pair(_), false) => Opened {
+            first: row.first_digest,
+            last: row.second_digest,
+        },
+        (WireKind::Split, false) => twice(row.first_digest),
+        (WireKind::Split, true) => twice(row.second_digest),
+        (WireKind::Pair(_), true) => twice(if row.spends_second {
+            row.second_digest
+        } else {
+            row.first_digest
+        }),
+    }
+}
+
+fn twice(digest: [u8; 32]) -> Opened {
+    Opened {
+        first: digest,
+        last: digest,
+    }
+}
+
+fn try_four(rt: &impl Abort, rows: &[Row; 4], bit: bool) -> Result<(), Fail> {
+    let [a, b, c, d] = rows;
+    assert!(rt; a.place.slot % 2 == 0 && b.place.slot % 2 == 0);
+    assert!(rt; c.place.slot % 2 == 0 && d.place.slot % 2 == 0);
+    let shown = [
+        expected(a, bit)?,
+        expected(b, bit)?,
+        expected(c, bit)?,
+        expected(d, bit)?,
+    ];
+    let hashed = hash_four(&[a.place, b.place, c.place, d.place], &shown, bit);
+    let want = [
+        opened(a, bit),
+        opened(b, bit),
+        opened(c, bit),
+        opened(d, bit),
+    ];
+    assert_eq!(rt; hashed, want);
+    Ok(())
+}
+
+#[test]
+fn four_wires_are_hashed_as_elsewhere(rt: HostRuntime) -> Result<(), Fail> {
+    let (rows, _) = WIRES.as_chunks::<4>();
+    for four in rows {
+        try_four(&rt, four, false)?;
+        try_four(&rt, four, true)?;
     }
     Ok(())
 }

@@ -1,6 +1,7 @@
 // The parts of a wire.
 
-use vk_commit::Opening;
+use vk_commit::{Opening, Place};
+use vk_plan::WireKind;
 use vk_residue::Residue;
 
 /// The commitments to the two entries of a wire.
@@ -20,6 +21,16 @@ pub struct WireTape {
     pub second_key: [u8; 32],
 }
 
+/// A wire that an honest prover makes: its kind, the place of its first commitment, its value, and the
+/// secret choices behind it.
+#[derive(Clone, Copy, Debug)]
+pub struct HonestWire {
+    pub kind: WireKind,
+    pub place: Place,
+    pub value: Residue,
+    pub tape: WireTape,
+}
+
 /// What is shown of a wire for a challenge bit.
 #[derive(Clone, Copy, Debug, PartialEq, Eq)]
 pub enum Shown {
@@ -29,6 +40,14 @@ pub enum Shown {
     Whole(Opening, Opening),
     /// The entry of a pair that is spent on the proof, for bit 1.
     Spent { second: bool, opening: Opening },
+}
+
+/// The digests that the openings of a shown wire make, of the first entry that it opens and of the
+/// last. A wire that opens one entry has its digest twice.
+#[derive(Clone, Copy, Debug, PartialEq, Eq)]
+pub struct Opened {
+    pub first: [u8; 32],
+    pub last: [u8; 32],
 }
 
 /// Why a shown wire reads nothing.

@@ -1,17 +1,40 @@
-use Rattle.std.proofs.Common.{◌≤◌, [], arith, drop, length}
+use Rattle.std.proofs.Common.{◌≡◌, ◌≤◌, ◌+◌, ◌-◌, ◌*◌, [], arith, drop, length, ◌∙◌}
 use Rattle.vk_prover.specs.Honest.{com_of, each_wire}
 use Rattle.vk_prover.proofs.Wires.{each_wire_turn, each_wire_done, inputs_within}
 use Rattle.vk_prover.proofs.honest.commit_wires.Goals as goal
+use Rattle.vk_prover.proofs.honest.commit_wires.Goals.{then-count-eq1+in_ok-push-3, else-count-eq1}
 
-pub loop-wire-preserved : goal.loop-wire-preserved
-loop-wire-preserved c =
-    each_wire_turn (com_of c.args.auction.now c.args.lane []) c.args.plan.now.kinds c.args.values.now c.args.tape.now.wires c.loop-wire.wire c.loop-wire.coms c.push.new.self c.commit_wire.result
-    (each_wire (com_of c.args.auction.now c.args.lane []) c.args.plan.now.inputs (drop c.args.plan.now.inputs c.args.plan.now.kinds) (drop c.args.plan.now.inputs c.args.values.now) (drop c.args.plan.now.inputs c.args.tape.now.wires))
-    (omega arith) c.requires.holds.one_each c.requires.one_each c.in_ok-push.ensures.pushed c.commit_wire.ensures c.loop-wire.invariant
+pub loop-two-preserved : goal.loop-two-preserved
+loop-two-preserved c =
+    let plan = c.args.plan.now in
+    let values = c.args.values.now in
+    let wires = c.args.tape.now.wires in
+    let made = com_of c.args.auction.now c.args.lane [] in
+    let whole = each_wire made plan.inputs (drop plan.inputs plan.kinds) (drop plan.inputs values) (drop plan.inputs wires) in
+    let w = c.inputs-inputs.result + 2 * c.loop-two.two in
+    let few : plan.inputs ≤ length plan.kinds = inputs_within plan c.inputs-inputs.ensures.plan in
+    let one = each_wire_turn made plan.kinds values wires w c.loop-two.coms c.push.new.self c.make_two.result.0 whole
+    (omega arith) c.requires.holds.one_each c.requires.one_each c.in_ok-push.ensures.pushed (c.make_two.ensures.first ∙ c.honest_wire-first.ensures.coms) c.loop-two.invariant in
+    let two = each_wire_turn made plan.kinds values wires (w + 1) c.push.new.self c.push-in-loop-two.new.self c.make_two.result.1 whole
+    (omega arith) c.requires.holds.one_each c.requires.one_each c.in_ok-push-2.ensures.pushed (c.make_two.ensures.second ∙ c.honest_wire-second.ensures.coms) one in
+    let next : w + 1 + 1 ≡ c.inputs-inputs.result + 2 * (c.loop-two.two + 1) = omega arith in
+    rw next at two
 
 pub returns : goal.returns
 returns c =
-    let few : c.args.plan.now.inputs ≤ length c.args.plan.now.kinds = inputs_within c.args.plan.now c.inputs-wire.ensures.plan in
-    each_wire_done (com_of c.args.auction.now c.args.lane []) c.args.plan.now.kinds c.args.values.now c.args.tape.now.wires c.loop-wire.wire c.loop-wire.coms
-    (each_wire (com_of c.args.auction.now c.args.lane []) c.args.plan.now.inputs (drop c.args.plan.now.inputs c.args.plan.now.kinds) (drop c.args.plan.now.inputs c.args.values.now) (drop c.args.plan.now.inputs c.args.tape.now.wires))
-    (omega arith) c.loop-wire.invariant
+    let plan = c.args.plan.now in
+    let values = c.args.values.now in
+    let wires = c.args.tape.now.wires in
+    let made = com_of c.args.auction.now c.args.lane [] in
+    let whole = each_wire made plan.inputs (drop plan.inputs plan.kinds) (drop plan.inputs values) (drop plan.inputs wires) in
+    let w = c.inputs-inputs.result + 2 * c.loop-two.two in
+    let few : plan.inputs ≤ length plan.kinds = inputs_within plan c.inputs-inputs.ensures.plan in
+    elim c.if-count-eq1.branch [
+      | then-count-eq1+in_ok-push-3 b ↦
+          let at : b.wires-then-count-eq1.result - 1 ≡ w = omega arith in
+          let last = each_wire_turn made plan.kinds values wires w c.loop-two.coms b.push-then-count-eq1.new.self b.make.result whole
+          (omega arith) c.requires.holds.one_each c.requires.one_each b.in_ok-push-3.ensures.pushed (b.make.ensures ∙ rw at at b.honest_wire-last.ensures.coms) c.loop-two.invariant in
+          b.coms-is ∙ each_wire_done made plan.kinds values wires (w + 1) b.push-then-count-eq1.new.self whole (omega arith) last
+      | else-count-eq1 b ↦
+          b.coms-is ∙ each_wire_done made plan.kinds values wires w c.loop-two.coms whole (omega arith) c.loop-two.invariant
+    ]

@@ -1,0 +1,2 @@
+pub mod PaddedMessages
+pub mod Lanes

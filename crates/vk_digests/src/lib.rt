@@ -1,0 +1,12 @@
+//! SHA-256 of messages of 68 bytes, four side by side.
+#![tactic(auto)]
+
+mod blocks;
+mod constants;
+mod hashing;
+mod rounds;
+#[cfg(test)]
+mod tests;
+mod words;
+
+pub use hashing::digests;
