@@ -1,6 +1,6 @@
 -- The auctions of a keeper in memory as they lie there: to write one at a place, or one more, is to
 -- change the ledger at its id.
-use Rattle.std.proofs.Common.{◌≡◌, ◌≢◌, ℕ, map, zero, suc, ◌+◌, ◌<◌, ◌≤◌, Bool, true, false, cond, List, [], ◌∷◌, ◌++◌, length, get_or, set, drop, Option, Some, None, refl, sym, ap, subst, ◌∙◌, arith}
+use Rattle.std.proofs.Common.{◌≡◌, ◌≢◌, ℕ, map, zero, suc, ◌+◌, ◌<◌, ◌≤◌, Bool, true, false, cond, List, [], ◌∷◌, ◌++◌, length, get_or, set, drop, Option, Some, None, IfSome, refl, sym, ap, subst, ◌∙◌, arith}
 use Rattle.std.specs.List.{All, AllPairs}
 use Rattle.std.specs.Str.{bytes_eq}
 use Rattle.std.specs.FinMap.{get, insert, get-empty, get-insert, same_map, from_entries, from_entries_push, get-from_entries}
@@ -9,11 +9,11 @@ use Rattle.std.proofs.lemmas.Map.Lookups.{exact_bytes}
 use Rattle.std.proofs.lemmas.Map.Text.{is_eq-slice_cmp}
 use Rattle.std.proofs.lemmas.Slice.Eq.{bytes_eq-Decides}
 use Rattle.std.proofs.lemmas.List.{at_drop_more, at_drop_all, map-append}
-use Rattle.std.proofs.lemmas.List.Elements.{All-push, All-set, All-map}
+use Rattle.std.proofs.lemmas.List.Elements.{All-head, All-tail, All-push, All-set, All-map}
 use Rattle.std.proofs.lemmas.List.Quantifiers.{all_pairs_push}
 use Rattle.vk_keeper.specs.declared.auction.Auction.{Auction}
 use Rattle.vk_keeper.specs.Auctions.{IsAuction}
-use Rattle.vk_keeper.specs.Ledgers.{Ledger}
+use Rattle.vk_keeper.specs.Ledgers.{Ledger, IsLedger, IsKeptUnder}
 use Rattle.vk_keeper.specs.Kept.{AreKept, ledger_in, entry_of, ids_of}
 
 -- what an id has after a change at another id or at this one
@@ -21,6 +21,24 @@ get_inserted : (ledger : Ledger) (id : List ℕ) (auction : Auction) (asked : Li
 get_inserted ledger id auction asked =
     get-insert nat_list_cmp_total ledger id auction asked
     ∙ ap (λ b. cond b (Some auction) (get ledger asked)) (is_eq-slice_cmp asked id)
+
+-- what an id has after a change stands under its own id, where that was so before
+under_its_id : (id : List ℕ) (auction : Auction) (found : Option Auction) (same : Bool) → bytes_eq id auction.id ≡ same → IsAuction auction → IfSome found (IsKeptUnder id) → IfSome (cond same (Some auction) found) (IsKeptUnder id)
+under_its_id id auction found true test right others = record { own = sym ((bytes_eq-Decides id auction.id).0 test); right = right }
+under_its_id id auction found false test right others = others
+
+-- a ledger stays one with an auction under its id
+pub ledger_with : (ledger : Ledger) (auction : Auction) → IsLedger ledger → IsAuction auction → IsLedger (insert ledger auction.id auction)
+ledger_with ledger auction kept right id =
+    subst (λ found. IfSome found (IsKeptUnder id)) (sym (get_inserted ledger auction.id auction id))
+    (under_its_id id auction (get ledger id) _ refl right (kept id))
+
+-- auctions are a ledger
+pub ledger_of : (auctions : List Auction) → All IsAuction auctions → IsLedger (ledger_in auctions)
+unfolding ledger_in
+ledger_of [] each id = subst (λ found. IfSome found (IsKeptUnder id)) (sym (get-empty _ id)) tt
+ledger_of (auction ∷ rest) each id =
+    ledger_with (ledger_in rest) auction (ledger_of rest (All-tail IsAuction auction rest each)) (All-head IsAuction auction rest each) id
 
 -- what the auctions from a place on have under an id: that auction, or what the rest has
 pub get-next : (auctions : List Auction) (i : ℕ) (auction : Auction) (id : List ℕ) (same : Bool) → i < length auctions → auction ≡ get_or auctions i auction → same ≡ bytes_eq id auction.id → get (ledger_in (drop i auctions)) id ≡ cond same (Some auction) (get (ledger_in (drop (i + 1) auctions)) id)

@@ -1,14 +1,13 @@
 -- An auction with one more seal, and in a later phase.
 use Rattle.std.proofs.Common.{◌≡◌, ◌≢◌, ℕ, ◌<◌, ◌≤◌, List, [], ◌∷◌, ◌++◌, length, length-append, Option, Some, None, IfSome, arith}
 use Rattle.std.specs.List.{All}
-use Rattle.std.proofs.lemmas.List.Elements.{All-nil, All-cons, All-push}
+use Rattle.std.proofs.lemmas.List.Elements.{All-push}
 use Rattle.std.proofs.lemmas.List.Quantifiers.{all_pairs_push}
 use Rattle.vk_commit.specs.Values.{AreBytes}
 use Rattle.vk_reply.specs.Values.{IsChallenge}
 use Rattle.vk_keeper.specs.declared.auction.SealRow.{SealRow}
 use Rattle.vk_keeper.specs.declared.auction.Auction.{Auction}
 use Rattle.vk_keeper.specs.declared.auction.Phase.{Phase}
-use Rattle.vk_keeper.specs.declared.auction.Phase.TheVariants.{Taking}
 use Rattle.vk_keeper.specs.Auctions.{IsAuction, IsSealRow, seed_of, challenge_of}
 
 one_seal : (seed : Option (List ℕ)) (count : ℕ) → 1 ≤ count → IfSome seed (λ _. 1 ≤ count)
@@ -31,18 +30,6 @@ with_row auction row is room right seat = record {
   challenge = is.challenge;
   bits = is.bits;
 }
-
--- three seals at the seats of the tests
-pub with_three : (id : List ℕ) (first second third : SealRow) → IsAuction (record { id = id; width = 8; lanes = 2; phase = Taking; seals = [] })
-    → IsSealRow id 8 2 first → IsSealRow id 8 2 second → IsSealRow id 8 2 third → first.seal.seat ≡ 7 → second.seal.seat ≡ 300 → third.seal.seat ≡ 65535
-    → IsAuction (record { id = id; width = 8; lanes = 2; phase = Taking; seals = first ∷ second ∷ third ∷ [] })
-with_three id first second third is first_is second_is third_is at_first at_second at_third =
-    let made : List SealRow → Auction = λ rows. record { id = id; width = 8; lanes = 2; phase = Taking; seals = rows } in
-    let P : SealRow → SealRow → Type 0 = λ row earlier. earlier.seal.seat ≢ row.seal.seat in
-    let one = with_row (made []) first is (omega arith) first_is (All-nil (P first)) in
-    let two = with_row (made (first ∷ [])) second one (omega arith) second_is (All-cons (P second) first [] (omega (arith, at_first, at_second)) (All-nil (P second))) in
-    with_row (made (first ∷ second ∷ [])) third two (omega arith) third_is
-    (All-cons (P third) first (second ∷ []) (omega (arith, at_first, at_third)) (All-cons (P third) second [] (omega (arith, at_second, at_third)) (All-nil (P third))))
 
 -- the same auction in a phase that has a seed, and perhaps a challenge
 pub in_phase : (auction : Auction) (phase : Phase) → IsAuction auction → 1 ≤ length auction.seals

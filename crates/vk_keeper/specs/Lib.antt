@@ -1,5 +1,7 @@
 pub mod Auctions
 pub mod Ledgers
+pub mod Turns
+pub mod Joining
 pub mod Kept
 pub mod Codes
 pub mod Memory

@@ -54,31 +54,21 @@ fn copy_rows(alloc: Global, rows: &[SealRow]) -> Result<Seq<SealRow>, NoMemory>
 fn copy_row(alloc: Global, row: &SealRow) -> Result<SealRow, NoMemory>
     ensures { IfOk result (λ copy. copy ≡ row.now) }
 {
-    let seal = copy_seal(alloc, &row.seal)?;
-    let secret = copy_secret(alloc, &row.secret)?;
-    Ok(SealRow { seal, secret })
-}
-
-fn copy_seal(alloc: Global, seal: &Seal) -> Result<Seal, NoMemory>
-    ensures { IfOk result (λ copy. copy ≡ seal.now) }
-{
-    let lanes = copy_items(alloc, seal.lanes.as_slice())?;
-    Ok(Seal {
-        auction: seal.auction,
-        seat: seal.seat,
-        lanes,
-    })
-}
-
-fn copy_secret(alloc: Global, secret: &Secret) -> Result<Secret, NoMemory>
-    ensures { IfOk result (λ copy. copy ≡ secret.now) }
-{
-    let lanes = copy_items(alloc, secret.lanes.as_slice())?;
-    Ok(Secret {
-        auction: secret.auction,
-        seat: secret.seat,
-        bid: secret.bid,
-        lanes,
+    let (seal, secret) = (&row.seal, &row.secret);
+    let coms = copy_items(alloc, seal.lanes.as_slice())?;
+    let tapes = copy_items(alloc, secret.lanes.as_slice())?;
+    Ok(SealRow {
+        seal: Seal {
+            auction: seal.auction,
+            seat: seal.seat,
+            lanes: coms,
+        },
+        secret: Secret {
+            auction: secret.auction,
+            seat: secret.seat,
+            bid: secret.bid,
+            lanes: tapes,
+        },
     })
 }
 

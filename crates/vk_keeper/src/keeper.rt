@@ -3,7 +3,8 @@ ghost use Rattle.std.specs.FinMap as map;
 ghost use Rattle.vk_io.specs.Faults.{Causes};
 ghost use Rattle.vk_io.specs.Files.{Told};
 ghost use Rattle.vk_keeper.specs.Auctions.{IsAuction};
-ghost use Rattle.vk_keeper.specs.Ledgers.{Ledger, Keeps};
+ghost use Rattle.vk_keeper.specs.Ledgers.{Ledger, IsLedger, Keeps};
+ghost use Rattle.vk_keeper.specs.Turns.{Turns, AfterGet, AfterPut};
 
 use crate::auction::Auction;
 use vk_io::OutsideErr;
@@ -17,18 +18,25 @@ pub trait Keeper {
     /// How many faults of the outside were met. It never falls.
     ghost faults: { Self → ℕ };
 
+    /// How many calls were made, and which of them was the last `get`.
+    ghost turns: { Self → Turns };
+
     /// The auction of that id. None where none is kept under it.
     fn get(&mut self, id: &[u8; 16]) -> Result<Option<Auction>, OutsideErr>
         ensures answer { IfSome (ledger self.old) (λ kept. IfOk result (λ found. found ≡ map.get kept id.now)) }
         ensures id { IfOk result (λ found. IfSome found (λ auction. auction.id ≡ id.now)) }
         ensures right { IfOk result (λ found. IfSome found IsAuction) }
+        ensures ledger { IfSome (ledger self.old) IsLedger }
         ensures kept { ledger self.new ≡ ledger self.old }
+        ensures turn { AfterGet (turns self.old) (turns self.new) }
         ensures causes { Causes OutsideErr.Failed result (faults self.old) (faults self.new) };
 
     /// Keeps the auction under its id, in place of the one that was kept there. Refused, the ledger is
     /// as before.
     fn put(&mut self, auction: Auction) -> Result<(), OutsideErr>
         requires { IsAuction auction }
+        ensures ledger { IfSome (ledger self.old) IsLedger }
         ensures put { Told (Keeps auction result) (ledger self.old) (ledger self.new) }
+        ensures turn { AfterPut (turns self.old) (turns self.new) }
         ensures causes { Causes OutsideErr.Failed result (faults self.old) (faults self.new) };
 }

@@ -2,10 +2,13 @@ ghost use Rattle.std.specs.Prelude.{◌≡◌, ◌++◌, ◌↔◌, [], ◌∷�
 ghost use Rattle.std.specs.FinMap as map;
 ghost use Rattle.vk_io.specs.Faults.{Causes, fails_next, after_call};
 ghost use Rattle.vk_keeper.specs.Auctions.{IsAuction};
+ghost use Rattle.vk_keeper.specs.Ledgers.{IsLedger};
+ghost use Rattle.vk_keeper.specs.Turns.{AfterGet, AfterPut};
 
 use crate::auction::Auction;
 use crate::keeper::Keeper;
 use crate::kept::{copy_of, keep};
+use crate::turns::TurnCount;
 use std::alloc::Global;
 use std::marker::Model;
 use vk_io::{CallCount, OutsideErr};
@@ -17,6 +20,7 @@ use vk_residue::NoMemory;
 pub struct MemKeeper {
     auctions: Vec<Auction>,
     calls: CallCount,
+    turns: TurnCount,
     alloc: Global,
 }
 
@@ -29,7 +33,7 @@ impl Model for MemKeeper {
 
     ghost use Rattle.vk_keeper.specs.Kept.{AreKept, ledger_in};
 
-    ghost view = { λ k. record { ledger = ledger_in k.auctions.items; calls = k.calls } };
+    ghost view = { λ k. record { ledger = ledger_in k.auctions.items; calls = k.calls; turns = k.turns } };
 
     ghost invariant = { λ k. AreKept k.auctions.items };
 }
@@ -38,11 +42,16 @@ impl MemKeeper {
     /// No auctions, and no call that is to fail. What is kept later is made with this allocator.
     #[tactic(auto, unfolding(crate::specs::Kept::ledger_in))]
     pub fn new(alloc: Global) -> MemKeeper
-        ensures { result ≡ record { ledger = map.empty; calls = record { made = 0; failing = []; faults = 0 } } }
+        ensures { result ≡ record {
+          ledger = map.empty;
+          calls = record { made = 0; failing = []; faults = 0 };
+          turns = record { calls = 0; last_get = 0 };
+        } }
     {
         MemKeeper {
             auctions: Vec::new(alloc),
             calls: CallCount::new(alloc),
+            turns: TurnCount::new(),
             alloc,
         }
     }
@@ -62,6 +71,7 @@ impl MemKeeper {
     fn begin(&mut self) -> Result<(), OutsideErr>
         ensures fails { IsErr result ↔ IsTrue (fails_next self.old.calls) }
         ensures outside { IfErr result (λ refusal. refusal ≡ OutsideErr.Failed) }
+        ensures ledger { IsLedger self.old.ledger }
         ensures counted { self.new ≡ record self.old { calls = after_call self.old.calls } }
         ensures causes { Causes OutsideErr.Failed result self.old.calls.faults self.new.calls.faults }
     {
@@ -79,15 +89,20 @@ impl Keeper for MemKeeper {
 
     ghost faults = { λ k. k.calls.faults };
 
+    ghost turns = { λ k. k.turns };
+
     fn get(&mut self, id: &[u8; 16]) -> Result<Option<Auction>, OutsideErr>
         ensures fails { IsErrOf result OutsideErr.Failed ↔ IsTrue (fails_next self.old.calls) }
         ensures answer { IfOk result (λ found. found ≡ map.get self.old.ledger id.now) }
         ensures id { IfOk result (λ found. IfSome found (λ auction. auction.id ≡ id.now)) }
         ensures right { IfOk result (λ found. IfSome found IsAuction) }
+        ensures ledger { IsLedger self.old.ledger }
         ensures kept { self.new.ledger ≡ self.old.ledger }
         ensures counted { self.new.calls ≡ after_call self.old.calls }
+        ensures turn { AfterGet self.old.turns self.new.turns }
         ensures causes { Causes OutsideErr.Failed result self.old.calls.faults self.new.calls.faults }
     {
+        self.turns.count_get();
         self.begin()?;
         let found = copy_of(self.alloc, &self.auctions, id)?;
         Ok(found)
@@ -96,11 +111,14 @@ impl Keeper for MemKeeper {
     fn put(&mut self, auction: Auction) -> Result<(), OutsideErr>
         requires { IsAuction auction }
         ensures fails { IsErrOf result OutsideErr.Failed ↔ IsTrue (fails_next self.old.calls) }
+        ensures ledger { IsLedger self.old.ledger }
         ensures put { OnOk result (self.new.ledger ≡ map.insert self.old.ledger auction.id auction) }
         ensures refused { OnErr result (self.new.ledger ≡ self.old.ledger) }
         ensures counted { self.new.calls ≡ after_call self.old.calls }
+        ensures turn { AfterPut self.old.turns self.new.turns }
         ensures causes { Causes OutsideErr.Failed result self.old.calls.faults self.new.calls.faults }
     {
+        self.turns.count_put();
         self.begin()?;
         keep(&mut self.auctions, auction)?;
         Ok(())

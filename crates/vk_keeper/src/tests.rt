@@ -1,6 +1,6 @@
-ghost use Rattle.std.specs.Prelude.{◌≡◌, ◌≤◌, [], length, IfOk};
+ghost use Rattle.std.specs.Prelude.{◌≡◌, ◌+◌, ◌≤◌, [], length, IfOk};
 ghost use Rattle.vk_reply.specs.Values.{IsChallenge};
-ghost use Rattle.vk_keeper.specs.Auctions.{IsAuction, IsSealRow};
+ghost use Rattle.vk_keeper.specs.Auctions.{IsAuction};
 
 use super::*;
 use std::alloc::Global;
@@ -81,18 +81,22 @@ fn challenge(alloc: Global) -> Result<Challenge, Fail>
     Ok(Challenge { bits })
 }
 
-/// The secret of a bid in an auction of two lanes, and its seal.
-fn row(alloc: Global, id: &[u8; 16], seat: u16, bid: u64) -> Result<SealRow, Fail>
+/// The auction with the seal of that bid, which may join.
+fn joined(alloc: Global, mut auction: Auction, seat: u16, bid: u64) -> Result<Auction, Fail>
+    requires auction { IsAuction auction }
     requires some_seat { 1 ≤ seat }
-    ensures row { IfOk result (IsSealRow id.now 8 2) }
-    ensures seat { IfOk result (λ row. row.seal.seat ≡ seat) }
+    ensures right { IfOk result IsAuction }
+    ensures seals { IfOk result (λ joined. length joined.seals ≡ length auction.seals + 1) }
+    ensures lanes { IfOk result (λ joined. joined.lanes ≡ auction.lanes) }
 {
-    let mut words = ChaChaWords::of(&SEED, id, 65536 + u64::from(seat));
-    let (secret, seal) = make_seal(alloc, bid, seat, id, 8, 2, &mut words)?;
-    if seal.auction != *id || seal.seat != seat || seal.lanes.len() != 2 || secret.bid >= 256 {
-        return Err(Fail::from("another seal"));
+    let mut words = ChaChaWords::of(&SEED, &auction.id, 65536 + u64::from(seat));
+    let (width, lanes) = (auction.width, auction.lanes);
+    let (secret, seal) = make_seal(alloc, bid, seat, &auction.id, width, lanes, &mut words)?;
+    if auction.refusal(&seal, &secret).is_some() {
+        return Err(Fail::from("refused"));
     }
-    Ok(SealRow { seal, secret })
+    auction.join(SealRow { seal, secret })?;
+    Ok(auction)
 }
 
 /// An auction of two lanes that takes seals and has three.
@@ -101,14 +105,10 @@ fn with_seals(alloc: Global, id: &[u8; 16]) -> Result<Auction, Fail>
     ensures seals { IfOk result (λ auction. length auction.seals ≡ 3) }
     ensures lanes { IfOk result (λ auction. auction.lanes ≡ 2) }
 {
-    let first = row(alloc, id, 7, 15)?;
-    let second = row(alloc, id, 300, 255)?;
-    let third = row(alloc, id, 65535, 0)?;
-    let mut auction = opened(alloc, id, 8);
-    auction.seals.push(first)?;
-    auction.seals.push(second)?;
-    auction.seals.push(third)?;
-    Ok(auction)
+    let first = joined(alloc, opened(alloc, id, 8), 7, 15)?;
+    let second = joined(alloc, first, 300, 255)?;
+    let third = joined(alloc, second, 65535, 0)?;
+    Ok(third)
 }
 
 /// The same once it is proved.

@@ -67,7 +67,7 @@ are_bits_is : (bits : List Bool) → 1 ≤ length bits → length bits ≤ 64 �
 are_bits_is bits some few =
     rw (length-map bits bit_character, le-leb 1 (length bits) some, le-leb (length bits) 64 few, bits_are bits) refl
 
-bits_token : IsToken 64 (λ bits. (1 ≤ length bits) × (length bits ≤ 64)) bits_text bits_of
+pub bits_token : IsToken 64 (λ bits. (1 ≤ length bits) × (length bits ≤ 64)) bits_text bits_of
 bits_token = record {
   found = λ bits is. rw (are_bits_is bits is.0 is.1) (ap Some (bits_back bits));
   shown = λ word bits some.

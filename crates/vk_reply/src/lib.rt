@@ -15,6 +15,7 @@ pub use laws::{
     reply_heads_are_read_from_their_texts_alone, reply_lanes_are_read_from_their_texts_alone,
 };
 pub use reading::{read_challenge, read_reply_head, read_reply_lane};
+pub use tokens::{bits_of, push_bits};
 pub use writing::{challenge_text, reply_head_text, reply_lane_text};
 
 #[cfg(test)]

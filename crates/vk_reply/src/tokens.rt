@@ -36,8 +36,9 @@ fn bits_field(text: &[u8]) -> Option<&[u8]>
     Some(field)
 }
 
-/// The bits that a text is, `None` where it isn't 1 to 64 of the characters `0` and `1`.
-fn bits_of(alloc: Global, text: &[u8]) -> Result<Option<Seq<bool>>, ReadErr>
+/// The bits that a text is, `None` where it isn't 1 to 64 of the characters `0` and `1`. Errs for want
+/// of memory alone.
+pub fn bits_of(alloc: Global, text: &[u8]) -> Result<Option<Seq<bool>>, ReadErr>
     ensures value { IfOk result (λ bits. bits ≡ bits_of text.now) }
     ensures memory { IfErr result (λ e. e ≡ ReadErr.NoMemory) }
 {
@@ -102,8 +103,8 @@ pub(crate) fn bit_character(bit: bool) -> u8
     if bit { b'1' } else { b'0' }
 }
 
-/// Appends the characters of bits.
-pub(crate) fn push_bits(out: &mut Vec<u8>, bits: &[bool]) -> Result<(), NoMemory>
+/// Appends the characters of bits. Errs for want of memory alone.
+pub fn push_bits(out: &mut Vec<u8>, bits: &[bool]) -> Result<(), NoMemory>
     ensures { OnOk result (out.new.items ≡ out.old.items ++ bits_text bits.now) }
 {
     for bit in bits {
