@@ -1,3 +1,4 @@
 pub mod Lanes
 pub mod Winner
 pub mod Meaning
+pub mod Samples

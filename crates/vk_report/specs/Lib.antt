@@ -1,3 +1,4 @@
 pub mod Causes
 pub mod Reports
 pub mod Meaning
+pub mod Samples

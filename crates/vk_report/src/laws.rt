@@ -1,9 +1,17 @@
-//! What a report means.
+//! What a report means, and what every sample has.
 
+ghost use Rattle.std.specs.Prelude.{ℕ};
 ghost use Rattle.vk_report.specs.Meaning.{ReportedExactly};
+ghost use Rattle.vk_report.specs.Samples.{IsSampleCase, sample_of};
 
 /// A law: a file is reported on exactly where it is the text of a board whose price and winner may stand,
 /// and the report says what that board publishes.
 pub fn a_file_is_reported_on_where_it_is_a_board()
     ensures { ReportedExactly }
+{}
+
+/// A law: the sample of each number has an id and a seed; 20 seals of different seats, each with its bidder's
+/// seed and a bid below 2^32; and two challenges of 40 bits that differ in each.
+pub fn each_number_has_a_sample()
+    ensures { (number : ℕ) → IsSampleCase (sample_of number) }
 {}

@@ -1,14 +1,16 @@
-//! What a board publishes, as a report that is made with its whole file read.
+//! What a board publishes, as a report that is made with its whole file read; and the sample of a number.
 #![tactic(auto)]
 
 mod laws;
 mod reading;
 mod report;
+mod sample;
 mod writing;
 
-pub use laws::a_file_is_reported_on_where_it_is_a_board;
+pub use laws::{a_file_is_reported_on_where_it_is_a_board, each_number_has_a_sample};
 pub use reading::read_report;
 pub use report::{Report, ReportErr};
+pub use sample::{LANES, SEALS, SampleCase, WIDTH, sample_case};
 pub use writing::{report_lines, report_text};
 
 #[cfg(test)]

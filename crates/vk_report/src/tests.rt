@@ -1,8 +1,10 @@
-// The report of the smallest board, and the faults of boards that are refused.
-use crate::{ReportErr, read_report, report_text};
+// The report of the smallest board, the faults of boards that are refused, and samples.
+use crate::{ReportErr, read_report, report_text, sample_case};
 use std::alloc::Global;
 use std::test::Fail;
 use vk_io::{MemShelf, OutsideErr, Shelf};
+use vk_reply::challenge_text;
+use vk_vickrey::outcome;
 
 /// A shelf whose every file has a length and no bytes.
 #[derive(Drop)]
@@ -144,5 +146,71 @@ fn a_missing_board_and_a_failure_are_told_apart(rt: HostRuntime) -> Result<(), F
     shelf.fail_at(3)?;
     let failed = read_report(alloc, &mut shelf, "board").err();
     assert_eq!(rt; failed, Some(ReportErr::Failed));
+    Ok(())
+}
+
+// The values of the three tests below were worked out by another implementation of SHA-256.
+
+#[test]
+fn a_sample_has_an_id_and_seeds(rt: HostRuntime) -> Result<(), Fail> {
+    let alloc = rt.alloc();
+    let sample = sample_case(alloc, 1)?;
+    let id = hex::encode(alloc, sample.auction.as_slice())?;
+    assert_eq!(rt; id.as_str(), "398da8b0a75945c2f668465e655e7ec1");
+    let seed = hex::encode(alloc, sample.seed.as_slice())?;
+    assert_eq!(rt;
+        seed.as_str(),
+        "6f7902cdb696924880db199bbe5a06f10647b212b6f53cf7b822fece258c8069"
+    );
+    for (index, expected) in [
+        (
+            0,
+            "ad2c7abc0aa2aaadf0507508fdf206139feb778fbf4547d8c50feebcca15cc9e",
+        ),
+        (
+            1,
+            "912fd89e71d735483c95203ba28f606c7b6bf55e4b2195808566014380bbebe8",
+        ),
+        (
+            19,
+            "74846e50bf653276db9863deda6d7c768892a62c3f35613d0ce19321577cbec7",
+        ),
+    ] {
+        let seed = hex::encode(alloc, sample.seeds.as_slice()[index].as_slice())?;
+        assert_eq!(rt; seed.as_str(), expected);
+    }
+    Ok(())
+}
+
+#[test]
+fn the_challenges_of_a_sample_differ_in_each_bit(rt: HostRuntime) -> Result<(), Fail> {
+    let alloc = rt.alloc();
+    let sample = sample_case(alloc, 1)?;
+    let first = challenge_text(alloc, &sample.first)?;
+    assert_eq!(rt;
+        first.as_slice(),
+        b"vickrey-challenge 1\nbits 1100000100110010101100000011101110100100\nend\n".as_slice()
+    );
+    let second = challenge_text(alloc, &sample.second)?;
+    assert_eq!(rt;
+        second.as_slice(),
+        b"vickrey-challenge 1\nbits 0011111011001101010011111100010001011011\nend\n".as_slice()
+    );
+    Ok(())
+}
+
+#[test]
+fn the_bids_of_samples_have_these_outcomes(rt: HostRuntime) -> Result<(), Fail> {
+    for (number, winner, price) in [
+        (1, 102, 3906057492),
+        (2, 109, 3969951427),
+        (u64::MAX, 108, 4054728114),
+    ] {
+        let sample = sample_case(rt.alloc(), number)?;
+        let made = outcome(sample.bids.as_slice());
+        assert_eq!(rt; made.price, price);
+        let seat = sample.seats.as_slice()[made.position as usize - 1];
+        assert_eq!(rt; seat, winner);
+    }
     Ok(())
 }
