@@ -1,0 +1,10 @@
+pub mod Fronts
+pub mod Seals
+pub mod Tapes
+pub mod Cases
+pub mod Accepted
+pub mod Differing
+pub mod Opened
+pub mod Extracted
+pub mod Counted
+pub mod Sizes

@@ -1,0 +1,143 @@
+-- The tape of each lane of an auction that is proved is a tape for its plan.
+use Rattle.std.proofs.Common.{◌≡◌, ℕ, zero, suc, ◌+◌, ◌-◌, ◌<◌, ◌≤◌, All, List, [], ◌∷◌, ◌++◌, length, Option, Some, None, Result, Ok, refl, sym, ap, ◌∙◌, subst, arith, inl, inr}
+use Rattle.std.specs.Prelude.{slice_index, option_map}
+use Rattle.std.specs.Int.{w64, bytes_high_first, byte_at, to_be_bytes}
+use Rattle.std.proofs.lemmas.Bool.{cases_lt}
+use Rattle.std.proofs.lemmas.Bool.Decides.{nat_tests}
+use Rattle.std.proofs.lemmas.List.{get_or_past, length-map, length_push}
+use Rattle.std.proofs.lemmas.List.Elements.{All-nil, All-cons, All-append, All-push, All-map, All-weaker, All-from_recursion}
+use Rattle.vk_residue.specs.Residue.{IsResidue}
+use Rattle.vk_commit.specs.Values.{AreBytes}
+use Rattle.vk_dice.specs.Words.{later}
+use Rattle.vk_dice.specs.Draws.{drawn_by, first_of, residue_within, drawn_residue, after_residue, drawn_bit, drawn_key}
+use Rattle.vk_dice.specs.Stream.{word_at}
+use Rattle.vk_wire.specs.Values.{IsTape}
+use Rattle.vk_wire.specs.declared.wire.WireTape.{WireTape}
+use Rattle.vk_seal.specs.Made.{seal_of}
+use Rattle.vk_seal.specs.Values.{IsXTape, wire_tape}
+use Rattle.vk_seal.proofs.SealsMatch.{match_exact}
+use Rattle.vk_seal.proofs.Tapes.{length-lane_coms}
+use Rattle.vk_extractor.specs.Confronting.{no_tape, tape_in}
+use Rattle.vk_vickrey.specs.VickreyPlans.{vickrey_plan}
+use Rattle.vk_prover.specs.Drawn.{drawn_tape, wires_after, drawn_wire, after_wire}
+use Rattle.vk_prover.specs.Laws.{IsTapeOf}
+use Rattle.vk_prover.proofs.Wires.{inputs_within}
+use Rattle.vk_keeper.specs.declared.auction.Auction.{Auction}
+use Rattle.vk_keeper.specs.declared.auction.SealRow.{SealRow}
+use Rattle.vk_keeper.specs.Auctions.{IsAuction, IsSealRow}
+use Rattle.vk_job.specs.Jobs.{plan_of, given_tapes, tape_of, seed_in, IsProvedAuction, tape_or_none, lane_tape}
+use Rattle.vk_job.proofs.Dry.{tapes_of_none}
+use Rattle.vk_job.proofs.Held.{plan_is, has_seal}
+
+-- ---- what is drawn of words
+
+bytes_of_word : (count n : ℕ) → All (λ byte. byte < 256) (bytes_high_first count n)
+bytes_of_word zero n = All-nil (λ byte. byte < 256)
+bytes_of_word (suc count) n = All-cons (λ byte. byte < 256) (byte_at count n) (bytes_high_first count n) (one count) (bytes_of_word count n)
+  where
+    one : (i : ℕ) → byte_at i n < 256
+    one zero = omega arith
+    one (suc i) = omega arith
+
+below_everywhere : (bytes : List ℕ) → All (λ byte. byte < 256) bytes → (i : ℕ) → slice_index bytes i < 256
+below_everywhere bytes all i =
+    elim (cases_lt i (length bytes)) [
+      | inl within ↦ all i 0 within
+      | inr past ↦ omega (arith, get_or_past bytes i 0 past)
+    ]
+
+key_is_bytes : (ahead : ℕ → ℕ) → AreBytes 32 (drawn_key ahead)
+key_is_bytes ahead =
+    let below : ℕ → Type 0 = λ byte. byte < 256 in
+    let word = λ (k : ℕ). to_be_bytes w64 (ahead k) in
+    let are = λ (k : ℕ). bytes_of_word 8 (ahead k) in
+    let front = All-append below (word 0) (word 1) (are 0) (are 1) in
+    let back = All-append below (word 2) (word 3) (are 2) (are 3) in
+    (refl, below_everywhere (drawn_key ahead) (All-append below (word 0 ++ word 1) (word 2 ++ word 3) front back))
+
+word_is_residue : (word r : ℕ) → drawn_by word ≡ Some r → IsResidue r
+word_is_residue word r is = grind (arith, nat_tests)
+
+residue_from : (drawn rest : Option ℕ) (word r : ℕ) → drawn_by word ≡ drawn → (rest ≡ Some r → IsResidue r) → first_of drawn rest ≡ Some r → IsResidue r
+residue_from None rest word r none later found = later found
+residue_from (Some x) rest word r some later found = word_is_residue word r (some ∙ found)
+
+residue_is : (count : ℕ) (ahead : ℕ → ℕ) (r : ℕ) → residue_within count ahead ≡ Some r → IsResidue r
+residue_is zero ahead r is = cc
+residue_is (suc more) ahead r is =
+    residue_from (drawn_by (ahead 0)) (residue_within more (later 1 ahead)) (ahead 0) r refl (residue_is more (later 1 ahead) r) is
+
+of_some : {X Y : Type 0} (f : X → Y) (o : Option X) (y : Y) → option_map f o ≡ Some y → (x : X) × (o ≡ Some x) × (f x ≡ y)
+of_some f None y is = cc
+of_some f (Some x) y is = (x, refl, cc)
+
+wire_is : (ahead : ℕ → ℕ) (tape : WireTape) → drawn_wire ahead ≡ Some tape → IsTape tape
+wire_is ahead tape is =
+    let made : ℕ → WireTape = λ mask. record {
+      mask = mask;
+      swap = drawn_bit (after_residue ahead);
+      first_key = drawn_key (later 1 (after_residue ahead));
+      second_key = drawn_key (later 4 (later 1 (after_residue ahead)));
+    } in
+    let drawn = of_some made (drawn_residue ahead) tape is in
+    let right : IsTape (made drawn.0) = record {
+      mask = residue_is 4 ahead drawn.0 drawn.1;
+      first_key = key_is_bytes (later 1 (after_residue ahead));
+      second_key = key_is_bytes (later 4 (later 1 (after_residue ahead)));
+    } in
+    subst IsTape drawn.2 right
+
+-- ---- the tape of so many wires
+
+after_ok : (wire : ℕ) (rest : WireTape → Result (List WireTape) ℕ) (o : Option WireTape) (tape : List WireTape) → wires_after wire rest o ≡ Ok tape
+    → (one : WireTape) × (o ≡ Some one) × (rest one ≡ Ok tape)
+after_ok wire rest None tape is = cc
+after_ok wire rest (Some one) tape is = (one, refl, is)
+
+tape_is : (before : List WireTape) (count : ℕ) (ahead : ℕ → ℕ) (tape : List WireTape) → All IsTape before → drawn_tape before count ahead ≡ Ok tape
+    → (length tape ≡ length before + count) × All IsTape tape
+unfolding drawn_tape
+tape_is before zero ahead tape are is = let same : before ≡ tape = cc in (omega (arith, ap length same), subst (All IsTape) same are)
+tape_is before (suc count) ahead tape are is =
+    let first = after_ok (length before) (λ one. drawn_tape (before ++ one ∷ []) count (after_wire ahead)) (drawn_wire ahead) tape is in
+    let rest = tape_is (before ++ first.0 ∷ []) count (after_wire ahead) tape (All-push IsTape before first.0 are (wire_is ahead first.0 first.1)) first.2 in
+    (rest.0 ∙ omega (arith, length_push before first.0), rest.1)
+
+-- ---- the tapes of an auction
+
+-- a secret has a tape for each lane of its seal
+pub lanes_of : (auction : Auction) (row : SealRow) → IsSealRow auction.id auction.width auction.lanes row → length row.secret.lanes ≡ auction.lanes
+lanes_of auction row is =
+    let made : row.seal ≡ seal_of row.secret = (match_exact row.secret row.seal).0 (rw is.matched refl) in
+    sym (length-lane_coms row.secret.auction row.secret.seat row.secret.bid 1 row.secret.lanes) ∙ sym (ap (λ seal. length seal.lanes) made) ∙ is.count
+
+given_is : (auction : Auction) (lane : ℕ) (row : SealRow) → 1 ≤ lane → lane ≤ auction.lanes → IsSealRow auction.id auction.width auction.lanes row
+    → IsTape (wire_tape (tape_in row.secret lane))
+given_is auction lane row some last is =
+    let long = lanes_of auction row is in
+    let tape = All-from_recursion IsXTape row.secret.lanes is.secret.tapes (lane - 1) no_tape (omega arith) in
+    record { mask = tape.0; first_key = tape.1; second_key = tape.2 }
+
+pub given_are : (auction : Auction) (lane : ℕ) → IsAuction auction → 1 ≤ lane → lane ≤ auction.lanes → All IsTape (given_tapes auction lane)
+given_are auction lane right some last =
+    All-map IsTape (λ row. wire_tape (tape_in row.secret lane)) auction.seals
+    (All-weaker (IsSealRow auction.id auction.width auction.lanes) (λ row. IsTape (wire_tape (tape_in row.secret lane))) (λ row is. given_is auction lane row some last is) auction.seals right.rows)
+
+pub one_given_each : (auction : Auction) (lane : ℕ) → length (given_tapes auction lane) ≡ (plan_of auction).inputs
+unfolding plan_of vickrey_plan
+one_given_each auction lane = length-map auction.seals (λ row. wire_tape (tape_in row.secret lane))
+
+pub drawn_is_tape : (auction : Auction) (seed : List ℕ) (lane : ℕ) (tape : List WireTape) → IsAuction auction → 1 ≤ length auction.seals → 1 ≤ lane → lane ≤ auction.lanes
+    → tape_of auction seed lane ≡ Ok tape → IsTapeOf (plan_of auction) tape
+unfolding tape_of
+drawn_is_tape auction seed lane tape right sealed some last drawn =
+    let count = length (plan_of auction).kinds - (plan_of auction).inputs in
+    let is = tape_is (given_tapes auction lane) count (word_at seed auction.id lane) tape (given_are auction lane right some last) drawn in
+    let few = inputs_within (plan_of auction) (plan_is auction right sealed) in
+    record { one_each = is.0 ∙ omega (arith, one_given_each auction lane, few); each = is.1 }
+
+pub lane_tape_is : (auction : Auction) (lane : ℕ) → IsProvedAuction auction → 1 ≤ lane → lane ≤ auction.lanes → IsTapeOf (plan_of auction) (lane_tape auction lane)
+lane_tape_is auction lane proved some last =
+    let drawn = tapes_of_none auction (seed_in auction) proved.tapes lane some last in
+    subst (IsTapeOf (plan_of auction)) (sym (ap tape_or_none drawn.1))
+    (drawn_is_tape auction (seed_in auction) lane drawn.0 proved.right (has_seal auction proved) some last drawn.1)

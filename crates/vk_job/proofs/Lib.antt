@@ -1,0 +1,6 @@
+pub mod Outcomes
+pub mod Dry
+pub mod Held
+pub mod Drawing
+pub mod Parts
+pub mod Joined

@@ -1,0 +1,8 @@
+use Rattle.vk_job.proofs.Dry.{dry_is_first, none_where_all}
+use Rattle.vk_job.proofs.laws.dry_wires_are_first.Goals as goal
+
+pub returns-clause-first : goal.returns-clause-first
+returns-clause-first c = dry_is_first
+
+pub returns-clause-none : goal.returns-clause-none
+returns-clause-none c = none_where_all

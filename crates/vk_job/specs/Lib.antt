@@ -1,0 +1,6 @@
+pub mod Outcome
+pub mod Jobs
+pub mod Published
+pub mod Laws
+pub mod JobValues
+pub mod Answers

@@ -1,0 +1,171 @@
+ghost use Rattle.std.specs.Prelude.{◌≡◌, ◌-◌, ◌<◌, ◌≤◌, ◌∷◌, [], Bool, length, slice_index_or, IfOk, IsSome};
+ghost use Rattle.vk_board.specs.Values.{IsHead};
+ghost use Rattle.vk_keeper.specs.Auctions.{IsAuction, challenge_of, seed_of};
+ghost use Rattle.vk_prover.specs.Laws.{IsTapeOf};
+ghost use Rattle.vk_job.specs.Answers.{JobAnswer};
+ghost use Rattle.vk_job.specs.Jobs.{IsProvedAuction, lane_tape, outcome_in, plan_of};
+ghost use Rattle.vk_job.specs.Published.{head_of, kept_bit, lane_of, no_row, seal_lines_of, shown_in};
+
+use crate::errors::JobErr;
+use crate::kept::{bit_in, seed_in};
+use crate::outcome::{bids_of, outcome_in, plan_of, values_of, winner_of};
+use crate::tapes::{check_tapes, tape_of};
+use std::alloc::Global;
+use std::marker::Model;
+use vk_board::{Head, LaneLines, SealLines};
+use vk_keeper::Auction;
+use vk_plan::Plan;
+use vk_prover::{DrawErr, LaneTape, answer_lane, make_lane};
+use vk_residue::{NoMemory, Residue};
+use vk_seq::Seq;
+use vk_vickrey::VickreyOutcome;
+use vk_wire::Shown;
+
+/// An auction in a phase with a seed, which gives a tape for every lane, and the outcome of its bids.
+/// Plan and values are kept, so that no lane makes them anew.
+#[derive(Drop)]
+pub struct Job {
+    auction: Auction,
+    outcome: VickreyOutcome,
+    plan: Plan,
+    values: Seq<Residue>,
+}
+
+impl Model for Job {
+    ghost use Rattle.vk_job.specs.JobValues.{JobValue, IsJob, job_code};
+
+    ghost Value = { JobValue };
+
+    ghost coded = { job_code };
+
+    ghost view = { λ j. record { auction = j.auction; outcome = j.outcome } };
+
+    ghost invariant = { λ j. IsJob j.auction j.outcome j.plan j.values };
+}
+
+impl Job {
+    /// The job of an auction whose phase has a seed. Errs where a wire is dry, which the first is told
+    /// of, and for want of memory.
+    pub fn of(alloc: Global, auction: Auction) -> Result<Job, JobErr>
+        requires right { IsAuction auction }
+        requires seeded { IsSome (seed_of auction.phase) }
+        ensures { JobAnswer result auction }
+    {
+        let bids = bids_of(alloc, auction.seals.as_slice())?;
+        let outcome = outcome_in(&auction, bids.as_slice());
+        let plan = plan_of(alloc, &auction, outcome)?;
+        let values = values_of(alloc, &auction, outcome, bids.as_slice())?;
+        check_tapes(alloc, &auction, &plan, &seed_in(&auction.phase))?;
+        Ok(Job {
+            auction,
+            outcome,
+            plan,
+            values: Seq::from_vec(values),
+        })
+    }
+
+    pub fn auction(&self) -> &Auction
+        ensures value { result.now ≡ self.now.auction }
+        ensures proved { IsProvedAuction self.now.auction }
+    {
+        &self.auction
+    }
+
+    pub fn outcome(&self) -> VickreyOutcome
+        ensures value { result ≡ self.now.outcome }
+        ensures outcome { self.now.outcome ≡ outcome_in self.now.auction }
+    {
+        self.outcome
+    }
+
+    /// What the board says of the auction as a whole.
+    #[tactic(auto, unfolding(crate::specs::Published::head_of))]
+    pub fn head(&self) -> Head
+        ensures value { result ≡ head_of self.now.auction }
+        ensures right { IsHead result }
+    {
+        Head {
+            auction: self.auction.id,
+            width: self.auction.width,
+            lanes: self.auction.lanes,
+            seals: self.auction.seals.len() as u32,
+            winner: winner_of(&self.auction, self.outcome),
+            price: self.outcome.price,
+        }
+    }
+
+    /// The seal at that position, counted from 1, as it stands on the board.
+    pub fn seal(&self, alloc: Global, position: u32) -> Result<SealLines, NoMemory>
+        requires some { 1 ≤ position }
+        requires last { position ≤ length self.now.auction.seals }
+        ensures { IfOk result
+            (λ lines. lines ≡ seal_lines_of (slice_index_or self.now.auction.seals (position - 1) no_row)) }
+    {
+        let row = &self.auction.seals.as_slice()[position as usize - 1];
+        let coms = Vec::from_slice(alloc, row.seal.lanes.as_slice())?;
+        Ok(SealLines {
+            seat: row.seal.seat,
+            coms: Seq::from_vec(coms),
+        })
+    }
+
+    /// What is published of the lane, counted from 1.
+    #[tactic(auto, unfolding(crate::specs::Published::lane_of))]
+    pub fn lane(&self, alloc: Global, lane: u32) -> Result<LaneLines, NoMemory>
+        requires some { 1 ≤ lane }
+        requires last { lane ≤ self.now.auction.lanes }
+        ensures { IfOk result (λ lines. lines ≡ lane_of self.now.auction lane) }
+    {
+        let tape = self.tape(alloc, lane)?;
+        let id = &self.auction.id;
+        let lines = make_lane(
+            alloc,
+            &self.plan,
+            id,
+            lane as u16,
+            self.values.as_slice(),
+            &tape,
+        )?;
+        Ok(lines)
+    }
+
+    /// What is shown of the lane, counted from 1, for that bit.
+    #[tactic(auto, unfolding(crate::specs::Published::shown_in))]
+    pub fn shown(&self, alloc: Global, lane: u32, bit: bool) -> Result<Seq<Shown>, NoMemory>
+        requires some { 1 ≤ lane }
+        requires last { lane ≤ self.now.auction.lanes }
+        ensures { IfOk result (λ shown. shown ≡ shown_in self.now.auction lane bit) }
+    {
+        let tape = self.tape(alloc, lane)?;
+        let shown = answer_lane(alloc, &self.plan, self.values.as_slice(), &tape, bit)?;
+        Ok(shown)
+    }
+
+    /// What is shown of the lane, counted from 1, for its bit in the challenge that is kept. The phase has one.
+    pub fn reply(&self, alloc: Global, lane: u32) -> Result<Seq<Shown>, NoMemory>
+        requires answered { IsSome (challenge_of self.now.auction.phase) }
+        requires some { 1 ≤ lane }
+        requires last { lane ≤ self.now.auction.lanes }
+        ensures { IfOk result
+            (λ shown. shown ≡ shown_in self.now.auction lane (kept_bit self.now.auction.phase lane)) }
+    {
+        let bit = bit_in(&self.auction.phase, lane);
+        let shown = self.shown(alloc, lane, bit)?;
+        Ok(shown)
+    }
+
+    /// The tape of the lane.
+    fn tape(&self, alloc: Global, lane: u32) -> Result<LaneTape, NoMemory>
+        requires some { 1 ≤ lane }
+        requires last { lane ≤ self.now.auction.lanes }
+        ensures tape { IfOk result (λ tape. tape.wires ≡ lane_tape self.now.auction lane) }
+        ensures of_plan { IfOk result (λ tape. IsTapeOf (plan_of self.now.auction) tape.wires) }
+    {
+        let seed = seed_in(&self.auction.phase);
+        match tape_of(alloc, &self.auction, &self.plan, &seed, lane) {
+            Ok(tape) => Ok(tape),
+            Err(DrawErr::NoMemory) => Err(NoMemory),
+            Err(DrawErr::DrySeed { .. }) => unreachable!(),
+        }
+    }
+}
