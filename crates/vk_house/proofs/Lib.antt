@@ -1,0 +1,9 @@
+pub mod Fields
+pub mod Passing
+pub mod Deciding
+mod Keeping
+pub mod Stepping
+pub mod Alone
+pub mod Once
+pub mod Seeds
+pub mod Rights

@@ -1,0 +1,39 @@
+-- What a house is asked.
+use Rattle.std.specs.Prelude.{ℕ, ◌≤◌, List}
+use Rattle.vk_commit.specs.Values.{AreBytes}
+use Rattle.vk_reply.specs.declared.challenge.Challenge.{Challenge}
+use Rattle.vk_reply.specs.Values.{IsChallenge}
+use Rattle.vk_seal.specs.declared.secret.Secret.{Secret}
+use Rattle.vk_seal.specs.declared.secret.Seal.{Seal}
+use Rattle.vk_seal.specs.Values.{IsSeal, IsSecret}
+
+-- one auction is begun, is handed a seal with its secret, is proved with a seed, answers a challenge, or is shown
+pub data HouseCommand : Type 0 where
+  Announce : (id : List ℕ) (width lanes : ℕ) → HouseCommand
+  Submit : (id : List ℕ) (seal : Seal) (secret : Secret) → HouseCommand
+  Prove : (id seed : List ℕ) → HouseCommand
+  Answer : (id : List ℕ) (challenge : Challenge) → HouseCommand
+  Show : (id : List ℕ) → HouseCommand
+
+-- the id of the auction that a command speaks of
+abbrev pub id_of : HouseCommand → List ℕ
+id_of (Announce id width lanes) = id
+id_of (Submit id seal secret) = id
+id_of (Prove id seed) = id
+id_of (Answer id challenge) = id
+id_of (Show id) = id
+
+-- the width and the number of lanes that an auction may have
+pub record IsRoom (width lanes : ℕ) : Type 0 where
+  pub some_width : 1 ≤ width
+  pub last_width : width ≤ 40
+  pub some_lane : 1 ≤ lanes
+  pub few_lanes : lanes ≤ 64
+
+-- what a house may be asked: ids have 16 bytes and seeds 32, and seals, secrets and challenges are such
+abbrev pub IsHouseCommand : HouseCommand → Type 0
+IsHouseCommand (Announce id width lanes) = AreBytes 16 id × IsRoom width lanes
+IsHouseCommand (Submit id seal secret) = AreBytes 16 id × IsSeal seal × IsSecret secret
+IsHouseCommand (Prove id seed) = AreBytes 16 id × AreBytes 32 seed
+IsHouseCommand (Answer id challenge) = AreBytes 16 id × IsChallenge challenge
+IsHouseCommand (Show id) = AreBytes 16 id

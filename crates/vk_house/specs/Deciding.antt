@@ -1,0 +1,53 @@
+-- What is decided of the auction that was found, before anything is kept.
+use Rattle.std.specs.Prelude.{◌≡◌, ◌⊎◌, Option, Some, None, option_map, Result, Ok, Err}
+use Rattle.vk_keeper.specs.declared.auction.Auction.{Auction}
+use Rattle.vk_keeper.specs.declared.auction.Phase.{Phase}
+use Rattle.vk_keeper.specs.Ledgers.{Ledger, Keeps}
+use Rattle.vk_keeper.specs.Turns.{Turns, AfterPut}
+use Rattle.vk_job.specs.Jobs.{seed_in, outcome_in}
+use Rattle.vk_house.specs.declared.errors.HouseErr.{HouseErr}
+use Rattle.vk_house.specs.declared.errors.HouseErr.TheVariants as house
+use Rattle.vk_house.specs.declared.working.Decision.{Decision}
+use Rattle.vk_house.specs.Replies.{Work}
+use Rattle.vk_house.specs.Refusals.{dry_seed}
+use Rattle.vk_house.specs.Steps.{Step, refused, in_phase}
+use Rattle.vk_house.specs.Answers.{work_of}
+
+-- a decision on what stands under an id is the step, or want of memory
+abbrev pub Decides : {T : Type 0} → (T → Step) → Result T HouseErr → Step → Type 0
+Decides shown (Ok decided) step = shown decided ≡ step
+Decides shown (Err house.NoMemory) step = Unit {0}
+Decides shown (Err house.KeeperFailed) step = ⊥
+Decides shown (Err refusal) step = refused refusal ≡ step
+
+-- ---- what a call keeps
+
+-- an auction is kept where there is one
+abbrev pub KeepsAnew : {E : Type 0} → Option Auction → Result Unit E → Ledger → Ledger → Type 0
+KeepsAnew None result old new = new ≡ old
+KeepsAnew (Some auction) result old new = Keeps auction result old new
+
+-- there was no call more of the keeper, or one, a `put`
+abbrev pub MayPut : Turns → Turns → Type 0
+MayPut old new = (new ≡ old) ⊎ AfterPut old new
+
+-- ---- an auction that is to be proved or answered
+
+-- the auction in that phase, or in its own
+abbrev pub phased : Auction → Option Phase → Auction
+phased auction None = auction
+phased auction (Some phase) = in_phase auction phase
+
+-- its step where nothing but its seed may refuse it
+abbrev pub worked : Option HouseErr → Auction → Option Auction → Step
+worked (Some refusal) auction kept = refused refusal
+worked None auction kept = record { reply = Work auction (outcome_in auction); kept = kept }
+
+abbrev pub work_step : Auction → Option Phase → Step
+work_step auction phase =
+    let later = phased auction phase in
+    worked (dry_seed (seed_in later) later) later (option_map (in_phase auction) phase)
+
+-- what is answered and kept, as a step
+abbrev pub step_of : Decision → Step
+step_of decision = record { reply = work_of decision.job; kept = decision.kept }

@@ -1,0 +1,148 @@
+ghost use Rattle.std.specs.Prelude.{◌≡◌, IfOk, IfSome, OnErr, Some};
+ghost use Rattle.vk_io.specs.Faults.{Causes};
+ghost use Rattle.vk_io.specs.Files.{Told};
+ghost use Rattle.vk_keeper.specs.Auctions.{IsAuction, seed_of, challenge_of};
+ghost use Rattle.vk_keeper.specs.Turns.{GetsOnce};
+ghost use Rattle.vk_reply.specs.Values.{IsChallenge};
+ghost use Rattle.vk_seal.specs.Values.{IsSeal, IsSecret};
+ghost use Rattle.vk_house.specs.Answers.{Calls, MayReply, as_reply, work_of};
+ghost use Rattle.vk_house.specs.Deciding.{KeepsAnew, MayPut};
+ghost use Rattle.vk_house.specs.Commands.{IsRoom, Announce, Submit, Prove, Answer, Show};
+ghost use Rattle.vk_house.specs.Replies.{Done, Position, Stands};
+
+use crate::errors::HouseErr;
+use crate::opening::{decide_announce, decide_submit};
+use crate::standing::{Standing, decide_show};
+use crate::working::{decide_answer, decide_prove};
+use std::alloc::Global;
+use vk_io::OutsideErr;
+use vk_job::Job;
+use vk_keeper::{Auction, Keeper};
+use vk_reply::Challenge;
+use vk_seal::{Seal, Secret};
+
+/// An auctioneer's house over a keeper of auctions.
+#[derive(Drop)]
+pub struct House<'a, K: Keeper + Drop> {
+    keeper: &'a mut K,
+}
+
+impl<'a, K: Keeper + Drop> House<'a, K> {
+    /// A house over that keeper.
+    pub fn over(keeper: &'a mut K) -> House<'a, K>
+        ensures { result.keeper ≡ keeper.entry }
+    {
+        House { keeper }
+    }
+
+    /// Keeps an auction in phase Taking without seals. Refused where the id is known.
+    pub fn announce(
+        &mut self,
+        alloc: Global,
+        id: &[u8; 16],
+        width: u32,
+        lanes: u32,
+    ) -> Result<(), HouseErr>
+        requires { IsRoom width lanes }
+        ensures call { Calls (Announce id.now width lanes) (as_reply (λ _. Done) result) (K.ledger self.old.keeper.now) (K.ledger self.new.keeper.now) }
+        ensures refused { OnErr result (K.ledger self.new.keeper.now ≡ K.ledger self.old.keeper.now) }
+        ensures reply { MayReply (Announce id.now width lanes) (as_reply (λ _. Done) result) }
+        ensures turns { GetsOnce (K.turns self.old.keeper.now) (K.turns self.new.keeper.now) }
+        ensures causes { Causes HouseErr.KeeperFailed result (K.faults self.old.keeper.now) (K.faults self.new.keeper.now) }
+        ensures keeper { self.new.keeper.ghost_name ≡ self.old.keeper.ghost_name }
+    {
+        let found = self.keeper.get(id)?;
+        let auction = decide_announce(alloc, found, id, width, lanes)?;
+        self.keeper.put(auction)?;
+        Ok(())
+    }
+
+    /// Keeps the seal and its secret last, and answers its position, from 1. Refused where the id is unknown, where seals are
+    /// no longer taken, and where the seal may not join.
+    pub fn submit(&mut self, id: &[u8; 16], seal: Seal, secret: Secret) -> Result<u32, HouseErr>
+        requires seal { IsSeal seal }
+        requires secret { IsSecret secret }
+        ensures call { Calls (Submit id.now seal secret) (as_reply Position result) (K.ledger self.old.keeper.now) (K.ledger self.new.keeper.now) }
+        ensures refused { OnErr result (K.ledger self.new.keeper.now ≡ K.ledger self.old.keeper.now) }
+        ensures reply { MayReply (Submit id.now seal secret) (as_reply Position result) }
+        ensures turns { GetsOnce (K.turns self.old.keeper.now) (K.turns self.new.keeper.now) }
+        ensures causes { Causes HouseErr.KeeperFailed result (K.faults self.old.keeper.now) (K.faults self.new.keeper.now) }
+        ensures keeper { self.new.keeper.ghost_name ≡ self.old.keeper.ghost_name }
+    {
+        let found = self.keeper.get(id)?;
+        let joined = decide_submit(found, seal, secret)?;
+        self.keeper.put(joined.auction)?;
+        Ok(joined.position)
+    }
+
+    /// The job of the auction with that seed. In phase Taking the seed is kept, and no more seals are taken; in the later
+    /// phases nothing new is kept. Refused where the id is unknown, where no seal or another seed is held, and where
+    /// the seed is dry.
+    pub fn prove(&mut self, alloc: Global, id: &[u8; 16], seed: &[u8; 32]) -> Result<Job, HouseErr>
+        ensures call { Calls (Prove id.now seed.now) (as_reply work_of result) (K.ledger self.old.keeper.now) (K.ledger self.new.keeper.now) }
+        ensures refused { OnErr result (K.ledger self.new.keeper.now ≡ K.ledger self.old.keeper.now) }
+        ensures reply { MayReply (Prove id.now seed.now) (as_reply work_of result) }
+        ensures id { IfOk result (λ job. job.auction.id ≡ id.now) }
+        ensures seed { IfOk result (λ job. seed_of job.auction.phase ≡ Some seed.now) }
+        ensures turns { GetsOnce (K.turns self.old.keeper.now) (K.turns self.new.keeper.now) }
+        ensures causes { Causes HouseErr.KeeperFailed result (K.faults self.old.keeper.now) (K.faults self.new.keeper.now) }
+        ensures keeper { self.new.keeper.ghost_name ≡ self.old.keeper.ghost_name }
+    {
+        let found = self.keeper.get(id)?;
+        let proving = decide_prove(alloc, found, seed)?;
+        keep(self.keeper, proving.kept)?;
+        Ok(proving.job)
+    }
+
+    /// The job of the auction with that challenge. In phase Proved the challenge is kept, and no other is answered from then
+    /// on; in phase Answered nothing new is kept. Refused where the id is unknown, where seals are still taken, where the
+    /// challenge doesn't have a bit for each lane, where another one is kept, and where the seed is dry.
+    pub fn answer(
+        &mut self,
+        alloc: Global,
+        id: &[u8; 16],
+        challenge: &Challenge,
+    ) -> Result<Job, HouseErr>
+        requires { IsChallenge challenge.now }
+        ensures call { Calls (Answer id.now challenge.now) (as_reply work_of result) (K.ledger self.old.keeper.now) (K.ledger self.new.keeper.now) }
+        ensures refused { OnErr result (K.ledger self.new.keeper.now ≡ K.ledger self.old.keeper.now) }
+        ensures reply { MayReply (Answer id.now challenge.now) (as_reply work_of result) }
+        ensures id { IfOk result (λ job. job.auction.id ≡ id.now) }
+        ensures answered { IfOk result (λ job. challenge_of job.auction.phase ≡ Some challenge.now) }
+        ensures turns { GetsOnce (K.turns self.old.keeper.now) (K.turns self.new.keeper.now) }
+        ensures causes { Causes HouseErr.KeeperFailed result (K.faults self.old.keeper.now) (K.faults self.new.keeper.now) }
+        ensures keeper { self.new.keeper.ghost_name ≡ self.old.keeper.ghost_name }
+    {
+        let found = self.keeper.get(id)?;
+        let answering = decide_answer(alloc, found, challenge)?;
+        keep(self.keeper, answering.kept)?;
+        Ok(answering.job)
+    }
+
+    /// How the auction stands. Refused where the id is unknown.
+    pub fn show(&mut self, id: &[u8; 16]) -> Result<Standing, HouseErr>
+        ensures call { Calls (Show id.now) (as_reply Stands result) (K.ledger self.old.keeper.now) (K.ledger self.new.keeper.now) }
+        ensures refused { OnErr result (K.ledger self.new.keeper.now ≡ K.ledger self.old.keeper.now) }
+        ensures reply { MayReply (Show id.now) (as_reply Stands result) }
+        ensures turns { GetsOnce (K.turns self.old.keeper.now) (K.turns self.new.keeper.now) }
+        ensures causes { Causes HouseErr.KeeperFailed result (K.faults self.old.keeper.now) (K.faults self.new.keeper.now) }
+        ensures keeper { self.new.keeper.ghost_name ≡ self.old.keeper.ghost_name }
+    {
+        let found = self.keeper.get(id)?;
+        let standing = decide_show(found)?;
+        Ok(standing)
+    }
+}
+
+/// Keeps the auction, where there is one.
+fn keep<K: Keeper>(keeper: &mut K, kept: Option<Auction>) -> Result<(), OutsideErr>
+    requires { IfSome kept IsAuction }
+    ensures put { Told (KeepsAnew kept result) (K.ledger keeper.old) (K.ledger keeper.new) }
+    ensures turn { MayPut (K.turns keeper.old) (K.turns keeper.new) }
+    ensures causes { Causes OutsideErr.Failed result (K.faults keeper.old) (K.faults keeper.new) }
+{
+    if let Some(auction) = kept {
+        keeper.put(auction)?;
+    }
+    Ok(())
+}

@@ -1,0 +1,88 @@
+//! `announce` and `submit`: an auction begins, and takes seals.
+
+ghost use Rattle.std.specs.Prelude.{◌≡◌, ◌+◌, ◌<◌, ◌≤◌, ◌^◌, ℕ, IfSome, IfOk, IsErrOf, List, Some, length, true, false};
+ghost use Rattle.std.specs.Result.{result_err};
+ghost use Rattle.vk_keeper.specs.Auctions.{IsAuction};
+ghost use Rattle.vk_seal.specs.Values.{IsSeal, IsSecret};
+ghost use Rattle.vk_house.specs.Deciding.{Decides};
+ghost use Rattle.vk_house.specs.Commands.{Announce, Submit, IsRoom};
+ghost use Rattle.vk_house.specs.Replies.{Done, Position};
+ghost use Rattle.vk_house.specs.Refusals.{not_taking};
+ghost use Rattle.vk_house.specs.Steps.{step_at};
+
+use crate::errors::HouseErr;
+use crate::standing::PhaseName;
+use std::alloc::Global;
+use vk_keeper::{Auction, Phase, SealRow};
+use vk_seal::{Seal, Secret};
+use vk_seq::Seq;
+
+/// The auction that `announce` keeps, by what was found under the id.
+#[tactic(auto, unfolding(crate::specs::Steps::step_at, vk_keeper::specs::Joining::first_of))]
+pub fn decide_announce(
+    alloc: Global,
+    found: Option<Auction>,
+    id: &[u8; 16],
+    width: u32,
+    lanes: u32,
+) -> Result<Auction, HouseErr>
+    requires { IsRoom width lanes }
+    ensures decided { Decides (λ auction. record { reply = Done; kept = Some auction }) result (step_at (Announce id.now width lanes) found) }
+    ensures right { IfOk result IsAuction }
+    ensures id { IfOk result (λ auction. auction.id ≡ id.now) }
+{
+    if found.is_some() {
+        return Err(HouseErr::Known);
+    }
+    Ok(Auction {
+        id: *id,
+        width,
+        lanes,
+        phase: Phase::Taking,
+        seals: Seq::new(alloc),
+    })
+}
+
+/// Errs where seals are no longer taken.
+fn check_taking(phase: &Phase) -> Result<(), HouseErr>
+    ensures { result_err result ≡ not_taking phase.now }
+{
+    match phase {
+        Phase::Taking => Ok(()),
+        Phase::Proved { .. } => Err(HouseErr::Phase {
+            kept: PhaseName::Proved,
+        }),
+        Phase::Answered { .. } => Err(HouseErr::Phase {
+            kept: PhaseName::Answered,
+        }),
+    }
+}
+
+/// What `submit` keeps and answers.
+#[derive(Drop)]
+pub struct Joined {
+    pub auction: Auction,
+    /// That of its last seal, from 1.
+    pub position: u32,
+}
+
+/// What `submit` keeps and answers, by what was found under the id.
+#[tactic(auto, unfolding(crate::specs::Steps::step_at, vk_keeper::specs::Joining::first_of))]
+pub fn decide_submit(found: Option<Auction>, seal: Seal, secret: Secret) -> Result<Joined, HouseErr>
+    requires found { IfSome found IsAuction }
+    requires seal { IsSeal seal }
+    requires secret { IsSecret secret }
+    ensures decided { (id : List ℕ) → Decides (λ joined. record { reply = Position joined.position; kept = Some joined.auction }) result (step_at (Submit id seal secret) found) }
+    ensures right { IfOk result (λ joined. IsAuction joined.auction) }
+    ensures id { (id : List ℕ) → IfSome found (λ auction. auction.id ≡ id) → IfOk result (λ joined. joined.auction.id ≡ id) }
+    ensures inside { IsErrOf result HouseErr.KeeperFailed → ⊥ }
+{
+    let mut auction = found.ok_or(HouseErr::Unknown)?;
+    check_taking(&auction.phase)?;
+    if let Some(refusal) = auction.refusal(&seal, &secret) {
+        return Err(HouseErr::from(refusal));
+    }
+    auction.join(SealRow { seal, secret })?;
+    let position = auction.seals.len() as u32;
+    Ok(Joined { auction, position })
+}

@@ -1,0 +1,74 @@
+//! `show`: how an auction stands.
+
+ghost use Rattle.std.specs.Prelude.{◌≡◌, ℕ, IfSome, IsErrOf, List};
+ghost use Rattle.vk_keeper.specs.Auctions.{IsAuction};
+ghost use Rattle.vk_house.specs.Deciding.{Decides};
+ghost use Rattle.vk_house.specs.Commands.{Show};
+ghost use Rattle.vk_house.specs.Replies.{standing_of, phase_name, Stands};
+ghost use Rattle.vk_house.specs.Steps.{step_at};
+
+use crate::errors::HouseErr;
+use vk_keeper::{Auction, Phase};
+
+/// How far an auction has come.
+#[derive(Clone, Copy, Debug, PartialEq, Eq)]
+pub enum PhaseName {
+    /// Seals are taken.
+    Taking,
+    /// The board was made.
+    Proved,
+    /// A challenge was answered.
+    Answered,
+}
+
+/// How an auction stands.
+#[derive(Clone, Copy, Debug, PartialEq, Eq)]
+pub struct Standing {
+    /// 1 to 40.
+    pub width: u32,
+    /// 1 to 64.
+    pub lanes: u32,
+    /// How many seals are held. At most 64.
+    pub seals: u32,
+    pub phase: PhaseName,
+}
+
+impl Standing {
+    /// That of an auction.
+    pub fn of(auction: &Auction) -> Standing
+        requires { IsAuction auction.now }
+        ensures { result ≡ standing_of auction.now }
+    {
+        Standing {
+            width: auction.width,
+            lanes: auction.lanes,
+            seals: auction.seals.len() as u32,
+            phase: PhaseName::of(&auction.phase),
+        }
+    }
+}
+
+impl PhaseName {
+    /// That of a phase.
+    pub fn of(phase: &Phase) -> PhaseName
+        ensures { result ≡ phase_name phase.now }
+    {
+        match phase {
+            Phase::Taking => PhaseName::Taking,
+            Phase::Proved { .. } => PhaseName::Proved,
+            Phase::Answered { .. } => PhaseName::Answered,
+        }
+    }
+}
+
+/// What `show` answers of the auction that was found.
+#[tactic(auto, unfolding(crate::specs::Steps::step_at, vk_keeper::specs::Joining::first_of))]
+pub fn decide_show(found: Option<Auction>) -> Result<Standing, HouseErr>
+    requires { IfSome found IsAuction }
+    ensures decided { (id : List ℕ) → Decides (λ standing. record { reply = Stands standing; kept = None }) result (step_at (Show id) found) }
+    ensures inside { IsErrOf result HouseErr.KeeperFailed → ⊥ }
+{
+    let auction = found.ok_or(HouseErr::Unknown)?;
+    let standing = Standing::of(&auction);
+    Ok(standing)
+}

@@ -1,0 +1,204 @@
+//! `prove` and `answer`: the work on an auction whose seals are taken.
+
+ghost use Rattle.std.specs.Prelude.{◌≡◌, ◌≤◌, ℕ, IfSome, IfOk, IsErrOf, IsSome, List, Some, length};
+ghost use Rattle.std.specs.Result.{result_err};
+ghost use Rattle.vk_keeper.specs.Auctions.{IsAuction, seed_of, challenge_of};
+ghost use Rattle.vk_reply.specs.Values.{IsChallenge};
+ghost use Rattle.vk_house.specs.Deciding.{Decides, work_step, step_of, phased};
+ghost use Rattle.vk_house.specs.Commands.{Prove, Answer};
+ghost use Rattle.vk_house.specs.Refusals.{no_seals, other_seed, still_taking, other_length, other_than};
+ghost use Rattle.vk_house.specs.Steps.{step_at, phase_proved, phase_answered};
+
+use crate::errors::HouseErr;
+use crate::standing::PhaseName;
+use std::alloc::Global;
+use vk_job::Job;
+use vk_keeper::{Auction, Phase};
+use vk_reply::Challenge;
+use vk_residue::NoMemory;
+use vk_seq::Seq;
+
+/// What is answered of an auction, and the auction that is kept anew, if one is.
+#[derive(Drop)]
+pub struct Decision {
+    pub job: Job,
+    pub kept: Option<Auction>,
+}
+
+/// The work on the auction in that phase, which is then kept anew, or in its own. All memory is taken here.
+fn work_in(alloc: Global, mut auction: Auction, phase: Option<Phase>) -> Result<Decision, HouseErr>
+    requires right { IsAuction (phased auction phase) }
+    requires seeded { IsSome (seed_of (phased auction phase).phase) }
+    ensures decided { Decides step_of result (work_step auction phase) }
+    ensures job { IfOk result (λ decision. decision.job.auction ≡ phased auction phase) }
+    ensures kept { IfOk result (λ decision. IfSome decision.kept (λ auction. auction ≡ decision.job.auction)) }
+    ensures right { IfOk result (λ decision. IfSome decision.kept IsAuction) }
+{
+    let is_new = phase.is_some();
+    if let Some(phase) = phase {
+        auction.phase = phase;
+    }
+    let job = Job::of(alloc, auction)?;
+    let kept = if is_new {
+        let copy = job.auction().copy(alloc)?;
+        Some(copy)
+    } else {
+        None
+    };
+    Ok(Decision { job, kept })
+}
+
+/// Errs where no seal is held.
+fn check_seals(auction: &Auction) -> Result<(), HouseErr>
+    ensures { result_err result ≡ no_seals auction.now }
+{
+    if auction.seals.is_empty() {
+        return Err(HouseErr::NoSeals);
+    }
+    Ok(())
+}
+
+/// Errs where another seed is kept.
+fn check_seed(auction: &Auction, seed: &[u8; 32]) -> Result<(), HouseErr>
+    ensures { result_err result ≡ other_seed seed.now auction.now }
+{
+    match &auction.phase {
+        Phase::Proved { seed: kept } | Phase::Answered { seed: kept, .. } if kept != seed => {
+            Err(HouseErr::OtherSeed { kept: *kept })
+        }
+        _ => Ok(()),
+    }
+}
+
+/// The phase that proving brings, where it is another.
+fn proved_phase(phase: &Phase, seed: &[u8; 32]) -> Option<Phase>
+    ensures { result ≡ phase_proved seed.now phase.now }
+{
+    match phase {
+        Phase::Taking => Some(Phase::Proved { seed: *seed }),
+        _ => None,
+    }
+}
+
+/// What `prove` answers and keeps, by what was found under the id.
+#[tactic(auto, unfolding(crate::specs::Steps::step_at, vk_keeper::specs::Joining::first_of))]
+pub fn decide_prove(
+    alloc: Global,
+    found: Option<Auction>,
+    seed: &[u8; 32],
+) -> Result<Decision, HouseErr>
+    requires { IfSome found IsAuction }
+    ensures decided { (id : List ℕ) → Decides step_of result (step_at (Prove id seed.now) found) }
+    ensures inside { IsErrOf result HouseErr.KeeperFailed → ⊥ }
+    ensures kept { IfOk result (λ decision. IfSome decision.kept (λ auction. auction ≡ decision.job.auction)) }
+    ensures right { IfOk result (λ decision. IfSome decision.kept IsAuction) }
+    ensures id { (id : List ℕ) → IfSome found (λ auction. auction.id ≡ id) → IfOk result (λ decision. decision.job.auction.id ≡ id) }
+    ensures seed { IfOk result (λ decision. seed_of decision.job.auction.phase ≡ Some seed.now) }
+{
+    let auction = found.ok_or(HouseErr::Unknown)?;
+    check_seals(&auction)?;
+    check_seed(&auction, seed)?;
+    let phase = proved_phase(&auction.phase, seed);
+    let decision = work_in(alloc, auction, phase);
+    decision
+}
+
+/// Errs where seals are still taken.
+fn check_proved(phase: &Phase) -> Result<(), HouseErr>
+    ensures { result_err result ≡ still_taking phase.now }
+{
+    if matches!(phase, Phase::Taking) {
+        let kept = PhaseName::Taking;
+        return Err(HouseErr::Phase { kept });
+    }
+    Ok(())
+}
+
+/// Errs where the challenge doesn't have a bit for each lane.
+fn check_length(auction: &Auction, challenge: &Challenge) -> Result<(), HouseErr>
+    requires { IsChallenge challenge.now }
+    ensures { result_err result ≡ other_length challenge.now auction.now }
+{
+    let given = challenge.bits.len() as u32;
+    if given != auction.lanes {
+        let kept = auction.lanes;
+        return Err(HouseErr::Length { kept, given });
+    }
+    Ok(())
+}
+
+fn copy_challenge(alloc: Global, challenge: &Challenge) -> Result<Challenge, NoMemory>
+    ensures { IfOk result (λ copy. copy ≡ challenge.now) }
+{
+    let bits = Vec::from_slice(alloc, challenge.bits.as_slice())?;
+    Ok(Challenge {
+        bits: Seq::from_vec(bits),
+    })
+}
+
+/// The challenge that is kept, where it is another one.
+fn other_kept(
+    alloc: Global,
+    phase: &Phase,
+    challenge: &Challenge,
+) -> Result<Option<Challenge>, NoMemory>
+    ensures { IfOk result (λ kept. kept ≡ other_than challenge.now (challenge_of phase.now)) }
+{
+    match phase {
+        Phase::Answered {
+            challenge: kept,
+            ..
+        } if kept.bits.as_slice() != challenge.bits.as_slice() => {
+            let copy = copy_challenge(alloc, kept)?;
+            Ok(Some(copy))
+        }
+        _ => Ok(None),
+    }
+}
+
+/// The phase that answering brings, where it is another.
+fn answered_phase(
+    alloc: Global,
+    phase: &Phase,
+    challenge: &Challenge,
+) -> Result<Option<Phase>, NoMemory>
+    ensures { IfOk result (λ other. other ≡ phase_answered challenge.now phase.now) }
+{
+    match phase {
+        Phase::Proved { seed } => {
+            let challenge = copy_challenge(alloc, challenge)?;
+            Ok(Some(Phase::Answered {
+                seed: *seed,
+                challenge,
+            }))
+        }
+        _ => Ok(None),
+    }
+}
+
+/// What `answer` answers and keeps, by what was found under the id.
+#[tactic(auto, unfolding(crate::specs::Steps::step_at, vk_keeper::specs::Joining::first_of))]
+pub fn decide_answer(
+    alloc: Global,
+    found: Option<Auction>,
+    challenge: &Challenge,
+) -> Result<Decision, HouseErr>
+    requires found { IfSome found IsAuction }
+    requires challenge { IsChallenge challenge.now }
+    ensures decided { (id : List ℕ) → Decides step_of result (step_at (Answer id challenge.now) found) }
+    ensures inside { IsErrOf result HouseErr.KeeperFailed → ⊥ }
+    ensures kept { IfOk result (λ decision. IfSome decision.kept (λ auction. auction ≡ decision.job.auction)) }
+    ensures right { IfOk result (λ decision. IfSome decision.kept IsAuction) }
+    ensures id { (id : List ℕ) → IfSome found (λ auction. auction.id ≡ id) → IfOk result (λ decision. decision.job.auction.id ≡ id) }
+    ensures answered { IfOk result (λ decision. challenge_of decision.job.auction.phase ≡ Some challenge.now) }
+{
+    let auction = found.ok_or(HouseErr::Unknown)?;
+    check_proved(&auction.phase)?;
+    check_length(&auction, challenge)?;
+    if let Some(kept) = other_kept(alloc, &auction.phase, challenge)? {
+        return Err(HouseErr::OtherChallenge { kept });
+    }
+    let phase = answered_phase(alloc, &auction.phase, challenge)?;
+    let decision = work_in(alloc, auction, phase);
+    decision
+}
