@@ -1,0 +1,63 @@
+-- How a command ends, from what its parts did.
+use Rattle.std.proofs.Common.{◌≡◌, ℕ, List, Option, Some, None, Result, Ok, Err, refl, ap, subst, ◌∙◌, inl, inr}
+use Rattle.std.specs.Prelude.{option_map, IfSome, IfOk}
+use Rattle.vk_io.specs.Files.{Files, Told, Takes}
+use Rattle.vk_io.specs.declared.errors.OutsideErr.{OutsideErr}
+use Rattle.vk_keeper.specs.Ledgers.{Ledger}
+use Rattle.vk_effect.specs.Effects.{Effect, SaidValue, Stores, outside, puts, says, stores}
+use Rattle.vk_effect.specs.Ends.{Acts, Ends, TakesPrefix}
+
+-- ---- all but the printing
+
+-- a command that only read, and says what it found
+pub read_and_said : (said : Files → SaidValue) (held new : Option Files) (ledger : Option Ledger) (answer : Result SaidValue OutsideErr) → new ≡ held
+    → IfSome held (λ files. IfOk answer (λ value. value ≡ said files))
+    → IfSome (option_map (λ files. says ledger (said files)) held) (λ effect. Acts answer effect (stores held ledger) (stores new ledger))
+read_and_said said None new ledger answer same is = tt
+read_and_said said (Some files) new ledger (Ok value) same is = (is, ap (λ left. stores left ledger) same)
+read_and_said said (Some files) new ledger (Err stop) same is = inl (ap (λ left. stores left ledger) same)
+
+-- a command that was stopped where nothing had changed
+pub stopped_before : (effect : Effect) (old : Stores) (stop : OutsideErr) → Acts (Err stop) effect old old
+stopped_before effect old stop = inl refl
+
+-- ---- a whole command
+
+-- a command was stopped before it printed
+pub stopped_acting : (effect : Effect) (old new : Stores) (taken : Option (List ℕ)) (stop : OutsideErr) → Acts (Err stop) effect old new → Ends (Err stop) effect (outside old taken) (outside new taken)
+stopped_acting effect old new taken stop (inl same) = inl (ap (λ left. outside left taken) same)
+stopped_acting effect old new taken stop (inr left) = inr (left.0, inl (record { files_are = left.1; taken_is = refl }))
+
+-- it was stopped while it printed
+pub stopped_printing : {E : Type 0} (effect : Effect) (old new : Stores) (taken now : Option (List ℕ)) (said : SaidValue) (text : List ℕ) (refusal : E) (stop : OutsideErr) → text ≡ said.text → Acts (Ok said) effect old new → Told (Takes text (Err refusal)) taken now
+    → Ends (Err stop) effect (outside old taken) (outside new now)
+stopped_printing effect old new taken now said text refusal stop text_is acts told =
+    inr (
+      ap (λ (left : Stores). left.ledger) acts.1,
+      inr (record {
+        files_are = ap (λ (left : Stores). left.files) acts.1;
+        taken_is = subst (λ t. Told (TakesPrefix t) taken now) (text_is ∙ ap (λ (s : SaidValue). s.text) acts.0) told;
+      }),
+    )
+
+taken_told : (E : Type 0) (text : List ℕ) (taken now : Option (List ℕ)) → Told (Takes {E = E} text (Ok tt)) taken now → now ≡ puts text taken
+taken_told E text None now told = told
+taken_told E text (Some before) None told = absurd told
+taken_told E text (Some before) (Some taken) told = ap Some told
+
+-- it came to its end
+pub done_at_end : (E : Type 0) (effect : Effect) (old new : Stores) (taken now : Option (List ℕ)) (said : SaidValue) (text : List ℕ) (status : ℕ) → text ≡ said.text → status ≡ said.status → Acts (Ok said) effect old new → Told (Takes {E = E} text (Ok tt)) taken now
+    → Ends (Ok status) effect (outside old taken) (outside new now)
+done_at_end E effect old new taken now said text status text_is status_is acts told = record {
+  status_is = status_is ∙ ap (λ (s : SaidValue). s.status) acts.0;
+  files_are = ap (λ (left : Stores). left.files) acts.1;
+  ledger_is = ap (λ (left : Stores). left.ledger) acts.1;
+  taken_is = taken_told E effect.text taken now (subst (λ t. Told (Takes {E = E} t (Ok tt)) taken now) (text_is ∙ ap (λ (s : SaidValue). s.text) acts.0) told);
+}
+
+-- ---- effects that are told
+
+-- what follows for each effect follows for one that may be told
+pub if_some_map : {X : Type 0} (P Q : X → Type 0) → ((x : X) → P x → Q x) → (o : Option X) → IfSome o P → IfSome o Q
+if_some_map P Q follows None is = tt
+if_some_map P Q follows (Some x) is = follows x is

@@ -1,0 +1,3 @@
+pub mod PrintingLemmas
+pub mod Acting
+pub mod Sequences

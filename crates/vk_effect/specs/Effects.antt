@@ -1,0 +1,68 @@
+-- What a command does where nothing outside fails and memory is given.
+use Rattle.std.specs.Prelude.{◌≢◌, ℕ, List, [], ◌++◌, Option, option_map}
+use Rattle.vk_io.specs.Files.{Files}
+use Rattle.vk_io.specs.Writing.{written}
+use Rattle.vk_keeper.specs.Ledgers.{Ledger}
+
+-- ---- what is outside
+
+-- what a command works on, as far as it is told: the files, and the auctions that are kept
+pub record Stores : Type 0 where
+  pub files : Option Files
+  pub ledger : Option Ledger
+
+abbrev pub stores : Option Files → Option Ledger → Stores
+stores files ledger = record { files = files; ledger = ledger }
+
+-- what is outside of a command, as far as it is told: these, and the text that was printed
+pub record Outside : Type 0 where
+  pub files : Option Files
+  pub ledger : Option Ledger
+  pub taken : Option (List ℕ)
+
+abbrev pub outside : Stores → Option (List ℕ) → Outside
+outside stores taken = record { files = stores.files; ledger = stores.ledger; taken = taken }
+
+-- ---- effects
+
+-- what a command does: its status, the text that it prints at its end, the names and whole texts of the files
+-- that it writes, in order, and the ledger that it leaves, as far as it is told
+pub record Effect : Type 0 where
+  pub status : ℕ
+  pub text : List ℕ
+  pub writes : List (List ℕ × List ℕ)
+  pub ledger : Option Ledger
+
+-- what a command says: its status and its text
+pub record SaidValue : Type 0 where
+  pub status : ℕ
+  pub text : List ℕ
+
+abbrev pub said_of : Effect → SaidValue
+said_of effect = record { status = effect.status; text = effect.text }
+
+-- the effect of writing these files and saying this, where this ledger is left
+abbrev pub writes_and_says : Option Ledger → List (List ℕ × List ℕ) → SaidValue → Effect
+writes_and_says ledger writes said = record { status = said.status; text = said.text; writes = writes; ledger = ledger }
+
+-- the effect of saying this alone
+abbrev pub says : Option Ledger → SaidValue → Effect
+says ledger said = writes_and_says ledger [] said
+
+-- a command that came to its end has no status of one that was stopped
+abbrev pub IsEnd : ℕ → Type 0
+IsEnd status = (status ≢ 6) × (status ≢ 9)
+
+-- ---- what is left
+
+-- the stores after all of the effect but its text
+abbrev pub after : Effect → Stores → Stores
+after effect old = record { files = option_map (written effect.writes) old.files; ledger = effect.ledger }
+
+-- the text was printed
+abbrev pub puts : List ℕ → Option (List ℕ) → Option (List ℕ)
+puts text taken = option_map (λ before. before ++ text) taken
+
+-- what is outside after the whole effect
+abbrev pub done : Effect → Outside → Outside
+done effect old = record { files = option_map (written effect.writes) old.files; ledger = effect.ledger; taken = puts effect.text old.taken }

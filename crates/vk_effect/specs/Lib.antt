@@ -1,0 +1,5 @@
+pub mod Texts
+pub mod Effects
+pub mod Ends
+pub mod Sequences
+pub mod Counts

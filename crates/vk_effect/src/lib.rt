@@ -1,0 +1,13 @@
+//! What a command does to what is outside of it, and what it says.
+#![tactic(auto)]
+
+mod laws;
+mod printing;
+mod said;
+
+pub use laws::{a_stop_is_after_some_of_the_commands, commands_one_after_another_are_one};
+pub use printing::print;
+pub use said::Said;
+
+#[cfg(test)]
+mod tests;

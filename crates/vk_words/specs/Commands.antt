@@ -1,0 +1,63 @@
+-- The command that words are.
+use Rattle.std.specs.Prelude.{ℕ, ◌-◌, ◌^◌, ◌==◌, if◌then◌else◌, List, length, Option, Some, None, option_map}
+use Rattle.vk_lines.specs.Tokens.{◌>>=◌, decimal_of}
+use Rattle.vk_words.specs.declared.command.Command.{Command}
+use Rattle.vk_words.specs.declared.command.Command.TheVariants as commands
+use Rattle.vk_words.specs.declared.verb.Verb.{Verb}
+use Rattle.vk_words.specs.declared.verb.Verb.TheVariants as verbs
+use Rattle.vk_words.specs.Names.{ConfrontWords, ExtractWords, VerifyWords, confront_in, confront_seen, extract_in, extract_seen, name_at, verify_in, verify_seen, word_at}
+use Rattle.vk_words.specs.Orders.{HouseWords, IsHouseOrder, IsSealOrder, SealWords, house_by, house_seen, seal_in, seal_seen}
+use Rattle.vk_words.specs.Verbs.{verb_of, words_of}
+
+-- a command
+pub data CommandWords : Type 0 where
+  Seal : SealWords → CommandWords
+  House : HouseWords → CommandWords
+  Verify : VerifyWords → CommandWords
+  Extract : ExtractWords → CommandWords
+  Confront : ConfrontWords → CommandWords
+  Report : List ℕ → CommandWords
+  Sample : ℕ → CommandWords
+  Ceremony : List ℕ → CommandWords
+
+abbrev pub command_seen : Command → CommandWords
+command_seen (commands.Seal order) = Seal (seal_seen order)
+command_seen (commands.House order) = House (house_seen order)
+command_seen (commands.Verify names) = Verify (verify_seen names)
+command_seen (commands.Extract names) = Extract (extract_seen names)
+command_seen (commands.Confront names) = Confront (confront_seen names)
+command_seen (commands.Report board) = Report board.now
+command_seen (commands.Sample number) = Sample number
+command_seen (commands.Ceremony script) = Ceremony script.now
+
+-- its numbers are those that making a seal, and the house, ask for
+abbrev pub IsCommand : Command → Type 0
+IsCommand (commands.Seal order) = IsSealOrder (seal_seen order)
+IsCommand (commands.House order) = IsHouseOrder order
+IsCommand command = Unit {0}
+
+-- the command of that first word, by the words behind it
+abbrev pub command_by : Verb → List (List ℕ) → Option CommandWords
+command_by verbs.Seal words = option_map Seal (seal_in words)
+command_by verbs.Verify words = option_map Verify (verify_in words)
+command_by verbs.Extract words = option_map Extract (extract_in words)
+command_by verbs.Confront words = option_map Confront (confront_in words)
+command_by verbs.Report words = option_map Report (name_at words 1)
+command_by verbs.Sample words = option_map Sample (decimal_of (2 ^ 64 - 1) (word_at words 1))
+command_by verbs.Ceremony words = option_map Ceremony (name_at words 1)
+command_by verb words = option_map House (house_by verb words)
+
+-- the command that words are, if they are one: the first names it, and they are as many as it has
+unfoldable pub command_words : List (List ℕ) → Option CommandWords
+command_words words =
+    verb_of (word_at words 0) >>= λ verb.
+    if length words == words_of verb then command_by verb words else None
+
+-- a command of the house
+abbrev pub house_in : CommandWords → Option HouseWords
+house_in (House order) = Some order
+house_in command = None
+
+-- the command of the house that words are, if they are one
+unfoldable pub house_words : List (List ℕ) → Option HouseWords
+house_words words = command_words words >>= house_in

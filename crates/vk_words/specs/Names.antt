@@ -1,0 +1,84 @@
+-- The names of the files that a command reads.
+use Rattle.std.specs.Prelude.{ℕ, ◌+◌, ◌&&◌, nat_le, Bool, if◌then◌else◌, List, [], length, slice_index_or, Option, Some, None}
+use Rattle.vk_lines.specs.Tokens.{◌>>=◌}
+use Rattle.vk_words.specs.declared.names.AttemptNames.{AttemptNames}
+use Rattle.vk_words.specs.declared.names.ConfrontNames.{ConfrontNames}
+use Rattle.vk_words.specs.declared.names.ExtractNames.{ExtractNames}
+use Rattle.vk_words.specs.declared.names.VerifyNames.{VerifyNames}
+
+-- a name has 1 to 255 bytes
+abbrev pub is_name : List ℕ → Bool
+is_name word = nat_le 1 (length word) && nat_le (length word) 255
+
+-- the word that stands at that place, counted from 0
+abbrev pub word_at : List (List ℕ) → ℕ → List ℕ
+word_at words place = slice_index_or words place []
+
+-- the name that stands there
+abbrev pub name_at : List (List ℕ) → ℕ → Option (List ℕ)
+name_at words place = if is_name (word_at words place) then Some (word_at words place) else None
+
+-- ---- by their bytes
+
+-- the names of the files of one challenge and the reply to it
+pub record AttemptWords : Type 0 where
+  pub challenge : List ℕ
+  pub reply : List ℕ
+
+-- those of `verify`
+pub record VerifyWords : Type 0 where
+  pub board : List ℕ
+  pub attempt : AttemptWords
+
+-- those of `extract`
+pub record ExtractWords : Type 0 where
+  pub board : List ℕ
+  pub first : AttemptWords
+  pub second : AttemptWords
+
+-- those of `confront`
+pub record ConfrontWords : Type 0 where
+  pub replies : ExtractWords
+  pub secret : List ℕ
+
+abbrev pub attempt_seen : AttemptNames → AttemptWords
+attempt_seen names = record { challenge = names.challenge.now; reply = names.reply.now }
+
+abbrev pub verify_seen : VerifyNames → VerifyWords
+verify_seen names = record { board = names.board.now; attempt = attempt_seen names.attempt }
+
+abbrev pub extract_seen : ExtractNames → ExtractWords
+extract_seen names = record { board = names.board.now; first = attempt_seen names.first; second = attempt_seen names.second }
+
+abbrev pub confront_seen : ConfrontNames → ConfrontWords
+confront_seen names = record { replies = extract_seen names.replies; secret = names.secret.now }
+
+-- ---- where they stand
+
+-- the names of a challenge, at that place, and of the reply behind it
+unfoldable pub attempt_at : List (List ℕ) → ℕ → Option AttemptWords
+attempt_at words place = do
+  challenge ← name_at words place
+  reply ← name_at words (place + 1)
+  Some (record { challenge = challenge; reply = reply })
+
+-- BOARD CHALLENGE REPLY behind the first word
+unfoldable pub verify_in : List (List ℕ) → Option VerifyWords
+verify_in words = do
+  board ← name_at words 1
+  attempt ← attempt_at words 2
+  Some (record { board = board; attempt = attempt })
+
+-- the same and CHALLENGE REPLY, the second ones
+unfoldable pub extract_in : List (List ℕ) → Option ExtractWords
+extract_in words = do
+  names ← verify_in words
+  second ← attempt_at words 4
+  Some (record { board = names.board; first = names.attempt; second = second })
+
+-- the same and SECRET
+unfoldable pub confront_in : List (List ℕ) → Option ConfrontWords
+confront_in words = do
+  replies ← extract_in words
+  secret ← name_at words 6
+  Some (record { replies = replies; secret = secret })

@@ -1,0 +1,99 @@
+-- What a bidder's command and the house's commands are to do.
+use Rattle.std.specs.Prelude.{ℕ, ◌-◌, ◌^◌, ◌≤◌, if◌then◌else◌, List, Option, Some, None}
+use Rattle.std.specs.Str.{bytes_eq}
+use Rattle.vk_lines.specs.Tokens.{◌>>=◌, decimal_of, hex_of, number_token}
+use Rattle.vk_words.specs.declared.orders.HouseOrder.{HouseOrder}
+use Rattle.vk_words.specs.declared.orders.HouseOrder.TheVariants as orders
+use Rattle.vk_words.specs.declared.orders.SealOrder.{SealOrder}
+use Rattle.vk_words.specs.declared.verb.Verb.{Verb}
+use Rattle.vk_words.specs.declared.verb.Verb.TheVariants as verbs
+use Rattle.vk_words.specs.Names.{attempt_at, name_at, word_at}
+
+-- what `seal` is to make: the id of an auction, a seat, a bid, the width, the lanes and the seed, and the names of its files
+pub record SealWords : Type 0 where
+  pub auction : List ℕ
+  pub seat : ℕ
+  pub bid : ℕ
+  pub width : ℕ
+  pub lanes : ℕ
+  pub seed : List ℕ
+  pub secret : List ℕ
+  pub seal : List ℕ
+
+-- a command of the house, on the auction of that id
+pub data HouseWords : Type 0 where
+  Announce : (id : List ℕ) (width lanes : ℕ) → HouseWords
+  Submit : (id seal secret : List ℕ) → HouseWords
+  Prove : (id seed board : List ℕ) → HouseWords
+  Answer : (id challenge reply : List ℕ) → HouseWords
+  Show : (id : List ℕ) → HouseWords
+
+abbrev pub seal_seen : SealOrder → SealWords
+seal_seen order =
+    record { auction = order.auction; seat = order.seat; bid = order.bid; width = order.width; lanes = order.lanes; seed = order.seed; secret = order.secret.now; seal = order.seal.now }
+
+abbrev pub house_seen : HouseOrder → HouseWords
+house_seen (orders.Announce id width lanes) = Announce id width lanes
+house_seen (orders.Submit id seal secret) = Submit id seal.now secret.now
+house_seen (orders.Prove id seed board) = Prove id seed board.now
+house_seen (orders.Answer id challenge reply) = Answer id challenge.now reply.now
+house_seen (orders.Show id) = Show id
+
+-- ---- limits
+
+-- the width of an auction and its number of lanes are within their limits
+pub record IsSize (width lanes : ℕ) : Type 0 where
+  pub some_width : 1 ≤ width
+  pub last_width : width ≤ 40
+  pub some_lane : 1 ≤ lanes
+  pub last_lane : lanes ≤ 64
+
+-- what making a seal asks of its numbers
+pub record IsSealOrder (order : SealWords) : Type 0 where
+  pub seat : 1 ≤ order.seat
+  pub size : IsSize order.width order.lanes
+
+-- what the house asks of the numbers of a command
+abbrev pub IsHouseOrder : HouseOrder → Type 0
+IsHouseOrder (orders.Announce id width lanes) = IsSize width lanes
+IsHouseOrder order = Unit {0}
+
+-- ---- where they stand
+
+-- the id of 16 bytes at that place
+abbrev pub id_at : List (List ℕ) → ℕ → Option (List ℕ)
+id_at words place = hex_of 16 (word_at words place)
+
+-- the seed of 32 bytes at that place
+abbrev pub seed_at : List (List ℕ) → ℕ → Option (List ℕ)
+seed_at words place = hex_of 32 (word_at words place)
+
+-- what is given, where the two names differ
+abbrev pub if_other : {X : Type 0} → List ℕ → List ℕ → X → Option X
+if_other name other given = if bytes_eq name other then None else Some given
+
+-- ID SEAT BID WIDTH LANES SEED SECRET SEAL behind the first word, where the two files have different names
+unfoldable pub seal_in : List (List ℕ) → Option SealWords
+seal_in words = do
+  auction ← id_at words 1
+  seat ← number_token 1 65535 (word_at words 2)
+  bid ← decimal_of (2 ^ 64 - 1) (word_at words 3)
+  width ← number_token 1 40 (word_at words 4)
+  lanes ← number_token 1 64 (word_at words 5)
+  seed ← seed_at words 6
+  secret ← name_at words 7
+  seal ← name_at words 8
+  if_other secret seal (record { auction = auction; seat = seat; bid = bid; width = width; lanes = lanes; seed = seed; secret = secret; seal = seal })
+
+-- behind ID: WIDTH LANES; SEAL SECRET; SEED BOARD; CHALLENGE REPLY, where the two files have different names; nothing
+abbrev pub house_on : List ℕ → Verb → List (List ℕ) → Option HouseWords
+house_on id verbs.Announce words = number_token 1 40 (word_at words 2) >>= λ width. number_token 1 64 (word_at words 3) >>= λ lanes. Some (Announce id width lanes)
+house_on id verbs.Submit words = name_at words 2 >>= λ seal. name_at words 3 >>= λ secret. Some (Submit id seal secret)
+house_on id verbs.Prove words = seed_at words 2 >>= λ seed. name_at words 3 >>= λ board. Some (Prove id seed board)
+house_on id verbs.Answer words = attempt_at words 2 >>= λ attempt. if_other attempt.challenge attempt.reply (Answer id attempt.challenge attempt.reply)
+house_on id verbs.Show words = Some (Show id)
+house_on id verb words = None
+
+-- a command of the house on the auction whose ID stands behind the first word
+abbrev pub house_by : Verb → List (List ℕ) → Option HouseWords
+house_by verb words = id_at words 1 >>= λ id. house_on id verb words

@@ -1,0 +1,81 @@
+//! The command that words are.
+
+ghost use Rattle.std.specs.Prelude.{◌≡◌, IfSome, length, map, option_map, string_bytes};
+ghost use Rattle.vk_words.specs.Commands.{IsCommand, command_by, command_seen, command_words, house_in, house_words};
+ghost use Rattle.vk_words.specs.Orders.{IsHouseOrder, house_seen};
+ghost use Rattle.vk_words.specs.Verbs.{words_of};
+
+use crate::names::{
+    ConfrontNames, ExtractNames, VerifyNames, confront_names, extract_names, verify_names,
+};
+use crate::orders::{HouseOrder, SealOrder, house_order, seal_order};
+use crate::verb::{Verb, verb_of, words_of};
+use crate::word::{name, word};
+use vk_lines::read_decimal;
+
+/// A command.
+#[derive(Clone, Copy, Debug)]
+pub enum Command<'a> {
+    Seal(SealOrder<'a>),
+    House(HouseOrder<'a>),
+    Verify(VerifyNames<'a>),
+    Extract(ExtractNames<'a>),
+    Confront(ConfrontNames<'a>),
+    /// The name of the board.
+    Report(&'a str),
+    /// The number of the sample.
+    Sample(u64),
+    /// The name of the script.
+    Ceremony(&'a str),
+}
+
+/// The command, of which the words are as many as it has.
+fn command_by(verb: Verb, words: &[String]) -> Option<Command<'_>>
+    requires { length words.now ≡ words_of verb }
+    ensures value { option_map command_seen result ≡ command_by verb (map string_bytes words.now) }
+    ensures limits { IfSome result IsCommand }
+{
+    let command = match verb {
+        Verb::Seal => Command::Seal(seal_order(words)?),
+        Verb::Announce | Verb::Submit | Verb::Prove | Verb::Answer | Verb::Show => {
+            Command::House(house_order(verb, words)?)
+        }
+        Verb::Verify => Command::Verify(verify_names(words)?),
+        Verb::Extract => Command::Extract(extract_names(words)?),
+        Verb::Confront => Command::Confront(confront_names(words)?),
+        Verb::Report => Command::Report(name(words, 1)?),
+        Verb::Sample => Command::Sample(read_decimal(word(words, 1).as_bytes(), u64::MAX)?),
+        Verb::Ceremony => Command::Ceremony(name(words, 1)?),
+    };
+    Some(command)
+}
+
+/// The command that the words are: the first names it, and they are as many as it has, each of its form.
+#[tactic(auto, unfolding(crate::specs::Commands::command_words))]
+pub fn command_of(words: &[String]) -> Option<Command<'_>>
+    ensures value { option_map command_seen result ≡ command_words (map string_bytes words.now) }
+    ensures limits { IfSome result IsCommand }
+{
+    if words.is_empty() {
+        return None;
+    }
+    let verb = verb_of(word(words, 0))?;
+    if words.len() != words_of(verb) {
+        return None;
+    }
+    let command = command_by(verb, words);
+    command
+}
+
+/// The command of the house that the words are.
+#[tactic(auto, unfolding(crate::specs::Commands::house_words))]
+pub fn house_order_of(words: &[String]) -> Option<HouseOrder<'_>>
+    ensures value { option_map house_seen result ≡ house_words (map string_bytes words.now) }
+    ensures limits { IfSome result IsHouseOrder }
+{
+    let command = command_of(words)?;
+    match command {
+        Command::House(order) => Some(order),
+        _ => None,
+    }
+}
