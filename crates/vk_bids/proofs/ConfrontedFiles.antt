@@ -1,22 +1,22 @@
 -- What a confrontation of named files answers.
-use Rattle.std.proofs.Common.{◌≡◌, ℕ, List, Result, Ok, Err, sym, ap, subst, ◌∙◌}
+use Rattle.std.proofs.Common.{◌≡◌, ℕ, List, Option, Some, None, Result, Ok, Err, sym, ap, subst, ◌∙◌}
 use Rattle.std.specs.FinMap.{get}
 use Rattle.std.specs.Result.{IsErrAnd}
 use Rattle.vk_io.specs.Files.{Files}
+use Rattle.vk_lines.specs.Gives.{Refuses, Gives as Answers}
 use Rattle.vk_lines.specs.Lines.{Rest}
 use Rattle.vk_row.specs.LaneTests.{◌>>=◌}
 use Rattle.vk_seal.specs.Reading.{secret_at}
 use Rattle.vk_seal.specs.declared.secret.Secret.{Secret}
 use Rattle.vk_verifier.specs.declared.answers.VErr.{VErr}
 use Rattle.vk_verifier.specs.declared.answers.VErr.TheVariants as verr
-use Rattle.vk_verifier.specs.Two.{Ahead, base_on, two_on}
 use Rattle.vk_verifier.specs.Verdicts.{Gives}
 use Rattle.vk_bids.specs.declared.confrontation.ConfrontErr.{ConfrontErr}
-use Rattle.vk_bids.specs.declared.confrontation.ConfrontErr.TheVariants.{Missing, MissingSecret, TooLong, TooLongSecret, Failed, NoMemory}
+use Rattle.vk_bids.specs.declared.confrontation.ConfrontErr.TheVariants.{Unread}
 use Rattle.vk_bids.specs.declared.confrontation.Confrontation.{Confrontation}
 use Rattle.vk_bids.specs.declared.extraction.Extraction.{Extraction}
-use Rattle.vk_bids.specs.Confrontation.{Confronts, confront_err_of, confrontation_of, confrontation_on, of_extraction, secret_begun, secret_in}
-use Rattle.vk_bids.specs.Extraction.{extraction_of, extraction_on}
+use Rattle.vk_bids.specs.Confrontation.{confrontation_of, confrontation_on, fault_of, of_extraction, secret_begun, secret_in}
+use Rattle.vk_bids.specs.Extraction.{extraction_on}
 
 -- an answer that is refused for this cause
 same_refusal : (answer : Result Confrontation ConfrontErr) (refusal : ConfrontErr) → IsErrAnd answer (λ r. r ≡ refusal) → answer ≡ Err refusal
@@ -33,22 +33,15 @@ on_extraction : (files : Files) (board first_challenge first_reply second_challe
 unfolding confrontation_on after_extraction
 on_extraction files board first_challenge first_reply second_challenge second_reply secret answer is = ap (λ a. of_extraction a >>= after_extraction files secret) is
 
-not_extracted : (files : Files) (board first_challenge first_reply second_challenge second_reply : List ℕ) (refusal : VErr)
-    → two_on files board first_challenge first_reply second_challenge second_reply ≡ Err refusal → extraction_on files board first_challenge first_reply second_challenge second_reply ≡ Err refusal
-unfolding extraction_on
-not_extracted files board first_challenge first_reply second_challenge second_reply refusal is =
-    ap (λ ahead. ahead >>= λ ahead. base_on files board first_challenge first_reply second_challenge second_reply >>= λ base. Ok (extraction_of base ahead)) is
-
 not_confronted : (files : Files) (board first_challenge first_reply second_challenge second_reply secret : List ℕ) (refusal : VErr)
-    → two_on files board first_challenge first_reply second_challenge second_reply ≡ Err refusal
-    → confrontation_on files board first_challenge first_reply second_challenge second_reply secret ≡ Err (confront_err_of refusal)
+    → extraction_on files board first_challenge first_reply second_challenge second_reply ≡ Err refusal
+    → confrontation_on files board first_challenge first_reply second_challenge second_reply secret ≡ Err (Unread refusal)
 not_confronted files board first_challenge first_reply second_challenge second_reply secret refusal is =
-    on_extraction files board first_challenge first_reply second_challenge second_reply secret (Err refusal)
-    (not_extracted files board first_challenge first_reply second_challenge second_reply refusal is)
+    on_extraction files board first_challenge first_reply second_challenge second_reply secret (Err refusal) is
 
-refused_by : {T : Type 0} (value : T → Ahead) (files : Files) (board first_challenge first_reply second_challenge second_reply secret : List ℕ) (refusal : VErr)
-    → Gives value (Err refusal) (two_on files board first_challenge first_reply second_challenge second_reply)
-    → Confronts {T = Confrontation} (λ c. c) (Err (confront_err_of refusal)) (confrontation_on files board first_challenge first_reply second_challenge second_reply secret)
+refused_by : {T : Type 0} (value : T → Extraction) (files : Files) (board first_challenge first_reply second_challenge second_reply secret : List ℕ) (refusal : VErr)
+    → Gives value (Err refusal) (extraction_on files board first_challenge first_reply second_challenge second_reply)
+    → Refuses (fault_of (Unread refusal)) (confrontation_on files board first_challenge first_reply second_challenge second_reply secret)
 refused_by value files board first_challenge first_reply second_challenge second_reply secret (verr.Missing file) is =
     not_confronted files board first_challenge first_reply second_challenge second_reply secret (verr.Missing file) is
 refused_by value files board first_challenge first_reply second_challenge second_reply secret (verr.TooLong file) is =
@@ -57,13 +50,13 @@ refused_by value files board first_challenge first_reply second_challenge second
 refused_by value files board first_challenge first_reply second_challenge second_reply secret verr.NoMemory is = tt
 
 -- a file of the extraction is missing or too long
-pub refused_first : {T : Type 0} (value : T → Ahead) (files : Files) (board first_challenge first_reply second_challenge second_reply secret : List ℕ) (refusal : VErr) (answer : Result Confrontation ConfrontErr)
-    → IsErrAnd answer (λ r. r ≡ confront_err_of refusal) → Gives value (Err refusal) (two_on files board first_challenge first_reply second_challenge second_reply)
-    → Confronts {T = Confrontation} (λ c. c) answer (confrontation_on files board first_challenge first_reply second_challenge second_reply secret)
+pub refused_first : {T : Type 0} (value : T → Extraction) (files : Files) (board first_challenge first_reply second_challenge second_reply secret : List ℕ) (refusal : VErr) (answer : Result Confrontation ConfrontErr)
+    → IsErrAnd answer (λ r. r ≡ Unread refusal) → Gives value (Err refusal) (extraction_on files board first_challenge first_reply second_challenge second_reply)
+    → Answers {T = Confrontation} fault_of (λ c. c) answer (confrontation_on files board first_challenge first_reply second_challenge second_reply secret)
 refused_first value files board first_challenge first_reply second_challenge second_reply secret refusal answer err is =
     let P : Result Confrontation ConfrontErr → Type 0 = λ a.
-    Confronts {T = Confrontation} (λ c. c) a (confrontation_on files board first_challenge first_reply second_challenge second_reply secret) in
-    subst P (sym (same_refusal answer (confront_err_of refusal) err)) (refused_by value files board first_challenge first_reply second_challenge second_reply secret refusal is)
+    Answers {T = Confrontation} fault_of (λ c. c) a (confrontation_on files board first_challenge first_reply second_challenge second_reply secret) in
+    subst P (sym (same_refusal answer (Unread refusal) err)) (refused_by value files board first_challenge first_reply second_challenge second_reply secret refusal is)
 
 no_secret : (files : Files) (board first_challenge first_reply second_challenge second_reply secret : List ℕ) (extraction : Extraction) (refusal : ConfrontErr)
     → extraction_on files board first_challenge first_reply second_challenge second_reply ≡ Ok extraction → secret_begun (get files secret) ≡ Err refusal
@@ -73,29 +66,22 @@ no_secret files board first_challenge first_reply second_challenge second_reply 
     on_extraction files board first_challenge first_reply second_challenge second_reply secret (Ok extraction) extracted
     ∙ ap (λ begun. begun >>= λ rest. Ok (confrontation_of extraction (secret_in (secret_at rest)))) is
 
-secret_refused : {T : Type 0} (value : T → Rest) (files : Files) (board first_challenge first_reply second_challenge second_reply secret : List ℕ) (extraction : Extraction) (refusal : ConfrontErr)
-    → extraction_on files board first_challenge first_reply second_challenge second_reply ≡ Ok extraction → Confronts value (Err refusal) (secret_begun (get files secret))
-    → Confronts {T = Confrontation} (λ c. c) (Err refusal) (confrontation_on files board first_challenge first_reply second_challenge second_reply secret)
-secret_refused value files board first_challenge first_reply second_challenge second_reply secret extraction (Missing file) extracted is =
-    no_secret files board first_challenge first_reply second_challenge second_reply secret extraction (Missing file) extracted is
-secret_refused value files board first_challenge first_reply second_challenge second_reply secret extraction MissingSecret extracted is =
-    no_secret files board first_challenge first_reply second_challenge second_reply secret extraction MissingSecret extracted is
-secret_refused value files board first_challenge first_reply second_challenge second_reply secret extraction (TooLong file) extracted is =
-    no_secret files board first_challenge first_reply second_challenge second_reply secret extraction (TooLong file) extracted is
-secret_refused value files board first_challenge first_reply second_challenge second_reply secret extraction TooLongSecret extracted is =
-    no_secret files board first_challenge first_reply second_challenge second_reply secret extraction TooLongSecret extracted is
-secret_refused value files board first_challenge first_reply second_challenge second_reply secret extraction Failed extracted is = tt
-secret_refused value files board first_challenge first_reply second_challenge second_reply secret extraction NoMemory extracted is = tt
+secret_refused : (files : Files) (board first_challenge first_reply second_challenge second_reply secret : List ℕ) (extraction : Extraction) (fault : Option ConfrontErr)
+    → extraction_on files board first_challenge first_reply second_challenge second_reply ≡ Ok extraction → Refuses fault (secret_begun (get files secret))
+    → Refuses fault (confrontation_on files board first_challenge first_reply second_challenge second_reply secret)
+secret_refused files board first_challenge first_reply second_challenge second_reply secret extraction (Some fault) extracted is =
+    no_secret files board first_challenge first_reply second_challenge second_reply secret extraction fault extracted is
+secret_refused files board first_challenge first_reply second_challenge second_reply secret extraction None extracted is = tt
 
 -- the secret's file is missing or too long
 pub refused_second : {T : Type 0} (value : T → Rest) (files : Files) (board first_challenge first_reply second_challenge second_reply secret : List ℕ) (extraction : Extraction) (refusal : ConfrontErr)
     (answer : Result Confrontation ConfrontErr) → IsErrAnd answer (λ r. r ≡ refusal)
-    → extraction_on files board first_challenge first_reply second_challenge second_reply ≡ Ok extraction → Confronts value (Err refusal) (secret_begun (get files secret))
-    → Confronts {T = Confrontation} (λ c. c) answer (confrontation_on files board first_challenge first_reply second_challenge second_reply secret)
+    → extraction_on files board first_challenge first_reply second_challenge second_reply ≡ Ok extraction → Answers fault_of value (Err refusal) (secret_begun (get files secret))
+    → Answers {T = Confrontation} fault_of (λ c. c) answer (confrontation_on files board first_challenge first_reply second_challenge second_reply secret)
 refused_second value files board first_challenge first_reply second_challenge second_reply secret extraction refusal answer err extracted is =
     let P : Result Confrontation ConfrontErr → Type 0 = λ a.
-    Confronts {T = Confrontation} (λ c. c) a (confrontation_on files board first_challenge first_reply second_challenge second_reply secret) in
-    subst P (sym (same_refusal answer refusal err)) (secret_refused value files board first_challenge first_reply second_challenge second_reply secret extraction refusal extracted is)
+    Answers {T = Confrontation} fault_of (λ c. c) a (confrontation_on files board first_challenge first_reply second_challenge second_reply secret) in
+    subst P (sym (same_refusal answer refusal err)) (secret_refused files board first_challenge first_reply second_challenge second_reply secret extraction (fault_of refusal) extracted is)
 
 -- all six are begun
 pub confronted : (files : Files) (board first_challenge first_reply second_challenge second_reply secret : List ℕ) (extraction : Extraction) (rest : Rest) (read : Result Secret ℕ) (confrontation : Confrontation)

@@ -1,14 +1,17 @@
 -- Lane by lane, what two replies give leads to what is gathered of all their lanes.
-use Rattle.std.proofs.Common.{◌≡◌, ℕ, ◌+◌, List, [], Option, Some, None, IfSome, Result, Ok, refl, sym, ap, subst, ◌∙◌}
+use Rattle.std.proofs.Common.{◌≡◌, ℕ, ◌+◌, List, [], Option, Some, None, IfSome, Result, Ok, Err, refl, sym, ap, subst, ◌∙◌}
 use Rattle.vk_io.specs.Files.{Files}
 use Rattle.vk_row.specs.LaneTests.{◌>>=◌}
 use Rattle.vk_commit.specs.Commitment.{TwoOpeningsSeen}
+use Rattle.vk_verifier.specs.declared.answers.VErr.{VErr}
+use Rattle.vk_verifier.specs.declared.answers.VErr.TheVariants.{Missing, TooLong, Failed, NoMemory}
 use Rattle.vk_verifier.specs.declared.stage.Base.{Base}
 use Rattle.vk_verifier.specs.declared.stage.Stage.{Stage}
 use Rattle.vk_verifier.specs.declared.stage.TwoLane.{TwoLane}
 use Rattle.vk_verifier.specs.declared.stage.TwoVerdict.{TwoVerdict}
 use Rattle.vk_verifier.specs.declared.stage.TwoVerdict.TheVariants as ends
 use Rattle.vk_verifier.specs.Two.{Ahead, GoesOn, ahead_of, base_on, finding_of, two_on}
+use Rattle.vk_verifier.specs.Verdicts.{Gives}
 use Rattle.vk_verifier.proofs.Steps.{bind_found}
 use Rattle.vk_bids.specs.declared.bids.LaneBids.{LaneBids}
 use Rattle.vk_bids.specs.declared.extraction.Extraction.{Extraction}
@@ -98,3 +101,22 @@ extracted files board first_challenge first_reply second_challenge second_reply 
     let bases = base_on files board first_challenge first_reply second_challenge second_reply in
     bind_found (two_on files board first_challenge first_reply second_challenge second_reply) (λ ahead. bases >>= λ base. Ok (extraction_of base ahead)) ahead ahead_is
     ∙ (bind_found bases (λ base. Ok (extraction_of base ahead)) base base_is ∙ ap (λ e. Ok e) is)
+
+not_extracted : (files : Files) (board first_challenge first_reply second_challenge second_reply : List ℕ) (refusal : VErr)
+    → two_on files board first_challenge first_reply second_challenge second_reply ≡ Err refusal → extraction_on files board first_challenge first_reply second_challenge second_reply ≡ Err refusal
+unfolding extraction_on
+not_extracted files board first_challenge first_reply second_challenge second_reply refusal is =
+    ap (λ ahead. ahead >>= λ ahead. base_on files board first_challenge first_reply second_challenge second_reply >>= λ base. Ok (extraction_of base ahead)) is
+
+-- a checker that was begun, or a file of it that is missing or too long
+pub begun : {T : Type 0} (base : T → Option Base) (ahead : T → Ahead) (files : Files) (board first_challenge first_reply second_challenge second_reply : List ℕ) (answer : Result T VErr)
+    → Gives ahead answer (two_on files board first_challenge first_reply second_challenge second_reply) → Gives base answer (base_on files board first_challenge first_reply second_challenge second_reply)
+    → Gives (λ checker. extraction_of (base checker) (ahead checker)) answer (extraction_on files board first_challenge first_reply second_challenge second_reply)
+begun base ahead files board first_challenge first_reply second_challenge second_reply (Ok checker) ahead_is base_is =
+    extracted files board first_challenge first_reply second_challenge second_reply (base checker) (ahead checker) (extraction_of (base checker) (ahead checker)) ahead_is base_is refl
+begun base ahead files board first_challenge first_reply second_challenge second_reply (Err (Missing file)) ahead_is base_is =
+    not_extracted files board first_challenge first_reply second_challenge second_reply (Missing file) ahead_is
+begun base ahead files board first_challenge first_reply second_challenge second_reply (Err (TooLong file)) ahead_is base_is =
+    not_extracted files board first_challenge first_reply second_challenge second_reply (TooLong file) ahead_is
+begun base ahead files board first_challenge first_reply second_challenge second_reply (Err Failed) ahead_is base_is = tt
+begun base ahead files board first_challenge first_reply second_challenge second_reply (Err NoMemory) ahead_is base_is = tt

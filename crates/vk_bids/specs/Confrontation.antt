@@ -1,5 +1,5 @@
 -- What a bidder's secret comes to against two replies to a board.
-use Rattle.std.specs.Prelude.{◌≡◌, ℕ, ◌^◌, ◌≤◌, ◌==◌, nat_lt, if◌then◌else◌, false, true, List, [], ◌∷◌, length, position, slice_get, slice_index_or, Option, Some, None, IfSome, Result, Ok, Err}
+use Rattle.std.specs.Prelude.{ℕ, ◌^◌, ◌≤◌, ◌==◌, nat_lt, if◌then◌else◌, false, true, List, [], ◌∷◌, length, position, slice_get, slice_index_or, Option, Some, None, IfSome, Result, Ok, Err}
 use Rattle.std.specs.FinMap.{get}
 use Rattle.vk_commit.specs.Commitment.{TwoOpeningsSeen}
 use Rattle.vk_io.specs.Files.{Files}
@@ -20,7 +20,8 @@ use Rattle.vk_verifier.specs.Verdicts.{from_start}
 use Rattle.vk_bids.specs.declared.bids.LaneBids.{LaneBids}
 use Rattle.vk_bids.specs.declared.bids.OpenedBid.{OpenedBid}
 use Rattle.vk_bids.specs.declared.confrontation.ConfrontErr.{ConfrontErr}
-use Rattle.vk_bids.specs.declared.confrontation.ConfrontErr.TheVariants.{Missing, MissingSecret, TooLong, TooLongSecret, Failed, NoMemory}
+use Rattle.vk_bids.specs.declared.confrontation.ConfrontErr.TheVariants.{Unread, MissingSecret, TooLongSecret}
+use Rattle.vk_bids.specs.declared.confrontation.ConfrontNames.{ConfrontNames}
 use Rattle.vk_bids.specs.declared.confrontation.Confrontation.{Confrontation}
 use Rattle.vk_bids.specs.declared.confrontation.Confrontation.TheVariants as comes
 use Rattle.vk_bids.specs.declared.extraction.Extracted.{Extracted}
@@ -102,15 +103,9 @@ confrontation_in board first_challenge first_reply second_challenge second_reply
     confrontation_of (extraction_in board first_challenge first_reply second_challenge second_reply) (secret_in (secret_at (from_start secret)))
 
 -- which file of an extraction is missing or too long
-abbrev pub confront_err_of : VErr → ConfrontErr
-confront_err_of (verr.Missing file) = Missing file
-confront_err_of (verr.TooLong file) = TooLong file
-confront_err_of verr.Failed = Failed
-confront_err_of verr.NoMemory = NoMemory
-
 abbrev pub of_extraction : {X : Type 0} → Result X VErr → Result X ConfrontErr
 of_extraction (Ok x) = Ok x
-of_extraction (Err refused) = Err (confront_err_of refused)
+of_extraction (Err refused) = Err (Unread refused)
 
 -- the file of a secret from its first line on, where it is held and has at most 2^30 bytes
 abbrev pub secret_begun : Option (List ℕ) → Result Rest ConfrontErr
@@ -124,16 +119,16 @@ confrontation_on files board first_challenge first_reply second_challenge second
   rest ← secret_begun (get files secret)
   Ok (confrontation_of extraction (secret_in (secret_at rest)))
 
--- what is answered is what the definition gives: a value, or which file is missing or too long. After a
--- failure of the outside or want of memory nothing is said
-abbrev pub Confronts : {T X : Type 0} → (T → X) → Result T ConfrontErr → Result X ConfrontErr → Type 0
-Confronts value (Ok x) expected = expected ≡ Ok (value x)
-Confronts value (Err (Missing file)) expected = expected ≡ Err (Missing file)
-Confronts value (Err MissingSecret) expected = expected ≡ Err MissingSecret
-Confronts value (Err (TooLong file)) expected = expected ≡ Err (TooLong file)
-Confronts value (Err TooLongSecret) expected = expected ≡ Err TooLongSecret
-Confronts value (Err Failed) expected = Unit {0}
-Confronts value (Err NoMemory) expected = Unit {0}
+abbrev pub confrontation_named : Files → ConfrontNames → Result Confrontation ConfrontErr
+confrontation_named files names =
+    let replies = names.replies in
+    confrontation_on files replies.board.now replies.challenge1.now replies.reply1.now replies.challenge2.now replies.reply2.now names.secret.now
+
+-- which file is missing or too long, as a refusal tells it. A failure of the outside and want of memory tell none
+abbrev pub fault_of : ConfrontErr → Option ConfrontErr
+fault_of (Unread verr.Failed) = None
+fault_of (Unread verr.NoMemory) = None
+fault_of refusal = Some refusal
 
 -- ---- what is asked for
 

@@ -17,6 +17,7 @@ use Rattle.vk_verifier.specs.TwoValues.{begun_in}
 use Rattle.vk_bids.specs.declared.bids.LaneBids.{LaneBids}
 use Rattle.vk_bids.specs.declared.extraction.Extraction.{Extraction}
 use Rattle.vk_bids.specs.declared.extraction.Extraction.TheVariants.{Refused, Same, Clash, Bids}
+use Rattle.vk_bids.specs.declared.extraction.TwoReplies.{TwoReplies}
 use Rattle.vk_bids.specs.Gathering.{gathered_from}
 use Rattle.vk_bids.specs.Outcome.{LaneShows}
 
@@ -53,6 +54,9 @@ extraction_on files board first_challenge first_reply second_challenge second_re
   ahead ← two_on files board first_challenge first_reply second_challenge second_reply
   base ← base_on files board first_challenge first_reply second_challenge second_reply
   Ok (extraction_of base ahead)
+
+abbrev pub extraction_named : Files → TwoReplies → Result Extraction VErr
+extraction_named files names = extraction_on files names.board.now names.challenge1.now names.reply1.now names.challenge2.now names.reply2.now
 
 -- of bids: the front is that of a board whose price and winner may stand, and the bids of each lane show the
 -- outcome that it publishes

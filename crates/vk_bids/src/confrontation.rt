@@ -4,6 +4,7 @@ ghost use Rattle.std.specs.FinMap as map;
 ghost use Rattle.vk_io.specs.Faults.{Causes};
 ghost use Rattle.vk_io.specs.Files.{Files};
 ghost use Rattle.vk_io.specs.Reads.{OnlyReads};
+ghost use Rattle.vk_lines.specs.Gives.{Gives};
 ghost use Rattle.vk_lines.specs.Lines.{Reads, Rest, Starts, rest_of};
 ghost use Rattle.vk_seal.specs.declared.secret.Secret.{Secret};
 ghost use Rattle.vk_seal.specs.Made.{seal_of};
@@ -11,28 +12,24 @@ ghost use Rattle.vk_seal.specs.Match.{match_of};
 ghost use Rattle.vk_seal.specs.Reading.{secret_at};
 ghost use Rattle.vk_seal.specs.Values.{IsSecret};
 ghost use Rattle.vk_board.specs.Fronts.{IsFront};
-ghost use Rattle.vk_bids.specs.Confrontation.{Confronts, OpensSecretIn, board_seal, confrontation_of, confrontation_on, confronted_found, confronted_lane, confronted_lanes, index_of_seat, matched_by, secret_begun, secret_in};
+ghost use Rattle.vk_bids.specs.Confrontation.{OpensSecretIn, board_seal, confrontation_named, confrontation_of, confronted_found, confronted_lane, confronted_lanes, fault_of, index_of_seat, matched_by, secret_begun, secret_in};
 ghost use Rattle.vk_bids.specs.Extraction.{Shows};
 ghost use Rattle.vk_bids.specs.Outcome.{LaneShows};
 
 use crate::bids::LaneBids;
-use crate::extraction::{Extracted, Extraction, extract_rest};
+use crate::extraction::{Extracted, Extraction, TwoReplies, begin, extract_rest};
 use std::alloc::Global;
 use vk_board::{Front, SealLines};
 use vk_commit::TwoOpenings;
 use vk_io::{OutsideErr, Shelf};
 use vk_lines::{Lines, ReadErr, StartErr};
 use vk_seal::{Mismatch, Seal, Secret, matches, read_secret};
-use vk_verifier::{BoardVerdict, Part, TwoChecker, VErr};
+use vk_verifier::{BoardVerdict, VErr};
 
 /// The names of the files that a secret is confronted with, and its own.
 #[derive(Clone, Copy, Debug)]
 pub struct ConfrontNames<'a> {
-    pub board: &'a str,
-    pub challenge1: &'a str,
-    pub reply1: &'a str,
-    pub challenge2: &'a str,
-    pub reply2: &'a str,
+    pub replies: TwoReplies<'a>,
     pub secret: &'a str,
 }
 
@@ -61,48 +58,35 @@ pub enum Confrontation {
 /// Why a secret was not confronted.
 #[derive(Clone, Copy, Debug, PartialEq, Eq)]
 pub enum ConfrontErr {
-    /// The file isn't held, and those named before it are held and not too long.
-    Missing(Part),
-    /// The same of the secret's file, which is named last.
+    /// A file of the extraction is missing or too long; or the outside failed, where the shelf's count of
+    /// faults rose in this call; or want of memory.
+    Unread(VErr),
+    /// The secret's file, which is named last, isn't held, and the others are held and not too long.
     MissingSecret,
-    /// The file has more than 2^30 bytes, and those named before it are held and not too long.
-    TooLong(Part),
-    /// The same of the secret's file, which is named last.
+    /// The secret's file has more than 2^30 bytes, and the others are held and not too long.
     TooLongSecret,
-    /// The outside failed. The shelf's count of faults rose in this call.
-    Failed,
-    /// Want of memory.
-    NoMemory,
 }
 
 impl From<VErr> for ConfrontErr {
     ghost use Rattle.std.specs.Prelude.{◌≡◌};
-    ghost use Rattle.vk_bids.specs.Confrontation.{confront_err_of};
+    ghost use Rattle.vk_bids.specs.declared.confrontation.ConfrontErr.TheVariants.{Unread};
 
-    ghost from_gives = { λ refused e. e ≡ confront_err_of refused };
+    ghost from_gives = { λ refused e. e ≡ Unread refused };
 
     fn from(refused: VErr) -> ConfrontErr {
-        match refused {
-            VErr::Missing(part) => ConfrontErr::Missing(part),
-            VErr::TooLong(part) => ConfrontErr::TooLong(part),
-            VErr::Failed => ConfrontErr::Failed,
-            VErr::NoMemory => ConfrontErr::NoMemory,
-        }
+        ConfrontErr::Unread(refused)
     }
 }
 
 impl From<OutsideErr> for ConfrontErr {
     ghost use Rattle.std.specs.Prelude.{◌≡◌};
     ghost use Rattle.vk_verifier.specs.Answers.{verr_of};
-    ghost use Rattle.vk_bids.specs.Confrontation.{confront_err_of};
+    ghost use Rattle.vk_bids.specs.declared.confrontation.ConfrontErr.TheVariants.{Unread};
 
-    ghost from_gives = { λ outside e. e ≡ confront_err_of (verr_of outside) };
+    ghost from_gives = { λ outside e. e ≡ Unread (verr_of outside) };
 
     fn from(outside: OutsideErr) -> ConfrontErr {
-        match outside {
-            OutsideErr::Failed => ConfrontErr::Failed,
-            OutsideErr::NoMemory => ConfrontErr::NoMemory,
-        }
+        ConfrontErr::Unread(VErr::from(outside))
     }
 }
 
@@ -117,19 +101,10 @@ pub fn confront<S: Shelf>(
     shelf: &mut S,
     names: &ConfrontNames<'_>,
 ) -> Result<Confrontation, ConfrontErr>
-    ensures told { IfSome (S.held shelf.old) (λ files. Confronts (λ confrontation. confrontation) result
-        (confrontation_on files names.now.board.now names.now.challenge1.now names.now.reply1.now names.now.challenge2.now names.now.reply2.now names.now.secret.now)) }
-    ensures shelf { OnlyReads S.held S.Shelf.faults ConfrontErr.Failed result shelf.old shelf.new }
+    ensures told { IfSome (S.held shelf.old) (λ files. Gives fault_of (λ confrontation. confrontation) result (confrontation_named files names.now)) }
+    ensures shelf { OnlyReads S.held S.Shelf.faults (ConfrontErr.Unread VErr.Failed) result shelf.old shelf.new }
 {
-    let checker = TwoChecker::start(
-        alloc,
-        shelf,
-        names.board,
-        names.challenge1,
-        names.reply1,
-        names.challenge2,
-        names.reply2,
-    )?;
+    let checker = begin(alloc, shelf, &names.replies)?;
     let mut lines = begin_secret(alloc, shelf, names.secret)?;
     let extraction = extract_rest(alloc, shelf, checker)?;
     let secret = secret_of(alloc, shelf, &mut lines)?;
@@ -140,8 +115,8 @@ pub fn confront<S: Shelf>(
 /// Begins to read the secret's file.
 fn begin_secret<S: Shelf>(alloc: Global, shelf: &mut S, name: &str) -> Result<Lines, ConfrontErr>
     ensures told { IfSome (S.held shelf.old) (λ files.
-        Confronts (λ lines. rest_of lines files) result (secret_begun (map.get files name.now))) }
-    ensures shelf { OnlyReads S.held S.Shelf.faults ConfrontErr.Failed result shelf.old shelf.new }
+        Gives fault_of (λ lines. rest_of lines files) result (secret_begun (map.get files name.now))) }
+    ensures shelf { OnlyReads S.held S.Shelf.faults (ConfrontErr.Unread VErr.Failed) result shelf.old shelf.new }
 {
     let started = Lines::start(alloc, shelf, name);
     let lines = begun(started);
@@ -151,15 +126,15 @@ fn begin_secret<S: Shelf>(alloc: Global, shelf: &mut S, name: &str) -> Result<Li
 /// The secret's file from its first line on, or why it was not begun.
 fn begun(started: Result<Lines, StartErr>) -> Result<Lines, ConfrontErr>
     ensures told { (files : Files) (name : List ℕ) → Starts files name started
-        → Confronts (λ lines. rest_of lines files) result (secret_begun (map.get files name)) }
-    ensures causes { (before : ℕ) (after : ℕ) → Causes StartErr.Failed started before after → Causes ConfrontErr.Failed result before after }
+        → Gives fault_of (λ lines. rest_of lines files) result (secret_begun (map.get files name)) }
+    ensures causes { (before : ℕ) (after : ℕ) → Causes StartErr.Failed started before after → Causes (ConfrontErr.Unread VErr.Failed) result before after }
 {
     match started {
         Ok(lines) => Ok(lines),
         Err(StartErr::Missing) => Err(ConfrontErr::MissingSecret),
         Err(StartErr::TooLong) => Err(ConfrontErr::TooLongSecret),
-        Err(StartErr::Failed) => Err(ConfrontErr::Failed),
-        Err(StartErr::NoMemory) => Err(ConfrontErr::NoMemory),
+        Err(StartErr::Failed) => Err(ConfrontErr::Unread(VErr::Failed)),
+        Err(StartErr::NoMemory) => Err(ConfrontErr::Unread(VErr::NoMemory)),
     }
 }
 

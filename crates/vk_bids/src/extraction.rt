@@ -4,7 +4,7 @@ ghost use Rattle.vk_io.specs.Reads.{OnlyReads};
 ghost use Rattle.vk_board.specs.Fronts.{IsFront};
 ghost use Rattle.vk_verifier.specs.Verdicts.{Gives};
 ghost use Rattle.vk_verifier.specs.Two.{IsOver, ahead_of, base_of, finding_of, given_of};
-ghost use Rattle.vk_bids.specs.Extraction.{ComesTo, Shows, extraction_by, extraction_of, extraction_on, shown_by};
+ghost use Rattle.vk_bids.specs.Extraction.{ComesTo, Shows, extraction_by, extraction_named, extraction_of, shown_by};
 ghost use Rattle.vk_bids.specs.Outcome.{LaneShows};
 
 use crate::bids::LaneBids;
@@ -15,6 +15,16 @@ use vk_commit::TwoOpenings;
 use vk_io::{OutsideErr, Shelf};
 use vk_seq::Seq;
 use vk_verifier::{BoardVerdict, TwoChecker, TwoVerdict, VErr};
+
+/// The names of the files of a board, and of two challenges with the replies to them.
+#[derive(Clone, Copy, Debug)]
+pub struct TwoReplies<'a> {
+    pub board: &'a str,
+    pub challenge1: &'a str,
+    pub reply1: &'a str,
+    pub challenge2: &'a str,
+    pub reply2: &'a str,
+}
 
 /// The bids that two accepted replies give, and what stands on the board before its first lane.
 #[derive(Debug, Drop)]
@@ -44,24 +54,40 @@ pub enum Extraction {
 ///
 /// Errs where a file is missing or longer than 2^30 bytes, and names the first that is, in the order of the
 /// names; where the shelf fails; and for want of memory.
-#[tactic(auto, unfolding(crate::specs::Extraction::extraction_on))]
 pub fn extract<S: Shelf>(
     alloc: Global,
     shelf: &mut S,
-    board: &str,
-    challenge1: &str,
-    reply1: &str,
-    challenge2: &str,
-    reply2: &str,
+    names: &TwoReplies<'_>,
 ) -> Result<Extraction, VErr>
-    ensures told { IfSome (S.held shelf.old) (λ files. Gives (λ extraction. extraction) result
-        (extraction_on files board.now challenge1.now reply1.now challenge2.now reply2.now)) }
+    ensures told { IfSome (S.held shelf.old) (λ files. Gives (λ extraction. extraction) result (extraction_named files names.now)) }
     ensures shows { IfOk result Shows }
     ensures shelf { OnlyReads S.held S.Shelf.faults VErr.Failed result shelf.old shelf.new }
 {
-    let checker = TwoChecker::start(alloc, shelf, board, challenge1, reply1, challenge2, reply2)?;
+    let checker = begin(alloc, shelf, names)?;
     let extraction = extract_rest(alloc, shelf, checker)?;
     Ok(extraction)
+}
+
+/// A checker of both replies before its first lane. What its lanes come to is the extraction.
+pub(crate) fn begin<S: Shelf>(
+    alloc: Global,
+    shelf: &mut S,
+    names: &TwoReplies<'_>,
+) -> Result<TwoChecker, VErr>
+    ensures told { IfSome (S.held shelf.old) (λ files. Gives (λ checker. extraction_of (base_of checker) (ahead_of checker files)) result (extraction_named files names.now)) }
+    ensures none_given { IfOk result (λ checker. given_of checker ≡ 0) }
+    ensures shelf { OnlyReads S.held S.Shelf.faults VErr.Failed result shelf.old shelf.new }
+{
+    let checker = TwoChecker::start(
+        alloc,
+        shelf,
+        names.board,
+        names.challenge1,
+        names.reply1,
+        names.challenge2,
+        names.reply2,
+    );
+    checker
 }
 
 /// What the replies come to that a checker before its first lane reads.

@@ -13,10 +13,10 @@ mod laws;
 mod printing;
 
 pub use bids::{LaneBids, OpenedBid};
-pub use confront_printing::confrontation_lines;
+pub use confront_printing::{confrontation_line, mismatch_fields};
 pub use confrontation::{ConfrontErr, ConfrontNames, Confrontation, confront};
 pub use extracting::extract_bids;
-pub use extraction::{Extracted, Extraction, extract};
+pub use extraction::{Extracted, Extraction, TwoReplies, extract};
 pub use gathering::add_lane;
 pub use laws::{
     a_secret_is_bound_by_accepted_replies, accepted_lanes_show_the_outcome,

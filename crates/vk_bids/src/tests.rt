@@ -1,8 +1,8 @@
 // Files of the smallest board, made by another program, and bids and openings written out by hand.
 use crate::printing::openings_line;
 use crate::{
-    ConfrontNames, Extracted, Extraction, LaneBids, OpenedBid, confront, confrontation_lines,
-    extract, extraction_lines,
+    ConfrontNames, Extracted, Extraction, LaneBids, OpenedBid, TwoReplies, confront,
+    confrontation_line, extract, extraction_lines,
 };
 use std::alloc::Global;
 use std::test::Fail;
@@ -63,13 +63,29 @@ fn shelf_of_smallest(alloc: Global) -> Result<MemShelf, Fail> {
     Ok(shelf)
 }
 
+/// The names of its files, with these of the challenges and the replies.
+fn names<'a>(
+    challenge1: &'a str,
+    reply1: &'a str,
+    challenge2: &'a str,
+    reply2: &'a str,
+) -> TwoReplies<'a> {
+    TwoReplies {
+        board: "board",
+        challenge1,
+        reply1,
+        challenge2,
+        reply2,
+    }
+}
+
 #[test]
 fn the_smallest_board_gives_its_bid(rt: HostRuntime) -> Result<(), Fail> {
     let alloc = rt.alloc();
     let mut shelf = shelf_of_smallest(alloc)?;
-    let same = extract(alloc, &mut shelf, "board", "1", "to 1", "1", "to 1")?;
+    let same = extract(alloc, &mut shelf, &names("1", "to 1", "1", "to 1"))?;
     assert!(rt; matches!(&same, Extraction::Same));
-    match extract(alloc, &mut shelf, "board", "1", "to 1", "0", "to 0")? {
+    match extract(alloc, &mut shelf, &names("1", "to 1", "0", "to 0"))? {
         Extraction::Bids(found) => {
             let lines = extraction_lines(alloc, &found)?;
             assert_eq!(rt; lines.len(), 4);
@@ -199,16 +215,11 @@ fn line_of_secret(alloc: Global, secret: &str) -> Result<String, Fail> {
     let mut shelf = shelf_of_smallest(alloc)?;
     shelf.put_file("secret", secret.as_bytes())?;
     let names = ConfrontNames {
-        board: "board",
-        challenge1: "0",
-        reply1: "to 0",
-        challenge2: "1",
-        reply2: "to 1",
+        replies: names("0", "to 0", "1", "to 1"),
         secret: "secret",
     };
     let confrontation = confront(alloc, &mut shelf, &names)?;
-    let mut lines = confrontation_lines(alloc, &confrontation)?;
-    let line = lines.pop().ok_or("no line")?;
+    let line = confrontation_line(alloc, &confrontation)?;
     Ok(line)
 }
 

@@ -1,0 +1,4 @@
+pub mod Verifying
+pub mod Extracting
+pub mod Binding
+pub mod Reporting

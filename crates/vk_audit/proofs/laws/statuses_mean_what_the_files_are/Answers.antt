@@ -1,0 +1,8 @@
+use Rattle.vk_audit.proofs.Binding.{binds_exactly}
+use Rattle.vk_audit.proofs.Extracting.{extracts_exactly, tells_same_exactly}
+use Rattle.vk_audit.proofs.Reporting.{reports_exactly}
+use Rattle.vk_audit.proofs.Verifying.{verifies_exactly}
+use Rattle.vk_audit.proofs.laws.statuses_mean_what_the_files_are.Goals as goal
+
+pub returns : goal.returns
+returns c = record { verified = verifies_exactly; extracted = extracts_exactly; same = tells_same_exactly; bound = binds_exactly; reported = reports_exactly }

@@ -1,0 +1,44 @@
+-- What is said of what a bidder's secret comes to against two replies to a board.
+use Rattle.vk_io.specs.Files.{Files}
+use Rattle.vk_bids.specs.declared.confrontation.Confrontation.{Confrontation}
+use Rattle.vk_bids.specs.declared.confrontation.Confrontation.TheVariants.{Refused, Same, Malformed, NoSeal, Mismatch, Clash, Held}
+use Rattle.vk_bids.specs.declared.confrontation.ConfrontErr.{ConfrontErr}
+use Rattle.vk_bids.specs.declared.confrontation.ConfrontErr.TheVariants.{Unread, MissingSecret, TooLongSecret}
+use Rattle.vk_bids.specs.Confrontation.{confrontation_on}
+use Rattle.vk_bids.specs.ConfrontTexts.{no_seal_line, mismatch_line, held_line}
+use Rattle.vk_bids.specs.Texts.{clash_text}
+use Rattle.vk_words.specs.Names.{ConfrontWords}
+use Rattle.vk_effect.specs.Effects.{SaidValue}
+use Rattle.vk_audit.specs.NamedFiles.{malformed_said, missing_said, too_long_said}
+use Rattle.vk_audit.specs.Verdicts.{IsOfFile, answer_said, judged_said, same_said, unread_said}
+
+-- the verdict on a reply that isn't accepted, or what the secret comes to against two accepted replies
+abbrev pub confrontation_said : ConfrontWords → Confrontation → SaidValue
+confrontation_said names (Refused second verdict) = judged_said names.replies second verdict
+confrontation_said names Same = same_said
+confrontation_said names (Malformed line) = malformed_said names.secret line
+confrontation_said names (NoSeal seat) = record { status = 8; text = no_seal_line seat }
+confrontation_said names (Mismatch mismatch) = record { status = 8; text = mismatch_line mismatch }
+confrontation_said names (Clash two) = record { status = 3; text = clash_text two }
+confrontation_said names (Held seat) = record { status = 0; text = held_line seat }
+
+-- ---- files that give no confrontation
+
+-- a file is missing or too long
+abbrev pub IsOfNamedFile : ConfrontErr → Type 0
+IsOfNamedFile (Unread fault) = IsOfFile fault
+IsOfNamedFile MissingSecret = Unit {0}
+IsOfNamedFile TooLongSecret = Unit {0}
+
+-- of the first file that is missing or too long
+abbrev pub unconfronted_said : ConfrontWords → ConfrontErr → SaidValue
+unconfronted_said names (Unread fault) = unread_said names.replies fault
+unconfronted_said names MissingSecret = missing_said names.secret
+unconfronted_said names TooLongSecret = too_long_said names.secret
+
+-- what `confront` says
+abbrev pub confront_said : Files → ConfrontWords → SaidValue
+confront_said files names =
+    let replies = names.replies in
+    answer_said (confrontation_said names) (unconfronted_said names)
+    (confrontation_on files replies.board replies.first.challenge replies.first.reply replies.second.challenge replies.second.reply names.secret)

@@ -1,0 +1,94 @@
+-- What is said of a verdict, and of files that give none.
+use Rattle.std.specs.Prelude.{ℕ, Bool, false, true, if◌then◌else◌, List, [], codes, decimal, Result, Ok, Err}
+use Rattle.vk_io.specs.Files.{Files}
+use Rattle.vk_wire.specs.declared.wire.WireFault.{WireFault}
+use Rattle.vk_wire.specs.declared.wire.WireFault.TheVariants.{Form, Digest, NotASet}
+use Rattle.vk_verifier.specs.declared.answers.Part.{Part}
+use Rattle.vk_verifier.specs.declared.answers.Part.TheVariants.{Board, Challenge, Reply, SecondChallenge, SecondReply}
+use Rattle.vk_verifier.specs.declared.answers.BoardVerdict.{BoardVerdict}
+use Rattle.vk_verifier.specs.declared.answers.BoardVerdict.TheVariants.{Accepted, Malformed, Price, Winner, Lanes, Wire, Row}
+use Rattle.vk_verifier.specs.declared.answers.VErr.{VErr}
+use Rattle.vk_verifier.specs.declared.answers.VErr.TheVariants.{Missing, TooLong, Failed, NoMemory}
+use Rattle.vk_verifier.specs.Verdicts.{verdict_on}
+use Rattle.vk_words.specs.Names.{ExtractWords, VerifyWords}
+use Rattle.vk_effect.specs.Effects.{SaidValue}
+use Rattle.vk_effect.specs.Texts.{◌+++◌, line_feed}
+use Rattle.vk_audit.specs.NamedFiles.{malformed_said, missing_said, refused_said, too_long_said}
+
+-- ---- names
+
+-- the name of the second reply, or of the first
+abbrev pub reply_of : ExtractWords → Bool → List ℕ
+reply_of names second = if second then names.second.reply else names.first.reply
+
+-- the name of the file as it was given
+abbrev pub name_of : ExtractWords → Part → List ℕ
+name_of names Board = names.board
+name_of names Challenge = names.first.challenge
+name_of names Reply = names.first.reply
+name_of names SecondChallenge = names.second.challenge
+name_of names SecondReply = names.second.reply
+
+-- ---- verdicts
+
+-- why a wire reads nothing
+abbrev pub fault_text : WireFault → List ℕ
+fault_text Form = codes "form"
+fault_text (Digest false) = codes "digest 0"
+fault_text (Digest true) = codes "digest 1"
+fault_text NotASet = codes "set"
+
+-- for what a reply is refused: the wire of the lane, or the row
+abbrev pub wire_cause : ℕ → ℕ → WireFault → List ℕ
+wire_cause lane wire fault = codes "lane " +++ decimal lane +++ codes " wire " +++ decimal wire +++ codes " " +++ fault_text fault
+
+abbrev pub row_cause : ℕ → ℕ → List ℕ
+row_cause lane row = codes "lane " +++ decimal lane +++ codes " row " +++ decimal row
+
+-- of the verdict on the first reply, or on the second: what is refused is the board for its price and its winner,
+-- and that reply for all else
+abbrev pub judged_said : ExtractWords → Bool → BoardVerdict → SaidValue
+judged_said names second Accepted = record { status = 0; text = codes "accepted" +++ line_feed }
+judged_said names second (Malformed part line) = malformed_said (name_of names part) line
+judged_said names second Price = refused_said names.board (codes "price")
+judged_said names second Winner = refused_said names.board (codes "winner")
+judged_said names second Lanes = refused_said (reply_of names second) (codes "lanes")
+judged_said names second (Wire lane wire fault) = refused_said (reply_of names second) (wire_cause lane wire fault)
+judged_said names second (Row lane row) = refused_said (reply_of names second) (row_cause lane row)
+
+-- both replies are accepted, and the challenges don't differ
+abbrev pub same_said : SaidValue
+same_said = record { status = 7; text = codes "same challenge" +++ line_feed }
+
+-- ---- files that give no verdict
+
+-- a file is missing or too long
+abbrev pub IsOfFile : VErr → Type 0
+IsOfFile (Missing part) = Unit {0}
+IsOfFile (TooLong part) = Unit {0}
+IsOfFile Failed = ⊥
+IsOfFile NoMemory = ⊥
+
+-- of the first file that is missing or too long; of a failure of the outside and of want of memory nothing is said
+abbrev pub unread_said : ExtractWords → VErr → SaidValue
+unread_said names (Missing part) = missing_said (name_of names part)
+unread_said names (TooLong part) = too_long_said (name_of names part)
+unread_said names Failed = record { status = 4; text = [] }
+unread_said names NoMemory = record { status = 4; text = [] }
+
+-- ---- `verify`
+
+-- what is said of an answer: of the value, or of the fault for which there is none
+abbrev pub answer_said : {X E : Type 0} → (X → SaidValue) → (E → SaidValue) → Result X E → SaidValue
+answer_said of_value of_fault (Ok value) = of_value value
+answer_said of_value of_fault (Err fault) = of_fault fault
+
+-- the one challenge and reply stand in both places
+abbrev pub verified_words : VerifyWords → ExtractWords
+verified_words names = record { board = names.board; first = names.attempt; second = names.attempt }
+
+-- what `verify` says
+abbrev pub verify_said : Files → VerifyWords → SaidValue
+verify_said files names =
+    answer_said (judged_said (verified_words names) false) (unread_said (verified_words names))
+    (verdict_on files names.board names.attempt.challenge names.attempt.reply)

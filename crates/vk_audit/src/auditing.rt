@@ -1,0 +1,101 @@
+//! An auditor's command over a shelf of files.
+
+ghost use Rattle.std.specs.Prelude.{◌≡◌, IfSome, IfOk};
+ghost use Rattle.vk_io.specs.Reads.{OnlyReads};
+ghost use Rattle.vk_words.specs.Names.{extract_seen, verify_seen};
+ghost use Rattle.vk_audit.specs.Audits.{audit_said, audit_seen};
+ghost use Rattle.vk_audit.specs.Extractions.{replies_seen};
+ghost use Rattle.vk_audit.specs.Verdicts.{verified_words};
+
+use crate::confrontations::{confronted, unconfronted};
+use crate::extractions::extracted;
+use crate::reports::{reported, unreported};
+use crate::verdicts::{judged, unread};
+use std::alloc::Global;
+use vk_bids::{TwoReplies, confront, extract};
+use vk_effect::Said;
+use vk_io::{OutsideErr, Shelf};
+use vk_report::read_report;
+use vk_verifier::verdict;
+use vk_words::{ConfrontNames, ExtractNames, VerifyNames};
+
+/// What is to be audited: the names of the files.
+#[derive(Clone, Copy, Debug)]
+pub enum AuditOrder<'a> {
+    Verify(VerifyNames<'a>),
+    Extract(ExtractNames<'a>),
+    Confront(ConfrontNames<'a>),
+    /// The name of the board.
+    Report(&'a str),
+}
+
+/// The names with those of the one challenge and reply in both places.
+fn verified_names<'a>(names: &VerifyNames<'a>) -> ExtractNames<'a>
+    ensures { extract_seen result ≡ verified_words (verify_seen names.now) }
+{
+    ExtractNames {
+        board: names.board,
+        first: names.attempt,
+        second: names.attempt,
+    }
+}
+
+/// The same names, as the library of bids asks for them.
+fn replies_of<'a>(names: &ExtractNames<'a>) -> TwoReplies<'a>
+    ensures { replies_seen result ≡ extract_seen names.now }
+{
+    TwoReplies {
+        board: names.board,
+        challenge1: names.first.challenge,
+        reply1: names.first.reply,
+        challenge2: names.second.challenge,
+        reply2: names.second.reply,
+    }
+}
+
+/// Reads the named files, and says what they come to.
+pub fn audit<S: Shelf>(
+    alloc: Global,
+    shelf: &mut S,
+    audit: &AuditOrder<'_>,
+) -> Result<Said, OutsideErr>
+    ensures said { IfSome (S.held shelf.old) (λ files. IfOk result (λ said. said ≡ audit_said files (audit_seen audit.now))) }
+    ensures shelf { OnlyReads S.held S.Shelf.faults OutsideErr.Failed result shelf.old shelf.new }
+{
+    match audit {
+        AuditOrder::Verify(names) => {
+            let VerifyNames { board, attempt } = *names;
+            let names = verified_names(names);
+            let said = match verdict(alloc, shelf, board, attempt.challenge, attempt.reply) {
+                Ok(verdict) => judged(alloc, &names, false, verdict)?,
+                Err(fault) => unread(alloc, &names, fault)?,
+            };
+            Ok(said)
+        }
+        AuditOrder::Extract(names) => {
+            let said = match extract(alloc, shelf, &replies_of(names)) {
+                Ok(extraction) => extracted(alloc, names, &extraction)?,
+                Err(fault) => unread(alloc, names, fault)?,
+            };
+            Ok(said)
+        }
+        AuditOrder::Confront(names) => {
+            let files = vk_bids::ConfrontNames {
+                replies: replies_of(&names.replies),
+                secret: names.secret,
+            };
+            let said = match confront(alloc, shelf, &files) {
+                Ok(confrontation) => confronted(alloc, names, &confrontation)?,
+                Err(fault) => unconfronted(alloc, names, fault)?,
+            };
+            Ok(said)
+        }
+        AuditOrder::Report(board) => {
+            let said = match read_report(alloc, shelf, board) {
+                Ok(report) => reported(alloc, &report)?,
+                Err(fault) => unreported(alloc, board, fault)?,
+            };
+            Ok(said)
+        }
+    }
+}

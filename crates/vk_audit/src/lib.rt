@@ -1,0 +1,21 @@
+//! What an auditor's commands say of the files that they read: `verify`, `extract`, `confront` and `report`.
+#![tactic(auto)]
+
+mod auditing;
+mod confrontations;
+mod extractions;
+mod laws;
+mod named;
+mod reports;
+mod verdicts;
+
+pub use auditing::{AuditOrder, audit};
+pub use confrontations::{confronted, unconfronted};
+pub use extractions::extracted;
+pub use laws::statuses_mean_what_the_files_are;
+pub use named::{malformed, missing, refused, too_long};
+pub use reports::{reported, unreported};
+pub use verdicts::{judged, same_challenge, unread};
+
+#[cfg(test)]
+mod tests;

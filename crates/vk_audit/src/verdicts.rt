@@ -1,0 +1,123 @@
+//! What is said of a verdict, and of files that give none.
+
+ghost use Rattle.std.specs.Prelude.{◌≡◌, ℕ, IfOk, OnOk, Err};
+ghost use Rattle.vk_io.specs.Faults.{Causes};
+ghost use Rattle.vk_words.specs.Names.{extract_seen};
+ghost use Rattle.vk_audit.specs.NamedFiles.{refused_said};
+ghost use Rattle.vk_audit.specs.Verdicts.{IsOfFile, fault_text, judged_said, name_of, reply_of, row_cause, same_said, unread_said, wire_cause};
+
+use crate::named::{malformed, missing, refused, too_long};
+use std::alloc::Global;
+use vk_effect::Said;
+use vk_io::OutsideErr;
+use vk_residue::NoMemory;
+use vk_verifier::{BoardVerdict, Part, VErr};
+use vk_wire::WireFault;
+use vk_words::ExtractNames;
+
+/// The name of the second reply, or of the first.
+fn reply_of<'a>(names: &ExtractNames<'a>, second: bool) -> &'a str
+    ensures { result.now ≡ reply_of (extract_seen names.now) second }
+{
+    if second {
+        names.second.reply
+    } else {
+        names.first.reply
+    }
+}
+
+/// The name of the file as it was given.
+fn name_of<'a>(names: &ExtractNames<'a>, part: Part) -> &'a str
+    ensures { result.now ≡ name_of (extract_seen names.now) part }
+{
+    match part {
+        Part::Board => names.board,
+        Part::Challenge => names.first.challenge,
+        Part::Reply => names.first.reply,
+        Part::SecondChallenge => names.second.challenge,
+        Part::SecondReply => names.second.reply,
+    }
+}
+
+/// Why a wire reads nothing.
+fn fault_text(fault: WireFault) -> &'static str
+    ensures { result.now ≡ fault_text fault }
+{
+    match fault {
+        WireFault::Form => "form",
+        WireFault::Digest { second: false } => "digest 0",
+        WireFault::Digest { second: true } => "digest 1",
+        WireFault::NotASet => "set",
+    }
+}
+
+/// Of a reply whose wire of the lane reads nothing.
+fn wire_refused(
+    alloc: Global,
+    reply: &str,
+    lane: u32,
+    wire: u32,
+    fault: WireFault,
+) -> Result<Said, NoMemory>
+    ensures { IfOk result (λ said. said ≡ refused_said reply.now (wire_cause lane wire fault)) }
+{
+    let fault = fault_text(fault);
+    let cause = format!(in alloc; "lane {lane} wire {wire} {fault}")?;
+    let said = refused(alloc, reply, cause.as_str())?;
+    Ok(said)
+}
+
+/// Of a reply whose row of the lane isn't met.
+fn row_refused(alloc: Global, reply: &str, lane: u32, row: u32) -> Result<Said, NoMemory>
+    ensures { IfOk result (λ said. said ≡ refused_said reply.now (row_cause lane row)) }
+{
+    let cause = format!(in alloc; "lane {lane} row {row}")?;
+    let said = refused(alloc, reply, cause.as_str())?;
+    Ok(said)
+}
+
+/// Of the verdict on the first reply, or on the second. Of one reply alone both names are the same.
+pub fn judged(
+    alloc: Global,
+    names: &ExtractNames<'_>,
+    second: bool,
+    verdict: BoardVerdict,
+) -> Result<Said, NoMemory>
+    ensures { IfOk result (λ said. said ≡ judged_said (extract_seen names.now) second verdict) }
+{
+    let board = names.board;
+    let reply = reply_of(names, second);
+    let said = match verdict {
+        BoardVerdict::Accepted => Said::of_line(alloc, 0, "accepted\n")?,
+        BoardVerdict::Malformed { part, line } => malformed(alloc, name_of(names, part), line)?,
+        BoardVerdict::Price => refused(alloc, board, "price")?,
+        BoardVerdict::Winner => refused(alloc, board, "winner")?,
+        BoardVerdict::Lanes => refused(alloc, reply, "lanes")?,
+        BoardVerdict::Wire { lane, wire, fault } => wire_refused(alloc, reply, lane, wire, fault)?,
+        BoardVerdict::Row { lane, row } => row_refused(alloc, reply, lane, row)?,
+    };
+    Ok(said)
+}
+
+/// Of challenges that don't differ.
+pub fn same_challenge(alloc: Global) -> Result<Said, NoMemory>
+    ensures { IfOk result (λ said. said ≡ same_said) }
+{
+    let said = Said::of_line(alloc, 7, "same challenge\n")?;
+    Ok(said)
+}
+
+/// Of files that give no verdict, the first of which is missing or too long. A failure is handed on.
+pub fn unread(alloc: Global, names: &ExtractNames<'_>, fault: VErr) -> Result<Said, OutsideErr>
+    ensures said { IfOk result (λ said. said ≡ unread_said (extract_seen names.now) fault) }
+    ensures file { OnOk result (IsOfFile fault) }
+    ensures causes { (before after : ℕ) → Causes {T = Unit {0}} VErr.Failed (Err fault) before after → Causes OutsideErr.Failed result before after }
+{
+    let said = match fault {
+        VErr::Missing(part) => missing(alloc, name_of(names, part))?,
+        VErr::TooLong(part) => too_long(alloc, name_of(names, part))?,
+        VErr::Failed => return Err(OutsideErr::Failed),
+        VErr::NoMemory => return Err(OutsideErr::NoMemory),
+    };
+    Ok(said)
+}
