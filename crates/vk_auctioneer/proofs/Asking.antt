@@ -1,0 +1,119 @@
+-- What a command of the house comes to, from what it read and what the house replied.
+use Rattle.std.proofs.Common.{◌≡◌, ℕ, List, [], ◌∷◌, Option, Some, None, Result, Ok, Err, refl, sym, ap, subst, ◌∙◌, inl, inr}
+use Rattle.std.specs.Prelude.{option_map, IfSome}
+use Rattle.std.specs.List.{concat}
+use Rattle.vk_io.specs.Files.{Files, Told}
+use Rattle.vk_io.specs.Writing.{written, WritesAll}
+use Rattle.vk_io.specs.declared.errors.OutsideErr.{OutsideErr}
+use Rattle.vk_lines.specs.Gives.{Gives}
+use Rattle.vk_keeper.specs.Ledgers.{Ledger}
+use Rattle.vk_house.specs.declared.errors.HouseErr.{HouseErr}
+use Rattle.vk_house.specs.declared.errors.HouseErr.TheVariants.{KeeperFailed, NoMemory}
+use Rattle.vk_house.specs.Answers.{Calls}
+use Rattle.vk_house.specs.Commands.{HouseCommand}
+use Rattle.vk_house.specs.Once.{KeepsAnswers}
+use Rattle.vk_house.specs.Replies.{HouseReply, Refused}
+use Rattle.vk_house.specs.Steps.{HouseCall, house_step}
+use Rattle.vk_house.proofs.Once.{call_keeps}
+use Rattle.vk_effect.specs.Effects.{Effect, SaidValue, stores}
+use Rattle.vk_effect.specs.Ends.{Acts}
+use Rattle.vk_auctioneer.specs.declared.inputs.Unread.{Unread}
+use Rattle.vk_auctioneer.specs.declared.inputs.Unread.TheVariants as unread
+use Rattle.vk_auctioneer.specs.Answers.{Leaves, Says, said_or_stopped}
+use Rattle.vk_auctioneer.specs.Effects.{Writes, asked, effect_by, if_read, on_both, on_ledger}
+use Rattle.vk_auctioneer.specs.Inputs.{said_of}
+
+-- ---- files
+
+files_left : {T : Type 0} (writes : Writes) (done : T) (held now : Option Files) → Told (Leaves writes (Ok done)) held now → now ≡ option_map (written writes) held
+files_left writes done None now left = left
+files_left writes done (Some files) None left = absurd left
+files_left writes done (Some files) (Some later) left = ap Some left
+
+no_files_left : (T : Type 0) (stop : OutsideErr) (held now : Option Files) → Told (Leaves {T = T} [] (Err stop)) held now → now ≡ held
+no_files_left T stop None now left = left
+no_files_left T stop (Some files) None left = absurd left
+no_files_left T stop (Some files) (Some later) left = ap Some left
+
+-- a file that was written in pieces holds the text that they make
+pub text_done : (name text : List ℕ) (pieces : List (List ℕ)) (said : SaidValue) (held now : Option Files) → concat pieces ≡ text → Told (WritesAll {E = OutsideErr} ((name, concat pieces) ∷ []) (Ok tt)) held now → Told (Leaves ((name, text) ∷ []) (Ok said)) held now
+text_done name text pieces said held now is left = subst (λ t. Told (Leaves ((name, t) ∷ []) (Ok said)) held now) is left
+
+-- one whose writing was stopped holds a part of it
+pub text_stopped : (name text : List ℕ) (pieces : List (List ℕ)) (stop : OutsideErr) (held now : Option Files) → concat pieces ≡ text → Told (WritesAll ((name, concat pieces) ∷ []) (Err stop)) held now → Told (Leaves {T = SaidValue} ((name, text) ∷ []) (Err stop)) held now
+text_stopped name text pieces stop held now is left = subst (λ t. Told (Leaves {T = SaidValue} ((name, t) ∷ []) (Err stop)) held now) is left
+
+-- where no file is written all files stay
+pub leaves_same : {T : Type 0} (answer : Result T OutsideErr) (held : Option Files) → Told (Leaves [] answer) held held
+leaves_same answer None = refl
+leaves_same (Ok done) (Some files) = refl
+leaves_same (Err stop) (Some files) = refl
+
+-- ---- a call of the house
+
+-- a call that is a step
+acts_here : (files_of : HouseReply → Writes) (command : HouseCommand) (reply : HouseReply) (new : Ledger) (held now : Option Files) (old : Option Ledger) (answer : Result SaidValue OutsideErr) → Says command reply answer → Told (Leaves (files_of reply) answer) held now
+    → Acts answer (effect_by files_of command (reply, new)) (stores held old) (stores now (Some new))
+acts_here files_of command reply new held now old (Ok said) says left =
+    (says.1, ap (λ files. stores files (Some new)) (files_left (files_of reply) said held now left))
+acts_here files_of command reply new held now old (Err stop) says left = inr (refl, left)
+
+-- a call that changed nothing
+stopped_here : (files_of : HouseReply → Writes) (command : HouseCommand) (refusal : HouseErr) (effect : Effect) (held now : Option Files) (old new : Ledger) (stop : OutsideErr) → files_of (Refused refusal) ≡ [] → new ≡ old → Told (Leaves {T = SaidValue} (files_of (Refused refusal)) (Err stop)) held now
+    → Acts (Err stop) effect (stores held (Some old)) (stores now (Some new))
+stopped_here files_of command refusal effect held now old new stop none same left =
+    inl (ap (λ files. stores files (Some new)) (no_files_left SaidValue stop held now (subst (λ writes. Told (Leaves {T = SaidValue} writes (Err stop)) held now) none left))
+    ∙ ap (λ ledger. stores held (Some ledger)) same)
+
+call_acts : (files_of : HouseReply → Writes) (command : HouseCommand) (reply : HouseReply) (held now : Option Files) (old new : Ledger) (answer : Result SaidValue OutsideErr) → ((refusal : HouseErr) → files_of (Refused refusal) ≡ []) → HouseCall old command reply new → Says command reply answer → Told (Leaves (files_of reply) answer) held now
+    → Acts answer (asked files_of old command) (stores held (Some old)) (stores now (Some new))
+call_acts files_of command (Refused KeeperFailed) held now old new (Ok said) none call says left = absurd says.0
+call_acts files_of command (Refused NoMemory) held now old new (Ok said) none call says left = absurd says.0
+call_acts files_of command (Refused KeeperFailed) held now old new (Err stop) none call says left =
+    stopped_here files_of command KeeperFailed (asked files_of old command) held now old new stop (none KeeperFailed) call left
+call_acts files_of command (Refused NoMemory) held now old new (Err stop) none call says left =
+    stopped_here files_of command NoMemory (asked files_of old command) held now old new stop (none NoMemory) call left
+call_acts files_of command reply held now old new answer none call says left =
+    subst (λ step. Acts answer (effect_by files_of command step) (stores held (Some old)) (stores now (Some new))) (sym call)
+    (acts_here files_of command reply new held now (Some old) answer says left)
+
+-- a command that asked the house, and wrote the files of its reply
+pub asked_acts : (files_of : HouseReply → Writes) (command : HouseCommand) (reply : HouseReply) (held now : Option Files) (old new : Option Ledger) (answer : Result SaidValue OutsideErr) → ((refusal : HouseErr) → files_of (Refused refusal) ≡ []) → Calls command reply old new → Says command reply answer → Told (Leaves (files_of reply) answer) held now
+    → IfSome (on_ledger (λ kept. asked files_of kept command) old) (λ effect. Acts answer effect (stores held old) (stores now new))
+asked_acts files_of command reply held now None new answer none calls says left = tt
+asked_acts files_of command reply held now (Some old) None answer none calls says left = absurd calls
+asked_acts files_of command reply held now (Some old) (Some new) answer none calls says left =
+    call_acts files_of command reply held now old new answer none calls says left
+
+-- no auction that is proved or answered is another one after a call
+pub calls_keep : (command : HouseCommand) (reply : HouseReply) (old new : Option Ledger) → Calls command reply old new → Told KeepsAnswers old new
+calls_keep command reply None new calls = calls
+calls_keep command reply (Some old) None calls = absurd calls
+calls_keep command reply (Some old) (Some new) calls = call_keeps old new command reply calls
+
+-- ---- what was read before
+
+-- a file that the command is given was not read
+unread_here : {X : Type 0} (effect : X → Effect) (ledger : Ledger) (files : Files) (refusal : Unread) (read : Result X SaidValue) → Gives {T = X} said_of (λ x. x) (Err refusal) read
+    → Acts (said_or_stopped refusal) (if_read ledger effect read) (stores (Some files) (Some ledger)) (stores (Some files) (Some ledger))
+unread_here effect ledger files (unread.Said said) read is =
+    subst (λ r. Acts (Ok said) (if_read ledger effect r) (stores (Some files) (Some ledger)) (stores (Some files) (Some ledger))) (sym is) (refl, refl)
+unread_here effect ledger files unread.Failed read is = inl refl
+unread_here effect ledger files unread.NoMemory read is = inl refl
+
+pub unread_acts : {X : Type 0} (effect : Ledger → X → Effect) (read : Files → Result X SaidValue) (refusal : Unread) (held now : Option Files) (ledger : Option Ledger) → now ≡ held → IfSome held (λ files. Gives {T = X} said_of (λ x. x) (Err refusal) (read files))
+    → IfSome (on_both (λ files kept. if_read kept (effect kept) (read files)) held ledger) (λ whole. Acts (said_or_stopped refusal) whole (stores held ledger) (stores now ledger))
+unread_acts effect read refusal None now ledger same is = tt
+unread_acts effect read refusal (Some files) now None same is = tt
+unread_acts effect read refusal (Some files) now (Some ledger) same is =
+    subst (λ left. Acts (said_or_stopped refusal) (if_read ledger (effect ledger) (read files)) (stores (Some files) (Some ledger)) (stores left (Some ledger))) (sym same)
+    (unread_here (effect ledger) ledger files refusal (read files) is)
+
+-- it was read, which changed nothing, and the command went on by what it says
+pub read_acts : {X : Type 0} (effect : Ledger → X → Effect) (read : Files → Result X SaidValue) (x : X) (held between now : Option Files) (old new : Option Ledger) (answer : Result SaidValue OutsideErr) → between ≡ held → IfSome held (λ files. Gives said_of (λ x. x) (Ok x) (read files)) → IfSome (on_ledger (λ kept. effect kept x) old) (λ whole. Acts answer whole (stores between old) (stores now new))
+    → IfSome (on_both (λ files kept. if_read kept (effect kept) (read files)) held old) (λ whole. Acts answer whole (stores held old) (stores now new))
+read_acts effect read x None between now old new answer same is acts = tt
+read_acts effect read x (Some files) between now None new answer same is acts = tt
+read_acts effect read x (Some files) between now (Some old) new answer same is acts =
+    subst (λ r. Acts answer (if_read old (effect old) r) (stores (Some files) (Some old)) (stores now new)) (sym is)
+    (subst (λ left. Acts answer (effect old x) (stores left (Some old)) (stores now new)) same acts)

@@ -1,0 +1,5 @@
+mod Asking
+mod Counting
+mod Reading
+mod Working
+mod Honest

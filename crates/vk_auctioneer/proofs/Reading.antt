@@ -1,0 +1,247 @@
+-- What the files that a command names were read as.
+use Rattle.std.proofs.Common.{◌≡◌, ◌≢◌, ℕ, ◌^◌, ◌≤◌, nat_lt, Bool, true, false, if◌then◌else◌, List, [], ◌∷◌, length, Option, Some, None, option_map, Result, Ok, Err, refl, sym, ap, subst, ◌∙◌, arith}
+use Rattle.std.specs.Result.{result_err}
+use Rattle.std.specs.FinMap.{get}
+use Rattle.std.proofs.lemmas.Bool.Decides.{nat_tests}
+use Rattle.vk_io.specs.Files.{Files}
+use Rattle.vk_lines.specs.Forms.{IsWhole, Table, fault_line, whole}
+use Rattle.vk_lines.specs.Gives.{◌>>=◌}
+use Rattle.vk_lines.specs.Lines.{Rest}
+use Rattle.vk_reply.specs.declared.challenge.Challenge.{Challenge}
+use Rattle.vk_reply.specs.Reading.{challenge_at}
+use Rattle.vk_reply.specs.Tables.{challenge_table}
+use Rattle.vk_reply.specs.Texts.{challenge_text}
+use Rattle.vk_reply.specs.Values.{IsChallenge}
+use Rattle.vk_reply.proofs.Challenges.{challenge_fault, challenge_is_whole}
+use Rattle.vk_seal.specs.declared.secret.Seal.{Seal}
+use Rattle.vk_seal.specs.declared.secret.Secret.{Secret}
+use Rattle.vk_seal.specs.Reading.{seal_at, secret_at}
+use Rattle.vk_seal.specs.Tables.{seal_table, secret_table}
+use Rattle.vk_seal.specs.Texts.{seal_text, secret_text}
+use Rattle.vk_seal.specs.Values.{IsSeal, IsSecret}
+use Rattle.vk_seal.proofs.Forms.{seal_fault, seal_is_whole, secret_fault, secret_is_whole}
+use Rattle.vk_keeper.specs.declared.auction.SealRow.{SealRow}
+use Rattle.vk_keeper.specs.Joining.{first_of}
+use Rattle.vk_honest.specs.Sizes.{IsShort}
+use Rattle.vk_effect.specs.Effects.{SaidValue}
+use Rattle.vk_auctioneer.specs.Inputs.{begun_in, challenge_in, malformed_said, row_in, too_long_said, value_in}
+use Rattle.vk_auctioneer.specs.Laws.{AreTexts, IsFile, IsText, ReadsChallenge, ReadsRow, faulty_said, unheld_said}
+
+-- a file from its first line on
+abbrev from_first : List ℕ → Rest
+from_first bytes = record { taken = 0; left = bytes }
+
+-- ---- one file
+
+-- the status that is said, 0 where none is
+abbrev status_of : {X : Type 0} → Result X SaidValue → ℕ
+status_of (Ok x) = 0
+status_of (Err said) = said.status
+
+-- the refusal of one reading as that of another
+is_refused : {A B : Type 0} (one other : SaidValue) → ◌≡◌ {A = Result A SaidValue} (Err one) (Err other) → ◌≡◌ {A = Result B SaidValue} (Err one) (Err other)
+is_refused one other is = let same : one ≡ other = cc in ap (λ s. Err s) same
+
+-- a file that was begun is held, and is not too long
+record Begun (file : Option (List ℕ)) (rest : Rest) : Type 0 where
+  bytes : List ℕ
+  held : file ≡ Some bytes
+  short : length bytes ≤ 2 ^ 30
+  first : rest ≡ from_first bytes
+
+begun_by : (name bytes : List ℕ) (rest : Rest) (long : Bool) → nat_lt (2 ^ 30) (length bytes) ≡ long → ◌≡◌ {A = Result Rest SaidValue} (if long then Err (too_long_said name) else Ok (from_first bytes)) (Ok rest) → Begun (Some bytes) rest
+begun_by name bytes rest true test is = cc
+begun_by name bytes rest false test is = record { bytes = bytes; held = refl; short = grind (arith, nat_tests, test); first = cc }
+
+begun_ok : (name : List ℕ) (file : Option (List ℕ)) (rest : Rest) → begun_in name file ≡ Ok rest → Begun file rest
+begun_ok name None rest is = cc
+begun_ok name (Some bytes) rest is = begun_by name bytes rest (nat_lt (2 ^ 30) (length bytes)) refl is
+
+begun_found : (name : List ℕ) (file : Option (List ℕ)) (bytes : List ℕ) → file ≡ Some bytes → length bytes ≤ 2 ^ 30 → begun_in name file ≡ Ok (from_first bytes)
+begun_found name file bytes held short =
+    let small : nat_lt (2 ^ 30) (length bytes) ≡ false = grind (arith, nat_tests, short) in
+    ap (begun_in name) held ∙ ap (λ (long : Bool). if long then Err (too_long_said name) else Ok (from_first bytes)) small
+
+begun_said_by : (name bytes : List ℕ) (long : Bool) → result_err {T = Rest} (if long then Err (too_long_said name) else Ok (from_first bytes)) ≡ (if long then Some (too_long_said name) else None)
+begun_said_by name bytes true = refl
+begun_said_by name bytes false = refl
+
+begun_said : (name : List ℕ) (file : Option (List ℕ)) → result_err (begun_in name file) ≡ unheld_said name file
+begun_said name None = refl
+begun_said name (Some bytes) = begun_said_by name bytes (nat_lt (2 ^ 30) (length bytes))
+
+-- the value that was read, where its text is the bytes
+whole_by : {X : Type 0} (IsValue : X → Type 0) (text : X → List ℕ) (read : Rest → Result (X × Rest) ℕ) → IsWhole IsValue text read → (name bytes : List ℕ) (x : X) (answer : Result (X × Rest) ℕ) → read (from_first bytes) ≡ answer → value_in name answer ≡ Ok x → IsValue x × (bytes ≡ text x)
+whole_by IsValue text read form name bytes x (Ok found) is given =
+    let same : found.0 ≡ x = cc in
+    let shown = form.shown (from_first bytes) found.0 found.1 is in
+    (subst IsValue same shown.0, shown.1 ∙ ap text same)
+whole_by IsValue text read form name bytes x (Err number) is given = cc
+
+-- the file was read whole as that value
+file_read : {X : Type 0} (IsValue : X → Type 0) (text : X → List ℕ) (read : Rest → Result (X × Rest) ℕ) → IsWhole IsValue text read → (files : Files) (name : List ℕ) (rest : Rest) (x : X) → begun_in name (get files name) ≡ Ok rest → value_in name (read rest) ≡ Ok x → IsValue x × IsFile files name (text x)
+file_read IsValue text read form files name rest x began given =
+    let begun = begun_ok name (get files name) rest began in
+    let is = whole_by IsValue text read form name begun.bytes x (read (from_first begun.bytes)) refl (subst (λ r. value_in name (read r) ≡ Ok x) begun.first given) in
+    (is.0, record { held = begun.held ∙ ap Some is.1; short = subst IsShort is.1 begun.short })
+
+-- the text of a value is read as that value
+file_begun : (files : Files) (name text : List ℕ) → IsFile files name text → begun_in name (get files name) ≡ Ok (from_first text)
+file_begun files name text file = begun_found name (get files name) text file.held file.short
+
+whole_found : {X : Type 0} (IsValue : X → Type 0) (text : X → List ℕ) (read : Rest → Result (X × Rest) ℕ) → IsWhole IsValue text read → (name : List ℕ) (x : X) → IsValue x → value_in name (read (from_first (text x))) ≡ Ok x
+whole_found IsValue text read form name x right =
+    let found = form.found (from_first (text x)) x right refl in ap (value_in name) found.1
+
+-- what is said of a file that was begun is what its fault line says
+value_said : {X : Type 0} (name : List ℕ) (answer : Result (X × Rest) ℕ) → result_err (value_in name answer) ≡ option_map (malformed_said name) (result_err answer)
+value_said name (Ok read) = refl
+value_said name (Err number) = refl
+
+file_said : {Place X : Type 0} (table : Table Place) (read : Rest → Result (X × Rest) ℕ) → ((bytes : List ℕ) → fault_line table bytes ≡ result_err (whole read bytes)) → (name : List ℕ) (file : Option (List ℕ)) (rest : Rest) → begun_in name file ≡ Ok rest → faulty_said table name file ≡ result_err (value_in name (read rest))
+file_said table read faults name file rest began =
+    let begun = begun_ok name file rest began in
+    ap (faulty_said table name) begun.held ∙ ap (option_map (malformed_said name)) (faults begun.bytes) ∙ sym (value_said name (read (from_first begun.bytes)))
+    ∙ ap (λ r. result_err (value_in name (read r))) (sym begun.first)
+
+-- ---- a seal and a secret
+
+-- both files are begun, and then both are read
+abbrev both_read : Result Rest SaidValue → Result Rest SaidValue → (Rest → Result Seal SaidValue) → (Rest → Result Secret SaidValue) → Result SealRow SaidValue
+both_read first second read_first read_second =
+    first >>= λ one. second >>= λ other. read_first one >>= λ seal. read_second other >>= λ secret. Ok (record { seal = seal; secret = secret })
+
+then_ok : {A B : Type 0} (answer : Result A SaidValue) (next : A → Result B SaidValue) (y : B) → (answer >>= next) ≡ Ok y → (x : A) × (answer ≡ Ok x) × (next x ≡ Ok y)
+then_ok (Ok x) next y is = (x, refl, is)
+then_ok (Err said) next y is = cc
+
+both_found : (first second : Result Rest SaidValue) (read_first : Rest → Result Seal SaidValue) (read_second : Rest → Result Secret SaidValue) (one other : Rest) (seal : Seal) (secret : Secret) → first ≡ Ok one → second ≡ Ok other → read_first one ≡ Ok seal → read_second other ≡ Ok secret
+    → both_read first second read_first read_second ≡ Ok (record { seal = seal; secret = secret })
+both_found first second read_first read_second one other seal secret is_first is_second is_seal is_secret =
+    ap (λ r. both_read r second read_first read_second) is_first
+    ∙ ap (λ r. both_read (Ok one) r read_first read_second) is_second
+    ∙ ap (λ (r : Result Seal SaidValue). r >>= λ s. read_second other >>= λ t. Ok (record { seal = s; secret = t })) is_seal
+    ∙ ap (λ (r : Result Secret SaidValue). r >>= λ t. Ok (record { seal = seal; secret = t })) is_secret
+
+last_said : (seal : Result Seal SaidValue) (secret : Result Secret SaidValue) → result_err {T = SealRow} (seal >>= λ s. secret >>= λ t. Ok (record { seal = s; secret = t })) ≡ first_of (result_err seal ∷ result_err secret ∷ [])
+unfolding first_of
+last_said (Ok seal) (Ok secret) = refl
+last_said (Ok seal) (Err said) = refl
+last_said (Err said) secret = refl
+
+both_said : (first second : Result Rest SaidValue) (read_first : Rest → Result Seal SaidValue) (read_second : Rest → Result Secret SaidValue) (faulty other_faulty : Option SaidValue) → ((one : Rest) → first ≡ Ok one → faulty ≡ result_err (read_first one)) → ((other : Rest) → second ≡ Ok other → other_faulty ≡ result_err (read_second other))
+    → result_err (both_read first second read_first read_second) ≡ first_of (result_err first ∷ result_err second ∷ faulty ∷ other_faulty ∷ [])
+unfolding first_of
+both_said (Err said) second read_first read_second faulty other_faulty is_faulty is_other = refl
+both_said (Ok one) (Err said) read_first read_second faulty other_faulty is_faulty is_other = refl
+both_said (Ok one) (Ok other) read_first read_second faulty other_faulty is_faulty is_other =
+    last_said (read_first one) (read_second other)
+    ∙ ap (λ f. first_of (f ∷ result_err (read_second other) ∷ [])) (sym (is_faulty one refl))
+    ∙ ap (λ f. first_of (faulty ∷ f ∷ [])) (sym (is_other other refl))
+
+row_is : (files : Files) (seal_name secret_name : List ℕ) → row_in files seal_name secret_name ≡ both_read (begun_in seal_name (get files seal_name)) (begun_in secret_name (get files secret_name)) (λ rest. value_in seal_name (seal_at rest)) (λ rest. value_in secret_name (secret_at rest))
+unfolding row_in
+row_is files seal_name secret_name = refl
+
+row_texts : (files : Files) (seal_name secret_name : List ℕ) (row : SealRow) → row_in files seal_name secret_name ≡ Ok row → AreTexts files seal_name secret_name row
+row_texts files seal_name secret_name row is =
+    let first = then_ok (begun_in seal_name (get files seal_name)) _ row (sym (row_is files seal_name secret_name) ∙ is) in
+    let second = then_ok (begun_in secret_name (get files secret_name)) _ row first.2 in
+    let seal = then_ok (value_in seal_name (seal_at first.0)) _ row second.2 in
+    let secret = then_ok (value_in secret_name (secret_at second.0)) _ row seal.2 in
+    let same : record { seal = seal.0; secret = secret.0 } ≡ row = cc (secret.2) in
+    let seal_is = file_read IsSeal seal_text seal_at seal_is_whole files seal_name first.0 seal.0 first.1 seal.1 in
+    let secret_is = file_read IsSecret secret_text secret_at secret_is_whole files secret_name second.0 secret.0 second.1 secret.1 in
+    subst (AreTexts files seal_name secret_name) same (record { seal = seal_is.0; secret = secret_is.0; seal_file = seal_is.1; secret_file = secret_is.1 })
+
+row_found : (files : Files) (seal_name secret_name : List ℕ) (row : SealRow) → AreTexts files seal_name secret_name row → row_in files seal_name secret_name ≡ Ok row
+row_found files seal_name secret_name row are =
+    row_is files seal_name secret_name
+    ∙ both_found _ _ (λ rest. value_in seal_name (seal_at rest)) (λ rest. value_in secret_name (secret_at rest)) (from_first (seal_text row.seal)) (from_first (secret_text row.secret)) row.seal row.secret
+    (file_begun files seal_name (seal_text row.seal) are.seal_file) (file_begun files secret_name (secret_text row.secret) are.secret_file)
+    (whole_found IsSeal seal_text seal_at seal_is_whole seal_name row.seal are.seal) (whole_found IsSecret secret_text secret_at secret_is_whole secret_name row.secret are.secret)
+
+row_said : (files : Files) (seal_name secret_name : List ℕ) → result_err (row_in files seal_name secret_name) ≡ first_of (unheld_said seal_name (get files seal_name) ∷ unheld_said secret_name (get files secret_name) ∷ faulty_said seal_table seal_name (get files seal_name) ∷ faulty_said secret_table secret_name (get files secret_name) ∷ [])
+row_said files seal_name secret_name =
+    let seal_file = get files seal_name in
+    let secret_file = get files secret_name in
+    ap result_err (row_is files seal_name secret_name)
+    ∙ both_said (begun_in seal_name seal_file) (begun_in secret_name secret_file) (λ rest. value_in seal_name (seal_at rest)) (λ rest. value_in secret_name (secret_at rest)) (faulty_said seal_table seal_name seal_file) (faulty_said secret_table secret_name secret_file)
+    (file_said seal_table seal_at seal_fault seal_name seal_file) (file_said secret_table secret_at secret_fault secret_name secret_file)
+    ∙ ap (λ f. first_of (f ∷ result_err (begun_in secret_name secret_file) ∷ faulty_said seal_table seal_name seal_file ∷ faulty_said secret_table secret_name secret_file ∷ [])) (begun_said seal_name seal_file)
+    ∙ ap (λ f. first_of (unheld_said seal_name seal_file ∷ f ∷ faulty_said seal_table seal_name seal_file ∷ faulty_said secret_table secret_name secret_file ∷ [])) (begun_said secret_name secret_file)
+
+pub reads_row : (files : Files) (seal_name secret_name : List ℕ) → ReadsRow files seal_name secret_name
+reads_row files seal_name secret_name = record {
+  read = λ row. (row_texts files seal_name secret_name row, row_found files seal_name secret_name row);
+  said = row_said files seal_name secret_name;
+}
+
+-- ---- a challenge
+
+abbrev one_read : Result Rest SaidValue → (Rest → Result Challenge SaidValue) → Result Challenge SaidValue
+one_read file read = file >>= λ rest. read rest >>= λ challenge. Ok challenge
+
+one_said_last : (challenge : Result Challenge SaidValue) → result_err (challenge >>= λ c. Ok c) ≡ first_of (result_err challenge ∷ [])
+unfolding first_of
+one_said_last (Ok challenge) = refl
+one_said_last (Err said) = refl
+
+one_said : (file : Result Rest SaidValue) (read : Rest → Result Challenge SaidValue) (faulty : Option SaidValue) → ((rest : Rest) → file ≡ Ok rest → faulty ≡ result_err (read rest)) → result_err (one_read file read) ≡ first_of (result_err file ∷ faulty ∷ [])
+unfolding first_of
+one_said (Err said) read faulty is = refl
+one_said (Ok rest) read faulty is = one_said_last (read rest) ∙ ap (λ f. first_of (f ∷ [])) (sym (is rest refl))
+
+challenge_is : (files : Files) (name : List ℕ) → challenge_in files name ≡ one_read (begun_in name (get files name)) (λ rest. value_in name (challenge_at rest))
+unfolding challenge_in
+challenge_is files name = refl
+
+challenge_of_text : (files : Files) (name : List ℕ) (challenge : Challenge) → challenge_in files name ≡ Ok challenge → IsText files name challenge
+challenge_of_text files name challenge is =
+    let file = then_ok (begun_in name (get files name)) _ challenge (sym (challenge_is files name) ∙ is) in
+    let read = then_ok (value_in name (challenge_at file.0)) _ challenge file.2 in
+    let same : read.0 ≡ challenge = cc (read.2) in
+    let given = file_read IsChallenge challenge_text challenge_at challenge_is_whole files name file.0 read.0 file.1 read.1 in
+    subst (IsText files name) same (record { right = given.0; file = given.1 })
+
+pub challenge_found : (files : Files) (name : List ℕ) (challenge : Challenge) → IsText files name challenge → challenge_in files name ≡ Ok challenge
+challenge_found files name challenge text =
+    challenge_is files name
+    ∙ ap (λ r. one_read r (λ rest. value_in name (challenge_at rest))) (file_begun files name (challenge_text challenge) text.file)
+    ∙ ap (λ (r : Result Challenge SaidValue). r >>= λ c. Ok c) (whole_found IsChallenge challenge_text challenge_at challenge_is_whole name challenge text.right)
+
+challenge_said : (files : Files) (name : List ℕ) → result_err (challenge_in files name) ≡ first_of (unheld_said name (get files name) ∷ faulty_said challenge_table name (get files name) ∷ [])
+challenge_said files name =
+    ap result_err (challenge_is files name)
+    ∙ one_said (begun_in name (get files name)) (λ rest. value_in name (challenge_at rest)) (faulty_said challenge_table name (get files name)) (file_said challenge_table challenge_at challenge_fault name (get files name))
+    ∙ ap (λ f. first_of (f ∷ faulty_said challenge_table name (get files name) ∷ [])) (begun_said name (get files name))
+
+-- what is said of the file has no status 0
+begun_refused_by : (name bytes : List ℕ) (said : SaidValue) (long : Bool) → ◌≡◌ {A = Result Rest SaidValue} (if long then Err (too_long_said name) else Ok (from_first bytes)) (Err said) → said.status ≢ 0
+begun_refused_by name bytes said true is zero = let four : 4 ≡ said.status = ap (λ (r : Result Rest SaidValue). status_of r) is in absurd (omega (arith, four, zero))
+begun_refused_by name bytes said false is zero = cc
+
+begun_refused : (name : List ℕ) (file : Option (List ℕ)) (said : SaidValue) → begun_in name file ≡ Err said → said.status ≢ 0
+begun_refused name None said is zero = let five : 5 ≡ said.status = ap (λ (r : Result Rest SaidValue). status_of r) is in absurd (omega (arith, five, zero))
+begun_refused name (Some bytes) said is zero = begun_refused_by name bytes said (nat_lt (2 ^ 30) (length bytes)) is zero
+
+value_refused : (name : List ℕ) (answer : Result (Challenge × Rest) ℕ) (said : SaidValue) → value_in name answer ≡ Err said → said.status ≢ 0
+value_refused name (Ok read) said is zero = cc
+value_refused name (Err number) said is zero = let four : 4 ≡ said.status = ap (λ (r : Result Challenge SaidValue). status_of r) is in absurd (omega (arith, four, zero))
+
+one_refused_last : (challenge : Result Challenge SaidValue) (said : SaidValue) → ◌≡◌ {A = Result Challenge SaidValue} (challenge >>= λ c. Ok c) (Err said) → challenge ≡ Err said
+one_refused_last (Ok challenge) said is = cc
+one_refused_last (Err other) said is = is
+
+one_refused : (name : List ℕ) (file : Option (List ℕ)) (begun : Result Rest SaidValue) (said : SaidValue) → begun_in name file ≡ begun → one_read begun (λ rest. value_in name (challenge_at rest)) ≡ Err said → said.status ≢ 0
+one_refused name file (Err other) said began is = begun_refused name file said (began ∙ is_refused other said is)
+one_refused name file (Ok rest) said began is = value_refused name (challenge_at rest) said (one_refused_last (value_in name (challenge_at rest)) said is)
+
+pub challenge_refused : (files : Files) (name : List ℕ) (said : SaidValue) → challenge_in files name ≡ Err said → said.status ≢ 0
+challenge_refused files name said is = one_refused name (get files name) (begun_in name (get files name)) said refl (sym (challenge_is files name) ∙ is)
+
+pub reads_challenge : (files : Files) (name : List ℕ) → ReadsChallenge files name
+reads_challenge files name = record {
+  read = λ challenge. (challenge_of_text files name challenge, challenge_found files name challenge);
+  said = challenge_said files name;
+}

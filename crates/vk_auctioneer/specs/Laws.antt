@@ -1,0 +1,141 @@
+-- The laws of the auctioneer's commands.
+use Rattle.std.specs.Prelude.{◌≡◌, ◌↔◌, ℕ, ◌^◌, nat_lt, if◌then◌else◌, List, [], ◌∷◌, length, Option, Some, None, option_map, Result, Ok, IsSomeAnd}
+use Rattle.std.specs.Result.{result_err}
+use Rattle.std.specs.FinMap.{get}
+use Rattle.vk_commit.specs.Values.{AreBytes}
+use Rattle.vk_io.specs.Files.{Files}
+use Rattle.vk_lines.specs.Forms.{Table, fault_line}
+use Rattle.vk_reply.specs.declared.challenge.Challenge.{Challenge}
+use Rattle.vk_reply.specs.Tables.{challenge_table}
+use Rattle.vk_reply.specs.Texts.{challenge_text}
+use Rattle.vk_reply.specs.Values.{IsChallenge}
+use Rattle.vk_seal.specs.Tables.{seal_table, secret_table}
+use Rattle.vk_seal.specs.Texts.{seal_text, secret_text}
+use Rattle.vk_seal.specs.Values.{IsSeal, IsSecret}
+use Rattle.vk_verifier.specs.Acceptance.{Accepts}
+use Rattle.vk_keeper.specs.declared.auction.Auction.{Auction}
+use Rattle.vk_keeper.specs.declared.auction.Phase.TheVariants.{Proved}
+use Rattle.vk_keeper.specs.declared.auction.SealRow.{SealRow}
+use Rattle.vk_keeper.specs.Auctions.{seed_of}
+use Rattle.vk_keeper.specs.Joining.{first_of}
+use Rattle.vk_keeper.specs.Ledgers.{Ledger, IsLedger}
+use Rattle.vk_job.specs.Jobs.{IsProvedAuction}
+use Rattle.vk_job.specs.Published.{board_of, reply_of}
+use Rattle.vk_honest.specs.Answers.{IsChallengeTo}
+use Rattle.vk_honest.specs.Sizes.{IsShort}
+use Rattle.vk_effect.specs.Effects.{Effect, SaidValue}
+use Rattle.vk_auctioneer.specs.Effects.{answer_effect, prove_effect}
+use Rattle.vk_auctioneer.specs.Inputs.{challenge_in, malformed_said, missing_said, row_in, too_long_said}
+
+-- ---- what is read, by the texts and the tables of the forms
+
+-- the file of that name holds this text, which is not too long
+pub record IsFile (files : Files) (name text : List ℕ) : Type 0 where
+  pub held : get files name ≡ Some text
+  pub short : IsShort text
+
+-- what is said of a file that isn't held or is too long
+abbrev pub unheld_said : List ℕ → Option (List ℕ) → Option SaidValue
+unheld_said name None = Some (missing_said name)
+unheld_said name (Some bytes) = if nat_lt (2 ^ 30) (length bytes) then Some (too_long_said name) else None
+
+-- what is said of one that is held, and isn't of the form of that table
+abbrev pub faulty_said : {Place : Type 0} → Table Place → List ℕ → Option (List ℕ) → Option SaidValue
+faulty_said table name None = None
+faulty_said table name (Some bytes) = option_map (malformed_said name) (fault_line table bytes)
+
+-- the files of those names hold the texts of the seal and the secret
+pub record AreTexts (files : Files) (seal_name secret_name : List ℕ) (row : SealRow) : Type 0 where
+  pub seal : IsSeal row.seal
+  pub secret : IsSecret row.secret
+  pub seal_file : IsFile files seal_name (seal_text row.seal)
+  pub secret_file : IsFile files secret_name (secret_text row.secret)
+
+-- the file of that name holds the text of the challenge
+pub record IsText (files : Files) (name : List ℕ) (challenge : Challenge) : Type 0 where
+  pub right : IsChallenge challenge
+  pub file : IsFile files name (challenge_text challenge)
+
+-- a seal and a secret are read exactly where the files hold their texts. Otherwise the first of these tests that fails
+-- is said
+pub record ReadsRow (files : Files) (seal_name secret_name : List ℕ) : Type 0 where
+  pub read : (row : SealRow) → (row_in files seal_name secret_name ≡ Ok row) ↔ AreTexts files seal_name secret_name row
+  pub said : result_err (row_in files seal_name secret_name) ≡ first_of
+      (unheld_said seal_name (get files seal_name)
+      ∷ unheld_said secret_name (get files secret_name)
+      ∷ faulty_said seal_table seal_name (get files seal_name)
+      ∷ faulty_said secret_table secret_name (get files secret_name)
+      ∷ [])
+
+-- and so is a challenge
+pub record ReadsChallenge (files : Files) (name : List ℕ) : Type 0 where
+  pub read : (challenge : Challenge) → (challenge_in files name ≡ Ok challenge) ↔ IsText files name challenge
+  pub said : result_err (challenge_in files name) ≡ first_of
+      (unheld_said name (get files name)
+      ∷ faulty_said challenge_table name (get files name)
+      ∷ [])
+
+-- ---- what is written
+
+-- the effect leaves the auction under the id
+abbrev pub LeavesAuction : Effect → List ℕ → Auction → Type 0
+LeavesAuction effect id auction = IsSomeAnd effect.ledger (λ ledger. get ledger id ≡ Some auction)
+
+-- the effect of `prove`: it leaves an auction that is proved with the seed, and writes its board
+pub record WritesBoard (id seed board : List ℕ) (effect : Effect) (auction : Auction) : Type 0 where
+  pub kept : LeavesAuction effect id auction
+  pub proved : IsProvedAuction auction
+  pub seed_is : seed_of auction.phase ≡ Some seed
+  pub written : effect.writes ≡ (board, board_of auction) ∷ []
+
+-- each `prove` that ends with status 0 does so
+abbrev pub BoardsAreWritten : Type 0
+BoardsAreWritten =
+    (ledger : Ledger) (id seed board : List ℕ) → IsLedger ledger → AreBytes 16 id → AreBytes 32 seed
+    → (prove_effect ledger id seed board).status ≡ 0
+    → (auction : Auction) × WritesBoard id seed board (prove_effect ledger id seed board) auction
+
+-- the effect of `answer`: it leaves an auction that is proved, and writes its reply to the challenge of the named file
+pub record WritesReply (files : Files) (id challenge_name reply : List ℕ) (effect : Effect) (auction : Auction) (challenge : Challenge) : Type 0 where
+  pub kept : LeavesAuction effect id auction
+  pub proved : IsProvedAuction auction
+  pub asked : IsChallengeTo auction challenge
+  pub read : get files challenge_name ≡ Some (challenge_text challenge)
+  pub written : effect.writes ≡ (reply, reply_of auction challenge) ∷ []
+
+-- each `answer` that ends with status 0 does so
+abbrev pub RepliesAreWritten : Type 0
+RepliesAreWritten =
+    (files : Files) (ledger : Ledger) (id challenge_name reply : List ℕ) → IsLedger ledger → AreBytes 16 id
+    → (answer_effect files ledger id challenge_name reply).status ≡ 0
+    → (auction : Auction) × ((challenge : Challenge) × WritesReply files id challenge_name reply (answer_effect files ledger id challenge_name reply) auction challenge)
+
+-- the effect of `answer`: it leaves an auction with whose board, and the challenge of the named file, what it writes
+-- is accepted
+pub record WritesAccepted (files : Files) (id challenge_name reply : List ℕ) (effect : Effect) (auction : Auction) (challenge_file reply_file : List ℕ) : Type 0 where
+  pub kept : LeavesAuction effect id auction
+  pub read : get files challenge_name ≡ Some challenge_file
+  pub written : effect.writes ≡ (reply, reply_file) ∷ []
+  pub accepted : Accepts (board_of auction) challenge_file reply_file
+
+-- each `answer` that ends with status 0 does so
+abbrev pub RepliesAreAccepted : Type 0
+RepliesAreAccepted =
+    (files : Files) (ledger : Ledger) (id challenge_name reply : List ℕ) → IsLedger ledger → AreBytes 16 id
+    → (answer_effect files ledger id challenge_name reply).status ≡ 0
+    → (auction : Auction) × ((challenge_file reply_file : List ℕ) × WritesAccepted files id challenge_name reply (answer_effect files ledger id challenge_name reply) auction challenge_file reply_file)
+
+-- the auction is proved and was not answered, and the named file is a challenge with a bit for each of its lanes
+pub record IsAsked (files : Files) (ledger : Ledger) (id challenge_name : List ℕ) (auction : Auction) (seed : List ℕ) (challenge : Challenge) : Type 0 where
+  pub held : get ledger id ≡ Some auction
+  pub phase : auction.phase ≡ Proved seed
+  pub proved : IsProvedAuction auction
+  pub asked : IsChallengeTo auction challenge
+  pub read : get files challenge_name ≡ Some (challenge_text challenge)
+
+-- every such challenge is answered
+abbrev pub ChallengesAreAnswered : Type 0
+ChallengesAreAnswered =
+    (files : Files) (ledger : Ledger) (id challenge_name reply : List ℕ) (auction : Auction) (seed : List ℕ) (challenge : Challenge)
+    → IsAsked files ledger id challenge_name auction seed challenge
+    → (answer_effect files ledger id challenge_name reply).status ≡ 0

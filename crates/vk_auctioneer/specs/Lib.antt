@@ -1,0 +1,5 @@
+pub mod Inputs
+pub mod Lines
+pub mod Effects
+pub mod Answers
+pub mod Laws

@@ -1,0 +1,88 @@
+-- What is said of the replies of a house.
+use Rattle.std.specs.Prelude.{ℕ, List, [], codes, decimal}
+use Rattle.vk_lines.specs.Tokens.{hex_text}
+use Rattle.vk_vickrey.specs.declared.outcomes.VickreyOutcome.{VickreyOutcome}
+use Rattle.vk_reply.specs.Texts.{bits_text}
+use Rattle.vk_keeper.specs.declared.auction.Auction.{Auction}
+use Rattle.vk_bids.specs.ConfrontTexts.{mismatch_fields}
+use Rattle.vk_job.specs.Jobs.{winner_of}
+use Rattle.vk_house.specs.declared.errors.HouseErr.{HouseErr}
+use Rattle.vk_house.specs.declared.errors.HouseErr.TheVariants as house
+use Rattle.vk_house.specs.declared.standing.PhaseName.{PhaseName}
+use Rattle.vk_house.specs.declared.standing.PhaseName.TheVariants.{Taking, Proved, Answered}
+use Rattle.vk_house.specs.declared.standing.Standing.{Standing}
+use Rattle.vk_house.specs.Commands.{HouseCommand, Announce, Submit, Prove, Answer, Show, id_of}
+use Rattle.vk_house.specs.Replies.{HouseReply, Done, Position, Work, Stands, Refused}
+use Rattle.vk_effect.specs.Effects.{SaidValue}
+use Rattle.vk_effect.specs.Texts.{◌+++◌, line_feed}
+
+-- ---- refusals
+
+abbrev pub phase_word : PhaseName → List ℕ
+phase_word Taking = codes "taking"
+phase_word Proved = codes "proved"
+phase_word Answered = codes "answered"
+
+-- the line of a refusal, where the seal that was handed in has this seat. The failure of the keeper and want of memory
+-- have none
+abbrev pub refusal_line : ℕ → HouseErr → List ℕ
+refusal_line seat house.Known = codes "house known" +++ line_feed
+refusal_line seat house.Unknown = codes "house unknown" +++ line_feed
+refusal_line seat (house.Phase kept) = codes "house phase " +++ phase_word kept +++ line_feed
+refusal_line seat house.Full = codes "house full" +++ line_feed
+refusal_line seat (house.OtherAuction given) = codes "house other auction " +++ hex_text given +++ line_feed
+refusal_line seat house.SeatTaken = codes "house seat taken " +++ decimal seat +++ line_feed
+refusal_line seat (house.Length kept given) = codes "house length kept " +++ decimal kept +++ codes " given " +++ decimal given +++ line_feed
+refusal_line seat house.BidTooLarge = codes "house bid too large" +++ line_feed
+refusal_line seat (house.Mismatch mismatch) = codes "house mismatch " +++ mismatch_fields mismatch +++ line_feed
+refusal_line seat house.NoSeals = codes "house no seals" +++ line_feed
+refusal_line seat (house.OtherSeed kept) = codes "house other seed kept " +++ hex_text kept +++ line_feed
+refusal_line seat (house.OtherChallenge kept) = codes "house other challenge kept " +++ bits_text kept.bits +++ line_feed
+refusal_line seat (house.DrySeed lane wire) = codes "house dry seed lane " +++ decimal lane +++ codes " wire " +++ decimal wire +++ line_feed
+refusal_line seat house.KeeperFailed = []
+refusal_line seat house.NoMemory = []
+
+abbrev pub refused_said : ℕ → HouseErr → SaidValue
+refused_said seat refusal = record { status = 8; text = refusal_line seat refusal }
+
+-- ---- answers
+
+abbrev pub announced_line : List ℕ → List ℕ
+announced_line id = codes "announced " +++ hex_text id +++ line_feed
+
+abbrev pub taken_line : ℕ → ℕ → List ℕ
+taken_line seat position = codes "taken seat " +++ decimal seat +++ codes " position " +++ decimal position +++ line_feed
+
+abbrev pub proved_line : ℕ → ℕ → List ℕ
+proved_line winner price = codes "proved winner " +++ decimal winner +++ codes " price " +++ decimal price +++ line_feed
+
+abbrev pub answered_line : List ℕ
+answered_line = codes "answered" +++ line_feed
+
+abbrev pub standing_line : List ℕ → Standing → List ℕ
+standing_line id standing =
+    codes "auction " +++ hex_text id +++ codes " width " +++ decimal standing.width +++ codes " lanes " +++ decimal standing.lanes
+    +++ codes " seals " +++ decimal standing.seals +++ codes " phase " +++ phase_word standing.phase +++ line_feed
+
+-- ---- a reply
+
+-- the seat of the seal that a command hands in, 0 where it hands in none
+abbrev pub seat_of : HouseCommand → ℕ
+seat_of (Submit id seal secret) = seal.seat
+seat_of _ = 0
+
+-- the line of work on an auction: it is answered, or its board is made
+abbrev pub work_line : HouseCommand → Auction → VickreyOutcome → List ℕ
+work_line (Answer id challenge) auction outcome = answered_line
+work_line _ auction outcome = proved_line (winner_of auction) outcome.price
+
+abbrev pub done_said : List ℕ → SaidValue
+done_said text = record { status = 0; text = text }
+
+-- what is said of the reply to a command
+abbrev pub reply_said : HouseCommand → HouseReply → SaidValue
+reply_said command Done = done_said (announced_line (id_of command))
+reply_said command (Position position) = done_said (taken_line (seat_of command) position)
+reply_said command (Work auction outcome) = done_said (work_line command auction outcome)
+reply_said command (Stands standing) = done_said (standing_line (id_of command) standing)
+reply_said command (Refused refusal) = refused_said (seat_of command) refusal

@@ -1,0 +1,175 @@
+//! `answer`.
+
+ghost use Rattle.std.specs.Prelude.{◌≡◌, ◌∷◌, [], ℕ, IfOk, IfSome, List, Some, length};
+ghost use Rattle.vk_io.specs.Faults.{Causes};
+ghost use Rattle.vk_io.specs.Files.{Told};
+ghost use Rattle.vk_io.specs.Reads.{OnlyReads};
+ghost use Rattle.vk_lines.specs.Gives.{Gives};
+ghost use Rattle.vk_reply.specs.Values.{IsChallenge};
+ghost use Rattle.vk_keeper.specs.Auctions.{challenge_of};
+ghost use Rattle.vk_keeper.specs.Turns.{GetsOnce};
+ghost use Rattle.vk_job.specs.Published.{reply_of};
+ghost use Rattle.vk_house.specs.Answers.{as_reply, work_of};
+ghost use Rattle.vk_house.specs.Commands.{Answer};
+ghost use Rattle.vk_house.specs.Once.{KeepsAnswers};
+ghost use Rattle.vk_effect.specs.Counts.{CausesTwo};
+ghost use Rattle.vk_effect.specs.Effects.{stores};
+ghost use Rattle.vk_effect.specs.Ends.{Acts};
+ghost use Rattle.vk_auctioneer.specs.Answers.{AsksOnce, Leaves, Says};
+ghost use Rattle.vk_auctioneer.specs.Effects.{answer_effect, asked, on_both, on_ledger, reply_file};
+ghost use Rattle.vk_auctioneer.specs.Inputs.{challenge_in, said_of};
+ghost use Rattle.vk_auctioneer.specs.Lines.{answered_line, done_said};
+
+use crate::inputs::{Unread, begin, challenge};
+use crate::refusals::refused;
+use std::alloc::Global;
+use vk_effect::Said;
+use vk_house::{House, HouseErr};
+use vk_io::{OutsideErr, Shelf, WrittenFiles, write_files};
+use vk_job::Job;
+use vk_keeper::Keeper;
+use vk_reply::Challenge;
+use vk_residue::NoMemory;
+
+/// Answers the named challenge, and writes the reply.
+pub fn answer<S: Shelf, K: Keeper + Drop>(
+    alloc: Global,
+    shelf: &mut S,
+    keeper: &mut K,
+    id: &[u8; 16],
+    challenge: &str,
+    reply: &str,
+) -> Result<Said, OutsideErr>
+    ensures acts { IfSome (on_both (λ held kept. answer_effect held kept id.now challenge.now reply.now) (S.held shelf.old) (K.ledger keeper.old))
+        (λ effect. Acts result effect (stores (S.held shelf.old) (K.ledger keeper.old)) (stores (S.held shelf.new) (K.ledger keeper.new))) }
+    ensures once { Told KeepsAnswers (K.ledger keeper.old) (K.ledger keeper.new) }
+    ensures turns { AsksOnce (K.turns keeper.old) (K.turns keeper.new) }
+    ensures causes { CausesTwo OutsideErr.Failed result (S.Shelf.faults shelf.old) (S.Shelf.faults shelf.new) (K.faults keeper.old) (K.faults keeper.new) }
+{
+    match asked_challenge(alloc, shelf, challenge) {
+        Ok(challenge) => {
+            let said = answer_challenge(alloc, shelf, keeper, id, &challenge, reply);
+            said
+        }
+        Err(unread) => unread.said_or_stopped(),
+    }
+}
+
+/// Reads the named challenge.
+#[tactic(auto, unfolding(crate::specs::Inputs::challenge_in))]
+fn asked_challenge<S: Shelf>(alloc: Global, shelf: &mut S, name: &str) -> Result<Challenge, Unread>
+    ensures told { IfSome (S.held shelf.old) (λ files. Gives said_of (λ challenge. challenge) result (challenge_in files name.now)) }
+    ensures right { IfOk result IsChallenge }
+    ensures shelf { OnlyReads S.held S.Shelf.faults Unread.Failed result shelf.old shelf.new }
+{
+    let mut lines = begin(alloc, shelf, name)?;
+    let challenge = challenge(alloc, shelf, name, &mut lines)?;
+    Ok(challenge)
+}
+
+/// Answers a challenge, and writes the reply.
+fn answer_challenge<S: Shelf, K: Keeper + Drop>(
+    alloc: Global,
+    shelf: &mut S,
+    keeper: &mut K,
+    id: &[u8; 16],
+    challenge: &Challenge,
+    reply: &str,
+) -> Result<Said, OutsideErr>
+    requires { IsChallenge challenge.now }
+    ensures acts { IfSome (on_ledger (λ kept. asked (reply_file reply.now challenge.now) kept (Answer id.now challenge.now)) (K.ledger keeper.old))
+        (λ effect. Acts result effect (stores (S.held shelf.old) (K.ledger keeper.old)) (stores (S.held shelf.new) (K.ledger keeper.new))) }
+    ensures once { Told KeepsAnswers (K.ledger keeper.old) (K.ledger keeper.new) }
+    ensures turns { GetsOnce (K.turns keeper.old) (K.turns keeper.new) }
+    ensures causes { CausesTwo OutsideErr.Failed result (S.Shelf.faults shelf.old) (S.Shelf.faults shelf.new) (K.faults keeper.old) (K.faults keeper.new) }
+{
+    let answer = House::over(keeper).answer(alloc, id, challenge);
+    let said = answered(alloc, shelf, reply, challenge, answer);
+    said
+}
+
+/// Of what the house answered. The reply of a job to the challenge is written to the named file.
+fn answered<S: Shelf>(
+    alloc: Global,
+    shelf: &mut S,
+    name: &str,
+    challenge: &Challenge,
+    answer: Result<Job, HouseErr>,
+) -> Result<Said, OutsideErr>
+    requires { IfOk answer (λ job. challenge_of job.auction.phase ≡ Some challenge.now) }
+    ensures said { (id : List ℕ) → Says (Answer id challenge.now) (as_reply work_of answer) result }
+    ensures written { Told (Leaves (reply_file name.now challenge.now (as_reply work_of answer)) result) (S.held shelf.old) (S.held shelf.new) }
+    ensures causes { (before after : ℕ) → Causes HouseErr.KeeperFailed answer before after
+        → CausesTwo OutsideErr.Failed result (S.Shelf.faults shelf.old) (S.Shelf.faults shelf.new) before after }
+{
+    match answer {
+        Ok(job) => {
+            let said = show_halves(alloc, shelf, name, challenge, &job);
+            said
+        }
+        Err(refusal) => {
+            let said = refused(alloc, 0, refusal);
+            said
+        }
+    }
+}
+
+/// Writes the reply of a job to the challenge to the named file. What is said is made before.
+fn show_halves<S: Shelf>(
+    alloc: Global,
+    shelf: &mut S,
+    name: &str,
+    challenge: &Challenge,
+    job: &Job,
+) -> Result<Said, OutsideErr>
+    requires { challenge_of job.now.auction.phase ≡ Some challenge.now }
+    ensures said { IfOk result (λ said. said ≡ done_said answered_line) }
+    ensures written { Told (Leaves ((name.now, reply_of job.now.auction challenge.now) ∷ []) result) (S.held shelf.old) (S.held shelf.new) }
+    ensures causes { Causes OutsideErr.Failed result (S.Shelf.faults shelf.old) (S.Shelf.faults shelf.new) }
+{
+    let said = Said::of_line(alloc, 0, "answered\n")?;
+    let auction = job.auction();
+    write_files(
+        alloc,
+        shelf,
+        &ReplyFile {
+            name,
+            job,
+            challenge,
+        },
+    )?;
+    Ok(said)
+}
+
+/// The file that the reply of a job to a challenge is written to.
+#[derive(Drop)]
+struct ReplyFile<'a> {
+    name: &'a str,
+    job: &'a Job,
+    challenge: &'a Challenge,
+    ghost one_bit_each: { length challenge.now.bits ≡ job.now.auction.lanes },
+}
+
+impl<'a> WrittenFiles for ReplyFile<'a> {
+    ghost use Rattle.std.specs.Prelude.{[], ◌∷◌};
+    ghost use Rattle.vk_job.specs.Published.{reply_pieces};
+
+    ghost files = { λ f. record { name = f.name.now; pieces = reply_pieces f.job.now.auction f.challenge.now } ∷ [] };
+
+    fn count(&self) -> usize {
+        1
+    }
+
+    fn name(&self, _file: usize) -> &str {
+        self.name
+    }
+
+    fn pieces(&self, _file: usize) -> usize {
+        self.job.reply_pieces(self.challenge)
+    }
+
+    fn piece(&self, alloc: Global, _file: usize, index: usize) -> Result<Vec<u8>, NoMemory> {
+        let piece = self.job.reply_piece(alloc, self.challenge, index)?;
+        Ok(piece)
+    }
+}

@@ -1,0 +1,71 @@
+//! Whichever command of the house.
+
+ghost use Rattle.std.specs.Prelude.{◌≡◌, IfSome, None};
+ghost use Rattle.vk_io.specs.Files.{Told};
+ghost use Rattle.vk_house.specs.Once.{KeepsAnswers};
+ghost use Rattle.vk_effect.specs.Counts.{CausesTwo};
+ghost use Rattle.vk_effect.specs.Effects.{stores};
+ghost use Rattle.vk_effect.specs.Ends.{Acts};
+ghost use Rattle.vk_words.specs.Orders.{IsHouseOrder, house_seen};
+ghost use Rattle.vk_words.specs.Scripts.{written_name_of};
+ghost use Rattle.vk_auctioneer.specs.Answers.{AsksOnce};
+ghost use Rattle.vk_auctioneer.specs.Effects.{house_effect};
+
+use crate::announcing::announce;
+use crate::answering::answer;
+use crate::proving::prove;
+use crate::showing::show;
+use crate::submitting::submit;
+use std::alloc::Global;
+use vk_effect::Said;
+use vk_io::{OutsideErr, Shelf};
+use vk_keeper::Keeper;
+use vk_words::HouseOrder;
+
+/// Does a command of the house over the shelf and the keeper, all but its printing. No file is made before all tests
+/// of the command have passed and the keeper has kept what is to be kept.
+pub fn house_command<S: Shelf, K: Keeper + Drop>(
+    alloc: Global,
+    shelf: &mut S,
+    keeper: &mut K,
+    order: &HouseOrder<'_>,
+) -> Result<Said, OutsideErr>
+    requires { IsHouseOrder order.now }
+    ensures acts { IfSome (house_effect (S.held shelf.old) (K.ledger keeper.old) (house_seen order.now))
+        (λ effect. Acts result effect (stores (S.held shelf.old) (K.ledger keeper.old)) (stores (S.held shelf.new) (K.ledger keeper.new))) }
+
+    // A command that writes no file leaves all that is held.
+    ensures held { written_name_of (house_seen order.now) ≡ None → S.held shelf.new ≡ S.held shelf.old }
+
+    // Whatever its end, an auction that was answered is the same, and one that was proved has its seed and its seals.
+    ensures once { Told KeepsAnswers (K.ledger keeper.old) (K.ledger keeper.new) }
+    ensures turns { AsksOnce (K.turns keeper.old) (K.turns keeper.new) }
+    ensures causes { CausesTwo OutsideErr.Failed result (S.Shelf.faults shelf.old) (S.Shelf.faults shelf.new) (K.faults keeper.old) (K.faults keeper.new) }
+{
+    match order {
+        HouseOrder::Announce { id, width, lanes } => {
+            let said = announce(alloc, keeper, id, *width, *lanes);
+            said
+        }
+        HouseOrder::Submit { id, seal, secret } => {
+            let said = submit(alloc, shelf, keeper, id, seal, secret);
+            said
+        }
+        HouseOrder::Prove { id, seed, board } => {
+            let said = prove(alloc, shelf, keeper, id, seed, board);
+            said
+        }
+        HouseOrder::Answer {
+            id,
+            challenge,
+            reply,
+        } => {
+            let said = answer(alloc, shelf, keeper, id, challenge, reply);
+            said
+        }
+        HouseOrder::Show { id } => {
+            let said = show(alloc, keeper, id);
+            said
+        }
+    }
+}

@@ -1,0 +1,190 @@
+//! The files that a command is given by name.
+
+ghost use Rattle.std.specs.Prelude.{◌≡◌, ℕ, Err, IfOk, IfSome, List, Ok, Result};
+ghost use Rattle.std.specs.FinMap as map;
+ghost use Rattle.vk_io.specs.Faults.{Causes};
+ghost use Rattle.vk_io.specs.Files.{Files};
+ghost use Rattle.vk_io.specs.Reads.{OnlyReads};
+ghost use Rattle.vk_lines.specs.Gives.{Gives};
+ghost use Rattle.vk_lines.specs.Lines.{IsBefore, Reads, Rest, Starts, rest_of};
+ghost use Rattle.vk_reply.specs.Reading.{challenge_at};
+ghost use Rattle.vk_reply.specs.Values.{IsChallenge};
+ghost use Rattle.vk_seal.specs.Reading.{seal_at, secret_at};
+ghost use Rattle.vk_seal.specs.Values.{IsSeal, IsSecret};
+ghost use Rattle.vk_effect.specs.Effects.{SaidValue};
+ghost use Rattle.vk_auctioneer.specs.Answers.{said_or_stopped};
+ghost use Rattle.vk_auctioneer.specs.Inputs.{begun_in, malformed_said, missing_said, said_of, too_long_said, value_in};
+
+use std::alloc::Global;
+use vk_effect::Said;
+use vk_io::{OutsideErr, Shelf};
+use vk_lines::{Lines, ReadErr, StartErr};
+use vk_reply::{Challenge, read_challenge};
+use vk_residue::NoMemory;
+use vk_seal::{Seal, Secret, read_seal, read_secret};
+
+/// Why a file was not read.
+#[derive(Drop)]
+pub enum Unread {
+    /// It isn't held, is too long or isn't of its form, and this is said of it.
+    Said(Said),
+    /// The outside failed. The shelf's count of faults rose in this call.
+    Failed,
+    /// Want of memory.
+    NoMemory,
+}
+
+impl From<NoMemory> for Unread {
+    ghost use Rattle.std.specs.Prelude.{◌≡◌};
+    ghost use Rattle.vk_auctioneer.specs.declared.inputs.Unread.TheVariants.{NoMemory as OutOfMemory};
+
+    ghost from_gives = { λ _ e. e ≡ OutOfMemory };
+
+    fn from(_refused: NoMemory) -> Unread {
+        Unread::NoMemory
+    }
+}
+
+impl Unread {
+    /// What the command then says, or why it is stopped.
+    pub fn said_or_stopped(self) -> Result<Said, OutsideErr>
+        ensures { result ≡ said_or_stopped self }
+    {
+        match self {
+            Unread::Said(said) => Ok(said),
+            Unread::Failed => Err(OutsideErr::Failed),
+            Unread::NoMemory => Err(OutsideErr::NoMemory),
+        }
+    }
+}
+
+/// Of a file that isn't held.
+fn missing(alloc: Global, name: &str) -> Result<Said, NoMemory>
+    ensures { IfOk result (λ said. said ≡ missing_said name.now) }
+{
+    let line = format!(in alloc; "missing {name}\n")?;
+    let said = Said::of_line(alloc, 5, line.as_str())?;
+    Ok(said)
+}
+
+/// Of a file that has too many bytes.
+fn too_long(alloc: Global, name: &str) -> Result<Said, NoMemory>
+    ensures { IfOk result (λ said. said ≡ too_long_said name.now) }
+{
+    let line = format!(in alloc; "too long {name}\n")?;
+    let said = Said::of_line(alloc, 4, line.as_str())?;
+    Ok(said)
+}
+
+/// Of a file that isn't of its form.
+pub fn malformed(alloc: Global, name: &str, number: u64) -> Result<Said, NoMemory>
+    ensures { IfOk result (λ said. said ≡ malformed_said name.now number) }
+{
+    let line = format!(in alloc; "malformed {name} line {number}\n")?;
+    let said = Said::of_line(alloc, 4, line.as_str())?;
+    Ok(said)
+}
+
+/// Begins to read the named file.
+pub fn begin<S: Shelf>(alloc: Global, shelf: &mut S, name: &str) -> Result<Lines, Unread>
+    ensures told { IfSome (S.held shelf.old) (λ files.
+        Gives said_of (λ lines. rest_of lines files) result (begun_in name.now (map.get files name.now))) }
+    ensures before { IfOk result (IsBefore name.now) }
+    ensures shelf { OnlyReads S.held S.Shelf.faults Unread.Failed result shelf.old shelf.new }
+{
+    let started = Lines::start(alloc, shelf, name);
+    let lines = begun(alloc, name, started);
+    lines
+}
+
+/// The named file from its first line on, or why it was not begun.
+fn begun(alloc: Global, name: &str, started: Result<Lines, StartErr>) -> Result<Lines, Unread>
+    requires { IfOk started (IsBefore name.now) }
+    ensures told { (files : Files) → Starts files name.now started
+        → Gives said_of (λ lines. rest_of lines files) result (begun_in name.now (map.get files name.now)) }
+    ensures before { IfOk result (IsBefore name.now) }
+    ensures causes { (before after : ℕ) → Causes StartErr.Failed started before after → Causes Unread.Failed result before after }
+{
+    match started {
+        Ok(lines) => Ok(lines),
+        Err(StartErr::Missing) => {
+            let said = missing(alloc, name)?;
+            Err(Unread::Said(said))
+        }
+        Err(StartErr::TooLong) => {
+            let said = too_long(alloc, name)?;
+            Err(Unread::Said(said))
+        }
+        Err(StartErr::Failed) => Err(Unread::Failed),
+        Err(StartErr::NoMemory) => Err(Unread::NoMemory),
+    }
+}
+
+/// What the named file was read as, or why it was not read.
+pub fn value<X>(alloc: Global, name: &str, read: Result<X, ReadErr>) -> Result<X, Unread>
+    ensures told { (rest : Rest) (expected : Result (X × Rest) ℕ) → Reads (λ x. x) read rest expected
+        → Gives said_of (λ x. x) result (value_in name.now expected) }
+    ensures same { IfOk result (λ value. read ≡ Ok value) }
+    ensures causes { (before after : ℕ) → Causes ReadErr.Failed read before after → Causes Unread.Failed result before after }
+{
+    match read {
+        Ok(value) => Ok(value),
+        Err(ReadErr::Malformed { line }) => {
+            let said = malformed(alloc, name, line)?;
+            Err(Unread::Said(said))
+        }
+        Err(ReadErr::Failed) => Err(Unread::Failed),
+        Err(ReadErr::NoMemory) => Err(Unread::NoMemory),
+    }
+}
+
+/// Reads the named file whole as a seal.
+pub fn seal<S: Shelf>(
+    alloc: Global,
+    shelf: &mut S,
+    name: &str,
+    lines: &mut Lines,
+) -> Result<Seal, Unread>
+    ensures told { IfSome (S.held shelf.old) (λ files.
+        Gives said_of (λ seal. seal) result (value_in name.now (seal_at (rest_of lines.old files)))) }
+    ensures right { IfOk result IsSeal }
+    ensures shelf { OnlyReads S.held S.Shelf.faults Unread.Failed result shelf.old shelf.new }
+{
+    let read = read_seal(alloc, shelf, lines);
+    let seal = value(alloc, name, read);
+    seal
+}
+
+/// Reads the named file whole as a secret.
+pub fn secret<S: Shelf>(
+    alloc: Global,
+    shelf: &mut S,
+    name: &str,
+    lines: &mut Lines,
+) -> Result<Secret, Unread>
+    ensures told { IfSome (S.held shelf.old) (λ files.
+        Gives said_of (λ secret. secret) result (value_in name.now (secret_at (rest_of lines.old files)))) }
+    ensures right { IfOk result IsSecret }
+    ensures shelf { OnlyReads S.held S.Shelf.faults Unread.Failed result shelf.old shelf.new }
+{
+    let read = read_secret(alloc, shelf, lines);
+    let secret = value(alloc, name, read);
+    secret
+}
+
+/// Reads the named file whole as a challenge.
+pub fn challenge<S: Shelf>(
+    alloc: Global,
+    shelf: &mut S,
+    name: &str,
+    lines: &mut Lines,
+) -> Result<Challenge, Unread>
+    ensures told { IfSome (S.held shelf.old) (λ files.
+        Gives said_of (λ challenge. challenge) result (value_in name.now (challenge_at (rest_of lines.old files)))) }
+    ensures right { IfOk result IsChallenge }
+    ensures shelf { OnlyReads S.held S.Shelf.faults Unread.Failed result shelf.old shelf.new }
+{
+    let read = read_challenge(alloc, shelf, lines);
+    let challenge = value(alloc, name, read);
+    challenge
+}

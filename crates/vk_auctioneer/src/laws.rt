@@ -1,0 +1,26 @@
+//! What holds of every command of the house.
+
+ghost use Rattle.std.specs.Prelude.{ℕ, List};
+ghost use Rattle.vk_io.specs.Files.{Files};
+ghost use Rattle.vk_auctioneer.specs.Laws.{BoardsAreWritten, ChallengesAreAnswered, ReadsChallenge, ReadsRow, RepliesAreAccepted, RepliesAreWritten};
+
+/// A law: a command reads the values whose texts its files are, and says of others the first fault, by the tables of
+/// the forms.
+pub fn what_is_read_is_what_the_files_are()
+    ensures row { (files : Files) (seal_name secret_name : List ℕ) → ReadsRow files seal_name secret_name }
+    ensures challenge { (files : Files) (name : List ℕ) → ReadsChallenge files name }
+{}
+
+/// A law: what `prove` writes is the board of the ledger's auction, and what `answer` writes is its reply to the
+/// challenge of the file.
+pub fn what_is_written_is_of_the_ledger()
+    ensures boards { BoardsAreWritten }
+    ensures replies { RepliesAreWritten }
+{}
+
+/// A law: what `answer` writes is accepted with the board of the ledger's auction and the challenge of the file. And
+/// every challenge with a bit for each lane is answered, so there is none that the auctioneer can't answer.
+pub fn what_is_answered_is_accepted()
+    ensures accepted { RepliesAreAccepted }
+    ensures answered { ChallengesAreAnswered }
+{}

@@ -1,0 +1,19 @@
+//! The auctioneer's commands: what each asks the house, which files it reads and writes, and what it says.
+#![tactic(auto)]
+
+mod announcing;
+mod answering;
+mod command;
+mod inputs;
+mod laws;
+mod proving;
+mod refusals;
+mod showing;
+mod submitting;
+
+pub use command::house_command;
+pub use inputs::{Unread, begin, malformed, value};
+pub use laws::{
+    what_is_answered_is_accepted, what_is_read_is_what_the_files_are,
+    what_is_written_is_of_the_ledger,
+};

@@ -1,0 +1,80 @@
+//! `show`.
+
+ghost use Rattle.std.specs.Prelude.{◌≡◌, ℕ, IfOk, IfSome, Option};
+ghost use Rattle.vk_io.specs.Faults.{Causes};
+ghost use Rattle.vk_io.specs.Files.{Files, Told};
+ghost use Rattle.vk_keeper.specs.Turns.{GetsOnce};
+ghost use Rattle.vk_house.specs.Answers.{as_reply};
+ghost use Rattle.vk_house.specs.Commands.{Show};
+ghost use Rattle.vk_house.specs.Once.{KeepsAnswers};
+ghost use Rattle.vk_house.specs.Replies.{Stands};
+ghost use Rattle.vk_effect.specs.Effects.{stores};
+ghost use Rattle.vk_effect.specs.Ends.{Acts};
+ghost use Rattle.vk_auctioneer.specs.Answers.{Says};
+ghost use Rattle.vk_auctioneer.specs.Effects.{on_ledger, show_effect};
+ghost use Rattle.vk_auctioneer.specs.Lines.{done_said, standing_line};
+
+use crate::refusals::{phase_word, refused};
+use std::alloc::Global;
+use vk_effect::Said;
+use vk_house::{House, HouseErr, Standing};
+use vk_io::OutsideErr;
+use vk_keeper::Keeper;
+use vk_residue::NoMemory;
+
+/// Says how the auction stands.
+pub fn show<K: Keeper + Drop>(
+    alloc: Global,
+    keeper: &mut K,
+    id: &[u8; 16],
+) -> Result<Said, OutsideErr>
+    ensures acts { (files : Option Files) → IfSome (on_ledger (λ kept. show_effect kept id.now) (K.ledger keeper.old))
+        (λ effect. Acts result effect (stores files (K.ledger keeper.old)) (stores files (K.ledger keeper.new))) }
+    ensures once { Told KeepsAnswers (K.ledger keeper.old) (K.ledger keeper.new) }
+    ensures turns { GetsOnce (K.turns keeper.old) (K.turns keeper.new) }
+    ensures causes { Causes OutsideErr.Failed result (K.faults keeper.old) (K.faults keeper.new) }
+{
+    let answer = House::over(keeper).show(id);
+    let said = shown(alloc, id, answer);
+    said
+}
+
+/// Of what the house answered.
+fn shown(
+    alloc: Global,
+    id: &[u8; 16],
+    answer: Result<Standing, HouseErr>,
+) -> Result<Said, OutsideErr>
+    ensures said { Says (Show id.now) (as_reply Stands answer) result }
+    ensures causes { (before after : ℕ) → Causes HouseErr.KeeperFailed answer before after → Causes OutsideErr.Failed result before after }
+{
+    match answer {
+        Ok(standing) => {
+            let said = stands(alloc, id, standing)?;
+            Ok(said)
+        }
+        Err(refusal) => {
+            let said = refused(alloc, 0, refusal);
+            said
+        }
+    }
+}
+
+/// Of an auction that stands so.
+fn stands(alloc: Global, id: &[u8; 16], standing: Standing) -> Result<Said, NoMemory>
+    ensures { IfOk result (λ said. said ≡ done_said (standing_line id.now standing)) }
+{
+    let id = hex::encode(alloc, id.as_slice())?;
+    let Standing {
+        width,
+        lanes,
+        seals,
+        phase,
+    } = standing;
+    let phase = phase_word(phase);
+    let line = format!(in alloc;
+        "auction {id} width {width} lanes {lanes} seals {seals} phase {phase}\n"
+    )?;
+    let said = Said::of_line(alloc, 0, line.as_str())?;
+    Ok(said)
+}

@@ -1,0 +1,124 @@
+//! `submit`.
+
+ghost use Rattle.std.specs.Prelude.{◌≡◌, ℕ, IfOk, IfSome, List, Option};
+ghost use Rattle.vk_io.specs.Faults.{Causes};
+ghost use Rattle.vk_io.specs.Files.{Files, Told};
+ghost use Rattle.vk_io.specs.Reads.{OnlyReads};
+ghost use Rattle.vk_lines.specs.Gives.{Gives};
+ghost use Rattle.vk_seal.specs.Values.{IsSeal, IsSecret};
+ghost use Rattle.vk_seal.specs.declared.secret.Seal.{Seal};
+ghost use Rattle.vk_seal.specs.declared.secret.Secret.{Secret};
+ghost use Rattle.vk_keeper.specs.Turns.{GetsOnce};
+ghost use Rattle.vk_house.specs.Answers.{as_reply};
+ghost use Rattle.vk_house.specs.Commands.{Submit};
+ghost use Rattle.vk_house.specs.Once.{KeepsAnswers};
+ghost use Rattle.vk_house.specs.Replies.{Position};
+ghost use Rattle.vk_effect.specs.Counts.{CausesTwo};
+ghost use Rattle.vk_effect.specs.Effects.{stores};
+ghost use Rattle.vk_effect.specs.Ends.{Acts};
+ghost use Rattle.vk_auctioneer.specs.Answers.{AsksOnce, Says};
+ghost use Rattle.vk_auctioneer.specs.Effects.{asked, no_file, on_both, on_ledger, submit_effect};
+ghost use Rattle.vk_auctioneer.specs.Inputs.{row_in, said_of};
+ghost use Rattle.vk_auctioneer.specs.Lines.{done_said, taken_line};
+
+use crate::inputs::{Unread, begin, seal, secret};
+use crate::refusals::refused;
+use std::alloc::Global;
+use vk_effect::Said;
+use vk_house::{House, HouseErr};
+use vk_io::{OutsideErr, Shelf};
+use vk_keeper::{Keeper, SealRow};
+use vk_residue::NoMemory;
+
+/// Hands the named seal and its secret in.
+pub fn submit<S: Shelf, K: Keeper + Drop>(
+    alloc: Global,
+    shelf: &mut S,
+    keeper: &mut K,
+    id: &[u8; 16],
+    seal: &str,
+    secret: &str,
+) -> Result<Said, OutsideErr>
+    ensures acts { IfSome (on_both (λ held kept. submit_effect held kept id.now seal.now secret.now) (S.held shelf.old) (K.ledger keeper.old))
+        (λ effect. Acts result effect (stores (S.held shelf.old) (K.ledger keeper.old)) (stores (S.held shelf.new) (K.ledger keeper.new))) }
+    ensures held { S.held shelf.new ≡ S.held shelf.old }
+    ensures once { Told KeepsAnswers (K.ledger keeper.old) (K.ledger keeper.new) }
+    ensures turns { AsksOnce (K.turns keeper.old) (K.turns keeper.new) }
+    ensures causes { CausesTwo OutsideErr.Failed result (S.Shelf.faults shelf.old) (S.Shelf.faults shelf.new) (K.faults keeper.old) (K.faults keeper.new) }
+{
+    match row(alloc, shelf, seal, secret) {
+        Ok(row) => {
+            let said = hand_in(alloc, keeper, id, row);
+            said
+        }
+        Err(unread) => unread.said_or_stopped(),
+    }
+}
+
+/// Reads the named seal and its secret.
+#[tactic(auto, unfolding(crate::specs::Inputs::row_in))]
+fn row<S: Shelf>(
+    alloc: Global,
+    shelf: &mut S,
+    seal_name: &str,
+    secret_name: &str,
+) -> Result<SealRow, Unread>
+    ensures told { IfSome (S.held shelf.old) (λ files. Gives said_of (λ row. row) result (row_in files seal_name.now secret_name.now)) }
+    ensures seal { IfOk result (λ row. IsSeal row.seal) }
+    ensures secret { IfOk result (λ row. IsSecret row.secret) }
+    ensures shelf { OnlyReads S.held S.Shelf.faults Unread.Failed result shelf.old shelf.new }
+{
+    let mut seal_lines = begin(alloc, shelf, seal_name)?;
+    let mut secret_lines = begin(alloc, shelf, secret_name)?;
+    let seal = seal(alloc, shelf, seal_name, &mut seal_lines)?;
+    let secret = secret(alloc, shelf, secret_name, &mut secret_lines)?;
+    Ok(SealRow { seal, secret })
+}
+
+/// Hands a seal and its secret in.
+fn hand_in<K: Keeper + Drop>(
+    alloc: Global,
+    keeper: &mut K,
+    id: &[u8; 16],
+    row: SealRow,
+) -> Result<Said, OutsideErr>
+    requires seal { IsSeal row.seal }
+    requires secret { IsSecret row.secret }
+    ensures acts { (files : Option Files) → IfSome (on_ledger (λ kept. asked no_file kept (Submit id.now row.seal row.secret)) (K.ledger keeper.old))
+        (λ effect. Acts result effect (stores files (K.ledger keeper.old)) (stores files (K.ledger keeper.new))) }
+    ensures once { Told KeepsAnswers (K.ledger keeper.old) (K.ledger keeper.new) }
+    ensures turns { GetsOnce (K.turns keeper.old) (K.turns keeper.new) }
+    ensures causes { Causes OutsideErr.Failed result (K.faults keeper.old) (K.faults keeper.new) }
+{
+    let SealRow { seal, secret } = row;
+    let seat = seal.seat;
+    let answer = House::over(keeper).submit(id, seal, secret);
+    let said = handed_in(alloc, seat, answer);
+    said
+}
+
+/// Of what the house answered of a seal of that seat.
+fn handed_in(alloc: Global, seat: u16, answer: Result<u32, HouseErr>) -> Result<Said, OutsideErr>
+    ensures said { (id : List ℕ) (seal : Seal) (secret : Secret) → seal.seat ≡ seat → Says (Submit id seal secret) (as_reply Position answer) result }
+    ensures causes { (before after : ℕ) → Causes HouseErr.KeeperFailed answer before after → Causes OutsideErr.Failed result before after }
+{
+    match answer {
+        Ok(position) => {
+            let said = taken(alloc, seat, position)?;
+            Ok(said)
+        }
+        Err(refusal) => {
+            let said = refused(alloc, seat, refusal);
+            said
+        }
+    }
+}
+
+/// Of a seal that was taken.
+fn taken(alloc: Global, seat: u16, position: u32) -> Result<Said, NoMemory>
+    ensures { IfOk result (λ said. said ≡ done_said (taken_line seat position)) }
+{
+    let line = format!(in alloc; "taken seat {seat} position {position}\n")?;
+    let said = Said::of_line(alloc, 0, line.as_str())?;
+    Ok(said)
+}

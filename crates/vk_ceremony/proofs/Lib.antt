@@ -1,0 +1,7 @@
+mod Taking
+mod Writing
+mod Turning
+mod Leading
+mod Agreeing
+mod Running
+pub mod Whole

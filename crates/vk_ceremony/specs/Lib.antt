@@ -1,0 +1,5 @@
+pub mod Scripts
+pub mod Forms
+pub mod Ceremonies
+pub mod Turns
+pub mod Runs

@@ -1,0 +1,64 @@
+//! What is said for the ceremony itself.
+
+ghost use Rattle.std.specs.Prelude.{◌≡◌, IfOk};
+ghost use Rattle.vk_io.specs.Faults.{Causes};
+ghost use Rattle.vk_effect.specs.Effects.{IsEnd, Stores, outside};
+ghost use Rattle.vk_ceremony.specs.Ceremonies.{EndsAll, closed, closing_said, end_said};
+
+use std::alloc::Global;
+use vk_auctioneer::malformed;
+use vk_effect::{Said, print};
+use vk_io::{OutsideErr, Sink};
+use vk_residue::NoMemory;
+
+/// Says that the script has that fault line, or that it was read to its end, and whether a command of it was refused.
+/// Answers the status.
+pub fn close<W: Sink>(
+    alloc: Global,
+    out: &mut W,
+    script: &str,
+    fault: Option<u64>,
+    refused: bool,
+) -> Result<u8, OutsideErr>
+    ensures ends { (old : Stores) → EndsAll result (closed (closing_said script.now fault refused)) (outside old (W.taken out.old)) (outside old (W.taken out.new)) }
+    ensures end { IfOk result IsEnd }
+    ensures causes { Causes OutsideErr.Failed result (W.Sink.faults out.old) (W.Sink.faults out.new) }
+{
+    let said = closing(alloc, script, fault, refused)?;
+    let status = say(out, &said)?;
+    Ok(status)
+}
+
+/// What is said of a script.
+fn closing(alloc: Global, script: &str, fault: Option<u64>, refused: bool) -> Result<Said, NoMemory>
+    ensures { IfOk result (λ said. said ≡ closing_said script.now fault refused) }
+{
+    match fault {
+        Some(number) => {
+            let said = malformed(alloc, script, number)?;
+            Ok(said)
+        }
+        None => {
+            let said = end(alloc, refused)?;
+            Ok(said)
+        }
+    }
+}
+
+/// Of one that was read to its end.
+fn end(alloc: Global, refused: bool) -> Result<Said, NoMemory>
+    ensures { IfOk result (λ said. said ≡ end_said refused) }
+{
+    let said = Said::of_line(alloc, if refused { 8 } else { 0 }, "end\n")?;
+    Ok(said)
+}
+
+/// Prints what is said, and answers its status.
+pub fn say<W: Sink>(out: &mut W, said: &Said) -> Result<u8, OutsideErr>
+    ensures ends { (old : Stores) → EndsAll result (closed said.now) (outside old (W.taken out.old)) (outside old (W.taken out.new)) }
+    ensures end { IfOk result IsEnd }
+    ensures causes { Causes OutsideErr.Failed result (W.Sink.faults out.old) (W.Sink.faults out.new) }
+{
+    print(said.lines(), out)?;
+    Ok(said.status())
+}

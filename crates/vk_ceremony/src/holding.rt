@@ -1,0 +1,171 @@
+//! The commands of a script, one after another.
+
+ghost use Rattle.std.specs.Prelude.{◌≡◌, ◌≤◌, ◌+◌, ◌^◌, false, IfOk, IfSome};
+ghost use Rattle.vk_io.specs.Files.{Told};
+ghost use Rattle.vk_lines.specs.Lines.{KeepsFile};
+ghost use Rattle.vk_house.specs.Once.{KeepsAnswers};
+ghost use Rattle.vk_effect.specs.Counts.{CausesThree};
+ghost use Rattle.vk_effect.specs.Effects.{IsEnd, outside, stores};
+ghost use Rattle.vk_effect.specs.Ends.{Ends};
+ghost use Rattle.vk_words.specs.Orders.{IsHouseOrder, house_seen};
+ghost use Rattle.vk_auctioneer.specs.Effects.{house_effect};
+ghost use Rattle.vk_ceremony.specs.Ceremonies.{EndsAll, ceremony_on};
+ghost use Rattle.vk_ceremony.specs.Turns.{EndsWell, IsNextTurn, Turns, left_of, turn_by};
+
+use crate::closing::{close, say};
+use crate::reading::{Line, begin_script, behind_end, read_line};
+use std::alloc::Global;
+use vk_auctioneer::house_command;
+use vk_effect::print;
+use vk_io::{OutsideErr, Shelf, Sink};
+use vk_keeper::Keeper;
+use vk_lines::Lines;
+use vk_words::{HouseOrder, script_order};
+
+/// Where a ceremony stands after a line of its script.
+pub enum Turn {
+    /// Before the next line. It is told whether a command was refused so far.
+    Next(bool),
+    /// At its end, with this status.
+    Ended(u8),
+}
+
+/// Does the house's commands that stand in the script of that name, each when its line is reached, and prints what each
+/// says. A command that is done or refused is followed by the next line. Answers the status: 5 or 4 where the script isn't
+/// held or is too long; 4 where a line is no such command in its form or writes the script itself; that of a command which
+/// is neither done nor refused; and at the end of the script 8 where a command was refused, else 0.
+pub fn ceremony<S: Shelf, K: Keeper + Drop, W: Sink>(
+    alloc: Global,
+    shelf: &mut S,
+    keeper: &mut K,
+    out: &mut W,
+    script: &str,
+) -> Result<u8, OutsideErr>
+    ensures ends { IfSome (ceremony_on (S.held shelf.old) (K.ledger keeper.old) script.now)
+        (λ whole. EndsAll result whole (outside (stores (S.held shelf.old) (K.ledger keeper.old)) (W.taken out.old))
+        (outside (stores (S.held shelf.new) (K.ledger keeper.new)) (W.taken out.new))) }
+    ensures end { IfOk result IsEnd }
+    ensures once { Told KeepsAnswers (K.ledger keeper.old) (K.ledger keeper.new) }
+    ensures causes { CausesThree OutsideErr.Failed result (S.Shelf.faults shelf.old) (S.Shelf.faults shelf.new)
+        (K.faults keeper.old) (K.faults keeper.new) (W.Sink.faults out.old) (W.Sink.faults out.new) }
+{
+    match begin_script(alloc, shelf, script) {
+        Ok(lines) => {
+            let status = hold(alloc, shelf, keeper, out, script, lines)?;
+            Ok(status)
+        }
+        Err(unread) => {
+            let said = unread.said_or_stopped()?;
+            let status = say(out, &said)?;
+            Ok(status)
+        }
+    }
+}
+
+/// Does the commands of a script that is read behind its first line.
+fn hold<S: Shelf, K: Keeper + Drop, W: Sink>(
+    alloc: Global,
+    shelf: &mut S,
+    keeper: &mut K,
+    out: &mut W,
+    script: &str,
+    lines: Lines,
+) -> Result<u8, OutsideErr>
+    requires { lines.name ≡ script.now }
+    ensures ends { IfSome (left_of script.now false lines (stores (S.held shelf.old) (K.ledger keeper.old)))
+        (λ whole. EndsAll result whole (outside (stores (S.held shelf.old) (K.ledger keeper.old)) (W.taken out.old))
+        (outside (stores (S.held shelf.new) (K.ledger keeper.new)) (W.taken out.new))) }
+    ensures end { IfOk result IsEnd }
+    ensures once { Told KeepsAnswers (K.ledger keeper.old) (K.ledger keeper.new) }
+    ensures causes { CausesThree OutsideErr.Failed result (S.Shelf.faults shelf.old) (S.Shelf.faults shelf.new)
+        (K.faults keeper.old) (K.faults keeper.new) (W.Sink.faults out.old) (W.Sink.faults out.new) }
+{
+    let mut lines = lines;
+    let mut refused = false;
+    'lines: loop {
+        match next(alloc, shelf, keeper, out, script, &mut lines, refused)? {
+            Turn::Next(now) => refused = now,
+            Turn::Ended(status) => return Ok(status),
+        }
+    }
+}
+
+/// Takes the next line of a script, and does its command.
+fn next<S: Shelf, K: Keeper + Drop, W: Sink>(
+    alloc: Global,
+    shelf: &mut S,
+    keeper: &mut K,
+    out: &mut W,
+    script: &str,
+    lines: &mut Lines,
+    refused: bool,
+) -> Result<Turn, OutsideErr>
+    requires { lines.now.name ≡ script.now }
+    ensures turns { IfSome (left_of script.now refused lines.old (stores (S.held shelf.old) (K.ledger keeper.old)))
+        (λ whole. Turns script.now lines.new result whole (outside (stores (S.held shelf.old) (K.ledger keeper.old)) (W.taken out.old))
+        (outside (stores (S.held shelf.new) (K.ledger keeper.new)) (W.taken out.new))) }
+    ensures end { IfOk result (λ turn. EndsWell turn) }
+    ensures file { KeepsFile lines.old lines.new }
+    ensures taken { IfOk result (λ turn. IsNextTurn turn → (lines.new.taken ≡ lines.old.taken + 1) × (lines.new.taken ≤ 2 ^ 30)) }
+    ensures once { Told KeepsAnswers (K.ledger keeper.old) (K.ledger keeper.new) }
+    ensures causes { CausesThree OutsideErr.Failed result (S.Shelf.faults shelf.old) (S.Shelf.faults shelf.new)
+        (K.faults keeper.old) (K.faults keeper.new) (W.Sink.faults out.old) (W.Sink.faults out.new) }
+{
+    match read_line(alloc, shelf, lines)? {
+        Line::Words(words) => match script_order(words.as_slice(), script) {
+            Some(order) => {
+                let status = command(alloc, shelf, keeper, out, &order)?;
+                Ok(turn_by(refused, status))
+            }
+            None => {
+                let status = close(alloc, out, script, Some(lines.number()), refused)?;
+                Ok(Turn::Ended(status))
+            }
+        },
+        Line::End => {
+            let fault = behind_end(shelf, lines)?;
+            let status = close(alloc, out, script, fault, refused)?;
+            Ok(Turn::Ended(status))
+        }
+        Line::Malformed(number) => {
+            let status = close(alloc, out, script, Some(number), refused)?;
+            Ok(Turn::Ended(status))
+        }
+    }
+}
+
+/// After a command of that status.
+fn turn_by(refused: bool, status: u8) -> Turn
+    requires { IsEnd status }
+    ensures value { result ≡ turn_by refused status }
+    ensures end { EndsWell result }
+{
+    let is_refusal = status == 8;
+    if status == 0 || is_refusal {
+        Turn::Next(refused || is_refusal)
+    } else {
+        Turn::Ended(status)
+    }
+}
+
+/// Does a command, and prints what it says. Answers its status.
+fn command<S: Shelf, K: Keeper + Drop, W: Sink>(
+    alloc: Global,
+    shelf: &mut S,
+    keeper: &mut K,
+    out: &mut W,
+    order: &HouseOrder<'_>,
+) -> Result<u8, OutsideErr>
+    requires { IsHouseOrder order.now }
+    ensures ends { IfSome (house_effect (S.held shelf.old) (K.ledger keeper.old) (house_seen order.now))
+        (λ effect. Ends result effect (outside (stores (S.held shelf.old) (K.ledger keeper.old)) (W.taken out.old))
+        (outside (stores (S.held shelf.new) (K.ledger keeper.new)) (W.taken out.new))) }
+    ensures end { IfOk result IsEnd }
+    ensures once { Told KeepsAnswers (K.ledger keeper.old) (K.ledger keeper.new) }
+    ensures causes { CausesThree OutsideErr.Failed result (S.Shelf.faults shelf.old) (S.Shelf.faults shelf.new)
+        (K.faults keeper.old) (K.faults keeper.new) (W.Sink.faults out.old) (W.Sink.faults out.new) }
+{
+    let said = house_command(alloc, shelf, keeper, order)?;
+    print(said.lines(), out)?;
+    Ok(said.status())
+}
