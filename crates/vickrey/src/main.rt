@@ -4,8 +4,8 @@
 ghost use Rattle.std.specs.Prelude.{◌≡◌, ◌≢◌, ◌⊎◌, IfSome, map, string_bytes};
 ghost use Rattle.std.specs.Process.{exit_status};
 ghost use Rattle.vk_io.specs.Faults.{Rose};
-ghost use Rattle.vk_app.specs.Effect.{effect_on};
-ghost use Rattle.vk_app.specs.Outside.{outside, Done};
+ghost use Rattle.vk_effect.specs.Effects.{outside, stores};
+ghost use Rattle.vk_app.specs.Commands.{DoesWork, work_on};
 
 use std::env;
 use std::io::ErrorKind;
@@ -13,6 +13,7 @@ use std::process::ExitCode;
 use std::rt::{Env, Files};
 use vk_app::run;
 use vk_io::{FileShelf, OutSink, Shelf, Sink};
+use vk_keeper::{Keeper, MemKeeper};
 use vk_residue::NoMemory;
 
 #[cfg(test)]
@@ -50,22 +51,24 @@ fn end<R: Eprint>(rt: &R, status: u8) -> ExitCode
     ExitCode::from(status)
 }
 
-/// Does what the words say over the shelf, prints to the sink, and ends with the status.
-fn perform<R: Eprint + AllocGlobal, S: Shelf, W: Sink>(
+/// Does what the words say over the shelf and the keeper, prints to the sink, and ends with the status.
+fn perform<R: Eprint + AllocGlobal, S: Shelf, K: Keeper + Drop, W: Sink>(
     rt: &R,
     words: &[String],
     shelf: &mut S,
+    keeper: &mut K,
     out: &mut W,
 ) -> ExitCode
-    ensures done { IfSome (effect_on (S.held shelf.old) (map string_bytes words.now))
-        (λ effect. exit_status result ≢ 6 → exit_status result ≢ 9
-        → Done (exit_status result) effect (outside (S.held shelf.old) (W.taken out.old)) (outside (S.held shelf.new) (W.taken out.new))) }
-    ensures fault { exit_status result ≡ 6
-        → Rose (S.Shelf.faults shelf.old) (S.Shelf.faults shelf.new) ⊎ Rose (W.Sink.faults out.old) (W.Sink.faults out.new) }
-    ensures no_fault { exit_status result ≢ 6
-        → (S.Shelf.faults shelf.new ≡ S.Shelf.faults shelf.old) × (W.Sink.faults out.new ≡ W.Sink.faults out.old) }
+    ensures done { IfSome (work_on (S.held shelf.old) (K.ledger keeper.old) (map string_bytes words.now))
+        (λ work. exit_status result ≢ 6 → exit_status result ≢ 9
+        → DoesWork (exit_status result) work (outside (stores (S.held shelf.old) (K.ledger keeper.old)) (W.taken out.old))
+        (outside (stores (S.held shelf.new) (K.ledger keeper.new)) (W.taken out.new))) }
+    ensures fault { exit_status result ≡ 6 → Rose (S.Shelf.faults shelf.old) (S.Shelf.faults shelf.new)
+        ⊎ Rose (K.Keeper.faults keeper.old) (K.Keeper.faults keeper.new) ⊎ Rose (W.Sink.faults out.old) (W.Sink.faults out.new) }
+    ensures no_fault { exit_status result ≢ 6 → (S.Shelf.faults shelf.new ≡ S.Shelf.faults shelf.old)
+        × (K.Keeper.faults keeper.new ≡ K.Keeper.faults keeper.old) × (W.Sink.faults out.new ≡ W.Sink.faults out.old) }
 {
-    let status = run(rt.alloc(), words, shelf, out);
+    let status = run(rt.alloc(), words, shelf, keeper, out);
     end(rt, status)
 }
 
@@ -77,8 +80,9 @@ fn program<E: Env + AllocGlobal, R: Files + Print + Eprint + AllocGlobal>(
     match words_of(env) {
         Ok(words) => {
             let mut shelf = FileShelf::new(rt, rt.alloc());
+            let mut keeper = MemKeeper::new(rt.alloc());
             let mut out = OutSink::new(rt);
-            perform(rt, words.as_slice(), &mut shelf, &mut out)
+            perform(rt, words.as_slice(), &mut shelf, &mut keeper, &mut out)
         }
         Err(NoMemory) => end(rt, 9),
     }

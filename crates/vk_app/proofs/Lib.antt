@@ -1,7 +1,2 @@
-pub mod Printing
-pub mod Effects
-pub mod Verified
-pub mod Extracted
-pub mod Bound
-pub mod Headline
-pub mod Acting
+pub mod Audited
+pub mod Ending

@@ -1,12 +1,2 @@
-pub mod Texts
-pub mod Words
-pub mod Outside
-pub mod Judged
-pub mod Verifying
-pub mod Extracting
-pub mod Confronting
 pub mod Sealing
-pub mod Effect
-pub mod Stops
-pub mod Headline
-pub mod Reporting
+pub mod Commands

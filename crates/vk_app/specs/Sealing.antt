@@ -1,5 +1,5 @@
 -- What `seal` does.
-use Rattle.std.specs.Prelude.{ℕ, ◌+◌, List, [], ◌∷◌, ◌++◌, codes, decimal, Result, Ok, Err}
+use Rattle.std.specs.Prelude.{ℕ, ◌+◌, List, [], ◌∷◌, ◌++◌, codes, decimal, Option, Some, Result, Ok, Err}
 use Rattle.vk_dice.specs.Stream.{word_at}
 use Rattle.vk_seal.specs.declared.secret.Secret.{Secret}
 use Rattle.vk_seal.specs.declared.secret.Seal.{Seal}
@@ -7,9 +7,10 @@ use Rattle.vk_seal.specs.declared.making.SealErr.{SealErr}
 use Rattle.vk_seal.specs.declared.making.SealErr.TheVariants.{BidTooLarge, DrySeed, NoMemory}
 use Rattle.vk_seal.specs.Made.{made_seal}
 use Rattle.vk_seal.specs.Texts.{secret_text, seal_text}
-use Rattle.vk_app.specs.Texts.{◌+++◌, line_feed}
-use Rattle.vk_app.specs.Words.{SealWords}
-use Rattle.vk_app.specs.Outside.{Effect, SaidValue, writes_and_says}
+use Rattle.vk_keeper.specs.Ledgers.{Ledger}
+use Rattle.vk_words.specs.Orders.{SealWords}
+use Rattle.vk_effect.specs.Effects.{Effect, SaidValue, writes_and_says}
+use Rattle.vk_effect.specs.Texts.{◌+++◌, line_feed}
 
 -- the stream of the bidder at that seat
 abbrev pub stream_of : ℕ → ℕ
@@ -34,10 +35,17 @@ abbrev pub made_writes : SealWords → Result (Secret × Seal) SealErr → List 
 made_writes order (Ok made) = (order.secret, secret_text made.0) ∷ (order.seal, seal_text made.1) ∷ []
 made_writes order (Err refusal) = []
 
-abbrev pub made_effect : SealWords → Result (Secret × Seal) SealErr → Effect
-made_effect order made = writes_and_says (made_writes order made) (made_said order made)
+abbrev pub made_effect : Option Ledger → SealWords → Result (Secret × Seal) SealErr → Effect
+made_effect ledger order made = writes_and_says ledger (made_writes order made) (made_said order made)
 
--- the seal is drawn from the seed's words in the stream of the seat
-unfoldable pub seal_effect : SealWords → Effect
-seal_effect order =
-    made_effect order (made_seal order.bid order.seat order.auction order.width order.lanes (word_at order.seed order.auction (stream_of order.seat)))
+-- what making the seal gives: it is drawn from the seed's words in the stream of the seat
+unfoldable pub seal_made : SealWords → Result (Secret × Seal) SealErr
+seal_made order = made_seal order.bid order.seat order.auction order.width order.lanes (word_at order.seed order.auction (stream_of order.seat))
+
+-- the ledger is left as it is
+abbrev pub seal_effect : Option Ledger → SealWords → Effect
+seal_effect ledger order = made_effect ledger order (seal_made order)
+
+-- it is known over any files and any ledger
+unfoldable pub seal_on : Option Ledger → SealWords → Option Effect
+seal_on ledger order = Some (seal_effect ledger order)

@@ -1,16 +1,10 @@
-//! The top call: what the words of a command line do, over any shelf of files and any sink of text.
+//! The top call: what the words of a command line do, over any shelf of files, any keeper of auctions and any
+//! sink of text.
 #![tactic(auto)]
 
 mod command;
-mod confront;
-mod extract;
-mod judged;
-mod report;
-mod said;
 mod seal;
 mod usage;
-mod verify;
-mod words;
 
 pub use command::run;
 

@@ -1,22 +1,24 @@
 //! `seal`: a bidder's secret and seal.
 
-ghost use Rattle.std.specs.Prelude.{◌≡◌, ◌∷◌, [], IfOk, codes, decimal, string_bytes};
+ghost use Rattle.std.specs.Prelude.{◌≡◌, ◌∷◌, [], IfOk, IfSome, Option, codes, decimal, string_bytes};
 ghost use Rattle.vk_io.specs.Faults.{Causes};
 ghost use Rattle.vk_io.specs.Writing.{texts_of, whole_files};
 ghost use Rattle.vk_seal.specs.Texts.{secret_text as text_of_secret, seal_text as text_of_seal};
-ghost use Rattle.vk_app.specs.Outside.{Acts, said_of};
-ghost use Rattle.vk_app.specs.Sealing.{sealed_line, refused_said, seal_effect};
-ghost use Rattle.vk_app.specs.Words.{seal_seen, IsSealOrder};
-ghost use Rattle.vk_app.specs.Texts.{◌+++◌, line_feed};
+ghost use Rattle.vk_keeper.specs.Ledgers.{Ledger};
+ghost use Rattle.vk_words.specs.Orders.{IsSealOrder, seal_seen};
+ghost use Rattle.vk_effect.specs.Effects.{stores};
+ghost use Rattle.vk_effect.specs.Ends.{Acts};
+ghost use Rattle.vk_effect.specs.Texts.{◌+++◌, line_feed};
+ghost use Rattle.vk_app.specs.Sealing.{made_said, made_writes, refused_said, seal_made, seal_on, sealed_line};
 
-use crate::said::Said;
-use crate::words::SealOrder;
 use std::alloc::Global;
 use vk_dice::ChaChaWords;
+use vk_effect::Said;
 use vk_io::{FileText, OutsideErr, Shelf, write_files};
 use vk_residue::NoMemory;
 use vk_seal::{Seal, SealErr, Secret, make_seal, seal_text, secret_text};
 use vk_seq::Seq;
+use vk_words::SealOrder;
 
 /// A file that is to be written.
 fn file(alloc: Global, name: &str, text: Vec<u8>) -> Result<FileText, NoMemory>
@@ -101,11 +103,11 @@ fn unmade(alloc: Global, said: Said) -> Sealing
 }
 
 /// Makes the seal and its secret, from the seed's words in the stream of the seat.
-#[tactic(auto, unfolding(crate::specs::Sealing::seal_effect))]
+#[tactic(auto, unfolding(crate::specs::Sealing::seal_made))]
 fn make(alloc: Global, order: &SealOrder<'_>) -> Result<Sealing, NoMemory>
     requires { IsSealOrder (seal_seen order.now) }
-    ensures said { IfOk result (λ made. made.said ≡ said_of (seal_effect (seal_seen order.now))) }
-    ensures files { IfOk result (λ made. texts_of (whole_files made.files) ≡ (seal_effect (seal_seen order.now)).writes) }
+    ensures said { IfOk result (λ made. made.said ≡ made_said (seal_seen order.now) (seal_made (seal_seen order.now))) }
+    ensures files { IfOk result (λ made. texts_of (whole_files made.files) ≡ made_writes (seal_seen order.now) (seal_made (seal_seen order.now))) }
 {
     let stream = 65536 + u64::from(order.seat);
     let mut words = ChaChaWords::of(&order.seed, &order.auction, stream);
@@ -138,7 +140,8 @@ pub fn seal<S: Shelf>(
     order: &SealOrder<'_>,
 ) -> Result<Said, OutsideErr>
     requires { IsSealOrder (seal_seen order.now) }
-    ensures acts { Acts result (seal_effect (seal_seen order.now)) (S.held shelf.old) (S.held shelf.new) }
+    ensures acts { (ledger : Option Ledger) → IfSome (seal_on ledger (seal_seen order.now))
+        (λ effect. Acts result effect (stores (S.held shelf.old) ledger) (stores (S.held shelf.new) ledger)) }
     ensures causes { Causes OutsideErr.Failed result (S.Shelf.faults shelf.old) (S.Shelf.faults shelf.new) }
 {
     let made = make(alloc, order)?;

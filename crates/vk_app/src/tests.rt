@@ -2,6 +2,7 @@ use super::*;
 use std::alloc::{AllocError, Global};
 use std::test::Fail;
 use vk_io::{MemShelf, MemSink, OutsideErr, Shelf};
+use vk_keeper::MemKeeper;
 
 const BOARD: &str = "vickrey-board 1
 auction 000102030405060708090a0b0c0d0e0f
@@ -56,6 +57,12 @@ fn smallest(alloc: Global) -> Result<MemShelf, Fail> {
     Ok(shelf)
 }
 
+/// Runs the words over a keeper that keeps no auction.
+fn ran<S: Shelf>(alloc: Global, words: &[String], shelf: &mut S, out: &mut MemSink) -> u8 {
+    let mut keeper = MemKeeper::new(alloc);
+    run(alloc, words, shelf, &mut keeper, out)
+}
+
 fn words_of(alloc: Global, words: &[&str]) -> Result<Vec<String>, AllocError> {
     let mut all = Vec::new(alloc);
     for word in words {
@@ -64,88 +71,32 @@ fn words_of(alloc: Global, words: &[&str]) -> Result<Vec<String>, AllocError> {
     Ok(all)
 }
 
-/// The words of an `extract` whose second challenge and reply these are.
-fn extract_words<'a>(challenge: &'a str, reply: &'a str) -> [&'a str; 6] {
-    [
-        "extract",
-        "board",
-        "challenge-0",
-        "reply-0",
-        challenge,
-        reply,
-    ]
-}
-
-#[test]
-fn status_and_text_of_the_smallest_board(rt: HostRuntime) -> Result<(), Fail> {
-    let table = [
-        ("challenge-1", "reply-1", 0, EXTRACTION),
-        ("challenge-0", "reply-0", 7, "same challenge\n"),
-        ("challenge-1", "reply-0", 4, "malformed reply-0 line 6\n"),
-        ("challenge-1", "reply-2", 5, "missing reply-2\n"),
-    ];
-    for (challenge, reply, status, text) in table {
-        let words = words_of(rt.alloc(), &extract_words(challenge, reply))?;
-        let mut shelf = smallest(rt.alloc())?;
-        let mut out = MemSink::new(rt.alloc());
-        let answer = run(rt.alloc(), words.as_slice(), &mut shelf, &mut out);
-        assert_eq!(rt; answer, status);
-        assert_eq!(rt; out.bytes(), text.as_bytes());
-    }
-    Ok(())
-}
-
-const MISMATCH: &str =
-    "confront mismatch lane 1 half 0 kept 023dd1cc99177aec8e6b75b847227ff4a8dd6e2328310f0ffa91f2d60aecd426 made 4df8c20d372faa19f03963bfb91a29f106512d1418de63d4d9f4b22562e038a7
-";
-
-/// The status and the text of a `confront` with the secret of that seat and first key.
-fn confronted(alloc: Global, seat: u16, key: &str) -> Result<(u8, MemSink), Fail> {
-    let [_, board, challenge, reply, other, second] = extract_words("challenge-1", "reply-1");
-    let words = words_of(
-        alloc,
-        &["confront", board, challenge, reply, other, second, "secret"],
-    )?;
-    let secret = format!(in alloc;
-        "vickrey-secret 1\nauction 000102030405060708090a0b0c0d0e0f\nseat {seat}\nbid 0\nlanes 1\nx 3 {key} 2222222222222222222222222222222222222222222222222222222222222222\nend\n"
-    )?;
-    let mut shelf = smallest(alloc)?;
-    shelf.put_file("secret", secret.as_bytes())?;
-    let mut out = MemSink::new(alloc);
-    let status = run(alloc, words.as_slice(), &mut shelf, &mut out);
-    Ok((status, out))
-}
-
-#[test]
-fn a_secret_against_the_smallest_board(rt: HostRuntime) -> Result<(), Fail> {
-    let own = "1111111111111111111111111111111111111111111111111111111111111111";
-    let other = "7777777777777777777777777777777777777777777777777777777777777777";
-    let table = [
-        (7, own, 0, "held seat 7\n"),
-        (7, other, 8, MISMATCH),
-        (8, own, 8, "confront no seal 8\n"),
-    ];
-    for (seat, key, status, text) in table {
-        let (answer, out) = confronted(rt.alloc(), seat, key)?;
-        assert_eq!(rt; answer, status);
-        assert_eq!(rt; out.bytes(), text.as_bytes());
-    }
-    Ok(())
-}
-
 /// The status and the text of an `extract` whose shelf and sink fail at these calls, from 1; 0 for none.
 fn stopped(alloc: Global, shelf_call: u64, sink_call: u64) -> Result<(u8, MemSink), Fail> {
-    let words = words_of(alloc, &extract_words("challenge-1", "reply-1"))?;
+    let words = words_of(
+        alloc,
+        &[
+            "extract",
+            "board",
+            "challenge-0",
+            "reply-0",
+            "challenge-1",
+            "reply-1",
+        ],
+    )?;
     let mut shelf = smallest(alloc)?;
     let mut out = MemSink::new(alloc);
     shelf.fail_at(shelf_call)?;
     out.fail_at(sink_call)?;
-    let status = run(alloc, words.as_slice(), &mut shelf, &mut out);
+    let status = ran(alloc, words.as_slice(), &mut shelf, &mut out);
     Ok((status, out))
 }
 
 #[test]
 fn a_failing_call_stops_with_a_prefix(rt: HostRuntime) -> Result<(), Fail> {
+    let (status, out) = stopped(rt.alloc(), 0, 0)?;
+    assert_eq!(rt; status, 0);
+    assert_eq!(rt; out.bytes(), EXTRACTION.as_bytes());
     for call in 1..=10 {
         let (status, out) = stopped(rt.alloc(), call, 0)?;
         assert_eq!(rt; status, 6, "shelf call {call}");
@@ -230,7 +181,7 @@ fn a_seal_is_written_as_elsewhere(rt: HostRuntime) -> Result<(), Fail> {
     let words = words_of(rt.alloc(), &SEAL_WORDS)?;
     let mut shelf = MemShelf::new(rt.alloc());
     let mut out = MemSink::new(rt.alloc());
-    let status = run(rt.alloc(), words.as_slice(), &mut shelf, &mut out);
+    let status = ran(rt.alloc(), words.as_slice(), &mut shelf, &mut out);
     assert_eq!(rt; status, 0);
     assert_eq!(rt; out.bytes(), SEAL_LINE.as_bytes());
     let written = shelf.file("a").ok_or("the secret is held")?;
@@ -246,7 +197,7 @@ fn a_refused_seal_writes_nothing(rt: HostRuntime) -> Result<(), Fail> {
         let words = words_of(rt.alloc(), &words)?;
         let mut shelf = MemShelf::new(rt.alloc());
         let mut out = MemSink::new(rt.alloc());
-        let answer = run(rt.alloc(), words.as_slice(), &mut shelf, &mut out);
+        let answer = ran(rt.alloc(), words.as_slice(), &mut shelf, &mut out);
         assert_eq!(rt; answer, status);
         assert_eq!(rt; out.bytes(), text.as_bytes());
         assert!(rt; shelf.file("a").is_none());
@@ -286,7 +237,7 @@ impl Shelf for LongFiles {
 fn a_file_that_is_too_long_is_named(rt: HostRuntime) -> Result<(), Fail> {
     let words = words_of(rt.alloc(), &["verify", "board", "challenge-0", "reply-0"])?;
     let mut out = MemSink::new(rt.alloc());
-    let status = run(rt.alloc(), words.as_slice(), &mut LongFiles, &mut out);
+    let status = ran(rt.alloc(), words.as_slice(), &mut LongFiles, &mut out);
     assert_eq!(rt; status, 4);
     assert_eq!(rt; out.bytes(), b"too long board\n".as_slice());
     Ok(())

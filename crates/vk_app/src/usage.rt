@@ -1,10 +1,10 @@
 //! What is answered to words that are no command.
 
 ghost use Rattle.std.specs.Prelude.{◌≡◌, IfOk};
-ghost use Rattle.vk_app.specs.Effect.{usage_said};
+ghost use Rattle.vk_app.specs.Commands.{usage_said};
 
-use crate::said::Said;
 use std::alloc::Global;
+use vk_effect::Said;
 use vk_residue::NoMemory;
 
 /// The line that says which commands there are.

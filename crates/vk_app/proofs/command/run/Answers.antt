@@ -1,13 +1,14 @@
 use Rattle.std.proofs.Common.{map, string_bytes}
-use Rattle.vk_app.proofs.Headline.{Means, ended_means}
+use Rattle.vk_app.proofs.Audited.{Means, ended_means}
 use Rattle.vk_app.proofs.command.run.Given.{Over}
 use Rattle.vk_app.proofs.command.run.Goals.{In-Ok}
 use Rattle.vk_app.proofs.command.run.Goals as goal
 
 -- what the status means at the end of the command
-means : (g : Over) (c : In-Ok g) → Means (g.S.Shelf.held c.args.shelf.now) (map string_bytes c.args.words.now) c.in-Ok.status (g.W.Sink.taken c.args.out.now) (g.W.Sink.taken c.answer.new.out)
+means : (g : Over) (c : In-Ok g) → Means (g.S.Shelf.held c.args.shelf.now) (map string_bytes c.args.words.now) c.in-Ok.status (g.W.Sink.taken c.args.out.now) (g.W.Sink.taken c.perform.new.out)
 means g c =
-    ended_means (g.S.Shelf.held c.args.shelf.now) (g.S.Shelf.held c.answer.new.shelf) (map string_bytes c.args.words.now) c.in-Ok.status (g.W.Sink.taken c.args.out.now) (g.W.Sink.taken c.answer.new.out) c.in-Ok.ensures.ends
+    ended_means (g.S.Shelf.held c.args.shelf.now) (g.S.Shelf.held c.perform.new.shelf) (g.K.Keeper.ledger c.args.keeper.now) (g.K.Keeper.ledger c.perform.new.keeper)
+    (map string_bytes c.args.words.now) c.in-Ok.status (g.W.Sink.taken c.args.out.now) (g.W.Sink.taken c.perform.new.out) c.in-Ok.ensures.ends
 
 pub returns-in-Ok-clause-verified : goal.returns-in-Ok-clause-verified
 returns-in-Ok-clause-verified g c = (means g (goal.at.returns-in-Ok-clause-verified g c).In-Ok).verified
@@ -23,3 +24,6 @@ returns-in-Ok-clause-same g c = (means g (goal.at.returns-in-Ok-clause-same g c)
 
 pub returns-in-Ok-clause-bound : goal.returns-in-Ok-clause-bound
 returns-in-Ok-clause-bound g c = (means g (goal.at.returns-in-Ok-clause-bound g c).In-Ok).bound
+
+pub returns-in-Ok-clause-reported : goal.returns-in-Ok-clause-reported
+returns-in-Ok-clause-reported g c = (means g (goal.at.returns-in-Ok-clause-reported g c).In-Ok).reported

@@ -1,0 +1,8 @@
+use Rattle.vk_effect.proofs.Acting.{read_and_said}
+use Rattle.vk_audit.specs.Audits.{audit_said, audit_seen}
+use Rattle.vk_app.proofs.command.read.Goals as goal
+
+pub returns-clause-acts : goal.returns-clause-acts
+returns-clause-acts g c = λ ledger.
+    read_and_said (λ files. audit_said files (audit_seen c.args.order.now)) (g.S.Shelf.held c.args.shelf.now) (g.S.Shelf.held c.audit-said.new.shelf) ledger c.audit-said.result
+    c.audit-said.ensures.shelf.held c.audit-said.ensures.said

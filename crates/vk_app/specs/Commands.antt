@@ -1,0 +1,91 @@
+-- What a command does, where nothing outside fails and memory is given.
+use Rattle.std.specs.Prelude.{◌≡◌, ℕ, List, ◌++◌, codes, Option, Some, None, option_map, Result, Ok, Err}
+use Rattle.vk_io.specs.Files.{Files}
+use Rattle.vk_io.specs.declared.errors.OutsideErr.{OutsideErr}
+use Rattle.vk_io.specs.declared.errors.OutsideErr.TheVariants.{Failed}
+use Rattle.vk_keeper.specs.Ledgers.{Ledger}
+use Rattle.vk_words.specs.Commands.{CommandWords, Seal, House, Verify, Extract, Confront, Report, Sample, Ceremony, command_words}
+use Rattle.vk_effect.specs.Effects.{Effect, Outside, SaidValue, says}
+use Rattle.vk_effect.specs.Ends.{Ends}
+use Rattle.vk_effect.specs.Texts.{line_feed}
+use Rattle.vk_audit.specs.Audits.{AuditWords, audit_said}
+use Rattle.vk_audit.specs.Audits as audits
+use Rattle.vk_auctioneer.specs.Effects.{house_effect}
+use Rattle.vk_ceremony.specs.Ceremonies.{EndsAll, ceremony_on}
+use Rattle.vk_ceremony.specs.Ceremonies as ceremonies
+use Rattle.vk_app.specs.Sealing.{seal_on}
+
+-- ---- words that are no command
+
+-- the line that a command line of no form is answered with
+abbrev pub usage_text : List ℕ
+usage_text = codes "usage: vickrey seal|announce|submit|prove|answer|show|verify|extract|confront|report|sample|ceremony" ++ line_feed
+
+abbrev pub usage_said : SaidValue
+usage_said = record { status = 2; text = usage_text }
+
+-- ---- by the words
+
+-- an auditor's command has its effect over files that are told
+abbrev pub audit_on : Option Files → Option Ledger → AuditWords → Option Effect
+audit_on files ledger order = option_map (λ told. says ledger (audit_said told order)) files
+
+-- what reads nothing has its effect over any files, and what asks the house over a ledger that is told. A ceremony is
+-- no single command
+abbrev pub command_effect : Option Files → Option Ledger → Option CommandWords → Option Effect
+command_effect files ledger None = Some (says ledger usage_said)
+command_effect files ledger (Some (Seal order)) = seal_on ledger order
+command_effect files ledger (Some (Verify names)) = audit_on files ledger (audits.Verify names)
+command_effect files ledger (Some (Extract names)) = audit_on files ledger (audits.Extract names)
+command_effect files ledger (Some (Confront names)) = audit_on files ledger (audits.Confront names)
+command_effect files ledger (Some (Report board)) = audit_on files ledger (audits.Report board)
+command_effect files ledger (Some (House order)) = house_effect files ledger order
+command_effect files ledger (Some (Sample number)) = Some (says ledger usage_said)
+command_effect files ledger (Some (Ceremony script)) = None
+
+-- ---- a whole command line
+
+-- one command, or the commands of a script one after another
+pub data Work : Type 0 where
+  Command : Effect → Work
+  Script : ceremonies.Ceremony → Work
+
+-- the name of the script of a ceremony
+abbrev pub script_in : Option CommandWords → Option (List ℕ)
+script_in (Some (Ceremony script)) = Some script
+script_in command = None
+
+abbrev pub work_by : Option (List ℕ) → Option Files → Option Ledger → Option CommandWords → Option Work
+work_by (Some script) files ledger command = option_map Script (ceremony_on files ledger script)
+work_by None files ledger command = option_map Command (command_effect files ledger command)
+
+abbrev pub work_of : Option Files → Option Ledger → Option CommandWords → Option Work
+work_of files ledger command = work_by (script_in command) files ledger command
+
+-- what the words do over these files and this ledger, where it is known
+abbrev pub work_on : Option Files → Option Ledger → List (List ℕ) → Option Work
+work_on files ledger words = work_of files ledger (command_words words)
+
+-- how it ends
+abbrev pub EndsWork : Result ℕ OutsideErr → Work → Outside → Outside → Type 0
+EndsWork result (Command effect) old new = Ends result effect old new
+EndsWork result (Script whole) old new = EndsAll result whole old new
+
+-- it was done, with this status
+abbrev pub DoesWork : ℕ → Work → Outside → Outside → Type 0
+DoesWork status work old new = EndsWork (Ok status) work old new
+
+-- it was stopped, for whichever cause
+abbrev pub StopsWork : Work → Outside → Outside → Type 0
+StopsWork work old new = EndsWork (Err Failed) work old new
+
+-- a command that asks no keeper
+abbrev pub AsksNoKeeper : Option CommandWords → Type 0
+AsksNoKeeper (Some (House order)) = ⊥
+AsksNoKeeper (Some (Ceremony script)) = ⊥
+AsksNoKeeper command = Unit {0}
+
+-- these files are told, and the words are this command
+pub record Asks (held : Option Files) (words : List (List ℕ)) (files : Files) (command : CommandWords) : Type 0 where
+  pub files_are : held ≡ Some files
+  pub words_are : command_words words ≡ Some command

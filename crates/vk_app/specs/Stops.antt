@@ -1,8 +1,0 @@
--- How an answer tells of two counts of faults, a shelf's and a sink's.
-use Rattle.std.specs.Prelude.{◌≡◌, ◌≢◌, ℕ, Result, Ok, Err, ◌⊎◌}
-use Rattle.vk_io.specs.Faults.{Rose}
-
--- a call that answers this error raised one of two counts, and any other left both as they were
-abbrev pub CausesTwo : {T E : Type 0} → E → Result T E → ℕ → ℕ → ℕ → ℕ → Type 0
-CausesTwo fault (Ok value) old new before after = (new ≡ old) × (after ≡ before)
-CausesTwo fault (Err refusal) old new before after = (refusal ≡ fault → Rose old new ⊎ Rose before after) × (refusal ≢ fault → (new ≡ old) × (after ≡ before))
