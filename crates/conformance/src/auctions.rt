@@ -5,6 +5,7 @@ use crate::unreplayed::Unreplayed;
 use std::alloc::Global;
 use vk_app::run;
 use vk_io::{MemShelf, MemSink, PieceShelf, Sink};
+use vk_keeper::MemKeeper;
 use vk_lines::{end_line, push_decimal, push_space};
 
 /// The bids of an auction, and the outcome that they are known to have.
@@ -146,7 +147,8 @@ fn push_run(
 ) -> Result<MemSink, Unreplayed> {
     let words = words_of(alloc, line)?;
     let mut out = MemSink::new(alloc);
-    let status = run(alloc, words.as_slice(), shelf, &mut out);
+    let mut keeper = MemKeeper::new(alloc);
+    let status = run(alloc, words.as_slice(), shelf, &mut keeper, &mut out);
     push_status(text, line, status)?;
     Ok(out)
 }

@@ -5,6 +5,7 @@ use crate::unreplayed::Unreplayed;
 use std::alloc::Global;
 use vk_app::run;
 use vk_io::{MemShelf, MemSink, Shelf, Sink};
+use vk_keeper::MemKeeper;
 use vk_lines::{end_line, push_decimal};
 
 /// The smallest board with its two challenges and replies, and the secret of its seal.
@@ -177,7 +178,8 @@ fn run_once(
 ) -> Result<Ran, Unreplayed> {
     let words = words_of(alloc, command.words.as_bytes())?;
     let before = out.bytes().len();
-    let status = run(alloc, words.as_slice(), files, out);
+    let mut keeper = MemKeeper::new(alloc);
+    let status = run(alloc, words.as_slice(), files, &mut keeper, out);
     let text = Vec::from_slice(alloc, behind(out.bytes(), before))?;
     Ok(Ran { status, text })
 }

@@ -4,14 +4,16 @@ use crate::unreplayed::Unreplayed;
 use std::alloc::Global;
 use vk_app::run;
 use vk_io::{MemShelf, MemSink, Shelf};
+use vk_keeper::MemKeeper;
 use vk_lines::{end_line, push_decimal, push_line};
 
-/// The parts of a case: its name, its files and its words.
+/// The parts of a case: its name, its files, its words, and the files that it leaves which no word names.
 #[derive(Clone, Copy)]
 struct Run<'a> {
     name: &'a [u8],
     files: &'a [u8],
     words: &'a [u8],
+    left: &'a [u8],
 }
 
 /// The case, and what its run comes to.
@@ -24,14 +26,17 @@ pub fn run_text<S: Shelf>(
     let given = files_of(alloc, shelf, parts.files)?;
     let mut files = files_of(alloc, shelf, parts.files)?;
     let words = words_of(alloc, parts.words)?;
+    let left = words_of(alloc, parts.left)?;
     let mut out = MemSink::new(alloc);
-    let status = run(alloc, words.as_slice(), &mut files, &mut out);
+    let mut keeper = MemKeeper::new(alloc);
+    let status = run(alloc, words.as_slice(), &mut files, &mut keeper, &mut out);
     let mut text = Vec::from_slice(alloc, parts.name)?;
     text.extend_from_slice(b"| ")?;
     push_decimal(&mut text, u64::from(status))?;
     end_line(&mut text)?;
     text.extend_from_slice(out.bytes())?;
-    push_left(&mut text, words.as_slice(), &given, &files)?;
+    push_left(&mut text, words.as_slice(), 1, &given, &files)?;
+    push_left(&mut text, left.as_slice(), 0, &given, &files)?;
     Ok(text)
 }
 
@@ -41,7 +46,13 @@ fn run_of(case: &[u8]) -> Result<Run<'_>, Unreplayed> {
     let name = parts.next().ok_or(Unreplayed::NoCase)?;
     let files = parts.next().ok_or(Unreplayed::NoCase)?;
     let words = parts.next().ok_or(Unreplayed::NoCase)?;
-    Ok(Run { name, files, words })
+    let left = parts.next().unwrap_or(&[]);
+    Ok(Run {
+        name,
+        files,
+        words,
+        left,
+    })
 }
 
 /// The words of a part.
@@ -92,14 +103,15 @@ fn put_file<S: Shelf>(
     Ok(())
 }
 
-/// Each file that a word behind the first names, and that isn't as it was given.
+/// Each file that a word from that place on names, and that isn't as it was given.
 fn push_left(
     text: &mut Vec<u8>,
     words: &[String],
+    from: usize,
     given: &MemShelf,
     files: &MemShelf,
 ) -> Result<(), Unreplayed> {
-    for word in words.iter().skip(1) {
+    for word in words.iter().skip(from) {
         if let Some(left) = files.file(word.as_str()) {
             if !is_given(given, word.as_str(), left) {
                 text.extend_from_slice(b"left ")?;
