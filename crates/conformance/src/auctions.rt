@@ -130,12 +130,18 @@ fn push_verified(
     shelf: &mut PieceShelf,
     asked: Asked,
 ) -> Result<(), Unreplayed> {
-    let challenge = asked.name();
-    let reply = asked.reply();
-    let line = format!(in alloc; "verify board {challenge} {reply}")?;
+    let line = words_with(alloc, "verify board", asked)?;
     let out = push_run(alloc, text, shelf, line.as_bytes())?;
     text.extend_from_slice(out.bytes())?;
     Ok(())
+}
+
+/// These words, and the names of what is asked and of the reply.
+fn words_with(alloc: Global, words: &str, asked: Asked) -> Result<String, Unreplayed> {
+    let challenge = asked.name();
+    let reply = asked.reply();
+    let line = format!(in alloc; "{words} {challenge} {reply}")?;
+    Ok(line)
 }
 
 /// The words of a command and its status. What it printed is handed on.
@@ -172,9 +178,7 @@ fn push_extracted(
     auction: &Auction,
     asked: Asked,
 ) -> Result<(), Unreplayed> {
-    let challenge = asked.name();
-    let reply = asked.reply();
-    let line = format!(in alloc; "extract board zeros reply-zeros {challenge} {reply}")?;
+    let line = words_with(alloc, "extract board zeros reply-zeros", asked)?;
     let out = push_run(alloc, text, shelf, line.as_bytes())?;
     let said = without_openings(alloc, out.bytes())?;
     let winner = winner_line(alloc, auction)?;

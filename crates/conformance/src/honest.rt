@@ -206,7 +206,7 @@ fn honest_lanes(
     let mut all = Vec::new(alloc);
     for lane in 1..=lanes {
         let tape = lane_tape(alloc, plan, secrets, lane)?;
-        all.push(honest_lane(alloc, plan, values, &tape, lane)?)?;
+        all.push(honest_lane(alloc, lane, plan, values, &tape)?)?;
     }
     Ok(all)
 }
@@ -214,10 +214,10 @@ fn honest_lanes(
 /// One lane, from 1. The values hold for the plan.
 fn honest_lane(
     alloc: Global,
+    lane: u16,
     plan: &Plan,
     values: &[Residue],
     tape: &LaneTape,
-    lane: u16,
 ) -> Result<HonestLane, Unreplayed>
     requires holds { Holds plan.now values.now }
     requires one_each { length tape.now.wires ≡ length plan.now.kinds }

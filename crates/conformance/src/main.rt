@@ -40,6 +40,9 @@ enum Form {
     Files,
     /// `NAME | NAME=FILE .. | WORD ..`: the files that a run of the program is given, and its words.
     Runs,
+    /// `NAME | NAME=FILE .. | WORD .. | WORD ..`: the files that a house is given, and its commands. `forget` stands for
+    /// a house that knows nothing, and `fail N` has the call of that number fail which is made of its keeper.
+    Houses,
 }
 
 impl Form {
@@ -52,6 +55,7 @@ impl Form {
             Form::Bids => "bids",
             Form::Files => "files",
             Form::Runs => "runs",
+            Form::Houses => "houses",
         }
     }
 
@@ -69,6 +73,7 @@ impl Form {
             Form::Bids => bids::outcome_text(alloc, case),
             Form::Files => files::fault_text(alloc, shelf, case),
             Form::Runs => runs::run_text(alloc, shelf, case),
+            Form::Houses => runs::house_text(alloc, shelf, case),
         }
     }
 }
@@ -103,6 +108,7 @@ fn replay_all<S: Shelf, W: Sink>(
         Form::Bids,
         Form::Files,
         Form::Runs,
+        Form::Houses,
     ] {
         replay(alloc, form, shelf, out)?;
     }

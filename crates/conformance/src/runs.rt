@@ -1,11 +1,12 @@
 // Runs of the whole program over files in memory: its status, what it prints, and what it leaves.
-use crate::cases::read_cases;
+use crate::cases::{number_at, read_cases};
 use crate::unreplayed::Unreplayed;
+use sha2::{Digest, Sha256};
 use std::alloc::Global;
 use vk_app::run;
 use vk_io::{MemShelf, MemSink, Shelf};
 use vk_keeper::MemKeeper;
-use vk_lines::{end_line, push_decimal, push_line};
+use vk_lines::{end_line, push_decimal, push_hex, push_line, push_space};
 
 /// The parts of a case: its name, its files, its words, and the files that it leaves which no word names.
 #[derive(Clone, Copy)]
@@ -30,13 +31,108 @@ pub fn run_text<S: Shelf>(
     let mut out = MemSink::new(alloc);
     let mut keeper = MemKeeper::new(alloc);
     let status = run(alloc, words.as_slice(), &mut files, &mut keeper, &mut out);
-    let mut text = Vec::from_slice(alloc, parts.name)?;
+    let mut text = end_text(alloc, parts.name, status, &out)?;
+    push_left(&mut text, words.as_slice(), 1, &given, &files)?;
+    push_left(&mut text, left.as_slice(), 0, &given, &files)?;
+    Ok(text)
+}
+
+/// The case, and what its commands come to, which a house does one after another.
+pub fn house_text<S: Shelf>(
+    alloc: Global,
+    shelf: &mut S,
+    case: &[u8],
+) -> Result<Vec<u8>, Unreplayed> {
+    let mut parts = case.split(|byte| *byte == b'|');
+    let name = parts.next().ok_or(Unreplayed::NoCase)?;
+    let mut files = files_of(alloc, shelf, parts.next().ok_or(Unreplayed::NoCase)?)?;
+    let mut keeper = MemKeeper::new(alloc);
+    let mut text = Vec::new(alloc);
+    for part in parts {
+        let words = words_of(alloc, part)?;
+        match first_word(words.as_slice()) {
+            "forget" => keeper = MemKeeper::new(alloc),
+            "fail" => keeper.fail_at(number_at(part, 2, u64::MAX)?)?,
+            _ => {
+                let said = command_text(alloc, &mut files, &mut keeper, name, words.as_slice())?;
+                text.extend_from_slice(said.as_slice())?;
+            }
+        }
+    }
+    Ok(text)
+}
+
+/// The first word, empty where there is none.
+fn first_word(words: &[String]) -> &str {
+    match words.first() {
+        Some(word) => word.as_str(),
+        None => "",
+    }
+}
+
+/// What one command of a case comes to, over the files and the keeper of those before it.
+fn command_text(
+    alloc: Global,
+    files: &mut MemShelf,
+    keeper: &mut MemKeeper,
+    name: &[u8],
+    words: &[String],
+) -> Result<Vec<u8>, Unreplayed> {
+    let given = files_named(alloc, words, files)?;
+    let mut out = MemSink::new(alloc);
+    let status = run(alloc, words, files, keeper, &mut out);
+    let mut text = end_text(alloc, name, status, &out)?;
+    push_sums(&mut text, words, &given, files)?;
+    Ok(text)
+}
+
+/// The length and the SHA-256 of each file that a word behind the first names, and that isn't as it was given.
+fn push_sums(
+    text: &mut Vec<u8>,
+    words: &[String],
+    given: &MemShelf,
+    files: &MemShelf,
+) -> Result<(), Unreplayed> {
+    for word in words.iter().skip(1) {
+        if let Some(left) = files.file(word.as_str()) {
+            if !is_given(given, word.as_str(), left) {
+                push_sum(text, word.as_bytes(), left)?;
+            }
+        }
+    }
+    Ok(())
+}
+
+/// `left NAME LENGTH SHA-256`.
+fn push_sum(text: &mut Vec<u8>, name: &[u8], left: &[u8]) -> Result<(), Unreplayed> {
+    text.extend_from_slice(b"left ")?;
+    text.extend_from_slice(name)?;
+    push_space(text)?;
+    push_decimal(text, left.len() as u64)?;
+    push_space(text)?;
+    push_hex(text, &Sha256::digest(left))?;
+    end_line(text)?;
+    Ok(())
+}
+
+/// The files that the words name, as they are.
+fn files_named(alloc: Global, words: &[String], files: &MemShelf) -> Result<MemShelf, Unreplayed> {
+    let mut named = MemShelf::new(alloc);
+    for word in words {
+        if let Some(bytes) = files.file(word.as_str()) {
+            named.put_file(word.as_str(), bytes)?;
+        }
+    }
+    Ok(named)
+}
+
+/// The name of a case, the status of a run, and what it printed.
+fn end_text(alloc: Global, name: &[u8], status: u8, out: &MemSink) -> Result<Vec<u8>, Unreplayed> {
+    let mut text = Vec::from_slice(alloc, name)?;
     text.extend_from_slice(b"| ")?;
     push_decimal(&mut text, u64::from(status))?;
     end_line(&mut text)?;
     text.extend_from_slice(out.bytes())?;
-    push_left(&mut text, words.as_slice(), 1, &given, &files)?;
-    push_left(&mut text, left.as_slice(), 0, &given, &files)?;
     Ok(text)
 }
 

@@ -6,18 +6,22 @@ ghost use Rattle.std.specs.Process.{exit_status};
 ghost use Rattle.vk_io.specs.Faults.{Rose};
 ghost use Rattle.vk_effect.specs.Effects.{outside, stores};
 ghost use Rattle.vk_app.specs.Commands.{DoesWork, work_on};
+ghost use Rattle.vickrey.specs.Refusals.{refusal_status};
 
+mod house;
+#[cfg(test)]
+mod tests;
+
+use crate::house::{close_house, open_house};
 use std::env;
 use std::io::ErrorKind;
 use std::process::ExitCode;
-use std::rt::{Env, Files};
+use std::rt::Env;
 use vk_app::run;
 use vk_io::{FileShelf, OutSink, Shelf, Sink};
 use vk_keeper::{Keeper, MemKeeper};
+use vk_keeper_sql::OpenErr;
 use vk_residue::NoMemory;
-
-#[cfg(test)]
-mod tests;
 
 /// The words behind the program's own name. None where one of them is not UTF-8.
 fn words_of<E: Env + AllocGlobal>(env: &E) -> Result<Vec<String>, NoMemory> {
@@ -72,17 +76,61 @@ fn perform<R: Eprint + AllocGlobal, S: Shelf, K: Keeper + Drop, W: Sink>(
     end(rt, status)
 }
 
+/// Does the same over the files and the standard output of `rt`.
+fn perform_over<K: Keeper + Drop>(rt: &HostRuntime, words: &[String], keeper: &mut K) -> ExitCode {
+    let mut shelf = FileShelf::new(rt, rt.alloc());
+    let mut out = OutSink::new(rt);
+    perform(rt, words, &mut shelf, keeper, &mut out)
+}
+
+/// Whether these words may ask the keeper of the house: their first is a command of the house, or
+/// `ceremony`.
+fn asks_house(words: &[String]) -> bool {
+    match words.first() {
+        Some(word) => matches!(
+            word.as_str(),
+            "announce" | "submit" | "prove" | "answer" | "show" | "ceremony"
+        ),
+        None => false,
+    }
+}
+
+/// Does what the words say over the auctions of the house in the current folder.
+fn perform_in_house(rt: &HostRuntime, words: &[String]) -> ExitCode {
+    match open_house(rt) {
+        Ok(mut keeper) => {
+            let code = perform_over(rt, words, &mut keeper);
+            close_house(keeper);
+            code
+        }
+        Err(refusal) => refuse(rt, refusal),
+    }
+}
+
+/// Says on standard error why the house was not opened, and ends with the status of that.
+fn refuse<R: Eprint>(rt: &R, refusal: OpenErr) -> ExitCode
+    ensures { exit_status result ≡ refusal_status refusal }
+{
+    match refusal {
+        OpenErr::Version { .. } => {
+            let _ = eprintln!(rt; "other store");
+            ExitCode::from(6)
+        }
+        OpenErr::Refused => end(rt, 6),
+        OpenErr::NoMemory => end(rt, 9),
+    }
+}
+
 /// Does what the words of `env` say, over the files and the standard output of `rt`.
-fn program<E: Env + AllocGlobal, R: Files + Print + Eprint + AllocGlobal>(
-    env: &E,
-    rt: &R,
-) -> ExitCode {
+fn program<E: Env + AllocGlobal>(env: &E, rt: &HostRuntime) -> ExitCode {
     match words_of(env) {
         Ok(words) => {
-            let mut shelf = FileShelf::new(rt, rt.alloc());
-            let mut keeper = MemKeeper::new(rt.alloc());
-            let mut out = OutSink::new(rt);
-            perform(rt, words.as_slice(), &mut shelf, &mut keeper, &mut out)
+            let words = words.as_slice();
+            if asks_house(words) {
+                perform_in_house(rt, words)
+            } else {
+                perform_over(rt, words, &mut MemKeeper::new(rt.alloc()))
+            }
         }
         Err(NoMemory) => end(rt, 9),
     }

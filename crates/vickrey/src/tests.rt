@@ -90,3 +90,63 @@ fn each_status_is_ended_with(rt: HostRuntime) -> Result<(), Fail> {
     }
     Ok(())
 }
+
+/// With which status the program ends, in the current folder.
+fn status_of(rt: &HostRuntime, words: &[&str]) -> ExitCode {
+    let env = (Words { words }, rt.alloc());
+    program(&env, rt)
+}
+
+/// A file with this text.
+fn write(rt: &HostRuntime, name: &str, text: &str) -> Result<(), Fail> {
+    let mut shelf = FileShelf::new(rt, rt.alloc());
+    shelf.create(name)?;
+    shelf.append(name, text.as_bytes())?;
+    Ok(())
+}
+
+const ID: &str = "000102030405060708090a0b0c0d0e0f";
+
+const SEED: &str = "000102030405060708090a0b0c0d0e0f101112131415161718191a1b1c1d1e1f";
+
+#[test]
+fn the_first_challenge_is_kept_in_the_file(rt: HostRuntime) -> Result<(), Fail> {
+    write(&rt, "first", "vickrey-challenge 1\nbits 01\nend\n")?;
+    write(&rt, "other", "vickrey-challenge 1\nbits 11\nend\n")?;
+    let table: [(&[&str], u8); 12] = [
+        (&["show", ID], 8),
+        (&["announce", ID, "4", "2"], 0),
+        (
+            &["seal", ID, "7", "15", "4", "2", SEED, "secret", "seal"],
+            0,
+        ),
+        (&["submit", ID, "seal", "secret"], 0),
+        (&["submit", ID, "seal", "secret"], 8),
+        (&["prove", ID, SEED, "board"], 0),
+        (&["answer", ID, "first", "reply"], 0),
+        (&["answer", ID, "other", "none"], 8),
+        (&["answer", ID, "first", "reply"], 0),
+        (&["verify", "board", "first", "reply"], 0),
+        (&["verify", "board", "other", "none"], 5),
+        (&["show", ID], 0),
+    ];
+    for (words, status) in table {
+        assert_eq!(rt; status_of(&rt, words), ExitCode::from(status));
+    }
+    Ok(())
+}
+
+#[test]
+fn a_store_that_is_open_elsewhere_is_refused(rt: HostRuntime) -> Result<(), Fail> {
+    assert_eq!(rt;
+        status_of(&rt, &["announce", ID, "4", "2"]),
+        ExitCode::from(0)
+    );
+    let Ok(keeper) = open_house(&rt) else {
+        return Err(Fail::from("not opened"));
+    };
+    assert_eq!(rt; status_of(&rt, &["show", ID]), ExitCode::from(6));
+    close_house(keeper);
+    assert_eq!(rt; status_of(&rt, &["show", ID]), ExitCode::from(0));
+    Ok(())
+}

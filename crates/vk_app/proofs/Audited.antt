@@ -33,7 +33,7 @@ module _ (held left : Option Files) (ledger after : Option Ledger) (words : List
   abbrev IsDone : Work → Type 0
   IsDone work = DoesWork status work (outside (stores held ledger) old) (outside (stores left after) new)
 
-  done_is : (files : Files) (command : CommandWords) → Asks held words files command → IfSome (work_of (Some files) ledger (Some command)) IsDone
+  pub done_is : (files : Files) (command : CommandWords) → Asks held words files command → IfSome (work_of (Some files) ledger (Some command)) IsDone
   done_is files command asks =
       subst (λ found. IfSome found IsDone)
       (ap (λ told. work_of told ledger (command_words words)) asks.files_are ∙ ap (λ found. work_of (Some files) ledger found) asks.words_are) ended

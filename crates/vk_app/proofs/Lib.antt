@@ -1,2 +1,4 @@
 pub mod Audited
 pub mod Ending
+pub mod Housed
+pub mod Answering

@@ -13,6 +13,7 @@ use Rattle.vk_audit.specs.Audits as audits
 use Rattle.vk_auctioneer.specs.Effects.{house_effect}
 use Rattle.vk_ceremony.specs.Ceremonies.{EndsAll, ceremony_on}
 use Rattle.vk_ceremony.specs.Ceremonies as ceremonies
+use Rattle.vk_sample.specs.Samples.{sample_on}
 use Rattle.vk_app.specs.Sealing.{seal_on}
 
 -- ---- words that are no command
@@ -40,7 +41,7 @@ command_effect files ledger (Some (Extract names)) = audit_on files ledger (audi
 command_effect files ledger (Some (Confront names)) = audit_on files ledger (audits.Confront names)
 command_effect files ledger (Some (Report board)) = audit_on files ledger (audits.Report board)
 command_effect files ledger (Some (House order)) = house_effect files ledger order
-command_effect files ledger (Some (Sample number)) = Some (says ledger usage_said)
+command_effect files ledger (Some (Sample number)) = sample_on files ledger number
 command_effect files ledger (Some (Ceremony script)) = None
 
 -- ---- a whole command line

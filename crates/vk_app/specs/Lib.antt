@@ -1,2 +1,3 @@
 pub mod Sealing
 pub mod Commands
+pub mod Auctions

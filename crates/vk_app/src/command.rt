@@ -1,17 +1,21 @@
 //! The top call.
 
-ghost use Rattle.std.specs.Prelude.{◌≡◌, ◌≢◌, ◌⊎◌, ℕ, List, Option, IfSome, IfOk, map, option_map, string_bytes};
+ghost use Rattle.std.specs.Prelude.{◌≡◌, ◌≢◌, ◌⊎◌, ℕ, List, Option, IfSome, IfOk, Some, map, option_map, string_bytes};
 ghost use Rattle.vk_io.specs.Faults.{Causes, Rose};
 ghost use Rattle.vk_io.specs.Files.{Files, Told};
 ghost use Rattle.vk_keeper.specs.Ledgers.{Ledger};
 ghost use Rattle.vk_words.specs.Commands.{Confront, Extract, IsCommand, Report, Verify, command_seen, command_words};
+ghost use Rattle.vk_words.specs.Orders.{Answer, HouseWords, Prove};
 ghost use Rattle.vk_words.specs.Names.{ConfrontWords, ExtractWords, VerifyWords};
 ghost use Rattle.vk_effect.specs.Effects.{IsEnd, outside, stores};
 ghost use Rattle.vk_effect.specs.Ends.{Acts, Ends};
+ghost use Rattle.vk_house.specs.Commands.{HouseCommand};
 ghost use Rattle.vk_house.specs.Once.{KeepsAnswers};
 ghost use Rattle.vk_effect.specs.Counts.{CausesThree, CausesTwo};
 ghost use Rattle.vk_audit.specs.Audits.{audit_seen};
 ghost use Rattle.vk_audit.specs.Statuses.{AcceptsTwoFiles, BindsSecret, IsExtracted, IsReported, IsSame, IsVerified};
+ghost use Rattle.vk_ceremony.specs.Runs.{asked_in};
+ghost use Rattle.vk_app.specs.Auctions.{AsksHouse, IsStep, LeavesBoard, LeavesReply};
 ghost use Rattle.vk_app.specs.Commands.{Asks, AsksNoKeeper, DoesWork, EndsWork, StopsWork, audit_on, command_effect, script_in, work_on};
 
 use crate::seal::seal;
@@ -23,6 +27,7 @@ use vk_ceremony::ceremony;
 use vk_effect::{Said, print};
 use vk_io::{OutsideErr, Shelf, Sink};
 use vk_keeper::Keeper;
+use vk_sample::sample;
 use vk_words::{Command, command_of};
 
 /// Does an auditor's command, but for printing.
@@ -77,7 +82,11 @@ fn act<S: Shelf, K: Keeper + Drop>(
             let said = read(alloc, shelf, &AuditOrder::Report(board))?;
             Ok(said)
         }
-        Some(Command::Sample(_)) | Some(Command::Ceremony(_)) | None => {
+        Some(Command::Sample(number)) => {
+            let said = sample(alloc, shelf, number)?;
+            Ok(said)
+        }
+        Some(Command::Ceremony(_)) | None => {
             let said = usage(alloc)?;
             Ok(said)
         }
@@ -197,6 +206,22 @@ pub fn run<S: Shelf, K: Keeper + Drop, W: Sink>(
     // Status 0 of a `report` is that the file is a board whose price and winner may stand, and what it publishes is put.
     ensures reported { (files : Files) (board : List ℕ) → Asks (S.held shelf.old) (map string_bytes words.now) files (Report board)
         → IsReported files board result (W.taken out.old) (W.taken out.new) }
+
+    // A command of the house that ends leaves the ledger of the house's step, with the status of its reply.
+    ensures steps { (files : Files) (ledger : Ledger) (order : HouseWords) (command : HouseCommand)
+        → AsksHouse (S.held shelf.old) (K.ledger keeper.old) (map string_bytes words.now) files ledger order → asked_in files order ≡ Some command
+        → result ≢ 6 → result ≢ 9 → IsStep ledger command result (K.ledger keeper.new) }
+
+    // Status 0 of a `prove` leaves the board of the auction that is kept.
+    ensures boards { (files : Files) (ledger : Ledger) (id seed board : List ℕ)
+        → AsksHouse (S.held shelf.old) (K.ledger keeper.old) (map string_bytes words.now) files ledger (Prove id seed board)
+        → result ≡ 0 → LeavesBoard id seed board files (S.held shelf.new) (K.ledger keeper.new) }
+
+    // Status 0 of an `answer` leaves the reply of the auction that is kept, which is accepted with its board and the
+    // challenge of the named file.
+    ensures replies { (files : Files) (ledger : Ledger) (id challenge reply : List ℕ)
+        → AsksHouse (S.held shelf.old) (K.ledger keeper.old) (map string_bytes words.now) files ledger (Answer id challenge reply)
+        → result ≡ 0 → LeavesReply id challenge reply files (S.held shelf.new) (K.ledger keeper.new) }
 
     // Whatever the words and the status, an auction that was answered is the same after, and one that was proved has its
     // seed and its seals.

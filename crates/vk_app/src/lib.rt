@@ -3,10 +3,12 @@
 #![tactic(auto)]
 
 mod command;
+mod laws;
 mod seal;
 mod usage;
 
 pub use command::run;
+pub use laws::every_answer_of_an_auction_is_the_same;
 
 #[cfg(test)]
 mod tests;

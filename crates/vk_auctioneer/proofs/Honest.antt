@@ -57,6 +57,7 @@ writes_reply files ledger id name reply challenge auction right is_id text work 
       kept = work.kept;
       proved = proved_from auction given.seed is_auction given.seeded.seed_is given.seeded.tapes;
       asked = record { right = text.right; one_bit_each = bits };
+      answered = given.challenge_is;
       read = text.file.held;
       written = ap (reply_file reply challenge) work.reply;
     }

@@ -1,5 +1,6 @@
 mod Asking
 mod Counting
 mod Reading
-mod Working
-mod Honest
+pub mod Working
+pub mod Honest
+pub mod Words

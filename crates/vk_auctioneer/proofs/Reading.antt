@@ -24,7 +24,8 @@ use Rattle.vk_keeper.specs.declared.auction.SealRow.{SealRow}
 use Rattle.vk_keeper.specs.Joining.{first_of}
 use Rattle.vk_honest.specs.Sizes.{IsShort}
 use Rattle.vk_effect.specs.Effects.{SaidValue}
-use Rattle.vk_auctioneer.specs.Inputs.{begun_in, challenge_in, malformed_said, row_in, too_long_said, value_in}
+use Rattle.vk_effect.specs.NamedFiles.{malformed_said, too_long_said}
+use Rattle.vk_auctioneer.specs.Inputs.{begun_in, challenge_in, row_in, value_in}
 use Rattle.vk_auctioneer.specs.Laws.{AreTexts, IsFile, IsText, ReadsChallenge, ReadsRow, faulty_said, unheld_said}
 
 -- a file from its first line on

@@ -1,5 +1,5 @@
 -- The files that a command of the house is given by name: each is held, is not too long, and is of its form.
-use Rattle.std.specs.Prelude.{ℕ, ◌^◌, nat_lt, if◌then◌else◌, List, length, codes, decimal, Option, Some, None, Result, Ok, Err}
+use Rattle.std.specs.Prelude.{ℕ, ◌^◌, nat_lt, if◌then◌else◌, List, length, Option, Some, None, Result, Ok, Err}
 use Rattle.std.specs.FinMap.{get}
 use Rattle.vk_io.specs.Files.{Files}
 use Rattle.vk_lines.specs.Gives.{◌>>=◌}
@@ -9,23 +9,11 @@ use Rattle.vk_reply.specs.Reading.{challenge_at}
 use Rattle.vk_seal.specs.Reading.{seal_at, secret_at}
 use Rattle.vk_keeper.specs.declared.auction.SealRow.{SealRow}
 use Rattle.vk_effect.specs.Effects.{SaidValue}
-use Rattle.vk_effect.specs.Texts.{◌+++◌, line_feed}
+use Rattle.vk_effect.specs.NamedFiles.{malformed_said, missing_said, too_long_said}
 use Rattle.vk_auctioneer.specs.declared.inputs.Unread.{Unread}
 use Rattle.vk_auctioneer.specs.declared.inputs.Unread.TheVariants.{Said, Failed, NoMemory}
 
 -- ---- one file
-
--- the file isn't held
-abbrev pub missing_said : List ℕ → SaidValue
-missing_said name = record { status = 5; text = codes "missing " +++ name +++ line_feed }
-
--- it has more than 2^30 bytes
-abbrev pub too_long_said : List ℕ → SaidValue
-too_long_said name = record { status = 4; text = codes "too long " +++ name +++ line_feed }
-
--- it isn't of its form, and this is the first line that isn't as its place demands
-abbrev pub malformed_said : List ℕ → ℕ → SaidValue
-malformed_said name number = record { status = 4; text = codes "malformed " +++ name +++ codes " line " +++ decimal number +++ line_feed }
 
 -- the file of that name from its first line on; or what is said where it isn't held or is too long
 abbrev pub begun_in : List ℕ → Option (List ℕ) → Result Rest SaidValue

@@ -16,7 +16,7 @@ use Rattle.vk_verifier.specs.Acceptance.{Accepts}
 use Rattle.vk_keeper.specs.declared.auction.Auction.{Auction}
 use Rattle.vk_keeper.specs.declared.auction.Phase.TheVariants.{Proved}
 use Rattle.vk_keeper.specs.declared.auction.SealRow.{SealRow}
-use Rattle.vk_keeper.specs.Auctions.{seed_of}
+use Rattle.vk_keeper.specs.Auctions.{challenge_of, seed_of}
 use Rattle.vk_keeper.specs.Joining.{first_of}
 use Rattle.vk_keeper.specs.Ledgers.{Ledger, IsLedger}
 use Rattle.vk_job.specs.Jobs.{IsProvedAuction}
@@ -25,7 +25,8 @@ use Rattle.vk_honest.specs.Answers.{IsChallengeTo}
 use Rattle.vk_honest.specs.Sizes.{IsShort}
 use Rattle.vk_effect.specs.Effects.{Effect, SaidValue}
 use Rattle.vk_auctioneer.specs.Effects.{answer_effect, prove_effect}
-use Rattle.vk_auctioneer.specs.Inputs.{challenge_in, malformed_said, missing_said, row_in, too_long_said}
+use Rattle.vk_effect.specs.NamedFiles.{malformed_said, missing_said, too_long_said}
+use Rattle.vk_auctioneer.specs.Inputs.{challenge_in, row_in}
 
 -- ---- what is read, by the texts and the tables of the forms
 
@@ -95,11 +96,13 @@ BoardsAreWritten =
     → (prove_effect ledger id seed board).status ≡ 0
     → (auction : Auction) × WritesBoard id seed board (prove_effect ledger id seed board) auction
 
--- the effect of `answer`: it leaves an auction that is proved, and writes its reply to the challenge of the named file
+-- the effect of `answer`: it leaves an auction that is proved and has answered the challenge of the named file, and
+-- writes its reply to that challenge
 pub record WritesReply (files : Files) (id challenge_name reply : List ℕ) (effect : Effect) (auction : Auction) (challenge : Challenge) : Type 0 where
   pub kept : LeavesAuction effect id auction
   pub proved : IsProvedAuction auction
   pub asked : IsChallengeTo auction challenge
+  pub answered : challenge_of auction.phase ≡ Some challenge
   pub read : get files challenge_name ≡ Some (challenge_text challenge)
   pub written : effect.writes ≡ (reply, reply_of auction challenge) ∷ []
 

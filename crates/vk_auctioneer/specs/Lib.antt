@@ -1,3 +1,4 @@
+pub mod Common
 pub mod Inputs
 pub mod Lines
 pub mod Effects

@@ -1,21 +1,12 @@
 //! `answer`.
 
 ghost use Rattle.std.specs.Prelude.{◌≡◌, ◌∷◌, [], ℕ, IfOk, IfSome, List, Some, length};
-ghost use Rattle.vk_io.specs.Faults.{Causes};
-ghost use Rattle.vk_io.specs.Files.{Told};
-ghost use Rattle.vk_io.specs.Reads.{OnlyReads};
-ghost use Rattle.vk_lines.specs.Gives.{Gives};
 ghost use Rattle.vk_reply.specs.Values.{IsChallenge};
 ghost use Rattle.vk_keeper.specs.Auctions.{challenge_of};
-ghost use Rattle.vk_keeper.specs.Turns.{GetsOnce};
 ghost use Rattle.vk_job.specs.Published.{reply_of};
-ghost use Rattle.vk_house.specs.Answers.{as_reply, work_of};
 ghost use Rattle.vk_house.specs.Commands.{Answer};
-ghost use Rattle.vk_house.specs.Once.{KeepsAnswers};
-ghost use Rattle.vk_effect.specs.Counts.{CausesTwo};
-ghost use Rattle.vk_effect.specs.Effects.{stores};
-ghost use Rattle.vk_effect.specs.Ends.{Acts};
 ghost use Rattle.vk_auctioneer.specs.Answers.{AsksOnce, Leaves, Says};
+ghost use Rattle.vk_auctioneer.specs.Common.{Acts, Causes, CausesTwo, GetsOnce, Gives, KeepsAnswers, OnlyReads, Told, as_reply, stores, work_of};
 ghost use Rattle.vk_auctioneer.specs.Effects.{answer_effect, asked, on_both, on_ledger, reply_file};
 ghost use Rattle.vk_auctioneer.specs.Inputs.{challenge_in, said_of};
 ghost use Rattle.vk_auctioneer.specs.Lines.{answered_line, done_said};

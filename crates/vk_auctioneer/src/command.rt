@@ -1,14 +1,10 @@
 //! Whichever command of the house.
 
 ghost use Rattle.std.specs.Prelude.{◌≡◌, IfSome, None};
-ghost use Rattle.vk_io.specs.Files.{Told};
-ghost use Rattle.vk_house.specs.Once.{KeepsAnswers};
-ghost use Rattle.vk_effect.specs.Counts.{CausesTwo};
-ghost use Rattle.vk_effect.specs.Effects.{stores};
-ghost use Rattle.vk_effect.specs.Ends.{Acts};
 ghost use Rattle.vk_words.specs.Orders.{IsHouseOrder, house_seen};
 ghost use Rattle.vk_words.specs.Scripts.{written_name_of};
 ghost use Rattle.vk_auctioneer.specs.Answers.{AsksOnce};
+ghost use Rattle.vk_auctioneer.specs.Common.{Acts, CausesTwo, KeepsAnswers, Told, stores};
 ghost use Rattle.vk_auctioneer.specs.Effects.{house_effect};
 
 use crate::announcing::announce;

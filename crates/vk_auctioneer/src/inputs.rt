@@ -2,10 +2,6 @@
 
 ghost use Rattle.std.specs.Prelude.{◌≡◌, ℕ, Err, IfOk, IfSome, List, Ok, Result};
 ghost use Rattle.std.specs.FinMap as map;
-ghost use Rattle.vk_io.specs.Faults.{Causes};
-ghost use Rattle.vk_io.specs.Files.{Files};
-ghost use Rattle.vk_io.specs.Reads.{OnlyReads};
-ghost use Rattle.vk_lines.specs.Gives.{Gives};
 ghost use Rattle.vk_lines.specs.Lines.{IsBefore, Reads, Rest, Starts, rest_of};
 ghost use Rattle.vk_reply.specs.Reading.{challenge_at};
 ghost use Rattle.vk_reply.specs.Values.{IsChallenge};
@@ -13,10 +9,11 @@ ghost use Rattle.vk_seal.specs.Reading.{seal_at, secret_at};
 ghost use Rattle.vk_seal.specs.Values.{IsSeal, IsSecret};
 ghost use Rattle.vk_effect.specs.Effects.{SaidValue};
 ghost use Rattle.vk_auctioneer.specs.Answers.{said_or_stopped};
-ghost use Rattle.vk_auctioneer.specs.Inputs.{begun_in, malformed_said, missing_said, said_of, too_long_said, value_in};
+ghost use Rattle.vk_auctioneer.specs.Common.{Causes, Files, Gives, OnlyReads};
+ghost use Rattle.vk_auctioneer.specs.Inputs.{begun_in, said_of, value_in};
 
 use std::alloc::Global;
-use vk_effect::Said;
+use vk_effect::{Said, malformed, missing, too_long};
 use vk_io::{OutsideErr, Shelf};
 use vk_lines::{Lines, ReadErr, StartErr};
 use vk_reply::{Challenge, read_challenge};
@@ -56,33 +53,6 @@ impl Unread {
             Unread::NoMemory => Err(OutsideErr::NoMemory),
         }
     }
-}
-
-/// Of a file that isn't held.
-fn missing(alloc: Global, name: &str) -> Result<Said, NoMemory>
-    ensures { IfOk result (λ said. said ≡ missing_said name.now) }
-{
-    let line = format!(in alloc; "missing {name}\n")?;
-    let said = Said::of_line(alloc, 5, line.as_str())?;
-    Ok(said)
-}
-
-/// Of a file that has too many bytes.
-fn too_long(alloc: Global, name: &str) -> Result<Said, NoMemory>
-    ensures { IfOk result (λ said. said ≡ too_long_said name.now) }
-{
-    let line = format!(in alloc; "too long {name}\n")?;
-    let said = Said::of_line(alloc, 4, line.as_str())?;
-    Ok(said)
-}
-
-/// Of a file that isn't of its form.
-pub fn malformed(alloc: Global, name: &str, number: u64) -> Result<Said, NoMemory>
-    ensures { IfOk result (λ said. said ≡ malformed_said name.now number) }
-{
-    let line = format!(in alloc; "malformed {name} line {number}\n")?;
-    let said = Said::of_line(alloc, 4, line.as_str())?;
-    Ok(said)
 }
 
 /// Begins to read the named file.

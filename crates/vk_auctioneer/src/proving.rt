@@ -1,18 +1,11 @@
 //! `prove`.
 
 ghost use Rattle.std.specs.Prelude.{◌≡◌, ◌∷◌, [], ℕ, IfOk, IfSome, List};
-ghost use Rattle.vk_io.specs.Faults.{Causes};
-ghost use Rattle.vk_io.specs.Files.{Told};
-ghost use Rattle.vk_keeper.specs.Turns.{GetsOnce};
 ghost use Rattle.vk_job.specs.Jobs.{winner_of};
 ghost use Rattle.vk_job.specs.Published.{board_of};
-ghost use Rattle.vk_house.specs.Answers.{as_reply, work_of};
 ghost use Rattle.vk_house.specs.Commands.{Prove};
-ghost use Rattle.vk_house.specs.Once.{KeepsAnswers};
-ghost use Rattle.vk_effect.specs.Counts.{CausesTwo};
-ghost use Rattle.vk_effect.specs.Effects.{stores};
-ghost use Rattle.vk_effect.specs.Ends.{Acts};
 ghost use Rattle.vk_auctioneer.specs.Answers.{Leaves, Says};
+ghost use Rattle.vk_auctioneer.specs.Common.{Acts, Causes, CausesTwo, GetsOnce, KeepsAnswers, Told, as_reply, stores, work_of};
 ghost use Rattle.vk_auctioneer.specs.Effects.{board_file, on_ledger, prove_effect};
 ghost use Rattle.vk_auctioneer.specs.Lines.{done_said, proved_line};
 

@@ -2,19 +2,19 @@
 
 ghost use Rattle.std.specs.Prelude.{◌≡◌, ℕ, Err, IfOk, OnOk, Result, string_bytes};
 ghost use Rattle.vk_io.specs.Faults.{Causes};
-ghost use Rattle.vk_bids.specs.ConfrontTexts.{digest_fields, half_number, mismatch_fields};
+ghost use Rattle.vk_bids.specs.ConfrontTexts.{mismatch_fields};
 ghost use Rattle.vk_reply.specs.Texts.{bit_character, bits_text};
 ghost use Rattle.vk_house.specs.Replies.{Refused};
 ghost use Rattle.vk_auctioneer.specs.Answers.{IsReply};
 ghost use Rattle.vk_auctioneer.specs.Lines.{phase_word, refusal_line, refused_said};
 
 use std::alloc::Global;
+use vk_bids::mismatch_fields;
 use vk_effect::Said;
 use vk_house::{HouseErr, PhaseName};
 use vk_io::OutsideErr;
 use vk_reply::Challenge;
 use vk_residue::NoMemory;
-use vk_seal::Mismatch;
 
 /// What is said of a refusal, or why nothing is said. The seat is that of the seal that was handed in, 0 where none was.
 pub fn refused(alloc: Global, seat: u16, refusal: HouseErr) -> Result<Said, OutsideErr>
@@ -96,27 +96,4 @@ fn bits(alloc: Global, challenge: &Challenge) -> Result<String, NoMemory>
         text.push_str(if *bit { "1" } else { "0" })?;
     }
     Ok(text)
-}
-
-/// The field in which a seal isn't the secret's.
-fn mismatch_fields(alloc: Global, mismatch: &Mismatch) -> Result<String, NoMemory>
-    ensures { IfOk result (λ text. string_bytes text ≡ mismatch_fields mismatch.now) }
-{
-    let fields = match mismatch {
-        Mismatch::Auction { kept: _, given: _ } => format!(in alloc; "auction")?,
-        Mismatch::Seat { kept: _, given: _ } => format!(in alloc; "seat")?,
-        Mismatch::Lanes { kept: _, given: _ } => format!(in alloc; "lanes")?,
-        Mismatch::Digest {
-            lane,
-            second,
-            kept,
-            made,
-        } => {
-            let half = if *second { "1" } else { "0" };
-            let kept = hex::encode(alloc, kept.as_slice())?;
-            let made = hex::encode(alloc, made.as_slice())?;
-            format!(in alloc; "lane {lane} half {half} kept {kept} made {made}")?
-        }
-    };
-    Ok(fields)
 }

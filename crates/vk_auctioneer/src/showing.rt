@@ -1,16 +1,10 @@
 //! `show`.
 
 ghost use Rattle.std.specs.Prelude.{◌≡◌, ℕ, IfOk, IfSome, Option};
-ghost use Rattle.vk_io.specs.Faults.{Causes};
-ghost use Rattle.vk_io.specs.Files.{Files, Told};
-ghost use Rattle.vk_keeper.specs.Turns.{GetsOnce};
-ghost use Rattle.vk_house.specs.Answers.{as_reply};
 ghost use Rattle.vk_house.specs.Commands.{Show};
-ghost use Rattle.vk_house.specs.Once.{KeepsAnswers};
 ghost use Rattle.vk_house.specs.Replies.{Stands};
-ghost use Rattle.vk_effect.specs.Effects.{stores};
-ghost use Rattle.vk_effect.specs.Ends.{Acts};
 ghost use Rattle.vk_auctioneer.specs.Answers.{Says};
+ghost use Rattle.vk_auctioneer.specs.Common.{Acts, Causes, Files, GetsOnce, KeepsAnswers, Told, as_reply, stores};
 ghost use Rattle.vk_auctioneer.specs.Effects.{on_ledger, show_effect};
 ghost use Rattle.vk_auctioneer.specs.Lines.{done_said, standing_line};
 

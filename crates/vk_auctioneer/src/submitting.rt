@@ -1,22 +1,13 @@
 //! `submit`.
 
 ghost use Rattle.std.specs.Prelude.{◌≡◌, ℕ, IfOk, IfSome, List, Option};
-ghost use Rattle.vk_io.specs.Faults.{Causes};
-ghost use Rattle.vk_io.specs.Files.{Files, Told};
-ghost use Rattle.vk_io.specs.Reads.{OnlyReads};
-ghost use Rattle.vk_lines.specs.Gives.{Gives};
 ghost use Rattle.vk_seal.specs.Values.{IsSeal, IsSecret};
 ghost use Rattle.vk_seal.specs.declared.secret.Seal.{Seal};
 ghost use Rattle.vk_seal.specs.declared.secret.Secret.{Secret};
-ghost use Rattle.vk_keeper.specs.Turns.{GetsOnce};
-ghost use Rattle.vk_house.specs.Answers.{as_reply};
 ghost use Rattle.vk_house.specs.Commands.{Submit};
-ghost use Rattle.vk_house.specs.Once.{KeepsAnswers};
 ghost use Rattle.vk_house.specs.Replies.{Position};
-ghost use Rattle.vk_effect.specs.Counts.{CausesTwo};
-ghost use Rattle.vk_effect.specs.Effects.{stores};
-ghost use Rattle.vk_effect.specs.Ends.{Acts};
 ghost use Rattle.vk_auctioneer.specs.Answers.{AsksOnce, Says};
+ghost use Rattle.vk_auctioneer.specs.Common.{Acts, Causes, CausesTwo, Files, GetsOnce, Gives, KeepsAnswers, OnlyReads, Told, as_reply, stores};
 ghost use Rattle.vk_auctioneer.specs.Effects.{asked, no_file, on_both, on_ledger, submit_effect};
 ghost use Rattle.vk_auctioneer.specs.Inputs.{row_in, said_of};
 ghost use Rattle.vk_auctioneer.specs.Lines.{done_said, taken_line};

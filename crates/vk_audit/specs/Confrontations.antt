@@ -9,7 +9,7 @@ use Rattle.vk_bids.specs.ConfrontTexts.{no_seal_line, mismatch_line, held_line}
 use Rattle.vk_bids.specs.Texts.{clash_text}
 use Rattle.vk_words.specs.Names.{ConfrontWords}
 use Rattle.vk_effect.specs.Effects.{SaidValue}
-use Rattle.vk_audit.specs.NamedFiles.{malformed_said, missing_said, too_long_said}
+use Rattle.vk_effect.specs.NamedFiles.{malformed_said, missing_said, too_long_said}
 use Rattle.vk_audit.specs.Verdicts.{IsOfFile, answer_said, judged_said, same_said, unread_said}
 
 -- the verdict on a reply that isn't accepted, or what the secret comes to against two accepted replies

@@ -1,4 +1,3 @@
-pub mod NamedFiles
 pub mod Verdicts
 pub mod Extractions
 pub mod Confrontations

@@ -6,7 +6,7 @@ use Rattle.vk_report.specs.declared.report.ReportErr.{ReportErr}
 use Rattle.vk_report.specs.declared.report.ReportErr.TheVariants.{Missing, TooLong, Malformed, Price, Winner, Failed, NoMemory}
 use Rattle.vk_report.specs.Reports.{report_on, report_text}
 use Rattle.vk_effect.specs.Effects.{SaidValue}
-use Rattle.vk_audit.specs.NamedFiles.{malformed_said, missing_said, refused_said, too_long_said}
+use Rattle.vk_effect.specs.NamedFiles.{malformed_said, missing_said, refused_said, too_long_said}
 use Rattle.vk_audit.specs.Verdicts.{answer_said}
 
 -- the report

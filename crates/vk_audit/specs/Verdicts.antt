@@ -13,7 +13,7 @@ use Rattle.vk_verifier.specs.Verdicts.{verdict_on}
 use Rattle.vk_words.specs.Names.{ExtractWords, VerifyWords}
 use Rattle.vk_effect.specs.Effects.{SaidValue}
 use Rattle.vk_effect.specs.Texts.{◌+++◌, line_feed}
-use Rattle.vk_audit.specs.NamedFiles.{malformed_said, missing_said, refused_said, too_long_said}
+use Rattle.vk_effect.specs.NamedFiles.{malformed_said, missing_said, refused_said, too_long_said}
 
 -- ---- names
 

@@ -41,7 +41,7 @@ fn verified_names<'a>(names: &VerifyNames<'a>) -> ExtractNames<'a>
 }
 
 /// The same names, as the library of bids asks for them.
-fn replies_of<'a>(names: &ExtractNames<'a>) -> TwoReplies<'a>
+pub fn replies_of<'a>(names: &ExtractNames<'a>) -> TwoReplies<'a>
     ensures { replies_seen result ≡ extract_seen names.now }
 {
     TwoReplies {

@@ -7,11 +7,10 @@ ghost use Rattle.vk_words.specs.Names.{confront_seen};
 ghost use Rattle.vk_effect.specs.Effects.{IsEnd};
 ghost use Rattle.vk_audit.specs.Confrontations.{IsOfNamedFile, confrontation_said, unconfronted_said};
 
-use crate::named::{malformed, missing, too_long};
 use crate::verdicts::{judged, same_challenge, unread};
 use std::alloc::Global;
 use vk_bids::{ConfrontErr, Confrontation, confrontation_line};
-use vk_effect::Said;
+use vk_effect::{Said, malformed, missing, too_long};
 use vk_io::{OutsideErr, Shelf};
 use vk_residue::NoMemory;
 use vk_verifier::VErr;

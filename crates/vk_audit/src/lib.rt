@@ -5,15 +5,13 @@ mod auditing;
 mod confrontations;
 mod extractions;
 mod laws;
-mod named;
 mod reports;
 mod verdicts;
 
-pub use auditing::{AuditOrder, audit};
+pub use auditing::{AuditOrder, audit, replies_of};
 pub use confrontations::{confronted, unconfronted};
 pub use extractions::extracted;
 pub use laws::statuses_mean_what_the_files_are;
-pub use named::{malformed, missing, refused, too_long};
 pub use reports::{reported, unreported};
 pub use verdicts::{judged, same_challenge, unread};
 

@@ -5,9 +5,8 @@ ghost use Rattle.vk_io.specs.Faults.{Causes};
 ghost use Rattle.vk_report.specs.Reports.{IsReport, fault_of};
 ghost use Rattle.vk_audit.specs.Reports.{reported_said, unreported_said};
 
-use crate::named::{malformed, missing, refused, too_long};
 use std::alloc::Global;
-use vk_effect::Said;
+use vk_effect::{Said, malformed, missing, refused, too_long};
 use vk_io::OutsideErr;
 use vk_report::{Report, ReportErr, report_lines};
 use vk_residue::NoMemory;

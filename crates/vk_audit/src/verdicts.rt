@@ -3,12 +3,11 @@
 ghost use Rattle.std.specs.Prelude.{◌≡◌, ℕ, IfOk, OnOk, Err};
 ghost use Rattle.vk_io.specs.Faults.{Causes};
 ghost use Rattle.vk_words.specs.Names.{extract_seen};
-ghost use Rattle.vk_audit.specs.NamedFiles.{refused_said};
+ghost use Rattle.vk_effect.specs.NamedFiles.{refused_said};
 ghost use Rattle.vk_audit.specs.Verdicts.{IsOfFile, fault_text, judged_said, name_of, reply_of, row_cause, same_said, unread_said, wire_cause};
 
-use crate::named::{malformed, missing, refused, too_long};
 use std::alloc::Global;
-use vk_effect::Said;
+use vk_effect::{Said, malformed, missing, refused, too_long};
 use vk_io::OutsideErr;
 use vk_residue::NoMemory;
 use vk_verifier::{BoardVerdict, Part, VErr};

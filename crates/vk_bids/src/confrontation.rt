@@ -3,9 +3,8 @@ ghost use Rattle.std.specs.Prelude.{◌≡◌, ◌<◌, ◌≤◌, ◌^◌, ℕ,
 ghost use Rattle.std.specs.FinMap as map;
 ghost use Rattle.vk_io.specs.Faults.{Causes};
 ghost use Rattle.vk_io.specs.Files.{Files};
-ghost use Rattle.vk_io.specs.Reads.{OnlyReads};
 ghost use Rattle.vk_lines.specs.Gives.{Gives};
-ghost use Rattle.vk_lines.specs.Lines.{Reads, Rest, Starts, rest_of};
+ghost use Rattle.vk_lines.specs.Lines.{OnlyReads, Reads, Rest, Starts, rest_of};
 ghost use Rattle.vk_seal.specs.declared.secret.Secret.{Secret};
 ghost use Rattle.vk_seal.specs.Made.{seal_of};
 ghost use Rattle.vk_seal.specs.Match.{match_of};
@@ -80,10 +79,11 @@ impl From<VErr> for ConfrontErr {
 
 impl From<OutsideErr> for ConfrontErr {
     ghost use Rattle.std.specs.Prelude.{◌≡◌};
-    ghost use Rattle.vk_verifier.specs.Answers.{verr_of};
+    ghost use Rattle.vk_io.specs.Faults.{told_as};
+    ghost use Rattle.vk_verifier.specs.declared.answers.VErr.TheVariants.{Failed, NoMemory};
     ghost use Rattle.vk_bids.specs.declared.confrontation.ConfrontErr.TheVariants.{Unread};
 
-    ghost from_gives = { λ outside e. e ≡ Unread (verr_of outside) };
+    ghost from_gives = { λ outside e. e ≡ Unread (told_as Failed NoMemory outside) };
 
     fn from(outside: OutsideErr) -> ConfrontErr {
         ConfrontErr::Unread(VErr::from(outside))

@@ -107,7 +107,7 @@ fn agreement(index: usize, lanes: &[LaneBids]) -> &'static str
 }
 
 /// Whether the bids of the seal at that index are equal in all lanes.
-fn has_one_bid(index: usize, lanes: &[LaneBids]) -> bool
+pub fn has_one_bid(index: usize, lanes: &[LaneBids]) -> bool
     ensures { result ≡ has_one_bid index lanes.now }
 {
     let bid = first_bid(index, lanes);

@@ -3,6 +3,7 @@ use Rattle.std.specs.Prelude.{◌≡◌, ◌↔◌, ℕ, ◌-◌, ◌^◌, ◌<�
 use Rattle.std.specs.List.{flat_map}
 use Rattle.vk_lines.specs.Lines.{Rest}
 use Rattle.vk_lines.specs.Forms.{fault_line}
+use Rattle.vk_lines.specs.declared.errors.ReadErr.TheVariants as unread
 use Rattle.vk_board.specs.declared.board.Head.{Head}
 use Rattle.vk_board.specs.declared.board.SealLines.{SealLines}
 use Rattle.vk_board.specs.declared.front.Front.{Front}
@@ -46,11 +47,11 @@ pub data FrontFault : Type 0 where
 
 -- the fault that a refusal tells
 abbrev pub fault_of : FrontErr → Option FrontFault
-fault_of (refusal.Malformed line) = Some (Malformed line)
+fault_of (refusal.Unread (unread.Malformed line)) = Some (Malformed line)
+fault_of (refusal.Unread unread.Failed) = None
+fault_of (refusal.Unread unread.NoMemory) = None
 fault_of refusal.Price = Some Price
 fault_of refusal.Winner = Some Winner
-fault_of refusal.Failed = None
-fault_of refusal.NoMemory = None
 
 -- a fault line of the board is the fault
 abbrev pub in_front : {X : Type 0} → Result X ℕ → Result X FrontFault

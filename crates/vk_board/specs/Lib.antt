@@ -4,4 +4,3 @@ pub mod Reading
 pub mod Tables
 pub mod Published
 pub mod Fronts
-pub mod Causes

@@ -2,8 +2,8 @@
 use Rattle.std.specs.Prelude.{◌≡◌, ◌≢◌, ℕ, ◌^◌, ◌<◌, ◌≤◌, List, [], length}
 use Rattle.std.specs.List.{AllByRecursion}
 use Rattle.vk_residue.specs.Residue.{IsResidue}
-use Rattle.vk_commit.specs.Values.{AreBytes}
-use Rattle.vk_wire.specs.Values.{IsCom}
+pub use Rattle.vk_commit.specs.Values.{AreBytes}
+pub use Rattle.vk_wire.specs.Values.{IsCom}
 use Rattle.vk_lines.specs.Forms.{EachAfter}
 use Rattle.vk_board.specs.declared.board.Head.{Head}
 use Rattle.vk_board.specs.declared.board.SealLines.{SealLines}

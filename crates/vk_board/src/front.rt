@@ -1,11 +1,11 @@
 // What stands on a board before its first lane.
-ghost use Rattle.std.specs.Prelude.{◌≡◌, IfOk, IfSome, IsErrOf};
-ghost use Rattle.vk_io.specs.Reads.{OnlyReads};
-ghost use Rattle.vk_lines.specs.Lines.{KeepsFile, rest_of};
+ghost use Rattle.std.specs.Prelude.{◌≡◌, ◌⊎◌, IfErr, IfOk, IfSome};
+ghost use Rattle.vk_lines.specs.Lines.{KeepsFile, OnlyReads, rest_of};
 ghost use Rattle.vk_board.specs.Values.{IsHead, AreSeals};
 ghost use Rattle.vk_board.specs.Reading.{seats_of};
 ghost use Rattle.vk_lines.specs.Gives.{Gives};
 ghost use Rattle.vk_board.specs.Fronts.{IsFront, fault_of, front_of, front_at};
+ghost use Rattle.vk_board.specs.declared.front.FrontErr.TheVariants as refusal;
 
 use crate::board::{Head, SealLines};
 use crate::published::{position_of, price_stands};
@@ -27,30 +27,19 @@ pub struct Front {
 /// Why no front was read.
 #[derive(Clone, Copy, Debug, PartialEq, Eq)]
 pub enum FrontErr {
-    /// The number of the first line, from 1, that isn't what its place demands.
-    Malformed { line: u64 },
+    /// A line isn't what its place demands, or nothing was read.
+    Unread(ReadErr),
     /// The price isn't below 2^width, or there is one seal and the price isn't 0.
     Price,
     /// No seal has the winner's seat.
     Winner,
-    /// The outside failed. The shelf's count of faults rose in this call.
-    Failed,
-    /// Want of memory.
-    NoMemory,
 }
 
 impl From<ReadErr> for FrontErr {
-    ghost use Rattle.std.specs.Prelude.{◌≡◌};
-    ghost use Rattle.vk_board.specs.Causes.{front_err_of};
-
-    ghost from_gives = { λ refused e. e ≡ front_err_of refused };
+    ghost from_gives = { λ refused e. e ≡ refusal.Unread refused };
 
     fn from(refused: ReadErr) -> FrontErr {
-        match refused {
-            ReadErr::Malformed { line } => FrontErr::Malformed { line },
-            ReadErr::Failed => FrontErr::Failed,
-            ReadErr::NoMemory => FrontErr::NoMemory,
-        }
+        FrontErr::Unread(refused)
     }
 }
 
@@ -66,7 +55,7 @@ pub fn read_front<S: Shelf>(
         Gives fault_of (λ front. (front, rest_of lines.new files)) result (front_at (rest_of lines.old files))) }
     ensures right { IfOk result IsFront }
     ensures file { KeepsFile lines.old lines.new }
-    ensures shelf { OnlyReads S.held S.Shelf.faults FrontErr.Failed result shelf.old shelf.new }
+    ensures shelf { OnlyReads S.held S.Shelf.faults (FrontErr.Unread ReadErr.Failed) result shelf.old shelf.new }
 {
     let head = read_head(shelf, lines)?;
     let seals = read_seals(alloc, shelf, lines, &head)?;
@@ -81,7 +70,7 @@ fn front_from(head: Head, seals: Seq<SealLines>) -> Result<Front, FrontErr>
     requires seals { AreSeals head seals }
     ensures told { Gives fault_of (λ front. front) result (front_of head seals) }
     ensures right { IfOk result IsFront }
-    ensures inside { IsErrOf result FrontErr.Failed → ⊥ }
+    ensures inside { IfErr result (λ refusal. (refusal ≡ FrontErr.Price) ⊎ (refusal ≡ FrontErr.Winner)) }
 {
     if !price_stands(&head) {
         return Err(FrontErr::Price);

@@ -1,13 +1,10 @@
 ghost use Rattle.std.specs.Prelude.{length, true, ◌≡◌, ◌≤◌, ◌-◌, IfSome, IfOk};
 ghost use Rattle.std.specs.List.{All};
-ghost use Rattle.vk_io.specs.Reads.{OnlyReads};
-ghost use Rattle.vk_commit.specs.Values.{AreBytes};
-ghost use Rattle.vk_wire.specs.Values.{IsCom};
 ghost use Rattle.vk_residue.specs.Residue.{IsResidue};
 ghost use Rattle.vk_lines.specs.Forms.{many_at};
-ghost use Rattle.vk_lines.specs.Lines.{KeepsFile, ReadsPart, line_by};
+ghost use Rattle.vk_lines.specs.Lines.{KeepsFile, OnlyReads, ReadsPart, line_by};
 ghost use Rattle.vk_lines.specs.declared.errors.ReadErr.TheVariants.{Failed};
-ghost use Rattle.vk_board.specs.Values.{IsHead, IsSealAfter, AreSeals, IsLaneLines};
+ghost use Rattle.vk_board.specs.Values.{AreBytes, IsCom, IsHead, IsSealAfter, AreSeals, IsLaneLines};
 ghost use Rattle.vk_board.specs.Reading.{com_line, posted_line, seats_of, is_new_seat, seat_line, head_at, seal_at, seals_at, lane_at};
 
 use crate::board::{Head, LaneLines, SealLines};

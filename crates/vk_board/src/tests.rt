@@ -151,7 +151,7 @@ fn the_line_is_tested_first_then_the_price_then_the_winner(rt: HostRuntime) -> R
     let all = replaced(alloc, &both, 9, b"x")?;
     assert_eq!(rt;
         front_refused(alloc, &all)?,
-        Some(FrontErr::Malformed { line: 9 })
+        Some(FrontErr::Unread(ReadErr::Malformed { line: 9 }))
     );
     Ok(())
 }

@@ -4,9 +4,6 @@ use Rattle.std.specs.Prelude.{◌≢◌, ◌⊎◌}
 use Rattle.std.proofs.lemmas.Bool.{cases_lt, cases_Bool, eqb-true}
 use Rattle.std.proofs.lemmas.Bool.Decides.{nat_tests}
 use Rattle.std.proofs.lemmas.List.{length-take-le, nil_from_length}
-use Rattle.std.proofs.lemmas.List.Elements.{All-from_get_or}
-use Rattle.std.proofs.lemmas.List.Splits.{slice_split_first, slice_split_none}
-use Rattle.std.proofs.lemmas.List.Sums.{fails_before_first}
 use Rattle.std.proofs.lemmas.Slice.Eq.{bytes_eq-Decides}
 use Rattle.std.specs.Str.{bytes_eq}
 use Rattle.std.specs.FinMap.{get}
@@ -19,32 +16,18 @@ use Rattle.vk_lines.specs.Gives.{Refuses}
 use Rattle.vk_lines.specs.Lines.{IsNext, LinesValue, Reads, ReadsPart, Rest, line_by, feed_at, rest_in, rest_of, step_by, step_of, text_at, text_by}
 use Rattle.vk_lines.specs.Tokens.{◌>>=◌, word_of}
 use Rattle.vk_lines.proofs.Parts.{ok_same}
+use Rattle.vk_lines.proofs.Pieces.{other_pieces, pieces_feed, pieces_none, text_tells}
 use Rattle.vk_lines.proofs.Words.{split_some}
 use Rattle.vk_effect.specs.Effects.{SaidValue}
 use Rattle.vk_auctioneer.specs.declared.inputs.Unread.{Unread}
-use Rattle.vk_auctioneer.specs.Inputs.{begun_in, malformed_said, said_of, value_in}
+use Rattle.vk_effect.specs.NamedFiles.{malformed_said}
+use Rattle.vk_auctioneer.specs.Inputs.{begun_in, said_of, value_in}
 use Rattle.vk_words.specs.Orders.{HouseWords}
 use Rattle.vk_words.specs.Scripts.{line_words, script_words}
 use Rattle.vk_ceremony.specs.Scripts.{Order, Over, Script, ScriptLine, behind_heading, closes, heading, line_then, order_line, over_at, over_from, pieces, script_at, script_begun, script_from, script_line, with_order}
 use Rattle.vk_ceremony.specs.Turns.{order_then, over_by}
 
--- ---- the pieces between line feeds
-
-pieces_feed : (left : List ℕ) → feed_at left < length left → pieces left ≡ take (feed_at left) left ∷ pieces (drop (feed_at left + 1) left)
-pieces_feed left within = slice_split_first (λ byte. byte == 10) left 0 within
-
-pieces_none : (left : List ℕ) → length left ≤ feed_at left → pieces left ≡ left ∷ []
-pieces_none left none =
-    slice_split_none (λ byte. byte == 10) left
-    (All-from_get_or (λ byte. (byte == 10) ≡ false) left 0 (λ k within. fails_before_first (λ byte. byte == 10) left k 0 (omega arith)))
-
 -- ---- a line stands next
-
-text_tells : (feed count : ℕ) → step_by feed count ≡ Text → (feed < 256) × (feed < count)
-text_tells feed count text = (grind (arith, nat_tests), grind (arith, nat_tests))
-
-other_tells : (feed count : ℕ) → (step_by feed count ≡ Text → ⊥) → feed < count → 256 ≤ feed
-other_tells feed count other within = grind (arith, nat_tests)
 
 from_text : (script : List ℕ) (taken : ℕ) (text piece : List ℕ) (more : List (List ℕ)) → length text < 256
     → script_from script taken (text ∷ piece ∷ more) ≡ line_then (script_line script text) (taken + 1) (script_from script (taken + 1) (piece ∷ more)) (over_from (taken + 1) (piece ∷ more))
@@ -74,15 +57,7 @@ text_stands script rest text =
 none_stands : (script : List ℕ) (rest : Rest) → (step_of rest.left ≡ Text → ⊥) → script_at script rest ≡ closes (Some (rest.taken + 1))
 unfolding script_at
 none_stands script rest other =
-    elim (cases_lt (feed_at rest.left) (length rest.left)) [
-      | inl within ↦
-          let far = other_tells (feed_at rest.left) (length rest.left) other within in
-          let line : List ℕ = take (feed_at rest.left) rest.left in
-          let some = split_some 10 (drop (feed_at rest.left + 1) rest.left) in
-          let same : length line ≡ feed_at rest.left = length-take-le (feed_at rest.left) rest.left (omega arith) in
-          ap (script_from script rest.taken) (pieces_feed rest.left within ∙ ap (λ ps. line ∷ ps) some.2) ∙ from_long script rest.taken line some.0 some.1 (omega arith)
-      | inr none ↦ ap (script_from script rest.taken) (pieces_none rest.left none)
-    ]
+    other_pieces (script_from script rest.taken) (closes (Some (rest.taken + 1))) rest.left other (from_long script rest.taken) refl
 
 -- by the line that was taken
 taken_by : (script : List ℕ) (rest : Rest) (step : Step) (text : List ℕ) (behind : Rest) → step_of rest.left ≡ step → text_by step rest ≡ Ok (text, behind)

@@ -9,7 +9,7 @@ use Rattle.vk_effect.specs.Effects.{Effect, Outside, SaidValue, Stores, after, s
 use Rattle.vk_effect.specs.Sequences.{StopsAmong, done_all, one_effect}
 use Rattle.vk_words.specs.Orders.{HouseWords}
 use Rattle.vk_auctioneer.specs.Effects.{house_effect}
-use Rattle.vk_auctioneer.specs.Inputs.{malformed_said}
+use Rattle.vk_effect.specs.NamedFiles.{malformed_said}
 use Rattle.vk_ceremony.specs.Scripts.{Script, script_at, script_begun}
 
 -- the commands that are reached, each by its effect on what the one before left; and what is said for the ceremony

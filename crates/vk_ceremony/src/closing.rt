@@ -6,8 +6,7 @@ ghost use Rattle.vk_effect.specs.Effects.{IsEnd, Stores, outside};
 ghost use Rattle.vk_ceremony.specs.Ceremonies.{EndsAll, closed, closing_said, end_said};
 
 use std::alloc::Global;
-use vk_auctioneer::malformed;
-use vk_effect::{Said, print};
+use vk_effect::{Said, malformed, print};
 use vk_io::{OutsideErr, Sink};
 use vk_residue::NoMemory;
 

@@ -2,9 +2,8 @@
 
 ghost use Rattle.std.specs.Prelude.{◌≡◌, ◌≤◌, ◌+◌, ◌^◌, ℕ, List, Ok, IfOk, IfSome};
 ghost use Rattle.vk_io.specs.Files.{Files};
-ghost use Rattle.vk_io.specs.Reads.{OnlyReads};
 ghost use Rattle.vk_lines.specs.Gives.{Gives};
-ghost use Rattle.vk_lines.specs.Lines.{IsNext, KeepsFile, LinesValue, Rest, rest_of, text_at};
+ghost use Rattle.vk_lines.specs.Lines.{IsNext, KeepsFile, LinesValue, OnlyReads, Rest, rest_of, text_at};
 ghost use Rattle.vk_auctioneer.specs.Inputs.{said_of};
 ghost use Rattle.vk_ceremony.specs.Scripts.{over_at, script_begun};
 ghost use Rattle.vk_ceremony.specs.Turns.{IsWords, Stands, over_by};

@@ -1,5 +1,6 @@
 pub mod Texts
 pub mod Effects
+pub mod NamedFiles
 pub mod Ends
 pub mod Sequences
 pub mod Counts

@@ -2,10 +2,12 @@
 #![tactic(auto)]
 
 mod laws;
+mod named;
 mod printing;
 mod said;
 
 pub use laws::{a_stop_is_after_some_of_the_commands, commands_one_after_another_are_one};
+pub use named::{malformed, missing, refused, too_long};
 pub use printing::print;
 pub use said::Said;
 

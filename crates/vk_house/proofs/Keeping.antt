@@ -7,7 +7,9 @@ use Rattle.vk_keeper.specs.declared.auction.Auction.{Auction}
 use Rattle.vk_keeper.specs.Ledgers.{Ledger}
 use Rattle.vk_house.specs.Commands.{HouseCommand, id_of}
 use Rattle.vk_house.specs.Replies.{HouseReply}
-use Rattle.vk_house.specs.Deciding.{KeepsAnew}
+use Rattle.vk_house.specs.declared.working.Decision.{Decision}
+use Rattle.vk_house.specs.Answers.{work_of}
+use Rattle.vk_house.specs.Deciding.{IsDecisionOn, KeepsAnew, step_of}
 use Rattle.vk_house.specs.Steps.{Step, step_at, ledger_after, house_step}
 
 -- what is kept stands under the id that was asked for
@@ -33,6 +35,11 @@ step_made command found kept reply old between new finds same decided own keeps 
     told_step command found kept reply old new finds decided own (subst (λ l. Told (KeepsAnew {E = OutsideErr} kept (Ok tt)) l new) same keeps)
 
 -- what is kept is the auction that was decided on
-pub own_kept : (id : List ℕ) (auction : Auction) (kept : Option Auction) → auction.id ≡ id → IfSome kept (λ k. k ≡ auction) → IfSome kept (λ k. k.id ≡ id)
+own_kept : (id : List ℕ) (auction : Auction) (kept : Option Auction) → auction.id ≡ id → IfSome kept (λ k. k ≡ auction) → IfSome kept (λ k. k.id ≡ id)
 own_kept id auction None own is = tt
 own_kept id auction (Some kept) own is = ap (λ k. k.id) is ∙ own
+
+-- the same of a decision: its work is answered
+pub work_made : (command : HouseCommand) (found : Option Auction) (decision : Decision) (old between new : Option Ledger) → IfSome old (λ ledger. found ≡ get ledger (id_of command)) → between ≡ old → step_of decision ≡ step_at command found → IfSome found (λ auction. auction.id ≡ id_of command) → IsDecisionOn found decision → Told (KeepsAnew {E = OutsideErr} decision.kept (Ok tt)) between new → Told (λ before after. house_step before command ≡ (work_of decision.job, after)) old new
+work_made command found decision old between new finds same decided own on keeps =
+    step_made command found decision.kept (work_of decision.job) old between new finds same decided (own_kept (id_of command) decision.job.auction decision.kept (on.id (id_of command) own) on.kept) keeps

@@ -1,8 +1,6 @@
 -- What the calls answer, as replies.
 use Rattle.std.specs.Prelude.{◌≡◌, Option, IfSome, Result, Ok, Err}
 use Rattle.vk_io.specs.Files.{Told}
-use Rattle.vk_io.specs.declared.errors.OutsideErr.{OutsideErr}
-use Rattle.vk_io.specs.declared.errors.OutsideErr.TheVariants as outside
 use Rattle.vk_keeper.specs.declared.auction.Auction.{Auction}
 use Rattle.vk_keeper.specs.Ledgers.{Ledger, IsKeptUnder}
 use Rattle.vk_job.specs.JobValues.{JobValue}
@@ -14,11 +12,7 @@ use Rattle.vk_house.specs.Commands.{HouseCommand, id_of}
 use Rattle.vk_house.specs.Replies.{HouseReply, Refused, Work}
 use Rattle.vk_house.specs.Steps.{step_at, HouseCall}
 
--- a refusal of the keeper as one of the house
-abbrev pub outside_err_of : OutsideErr → HouseErr
-outside_err_of outside.Failed = house.KeeperFailed
-outside_err_of outside.NoMemory = house.NoMemory
-
+-- a refusal of a job as one of the house
 abbrev pub job_err_of : JobErr → HouseErr
 job_err_of (job.DrySeed lane wire) = house.DrySeed lane wire
 job_err_of job.NoMemory = house.NoMemory

@@ -1,7 +1,8 @@
 -- What is decided of the auction that was found, before anything is kept.
-use Rattle.std.specs.Prelude.{◌≡◌, ◌⊎◌, Option, Some, None, option_map, Result, Ok, Err}
+use Rattle.std.specs.Prelude.{◌≡◌, ◌⊎◌, ℕ, List, Option, Some, None, IfSome, option_map, Result, Ok, Err}
 use Rattle.vk_keeper.specs.declared.auction.Auction.{Auction}
 use Rattle.vk_keeper.specs.declared.auction.Phase.{Phase}
+use Rattle.vk_keeper.specs.Auctions.{IsAuction}
 use Rattle.vk_keeper.specs.Ledgers.{Ledger, Keeps}
 use Rattle.vk_keeper.specs.Turns.{Turns, AfterPut}
 use Rattle.vk_job.specs.Jobs.{seed_in, outcome_in}
@@ -47,6 +48,12 @@ abbrev pub work_step : Auction → Option Phase → Step
 work_step auction phase =
     let later = phased auction phase in
     worked (dry_seed (seed_in later) later) later (option_map (in_phase auction) phase)
+
+-- a decision on what was found: it is on that auction, and what is kept anew is the auction that is answered of
+pub record IsDecisionOn (found : Option Auction) (decision : Decision) : Type 0 where
+  pub id : (id : List ℕ) → IfSome found (λ auction. auction.id ≡ id) → decision.job.auction.id ≡ id
+  pub kept : IfSome decision.kept (λ auction. auction ≡ decision.job.auction)
+  pub right : IfSome decision.kept IsAuction
 
 -- what is answered and kept, as a step
 abbrev pub step_of : Decision → Step

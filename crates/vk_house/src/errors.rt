@@ -1,3 +1,9 @@
+ghost use Rattle.std.specs.Prelude.{◌≡◌};
+ghost use Rattle.vk_io.specs.Faults.{told_as};
+ghost use Rattle.vk_house.specs.declared.errors.HouseErr.TheVariants as house;
+ghost use Rattle.vk_house.specs.Answers.{job_err_of};
+ghost use Rattle.vk_house.specs.Refusals.{house_err_of};
+
 use crate::standing::PhaseName;
 use vk_io::OutsideErr;
 use vk_job::JobErr;
@@ -42,24 +48,15 @@ pub enum HouseErr {
 }
 
 impl From<OutsideErr> for HouseErr {
-    ghost use Rattle.std.specs.Prelude.{◌≡◌};
-    ghost use Rattle.vk_house.specs.Answers.{outside_err_of};
-
-    ghost from_gives = { λ refused e. e ≡ outside_err_of refused };
+    ghost from_gives = { λ refused e. e ≡ told_as house.KeeperFailed house.NoMemory refused };
 
     fn from(refused: OutsideErr) -> HouseErr {
-        match refused {
-            OutsideErr::Failed => HouseErr::KeeperFailed,
-            OutsideErr::NoMemory => HouseErr::NoMemory,
-        }
+        refused.told_as(HouseErr::KeeperFailed, HouseErr::NoMemory)
     }
 }
 
 impl From<NoMemory> for HouseErr {
-    ghost use Rattle.std.specs.Prelude.{◌≡◌};
-    ghost use Rattle.vk_house.specs.declared.errors.HouseErr.TheVariants.{NoMemory};
-
-    ghost from_gives = { λ _ e. e ≡ NoMemory };
+    ghost from_gives = { λ _ e. e ≡ house.NoMemory };
 
     fn from(_refused: NoMemory) -> HouseErr {
         HouseErr::NoMemory
@@ -67,9 +64,6 @@ impl From<NoMemory> for HouseErr {
 }
 
 impl From<Refusal> for HouseErr {
-    ghost use Rattle.std.specs.Prelude.{◌≡◌};
-    ghost use Rattle.vk_house.specs.Refusals.{house_err_of};
-
     ghost from_gives = { λ refused e. e ≡ house_err_of refused };
 
     fn from(refused: Refusal) -> HouseErr {
@@ -85,9 +79,6 @@ impl From<Refusal> for HouseErr {
 }
 
 impl From<JobErr> for HouseErr {
-    ghost use Rattle.std.specs.Prelude.{◌≡◌};
-    ghost use Rattle.vk_house.specs.Answers.{job_err_of};
-
     ghost from_gives = { λ refused e. e ≡ job_err_of refused };
 
     fn from(refused: JobErr) -> HouseErr {

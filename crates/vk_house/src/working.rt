@@ -4,7 +4,7 @@ ghost use Rattle.std.specs.Prelude.{◌≡◌, ◌≤◌, ℕ, IfSome, IfOk, IsE
 ghost use Rattle.std.specs.Result.{result_err};
 ghost use Rattle.vk_keeper.specs.Auctions.{IsAuction, seed_of, challenge_of};
 ghost use Rattle.vk_reply.specs.Values.{IsChallenge};
-ghost use Rattle.vk_house.specs.Deciding.{Decides, work_step, step_of, phased};
+ghost use Rattle.vk_house.specs.Deciding.{Decides, IsDecisionOn, work_step, step_of, phased};
 ghost use Rattle.vk_house.specs.Commands.{Prove, Answer};
 ghost use Rattle.vk_house.specs.Refusals.{no_seals, other_seed, still_taking, other_length, other_than};
 ghost use Rattle.vk_house.specs.Steps.{step_at, phase_proved, phase_answered};
@@ -90,9 +90,7 @@ pub fn decide_prove(
     requires { IfSome found IsAuction }
     ensures decided { (id : List ℕ) → Decides step_of result (step_at (Prove id seed.now) found) }
     ensures inside { IsErrOf result HouseErr.KeeperFailed → ⊥ }
-    ensures kept { IfOk result (λ decision. IfSome decision.kept (λ auction. auction ≡ decision.job.auction)) }
-    ensures right { IfOk result (λ decision. IfSome decision.kept IsAuction) }
-    ensures id { (id : List ℕ) → IfSome found (λ auction. auction.id ≡ id) → IfOk result (λ decision. decision.job.auction.id ≡ id) }
+    ensures on { IfOk result (IsDecisionOn found) }
     ensures seed { IfOk result (λ decision. seed_of decision.job.auction.phase ≡ Some seed.now) }
 {
     let auction = found.ok_or(HouseErr::Unknown)?;
@@ -187,9 +185,7 @@ pub fn decide_answer(
     requires challenge { IsChallenge challenge.now }
     ensures decided { (id : List ℕ) → Decides step_of result (step_at (Answer id challenge.now) found) }
     ensures inside { IsErrOf result HouseErr.KeeperFailed → ⊥ }
-    ensures kept { IfOk result (λ decision. IfSome decision.kept (λ auction. auction ≡ decision.job.auction)) }
-    ensures right { IfOk result (λ decision. IfSome decision.kept IsAuction) }
-    ensures id { (id : List ℕ) → IfSome found (λ auction. auction.id ≡ id) → IfOk result (λ decision. decision.job.auction.id ≡ id) }
+    ensures on { IfOk result (IsDecisionOn found) }
     ensures answered { IfOk result (λ decision. challenge_of decision.job.auction.phase ≡ Some challenge.now) }
 {
     let auction = found.ok_or(HouseErr::Unknown)?;

@@ -1,6 +1,8 @@
 -- Counts of faults, and the calls of an object in memory that is told which of them fail.
-use Rattle.std.specs.Prelude.{◌≡◌, ◌≢◌, ℕ, ◌+◌, ◌-◌, ◌^◌, ◌≤◌, ◌==◌, min, List, Bool, Result, Ok, Err, if◌then◌else◌}
+use Rattle.std.specs.Prelude.{◌≡◌, ◌≢◌, ℕ, ◌+◌, ◌-◌, ◌^◌, ◌≤◌, ◌==◌, min, List, [], ◌∷◌, ◌++◌, Bool, Result, Ok, Err, if◌then◌else◌}
 use Rattle.std.specs.List.{list_any}
+use Rattle.vk_io.specs.declared.errors.OutsideErr.{OutsideErr}
+use Rattle.vk_io.specs.declared.errors.OutsideErr.TheVariants.{Failed, NoMemory}
 
 -- one more, or the greatest u64 where the number stands there
 abbrev pub one_more : ℕ → ℕ
@@ -15,11 +17,20 @@ abbrev pub Causes : {T E : Type 0} → E → Result T E → ℕ → ℕ → Type
 Causes fault (Ok value) old new = new ≡ old
 Causes fault (Err refusal) old new = (refusal ≡ fault → Rose old new) × (refusal ≢ fault → new ≡ old)
 
+-- a refusal of the outside in the words of another error
+abbrev pub told_as : {E : Type 0} → E → E → OutsideErr → E
+told_as failed no_memory Failed = failed
+told_as failed no_memory NoMemory = no_memory
+
 -- the calls of an object in memory: how many there were, which are to fail, and how many did
 pub record Calls : Type 0 where
   pub made : ℕ
   pub failing : List ℕ
   pub faults : ℕ
+
+-- the same calls, of which the one of that number is to fail too
+abbrev pub fails_too : ℕ → Calls → Calls
+fails_too call calls = record calls { failing = calls.failing ++ call ∷ [] }
 
 -- whether the next call is one that is to fail
 abbrev pub fails_next : Calls → Bool

@@ -10,11 +10,6 @@ pub record MemoryFiles : Type 0 where
   pub files : Files
   pub calls : Calls
 
--- the same under a shelf that takes pieces alone and counts its own faults
-pub record PieceFiles : Type 0 where
-  pub inner : MemoryFiles
-  pub faults : ℕ
-
 -- a sink in memory: the bytes that it took, and its calls
 pub record MemoryBytes : Type 0 where
   pub taken : List ℕ
@@ -29,8 +24,3 @@ abbrev pub files_code : Coded MemoryFiles
 files_code =
     code_by (Files × Calls) (coded× (finite.code (coded_list coded_ℕ) (coded_list coded_ℕ)) calls_code)
     (λ m. (m.files, m.calls)) (λ p. record { files = p.0; calls = p.1 }) (λ _. refl)
-
-abbrev pub pieces_code : Coded PieceFiles
-pieces_code =
-    code_by (MemoryFiles × ℕ) (coded× files_code coded_ℕ)
-    (λ p. (p.inner, p.faults)) (λ q. record { inner = q.0; faults = q.1 }) (λ _. refl)

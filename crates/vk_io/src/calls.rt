@@ -1,6 +1,7 @@
-ghost use Rattle.std.specs.Prelude.{◌≡◌, ◌≤◌, ◌++◌, [], ◌∷◌, OnOk, OnErr};
-ghost use Rattle.vk_io.specs.Faults.{fails_next, after_call};
+ghost use Rattle.std.specs.Prelude.{◌≡◌, ◌↔◌, [], OnOk, OnErr, IfErr, IsErr, IsTrue};
+ghost use Rattle.vk_io.specs.Faults.{Causes, fails_next, fails_too, after_call};
 
+use crate::errors::OutsideErr;
 use std::alloc::Global;
 use std::marker::Model;
 use vk_residue::NoMemory;
@@ -36,18 +37,30 @@ impl CallCount {
 
     /// Has the call of that number fail. Errs for want of memory alone, and then nothing changed.
     pub fn name(&mut self, call: u64) -> Result<(), NoMemory>
-        ensures named { OnOk result (self.new ≡ record self.old { failing = self.old.failing ++ call ∷ [] }) }
+        ensures named { OnOk result (self.new ≡ fails_too call self.old) }
         ensures refused { OnErr result (self.new ≡ self.old) }
     {
         self.failing.push(call)?;
         Ok(())
     }
 
+    /// Begins one call, which is counted. Errs where it is one that is to fail.
+    pub fn begin(&mut self) -> Result<(), OutsideErr>
+        ensures fails { IsErr result ↔ IsTrue (fails_next self.old) }
+        ensures outside { IfErr result (λ refusal. refusal ≡ OutsideErr.Failed) }
+        ensures counted { self.new ≡ after_call self.old }
+        ensures causes { Causes OutsideErr.Failed result self.old.faults self.new.faults }
+    {
+        if self.count() {
+            return Err(OutsideErr::Failed);
+        }
+        Ok(())
+    }
+
     /// Counts one call, and says whether it is to fail.
-    pub fn count(&mut self) -> bool
+    fn count(&mut self) -> bool
         ensures fails { result ≡ fails_next self.old }
         ensures counted { self.new ≡ after_call self.old }
-        ensures later { self.old.faults ≤ self.new.faults }
     {
         self.made = self.made.saturating_add(1);
         let fails = self.failing.contains(&self.made);

@@ -1,4 +1,6 @@
-use crate::outcome::Fault;
+ghost use Rattle.std.specs.Prelude.{◌≡◌};
+ghost use Rattle.vk_io.specs.Faults.{told_as};
+
 use thiserror::Error;
 use vk_residue::NoMemory;
 
@@ -14,7 +16,6 @@ pub enum OutsideErr {
 }
 
 impl From<NoMemory> for OutsideErr {
-    ghost use Rattle.std.specs.Prelude.{◌≡◌};
     ghost use Rattle.vk_io.specs.declared.errors.OutsideErr.TheVariants.{NoMemory};
 
     ghost from_gives = { λ _ e. e ≡ NoMemory };
@@ -24,13 +25,15 @@ impl From<NoMemory> for OutsideErr {
     }
 }
 
-impl From<Fault> for OutsideErr {
-    ghost use Rattle.std.specs.Prelude.{◌≡◌};
-    ghost use Rattle.vk_io.specs.declared.errors.OutsideErr.TheVariants.{Failed};
-
-    ghost from_gives = { λ _ e. e ≡ Failed };
-
-    fn from(_counted: Fault) -> OutsideErr {
-        OutsideErr::Failed
+impl OutsideErr {
+    /// The same refusal in the words of another error: its word for a fault of the outside, or its
+    /// word for want of memory.
+    pub fn told_as<E: Drop>(self, failed: E, no_memory: E) -> E
+        ensures { result ≡ told_as failed no_memory self }
+    {
+        match self {
+            OutsideErr::Failed => failed,
+            OutsideErr::NoMemory => no_memory,
+        }
     }
 }

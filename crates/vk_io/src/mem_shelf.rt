@@ -1,6 +1,6 @@
 ghost use Rattle.std.specs.Prelude.{◌≡◌, ℕ, ◌+◌, ◌≤◌, ◌++◌, ◌↔◌, [], ◌∷◌, length, drop, Option, Some, Ok, Err, option_map, option_copied, IfSome, IfOk, OnOk, OnErr, IsErrOf, MatchResult, IsTrue, if◌then◌else◌};
 ghost use Rattle.std.specs.FinMap as map;
-ghost use Rattle.vk_io.specs.Faults.{Causes, fails_next, after_call};
+ghost use Rattle.vk_io.specs.Faults.{Causes, fails_next, fails_too, after_call};
 ghost use Rattle.vk_io.specs.Files.{bytes_of, part_of, Told, Creates, Appends};
 ghost use Rattle.vk_io.specs.declared.errors.OutsideErr.TheVariants.{Failed};
 
@@ -67,8 +67,7 @@ impl MemShelf {
     /// Has the call of that number fail, counted from 1 over the shelf's life. Errs for want of
     /// memory alone, and then nothing changed.
     pub fn fail_at(&mut self, call: u64) -> Result<(), NoMemory>
-        ensures named { OnOk result
-            (self.new ≡ record self.old { calls = record self.old.calls { failing = self.old.calls.failing ++ call ∷ [] } }) }
+        ensures named { OnOk result (self.new ≡ record self.old { calls = fails_too call self.old.calls }) }
         ensures refused { OnErr result (self.new ≡ self.old) }
     {
         self.calls.name(call)?;
@@ -90,9 +89,7 @@ impl Shelf for MemShelf {
         ensures counted { self.new.calls ≡ after_call self.old.calls }
         ensures causes { Causes OutsideErr.Failed result self.old.calls.faults self.new.calls.faults }
     {
-        if self.calls.count() {
-            return Err(OutsideErr::Failed);
-        }
+        self.calls.begin()?;
         Ok(length_in(&self.files, name))
     }
 
@@ -106,9 +103,7 @@ impl Shelf for MemShelf {
         ensures counted { self.new.calls ≡ after_call self.old.calls }
         ensures causes { Causes OutsideErr.Failed result self.old.calls.faults self.new.calls.faults }
     {
-        if self.calls.count() {
-            return Err(OutsideErr::Failed);
-        }
+        self.calls.begin()?;
         Ok(read_in(&self.files, name, at, into))
     }
 
@@ -119,9 +114,7 @@ impl Shelf for MemShelf {
         ensures counted { self.new.calls ≡ after_call self.old.calls }
         ensures causes { Causes OutsideErr.Failed result self.old.calls.faults self.new.calls.faults }
     {
-        if self.calls.count() {
-            return Err(OutsideErr::Failed);
-        }
+        self.calls.begin()?;
         write_over(self.alloc, &mut self.files, name, Vec::new(self.alloc))?;
         Ok(())
     }
@@ -134,9 +127,7 @@ impl Shelf for MemShelf {
         ensures counted { self.new.calls ≡ after_call self.old.calls }
         ensures causes { Causes OutsideErr.Failed result self.old.calls.faults self.new.calls.faults }
     {
-        if self.calls.count() {
-            return Err(OutsideErr::Failed);
-        }
+        self.calls.begin()?;
         append_to(self.alloc, &mut self.files, name, piece)?;
         Ok(())
     }

@@ -1,5 +1,5 @@
 ghost use Rattle.std.specs.Prelude.{◌≡◌, ℕ, ◌≤◌, ◌++◌, ◌↔◌, [], ◌∷◌, OnOk, OnErr, IsErrOf, IsTrue};
-ghost use Rattle.vk_io.specs.Faults.{Causes, fails_next, after_call};
+ghost use Rattle.vk_io.specs.Faults.{Causes, fails_next, fails_too, after_call};
 ghost use Rattle.vk_io.specs.Files.{Told, Takes};
 
 use crate::calls::CallCount;
@@ -47,8 +47,7 @@ impl MemSink {
     /// Has the `put` of that number fail, counted from 1 over the sink's life. Errs for want of
     /// memory alone, and then nothing changed.
     pub fn fail_at(&mut self, call: u64) -> Result<(), NoMemory>
-        ensures named { OnOk result
-            (self.new ≡ record self.old { calls = record self.old.calls { failing = self.old.calls.failing ++ call ∷ [] } }) }
+        ensures named { OnOk result (self.new ≡ record self.old { calls = fails_too call self.old.calls }) }
         ensures refused { OnErr result (self.new ≡ self.old) }
     {
         self.calls.name(call)?;
@@ -70,9 +69,7 @@ impl Sink for MemSink {
         ensures counted { self.new.calls ≡ after_call self.old.calls }
         ensures causes { Causes OutsideErr.Failed result self.old.calls.faults self.new.calls.faults }
     {
-        if self.calls.count() {
-            return Err(OutsideErr::Failed);
-        }
+        self.calls.begin()?;
         put_behind(&mut self.taken, piece)?;
         Ok(())
     }

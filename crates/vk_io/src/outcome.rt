@@ -1,24 +1,21 @@
-ghost use Rattle.std.specs.Prelude.{◌≡◌, Ok, IfOk, IsErr, OnErr};
+ghost use Rattle.std.specs.Prelude.{◌≡◌, Ok, Err, IfOk, OnErr};
 ghost use Rattle.vk_io.specs.Faults.{one_more};
 
+use crate::errors::OutsideErr;
 use std::io;
 
-/// An error of the system. It was counted.
-#[derive(Clone, Copy, Debug, PartialEq, Eq)]
-pub struct Fault;
-
 /// What an outcome of the system is to its caller: an error is counted, and nothing else is.
-pub fn counted<T>(outcome: io::Result<T>, faults: &mut u64) -> Result<T, Fault>
+pub fn counted<T>(outcome: io::Result<T>, faults: &mut u64) -> Result<T, OutsideErr>
     ensures value { IfOk outcome (λ value. result ≡ Ok value) }
     ensures kept { IfOk outcome (λ value. faults.new ≡ faults.old) }
-    ensures fault { OnErr outcome (IsErr result) }
+    ensures fault { OnErr outcome (result ≡ Err OutsideErr.Failed) }
     ensures counted { OnErr outcome (faults.new ≡ one_more faults.old) }
 {
     match outcome {
         Ok(value) => Ok(value),
         Err(_) => {
             *faults = faults.saturating_add(1);
-            Err(Fault)
+            Err(OutsideErr::Failed)
         }
     }
 }

@@ -6,7 +6,6 @@ ghost use Rattle.vk_io.specs.Files.{bytes_of, part_of, Creates, Appends};
 use crate::errors::OutsideErr;
 use crate::mem_shelf::MemShelf;
 use crate::shelf::Shelf;
-use std::marker::Model;
 
 /// The most bytes that are read at once.
 const MOST_READ: usize = 4096;
@@ -23,20 +22,11 @@ pub struct PieceShelf {
     faults: u64,
 }
 
-impl Model for PieceShelf {
-    ghost use Rattle.vk_io.specs.Memory.{PieceFiles, pieces_code};
-
-    ghost Value = { PieceFiles };
-
-    ghost coded = { pieces_code };
-
-    ghost view = { λ s. record { inner = s.inner; faults = s.faults } };
-}
-
 impl PieceShelf {
     /// Over the files of that shelf, with no faults of its own yet.
     pub fn over(inner: MemShelf) -> PieceShelf
-        ensures { result ≡ record { inner = inner; faults = 0 } }
+        ensures inner { result.inner ≡ inner }
+        ensures faults { result.faults ≡ 0 }
     {
         PieceShelf { inner, faults: 0 }
     }
@@ -50,7 +40,8 @@ impl PieceShelf {
 
     /// Counts a fault.
     fn fault(&mut self) -> OutsideErr
-        ensures counted { self.new ≡ record self.old { faults = one_more self.old.faults } }
+        ensures inner { self.new.inner ≡ self.old.inner }
+        ensures counted { self.new.faults ≡ one_more self.old.faults }
         ensures fault { result ≡ OutsideErr.Failed }
     {
         self.faults = self.faults.saturating_add(1);

@@ -46,7 +46,7 @@ below_everywhere bytes all i =
       | inr past ↦ omega (arith, get_or_past bytes i 0 past)
     ]
 
-key_is_bytes : (ahead : ℕ → ℕ) → AreBytes 32 (drawn_key ahead)
+pub key_is_bytes : (ahead : ℕ → ℕ) → AreBytes 32 (drawn_key ahead)
 key_is_bytes ahead =
     let below : ℕ → Type 0 = λ byte. byte < 256 in
     let word = λ (k : ℕ). to_be_bytes w64 (ahead k) in
@@ -62,12 +62,12 @@ residue_from : (drawn rest : Option ℕ) (word r : ℕ) → drawn_by word ≡ dr
 residue_from None rest word r none later found = later found
 residue_from (Some x) rest word r some later found = word_is_residue word r (some ∙ found)
 
-residue_is : (count : ℕ) (ahead : ℕ → ℕ) (r : ℕ) → residue_within count ahead ≡ Some r → IsResidue r
+pub residue_is : (count : ℕ) (ahead : ℕ → ℕ) (r : ℕ) → residue_within count ahead ≡ Some r → IsResidue r
 residue_is zero ahead r is = cc
 residue_is (suc more) ahead r is =
     residue_from (drawn_by (ahead 0)) (residue_within more (later 1 ahead)) (ahead 0) r refl (residue_is more (later 1 ahead) r) is
 
-of_some : {X Y : Type 0} (f : X → Y) (o : Option X) (y : Y) → option_map f o ≡ Some y → (x : X) × (o ≡ Some x) × (f x ≡ y)
+pub of_some : {X Y : Type 0} (f : X → Y) (o : Option X) (y : Y) → option_map f o ≡ Some y → (x : X) × (o ≡ Some x) × (f x ≡ y)
 of_some f None y is = cc
 of_some f (Some x) y is = (x, refl, cc)
 

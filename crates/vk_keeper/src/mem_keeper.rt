@@ -1,6 +1,6 @@
 ghost use Rattle.std.specs.Prelude.{◌≡◌, ◌++◌, ◌↔◌, [], ◌∷◌, IfSome, IfOk, IfErr, OnOk, OnErr, IsErr, IsErrOf, IsTrue};
 ghost use Rattle.std.specs.FinMap as map;
-ghost use Rattle.vk_io.specs.Faults.{Causes, fails_next, after_call};
+ghost use Rattle.vk_io.specs.Faults.{Causes, fails_next, fails_too, after_call};
 ghost use Rattle.vk_keeper.specs.Auctions.{IsAuction};
 ghost use Rattle.vk_keeper.specs.Ledgers.{IsLedger};
 ghost use Rattle.vk_keeper.specs.Turns.{AfterGet, AfterPut};
@@ -59,8 +59,7 @@ impl MemKeeper {
     /// Has the call of that number fail, counted from 1 over the keeper's life. Errs for want of
     /// memory alone, and then nothing changed.
     pub fn fail_at(&mut self, call: u64) -> Result<(), NoMemory>
-        ensures named { OnOk result
-            (self.new ≡ record self.old { calls = record self.old.calls { failing = self.old.calls.failing ++ call ∷ [] } }) }
+        ensures named { OnOk result (self.new ≡ record self.old { calls = fails_too call self.old.calls }) }
         ensures refused { OnErr result (self.new ≡ self.old) }
     {
         self.calls.name(call)?;
@@ -75,9 +74,7 @@ impl MemKeeper {
         ensures counted { self.new ≡ record self.old { calls = after_call self.old.calls } }
         ensures causes { Causes OutsideErr.Failed result self.old.calls.faults self.new.calls.faults }
     {
-        if self.calls.count() {
-            return Err(OutsideErr::Failed);
-        }
+        self.calls.begin()?;
         Ok(())
     }
 }

@@ -5,7 +5,6 @@ use Rattle.std.proofs.lemmas.Bool.{cases_lt, cases_Bool, eqb-true}
 use Rattle.std.specs.Result.{result_err}
 use Rattle.std.proofs.lemmas.Bool.Decides.{nat_tests}
 use Rattle.std.proofs.lemmas.List.{length-take-le, nil_from_length}
-use Rattle.std.proofs.lemmas.List.Splits.{slice_split_first}
 use Rattle.vk_lines.specs.declared.errors.ReadErr.{ReadErr}
 use Rattle.vk_lines.specs.declared.errors.ReadErr.TheVariants.{Malformed, Failed, NoMemory}
 use Rattle.vk_lines.specs.declared.step.Step.{Step}
@@ -14,35 +13,10 @@ use Rattle.vk_lines.specs.Lines.{Rest, ◌>>=◌, feed_at, step_of, step_by, tex
 use Rattle.vk_lines.specs.Forms.{Table, Follows, Ends, fault_after, fault_at, fault_from, fault_line, many_onto, whole, IsWhole, FaultsAllButTexts, Answers}
 use Rattle.vk_lines.specs.Tokens.{word_of}
 use Rattle.vk_lines.proofs.Parts.{bind_ok, ok_same}
+use Rattle.vk_lines.proofs.Pieces.{other_pieces, pieces, pieces_feed, pieces_none, text_tells}
 use Rattle.vk_lines.proofs.Words.{split_some}
 
--- ---- the pieces between line feeds
-
-abbrev pieces : List ℕ → List (List ℕ)
-pieces left = slice_split (λ byte. byte == 10) left
-
--- the first line and what is left after it
-pieces_feed : (left : List ℕ) → feed_at left < length left → pieces left ≡ take (feed_at left) left ∷ pieces (drop (feed_at left + 1) left)
-pieces_feed left within = slice_split_first (λ byte. byte == 10) left 0 within
-
--- no line feed
-pieces_none : (left : List ℕ) → length left ≤ feed_at left → pieces left ≡ left ∷ []
-pieces_none [] none = refl
-pieces_none (b ∷ left) none =
-    elim (cases_Bool (b == 10)) [
-      | inl feed ↦ absurd (grind (arith, nat_tests))
-      | inr other ↦
-          let rest = pieces_none left (grind (arith, nat_tests)) in
-          rw (other, rest) refl
-    ]
-
 -- ---- one line
-
-text_tells : (feed count : ℕ) → step_by feed count ≡ Text → (feed < 256) × (feed < count)
-text_tells feed count text = (grind (arith, nat_tests), grind (arith, nat_tests))
-
-not_text_tells : (feed count : ℕ) → (step_by feed count ≡ Text → ⊥) → feed < count → 256 ≤ feed
-not_text_tells feed count other within = grind (arith, nat_tests)
 
 from_text : {Place : Type 0} (table : Table Place) (place : Place) (taken : ℕ) (text piece : List ℕ) (more : List (List ℕ)) → nat_lt (length text) 256 ≡ true
     → fault_from table place taken (text ∷ piece ∷ more) ≡ fault_after (taken + 1) (λ after. fault_from table after (taken + 1) (piece ∷ more)) (table.next place text)
@@ -82,16 +56,8 @@ other_fault : {Place : Type 0} (table : Table Place) (place : Place) (rest : Res
     → fault_at table place rest ≡ Some (rest.taken + 1)
 unfolding fault_at
 other_fault table place rest other open_ =
-    elim (cases_lt (feed_at rest.left) (length rest.left)) [
-      | inl within ↦
-          let far = not_text_tells (feed_at rest.left) (length rest.left) other within in
-          let line : List ℕ = take (feed_at rest.left) rest.left in
-          let some = split_some 10 (drop (feed_at rest.left + 1) rest.left) in
-          let same : length line ≡ feed_at rest.left = length-take-le (feed_at rest.left) rest.left (omega arith) in
-          ap (fault_from table place rest.taken) (pieces_feed rest.left within ∙ ap (λ ps. line ∷ ps) some.2)
-          ∙ from_long table place rest.taken line some.0 some.1 (long_is (length line) (omega arith))
-      | inr none ↦ ap (fault_from table place rest.taken) (pieces_none rest.left none) ∙ from_last table place rest.taken rest.left open_
-    ]
+    other_pieces (fault_from table place rest.taken) (Some (rest.taken + 1)) rest.left other
+    (λ line piece more long. from_long table place rest.taken line piece more (long_is (length line) long)) (from_last table place rest.taken rest.left open_)
 
 over_last : {Place : Type 0} (table : Table Place) (place : Place) (taken : ℕ) → table.over place ≡ true → fault_from table place taken ([] ∷ []) ≡ None
 over_last table place taken over = rw over refl

@@ -1,5 +1,5 @@
 -- Lower-case hexadecimal: writing byte by byte, and both directions between bytes and their text.
-use Rattle.std.proofs.Common.{◌≡◌, ℕ, suc, ◌+◌, ◌-◌, ◌*◌, ◌/◌, ◌%◌, ◌<◌, ◌≤◌, nat_lt, Bool, true, false, ◌&&◌, if◌then◌else◌, inl, inr, List, [], ◌∷◌, ◌++◌, length, take, get_or, slice_index, Option, Some, None, Result, Ok, Err, refl, ap, sym, ◌∙◌, arith, rules, append_assoc}
+use Rattle.std.proofs.Common.{◌≡◌, ℕ, suc, ◌+◌, ◌-◌, ◌*◌, ◌/◌, ◌%◌, ◌<◌, ◌≤◌, nat_lt, Bool, true, false, ◌&&◌, if◌then◌else◌, inl, inr, List, [], ◌∷◌, ◌++◌, length, take, drop, get_or, slice_index, Option, Some, None, Result, Ok, Err, refl, ap, sym, ◌∙◌, arith, rules, append_assoc}
 use Rattle.std.specs.List.{list_all}
 use Rattle.std.specs.Option.{IfSome}
 use Rattle.std.specs.Result.{result_ok}
@@ -9,22 +9,27 @@ use Rattle.std.proofs.lemmas.List.{take_more, take_all}
 use Rattle.std.proofs.lemmas.List.Folds.{list_all_at}
 use Rattle.std.proofs.lemmas.Grind.{common_steps, take-set_at}
 use Rattle.std.proofs.Math.ListN.{set}
+use Rattle.std.proofs.Math.Seq.{take-add}
 use Rattle.hex.specs.Hex.{IsBytes, encode_with, lower_digits, decode_of, decode_pairs, decode_sized, digit_or_error, hex_digit_value, pair_value, value_at}
 use Rattle.hex.specs.declared.error.FromHexError.{FromHexError}
 use Rattle.hex.proofs.HexLemmas.{length-encode_with, decode_of-even, decode_of-ok, decode_sized-ok, decode_sized-twice, decode_sized-encode_lower}
 use Rattle.hex.proofs.Pairs.{cons_byte, decode_pairs-ok_pair}
 use Rattle.vk_lines.specs.Tokens.{hex_text, hex_of, is_lower_digit, digit_value, ReadsHex}
 
+encode_with-append : (table bytes more : List ℕ) → encode_with table (bytes ++ more) ≡ encode_with table bytes ++ encode_with table more
+unfolding encode_with
+encode_with-append table [] more = refl
+encode_with-append table (x ∷ bytes) more = ap (λ rest. slice_index table (x / 16) ∷ slice_index table (x % 16) ∷ rest) (encode_with-append table bytes more)
+
 encode_with-push : (table bytes : List ℕ) (b : ℕ)
     → encode_with table (bytes ++ b ∷ []) ≡ encode_with table bytes ++ slice_index table (b / 16) ∷ slice_index table (b % 16) ∷ []
 unfolding encode_with
-encode_with-push table [] b = refl
-encode_with-push table (x ∷ bytes) b = ap (λ rest. slice_index table (x / 16) ∷ slice_index table (x % 16) ∷ rest) (encode_with-push table bytes b)
+encode_with-push table bytes b = encode_with-append table bytes (b ∷ [])
 
--- one more byte
-pub hex_text_more : (bytes : List ℕ) (i : ℕ) → i < length bytes
-    → hex_text (take (i + 1) bytes) ≡ hex_text (take i bytes) ++ slice_index lower_digits (get_or bytes i 0 / 16) ∷ slice_index lower_digits (get_or bytes i 0 % 16) ∷ []
-hex_text_more bytes i within = ap (encode_with lower_digits) (take_more bytes i 0 within) ∙ encode_with-push lower_digits (take i bytes) (get_or bytes i 0)
+-- a piece more
+pub hex_text_more : (bytes : List ℕ) (written count : ℕ)
+    → hex_text (take (written + count) bytes) ≡ hex_text (take written bytes) ++ hex_text (take count (drop written bytes))
+hex_text_more bytes written count = ap hex_text (take-add written count bytes) ∙ encode_with-append lower_digits (take written bytes) (take count (drop written bytes))
 
 -- no bytes have the empty text
 pub hex_text_none : (bytes : List ℕ) → bytes ≡ [] → hex_text bytes ≡ []

@@ -6,6 +6,7 @@ pub mod Hexadecimal
 pub mod Loops
 pub mod Numbered
 pub mod Parts
+pub mod Pieces
 pub mod Residues
 pub mod Slices
 pub mod Told

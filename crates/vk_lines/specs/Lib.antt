@@ -1,5 +1,4 @@
 pub mod Buffers
-pub mod Causes
 pub mod Forms
 pub mod Gives
 pub mod Lines

@@ -12,6 +12,7 @@ use Rattle.vk_lines.specs.declared.step.Step.{Step}
 use Rattle.vk_lines.specs.declared.step.Step.TheVariants.{Text, End, Long, Cut}
 use Rattle.vk_lines.specs.Tokens.{word_of}
 use Rattle.vk_lines.specs.Gives.{Gives}
+pub use Rattle.vk_io.specs.Reads.{OnlyReads}
 pub use Rattle.vk_lines.specs.Gives.{◌>>=◌}
 
 -- what is left of a file: how many lines of it were taken, and the bytes after them

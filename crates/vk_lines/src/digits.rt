@@ -1,6 +1,6 @@
 //! Bytes as lower-case hexadecimal.
 
-ghost use Rattle.std.specs.Prelude.{◌≡◌, ◌↔◌, ◌*◌, IsTrue, ◌++◌, ◌<◌, length, slice_index, Some, None, if◌then◌else◌, OnErr, OnOk};
+ghost use Rattle.std.specs.Prelude.{◌≡◌, ◌↔◌, ◌*◌, IsTrue, ◌++◌, ◌<◌, ◌≤◌, length, slice_index, Some, None, if◌then◌else◌, OnErr, OnOk};
 ghost use Rattle.hex.specs.Hex.{lower_digits};
 ghost use Rattle.vk_lines.specs.Tokens.{hex_of, hex_text, digit_value, ReadsHex};
 
@@ -30,11 +30,7 @@ pub fn read_hex16(text: &[u8]) -> Option<[u8; 16]>
     ensures exact { ReadsHex 16 text.now result }
 {
     let mut bytes = [0; 16];
-    if read_hex(text, &mut bytes) {
-        Some(bytes)
-    } else {
-        None
-    }
+    read_hex(text, &mut bytes).then_some(bytes)
 }
 
 /// The 32 bytes that 64 lower-case hexadecimal digits write; `None` for any other text.
@@ -43,11 +39,7 @@ pub fn read_hex32(text: &[u8]) -> Option<[u8; 32]>
     ensures exact { ReadsHex 32 text.now result }
 {
     let mut bytes = [0; 32];
-    if read_hex(text, &mut bytes) {
-        Some(bytes)
-    } else {
-        None
-    }
+    read_hex(text, &mut bytes).then_some(bytes)
 }
 
 /// Reads lower-case hexadecimal into the whole of `bytes`; false where the text is anything else.
@@ -88,14 +80,52 @@ pub fn push_hex(out: &mut Vec<u8>, bytes: &[u8]) -> Result<(), NoMemory>
     ensures err { OnErr result (out.new.items ≡ out.old.items) }
 {
     let before = out.len();
-    for byte in bytes {
-        let pair = [hex_digit(*byte / 16), hex_digit(*byte % 16)];
-        if out.extend_from_slice(&pair).is_err() {
+    let mut written = 0;
+    while written < bytes.len() {
+        let (_, rest) = bytes.split_at(written);
+        let (piece, _) = rest.split_at(at_most_32(rest.len()));
+        if push_piece(out, piece).is_err() {
             out.truncate(before);
             return Err(NoMemory);
         }
+        written += piece.len();
     }
     Ok(())
+}
+
+/// The length of a piece that is taken of so many bytes.
+fn at_most_32(length: usize) -> usize
+    ensures some { 0 < length → 0 < result }
+    ensures within { result ≤ length }
+    ensures short { result ≤ 32 }
+{
+    if length < 32 { length } else { 32 }
+}
+
+/// Appends the digits of at most 32 bytes, all at once. After `NoMemory`, `out` is as before.
+fn push_piece(out: &mut Vec<u8>, bytes: &[u8]) -> Result<(), NoMemory>
+    requires { length bytes.now ≤ 32 }
+    ensures ok { OnOk result (out.new.items ≡ out.old.items ++ hex_text bytes.now) }
+    ensures err { OnErr result (out.new.items ≡ out.old.items) }
+{
+    let mut digits = [0; 64];
+    let (text, _) = digits.split_at_mut(2 * bytes.len());
+    write_hex(bytes, text);
+    if out.extend_from_slice(text).is_err() {
+        return Err(NoMemory);
+    }
+    Ok(())
+}
+
+/// Writes two digits for each byte.
+fn write_hex(bytes: &[u8], text: &mut [u8])
+    requires { length text.old ≡ 2 * length bytes.now }
+    ensures { text.new ≡ hex_text bytes.now }
+{
+    for index in 0..bytes.len() {
+        text[2 * index] = hex_digit(bytes[index] / 16);
+        text[2 * index + 1] = hex_digit(bytes[index] % 16);
+    }
 }
 
 /// The character of a hexadecimal digit, in lower case.

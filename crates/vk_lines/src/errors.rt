@@ -1,3 +1,8 @@
+ghost use Rattle.std.specs.Prelude.{◌≡◌};
+ghost use Rattle.vk_io.specs.Faults.{told_as};
+ghost use Rattle.vk_lines.specs.declared.errors.ReadErr.TheVariants as unread;
+ghost use Rattle.vk_lines.specs.declared.errors.StartErr.TheVariants as unstarted;
+
 use std::alloc::{AllocError, AllocFailed};
 use vk_io::OutsideErr;
 
@@ -29,10 +34,7 @@ pub enum ReadErr {
 }
 
 impl From<AllocError> for StartErr {
-    ghost use Rattle.std.specs.Prelude.{◌≡◌};
-    ghost use Rattle.vk_lines.specs.declared.errors.StartErr.TheVariants.{NoMemory};
-
-    ghost from_gives = { λ _ e. e ≡ NoMemory };
+    ghost from_gives = { λ _ e. e ≡ unstarted.NoMemory };
 
     fn from(_refused: AllocError) -> StartErr {
         StartErr::NoMemory
@@ -40,38 +42,23 @@ impl From<AllocError> for StartErr {
 }
 
 impl From<OutsideErr> for StartErr {
-    ghost use Rattle.std.specs.Prelude.{◌≡◌};
-    ghost use Rattle.vk_lines.specs.Causes.{start_err_of};
-
-    ghost from_gives = { λ refused e. e ≡ start_err_of refused };
+    ghost from_gives = { λ refused e. e ≡ told_as unstarted.Failed unstarted.NoMemory refused };
 
     fn from(refused: OutsideErr) -> StartErr {
-        match refused {
-            OutsideErr::Failed => StartErr::Failed,
-            OutsideErr::NoMemory => StartErr::NoMemory,
-        }
+        refused.told_as(StartErr::Failed, StartErr::NoMemory)
     }
 }
 
 impl From<OutsideErr> for ReadErr {
-    ghost use Rattle.std.specs.Prelude.{◌≡◌};
-    ghost use Rattle.vk_lines.specs.Causes.{read_err_of};
-
-    ghost from_gives = { λ refused e. e ≡ read_err_of refused };
+    ghost from_gives = { λ refused e. e ≡ told_as unread.Failed unread.NoMemory refused };
 
     fn from(refused: OutsideErr) -> ReadErr {
-        match refused {
-            OutsideErr::Failed => ReadErr::Failed,
-            OutsideErr::NoMemory => ReadErr::NoMemory,
-        }
+        refused.told_as(ReadErr::Failed, ReadErr::NoMemory)
     }
 }
 
 impl<T: Drop> From<AllocFailed<T>> for ReadErr {
-    ghost use Rattle.std.specs.Prelude.{◌≡◌};
-    ghost use Rattle.vk_lines.specs.declared.errors.ReadErr.TheVariants.{NoMemory};
-
-    ghost from_gives = { λ _ e. e ≡ NoMemory };
+    ghost from_gives = { λ _ e. e ≡ unread.NoMemory };
 
     fn from(_refused: AllocFailed<T>) -> ReadErr {
         ReadErr::NoMemory

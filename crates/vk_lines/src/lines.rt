@@ -1,11 +1,10 @@
 ghost use Rattle.std.specs.Prelude.{◌≡◌, ◌≢◌, ◌+◌, ◌-◌, ◌^◌, ◌<◌, ◌≤◌, [], length, take, drop, min, Ok, option_map, ok_or, IfSome, IfOk, OnErr};
 ghost use Rattle.std.specs.FinMap as map;
 ghost use Rattle.hex.specs.Hex.{IsBytes};
-ghost use Rattle.vk_io.specs.Reads.{OnlyReads};
 ghost use Rattle.vk_io.specs.Files.{Files, bytes_of, part_of};
 ghost use Rattle.vk_lines.specs.Tokens.{word_of, number_line, id_line};
 ghost use Rattle.vk_lines.specs.Buffers.{HasLooked, after_step};
-ghost use Rattle.vk_lines.specs.Lines.{Starts, KeepsFile, IsBefore, IsBegun, Reads, ReadsPart, IsNext, line_by, text_at, rest_of, unread, feed_at, step_by, step_of, none_left, value_at, is_text, is_end, answer_by, end_at, LinesValue};
+ghost use Rattle.vk_lines.specs.Lines.{Starts, KeepsFile, IsBefore, IsBegun, Reads, ReadsPart, IsNext, LinesValue, OnlyReads, line_by, text_at, rest_of, unread, feed_at, step_by, step_of, none_left, value_at, is_text, is_end, answer_by, end_at};
 
 use crate::buffer::{Buffer, MOST_LINE};
 use crate::cutting::read_word;

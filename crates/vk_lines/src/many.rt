@@ -1,9 +1,8 @@
 //! So many lines of a kind, one after another.
 
 ghost use Rattle.std.specs.Prelude.{◌≡◌, ◌<◌, ◌≤◌, length, IfOk};
-ghost use Rattle.vk_io.specs.Reads.{OnlyReads};
 ghost use Rattle.vk_lines.specs.Forms.{EachNumbered, many_at};
-ghost use Rattle.vk_lines.specs.Lines.{KeepsFile, ReadsPart, line_by};
+ghost use Rattle.vk_lines.specs.Lines.{KeepsFile, OnlyReads, ReadsPart, line_by};
 ghost use Rattle.vk_lines.specs.declared.errors.ReadErr.TheVariants.{Failed};
 
 use crate::errors::ReadErr;

@@ -1,5 +1,5 @@
 -- Honest replies are accepted.
-use Rattle.std.proofs.Common.{◌≡◌, ℕ, ◌+◌, ◌<◌, ◌≤◌, Bool, List, [], length, drop, slice_index, slice_index_or, Ok, sym, ap, subst, ◌∙◌, arith, rules, zero-add, take, get_or-take}
+use Rattle.std.proofs.Common.{◌≡◌, ℕ, ◌+◌, ◌<◌, ◌≤◌, Bool, List, [], length, drop, slice_index, slice_index_or, Ok, refl, sym, ap, subst, ◌∙◌, arith, rules, zero-add, take, get_or-take}
 use Rattle.std.proofs.lemmas.Grind.{common_steps}
 use Rattle.std.proofs.lemmas.Bool.Decides.{nat_tests}
 use Rattle.std.proofs.lemmas.List.{get_or-map, length-map}
@@ -19,7 +19,7 @@ use Rattle.vk_row.specs.Lanes.{HasCounts, IsAcceptedLane, WireReads, RowHolds, n
 use Rattle.vk_row.specs.LaneTests.{checked_lane}
 use Rattle.vk_row.proofs.Whole.{accepted_ok}
 use Rattle.vk_prover.specs.Honest.{each_wire, com_of, shown_of, honest_coms, honest_posted, honest_lane, honest_case, honest_reply, honest_halves, masks, posted_on, no_tape}
-use Rattle.vk_prover.specs.Laws.{IsTapeOf}
+use Rattle.vk_prover.specs.Laws.{AreAccepted, AreChecked, ArePublished, InputsAreSealed, IsTapeOf, WhereHeld}
 use Rattle.vk_prover.proofs.Wires.{get_or-each_wire, length-each_wire, drop-each_wire, inputs_within}
 use Rattle.vk_prover.proofs.Halves.{row_has_side, length-honest_halves, get_or-honest_halves}
 
@@ -139,3 +139,21 @@ honest_lane_of plan seats values tape is_plan holds one_seat_each is =
 -- values that begin with the inputs have these in front
 pub input_at : (inputs values : List ℕ) (n input : ℕ) → take n values ≡ inputs → input < n → slice_index values input ≡ slice_index inputs input
 input_at inputs values n input begins lt = sym (get_or-take n values input 0 lt) ∙ ap (λ front. slice_index front input) begins
+
+-- ---- wherever values hold for a plan
+
+pub held_accepted : WhereHeld AreAccepted
+held_accepted plan values is_plan holds auction lane seats tape bit one_seat_each is =
+    honest_accepted plan auction lane seats values tape bit (honest_lane_of plan seats values tape is_plan holds one_seat_each is)
+
+pub held_checked : WhereHeld AreChecked
+held_checked plan values is_plan holds auction lane seats tape bit one_seat_each is =
+    honest_checked plan auction lane seats values tape bit (honest_lane_of plan seats values tape is_plan holds one_seat_each is)
+
+pub held_sealed : WhereHeld (λ plan values. InputsAreSealed values plan values)
+held_sealed plan values is_plan holds auction lane seats tape input one_seat_each is lt =
+    inputs_sealed plan auction lane seats values tape input (honest_lane_of plan seats values tape is_plan holds one_seat_each is) lt
+
+pub held_published : WhereHeld ArePublished
+held_published plan values is_plan holds auction lane seats tape one_seat_each is =
+    (coms_published plan auction lane seats values tape (honest_lane_of plan seats values tape is_plan holds one_seat_each is), refl)

@@ -1,7 +1,6 @@
 ghost use Rattle.std.specs.Prelude.{length, ◌≡◌, ◌<◌, ◌≤◌, slice_index_or, IfSome, IfOk};
-ghost use Rattle.vk_io.specs.Reads.{OnlyReads};
 ghost use Rattle.vk_lines.specs.Forms.{AnswersWhole};
-ghost use Rattle.vk_lines.specs.Lines.{KeepsFile, ReadsPart, line_by};
+ghost use Rattle.vk_lines.specs.Lines.{KeepsFile, OnlyReads, ReadsPart, line_by};
 ghost use Rattle.vk_lines.specs.declared.errors.ReadErr.TheVariants.{Failed};
 ghost use Rattle.vk_plan.specs.declared.wire.WireKind.TheVariants.{Split};
 ghost use Rattle.vk_reply.specs.Values.{AreShown, IsChallenge, IsShown};

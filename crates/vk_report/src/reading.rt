@@ -1,6 +1,5 @@
 ghost use Rattle.std.specs.Prelude.{◌≡◌, IfSome, IfOk, Ok};
-ghost use Rattle.vk_io.specs.Reads.{OnlyReads};
-ghost use Rattle.vk_lines.specs.Lines.{ReadsPart, rest_of};
+ghost use Rattle.vk_lines.specs.Lines.{OnlyReads, ReadsPart, rest_of};
 ghost use Rattle.vk_board.specs.Values.{IsHead};
 ghost use Rattle.vk_board.specs.Fronts.{IsFront};
 ghost use Rattle.vk_lines.specs.Gives.{Gives};
@@ -15,7 +14,7 @@ use vk_lines::{Lines, ReadErr};
 use vk_residue::NoMemory;
 
 /// How many wires each lane has, the inputs included.
-fn wire_count(head: &Head) -> u32
+pub fn wire_count(head: &Head) -> u32
     requires { IsHead head.now }
     ensures { result ≡ wire_count head.now.seals head.now.width }
 {
@@ -23,7 +22,7 @@ fn wire_count(head: &Head) -> u32
 }
 
 /// How many rows each lane has.
-fn row_count(head: &Head) -> u32
+pub fn row_count(head: &Head) -> u32
     requires { IsHead head.now }
     ensures { result ≡ row_count head.now.seals }
 {
@@ -80,7 +79,9 @@ fn read_board<S: Shelf>(
     ensures shelf { OnlyReads S.held S.Shelf.faults ReportErr.Failed result shelf.old shelf.new }
 {
     let front = read_front(alloc, shelf, lines)?;
-    let report = report_from(alloc, &front)?;
+    let Ok(report) = report_from(alloc, &front) else {
+        return Err(ReportErr::NoMemory);
+    };
     read_lanes(alloc, shelf, lines, &report).map_err(FrontErr::from)?;
     lines.read_end(shelf).map_err(FrontErr::from)?;
     Ok(report)

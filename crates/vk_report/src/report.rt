@@ -1,8 +1,8 @@
 ghost use Rattle.std.specs.Prelude.{◌≡◌};
+ghost use Rattle.vk_report.specs.Causes.{of_front, of_start};
 
 use vk_board::{FrontErr, Head};
-use vk_lines::StartErr;
-use vk_residue::NoMemory;
+use vk_lines::{ReadErr, StartErr};
 use vk_seq::Seq;
 
 /// What a board publishes.
@@ -36,19 +36,7 @@ pub enum ReportErr {
     NoMemory,
 }
 
-impl From<NoMemory> for ReportErr {
-    ghost use Rattle.vk_report.specs.declared.report.ReportErr.TheVariants.{NoMemory as OutOfMemory};
-
-    ghost from_gives = { λ _ e. e ≡ OutOfMemory };
-
-    fn from(_refused: NoMemory) -> ReportErr {
-        ReportErr::NoMemory
-    }
-}
-
 impl From<StartErr> for ReportErr {
-    ghost use Rattle.vk_report.specs.Causes.{of_start};
-
     ghost from_gives = { λ refused e. e ≡ of_start refused };
 
     fn from(refused: StartErr) -> ReportErr {
@@ -62,17 +50,15 @@ impl From<StartErr> for ReportErr {
 }
 
 impl From<FrontErr> for ReportErr {
-    ghost use Rattle.vk_report.specs.Causes.{of_front};
-
     ghost from_gives = { λ refused e. e ≡ of_front refused };
 
     fn from(refused: FrontErr) -> ReportErr {
         match refused {
-            FrontErr::Malformed { line } => ReportErr::Malformed { line },
+            FrontErr::Unread(ReadErr::Malformed { line }) => ReportErr::Malformed { line },
+            FrontErr::Unread(ReadErr::Failed) => ReportErr::Failed,
+            FrontErr::Unread(ReadErr::NoMemory) => ReportErr::NoMemory,
             FrontErr::Price => ReportErr::Price,
             FrontErr::Winner => ReportErr::Winner,
-            FrontErr::Failed => ReportErr::Failed,
-            FrontErr::NoMemory => ReportErr::NoMemory,
         }
     }
 }

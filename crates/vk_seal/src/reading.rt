@@ -1,11 +1,10 @@
 ghost use Rattle.std.specs.Prelude.{length, ◌≡◌, ◌<◌, ◌≤◌, ◌^◌, IfOk};
 ghost use Rattle.std.specs.List.{All};
-ghost use Rattle.vk_io.specs.Reads.{OnlyReads};
 ghost use Rattle.vk_commit.specs.Values.{AreBytes};
 ghost use Rattle.vk_wire.specs.Values.{IsCom};
 ghost use Rattle.vk_seal.specs.Values.{IsSeal, IsSecret, IsXTape};
 ghost use Rattle.vk_lines.specs.Forms.{AnswersWhole, EachNumbered};
-ghost use Rattle.vk_lines.specs.Lines.{KeepsFile, ReadsPart};
+ghost use Rattle.vk_lines.specs.Lines.{KeepsFile, OnlyReads, ReadsPart};
 ghost use Rattle.vk_lines.specs.declared.errors.ReadErr.TheVariants.{Failed};
 ghost use Rattle.vk_seal.specs.Texts.{seal_text, secret_text};
 ghost use Rattle.vk_seal.specs.Tables.{seal_table, secret_table};

@@ -30,11 +30,6 @@ use Rattle.vk_verifier.specs.declared.two_halt.TwoHalt.{TwoHalt}
 use Rattle.vk_verifier.specs.declared.two_halt.TwoHalt.TheVariants.{Found, Failed, NoMemory}
 use Rattle.vk_verifier.specs.Two.{as_second}
 
--- a failure of the outside, or want of memory
-abbrev pub verr_of : OutsideErr → VErr
-verr_of line.Failed = verr.Failed
-verr_of line.NoMemory = verr.NoMemory
-
 -- what was read of a file: a fault of its form is the verdict
 abbrev pub read_answer : {X : Type 0} → Part → Result X ReadErr → Result X Halt
 read_answer file (Ok x) = Ok x
@@ -45,11 +40,9 @@ read_answer file (Err read.NoMemory) = Err halt.NoMemory
 -- what was read of a board before its first lane: a fault of it is the verdict
 abbrev pub front_answer : {X : Type 0} → Result X FrontErr → Result X Halt
 front_answer (Ok x) = Ok x
-front_answer (Err (unread.Malformed line)) = Err (halt.Refused (Malformed part.Board line))
+front_answer (Err (unread.Unread fault)) = read_answer part.Board (Err fault)
 front_answer (Err unread.Price) = Err (halt.Refused Price)
 front_answer (Err unread.Winner) = Err (halt.Refused Winner)
-front_answer (Err unread.Failed) = Err halt.Failed
-front_answer (Err unread.NoMemory) = Err halt.NoMemory
 
 -- a file that is begun, or why it isn't
 abbrev pub begun_answer : Part → Result LinesValue StartErr → Result LinesValue VErr

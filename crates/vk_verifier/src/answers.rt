@@ -1,3 +1,7 @@
+ghost use Rattle.std.specs.Prelude.{◌≡◌};
+ghost use Rattle.vk_io.specs.Faults.{told_as};
+ghost use Rattle.vk_verifier.specs.declared.answers.VErr.TheVariants as verr;
+
 use vk_io::OutsideErr;
 use vk_wire::WireFault;
 
@@ -54,15 +58,9 @@ pub enum VErr {
 }
 
 impl From<OutsideErr> for VErr {
-    ghost use Rattle.std.specs.Prelude.{◌≡◌};
-    ghost use Rattle.vk_verifier.specs.Answers.{verr_of};
-
-    ghost from_gives = { λ outside e. e ≡ verr_of outside };
+    ghost from_gives = { λ outside e. e ≡ told_as verr.Failed verr.NoMemory outside };
 
     fn from(outside: OutsideErr) -> VErr {
-        match outside {
-            OutsideErr::Failed => VErr::Failed,
-            OutsideErr::NoMemory => VErr::NoMemory,
-        }
+        outside.told_as(VErr::Failed, VErr::NoMemory)
     }
 }

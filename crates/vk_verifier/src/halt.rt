@@ -55,17 +55,19 @@ pub fn in_front<X>(read: Result<X, FrontErr>) -> Result<X, Halt>
     ensures judged { (rest : Rest) (expected : Result (X × Rest) FrontFault)
         → Gives fault_of (λ x. (x, rest)) read expected → Judges (λ x. (x, rest)) result (in_front expected) }
     ensures value { IfOk result (λ x. read ≡ Ok x) }
-    ensures causes { (before : ℕ) (after : ℕ) → Causes FrontErr.Failed read before after → Causes Halt.Failed result before after }
+    ensures causes { (before : ℕ) (after : ℕ) → Causes (FrontErr.Unread ReadErr.Failed) read before after → Causes Halt.Failed result before after }
 {
     match read {
         Ok(value) => Ok(value),
-        Err(FrontErr::Malformed { line }) => Err(Halt::Refused(BoardVerdict::Malformed {
-            part: Part::Board,
-            line,
-        })),
+        Err(FrontErr::Unread(ReadErr::Malformed { line })) => {
+            Err(Halt::Refused(BoardVerdict::Malformed {
+                part: Part::Board,
+                line,
+            }))
+        }
+        Err(FrontErr::Unread(ReadErr::Failed)) => Err(Halt::Failed),
+        Err(FrontErr::Unread(ReadErr::NoMemory)) => Err(Halt::NoMemory),
         Err(FrontErr::Price) => Err(Halt::Refused(BoardVerdict::Price)),
         Err(FrontErr::Winner) => Err(Halt::Refused(BoardVerdict::Winner)),
-        Err(FrontErr::Failed) => Err(Halt::Failed),
-        Err(FrontErr::NoMemory) => Err(Halt::NoMemory),
     }
 }

@@ -3,8 +3,7 @@ ghost use Rattle.std.specs.Prelude.{◌≡◌, ◌≤◌, ◌+◌, ℕ, List, le
 ghost use Rattle.std.specs.FinMap as map;
 ghost use Rattle.vk_io.specs.Faults.{Causes};
 ghost use Rattle.vk_io.specs.Files.{Files};
-ghost use Rattle.vk_io.specs.Reads.{OnlyReads};
-ghost use Rattle.vk_lines.specs.Lines.{rest_of, Starts};
+ghost use Rattle.vk_lines.specs.Lines.{OnlyReads, Starts, rest_of};
 ghost use Rattle.vk_verifier.specs.declared.answers.BoardVerdict.{BoardVerdict};
 ghost use Rattle.vk_verifier.specs.Verdicts.{Judges, Gives, begun, counted, ends_judged, verdict_by, verdict_on};
 ghost use Rattle.vk_verifier.specs.Parts.{attempt_at, rest_judged, judged_in_parts};

@@ -1,7 +1,6 @@
 // The verdict on one lane.
 ghost use Rattle.std.specs.Prelude.{◌≡◌, ◌≤◌, ◌<◌, ◌+◌, ◌++◌, All, length, drop, IfSome, IfOk, OnOk, IsErrOf};
-ghost use Rattle.vk_io.specs.Reads.{OnlyReads};
-ghost use Rattle.vk_lines.specs.Lines.{rest_of};
+ghost use Rattle.vk_lines.specs.Lines.{OnlyReads, rest_of};
 ghost use Rattle.vk_board.specs.Fronts.{IsFront};
 ghost use Rattle.vk_row.specs.Lanes.{HasCounts, IsAccepted};
 ghost use Rattle.vk_row.specs.LaneTests.{checked_lane};

@@ -1,7 +1,6 @@
 // What two replies show of a lane, side by side.
 ghost use Rattle.std.specs.Prelude.{◌≡◌, ◌⊎◌, ◌≤◌, ◌<◌, ◌+◌, length, drop, Err, IsTrue, IsFalse, IsOk, OnOk, IfSome, IfOk, IfErr};
-ghost use Rattle.vk_io.specs.Reads.{OnlyReads};
-ghost use Rattle.vk_lines.specs.Lines.{rest_of, end_at};
+ghost use Rattle.vk_lines.specs.Lines.{OnlyReads, rest_of, end_at};
 ghost use Rattle.vk_row.specs.Lanes.{IsAccepted};
 ghost use Rattle.vk_verifier.specs.Verdicts.{Judges, in_part};
 ghost use Rattle.vk_verifier.specs.Parts.{reply_judged, attempt_at, rest_judged, Fits};

@@ -5,7 +5,8 @@ use Rattle.std.specs.Simd.Lanes.{zip2}
 use Rattle.vk_commit.specs.declared.place.Place.{Place}
 use Rattle.vk_wire.specs.declared.wire.Shown.{Shown}
 use Rattle.vk_wire.specs.declared.wire.Shown.TheVariants.{Half, Whole, Spent}
-use Rattle.vk_wire.specs.Opened.{entry_made, first_opened, last_opened, opens_two}
+use Rattle.vk_wire.specs.declared.hashing.Which.TheVariants.{First, Last}
+use Rattle.vk_wire.specs.Opened.{entry_made, opened_entry, opens_two}
 
 -- what holds of each list of four items
 list_of_four : {A : Type 0} (P : List A → Type 0) → ((a b c d : A) → P (a ∷ b ∷ c ∷ d ∷ [])) → (items : List A) → length items ≡ 4 → P items
@@ -32,7 +33,7 @@ zip2_four f s0 s1 s2 s3 places shown four_places four_shown =
 
 -- where no wire opens two entries, what is opened first is what is opened last
 pub firsts_are_lasts : (places : List Place) (shown : List Shown) (bit : Bool) → list_any opens_two shown ≡ false
-    → zip2 (λ place s. entry_made place (first_opened s bit)) places shown ≡ zip2 (λ place s. entry_made place (last_opened s bit)) places shown
+    → zip2 (λ place s. entry_made place (opened_entry s bit First)) places shown ≡ zip2 (λ place s. entry_made place (opened_entry s bit Last)) places shown
 firsts_are_lasts [] shown bit none = refl
 firsts_are_lasts (place ∷ places) [] bit none = refl
 firsts_are_lasts (place ∷ places) (Half opening ∷ shown) bit none =

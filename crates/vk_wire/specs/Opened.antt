@@ -7,19 +7,16 @@ use Rattle.vk_commit.specs.declared.place.Opening.{Opening}
 use Rattle.vk_wire.specs.declared.wire.Shown.{Shown}
 use Rattle.vk_wire.specs.declared.wire.Shown.TheVariants.{Half, Whole, Spent}
 use Rattle.vk_wire.specs.declared.wire.Opened.{Opened}
+use Rattle.vk_wire.specs.declared.hashing.Which.{Which}
+use Rattle.vk_wire.specs.declared.hashing.Which.TheVariants.{First, Last}
 use Rattle.vk_wire.specs.Places.{entry_place}
 
--- the entry that is opened first, and what opens it
-abbrev pub first_opened : Shown → Bool → Bool × Opening
-first_opened (Half opening) bit = (bit, opening)
-first_opened (Whole first second) bit = (false, first)
-first_opened (Spent second opening) bit = (second, opening)
-
--- the entry that is opened last, and what opens it
-abbrev pub last_opened : Shown → Bool → Bool × Opening
-last_opened (Half opening) bit = (bit, opening)
-last_opened (Whole first second) bit = (true, second)
-last_opened (Spent second opening) bit = (second, opening)
+-- the entry that is opened first or last, and what opens it
+abbrev pub opened_entry : Shown → Bool → Which → Bool × Opening
+opened_entry (Half opening) bit which = (bit, opening)
+opened_entry (Whole first second) bit First = (false, first)
+opened_entry (Whole first second) bit Last = (true, second)
+opened_entry (Spent second opening) bit which = (second, opening)
 
 -- whether these are two
 abbrev pub opens_two : Shown → Bool
@@ -34,6 +31,6 @@ entry_made place entry = digest_of (entry_place place entry.0) entry.1
 -- the digests of what the shown wire opens
 unfoldable pub opened_by : Place → Shown → Bool → Opened
 opened_by place shown bit = record {
-  first = entry_made place (first_opened shown bit);
-  last = entry_made place (last_opened shown bit);
+  first = entry_made place (opened_entry shown bit First);
+  last = entry_made place (opened_entry shown bit Last);
 }

@@ -1,5 +1,6 @@
 use Rattle.std.proofs.Common.{map, string_bytes}
 use Rattle.vk_app.proofs.Audited.{Means, ended_means}
+use Rattle.vk_app.proofs.Housed.{Leaves, ended_leaves}
 use Rattle.vk_app.proofs.command.run.Given.{Over}
 use Rattle.vk_app.proofs.command.run.Goals.{In-Ok}
 use Rattle.vk_app.proofs.command.run.Goals as goal
@@ -27,3 +28,16 @@ returns-in-Ok-clause-bound g c = (means g (goal.at.returns-in-Ok-clause-bound g 
 
 pub returns-in-Ok-clause-reported : goal.returns-in-Ok-clause-reported
 returns-in-Ok-clause-reported g c = (means g (goal.at.returns-in-Ok-clause-reported g c).In-Ok).reported
+
+-- and what a command of the house leaves
+leaves : (g : Over) (c : In-Ok g) → Leaves (g.S.Shelf.held c.args.shelf.now) (g.K.Keeper.ledger c.args.keeper.now) (map string_bytes c.args.words.now) c.in-Ok.status (g.S.Shelf.held c.perform.new.shelf) (g.K.Keeper.ledger c.perform.new.keeper)
+leaves g c = ended_leaves _ _ _ _ _ _ (g.W.Sink.taken c.args.out.now) (g.W.Sink.taken c.perform.new.out) c.in-Ok.ensures.ends
+
+pub returns-in-Ok-clause-steps : goal.returns-in-Ok-clause-steps
+returns-in-Ok-clause-steps g c = λ files ledger order command asks is _ _. (leaves g (goal.at.returns-in-Ok-clause-steps g c).In-Ok).steps files ledger order command asks is
+
+pub returns-in-Ok-clause-boards : goal.returns-in-Ok-clause-boards
+returns-in-Ok-clause-boards g c = (leaves g (goal.at.returns-in-Ok-clause-boards g c).In-Ok).boards
+
+pub returns-in-Ok-clause-replies : goal.returns-in-Ok-clause-replies
+returns-in-Ok-clause-replies g c = (leaves g (goal.at.returns-in-Ok-clause-replies g c).In-Ok).replies

@@ -16,33 +16,30 @@ stopped name pieces i e old now within begun =
     (part_unbegun OutsideErr name (concat (take i pieces)) (get_or pieces i []) (concat (drop (i + 1) pieces)) e) old now begun)
 
 -- the pieces so far and a part of the next
-divided : (name : List ℕ) (pieces : List (List ℕ)) (i : ℕ) (piece : List ℕ) (e : OutsideErr) (old now new : Option Files) → i < length pieces → piece ≡ get_or pieces i []
-    → Told (Writes {E = OutsideErr} name (concat (take i pieces)) (Ok tt)) old now → Told (Appends {E = OutsideErr} name piece (Err e)) now new
+divided : (name called : List ℕ) (pieces : List (List ℕ)) (i : ℕ) (piece : List ℕ) (e : OutsideErr) (old now new : Option Files) → i < length pieces → called ≡ name → piece ≡ get_or pieces i []
+    → Told (Writes {E = OutsideErr} name (concat (take i pieces)) (Ok tt)) old now → Told (Appends {E = OutsideErr} called piece (Err e)) now new
     → Told (Writes {E = OutsideErr} name (concat pieces) (Err e)) old new
-divided name pieces i piece e old now new within is begun grown =
+divided name called pieces i piece e old now new within named is begun grown =
     subst (λ text. Told (Writes {E = OutsideErr} name text (Err e)) old new) (sym (concat_at pieces i within))
     (told_chain (Writes {E = OutsideErr} name (concat (take i pieces)) (Ok tt)) (Appends {E = OutsideErr} name (get_or pieces i []) (Err e)) (Writes {E = OutsideErr} name (concat (take i pieces) ++ (get_or pieces i [] ++ concat (drop (i + 1) pieces))) (Err e))
     (part_refused OutsideErr name (concat (take i pieces)) (get_or pieces i []) (concat (drop (i + 1) pieces)) e) old now new begun
-    (subst (λ p. Told (Appends {E = OutsideErr} name p (Err e)) now new) is grown))
+    (subst (λ p. Told (Appends {E = OutsideErr} name p (Err e)) now new) is (subst (λ n. Told (Appends {E = OutsideErr} n piece (Err e)) now new) named grown)))
 
 -- the pieces so far and the next
-grown : (name : List ℕ) (pieces : List (List ℕ)) (i : ℕ) (piece : List ℕ) (done : Unit) (old now new : Option Files) → i < length pieces → piece ≡ get_or pieces i []
-    → Told (Writes {E = OutsideErr} name (concat (take i pieces)) (Ok tt)) old now → Told (Appends {E = OutsideErr} name piece (Ok done)) now new
+grown : (name called : List ℕ) (pieces : List (List ℕ)) (i : ℕ) (piece : List ℕ) (done : Unit) (old now new : Option Files) → i < length pieces → called ≡ name → piece ≡ get_or pieces i []
+    → Told (Writes {E = OutsideErr} name (concat (take i pieces)) (Ok tt)) old now → Told (Appends {E = OutsideErr} called piece (Ok done)) now new
     → Told (Writes {E = OutsideErr} name (concat (take (i + 1) pieces)) (Ok tt)) old new
-grown name pieces i piece done old now new within is begun added =
+grown name called pieces i piece done old now new within named is begun added =
     subst (λ text. Told (Writes {E = OutsideErr} name text (Ok tt)) old new) (sym (concat_more pieces i within))
     (told_chain (Writes {E = OutsideErr} name (concat (take i pieces)) (Ok tt)) (Appends {E = OutsideErr} name (get_or pieces i []) (Ok done)) (Writes {E = OutsideErr} name (concat (take i pieces) ++ get_or pieces i []) (Ok tt))
     (piece_added OutsideErr name (concat (take i pieces)) (get_or pieces i []) done) old now new begun
-    (subst (λ p. Told (Appends {E = OutsideErr} name p (Ok done)) now new) is added))
+    (subst (λ p. Told (Appends {E = OutsideErr} name p (Ok done)) now new) is (subst (λ n. Told (Appends {E = OutsideErr} n piece (Ok done)) now new) named added)))
 
 pub returns-in_err-piece-clause-written : goal.returns-in_err-piece-clause-written
 returns-in_err-piece-clause-written g c =
     let p = err_from_is_err_and c.from_residual-in_err-piece.result c.from_residual-in_err-piece.ensures.1 in
     let file : WrittenFile = slice_index_or (g.F.WrittenFiles.files c.args.files.now) c.args.file no_file in
-    let old = g.S.Shelf.held c.args.shelf.now in
-    let now = g.S.Shelf.held c.loop-index.shelf in
-    subst (λ r. Told (Writes file.name (text_of file) r) old now) (sym p.1)
-    (stopped file.name file.pieces c.loop-index.index p.0 old now (omega arith) c.loop-index.invariant.begun)
+    rw p.1 (stopped file.name file.pieces c.loop-index.index p.0 _ _ (omega arith) c.loop-index.invariant.begun)
 
 pub returns-in_err-append-clause-written : goal.returns-in_err-append-clause-written
 returns-in_err-append-clause-written g c =
@@ -51,10 +48,8 @@ returns-in_err-append-clause-written g c =
     let old = g.S.Shelf.held c.args.shelf.now in
     let now = g.S.Shelf.held c.loop-index.shelf in
     let new = g.S.Shelf.held c.append.new.self in
-    let added : Told (Appends {E = OutsideErr} file.name c.as_slice.result.now (Err p.0)) now new =
-    subst (λ n. Told (Appends {E = OutsideErr} n c.as_slice.result.now (Err p.0)) now new) c.name-in-loop-index.ensures c.in_err-append.ensures.appended in
     subst (λ r. Told (Writes file.name (text_of file) r) old new) (sym p.1)
-    (divided file.name file.pieces c.loop-index.index c.as_slice.result.now p.0 old now new (omega arith) (c.as_slice.ensures.value ∙ c.in_ok-piece.ensures) c.loop-index.invariant.begun added)
+    (divided file.name _ file.pieces c.loop-index.index c.as_slice.result.now p.0 old now new (omega arith) c.name-in-loop-index.ensures (c.as_slice.ensures.value ∙ c.in_ok-piece.ensures) c.loop-index.invariant.begun c.in_err-append.ensures.appended)
 
 pub loop-index-preserved : goal.loop-index-preserved
 loop-index-preserved g c =
@@ -62,9 +57,7 @@ loop-index-preserved g c =
     let old = g.S.Shelf.held c.args.shelf.now in
     let now = g.S.Shelf.held c.loop-index.shelf in
     let new = g.S.Shelf.held c.append.new.self in
-    let added : Told (Appends {E = OutsideErr} file.name c.as_slice.result.now (Ok c.in_ok-append.field-0)) now new =
-    subst (λ n. Told (Appends {E = OutsideErr} n c.as_slice.result.now (Ok c.in_ok-append.field-0)) now new) c.name-in-loop-index.ensures c.in_ok-append.ensures.appended in
     record {
-      begun = grown file.name file.pieces c.loop-index.index c.as_slice.result.now c.in_ok-append.field-0 old now new (omega arith) (c.as_slice.ensures.value ∙ c.in_ok-piece.ensures) c.loop-index.invariant.begun added;
+      begun = grown file.name _ file.pieces c.loop-index.index c.as_slice.result.now c.in_ok-append.field-0 old now new (omega arith) c.name-in-loop-index.ensures (c.as_slice.ensures.value ∙ c.in_ok-piece.ensures) c.loop-index.invariant.begun c.in_ok-append.ensures.appended;
       kept = c.in_ok-append.ensures.causes ∙ c.loop-index.invariant.kept;
     }

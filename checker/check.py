@@ -1,0 +1,315 @@
+#!/usr/bin/env python3
+"""check.py verify BOARD CHALLENGE REPLY: a second checker of a reply to a board, for auditors who would rather not trust one
+program. It is written from docs/FORMATS.md alone, and needs nothing but Python 3. What it prints, and its statuses, are
+those of `vickrey verify`. Nothing of it is proved.
+"""
+import hashlib
+import os
+import re
+import stat
+import sys
+
+MODULUS = 2**61 - 1
+LONGEST_FILE = 2**30
+LONGEST_LINE = 256
+USAGE = b"usage: vickrey seal|announce|submit|prove|answer|show|verify|extract|confront|report|sample|ceremony"
+
+
+class Verdict(Exception):
+    """A status with the line that is printed."""
+
+    def __init__(self, status, line):
+        super().__init__(line)
+        self.status, self.line = status, line
+
+
+# ---------------------------------------------------------------------------------------------------------------- files
+
+class Lines:
+    """A file that is read line by line."""
+
+    def __init__(self, name):
+        self.name, self.number, self.file = name, 0, None
+        try:
+            about = os.stat(name)
+        except (FileNotFoundError, NotADirectoryError):
+            raise Verdict(5, b"missing " + name) from None
+        if not stat.S_ISREG(about.st_mode):
+            raise OSError("not a regular file")
+        self.left = about.st_size
+        if self.left > LONGEST_FILE:
+            raise Verdict(4, b"too long " + name)
+
+    def malformed(self):
+        return Verdict(4, b"malformed %s line %d" % (self.name, self.number))
+
+    def next(self, *kinds):
+        """The fields of the next line, each by its kind: a word that has to stand there, or a reader of a field."""
+        self.number += 1
+        self.file = self.file or open(self.name, "rb")
+        line = self.file.readline(min(LONGEST_LINE, self.left))
+        self.left -= len(line)
+        fields = line[:-1].split(b" ")
+        if not line.endswith(b"\n") or len(fields) != len(kinds):
+            raise self.malformed()
+        values = [value_of(kind, field) for kind, field in zip(kinds, fields)]
+        if None in values:
+            raise self.malformed()
+        return [value for kind, value in zip(kinds, values) if callable(kind)]
+
+    def end(self):
+        """The line `end`, behind which no byte stands."""
+        self.next(b"end")
+        self.number += 1
+        if self.left > 0 and self.file.read(1):
+            raise self.malformed()
+
+
+def value_of(kind, field):
+    """What a field says, or None where it isn't of its kind."""
+    if callable(kind):
+        return kind(field)
+    return field if field == kind else None
+
+
+def number(least, most):
+    """A canonical decimal between the two."""
+    def read(field):
+        if not re.fullmatch(rb"0|[1-9][0-9]{0,19}", field):
+            return None
+        return int(field) if least <= int(field) <= most else None
+    return read
+
+
+def digits(count):
+    """So many bytes in lower-case hexadecimal."""
+    def read(field):
+        return bytes.fromhex(field.decode()) if re.fullmatch(rb"[0-9a-f]{%d}" % (2 * count), field) else None
+    return read
+
+
+def bits(field):
+    """1 to 64 bits, as numbers."""
+    return [int(bit) for bit in field.decode()] if re.fullmatch(rb"[01]{1,64}", field) else None
+
+
+residue = number(0, MODULUS - 1)
+seat_number = number(1, 65535)
+lane_count = number(1, 64)
+bytes16 = digits(16)
+bytes32 = digits(32)
+
+
+# -------------------------------------------------------------------------------------------------------------- circuit
+
+class Circuit:
+    """The wires of an auction, each None for a split wire or the weight of a pair; and the rows, each a list of (factor,
+    wire) with a constant."""
+
+    def __init__(self, seals, width, winner, price):
+        self.width = width
+        self.wires = [None] * (2 * seals)
+        self.rows = []
+        others = [j for j in range(seals) if j != winner]
+        copies = range(seals, 2 * seals)
+        for j in range(seals):
+            self.rows.append(([(1, j), (-1, copies[j])], 0))
+        for j in range(seals):
+            self.in_range([(1, copies[j])], 0)
+        for j in others:
+            self.in_range([(1, copies[winner]), (-1, copies[j])], -1 if j < winner else 0)
+        for j in others:
+            self.in_range([(-1, copies[j])], price)
+        if others:
+            self.select(others, copies, price)
+
+    def in_range(self, terms, constant):
+        """The row of a form that is in range: the pairs of its test set are taken away from it."""
+        pairs = []
+        for i in range(self.width):
+            pairs.append((-1, len(self.wires)))
+            self.wires.append(2**i)
+        self.rows.append((terms + pairs, constant))
+
+    def select(self, others, copies, price):
+        """The selectors with the rows E and F."""
+        selectors = []
+        for _ in others:
+            selectors.append(len(self.wires))
+            self.wires.append(1)
+        self.rows.append(([(1, selector) for selector in selectors], -1))
+        most = 2**self.width - 1
+        for selector, j in zip(selectors, others):
+            self.in_range([(-most, selector), (1, copies[j])], most - price)
+
+
+# ---------------------------------------------------------------------------------------------------------------- board
+
+class Board:
+    """What stands on a board before its first lane."""
+
+    def __init__(self, lines):
+        self.lines = lines
+        lines.next(b"vickrey-board", b"1")
+        [self.auction] = lines.next(b"auction", bytes16)
+        [self.width] = lines.next(b"width", number(1, 40))
+        [self.lanes] = lines.next(b"lanes", lane_count)
+        [count] = lines.next(b"seals", number(1, 64))
+        [self.winner] = lines.next(b"winner", seat_number)
+        [self.price] = lines.next(b"price", number(0, 2**64 - 1))
+        self.seats, self.seals = [], []
+        for _ in range(count):
+            self.read_seal()
+        self.test_outcome()
+        self.circuit = Circuit(count, self.width, self.seats.index(self.winner), self.price)
+
+    def read_seal(self):
+        [seat] = self.lines.next(b"seal", seat_number)
+        if seat in self.seats:
+            raise self.lines.malformed()
+        self.seats.append(seat)
+        self.seals.append([self.lines.next(b"x", bytes32, bytes32) for _ in range(self.lanes)])
+
+    def test_outcome(self):
+        if self.price >= 2**self.width or (len(self.seals) == 1 and self.price != 0):
+            raise Verdict(1, b"refused %s price" % self.lines.name)
+        if self.winner not in self.seats:
+            raise Verdict(1, b"refused %s winner" % self.lines.name)
+
+    def read_lane(self, lane):
+        """The two digests of each wire in this lane, and the posted number of each row."""
+        self.lines.next(b"lane", b"%d" % lane)
+        digests = [seal[lane - 1] for seal in self.seals]
+        for _ in self.circuit.wires[len(self.seals):]:
+            digests.append(self.lines.next(b"w", bytes32, bytes32))
+        posted = [self.lines.next(b"d", residue)[0] for _ in self.circuit.rows]
+        return digests, posted
+
+    def place(self, wire):
+        """The seat and the first slot of a wire's commitments."""
+        return (self.seats[wire], 0) if wire < len(self.seats) else (0, 2 * wire)
+
+
+# ---------------------------------------------------------------------------------------------------------------- reply
+
+def read_shown(lines, wires, bit):
+    """The openings that a reply shows of a lane: of each wire a list of (digest 0 or 1, key, value)."""
+    shown = []
+    for weight in wires:
+        if weight is None:
+            shown.append([(bit, *lines.next(b"h", bytes32, residue))])
+        elif bit == 0:
+            key0, value0, key1, value1 = lines.next(b"a", bytes32, residue, bytes32, residue)
+            shown.append([(0, key0, value0), (1, key1, value1)])
+        else:
+            shown.append([tuple(lines.next(b"s", number(0, 1), bytes32, residue))])
+    return shown
+
+
+def digest(auction, seat, lane, slot, key, value):
+    """The commitment: SHA-256 of 68 bytes."""
+    numbers = seat.to_bytes(2, "big") + lane.to_bytes(2, "big") + slot.to_bytes(4, "big")
+    return hashlib.sha256(b"VKC1" + auction + numbers + key + value.to_bytes(8, "big")).digest()
+
+
+def half_of(weight, bit, openings):
+    """The half that openings give of a wire, or None where a pair that is opened whole isn't one."""
+    values = [value for _, _, value in openings]
+    if weight is None or bit == 1:
+        return values[0]
+    if (values[1] - values[0]) % MODULUS == weight:
+        return -values[0] % MODULUS
+    if (values[0] - values[1]) % MODULUS == weight:
+        return -values[1] % MODULUS
+    return None
+
+
+def row_stands(row, bit, halves, posted):
+    """The equation of a row for the bit."""
+    terms, constant = row
+    form = sum(factor * halves[wire] for factor, wire in terms)
+    return (form - posted if bit == 0 else form + constant + posted) % MODULUS == 0
+
+
+def check_lane(board, lane, digests, posted, bit, shown, reply):
+    """The tests of one lane: its wires in order, then its rows in order."""
+    halves = []
+    for wire, (weight, openings) in enumerate(zip(board.circuit.wires, shown)):
+        seat, slot = board.place(wire)
+        for which, key, value in openings:
+            if digest(board.auction, seat, lane, slot + which, key, value) != digests[wire][which]:
+                raise Verdict(1, b"refused %s lane %d wire %d digest %d" % (reply, lane, wire, which))
+        half = half_of(weight, bit, openings)
+        if half is None:
+            raise Verdict(1, b"refused %s lane %d wire %d set" % (reply, lane, wire))
+        halves.append(half)
+    for index, row in enumerate(board.circuit.rows):
+        if not row_stands(row, bit, halves, posted[index]):
+            raise Verdict(1, b"refused %s lane %d row %d" % (reply, lane, index))
+
+
+# -------------------------------------------------------------------------------------------------------------- verdict
+
+def read_challenge(lines):
+    lines.next(b"vickrey-challenge", b"1")
+    [challenge] = lines.next(b"bits", bits)
+    lines.end()
+    return challenge
+
+
+def verify(names):
+    """Every test, in order; the first that fails is raised."""
+    board_lines, challenge_lines, reply_lines = [Lines(name) for name in names]
+    board = Board(board_lines)
+    challenge = read_challenge(challenge_lines)
+    reply_lines.next(b"vickrey-reply", b"1")
+    [lanes] = reply_lines.next(b"lanes", lane_count)
+    if not len(challenge) == lanes == board.lanes:
+        raise Verdict(1, b"refused %s lanes" % reply_lines.name)
+    for lane, bit in enumerate(challenge, 1):
+        digests, posted = board.read_lane(lane)
+        reply_lines.next(b"lane", b"%d" % lane)
+        shown = read_shown(reply_lines, board.circuit.wires, bit)
+        check_lane(board, lane, digests, posted, bit, shown, reply_lines.name)
+    board_lines.end()
+    reply_lines.end()
+
+
+def is_name(word):
+    """A name of 1 to 255 bytes, in UTF-8."""
+    try:
+        word.decode()
+    except UnicodeDecodeError:
+        return False
+    return 1 <= len(word) <= 255
+
+
+def verdict_of(words):
+    """The status and the line of a command line."""
+    if len(words) != 4 or words[0] != b"verify" or not all(map(is_name, words)):
+        sys.stderr.write("check.py has `verify BOARD CHALLENGE REPLY` alone\n")
+        return 2, USAGE
+    try:
+        verify(words[1:])
+    except Verdict as verdict:
+        return verdict.status, verdict.line
+    return 0, b"accepted"
+
+
+def main():
+    try:
+        status, line = verdict_of([os.fsencode(word) for word in sys.argv[1:]])
+        sys.stdout.buffer.write(line + b"\n")
+        sys.stdout.buffer.flush()
+    except OSError:
+        status, line = 6, b"outside fault"
+    except MemoryError:
+        status, line = 9, b"no memory"
+    if status in (6, 9):
+        sys.stderr.buffer.write(line + b"\n")
+        os._exit(status)
+    return status
+
+
+if __name__ == "__main__":
+    sys.exit(main())

@@ -1,0 +1,96 @@
+#!/usr/bin/env bash
+# checker/compare.sh PROGRAM: runs `verify` of the program and of checker/check.py on auctions that the program makes, and on
+# damaged copies of their files, and compares status and text. The last line says how many of the runs agree.
+set -u
+[ $# -eq 1 ] || { sed -n '2,3p' "$0"; exit 2; }
+program=$(realpath "$1")
+checker=$(realpath "$(dirname "$0")/check.py")
+python=$(python3 -c "import sys; print(sys.executable)") # the interpreter itself, which starts faster than what stands for it
+top=$(mktemp -d)
+trap 'rm -rf "$top"' EXIT
+id=000102030405060708090a0b0c0d0e0f
+runs=0
+agreed=0
+
+# compare BOARD CHALLENGE REPLY: one run of each
+compare() {
+  local ours theirs
+  ours=$("$program" verify "$@" 2>/dev/null; echo "status $?")
+  theirs=$("$python" -IS "$checker" verify "$@" 2>/dev/null; echo "status $?")
+  runs=$((runs + 1))
+  if [ "$ours" = "$theirs" ]; then
+    agreed=$((agreed + 1))
+  else
+    echo "DIFFERENT in $case: '$ours' and '$theirs'"
+  fi
+}
+
+# answered BITS WIDTH LANES BID..: an auction of these bids in a folder of its own, answered for these bits
+answered() {
+  local bits=$1 width=$2 lanes=$3 seat=0 seed
+  shift 3
+  mkdir "$bits" && cd "$bits" || exit 1
+  printf 'vickrey-script 1\nannounce %s %s %s\n' $id "$width" "$lanes" >day
+  for bid in "$@"; do
+    seat=$((seat + 1))
+    seed=$(printf '%064d' $seat)
+    "$program" seal $id $seat "$bid" "$width" "$lanes" "$seed" secret-$seat seal-$seat >/dev/null || exit 1
+    echo "submit $id seal-$seat secret-$seat" >>day
+  done
+  printf 'prove %s %064d ../board\nanswer %s ../challenge-%s ../reply-%s\nend\n' $id 99 $id "$bits" "$bits" >>day
+  printf 'vickrey-challenge 1\nbits %s\nend\n' "$bits" >"../challenge-$bits"
+  "$program" ceremony day >/dev/null || exit 1
+  cd ..
+}
+
+# damages FILE EACH: the file with each EACHth line damaged in every way, one after another
+damages() {
+  local file=$1 each=$2 line way
+  cp "$file" whole
+  for line in $(seq 1 "$each" $(($(wc -l <whole) + 1))); do
+    for way in d p 's/^./z/' 's/[a-f]/\U&/' 's/$/ /' 's/ / 0/' 's/[0-8]\([^0-8]*\)$/9\1/' 's/[1-9]\([^1-9]*\)$/0\1/' \
+        's/ [^ ]*$//' 's/\(.*\) \(.*\)/\2 \1/' 's/ [^ ]*\([^ ]\)/ \1/'; do
+      case="$file, line $line, $way"
+      sed "$line$way" whole >"$file"
+      cmp -s "$file" whole || compare board "challenge-$bits" "reply-$bits"
+    done
+    case="$file, cut in line $line"
+    { head -n $((line - 1)) whole; sed -n "${line}p" whole | head -c 20; } >"$file"
+    compare board "challenge-$bits" "reply-$bits"
+  done
+  mv whole "$file"
+}
+
+# auction EACH WIDTH LANES BID..: two replies to one board, and damages to the files of each
+auction() {
+  local each=$1 width=$2 lanes=$3 bits other
+  shift 3
+  cd "$(mktemp -d -p "$top")" || exit 1
+  bits=$(printf '%s' 0110100110010110 | head -c "$lanes")
+  other=$(tr 01 10 <<<"$bits")
+  answered "$other" "$width" "$lanes" "$@"
+  answered "$bits" "$width" "$lanes" "$@"
+  case=honest
+  compare board "challenge-$bits" "reply-$bits"
+  compare board "challenge-$other" "reply-$other"
+  case='the reply to the other challenge'
+  compare board "challenge-$bits" "reply-$other"
+  damages board "$each"
+  damages "challenge-$bits" 1
+  damages "reply-$bits" "$each"
+  bits=$other
+  damages "reply-$bits" "$each"
+}
+
+auction 1 1 1 0
+auction 12 2 2 1 3 1
+auction 60 5 3 9 9 30 31 2
+cd "$(mktemp -d -p "$top")" || exit 1
+case=sample
+if "$program" sample 1 >/dev/null; then
+  compare sample-board sample-challenge-1 sample-reply-1
+  compare sample-board sample-challenge-2 sample-reply-2
+  compare sample-board sample-challenge-1 sample-reply-2
+fi
+echo "$agreed of $runs agree"
+[ "$agreed" = "$runs" ]

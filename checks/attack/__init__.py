@@ -1,0 +1,1 @@
+"""The parts of checks/hostile.py, which attacks the built program."""

@@ -1,0 +1,246 @@
+"""Cases. Each is run by a worker, and answers how many runs ended with each status, and what differs."""
+import os
+import resource
+import signal
+import subprocess
+import tempfile
+import time
+from collections import Counter
+from dataclasses import dataclass, field
+
+from attack import mutations
+from attack.defined import ERRORS, Scenario, fault_of
+from attack.runs import KILLED, STORE, Ended, Folder, read
+
+NOBODY = 65534
+
+program = None
+
+
+def begin_worker(made):
+    global program
+    program = made
+    signal.signal(signal.SIGTERM, signal.SIG_DFL)
+
+
+@dataclass
+class Case:
+    """A run of a scenario over its files, in a hostile surrounding."""
+
+    scenario: Scenario
+    label: str
+    may: tuple  # the statuses that it may end with, or EFFECT
+
+    silent = False  # standard error may say nothing
+
+    def surrounding(self):
+        """How the program is run."""
+        return {}
+
+    def perform(self, folder):
+        return program.run(self.scenario.words, folder.path, **self.surrounding())
+
+    def judge(self, ended, files):
+        return fault_of(self.scenario, ended, files, self.may, self.silent)
+
+    def run(self):
+        with Folder(program, self.scenario.files) as folder:
+            ended = self.perform(folder)
+            fault = self.judge(ended, folder.files()) or self.run_again(folder, ended)
+        return self.answer(ended, fault)
+
+    def answer(self, ended, fault):
+        return Counter([ended.status]), [f"{self.scenario.name}, {self.label}: {fault}"] if fault else []
+
+    def run_again(self, folder, stopped):
+        """The same words again do the command, or find that it has been done."""
+        if stopped.status not in (6, 9, KILLED):
+            return None
+        ended = program.run(self.scenario.words, folder.path)
+        if self.scenario.is_done_again(ended, folder.files()):
+            return None
+        return f"{stopped}; then the same words again: {ended}"
+
+
+@dataclass
+class Refused(Case):
+    """Calls of the program's own are refused, from one to another."""
+
+    kinds: str = ""
+    first: int = 0
+    last: int = 0
+    what: object = ""
+
+    @property
+    def silent(self):
+        return self.first != self.last
+
+    def surrounding(self):
+        return {"env": program.fault(self.kinds, self.first, self.last, self.what)}
+
+
+@dataclass
+class KilledLater(Case):
+    """The run is killed after a while."""
+
+    seconds: float = 0
+
+    def perform(self, folder):
+        child = subprocess.Popen(
+            [program.path, *self.scenario.words], cwd=folder.path, env={}, stdin=subprocess.DEVNULL,
+            stdout=subprocess.PIPE, stderr=subprocess.PIPE,
+        )
+        time.sleep(self.seconds)
+        child.kill()
+        text, error = child.communicate()
+        return Ended(child.returncode, text, error)
+
+
+@dataclass
+class Limited(Case):
+    """No file may grow past so many bytes, as on a full disk; or few may be open."""
+
+    most: int = 0
+    what: int = resource.RLIMIT_FSIZE
+
+    def limit(self):
+        signal.signal(signal.SIGXFSZ, signal.SIG_IGN)
+        resource.setrlimit(self.what, (self.most, self.most))
+
+    def surrounding(self):
+        return {"preexec_fn": self.limit}
+
+
+@dataclass
+class LimitedOutput(Limited):
+    """Standard output takes so many bytes."""
+
+    def perform(self, folder):
+        place = folder.path + ".out"
+        with open(place, "wb") as out:
+            ended = program.run(self.scenario.words, folder.path, stdout=out, **self.surrounding())
+        ended.text = read(place)
+        os.remove(place)
+        return ended
+
+    def judge(self, ended, files):
+        if ended.text != self.scenario.text()[: self.most]:
+            return f"{ended}: not the first {self.most} bytes of the text"
+        return super().judge(ended, files)
+
+
+@dataclass
+class Output(Case):
+    """Standard output takes nothing: a full device, a pipe whose reader is gone, or none at all."""
+
+    kind: str = ""
+    closed = {"output": [1], "output and errors": [1, 2], "all": [0, 1, 2]}
+
+    @property
+    def silent(self):
+        return 2 in self.closed.get(self.kind, [])
+
+    def perform(self, folder):
+        if self.kind in self.closed:
+            close = lambda: [os.close(number) for number in self.closed[self.kind]]
+            return program.run(self.scenario.words, folder.path, stdout=None, preexec_fn=close)
+        with self.taker() as out:
+            default = self.kind != "ignored pipe"
+            return program.run(self.scenario.words, folder.path, stdout=out, restore_signals=default)
+
+    def taker(self):
+        if self.kind == "full":
+            return open("/dev/full", "wb", 0)
+        reader, writer = os.pipe()
+        os.close(reader)
+        return os.fdopen(writer, "wb")
+
+    def judge(self, ended, files):
+        fault = super().judge(ended, files)
+        if not fault and len(self.scenario.steps) == 1 and files != self.scenario.after(1):
+            return f"{ended}: the files aren't whole, though only the output failed"
+        return fault
+
+
+@dataclass
+class SmallDisk(Case):
+    """The files lie on a disk with so many free pages, which the run has for itself."""
+
+    pages: int = 0
+    script = (
+        'mount -t tmpfs -o size="$1" tmpfs disk && cp -r before/. disk && cd disk || exit; shift; '
+        '"$@" >../out 2>../err; echo $? >../status; cp -r . ../after'
+    )
+
+    def run(self):
+        with Folder(program, {}) as folder, Folder(program, self.scenario.files) as before:
+            for name in ("disk", "after"):
+                os.mkdir(os.path.join(folder.path, name))
+            os.symlink(before.path, os.path.join(folder.path, "before"))
+            pages = self.pages + sum(-(-len(data) // 4096) for data in self.scenario.files.values())
+            words = ["unshare", "-m", "sh", "-c", self.script, "sh", str(pages * 4096), program.path]
+            subprocess.run([*words, *self.scenario.words], cwd=folder.path, check=True)
+            out, err, status = (read(os.path.join(folder.path, name)) for name in ("out", "err", "status"))
+            ended, after = Ended(int(status), out, err), os.path.join(folder.path, "after")
+            names = [name for name in os.listdir(after) if not name.startswith(STORE)]
+            fault = self.judge(ended, {name: read(os.path.join(after, name)) for name in names})
+        return self.answer(ended, fault)
+
+
+@dataclass
+class Told:
+    """Words over files and places, with the one end that they have. `lay` are lines of a shell that make the places."""
+
+    label: str
+    words: list
+    end: tuple
+    files: dict
+    lay: str = ":"
+    made: dict = field(default_factory=dict)
+    unprivileged: bool = False
+
+    def run(self):
+        status, text = self.end
+        error = ERRORS.get(status, (b"",))[0]
+        with Folder(program, self.files) as folder:
+            subprocess.run(["sh", "-c", self.lay], cwd=folder.path, check=True)
+            how = {}
+            if self.unprivileged:
+                os.chmod(folder.path, 0o555)
+                how = {"user": NOBODY, "group": NOBODY, "extra_groups": []} if os.getuid() == 0 else {}
+            before = set(os.listdir(folder.path))
+            ended = program.run(self.words, folder.path, **how)
+            os.chmod(folder.path, 0o755)
+            new = {name for name in os.listdir(folder.path) if not name.startswith(STORE)} - before
+            fault = None if ended == Ended(status, text, error) else f"{ended}, not status {status}, {text[-160:]!r}"
+            if not fault and new != set(self.made):
+                fault = f"{ended}: made {sorted(new)}, not {sorted(self.made)}"
+            subprocess.run(["sh", "-c", "chmod -R u+rwx . 2>/dev/null"], cwd=folder.path, check=False)
+        return Counter([ended.status]), [f"{self.label}: {fault}"] if fault else []
+
+
+@dataclass
+class Batch:
+    """A batch of changed files."""
+
+    subjects: list
+    seed: str
+    count: int
+
+    def run(self):
+        folder = os.path.join(program.scratch, f"batch-{os.getpid()}")
+        statuses, differing = mutations.run_batch(program.path, folder, self.subjects, self.seed, self.count)
+        for label, files in differing if program.keep else []:
+            self.keep(label, files)
+        return statuses, [label for label, _ in differing]
+
+    @staticmethod
+    def keep(label, files):
+        folder = tempfile.mkdtemp(dir=program.keep, prefix="changed-")
+        for name, data in {**files, "WHY": label.encode()}.items():
+            with open(os.path.join(folder, name), "wb") as file:
+                file.write(data)
+
+
+def run_case(case):
+    return case.run()

@@ -1,0 +1,96 @@
+"""What is defined of a run: what a command does when it is done, and what it leaves when it is stopped."""
+from dataclasses import dataclass, field
+
+from attack.runs import STORE, Ended
+
+ERRORS = {6: (b"outside fault\n", b"other store\n"), 9: (b"no memory\n",)}
+EFFECT = "effect"
+
+
+@dataclass
+class Step:
+    """What one command prints; what it writes, in order: pairs of a name and a text; and what it prints instead where it
+    was done before."""
+
+    text: bytes
+    written: list = field(default_factory=list)
+    again: tuple = ()
+
+
+@dataclass
+class Scenario:
+    """Words over files, and what they do."""
+
+    name: str
+    words: list
+    files: dict
+    steps: list
+    status: int = 0
+
+    def text(self):
+        return b"".join(step.text for step in self.steps)
+
+    def after(self, steps):
+        """The files after so many steps."""
+        return self.before() | {name: data for step in self.steps[:steps] for name, data in step.written}
+
+    def before(self):
+        return {name: data for name, data in self.files.items() if not name.startswith(STORE)}
+
+    def is_done(self, ended, files):
+        effect = Ended(self.status, self.text(), b"")
+        return ended == effect and files == self.after(len(self.steps))
+
+    def is_done_again(self, ended, files):
+        """Whether the words are done where some of their commands had been done before."""
+        rest, status = ended.text, self.status
+        for step in self.steps:
+            said = next((text for text in (step.text, *step.again) if rest.startswith(text)), None)
+            if said is None:
+                return False
+            rest, status = rest[len(said) :], status if said == step.text else 8
+        return (ended.status, rest, ended.error, files) == (status, b"", b"", self.after(len(self.steps)))
+
+    def is_stopped(self, text, files):
+        """Whether text and files are those after some of the steps, and a part of the next one."""
+        for done in range(len(self.steps) + 1):
+            whole = b"".join(step.text for step in self.steps[:done])
+            part = text[len(whole) :]
+            if not text.startswith(whole):
+                return False
+            if done == len(self.steps):
+                return not part and files == self.after(done)
+            step = self.steps[done]
+            if part and part != step.text and step.text.startswith(part) and files == self.after(done + 1):
+                return True
+            if not part and is_divided(self.after(done), step.written, files):
+                return True
+        return False
+
+
+def is_divided(before, written, files):
+    """Whether the written files are whole up to one, which is as before or a prefix, and all else is as before."""
+    for at in range(len(written) + 1):
+        wanted = before | dict(written[:at])
+        if at == len(written):
+            return files == wanted
+        name, text = written[at]
+        rest, others = dict(files), dict(wanted)
+        got, old = rest.pop(name, None), others.pop(name, None)
+        if rest == others and (got == old or (got is not None and text.startswith(got))):
+            return True
+    return False
+
+
+def fault_of(scenario, ended, files, may, silent=False):
+    """None, or how the end of a run is none of those that it may have."""
+    if EFFECT in may and scenario.is_done(ended, files):
+        return None
+    if ended.status not in may:
+        return f"{ended}: the status may be {', '.join(map(str, may))}"
+    if ended.error not in ERRORS.get(ended.status, (b"",)) and not (silent and not ended.error):
+        return f"{ended}: said on standard error"
+    if not scenario.is_stopped(ended.text, files):
+        sizes = {name: len(data) for name, data in files.items()}
+        return f"{ended}: no stop leaves this, with files of so many bytes: {sizes}"
+    return None

@@ -1,0 +1,574 @@
+"""What a command has to say of given files: its status and its text, by docs/FORMATS.md alone. It shares nothing with the
+program, and reads whole files with regular expressions, slowly.
+
+A file is bytes, or None where nothing is there. `verify`, `extract`, `confront`, `report` and `ceremony` take a dictionary
+of files and the words behind the command, and answer (status, text).
+"""
+import hashlib
+import re
+from dataclasses import dataclass, field
+
+MODULUS = 2**61 - 1
+MOST_BYTES = 2**30
+NUMBER = rb"(0|[1-9][0-9]*)"
+DIGITS_16 = rb"([0-9a-f]{32})"
+DIGITS_32 = rb"([0-9a-f]{64})"
+
+
+class Ends(Exception):
+    """The command ends here, with this status and this text."""
+
+    def __init__(self, status, text):
+        super().__init__(status, text)
+        self.status, self.text = status, text
+
+
+class Malformed(Exception):
+    """The line that isn't what its place demands."""
+
+    def __init__(self, line):
+        super().__init__(line)
+        self.line = line
+
+
+class Lines:
+    """The lines of a file, each taken by the form that it is to have."""
+
+    def __init__(self, data):
+        self.data, self.at, self.number = data, 0, 0
+
+    def take(self, form):
+        """The groups of the next line, which is all of this form."""
+        self.number += 1
+        end = self.data.find(b"\n", self.at, self.at + 256)
+        found = re.fullmatch(form, self.data[self.at : end]) if end >= 0 else None
+        if not found:
+            raise Malformed(self.number)
+        self.at = end + 1
+        return found.groups()
+
+    def whole(self, word, least, most):
+        """The number of the next line, a word and a canonical decimal."""
+        (text,) = self.take(word + rb" " + NUMBER)
+        return self.within(text, least, most)
+
+    def within(self, text, least, most):
+        if len(text) > 20 or not least <= int(text) <= most:
+            raise Malformed(self.number)
+        return int(text)
+
+    def residue(self, text):
+        return self.within(text, 0, MODULUS - 1)
+
+    def end(self):
+        self.take(rb"end")
+        if self.at < len(self.data):
+            raise Malformed(self.number + 1)
+
+
+def digest(auction, seat, lane, slot, key, value):
+    place = seat.to_bytes(2, "big") + lane.to_bytes(2, "big") + slot.to_bytes(4, "big")
+    message = b"VKC1" + bytes.fromhex(auction) + place + bytes.fromhex(key) + value.to_bytes(8, "big")
+    return hashlib.sha256(message).hexdigest()
+
+
+# ----------------------------------------------------------------------------------------------------------------------
+# The circuit
+
+
+class Circuit:
+    """The wires, each a weight or None for a split one, and the rows, each (factor, wire) and a constant."""
+
+    def __init__(self, seals, width, winner, price):
+        self.kinds = [None] * (2 * seals)
+        self.width, self.rows = width, []
+        others = [j for j in range(seals) if j != winner]
+        for j in range(seals):
+            self.rows.append(([(1, j), (-1, seals + j)], 0))
+        for j in range(seals):
+            self.in_range([(1, seals + j)], 0)
+        for j in others:
+            self.in_range([(1, seals + winner), (-1, seals + j)], -1 if j < winner else 0)
+        for j in others:
+            self.in_range([(-1, seals + j)], price)
+        if others:
+            self.select(others, seals, price)
+
+    def in_range(self, form, constant):
+        first = len(self.kinds)
+        self.kinds += [2**i for i in range(self.width)]
+        self.rows.append((form + [(-1, first + i) for i in range(self.width)], constant))
+
+    def select(self, others, seals, price):
+        first, most = len(self.kinds), 2**self.width - 1
+        self.kinds += [1] * len(others)
+        self.rows.append(([(1, first + i) for i in range(len(others))], -1))
+        for i, j in enumerate(others):
+            self.in_range([(-most, first + i), (1, seals + j)], most - price)
+
+
+# ----------------------------------------------------------------------------------------------------------------------
+# The files
+
+
+@dataclass
+class Front:
+    """A board before its first lane."""
+
+    auction: str
+    width: int
+    lanes: int
+    seals: int
+    winner: int
+    price: int
+    seats: list = field(default_factory=list)
+    inputs: list = field(default_factory=list)  # of each seal and lane two digests
+
+    def circuit(self):
+        return Circuit(self.seals, self.width, self.seats.index(self.winner), self.price)
+
+
+def text_of(groups):
+    return [group.decode() for group in groups]
+
+
+def read_front(lines):
+    lines.take(rb"vickrey-board 1")
+    (auction,) = text_of(lines.take(rb"auction " + DIGITS_16))
+    width, lanes, seals = lines.whole(b"width", 1, 40), lines.whole(b"lanes", 1, 64), lines.whole(b"seals", 1, 64)
+    front = Front(auction, width, lanes, seals, lines.whole(b"winner", 1, 65535), lines.whole(b"price", 0, 2**64 - 1))
+    for _ in range(seals):
+        seat = lines.whole(b"seal", 1, 65535)
+        if seat in front.seats:
+            raise Malformed(lines.number)
+        front.seats.append(seat)
+        front.inputs.append([text_of(lines.take(rb"x " + DIGITS_32 + rb" " + DIGITS_32)) for _ in range(lanes)])
+    return front
+
+
+def read_board_lane(lines, front, circuit, lane):
+    """The digests of all wires of the lane, and the posted numbers."""
+    lines.take(rb"lane %d" % lane)
+    digests = [inputs[lane - 1] for inputs in front.inputs]
+    for _ in circuit.kinds[front.seals :]:
+        digests.append(text_of(lines.take(rb"w " + DIGITS_32 + rb" " + DIGITS_32)))
+    posted = [lines.residue(lines.take(rb"d " + NUMBER)[0]) for _ in circuit.rows]
+    return digests, posted
+
+
+def read_shown(lines, kind, bit):
+    """What the next line shows of a wire: of each opened entry its number, key and value."""
+    opening = DIGITS_32 + rb" " + NUMBER
+    if kind is None:
+        key, value = lines.take(rb"h " + opening)
+        return [(bit, key.decode(), lines.residue(value))]
+    if bit == 0:
+        first, low, second, high = lines.take(rb"a " + opening + rb" " + opening)
+        return [(0, first.decode(), lines.residue(low)), (1, second.decode(), lines.residue(high))]
+    entry, key, value = lines.take(rb"s ([01]) " + opening)
+    return [(int(entry), key.decode(), lines.residue(value))]
+
+
+def read_reply_lane(lines, circuit, lane, bit):
+    lines.take(rb"lane %d" % lane)
+    return [read_shown(lines, kind, bit) for kind in circuit.kinds]
+
+
+def read_challenge(data):
+    lines = Lines(data)
+    lines.take(rb"vickrey-challenge 1")
+    (bits,) = lines.take(rb"bits ([01]{1,64})")
+    lines.end()
+    return bits.decode()
+
+
+@dataclass
+class Sealed:
+    """A seal, whose lanes are two digests each, or a secret, whose lanes are a mask and two keys each."""
+
+    auction: str
+    seat: int
+    lanes: list
+    bid: int = 0
+
+
+def read_seal(data):
+    lines = Lines(data)
+    lines.take(rb"vickrey-seal 1")
+    (auction,) = text_of(lines.take(rb"auction " + DIGITS_16))
+    seat, lanes = lines.whole(b"seat", 1, 65535), lines.whole(b"lanes", 1, 64)
+    seal = Sealed(auction, seat, [text_of(lines.take(rb"x " + DIGITS_32 + rb" " + DIGITS_32)) for _ in range(lanes)])
+    lines.end()
+    return seal
+
+
+def read_secret(data):
+    lines = Lines(data)
+    lines.take(rb"vickrey-secret 1")
+    (auction,) = text_of(lines.take(rb"auction " + DIGITS_16))
+    seat, bid = lines.whole(b"seat", 1, 65535), lines.whole(b"bid", 0, 2**40 - 1)
+    secret = Sealed(auction, seat, [], bid)
+    for _ in range(lines.whole(b"lanes", 1, 64)):
+        mask, first, second = lines.take(rb"x " + NUMBER + rb" " + DIGITS_32 + rb" " + DIGITS_32)
+        secret.lanes.append((lines.residue(mask), first.decode(), second.decode()))
+    lines.end()
+    return secret
+
+
+def halves_of(secret, lane):
+    """The keys and values of both halves of the bid."""
+    mask, first, second = secret.lanes[lane - 1]
+    return [(first, mask), (second, (secret.bid - mask) % MODULUS)]
+
+
+# ----------------------------------------------------------------------------------------------------------------------
+# The tests
+
+
+def held(files, names):
+    """The bytes of the named files; the first that is missing or too long ends the command."""
+    for name in names:
+        may_be_asked(name)
+        data = files.get(name)
+        if data is None:
+            raise Ends(5, f"missing {name}\n")
+        if len(data) > MOST_BYTES:
+            raise Ends(4, f"too long {name}\n")
+    return [files[name] for name in names]
+
+
+def may_be_asked(name):
+    """A script may name what no file system takes; asking for it is a fault of the outside."""
+    if "\0" in name:
+        raise Ends(6, "")
+
+
+def part(name, read, *given):
+    """What is read of a file; where it isn't of its form the command ends."""
+    try:
+        return read(*given)
+    except Malformed as fault:
+        raise Ends(4, f"malformed {name} line {fault.line}\n") from None
+
+
+def read_judged_front(name, lines):
+    front = part(name, read_front, lines)
+    if front.price >= 2**front.width or (front.seals == 1 and front.price):
+        raise Ends(1, f"refused {name} price\n")
+    if front.winner not in front.seats:
+        raise Ends(1, f"refused {name} winner\n")
+    return front
+
+
+def read_wire(front, lane, wire, kind, digests, shown):
+    """The half that a shown wire gives, or why it gives none."""
+    seat, slot = (front.seats[wire], 0) if wire < front.seals else (0, 2 * wire)
+    for entry, key, value in shown:
+        if digest(front.auction, seat, lane, slot + entry, key, value) != digests[entry]:
+            return None, f"digest {entry}"
+    if len(shown) == 1:
+        return shown[0][2], None
+    low, high = shown[0][2], shown[1][2]
+    if (high - low) % MODULUS == kind:
+        return -low % MODULUS, None
+    if (low - high) % MODULUS == kind:
+        return -high % MODULUS, None
+    return None, "set"
+
+
+def judge_lane(front, circuit, lane, bit, digests, posted, shown):
+    """The first wire or row of the lane that is refused, as the end of a line."""
+    halves = []
+    for wire, kind in enumerate(circuit.kinds):
+        half, why = read_wire(front, lane, wire, kind, digests[wire], shown[wire])
+        if why:
+            return f"lane {lane} wire {wire} {why}"
+        halves.append(half)
+    for row, ((form, constant), number) in enumerate(zip(circuit.rows, posted)):
+        value = sum(factor * halves[wire] for factor, wire in form)
+        if (value - number if bit == 0 else value + constant + number) % MODULUS:
+            return f"lane {lane} row {row}"
+    return None
+
+
+@dataclass
+class Accepted:
+    """What an accepted reply shows: the board's front, the bits, and of each lane its shown wires and digests."""
+
+    front: Front
+    bits: str
+    shown: list
+    digests: list
+
+
+def judge(names, datas):
+    """The first fault of a board, a challenge and a reply, or what the reply shows."""
+    board, reply = Lines(datas[0]), Lines(datas[2])
+    front = read_judged_front(names[0], board)
+    bits = part(names[1], read_challenge, datas[1])
+    part(names[2], reply.take, rb"vickrey-reply 1")
+    lanes = part(names[2], reply.whole, b"lanes", 1, 64)
+    if not len(bits) == lanes == front.lanes:
+        raise Ends(1, f"refused {names[2]} lanes\n")
+    circuit, accepted = front.circuit(), Accepted(front, bits, [], [])
+    for lane in range(1, lanes + 1):
+        bit = int(bits[lane - 1])
+        digests, posted = part(names[0], read_board_lane, board, front, circuit, lane)
+        shown = part(names[2], read_reply_lane, reply, circuit, lane, bit)
+        refused = judge_lane(front, circuit, lane, bit, digests, posted, shown)
+        if refused:
+            raise Ends(1, f"refused {names[2]} {refused}\n")
+        accepted.shown.append(shown)
+        accepted.digests.append(digests)
+    part(names[0], board.end)
+    part(names[2], reply.end)
+    return accepted
+
+
+def judge_two(names, datas):
+    """Two accepted replies to one board, and the lanes whose bits differ, each with its openings by bit."""
+    first = judge(names[:3], datas[:3])
+    second = judge([names[0], *names[3:5]], [datas[0], *datas[3:5]])
+    if first.bits == second.bits:
+        raise Ends(7, "same challenge\n")
+    differing = {}
+    for lane, (one, other) in enumerate(zip(first.bits, second.bits), 1):
+        if one != other:
+            shown = first.shown[lane - 1], second.shown[lane - 1]
+            differing[lane] = shown if one == "0" else shown[::-1]
+    return first, differing
+
+
+# No file can show a clash: it would be two messages with one digest. So no test for one stands here.
+def extraction(first, differing):
+    lines, bids = [], {seat: set() for seat in first.front.seats}
+    for lane, (zero, one) in differing.items():
+        for place, seat in enumerate(first.front.seats):
+            (_, key, value), (_, other_key, other) = zero[place][0], one[place][0]
+            bid = (value + other) % MODULUS
+            bids[seat].add(bid)
+            lines.append(f"lane {lane} seat {seat} bid {bid} u {key} {value} v {other_key} {other}")
+    lines.append(f"winner {first.front.winner} price {first.front.price}")
+    lines += [f"seat {seat} {'same' if len(bids[seat]) == 1 else 'differs'}" for seat in first.front.seats]
+    return "".join(f"{line}\n" for line in [*lines, "end"])
+
+
+def mismatch(auction, digests, secret):
+    """Where a secret isn't that of the digests, by lanes, of a seal of its seat."""
+    if auction != secret.auction:
+        return "auction"
+    if len(digests) != len(secret.lanes):
+        return "lanes"
+    for lane, kept in enumerate(digests, 1):
+        for half, (key, value) in enumerate(halves_of(secret, lane)):
+            made = digest(auction, secret.seat, lane, half, key, value)
+            if made != kept[half]:
+                return f"lane {lane} half {half} kept {kept[half]} made {made}"
+    return None
+
+
+# ----------------------------------------------------------------------------------------------------------------------
+# The commands
+
+
+def answer(command, files, *words):
+    """The status and the text of a command that reads."""
+    try:
+        return 0, command(files, *words)
+    except Ends as ends:
+        return ends.status, ends.text
+
+
+def verify(files, *names):
+    judge(names, held(files, names))
+    return "accepted\n"
+
+
+def extract(files, *names):
+    return extraction(*judge_two(names, held(files, names)))
+
+
+def confront(files, *names):
+    datas = held(files, names)
+    first, _ = judge_two(names, datas)
+    secret = part(names[5], read_secret, datas[5])
+    front = first.front
+    if secret.seat not in front.seats:
+        raise Ends(8, f"confront no seal {secret.seat}\n")
+    why = mismatch(front.auction, front.inputs[front.seats.index(secret.seat)], secret)
+    if why:
+        raise Ends(8, f"confront mismatch {why}\n")
+    return f"held seat {secret.seat}\n"
+
+
+def report(files, name):
+    lines = Lines(held(files, [name])[0])
+    front = read_judged_front(name, lines)
+    circuit = front.circuit()
+    for lane in range(1, front.lanes + 1):
+        part(name, read_board_lane, lines, front, circuit, lane)
+    part(name, lines.end)
+    numbers = ["auction", "width", "lanes", "seals", "winner", "price"]
+    said = [f"{number} {getattr(front, number)}" for number in numbers] + [f"seat {seat}" for seat in front.seats]
+    wires, rows = len(circuit.kinds), len(circuit.rows)
+    said += [f"wires {wires}", f"rows {rows}", f"commitments {2 * wires * front.lanes}", "end"]
+    return "".join(f"{line}\n" for line in said)
+
+
+# ----------------------------------------------------------------------------------------------------------------------
+# The house and its scripts
+
+
+@dataclass
+class Auction:
+    width: int
+    lanes: int
+    seals: list = field(default_factory=list)  # of each its seat and bid
+    seed: str = None
+    bits: str = None
+
+    def phase(self):
+        return "taking" if self.seed is None else "proved" if self.bits is None else "answered"
+
+    def outcome(self):
+        bids = [bid for _, bid in self.seals]
+        winner = bids.index(max(bids))
+        return self.seals[winner][0], max(bids[:winner] + bids[winner + 1 :], default=0)
+
+
+class House:
+    """The auctions, and the commands that a script may have. What is written is not worked out: a name that was written
+    holds the first line of its form, which is enough, since no command reads a board or a reply as what it is."""
+
+    def __init__(self, files):
+        self.files, self.auctions = dict(files), {}
+
+    def known(self, auction):
+        if auction not in self.auctions:
+            raise Ends(8, "house unknown\n")
+        return self.auctions[auction]
+
+    def announce(self, auction, width, lanes):
+        if auction in self.auctions:
+            raise Ends(8, "house known\n")
+        self.auctions[auction] = Auction(int(width), int(lanes))
+        return f"announced {auction}\n"
+
+    def submit(self, auction, seal_name, secret_name):
+        seal_data, secret_data = held(self.files, [seal_name, secret_name])
+        seal = part(seal_name, read_seal, seal_data)
+        secret = part(secret_name, read_secret, secret_data)
+        kept = self.known(auction)
+        why = self.refusal(auction, kept, seal, secret)
+        if why:
+            raise Ends(8, f"house {why}\n")
+        kept.seals.append((seal.seat, secret.bid))
+        return f"taken seat {seal.seat} position {len(kept.seals)}\n"
+
+    @staticmethod
+    def refusal(auction, kept, seal, secret):
+        if kept.phase() != "taking":
+            return f"phase {kept.phase()}"
+        if len(kept.seals) == 64:
+            return "full"
+        if seal.auction != auction:
+            return f"other auction {seal.auction}"
+        if seal.seat in [seat for seat, _ in kept.seals]:
+            return f"seat taken {seal.seat}"
+        if len(seal.lanes) != kept.lanes:
+            return f"length kept {kept.lanes} given {len(seal.lanes)}"
+        if secret.bid >= 2**kept.width:
+            return "bid too large"
+        why = mismatch(seal.auction, seal.lanes, secret)
+        if why != "auction" and seal.seat != secret.seat:
+            why = "seat"
+        return f"mismatch {why}" if why else None
+
+    def prove(self, auction, seed, board_name):
+        kept = self.known(auction)
+        if not kept.seals:
+            raise Ends(8, "house no seals\n")
+        if kept.seed not in (None, seed):
+            raise Ends(8, f"house other seed kept {kept.seed}\n")
+        kept.seed = seed
+        may_be_asked(board_name)
+        self.files[board_name] = b"vickrey-board 1\n"
+        return "proved winner %d price %d\n" % kept.outcome()
+
+    def answer(self, auction, challenge_name, reply_name):
+        bits = part(challenge_name, read_challenge, held(self.files, [challenge_name])[0])
+        kept = self.known(auction)
+        if kept.seed is None:
+            raise Ends(8, "house phase taking\n")
+        if len(bits) != kept.lanes:
+            raise Ends(8, f"house length kept {kept.lanes} given {len(bits)}\n")
+        if kept.bits not in (None, bits):
+            raise Ends(8, f"house other challenge kept {kept.bits}\n")
+        kept.bits = bits
+        may_be_asked(reply_name)
+        self.files[reply_name] = b"vickrey-reply 1\n"
+        return "answered\n"
+
+    def show(self, auction):
+        kept = self.known(auction)
+        numbers = f"width {kept.width} lanes {kept.lanes} seals {len(kept.seals)}"
+        return f"auction {auction} {numbers} phase {kept.phase()}\n"
+
+
+NAME = rb"([^ ]{1,255})"
+ORDERS = {
+    "announce": rb"announce " + DIGITS_16 + rb" " + NUMBER + rb" " + NUMBER,
+    "submit": rb"submit " + DIGITS_16 + rb" " + NAME + rb" " + NAME,
+    "prove": rb"prove " + DIGITS_16 + rb" " + DIGITS_32 + rb" " + NAME,
+    "answer": rb"answer " + DIGITS_16 + rb" " + NAME + rb" " + NAME,
+    "show": rb"show " + DIGITS_16,
+}
+
+
+def order_of(line, script):
+    """The command of a script's line and its words, or None."""
+    for order, form in ORDERS.items():
+        found = re.fullmatch(form, line)
+        if found:
+            try:
+                words = text_of(found.groups())
+            except UnicodeDecodeError:
+                return None
+            return (order, words) if fits(order, words, script) else None
+    return None
+
+
+def fits(order, words, script):
+    """Whether the numbers are within their limits, and no name is written that stands elsewhere."""
+    if order == "announce":
+        width, lanes = words[1:]
+        return len(width) < 3 and 1 <= int(width) <= 40 and len(lanes) < 3 and 1 <= int(lanes) <= 64
+    if order == "answer" and words[1] == words[2]:
+        return False
+    return order not in ("prove", "answer") or words[2] != script
+
+
+def ceremony(files, script):
+    """The status and the text of a whole script."""
+    try:
+        data = held(files, [script])[0]
+    except Ends as ends:
+        return ends.status, ends.text
+    lines, house, said, refused = Lines(data), House(files), "", False
+    try:
+        lines.take(rb"vickrey-script 1")
+        while True:
+            (line,) = lines.take(rb"([^\n]*)")
+            if line == b"end":
+                if lines.at < len(data):
+                    raise Malformed(lines.number + 1)
+                return 8 if refused else 0, said + "end\n"
+            order = order_of(line, script)
+            if order is None:
+                raise Malformed(lines.number)
+            status, text = answer(lambda _, words: getattr(house, order[0])(*words), None, order[1])
+            said, refused = said + text, refused or status == 8
+            if status not in (0, 8):
+                return status, said
+    except Malformed as fault:
+        return 4, said + f"malformed {script} line {fault.line}\n"

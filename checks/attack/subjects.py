@@ -1,0 +1,156 @@
+"""What is attacked: commands over small files, of which all that they do is known."""
+import os
+import subprocess
+import sys
+from dataclasses import dataclass
+
+from attack import reference
+from attack.defined import Scenario, Step
+from attack.runs import Ended, Folder, read
+
+REPOSITORY = os.path.join(os.path.dirname(os.path.abspath(__file__)), "..", "..")
+AUCTION = "000102030405060708090a0b0c0d0e0f"
+KEYS = ["11" * 32, "22" * 32]
+
+
+def secret_of_the_smallest_board():
+    lines = ["vickrey-secret 1", f"auction {AUCTION}", "seat 7", "bid 0", "lanes 1", f"x 3 {KEYS[0]} {KEYS[1]}", "end"]
+    return "".join(f"{line}\n" for line in lines).encode()
+
+
+def smallest_files():
+    data = os.path.join(REPOSITORY, "crates", "vickrey", "data")
+    files = {name: read(os.path.join(data, name)) for name in sorted(os.listdir(data))}
+    return files | {"secret": secret_of_the_smallest_board()}
+
+
+def reading_scenarios(files):
+    """The commands that write nothing, over the smallest board; what they say is the reference's."""
+    table = {
+        "verify": (reference.verify, ["board", "challenge-0", "reply-0"]),
+        "extract": (reference.extract, ["board", "challenge-0", "reply-0", "challenge-1", "reply-1"]),
+        "confront": (reference.confront, ["board", "challenge-0", "reply-0", "challenge-1", "reply-1", "secret"]),
+        "report": (reference.report, ["board"]),
+    }
+    for name, (command, words) in table.items():
+        status, text = reference.answer(command, files, *words)
+        yield Scenario(name, [name, *words], files, [Step(text.encode())], status)
+
+
+def seed_of(number):
+    return f"{number:064d}"
+
+
+def seal_scenario(made, name, lanes, files):
+    """`seal` with so many lanes, over files that may be there already."""
+    words = ["seal", AUCTION, "7", "15", "4", str(lanes), seed_of(7), "secret-7", "seal-7"]
+    with Folder(made, {}) as folder:
+        ended = made.run(words, folder.path)
+        written = [(name, read(os.path.join(folder.path, name))) for name in ("secret-7", "seal-7")]
+    secret, seal = reference.read_secret(written[0][1]), reference.read_seal(written[1][1])
+    assert (seal.auction, seal.seat, secret.seat, secret.bid) == (AUCTION, 7, 7, 15), "another seal"
+    assert reference.mismatch(seal.auction, seal.lanes, secret) is None, "no seal of the secret"
+    text = f"sealed seat 7 lanes {lanes}\n".encode()
+    assert ended == Ended(0, text, b""), ended
+    return Scenario(name, words, files, [Step(text, written)])
+
+
+def handed_in(made, bids, lanes):
+    """The seals and secrets of bidders by their seats, with a challenge to all."""
+    files = {"challenge": f"vickrey-challenge 1\nbits {'01' * (lanes // 2)}\nend\n".encode()}
+    with Folder(made, {}) as folder:
+        for seat, bid in bids.items():
+            names = [f"secret-{seat}", f"seal-{seat}"]
+            made.run(["seal", AUCTION, str(seat), str(bid), "4", str(lanes), seed_of(seat), *names], folder.path)
+        return files | folder.files()
+
+
+def ceremony_scenario(made, name, bids, lanes):
+    """A whole auction by a script, and its board and reply, which the reference accepts."""
+    script = [f"announce {AUCTION} 4 {lanes}"]
+    texts = [f"announced {AUCTION}"]
+    for position, seat in enumerate(bids, 1):
+        script.append(f"submit {AUCTION} seal-{seat} secret-{seat}")
+        texts.append(f"taken seat {seat} position {position}")
+    script += [f"prove {AUCTION} {seed_of(1)} board", f"answer {AUCTION} challenge reply", f"show {AUCTION}"]
+    winner = max(bids, key=bids.get)
+    price = sorted(bids.values())[-2]
+    texts += [f"proved winner {winner} price {price}", "answered"]
+    texts.append(f"auction {AUCTION} width 4 lanes {lanes} seals {len(bids)} phase answered")
+    lines = ["vickrey-script 1", *script, "end"]
+    files = handed_in(made, bids, lanes) | {"script": "".join(f"{line}\n" for line in lines).encode()}
+    steps = {text: Step(f"{text}\n".encode(), again=said_again(text)) for text in [*texts, "end"]}
+    with Folder(made, files) as folder:
+        ended = made.run(["ceremony", "script"], folder.path)
+        left = folder.files()
+    assert ended == Ended(0, b"".join(step.text for step in steps.values()), b""), ended
+    assert reference.answer(reference.verify, left, "board", "challenge", "reply") == (0, "accepted\n")
+    steps[texts[-3]].written.append(("board", left["board"]))
+    steps["answered"].written.append(("reply", left["reply"]))
+    return Scenario(name, ["ceremony", "script"], files, list(steps.values()))
+
+
+def said_again(text):
+    """What a house that keeps its auctions says where the command was done before."""
+    word, *rest = text.split(" ")
+    if word == "taken":
+        return tuple(f"house {why}\n".encode() for why in (f"seat taken {rest[1]}", "phase proved", "phase answered"))
+    return (b"house known\n",) if word == "announced" else ()
+
+
+def house_scenarios(made, ceremony):
+    """The house's commands one by one over a store that is kept between them; none where auctions aren't kept."""
+    lines = ceremony.files["script"].decode().splitlines()[1:-1]
+    found = {}
+    with Folder(made, {name: data for name, data in ceremony.files.items() if name != "script"}) as folder:
+        for line, step in zip(lines, ceremony.steps):
+            files = {name: read(os.path.join(folder.path, name)) for name in sorted(os.listdir(folder.path))}
+            words = line.split(" ")
+            found[words[0]] = Scenario(words[0], words, files, [step])
+            if made.run(words, folder.path).status != 0:
+                return []
+    return list(found.values())
+
+
+def sample_scenario(made):
+    """`sample 1`, or None where the program hasn't the command."""
+    with Folder(made, {}) as folder:
+        ended = made.run(["sample", "1"], folder.path, seconds=600)
+        if ended.status == 2:
+            return None
+        names = ["board", "challenge-1", "reply-1", "challenge-2", "reply-2"]
+        written = [(f"sample-{name}", read(os.path.join(folder.path, f"sample-{name}"))) for name in names]
+    return Scenario("sample", ["sample", "1"], {}, [Step(ended.text, written)])
+
+
+@dataclass
+class Attacked:
+    """All that is attacked."""
+
+    files: dict
+    reading: list
+    writing: list
+    large: list
+    sample: Scenario
+
+    def small(self):
+        return self.reading + self.writing
+
+
+def attacked(made):
+    files = smallest_files()
+    ceremony = ceremony_scenario(made, "ceremony", {7: 15, 9: 9}, 2)
+    old = {"secret-7": b"an older secret\n", "seal-7": b"an older seal\n"}
+    seals = [seal_scenario(made, "seal", 2, {}), seal_scenario(made, "seal over files", 2, old)]
+    three = {7: 15, 9: 9, 300: 4}
+    large = [seal_scenario(made, "seal of 64 lanes", 64, {}), ceremony_scenario(made, "ceremony of 8 lanes", three, 8)]
+    house = house_scenarios(made, ceremony)
+    return Attacked(files, list(reading_scenarios(files)), [*seals, ceremony, *house], large, sample_scenario(made))
+
+
+def two_seals(made):
+    """A board of two seals and three lanes with two replies, which bench/make_board.py makes."""
+    script = os.path.join(REPOSITORY, "bench", "make_board.py")
+    with Folder(made, {}) as folder:
+        subprocess.run([sys.executable, script, "2", "2", "3", "5", folder.path], check=True)
+        return folder.files()

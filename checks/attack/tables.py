@@ -1,0 +1,294 @@
+"""The tables: each gives its cases."""
+import errno
+import random
+import resource
+import shutil
+import subprocess
+import time
+from dataclasses import dataclass
+
+from attack import mutations, reference
+from attack.cases import Batch, KilledLater, Limited, LimitedOutput, Output, Refused, SmallDisk, Told
+from attack.defined import EFFECT
+from attack.runs import KILLED, STORE, Folder, Program
+from attack.subjects import AUCTION, Attacked, seed_of, two_seals
+
+EVER = 2**62  # a number of calls that no run comes to
+OUTSIDE = "osrwlycCfn"  # the letters of faults.c of all calls but those for memory
+USAGE = (
+    b"usage: vickrey seal|announce|submit|prove|answer|show|verify|extract|confront|report|sample|ceremony\n"
+)
+
+FAULTS = {
+    "o": [errno.EMFILE, errno.EACCES, errno.EIO, errno.ENOSPC, errno.EROFS],
+    "s": [errno.EIO, errno.EACCES, errno.ELOOP],
+    "r": [errno.EIO],
+    "w": [errno.ENOSPC, errno.EIO, errno.EDQUOT],
+    "l": [errno.EIO],
+    "y": [errno.EIO, errno.ENOSPC],
+    "c": [errno.EIO],
+    "C": [errno.EIO, errno.ENOSPC],
+    "f": [errno.EIO],
+    "n": [errno.EIO],
+}
+
+
+@dataclass
+class Attack:
+    """How much is tried, and what is drawn."""
+
+    made: Program
+    on: Attacked
+    draw: random.Random
+    quick: bool
+
+    def some(self, cases, most):
+        """All cases, or so many of them, in their order."""
+        cases = list(cases)
+        if len(cases) <= most:
+            return cases
+        return [cases[at] for at in sorted(self.draw.sample(range(len(cases)), most))]
+
+    def scenarios(self):
+        if self.quick:
+            return self.on.small()
+        return self.on.small() + self.on.large + ([self.on.sample] if self.on.sample else [])
+
+    def most(self, scenario, quick, full):
+        """How many cases of a scenario: of a sample, which takes a second or more for each, few."""
+        if self.quick:
+            return quick
+        return 40 if scenario is self.on.sample else min(full, 300) if scenario in self.on.large else full
+
+
+def memory(attack):
+    """Each request for memory is refused, alone and with all that follow."""
+    for scenario in attack.scenarios():
+        count = len(attack.made.calls(scenario, "m"))
+        ends = [(number, last) for number in range(1, count + 1) for last in (number, EVER)]
+        for first, last in attack.some(ends, attack.most(scenario, 30, 10000)):
+            label = f"request {first} of {count} for memory{' and all later ones' if last == EVER else ''} refused"
+            yield Refused(scenario, label, (9, EFFECT), "m", first, last, errno.ENOMEM)
+
+
+def may_of(letter):
+    """How a run may end where such a call fails. The close of a file that was only read, or was synced, has nothing to
+    tell; a lock may be asked for in vain, and a name that is taken away may be gone."""
+    return (6, EFFECT) if letter in "cfn" else (6,)
+
+
+def calls(attack):
+    """Each call of the outside fails, with each error, alone and with all that follow."""
+    for scenario in attack.scenarios():
+        letters = attack.made.calls(scenario, OUTSIDE)
+        ends = []
+        for number, letter in enumerate(letters, 1):
+            may = may_of(letter)
+            ends += [(number, number, letter, error, may) for error in FAULTS[letter]]
+            ends.append((number, EVER, letter, errno.EIO, (6, EFFECT) if letter in "cC" else may))
+        for first, last, letter, error, may in attack.some(ends, attack.most(scenario, 30, 10000)):
+            later = " and all later ones" if last == EVER else ""
+            label = f"call {first} of {len(letters)} ({letter}){later} fails with {errno.errorcode[error]}"
+            yield Refused(scenario, label, may, OUTSIDE, first, last, error)
+
+
+def interrupted(attack):
+    """A signal interrupts each call, or a call moves one byte of many: neither is a fault."""
+    for scenario in attack.scenarios():
+        for kinds, what, name in (("orw", errno.EINTR, "interrupted"), ("rw", "short", "moves one byte")):
+            count = len(attack.made.calls(scenario, kinds))
+            for number in attack.some(range(1, count + 1), attack.most(scenario, 10, 10000)):
+                yield Refused(scenario, f"call {number} of {count} ({kinds}) {name}", (EFFECT,), kinds, number, number, what)
+        if scenario is not attack.on.sample:
+            yield Refused(scenario, "each call moves one byte", (EFFECT,), "rw", 1, EVER, "short")
+
+
+def killed(attack):
+    """A kill before each call, and at moments that are drawn."""
+    for scenario in attack.scenarios():
+        for kinds, most in ((OUTSIDE, 10000), ("m", 200)):
+            count = len(attack.made.calls(scenario, kinds))
+            for number in attack.some(range(1, count + 1), attack.most(scenario, 10, most)):
+                label = f"killed before call {number} of {count} ({kinds})"
+                yield Refused(scenario, label, (KILLED,), kinds, number, number, "kill")
+    for scenario in attack.on.large:
+        with Folder(attack.made, scenario.files) as folder:
+            began = time.monotonic()
+            attack.made.run(scenario.words, folder.path)
+            lasted = time.monotonic() - began
+        for _ in range(20 if attack.quick else 500):
+            seconds = attack.draw.uniform(0, 1.2 * lasted)
+            yield KilledLater(scenario, "killed at some moment", (KILLED, EFFECT), seconds)
+
+
+def disk(attack):
+    """A disk that is full after so many bytes or pages, and a device that always is."""
+    for scenario in [*attack.on.writing, *attack.on.large]:
+        longest = max((len(text) for step in scenario.steps for _, text in step.written), default=0)
+        for most in attack.some(range(longest + 1), 40 if attack.quick else 1500):
+            may = (6,) if most < longest else (EFFECT,)
+            if STORE in scenario.files or scenario.name == "ceremony":
+                may = (6, EFFECT)  # the store of auctions grows, too
+            yield Limited(scenario, f"no file may pass {most} bytes", may, most)
+    if may_mount(attack.made):
+        for scenario in attack.on.large:
+            for pages in range(1, 24):
+                yield SmallDisk(scenario, f"a disk with {pages} free pages", (6, EFFECT), pages)
+
+
+def may_mount(made):
+    script = ["unshare", "-m", "sh", "-c", "mount -t tmpfs -o size=4096 tmpfs ."]
+    with Folder(made, {}) as folder:
+        return shutil.which("unshare") and subprocess.run(script, cwd=folder.path, capture_output=True).returncode == 0
+
+
+def output(attack):
+    """Standard output is full, has lost its reader, isn't there, or takes so many bytes."""
+    kinds = {"full": "is full", "pipe": "has lost its reader", "ignored pipe": "has lost its reader, SIGPIPE being ignored"}
+    kinds |= {"output": "is closed", "output and errors": "and error are closed", "all": ", input and error are closed"}
+    for scenario in attack.on.small():
+        for kind, name in kinds.items():
+            yield Output(scenario, f"standard output {name}", (6,), kind)
+    for scenario in attack.on.reading:
+        length = len(scenario.text())
+        for most in range(length + 1):
+            may = (6,) if most < length else (EFFECT,)
+            yield LimitedOutput(scenario, f"standard output takes {most} bytes", may, most)
+
+
+def places(attack):
+    """Names and places: what is no file, what may not be read or written, long names and names that terminals obey."""
+    files = attack.on.files
+    seal = ["seal", AUCTION, "7", "15", "4", "2", seed_of(7)]
+    sealed, fault = (0, b"sealed seat 7 lanes 2\n"), (6, b"")
+    missing = lambda name: (5, f"missing {name}\n".encode())
+    yield from unusual_inputs(files, fault, missing)
+    yield from names(files, seal, sealed, missing)
+    for scenario in attack.on.small():
+        for most in range(4, 14):
+            yield Limited(scenario, f"{most} files may be open", (6, EFFECT), most, resource.RLIMIT_NOFILE)
+    for label, lay, name in (
+        ("a folder", "mkdir there", "there"),
+        ("a path through no folder", ":", "there/secret"),
+        ("a path through a file", "echo >there", "there/secret"),
+        ("a full device", ":", "/dev/full"),
+        ("a loop of links", "ln -s there there", "there"),
+        ("the current folder", ":", "."),
+    ):
+        made = {"secret": 1} if name == "/dev/full" else {}
+        words = [*seal, "secret", name] if made else [*seal, name, "seal"]
+        yield Told(f"seal writes to {label}", words, fault, {}, lay, made)
+    yield Told("seal in a folder that can't be written", [*seal, "secret", "seal"], fault, {}, unprivileged=True)
+    lay = "echo old >secret; chmod 444 secret; echo old >seal; chmod 666 seal"
+    yield Told("seal over a file that can't be written", [*seal, "secret", "seal"], fault, {}, lay, unprivileged=True)
+    yield Told("seal through a link", [*seal, "secret", "seal"], sealed, {}, "ln -s target secret", {"seal": 1, "target": 1})
+
+
+def unusual_inputs(files, fault, missing):
+    """In the place of each input of a command, what isn't a regular file or can't be reached."""
+    verify = ["board", "challenge-0", "reply-0"]
+    table = [
+        ("a folder", "mkdir there", "there", fault),
+        ("a pipe", "mkfifo there", "there", fault),
+        ("an endless device", ":", "/dev/zero", fault),
+        ("a loop of links", "ln -s there there", "there", fault),
+        ("a link to nothing", "ln -s nothing there", "there", missing("there")),
+        ("a path through a file", ":", "board/there", missing("board/there")),
+        ("nothing", ":", "there", missing("there")),
+        ("an empty file", "true >there", "there", (4, b"malformed there line 1\n")),
+    ]
+    for place, old in enumerate(verify):
+        for label, lay, name, end in table:
+            words = ["verify", *verify[:place], name, *verify[place + 1 :]]
+            yield Told(f"verify with {label} as {old}", words, end, files, lay)
+        words = ["verify", *verify[:place], "there", *verify[place + 1 :]]
+        lay = f"cp {old} there; chmod 000 there; chmod 644 board challenge-0 reply-0"
+        yield Told(f"verify with {old} that may not be read", words, fault, files, lay, unprivileged=True)
+        yield Told(f"verify with {old} through a link", words, (0, b"accepted\n"), files, f"ln -s {old} there")
+
+
+def names(files, seal, sealed, missing):
+    """Names of 255 and 256 bytes, and names that hold more than letters."""
+    usage = (2, USAGE)
+    for label, name in (("255 bytes", "n" * 255), ("255 bytes of two each", "é" * 127 + "n"), ("a dash", "--help")):
+        yield Told(f"seal writes a name of {label}", [*seal, name, "seal"], sealed, {}, made={name: 1, "seal": 1})
+        yield Told(f"verify reads a name of {label}", ["verify", name, "challenge-0", "reply-0"], (0, b"accepted\n"),
+                   files | {name: files["board"]})
+        yield Told(f"verify misses a name of {label}", ["verify", name, "challenge-0", "reply-0"], missing(name), files)
+    path = "./" * 125 + "board"
+    yield Told("verify reads a path of 255 bytes", ["verify", path, "challenge-0", "reply-0"], (0, b"accepted\n"), files)
+    for label, name in (("256 bytes", "n" * 256), ("256 bytes of two each", "é" * 128), ("no bytes", "")):
+        yield Told(f"seal writes a name of {label}", [*seal, name, "seal"], usage, {})
+        yield Told(f"verify reads a name of {label}", ["verify", name, "challenge-0", "reply-0"], usage, files)
+    for name in ("\x1b[31mred\x1b[0m", "two\nlines", "a space", "\r\x07\x08", "日本", "\u202eturned", "-", "%s%n"):
+        words = ["verify", "board", name, "reply-0"]
+        yield Told(f"verify misses {name!r}", words, missing(name), files)
+        yield Told(f"verify reads {name!r}", words, (4, f"malformed {name} line 1\n".encode()), files | {name: b"end\n"})
+    words = ["verify", "board", b"\xff", "reply-0"]
+    yield Told("a word that isn't UTF-8", words, usage, files)
+    yield Told("seal writes one name twice", [*seal, "one", "one"], usage, {})
+
+
+def sizes(attack):
+    """Files of 2^30 bytes, of more, and of a whole board with zeros behind it; most of their bytes are never written."""
+    for scenario in attack.on.reading:
+        for name in scenario.words[1:]:
+            yield from sized(scenario.words, scenario.files, name, "")
+    announce, said = f"announce {AUCTION} 4 2", f"announced {AUCTION}\n"
+    yield from sized(["ceremony", "script"], {"script": script(announce)}, "script", "")
+    submit, answer = f"submit {AUCTION} seal-7 secret-7", f"answer {AUCTION} challenge reply"
+    for name, line in (("seal-7", submit), ("secret-7", submit), ("challenge", answer)):
+        files = attack.on.large[1].files | {"script": script(announce, line)}
+        yield from sized(["ceremony", "script"], files, name, said)
+    yield from sizes_of_verify(attack.on.reading[0].words, attack.on.files)
+
+
+def script(*lines):
+    return "".join(f"{line}\n" for line in ["vickrey-script 1", *lines, "end"]).encode()
+
+
+def sized(words, files, name, said):
+    most = reference.MOST_BYTES
+    table = [("2^30 bytes", most, f"malformed {name} line 1\n")]
+    table += [(label, size, f"too long {name}\n") for label, size in (("2^30 + 1 bytes", most + 1), ("2^40 bytes", 2**40))]
+    for label, size, text in table:
+        lay = f"rm {name}; truncate -s {size} {name}"
+        yield Told(f"{words[0]} with {name} of {label}", words, (4, f"{said}{text}".encode()), files, lay)
+
+
+def sizes_of_verify(words, files):
+    """Which of several faults is told."""
+    most, lines = reference.MOST_BYTES, files["board"].count(b"\n")
+    for label, lay, end in (
+        ("zeros behind the board", f"truncate -s {most} board", (4, f"malformed board line {lines + 1}\n")),
+        ("a board too long, no reply", f"truncate -s {most + 1} board; rm reply-0", (4, "too long board\n")),
+        ("no board, a reply too long", f"truncate -s {most + 1} reply-0; rm board", (5, "missing board\n")),
+        ("a bad board, no reply", "echo >board; rm reply-0", (5, "missing reply-0\n")),
+    ):
+        yield Told(f"verify with {label}", words, (end[0], end[1].encode()), files, lay)
+
+
+def changed(attack):
+    """Files with small changes, against the reference."""
+    subjects = changed_subjects(attack)
+    count, batch = (2000, 250) if attack.quick else (100000, 1000)
+    for _ in range(count // batch):
+        yield Batch(subjects, f"{attack.draw.getrandbits(64):016x}", batch)
+
+
+def changed_subjects(attack):
+    smallest, two = attack.on.files, two_seals(attack.made)
+    subjects = []
+    for files, names in ((smallest, ["challenge-0", "reply-0", "challenge-1", "reply-1"]),
+                         (two, ["challenge-1", "reply-1", "challenge-2", "reply-2"])):
+        for at in (0, 2):
+            subjects.append(mutations.Subject(["verify", "board", *names[at : at + 2]], files, ("board", names[at + 1])))
+        subjects.append(mutations.Subject(["extract", "board", *names], files, ("board", names[3])))
+        subjects.append(mutations.Subject(["report", "board"], files))
+    words = attack.on.reading[2].words
+    subjects.append(mutations.Subject(words, smallest))
+    ceremony = next(scenario for scenario in attack.on.writing if scenario.name == "ceremony")
+    return subjects + [mutations.Subject(ceremony.words, ceremony.files)] * 2
+
+
+TABLES = [memory, calls, interrupted, killed, disk, output, places, sizes, changed]

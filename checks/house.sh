@@ -1,0 +1,135 @@
+#!/usr/bin/env bash
+# checks/house.sh PROGRAM: an auction of three bidders with the built program, in an empty folder and every command a process
+# of its own, from `seal` to `verify`, and what is said of a store that is in use, damaged or of another version. It wants
+# the tool sqlite3. It is no part of the gate. The last line says how many cases passed and failed.
+set -u
+[ $# -eq 1 ] || { sed -n '2,4p' "$0"; exit 2; }
+program=$(realpath "$1")
+folder=$(mktemp -d)
+trap 'rm -rf "$folder"' EXIT
+cd "$folder" || exit 1
+passed=0
+failed=0
+id=000102030405060708090a0b0c0d0e0f
+
+# case STATUS TEXT ERROR WORD..: the program with these words ends so, prints the text, and says the error
+case_of() {
+  local status=$1 text=$2 error=$3
+  shift 3
+  "$program" "$@" >out 2>err
+  local got=$?
+  if [ "$got" = "$status" ] && [ "$(cat out)" = "$text" ] && [ "$(cat err)" = "$error" ]; then
+    passed=$((passed + 1))
+  else
+    failed=$((failed + 1))
+    echo "FAILED: $* : status $got, not $status; printed '$(cat out)', said '$(cat err)'"
+  fi
+}
+
+# holds TEXT COMMAND..: a command prints the text
+holds() {
+  local text=$1
+  shift
+  local got
+  got=$("$@" 2>&1)
+  if [ "$got" = "$text" ]; then
+    passed=$((passed + 1))
+  else
+    failed=$((failed + 1))
+    echo "FAILED: $* : '$got', not '$text'"
+  fi
+}
+
+# a store is kept only where a command asks for it
+case_of 5 'missing board' '' report board
+holds '' find . -name 'house*'
+umask 000
+
+case_of 0 "announced $id" '' announce $id 8 4
+holds '600' stat -c %a house.sqlite
+holds '600' stat -c %a house.sqlite-wal
+case_of 8 'house known' '' announce $id 8 4
+for bidder in 1 2 3; do
+  case_of 0 "sealed seat 10$bidder lanes 4" '' seal $id 10$bidder $((bidder * 30)) 8 4 "$(printf '%064d' $bidder)" secret-$bidder seal-$bidder
+  case_of 0 "taken seat 10$bidder position $bidder" '' submit $id seal-$bidder secret-$bidder
+done
+case_of 8 'house seat taken 102' '' submit $id seal-2 secret-2
+case_of 0 "auction $id width 8 lanes 4 seals 3 phase taking" '' show $id
+seed=$(printf '%064d' 9)
+case_of 0 'proved winner 103 price 60' '' prove $id "$seed" board
+printf 'vickrey-challenge 1\nbits 0110\nend\n' >challenge
+printf 'vickrey-challenge 1\nbits 1001\nend\n' >other
+case_of 0 'answered' '' answer $id challenge reply
+case_of 0 'accepted' '' verify board challenge reply
+case_of 0 "auction $id width 8 lanes 4 seals 3 phase answered" '' show $id
+
+# one answer alone
+case_of 8 'house other challenge kept 0110' '' answer $id other reply-2
+holds '' find . -name reply-2
+case_of 0 'answered' '' answer $id challenge reply-2
+holds '' cmp reply reply-2
+
+# the tool reads what is kept
+holds '3|answered|0110' sqlite3 house.sqlite "SELECT count(*), CASE phase WHEN 2 THEN 'answered' END, bits FROM auction JOIN seal USING (id)"
+holds 'ok' sqlite3 house.sqlite 'PRAGMA integrity_check'
+holds "$(cat seal-2)" sqlite3 house.sqlite 'SELECT seal FROM seal WHERE seat = 102'
+holds "$(cat secret-3)" sqlite3 house.sqlite 'SELECT secret FROM seal WHERE position = 3'
+case_of 0 'answered' '' answer $id challenge reply-2
+holds '' cmp reply reply-2
+
+# a store that is in use: refused, and nothing is lost
+sqlite3 house.sqlite 'BEGIN EXCLUSIVE' '.shell sleep 2' >held &
+sleep 0.5
+case_of 6 '' 'outside fault' show $id
+wait
+case_of 0 "auction $id width 8 lanes 4 seals 3 phase answered" '' show $id
+
+# a damaged row is a fault, and never another answer
+cp house.sqlite sound.sqlite
+while read -r damage; do
+  cp sound.sqlite house.sqlite
+  rm -f house.sqlite-wal house.sqlite-shm
+  sqlite3 house.sqlite "PRAGMA journal_mode = delete" "$damage" >said
+  case_of 6 '' 'outside fault' show $id
+done <<'DAMAGES'
+UPDATE auction SET width = 41
+UPDATE auction SET lanes = 3
+UPDATE auction SET phase = 3
+UPDATE auction SET phase = 0
+UPDATE auction SET seed = NULL
+UPDATE auction SET seed = x'00'
+UPDATE auction SET bits = '01'
+UPDATE auction SET bits = '01x0'
+UPDATE seal SET seat = 104 WHERE position = 1
+UPDATE seal SET position = 4 WHERE position = 1
+UPDATE seal SET seal = secret WHERE position = 1
+UPDATE seal SET secret = replace(secret, 'bid 30', 'bid 31')
+UPDATE seal SET secret = secret || 'x'
+DELETE FROM seal WHERE position = 2
+DELETE FROM seal
+DELETE FROM auction
+DROP TABLE seal
+DAMAGES
+
+# another version
+while read -r change; do
+  cp sound.sqlite house.sqlite
+  rm -f house.sqlite-wal house.sqlite-shm
+  sqlite3 house.sqlite "PRAGMA journal_mode = delete" "$change" >said
+  case_of 6 '' 'other store' show $id
+done <<'CHANGES'
+UPDATE about SET version = 2
+DELETE FROM about
+INSERT INTO about VALUES (1)
+CHANGES
+rm -f house.sqlite*
+head -c 4096 /dev/zero >house.sqlite
+case_of 6 '' 'outside fault' show $id
+holds '' cmp -n 4096 house.sqlite /dev/zero
+rm -f house.sqlite*
+mkdir house.sqlite
+case_of 6 '' 'outside fault' show $id
+case_of 0 'accepted' '' verify board challenge reply
+
+echo "$passed passed, $failed failed"
+[ "$failed" = 0 ]

@@ -1,0 +1,4 @@
+pub mod Refusals
+pub mod Columns
+pub mod Versions
+pub mod Transactions

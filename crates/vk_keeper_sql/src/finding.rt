@@ -1,0 +1,66 @@
+//! Finds an auction in the store.
+
+ghost use Rattle.std.specs.Prelude.{◌≡◌, false, IfOk, IfSome};
+ghost use Rattle.sqlite.specs.Held.{state};
+ghost use Rattle.vk_keeper.specs.Auctions.{IsAuction};
+ghost use Rattle.vk_keeper_sql.specs.Transactions.{CommitsNothing};
+
+use crate::queries::{AUCTION, SEALS, rows_under};
+use crate::rows::auction_from;
+use sqlite::{Alter, Connection, Row};
+use std::alloc::Global;
+use vk_io::OutsideErr;
+use vk_keeper::Auction;
+
+/// The auction of that id, read in a transaction that is rolled back. None where the store has no row
+/// of it. Errs where its rows aren't an auction.
+pub fn find<S: Alter>(
+    alloc: Global,
+    connection: &mut Connection<S>,
+    id: &[u8; 16],
+) -> Result<Option<Auction>, OutsideErr>
+    ensures id { IfOk result (λ found. IfSome found (λ auction. auction.id ≡ id.now)) }
+    ensures right { IfOk result (λ found. IfSome found IsAuction) }
+    ensures crash { CommitsNothing (state S.Store connection.old) (state S.Store connection.new) }
+{
+    if !connection.is_autocommit() {
+        return Err(OutsideErr::Failed);
+    }
+    let (heads, seals) = rows_of(connection, id)?;
+    let found = found_in(alloc, id, heads.as_slice(), seals.as_slice())?;
+    Ok(found)
+}
+
+/// The rows of an auction and those of its seals.
+fn rows_of<S: Alter>(
+    connection: &mut Connection<S>,
+    id: &[u8; 16],
+) -> Result<(Vec<Row>, Vec<Row>), OutsideErr>
+    requires { connection.old.in_transaction ≡ false }
+    ensures crash { CommitsNothing (state S.Store connection.old) (state S.Store connection.new) }
+{
+    let mut transaction = connection.transaction();
+    let heads = rows_under(&mut transaction, AUCTION, id)?;
+    let seals = rows_under(&mut transaction, SEALS, id)?;
+    Ok((heads, seals))
+}
+
+/// The auction that the rows are, or none where there are no rows.
+fn found_in(
+    alloc: Global,
+    id: &[u8; 16],
+    heads: &[Row],
+    seals: &[Row],
+) -> Result<Option<Auction>, OutsideErr>
+    ensures id { IfOk result (λ found. IfSome found (λ auction. auction.id ≡ id.now)) }
+    ensures right { IfOk result (λ found. IfSome found IsAuction) }
+{
+    match heads {
+        [] if seals.is_empty() => Ok(None),
+        [head] => {
+            let auction = auction_from(alloc, id, head, seals)?;
+            Ok(Some(auction))
+        }
+        _ => Err(OutsideErr::Failed),
+    }
+}

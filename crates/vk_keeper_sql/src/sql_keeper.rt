@@ -1,0 +1,103 @@
+//! A keeper over an SQLite store.
+
+ghost use Rattle.std.specs.Prelude.{◌≡◌, IfOk, IfSome};
+ghost use Rattle.sqlite.specs.Held.{state};
+ghost use Rattle.vk_io.specs.Faults.{Causes};
+ghost use Rattle.vk_keeper.specs.Auctions.{IsAuction};
+ghost use Rattle.vk_keeper.specs.Turns.{AfterGet, AfterPut};
+ghost use Rattle.vk_keeper_sql.specs.Transactions.{CommitsNothing, CommitsAtOnce};
+
+use crate::errors::OpenErr;
+use crate::finding::find;
+use crate::keeping::replace;
+use crate::tables::prepare;
+use sqlite::{Alter, Connection};
+use std::alloc::Global;
+use vk_io::OutsideErr;
+use vk_keeper::{Auction, Keeper, TurnCount};
+
+/// A keeper over the connection to an SQLite store. It doesn't tell its ledger. A statement that is
+/// refused, and rows that aren't an auction, raise its count of faults.
+#[derive(Drop)]
+pub struct SqlKeeper<S: Alter> {
+    connection: Connection<S>,
+    faults: u64,
+    turns: TurnCount,
+    alloc: Global,
+}
+
+impl<S: Alter> SqlKeeper<S> {
+    /// A keeper over this store, with no faults yet, which makes what it answers with this allocator.
+    /// A store without tables gets them. Refused, the connection comes back.
+    pub fn over(
+        alloc: Global,
+        mut connection: Connection<S>,
+    ) -> Result<SqlKeeper<S>, (OpenErr, Connection<S>)> {
+        match prepare(&mut connection) {
+            Ok(()) => Ok(SqlKeeper {
+                connection,
+                faults: 0,
+                turns: TurnCount::new(),
+                alloc,
+            }),
+            Err(refusal) => Err((refusal, connection)),
+        }
+    }
+
+    /// Hands the connection back.
+    pub fn close(self) -> Connection<S>
+        ensures { result ≡ self.connection }
+    {
+        let SqlKeeper {
+            connection,
+            faults: _,
+            turns: _,
+            alloc: _,
+        } = self;
+        connection
+    }
+}
+
+/// Counts the answer where it is a fault, and hands it on.
+fn counted<T>(faults: &mut u64, answer: Result<T, OutsideErr>) -> Result<T, OutsideErr>
+    ensures same { result ≡ answer }
+    ensures causes { Causes OutsideErr.Failed result faults.old faults.new }
+{
+    if matches!(answer, Err(OutsideErr::Failed)) {
+        *faults = faults.saturating_add(1);
+    }
+    answer
+}
+
+impl<S: Alter> Keeper for SqlKeeper<S> {
+    ghost use Rattle.std.specs.Prelude.{None};
+
+    ghost ledger = { λ _. None };
+
+    ghost faults = { λ keeper. keeper.faults };
+
+    ghost turns = { λ keeper. keeper.turns };
+
+    fn get(&mut self, id: &[u8; 16]) -> Result<Option<Auction>, OutsideErr>
+        ensures id { IfOk result (λ found. IfSome found (λ auction. auction.id ≡ id.now)) }
+        ensures right { IfOk result (λ found. IfSome found IsAuction) }
+        ensures crash { CommitsNothing (state S.Store self.old.connection) (state S.Store self.new.connection) }
+        ensures turn { AfterGet self.old.turns self.new.turns }
+        ensures causes { Causes OutsideErr.Failed result self.old.faults self.new.faults }
+    {
+        self.turns.count_get();
+        let found = find(self.alloc, &mut self.connection, id);
+        counted(&mut self.faults, found)
+    }
+
+    fn put(&mut self, auction: Auction) -> Result<(), OutsideErr>
+        requires { IsAuction auction }
+        ensures crash { CommitsAtOnce (state S.Store self.old.connection) (state S.Store self.new.connection) result }
+        ensures turn { AfterPut self.old.turns self.new.turns }
+        ensures causes { Causes OutsideErr.Failed result self.old.faults self.new.faults }
+    {
+        self.turns.count_put();
+        let kept = replace(self.alloc, &mut self.connection, &auction);
+        counted(&mut self.faults, kept)
+    }
+}

@@ -1,0 +1,97 @@
+-- How `sample` ends, from what its parts did.
+use Rattle.std.proofs.Common.{◌≡◌, ℕ, List, [], ◌∷◌, ◌++◌, length, Option, Some, None, Result, Ok, Err, refl, sym, ap, subst, ◌∙◌, inl, inr}
+use Rattle.std.specs.Prelude.{option_map, IfSome, IsSome}
+use Rattle.std.specs.FinMap.{insert}
+use Rattle.vk_io.specs.Files.{Files, Told}
+use Rattle.vk_io.specs.Writing.{IsDivided, WritesAll, written}
+use Rattle.vk_io.specs.declared.errors.OutsideErr.{OutsideErr}
+use Rattle.vk_lines.specs.Gives.{Refuses}
+use Rattle.vk_bids.specs.declared.extraction.Extraction.TheVariants.{Bids}
+use Rattle.vk_bids.specs.Extraction.{extraction_on}
+use Rattle.vk_keeper.specs.declared.auction.Auction.{Auction}
+use Rattle.vk_keeper.specs.Ledgers.{Ledger}
+use Rattle.vk_job.specs.Published.{head_of}
+use Rattle.vk_report.specs.declared.sample.SampleCase.{SampleCase}
+use Rattle.vk_report.specs.Samples.{sample_of}
+use Rattle.vk_effect.specs.Effects.{Effect, SaidValue, Stores, says, stores}
+use Rattle.vk_effect.specs.Ends.{Acts}
+use Rattle.vk_sample.specs.Auctions.{DrySeed, auction_of}
+use Rattle.vk_sample.specs.Laws.{IsAuctionOf, OpensAll, opened}
+use Rattle.vk_sample.specs.Samples.{effect_by, sample_on}
+use Rattle.vk_sample.specs.Texts.{dry_said, files_of, found_text, made_text, read_said, same_count, sample_names, summary_said}
+
+-- it was stopped where nothing had changed
+pub stopped_first : (effect : Option Effect) (old : Stores) (stop : OutsideErr) → IfSome effect (λ whole. Acts (Err stop) whole old old)
+stopped_first None old stop = tt
+stopped_first (Some whole) old stop = inl refl
+
+-- ---- a seed that is dry
+
+said_alone : (held : Option Files) (ledger : Option Ledger) (said dry : SaidValue) → said ≡ dry → Acts (Ok said) (says ledger dry) (stores held ledger) (stores held ledger)
+said_alone None ledger said dry is = (is, refl)
+said_alone (Some files) ledger said dry is = (is, refl)
+
+pub dry_acts : (dry : Option DrySeed) (made : Result Auction DrySeed) (held : Option Files) (ledger : Option Ledger) (number : ℕ) (sample : SampleCase) (said : SaidValue) → Refuses dry made → IfSome dry (λ seed. said ≡ dry_said seed) → IsSome dry
+    → IfSome (effect_by held ledger number sample made) (λ effect. Acts (Ok said) effect (stores held ledger) (stores held ledger))
+dry_acts None made held ledger number sample said refused is some = cc some
+dry_acts (Some dry) made held ledger number sample said refused is some =
+    subst (λ m. IfSome (effect_by held ledger number sample m) (λ effect. Acts (Ok said) effect (stores held ledger) (stores held ledger))) (sym refused)
+    (said_alone held ledger said (dry_said dry) is)
+
+-- ---- files that are written
+
+-- all of them, or divided behind the last
+divided_last : (texts : List (List ℕ × List ℕ)) (files : Files) → IsDivided texts files (written texts files)
+divided_last [] files = refl
+divided_last (text ∷ texts) files = inr (divided_last texts (insert files text.0 text.1))
+
+pub writing_stopped : (sample : SampleCase) (auction : Auction) (number : ℕ) (held left : Option Files) (ledger : Option Ledger) (stop : OutsideErr) → Told (WritesAll (files_of sample auction) (Err stop)) held left
+    → IfSome (effect_by held ledger number sample (Ok auction)) (λ effect. Acts (Err stop) effect (stores held ledger) (stores left ledger))
+writing_stopped sample auction number None left ledger stop told = tt
+writing_stopped sample auction number (Some files) None ledger stop told = absurd told
+writing_stopped sample auction number (Some files) (Some after) ledger stop told = inr (refl, told)
+
+pub reading_stopped : (sample : SampleCase) (auction : Auction) (number : ℕ) (held left now : Option Files) (ledger : Option Ledger) (stop : OutsideErr) → Told (WritesAll {E = OutsideErr} (files_of sample auction) (Ok tt)) held left → now ≡ left
+    → IfSome (effect_by held ledger number sample (Ok auction)) (λ effect. Acts (Err stop) effect (stores held ledger) (stores now ledger))
+reading_stopped sample auction number None left now ledger stop told same = tt
+reading_stopped sample auction number (Some files) None now ledger stop told same = absurd told
+reading_stopped sample auction number (Some files) (Some after) now ledger stop told same =
+    let is : now ≡ Some (written (files_of sample auction) files) = same ∙ ap Some told in
+    inr (refl, subst (Told (IsDivided (files_of sample auction)) (Some files)) (sym is) (divided_last (files_of sample auction) files))
+
+-- ---- the summary
+
+module _ (sample : SampleCase) (auction : Auction) (is : IsAuctionOf sample auction) (opens : OpensAll sample auction) (number : ℕ) (made : List ℕ) (made_is : made ≡ made_text number (head_of auction)) where
+  summary : read_said made (Ok (Bids (opened sample auction))) ≡ summary_said number (head_of auction)
+  unfolding head_of
+  summary =
+      let of : List ℕ → ℕ → ℕ → SaidValue = λ front lanes same. record { status = 0; text = front ++ found_text lanes same } in
+      let found = opened sample auction in
+      ap (λ front. of front (length found.lanes) (same_count found)) made_is
+      ∙ ap (λ lanes. of (made_text number (head_of auction)) lanes (same_count found)) (opens.all_lanes ∙ sym is.lanes_are)
+      ∙ ap (of (made_text number (head_of auction)) auction.lanes) (opens.all_same ∙ sym is.seals_are)
+
+  -- the files that were written are read back, and open every bid
+  pub holding_done : (held left now : Option Files) (ledger : Option Ledger) (said : SaidValue) → Told (WritesAll {E = OutsideErr} (files_of sample auction) (Ok tt)) held left → now ≡ left
+      → IfSome left (λ files. said ≡ read_said made (extraction_on files sample_names.board sample_names.first.challenge sample_names.first.reply sample_names.second.challenge sample_names.second.reply))
+      → IfSome (effect_by held ledger number sample (Ok auction)) (λ effect. Acts (Ok said) effect (stores held ledger) (stores now ledger))
+  holding_done None left now ledger said told same reads = tt
+  holding_done (Some files) None now ledger said told same reads = absurd told
+  holding_done (Some files) (Some after) now ledger said told same reads = (
+    reads
+        ∙ ap (λ left. read_said made (extraction_on left sample_names.board sample_names.first.challenge sample_names.first.reply sample_names.second.challenge sample_names.second.reply)) told
+        ∙ ap (read_said made) (opens.read files)
+        ∙ summary,
+    ap (λ left. stores left ledger) (same ∙ ap Some told),
+  )
+
+-- ---- the whole
+
+-- the sample is that of the number, and this comes of its seeds
+pub sample_acts : (number : ℕ) (sample : SampleCase) (made : Result Auction DrySeed) (held now : Option Files) (ledger : Option Ledger) (answer : Result SaidValue OutsideErr) → sample ≡ sample_of number → auction_of sample ≡ made
+    → IfSome (effect_by held ledger number sample made) (λ effect. Acts answer effect (stores held ledger) (stores now ledger))
+    → IfSome (sample_on held ledger number) (λ effect. Acts answer effect (stores held ledger) (stores now ledger))
+unfolding sample_on
+sample_acts number sample made held now ledger answer is comes acts =
+    let P : SampleCase → Type 0 = λ s. IfSome (effect_by held ledger number s (auction_of s)) (λ effect. Acts answer effect (stores held ledger) (stores now ledger)) in
+    subst P is (subst (λ m. IfSome (effect_by held ledger number sample m) (λ effect. Acts answer effect (stores held ledger) (stores now ledger))) (sym comes) acts)

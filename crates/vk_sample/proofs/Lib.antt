@@ -1,0 +1,6 @@
+pub mod Seals
+pub mod Rows
+pub mod Auctions
+pub mod Opened
+pub mod Pieces
+pub mod Acting

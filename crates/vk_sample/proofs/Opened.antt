@@ -1,0 +1,133 @@
+-- What a sample writes is accepted, and read back it opens every bid.
+use Rattle.std.proofs.Common.{◌≡◌, ◌≢◌, ℕ, zero, suc, ◌+◌, Bool, true, false, not, cond, List, [], ◌∷◌, length, Option, Some, Ok, refl, sym, ap, ◌∙◌, arith}
+use Rattle.std.specs.Prelude.{◌&&◌}
+use Rattle.std.specs.List.{count_by, fold, range_with_len}
+use Rattle.std.specs.Str.{bytes_eq}
+use Rattle.std.specs.FinMap.{get, insert}
+use Rattle.std.proofs.lemmas.List.{length-map}
+use Rattle.vk_io.specs.Files.{Files}
+use Rattle.vk_io.specs.Writing.{written}
+use Rattle.vk_io.proofs.Finite.{get_inserted, get_own}
+use Rattle.vk_reply.specs.declared.challenge.Challenge.{Challenge}
+use Rattle.vk_reply.specs.Texts.{challenge_text}
+use Rattle.vk_bids.specs.declared.extraction.Extraction.TheVariants.{Bids}
+use Rattle.vk_bids.specs.Extraction.{extraction_on}
+use Rattle.vk_bids.specs.Headline.{HeldAttempt, HeldFiles}
+use Rattle.vk_bids.specs.Texts.{has_one_bid}
+use Rattle.vk_bids.proofs.Named.{files_are_extracted}
+use Rattle.vk_keeper.specs.declared.auction.Auction.{Auction}
+use Rattle.vk_job.specs.Published.{board_of, reply_of, seal_lines_of}
+use Rattle.vk_honest.specs.Answers.{IsChallengeTo}
+use Rattle.vk_honest.specs.Sizes.{board_lines, reply_lines}
+use Rattle.vk_honest.proofs.Accepted.{answers_are_accepted}
+use Rattle.vk_honest.proofs.Extracted.{bids_are_equal, replies_give_bids, turned_open_all}
+use Rattle.vk_honest.proofs.Sizes.{boards_are_short, boards_have_lines, challenges_are_short, replies_are_short, replies_have_lines}
+use Rattle.vk_report.specs.declared.sample.SampleCase.{SampleCase}
+use Rattle.vk_report.specs.Samples.{IsSampleCase, lanes, seals, width}
+use Rattle.vk_words.specs.Names.{AttemptWords}
+use Rattle.vk_sample.specs.Laws.{AreAccepted, HasLines, IsAuctionOf, OpensAll, opened}
+use Rattle.vk_sample.specs.Texts.{files_of, same_count, sample_names}
+
+-- ---- what a file holds after others are written
+
+-- whether none of them has the name
+abbrev none_named : List ℕ → List (List ℕ × List ℕ) → Bool
+none_named name [] = true
+none_named name (text ∷ texts) = not (bytes_eq name text.0) && none_named name texts
+
+both : (one : Bool) (others : Bool) → (not one && others) ≡ true → (one ≡ false) × (others ≡ true)
+both true others is = cc
+both false others is = (refl, is)
+
+held_still : (texts : List (List ℕ × List ℕ)) (files : Files) (name bytes : List ℕ) → none_named name texts ≡ true → get files name ≡ Some bytes → get (written texts files) name ≡ Some bytes
+held_still [] files name bytes other held = held
+held_still (text ∷ texts) files name bytes other held =
+    let parts = both (bytes_eq name text.0) (none_named name texts) other in
+    held_still texts (insert files text.0 text.1) name bytes parts.1
+    (get_inserted files text.0 text.1 name ∙ ap (λ b. cond b (Some text.1) (get files name)) parts.0 ∙ held)
+
+-- a file that is written before others of other names
+held_first : (texts : List (List ℕ × List ℕ)) (files : Files) (name bytes : List ℕ) → none_named name texts ≡ true → get (written ((name, bytes) ∷ texts) files) name ≡ Some bytes
+held_first texts files name bytes other = held_still texts (insert files name bytes) name bytes other (get_own files name bytes)
+
+-- ---- counts
+
+counted_on : (test : ℕ → Bool) → ((index : ℕ) → test index ≡ true) → (so_far from count : ℕ) → fold (λ a x. a + cond (test x) 1 0) so_far (range_with_len from count) ≡ so_far + count
+counted_on test all so_far from zero = omega arith
+counted_on test all so_far from (suc count) =
+    ap (λ b. fold (λ a x. a + cond (test x) 1 0) (so_far + cond b 1 0) (range_with_len (from + 1) count)) (all from)
+    ∙ counted_on test all (so_far + 1) (from + 1) count ∙ omega arith
+
+all_counted : (test : ℕ → Bool) → ((index : ℕ) → test index ≡ true) → (from count : ℕ) → count_by test (range_with_len from count) ≡ count
+all_counted test all from count = counted_on test all 0 from count ∙ omega arith
+
+-- ---- the sample
+
+module _ (sample : SampleCase) (case : IsSampleCase sample) (auction : Auction) (is : IsAuctionOf sample auction) where
+  pub has_lines : HasLines sample auction
+  has_lines =
+      let board : board_lines (length auction.seals) auction.width auction.lanes ≡ board_lines seals width lanes =
+      ap (λ n. board_lines n auction.width auction.lanes) is.seals_are ∙ ap (λ w. board_lines seals w auction.lanes) is.width_is ∙ ap (λ l. board_lines seals width l) is.lanes_are in
+      let reply : reply_lines (length auction.seals) auction.width auction.lanes ≡ reply_lines seals width lanes =
+      ap (λ n. reply_lines n auction.width auction.lanes) is.seals_are ∙ ap (λ w. reply_lines seals w auction.lanes) is.width_is ∙ ap (λ l. reply_lines seals width l) is.lanes_are in
+      record {
+        board = boards_have_lines auction is.proved ∙ board;
+        first = replies_have_lines auction sample.first is.proved is.first ∙ reply;
+        second = replies_have_lines auction sample.second is.proved is.second ∙ reply;
+      }
+
+  pub are_accepted : AreAccepted sample auction
+  are_accepted = record {
+    first = answers_are_accepted auction sample.first is.proved is.first;
+    second = answers_are_accepted auction sample.second is.proved is.second;
+  }
+
+  -- a challenge and the reply to it, which are written before others of other names
+  abbrev attempt : (before : Files) (others : List (List ℕ × List ℕ)) (names : AttemptWords) (challenge : Challenge) → IsChallengeTo auction challenge
+      → none_named names.challenge ((names.reply, reply_of auction challenge) ∷ others) ≡ true → none_named names.reply others ≡ true
+      → HeldAttempt (written ((names.challenge, challenge_text challenge) ∷ (names.reply, reply_of auction challenge) ∷ others) before) names.challenge names.reply
+  attempt before others names challenge asked challenge_alone reply_alone = record {
+    challenge_bytes = challenge_text challenge;
+    reply_bytes = reply_of auction challenge;
+    challenge_is = record {
+      is = held_first ((names.reply, reply_of auction challenge) ∷ others) before names.challenge (challenge_text challenge) challenge_alone;
+      short = challenges_are_short challenge asked.right;
+    };
+    reply_is = record {
+      is = held_first others (insert before names.challenge (challenge_text challenge)) names.reply (reply_of auction challenge) reply_alone;
+      short = replies_are_short auction challenge is.proved asked;
+    };
+  }
+
+  abbrev second_attempt : List (List ℕ × List ℕ)
+  second_attempt = (sample_names.second.challenge, challenge_text sample.second) ∷ (sample_names.second.reply, reply_of auction sample.second) ∷ []
+
+  abbrev both_attempts : List (List ℕ × List ℕ)
+  both_attempts = (sample_names.first.challenge, challenge_text sample.first) ∷ (sample_names.first.reply, reply_of auction sample.first) ∷ second_attempt
+
+  abbrev held : (files : Files) → HeldFiles (written (files_of sample auction) files) sample_names.board sample_names.first.challenge sample_names.first.reply sample_names.second.challenge sample_names.second.reply
+  held files =
+      let board = insert files sample_names.board (board_of auction) in
+      let first = insert (insert board sample_names.first.challenge (challenge_text sample.first)) sample_names.first.reply (reply_of auction sample.first) in
+      record {
+        board_bytes = board_of auction;
+        board_is = record { is = held_first both_attempts files sample_names.board (board_of auction) refl; short = boards_are_short auction is.proved };
+        first = attempt board second_attempt sample_names.first sample.first is.first refl refl;
+        second = attempt first [] sample_names.second sample.second is.second refl refl;
+      }
+
+  pub opens_all : OpensAll sample auction
+  opens_all =
+      let turned = turned_open_all auction sample.first sample.second is.first case.turned in
+      let gives = replies_give_bids auction sample.first sample.second is.proved is.first is.second turned.0 in
+      let count : length (opened sample auction).front.seals ≡ seals = length-map auction.seals seal_lines_of ∙ is.seals_are in
+      record {
+        read = λ files.
+            (files_are_extracted (written (files_of sample auction) files) sample_names.board sample_names.first.challenge sample_names.first.reply
+            sample_names.second.challenge sample_names.second.reply (Bids (opened sample auction))).1 (record { held = held files; is = sym gives });
+        all_lanes = turned.1 ∙ is.lanes_are;
+        all_seals = count;
+        all_same =
+            all_counted (λ index. has_one_bid index (opened sample auction).lanes) (bids_are_equal auction sample.first sample.second) 0 (length (opened sample auction).front.seals)
+            ∙ count;
+      }

@@ -1,0 +1,42 @@
+use Rattle.std.proofs.Common.{ap, string_bytes, ◌∙◌}
+use Rattle.std.specs.List.{flat_map}
+use Rattle.std.proofs.lemmas.Result.{err_from_is_err_and}
+use Rattle.vk_effect.specs.Effects.{stores}
+use Rattle.vk_sample.proofs.Acting.{holding_done, reading_stopped, stopped_first, writing_stopped}
+use Rattle.vk_sample.proofs.Auctions.{auction_is}
+use Rattle.vk_sample.proofs.Opened.{opens_all}
+use Rattle.vk_sample.specs.Texts.{made_text}
+use Rattle.vk_sample.proofs.sampling.hold.Goals as goal
+
+pub returns-in_err-made-clause-acts : goal.returns-in_err-made-clause-acts
+returns-in_err-made-clause-acts g c =
+    let p = err_from_is_err_and c.from_residual.result c.from_residual.ensures.1 in
+    rw p.1 (λ ledger. stopped_first _ (stores (g.S.Shelf.held c.args.shelf.now) ledger) p.0)
+
+pub returns-in_err-write_sample-clause-acts : goal.returns-in_err-write_sample-clause-acts
+returns-in_err-write_sample-clause-acts g c =
+    let p = err_from_is_err_and c.from_residual-in_err-write_sample.result c.from_residual-in_err-write_sample.ensures.1 in
+    rw p.1
+    (λ ledger. writing_stopped c.args.sample.now c.args.job.now.auction c.args.number (g.S.Shelf.held c.args.shelf.now) (g.S.Shelf.held c.write_sample.new.shelf) ledger p.0 c.in_err-write_sample.ensures.written)
+
+pub returns-in_err-said-clause-acts : goal.returns-in_err-said-clause-acts
+returns-in_err-said-clause-acts g c =
+    let p = err_from_is_err_and c.from_residual-in_err-said.result c.from_residual-in_err-said.ensures.1 in
+    rw p.1
+    (λ ledger. reading_stopped c.args.sample.now c.args.job.now.auction c.args.number (g.S.Shelf.held c.args.shelf.now) (g.S.Shelf.held c.write_sample.new.shelf) (g.S.Shelf.held c.read_back.new.shelf) ledger p.0
+    c.in_ok-write_sample.ensures.written c.in_err-said.ensures.shelf.held)
+
+pub returns-clause-acts : goal.returns-clause-acts
+returns-clause-acts g c = λ ledger.
+    let sample = c.args.sample.now in
+    let auction = c.args.job.now.auction in
+    let is = auction_is sample c.requires.right auction c.requires.made in
+    holding_done sample auction is (opens_all sample c.requires.right auction is) c.args.number (flat_map string_bytes c.in_ok-made.made.items) (c.in_ok-made.ensures ∙ ap (made_text c.args.number) c.head.ensures.value)
+    (g.S.Shelf.held c.args.shelf.now) (g.S.Shelf.held c.write_sample.new.shelf) (g.S.Shelf.held c.read_back.new.shelf) ledger c.in_ok-said.said
+    c.in_ok-write_sample.ensures.written c.in_ok-said.ensures.shelf.held c.in_ok-said.ensures.said
+
+pub write_sample-requires-clause-first : goal.write_sample-requires-clause-first
+write_sample-requires-clause-first g c = (auction_is c.args.sample.now c.requires.right c.args.job.now.auction c.requires.made).first.one_bit_each
+
+pub write_sample-requires-clause-second : goal.write_sample-requires-clause-second
+write_sample-requires-clause-second g c = (auction_is c.args.sample.now c.requires.right c.args.job.now.auction c.requires.made).second.one_bit_each

@@ -1,0 +1,5 @@
+pub mod Auctions
+pub mod Texts
+pub mod Written
+pub mod Samples
+pub mod Laws

@@ -1,0 +1,94 @@
+-- What `sample` says, and which files it writes.
+use Rattle.std.specs.Prelude.{ℕ, ◌+◌, List, [], ◌∷◌, ◌++◌, length, codes, decimal, Result, Ok, Err}
+use Rattle.std.specs.List.{count_by, range_with_len}
+use Rattle.vk_board.specs.declared.board.Head.{Head}
+use Rattle.vk_reply.specs.Texts.{challenge_text}
+use Rattle.vk_verifier.specs.declared.answers.VErr.{VErr}
+use Rattle.vk_bids.specs.declared.extraction.Extracted.{Extracted}
+use Rattle.vk_bids.specs.declared.extraction.Extraction.{Extraction}
+use Rattle.vk_bids.specs.declared.extraction.Extraction.TheVariants.{Refused, Same, Clash, Bids}
+use Rattle.vk_bids.specs.Texts.{has_one_bid, winner_line}
+use Rattle.vk_keeper.specs.declared.auction.Auction.{Auction}
+use Rattle.vk_job.specs.Published.{board_of, reply_of}
+use Rattle.vk_honest.specs.Sizes.{board_lines, reply_lines}
+use Rattle.vk_report.specs.declared.sample.SampleCase.{SampleCase}
+use Rattle.vk_words.specs.Names.{ExtractWords}
+use Rattle.vk_effect.specs.Effects.{SaidValue}
+use Rattle.vk_effect.specs.Texts.{◌+++◌, line_feed}
+use Rattle.vk_audit.specs.Extractions.{extraction_said}
+use Rattle.vk_audit.specs.Verdicts.{unread_said}
+use Rattle.vk_sample.specs.Auctions.{DrySeed, OfBidder, OfHouse}
+
+-- ---- the files
+
+abbrev pub sample_names : ExtractWords
+sample_names = record {
+  board = codes "sample-board";
+  first = record { challenge = codes "sample-challenge-1"; reply = codes "sample-reply-1" };
+  second = record { challenge = codes "sample-challenge-2"; reply = codes "sample-reply-2" };
+}
+
+-- those that are written, in order: the honest prover's board and its replies to both challenges
+abbrev pub files_of : SampleCase → Auction → List (List ℕ × List ℕ)
+files_of sample auction =
+    (sample_names.board, board_of auction)
+    ∷ (sample_names.first.challenge, challenge_text sample.first)
+    ∷ (sample_names.first.reply, reply_of auction sample.first)
+    ∷ (sample_names.second.challenge, challenge_text sample.second)
+    ∷ (sample_names.second.reply, reply_of auction sample.second)
+    ∷ []
+
+-- ---- a seed that is dry
+
+abbrev pub dry_line : DrySeed → List ℕ
+dry_line (OfBidder lane) = codes "seal dry seed lane " +++ decimal lane +++ line_feed
+dry_line (OfHouse dry) = codes "house dry seed lane " +++ decimal dry.lane +++ codes " wire " +++ decimal dry.wire +++ line_feed
+
+abbrev pub dry_said : DrySeed → SaidValue
+dry_said dry = record { status = 8; text = dry_line dry }
+
+-- ---- the summary
+
+-- of the auction as it was made, by the head of its board: how many lines the board and a reply have, and the outcome
+abbrev pub size_line : Head → List ℕ
+size_line head = codes "seals " +++ decimal head.seals +++ codes " width " +++ decimal head.width +++ codes " lanes " +++ decimal head.lanes +++ line_feed
+
+abbrev pub counts_text : ℕ → ℕ → List ℕ
+counts_text board reply = (codes "board lines " +++ decimal board +++ line_feed) ++ (codes "reply lines " +++ decimal reply +++ line_feed)
+
+abbrev pub made_text : ℕ → Head → List ℕ
+made_text number head =
+    (codes "sample " +++ decimal number +++ line_feed)
+    ++ (size_line head
+    ++ (counts_text (board_lines head.seals head.width head.lanes) (reply_lines head.seals head.width head.lanes)
+    ++ winner_line head))
+
+-- both replies are accepted
+abbrev pub accepted_text : List ℕ
+accepted_text = (codes "verify 1 accepted" +++ line_feed) ++ (codes "verify 2 accepted" +++ line_feed)
+
+-- in how many lanes bids were opened, and of how many seals they are equal in all of these
+abbrev pub opened_text : ℕ → ℕ → List ℕ
+opened_text lanes same = (codes "extract lanes " +++ decimal lanes +++ codes " same " +++ decimal same +++ line_feed) ++ (codes "end" +++ line_feed)
+
+abbrev pub found_text : ℕ → ℕ → List ℕ
+found_text lanes same = accepted_text ++ opened_text lanes same
+
+-- how many of the seals have one bid in all lanes
+abbrev pub same_count : Extracted → ℕ
+same_count found = count_by (λ index. has_one_bid index found.lanes) (range_with_len 0 (length found.front.seals))
+
+-- of the files as they were read back: bids are opened only where both replies are accepted. Else what `extract` says
+abbrev pub opened_said : List ℕ → Extraction → SaidValue
+opened_said made (Bids found) = record { status = 0; text = made ++ found_text (length found.lanes) (same_count found) }
+opened_said made (Refused second verdict) = extraction_said sample_names (Refused second verdict)
+opened_said made Same = extraction_said sample_names Same
+opened_said made (Clash two) = extraction_said sample_names (Clash two)
+
+abbrev pub read_said : List ℕ → Result Extraction VErr → SaidValue
+read_said made (Ok extraction) = opened_said made extraction
+read_said made (Err fault) = unread_said sample_names fault
+
+-- the summary of files that both replies are accepted of, and that open the same bid of every seal in every lane
+abbrev pub summary_said : ℕ → Head → SaidValue
+summary_said number head = record { status = 0; text = made_text number head ++ found_text head.lanes head.seals }

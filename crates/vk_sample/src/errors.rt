@@ -1,0 +1,59 @@
+ghost use Rattle.std.specs.Prelude.{◌≡◌, IfOk, IfSome, IsSome, OnOk};
+ghost use Rattle.vk_sample.specs.Auctions.{dry_of, of_job};
+ghost use Rattle.vk_sample.specs.Texts.{dry_said};
+
+use std::alloc::{AllocFailed, Global};
+use vk_effect::Said;
+use vk_job::JobErr;
+use vk_residue::NoMemory;
+
+/// Why there is no auction of a sample.
+#[derive(Clone, Copy, Debug, PartialEq, Eq)]
+pub enum SampleErr {
+    /// The residue of that lane, the first such, can't be drawn from a bidder's seed. Lanes count from 1.
+    DryBidder { lane: u32 },
+    /// The tape of that wire, the first such, can't be drawn from the auctioneer's seed. Wires count from 0.
+    DryHouse { lane: u32, wire: u32 },
+    /// Want of memory.
+    NoMemory,
+}
+
+impl<T: Drop> From<AllocFailed<T>> for SampleErr {
+    ghost use Rattle.std.specs.Prelude.{◌≡◌};
+    ghost use Rattle.vk_sample.specs.declared.errors.SampleErr.TheVariants.{NoMemory as OutOfMemory};
+
+    ghost from_gives = { λ _ e. e ≡ OutOfMemory };
+
+    fn from(_refused: AllocFailed<T>) -> SampleErr {
+        SampleErr::NoMemory
+    }
+}
+
+impl From<JobErr> for SampleErr {
+    ghost from_gives = { λ refused e. e ≡ of_job refused };
+
+    fn from(refused: JobErr) -> SampleErr {
+        match refused {
+            JobErr::DrySeed { lane, wire } => SampleErr::DryHouse { lane, wire },
+            JobErr::NoMemory => SampleErr::NoMemory,
+        }
+    }
+}
+
+impl SampleErr {
+    /// What is said of a seed that is dry. Errs for want of memory alone.
+    pub fn said(self, alloc: Global) -> Result<Said, NoMemory>
+        ensures said { IfSome (dry_of self) (λ dry. IfOk result (λ said. said ≡ dry_said dry)) }
+        ensures dry { OnOk result (IsSome (dry_of self)) }
+    {
+        let line = match self {
+            SampleErr::DryBidder { lane } => format!(in alloc; "seal dry seed lane {lane}\n")?,
+            SampleErr::DryHouse { lane, wire } => {
+                format!(in alloc; "house dry seed lane {lane} wire {wire}\n")?
+            }
+            SampleErr::NoMemory => return Err(NoMemory),
+        };
+        let said = Said::of_line(alloc, 8, line.as_str())?;
+        Ok(said)
+    }
+}

@@ -1,0 +1,56 @@
+ghost use Rattle.std.specs.Prelude.{◌≡◌, ℕ, IfSome, Ok, Option};
+ghost use Rattle.vk_io.specs.Faults.{Causes};
+ghost use Rattle.vk_keeper.specs.Ledgers.{Ledger};
+ghost use Rattle.vk_effect.specs.Effects.{stores};
+ghost use Rattle.vk_sample.specs.Auctions.{auction_of};
+ghost use Rattle.vk_sample.specs.Samples.{Acts, IsSampleCase, effect_by, sample_on};
+
+use crate::files::write_sample;
+use crate::making::make_job;
+use crate::reading::read_back;
+use crate::summary::made_lines;
+use std::alloc::Global;
+use vk_effect::Said;
+use vk_io::{OutsideErr, Shelf};
+use vk_job::Job;
+use vk_report::{SampleCase, sample_case};
+
+/// Makes the auction of a number with its board and two replies, writes them, reads them back, and says what they come
+/// to. Files that stand under their names are replaced; where a seed is dry none is written.
+pub fn sample<S: Shelf>(alloc: Global, shelf: &mut S, number: u64) -> Result<Said, OutsideErr>
+    ensures acts { (ledger : Option Ledger) → IfSome (sample_on (S.held shelf.old) ledger number)
+        (λ effect. Acts result effect (stores (S.held shelf.old) ledger) (stores (S.held shelf.new) ledger)) }
+    ensures causes { Causes OutsideErr.Failed result (S.Shelf.faults shelf.old) (S.Shelf.faults shelf.new) }
+{
+    let sample = sample_case(alloc, number)?;
+    match make_job(alloc, &sample) {
+        Ok(job) => {
+            let said = hold(alloc, shelf, number, &sample, &job);
+            said
+        }
+        Err(dry) => {
+            let said = dry.said(alloc)?;
+            Ok(said)
+        }
+    }
+}
+
+/// Writes the files of the sample's job, and reads them back.
+fn hold<S: Shelf>(
+    alloc: Global,
+    shelf: &mut S,
+    number: u64,
+    sample: &SampleCase,
+    job: &Job,
+) -> Result<Said, OutsideErr>
+    requires right { IsSampleCase sample.now }
+    requires made { auction_of sample.now ≡ Ok job.now.auction }
+    ensures acts { (ledger : Option Ledger) → IfSome (effect_by (S.held shelf.old) ledger number sample.now (Ok job.now.auction))
+        (λ effect. Acts result effect (stores (S.held shelf.old) ledger) (stores (S.held shelf.new) ledger)) }
+    ensures causes { Causes OutsideErr.Failed result (S.Shelf.faults shelf.old) (S.Shelf.faults shelf.new) }
+{
+    let made = made_lines(alloc, number, &job.head())?;
+    write_sample(alloc, shelf, sample, job)?;
+    let said = read_back(alloc, shelf, made)?;
+    Ok(said)
+}

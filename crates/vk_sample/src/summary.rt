@@ -1,0 +1,166 @@
+// What is said of a sample.
+ghost use Rattle.std.specs.Prelude.{◌≡◌, ◌++◌, IfOk, OnOk, length, string_bytes};
+ghost use Rattle.std.specs.List.{flat_map};
+ghost use Rattle.vk_board.specs.Values.{IsHead};
+ghost use Rattle.vk_honest.specs.Sizes.{board_lines, reply_lines};
+ghost use Rattle.vk_bids.specs.Texts.{winner_line};
+ghost use Rattle.vk_sample.specs.Texts.{accepted_text, counts_text, found_text, made_text, opened_said, opened_text, same_count, size_line};
+
+use crate::files::sample_names;
+use std::alloc::Global;
+use vk_audit::extracted;
+use vk_bids::{Extracted, Extraction, has_one_bid};
+use vk_board::Head;
+use vk_effect::Said;
+use vk_report::{row_count, wire_count};
+use vk_residue::NoMemory;
+
+/// How many lines the board has.
+fn board_lines(head: &Head) -> u32
+    requires { IsHead head.now }
+    ensures { result ≡ board_lines head.now.seals head.now.width head.now.lanes }
+{
+    let lane = 1 + (wire_count(head) - head.seals) + row_count(head);
+    7 + head.seals * (1 + head.lanes) + head.lanes * lane + 1
+}
+
+/// How many lines a reply has.
+fn reply_lines(head: &Head) -> u32
+    requires { IsHead head.now }
+    ensures { result ≡ reply_lines head.now.seals head.now.width head.now.lanes }
+{
+    2 + head.lanes * (1 + wire_count(head)) + 1
+}
+
+/// One line more.
+fn push(lines: &mut Vec<String>, line: String) -> Result<(), NoMemory>
+    ensures { OnOk result (flat_map string_bytes lines.new.items ≡ flat_map string_bytes lines.old.items ++ string_bytes line) }
+{
+    lines.push(line)?;
+    Ok(())
+}
+
+/// Two lines more.
+fn push_two(lines: &mut Vec<String>, first: String, second: String) -> Result<(), NoMemory>
+    ensures { OnOk result (flat_map string_bytes lines.new.items ≡ flat_map string_bytes lines.old.items ++ (string_bytes first ++ string_bytes second)) }
+{
+    push(lines, first)?;
+    push(lines, second)?;
+    Ok(())
+}
+
+/// The lines of the auction as it was made.
+pub fn made_lines(alloc: Global, number: u64, head: &Head) -> Result<Vec<String>, NoMemory>
+    requires { IsHead head.now }
+    ensures { IfOk result (λ lines. flat_map string_bytes lines.items ≡ made_text number head.now) }
+{
+    let mut lines = Vec::new(alloc);
+    push(&mut lines, format!(in alloc; "sample {number}\n")?)?;
+    push_size(alloc, &mut lines, head)?;
+    push_counts(alloc, &mut lines, head)?;
+    push_outcome(alloc, &mut lines, head)?;
+    Ok(lines)
+}
+
+/// The numbers of the head.
+fn push_size(alloc: Global, lines: &mut Vec<String>, head: &Head) -> Result<(), NoMemory>
+    ensures { OnOk result (flat_map string_bytes lines.new.items ≡ flat_map string_bytes lines.old.items ++ size_line head.now) }
+{
+    let Head {
+        seals,
+        width,
+        lanes,
+        ..
+    } = *head;
+    let line = format!(in alloc; "seals {seals} width {width} lanes {lanes}\n")?;
+    push(lines, line)?;
+    Ok(())
+}
+
+/// How many lines the files have.
+fn push_counts(alloc: Global, lines: &mut Vec<String>, head: &Head) -> Result<(), NoMemory>
+    requires { IsHead head.now }
+    ensures { OnOk result (flat_map string_bytes lines.new.items ≡ flat_map string_bytes lines.old.items
+        ++ counts_text (board_lines head.now.seals head.now.width head.now.lanes) (reply_lines head.now.seals head.now.width head.now.lanes)) }
+{
+    let board = board_lines(head);
+    let board = format!(in alloc; "board lines {board}\n")?;
+    let reply = reply_lines(head);
+    let reply = format!(in alloc; "reply lines {reply}\n")?;
+    push_two(lines, board, reply)?;
+    Ok(())
+}
+
+/// The outcome.
+fn push_outcome(alloc: Global, lines: &mut Vec<String>, head: &Head) -> Result<(), NoMemory>
+    ensures { OnOk result (flat_map string_bytes lines.new.items ≡ flat_map string_bytes lines.old.items ++ winner_line head.now) }
+{
+    let Head { winner, price, .. } = *head;
+    let line = format!(in alloc; "winner {winner} price {price}\n")?;
+    push(lines, line)?;
+    Ok(())
+}
+
+/// How many of the seals have one bid in all lanes.
+fn same_count(found: &Extracted) -> usize
+    ensures { result ≡ same_count found.now }
+{
+    let lanes = found.lanes.as_slice();
+    (0..found.front.seals.len())
+        .filter(|index| has_one_bid(*index, lanes))
+        .count()
+}
+
+/// The lines of bids that both replies open, behind those of the auction as it was made.
+fn found_lines(alloc: Global, made: Vec<String>, found: &Extracted) -> Result<Vec<String>, NoMemory>
+    ensures { IfOk result (λ lines. flat_map string_bytes lines.items
+        ≡ flat_map string_bytes made.items ++ found_text (length found.now.lanes) (same_count found.now)) }
+{
+    let mut lines = made;
+    let lanes = found.lanes.len();
+    let same = same_count(found);
+    push_accepted(alloc, &mut lines)?;
+    push_opened(alloc, &mut lines, lanes, same)?;
+    Ok(lines)
+}
+
+/// That both replies are accepted.
+fn push_accepted(alloc: Global, lines: &mut Vec<String>) -> Result<(), NoMemory>
+    ensures { OnOk result (flat_map string_bytes lines.new.items ≡ flat_map string_bytes lines.old.items ++ accepted_text) }
+{
+    let first = format!(in alloc; "verify 1 accepted\n")?;
+    let second = format!(in alloc; "verify 2 accepted\n")?;
+    push_two(lines, first, second)?;
+    Ok(())
+}
+
+/// In how many lanes bids were opened, and of how many seals they are equal in all of these.
+fn push_opened(
+    alloc: Global,
+    lines: &mut Vec<String>,
+    lanes: usize,
+    same: usize,
+) -> Result<(), NoMemory>
+    ensures { OnOk result (flat_map string_bytes lines.new.items ≡ flat_map string_bytes lines.old.items ++ opened_text lanes same) }
+{
+    let first = format!(in alloc; "extract lanes {lanes} same {same}\n")?;
+    let second = format!(in alloc; "end\n")?;
+    push_two(lines, first, second)?;
+    Ok(())
+}
+
+/// Of what the replies come to as they were read back.
+pub fn opened(alloc: Global, made: Vec<String>, extraction: &Extraction) -> Result<Said, NoMemory>
+    ensures { IfOk result (λ said. said ≡ opened_said (flat_map string_bytes made.items) extraction.now) }
+{
+    match extraction {
+        Extraction::Bids(found) => {
+            let lines = found_lines(alloc, made, found)?;
+            Ok(Said::of_lines(0, lines))
+        }
+        other => {
+            let said = extracted(alloc, &sample_names(), other)?;
+            Ok(said)
+        }
+    }
+}

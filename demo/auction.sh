@@ -1,0 +1,82 @@
+#!/usr/bin/env bash
+# demo/auction.sh PROGRAM: a whole auction in a new folder, every command shown before it runs. Three bidders seal, the
+# auctioneer proves the outcome, a challenge is drawn in view, and the reply is checked. It takes a few seconds.
+set -u
+[ $# -eq 1 ] || { sed -n '2,3p' "$0"; exit 2; }
+program=$(realpath "$1")
+checker=$(realpath "$(dirname "$0")/../checker/check.py")
+folder=$(mktemp -d "${TMPDIR:-/tmp}/vickrey-auction.XXXXXX")
+cd "$folder" || exit 1
+umask 077
+width=4
+lanes=16
+
+say() { printf '\n# %s\n' "$*"; }
+
+# vickrey STATUS WORD..: shows a command, runs it, and stops the demonstration where it ends with another status
+vickrey() {
+  local status=$1 got
+  shift
+  echo "\$ vickrey $*"
+  "$program" "$@"
+  got=$?
+  [ "$got" = "$status" ] || { echo "demo: status $got, not $status; the files are in $folder"; exit 1; }
+}
+
+# shown COMMAND: shows a line of the shell and runs it
+shown() {
+  echo "\$ $1"
+  eval "$1"
+}
+
+seed() { od -An -v -tx1 -N32 /dev/urandom | tr -d ' \n'; }
+
+# write_challenge FILE BITS
+write_challenge() { printf 'vickrey-challenge 1\nbits %s\nend\n' "$2" >"$1"; }
+
+say "The auction has an id of 32 digits. A bid is below 2^$width = $((1 << width)), and there are $lanes lanes."
+id=$(seed | head -c 32)
+vickrey 0 announce "$id" $width $lanes
+
+say 'Three bidders seal 15, 9 and 4, each with a secret seed. Each keeps the secret, and hands in both files.'
+for bidder in '7 15' '9 9' '300 4'; do
+  read -r seat bid <<<"$bidder"
+  vickrey 0 seal "$id" "$seat" "$bid" $width $lanes "$(seed)" "secret-$seat" "seal-$seat"
+  vickrey 0 submit "$id" "seal-$seat" "secret-$seat"
+done
+
+say 'The auctioneer takes no more seals, and publishes the board. Seat 7 wins, and pays the second highest bid.'
+vickrey 0 prove "$id" "$(seed)" board
+vickrey 0 report board
+
+say 'Only now is the challenge drawn: one random number for each lane, odd for 1 and even for 0.'
+shown "od -An -v -tu1 -w1 -N$lanes /dev/urandom >drawn"
+shown "tr -s ' \n' ' ' <drawn"
+bits=$(awk '{ printf "%d", $1 % 2 }' drawn)
+echo
+write_challenge challenge "$bits"
+shown 'cat challenge'
+
+say 'The auctioneer answers it. Anybody checks the reply: with this program, and with another one.'
+vickrey 0 answer "$id" challenge reply
+vickrey 0 verify board challenge reply
+command -v python3 >/dev/null && shown "python3 $checker verify board challenge reply"
+
+say 'Two replies would give the bids away, so another challenge is refused for ever: status 8. The same one is not.'
+write_challenge other-challenge "$(tr 01 10 <<<"$bits")"
+vickrey 8 answer "$id" other-challenge other-reply
+vickrey 0 answer "$id" challenge reply
+
+say 'What two replies would reveal is seen on a sample, 20 bids of which both replies are made.'
+vickrey 0 sample 1
+shown "$program extract sample-board sample-challenge-1 sample-reply-1 sample-challenge-2 sample-reply-2 >revealed"
+shown "head -n 3 revealed | cut -d ' ' -f 1-6"
+
+say "Look at the files, in $folder:"
+cat <<END
+board               what the auctioneer publishes: commitments and posted numbers
+challenge, reply    the challenge, and all that is ever opened
+secret-7, seal-7    a bidder's secret, with its bid, and the seal that stands on the board
+house.sqlite        what the auctioneer keeps; it has all bids
+revealed            the bids of the sample, each with its two openings
+END
