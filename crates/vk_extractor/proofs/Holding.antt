@@ -3,12 +3,12 @@ use Rattle.std.proofs.Common.{◌≡◌, ℕ, ◌+◌, ◌<◌, true, false, Lis
 use Rattle.std.proofs.lemmas.List.{get_or_default, take_more, take_all}
 use Rattle.vk_residue.specs.Residue.{sum}
 use Rattle.vk_plan.specs.Plans.{PlanValue, IsPlan, Holds, MayHave}
-use Rattle.vk_plan.specs.Forms.{form_value, NamesBelow}
+use Rattle.vk_plan.specs.Forms.{form_value, NamesBelow, no_row}
 use Rattle.vk_plan.specs.declared.form.Form.{Form}
 use Rattle.vk_plan.specs.declared.wire.WireKind.TheVariants.{Split}
 use Rattle.vk_wire.specs.declared.wire.Shown.{Shown}
 use Rattle.vk_row.specs.declared.case.LaneCase.{LaneCase}
-use Rattle.vk_row.specs.Lanes.{IsAcceptedLane, place_in, no_digests, nothing_shown, no_row}
+use Rattle.vk_row.specs.Lanes.{IsAcceptedLane, place_in, no_digests, nothing_shown}
 use Rattle.vk_row.specs.Rows.{sums}
 use Rattle.vk_extractor.specs.Clash.{clash_of_lane}
 use Rattle.vk_extractor.specs.Values.{wire_value}

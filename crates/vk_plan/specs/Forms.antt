@@ -1,5 +1,5 @@
 -- What a form comes to on a list of values, in whole numbers.
-use Rattle.std.specs.Prelude.{ℕ, ◌+◌, ◌*◌, ◌%◌, ◌<◌, List, All, slice_index, sum_by}
+use Rattle.std.specs.Prelude.{ℕ, ◌+◌, ◌*◌, ◌%◌, ◌<◌, List, [], All, slice_index, sum_by}
 use Rattle.vk_residue.specs.Residue.{modulus}
 use Rattle.vk_plan.specs.declared.form.Term.{Term}
 use Rattle.vk_plan.specs.declared.form.Form.{Form}
@@ -19,3 +19,7 @@ form_value form values = (linear_part form.terms values + form.constant) % modul
 -- each term names a wire of the first so many
 abbrev pub NamesBelow : ℕ → List Term → Type 0
 NamesBelow wires terms = All (λ term. term.wire < wires) terms
+
+-- what a list of rows has past its end
+abbrev pub no_row : Form
+no_row = record { terms = []; constant = 0 }

@@ -2,7 +2,7 @@ ghost use Rattle.std.specs.Prelude.{◌≡◌, ◌<◌, length, All, IfOk};
 ghost use Rattle.vk_plan.specs.Forms.{linear_part, form_value, NamesBelow};
 
 use std::alloc::Global;
-use vk_residue::{NoMemory, Residue};
+use vk_residue::{Acc, NoMemory, Residue};
 use vk_seq::Seq;
 
 /// A wire times a factor.
@@ -55,10 +55,9 @@ pub fn sum_of_terms(terms: &[Term], values: &[Residue]) -> Residue
     requires { NamesBelow (length values.now) terms.now }
     ensures { result ≡ linear_part terms.now values.now }
 {
-    let mut total = Residue::ZERO;
+    let mut total = Acc::new();
     for term in terms {
-        let value = values[term.wire as usize];
-        total = total.add(term.factor.times(value));
+        total.take(term.factor, values[term.wire as usize]);
     }
-    total
+    total.give()
 }

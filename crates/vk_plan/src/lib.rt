@@ -3,15 +3,18 @@
 #![tactic(auto)]
 
 mod circuit;
+mod flat;
 mod form;
 mod plan;
 mod relation;
+mod table;
 mod wire;
 
 pub use circuit::Circuit;
 pub use form::{Form, Term, sum_of_terms};
 pub use plan::Plan;
 pub use relation::{Relation, add_and_fill};
+pub use table::RowTable;
 pub use wire::WireKind;
 
 #[cfg(test)]

@@ -48,6 +48,12 @@ fn wires_and_rows_come_and_go(rt: HostRuntime) -> Result<(), Fail> {
     assert_eq!(rt; (plan.inputs(), plan.wires(), plan.rows()), (1, 4, 1));
     assert_eq!(rt; plan.kind(1), WireKind::Pair(3));
     assert_eq!(rt; plan.row(0).constant.get(), 5);
+    let table = RowTable::of(rt.alloc(), &plan)?;
+    let values = [residue(10), residue(3), residue(0), residue(0)];
+    assert_eq!(rt;
+        (table.sum(0, &values).get(), table.constant(0).get()),
+        (17, 5)
+    );
     plan.cut(2, 0);
     assert_eq!(rt; (plan.inputs(), plan.wires(), plan.rows()), (1, 2, 0));
     Ok(())

@@ -5,7 +5,7 @@ use Rattle.std.proofs.lemmas.Bool.Decides.{nat_tests}
 use Rattle.std.proofs.lemmas.List.{get_or-map, length-map}
 use Rattle.std.proofs.lemmas.Option.{get_or_from_slice_get}
 use Rattle.vk_plan.specs.declared.wire.WireKind.TheVariants.{Split}
-use Rattle.vk_plan.specs.Forms.{NamesBelow}
+use Rattle.vk_plan.specs.Forms.{NamesBelow, no_row}
 use Rattle.vk_plan.specs.Plans.{PlanValue, IsPlan, Holds}
 use Rattle.vk_wire.specs.Laws.{MadeWiresRead}
 use Rattle.vk_wire.specs.Made.{made_com, shown_wire, half_of}
@@ -15,7 +15,7 @@ use Rattle.vk_wire.specs.declared.wire.WireCom.{WireCom}
 use Rattle.vk_wire.specs.declared.wire.WireTape.{WireTape}
 use Rattle.vk_wire.specs.declared.wire.Shown.{Shown}
 use Rattle.vk_row.specs.Rows.{HasSide}
-use Rattle.vk_row.specs.Lanes.{HasCounts, IsAcceptedLane, WireReads, RowHolds, no_digests, nothing_shown, no_row}
+use Rattle.vk_row.specs.Lanes.{HasCounts, IsAcceptedLane, WireReads, RowHolds, no_digests, nothing_shown}
 use Rattle.vk_row.specs.LaneTests.{checked_lane}
 use Rattle.vk_row.proofs.Whole.{accepted_ok}
 use Rattle.vk_prover.specs.Honest.{each_wire, com_of, shown_of, honest_coms, honest_posted, honest_lane, honest_case, honest_reply, honest_halves, masks, posted_on, no_tape}

@@ -4,15 +4,13 @@ ghost use Rattle.vk_plan.specs.Plans.{Holds};
 ghost use Rattle.vk_plan.specs.declared.wire.WireKind.TheVariants.{Split};
 ghost use Rattle.vk_wire.specs.Made.{made_com};
 ghost use Rattle.vk_wire.specs.Values.{CanBeMade};
-ghost use Rattle.vk_row.specs.Lanes.{no_row};
 ghost use Rattle.vk_prover.specs.Honest.{com_of, honest_lane, honest_reply, each_wire, masks, no_tape, posted_on, shown_of};
 
 use crate::tape::LaneTape;
 use std::alloc::Global;
 use vk_board::LaneLines;
-use vk_plan::Plan;
+use vk_plan::{Plan, RowTable};
 use vk_residue::{NoMemory, Residue};
-use vk_row::posted;
 use vk_seq::Seq;
 use vk_wire::{HonestWire, Shown, WireCom, WireTape, make, make_two, show, wire_place};
 
@@ -146,18 +144,10 @@ fn post_rows(alloc: Global, plan: &Plan, firsts: &[Residue]) -> Result<Seq<Resid
     requires { length firsts.now ≡ length plan.now.kinds }
     ensures { IfOk result (λ numbers. numbers ≡ map (posted_on firsts.now) plan.now.rows) }
 {
+    let table = RowTable::of(alloc, plan)?;
     let mut numbers = Seq::new(alloc);
     for row in 0..plan.rows() {
-        numbers.push(post_row(plan, firsts, row))?;
+        numbers.push(table.sum(row, firsts))?;
     }
     Ok(numbers)
-}
-
-/// What is posted for one row.
-fn post_row(plan: &Plan, firsts: &[Residue], row: u32) -> Residue
-    requires firsts { length firsts.now ≡ length plan.now.kinds }
-    requires row { row < length plan.now.rows }
-    ensures { result ≡ posted_on firsts.now (slice_index_or plan.now.rows row no_row) }
-{
-    posted(plan.row(row), firsts)
 }

@@ -88,10 +88,7 @@ impl Residue {
     pub fn times(self, factor: Residue) -> Residue
         ensures { result ≡ product self factor }
     {
-        let whole = u128::from(self.number) * u128::from(factor.number);
-        Residue {
-            number: folded(whole),
-        }
+        folded(u128::from(self.number) * u128::from(factor.number))
     }
 
     /// 2^i, for i below 61.
@@ -103,21 +100,17 @@ impl Residue {
     }
 }
 
-/// A number below 2^122 modulo 2^61 - 1, with no division: 2^61 is 1 there, so the bits above the
-/// lowest 61 count as much as those below.
-fn folded(whole: u128) -> u64
-    requires { whole < 2 ^ 122 }
-    ensures value { result ≡ whole % modulus }
-    ensures bound { result < modulus }
+/// That number modulo 2^61 - 1, with no division: 2^61 is 1 there, so each run of 61 bits counts as
+/// much as the lowest.
+pub(crate) fn folded(whole: u128) -> Residue
+    ensures { result ≡ whole % modulus }
 {
     let low = (whole & u128::from(MODULUS)) as u64;
-    let high = (whole >> 61) as u64;
-    let total = low + high;
-    if total < MODULUS {
-        total
-    } else if total < 2 * MODULUS {
-        total - MODULUS
-    } else {
-        0
+    let middle = ((whole >> 61) & u128::from(MODULUS)) as u64;
+    let high = (whole >> 122) as u64;
+    let total = low + middle + high;
+    let once = (total & MODULUS) + (total >> 61);
+    Residue {
+        number: if once < MODULUS { once } else { once - MODULUS },
     }
 }

@@ -13,3 +13,14 @@ fn arithmetic_at_the_edges(rt: HostRuntime) -> Result<(), Fail> {
     assert_eq!(rt; greatest.times(greatest).get(), 1);
     Ok(())
 }
+
+#[test]
+fn products_are_summed(rt: HostRuntime) -> Result<(), Fail> {
+    let greatest = Residue::new(2305843009213693950).ok_or("below the modulus")?;
+    let mut sum = Acc::new();
+    for _product in 0..64 {
+        sum.take(greatest, greatest);
+    }
+    assert_eq!(rt; sum.give().get(), 64);
+    Ok(())
+}

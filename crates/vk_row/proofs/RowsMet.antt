@@ -4,7 +4,7 @@ use Rattle.std.specs.Prelude.{if◌then◌else◌}
 use Rattle.std.proofs.lemmas.Bool.Decides.{nat_tests}
 use Rattle.vk_plan.specs.declared.form.Form.{Form}
 use Rattle.vk_row.specs.Rows.{HasSide, has_side}
-use Rattle.vk_row.specs.Lanes.{no_row}
+use Rattle.vk_plan.specs.Forms.{no_row}
 use Rattle.vk_row.specs.LaneTests.{first_false_row}
 
 -- the test decides the side

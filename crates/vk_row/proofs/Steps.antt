@@ -17,7 +17,8 @@ use Rattle.vk_wire.specs.declared.wire.Shown.{Shown}
 use Rattle.vk_row.specs.declared.case.LaneCase.{LaneCase}
 use Rattle.vk_row.specs.declared.case.LaneFault.{LaneFault}
 use Rattle.vk_row.specs.Rows.{has_side}
-use Rattle.vk_row.specs.Lanes.{HasCounts, place_in, no_digests, nothing_opened, nothing_shown, no_row}
+use Rattle.vk_row.specs.Lanes.{HasCounts, place_in, no_digests, nothing_opened, nothing_shown}
+use Rattle.vk_plan.specs.Forms.{no_row}
 use Rattle.vk_row.specs.LaneTests.{◌>>=◌, AreHashed, at_wire, halves_after, halves_from, first_false_row}
 
 -- the wire that comes next

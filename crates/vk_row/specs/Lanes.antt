@@ -1,8 +1,8 @@
 -- What it is to accept what is shown of a lane, and why it may be refused.
 use Rattle.std.specs.Prelude.{◌≡◌, ◌<◌, ℕ, Bool, List, [], length, slice_index, slice_index_or}
 use Rattle.vk_commit.specs.declared.place.Place.{Place}
+use Rattle.vk_plan.specs.Forms.{no_row}
 use Rattle.vk_plan.specs.Plans.{PlanValue}
-use Rattle.vk_plan.specs.declared.form.Form.{Form}
 use Rattle.vk_plan.specs.declared.wire.WireKind.TheVariants.{Split}
 use Rattle.vk_wire.specs.Places.{place_of_wire}
 use Rattle.vk_wire.specs.Reads.{Reads, HasFault}
@@ -25,9 +25,6 @@ nothing_shown = Half (record { key = []; value = 0 })
 
 abbrev pub nothing_opened : Opened
 nothing_opened = record { first = []; last = [] }
-
-abbrev pub no_row : Form
-no_row = record { terms = []; constant = 0 }
 
 -- one seat for each input, one posted number for each row, and one pair of commitments and one shown
 -- for each wire

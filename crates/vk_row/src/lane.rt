@@ -1,15 +1,15 @@
 // The check of what is shown of a lane.
-ghost use Rattle.std.specs.Prelude.{◌≡◌, ◌⊎◌, ◌<◌, length, slice_index, slice_index_or, IfOk, IfErr, Ok, Err};
-ghost use Rattle.vk_row.specs.Lanes.{HasCounts, IsAcceptedLane, HasLaneFault, no_row};
+ghost use Rattle.std.specs.Prelude.{◌≡◌, ◌⊎◌, ◌<◌, length, slice_index_or, IfOk, IfErr, Ok, Err};
+ghost use Rattle.vk_row.specs.Lanes.{HasCounts, IsAcceptedLane, HasLaneFault};
+ghost use Rattle.vk_plan.specs.Forms.{NamesBelow, no_row};
 ghost use Rattle.vk_row.specs.Rows.{has_side};
 ghost use Rattle.vk_row.specs.LaneTests.{first_false_row, checked_lane};
 ghost use Rattle.vk_row.specs.declared.case.LaneFault.TheVariants.{NoMemory as OutOfMemory};
 
 use crate::case::{LaneCase, LaneFault};
-use crate::row::check;
 use crate::wires::read_wires;
 use std::alloc::Global;
-use vk_plan::Plan;
+use vk_plan::{Plan, RowTable};
 use vk_residue::Residue;
 use vk_wire::Shown;
 
@@ -17,7 +17,6 @@ use vk_wire::Shown;
 ///
 /// Each wire is to read its half for the bit, and the halves are to meet each row with its posted
 /// number. The first wire in order that reads nothing is named, else the first row that isn't met.
-#[tactic(auto, using(crate::proofs::Whole::ok_accepted, crate::proofs::Whole::err_faulty), unfolding(crate::specs::LaneTests::checked_lane))]
 pub fn check_lane(
     alloc: Global,
     plan: &Plan,
@@ -35,8 +34,33 @@ pub fn check_lane(
     ensures fault { IfErr result
         (λ fault. (fault ≡ OutOfMemory) ⊎ (checked_lane plan.now case.now bit shown.now ≡ Err fault)) }
 {
+    let table = RowTable::of(alloc, plan)?;
+    check_lane_with(alloc, plan, &table, case, bit, shown)
+}
+
+/// The same with a table of the plan's rows, which serves for every lane of the plan.
+#[tactic(auto, using(crate::proofs::Whole::ok_accepted, crate::proofs::Whole::err_faulty), unfolding(crate::specs::LaneTests::checked_lane))]
+pub fn check_lane_with(
+    alloc: Global,
+    plan: &Plan,
+    table: &RowTable,
+    case: &LaneCase,
+    bit: bool,
+    shown: &[Shown],
+) -> Result<Vec<Residue>, LaneFault>
+    requires counts { HasCounts plan.now case.now shown.now }
+    requires table { table.now ≡ plan.now.rows }
+    ensures accepted { IfOk result
+        (λ halves. IsAcceptedLane plan.now case.now bit shown.now halves.items) }
+    ensures refused { IfErr result
+        (λ fault. (fault ≡ OutOfMemory) ⊎ HasLaneFault plan.now case.now bit shown.now fault) }
+    ensures halves { IfOk result
+        (λ halves. checked_lane plan.now case.now bit shown.now ≡ Ok halves.items) }
+    ensures fault { IfErr result
+        (λ fault. (fault ≡ OutOfMemory) ⊎ (checked_lane plan.now case.now bit shown.now ≡ Err fault)) }
+{
     let halves = read_wires(alloc, plan, case, bit, shown)?;
-    match first_unmet_row(plan, case, bit, halves.as_slice()) {
+    match first_unmet_row(plan, table, case, bit, halves.as_slice()) {
         Some(row) => Err(LaneFault::Row { row }),
         None => Ok(halves),
     }
@@ -44,27 +68,38 @@ pub fn check_lane(
 
 /// The first row that the halves don't meet.
 #[tactic(auto, using(crate::proofs::Steps::first_false_row_step), unfolding(crate::specs::LaneTests::first_false_row))]
-fn first_unmet_row(plan: &Plan, case: &LaneCase, bit: bool, halves: &[Residue]) -> Option<u32>
+fn first_unmet_row(
+    plan: &Plan,
+    table: &RowTable,
+    case: &LaneCase,
+    bit: bool,
+    halves: &[Residue],
+) -> Option<u32>
+    requires table { table.now ≡ plan.now.rows }
     requires halves { length halves.now ≡ length plan.now.kinds }
     requires posted { length case.now.posted ≡ length plan.now.rows }
     ensures { result ≡ first_false_row bit halves.now 0 plan.now.rows case.now.posted }
 {
+    let posted = case.posted.as_slice();
     for row in 0..plan.rows() {
-        if !is_row_met(plan, case, bit, halves, row) {
+        if !is_row_met(table, bit, halves, posted[row as usize], row) {
             return Some(row);
         }
     }
     None
 }
 
-/// Whether the halves meet one row.
-fn is_row_met(plan: &Plan, case: &LaneCase, bit: bool, halves: &[Residue], row: u32) -> bool
-    requires halves { length halves.now ≡ length plan.now.kinds }
-    requires posted { length case.now.posted ≡ length plan.now.rows }
-    requires row { row < length plan.now.rows }
-    ensures { result ≡ has_side (slice_index_or plan.now.rows row no_row) bit halves.now
-        (slice_index case.now.posted row) }
+/// Whether the halves meet the posted number of one row, as `check` says it of a form.
+#[tactic(auto, unfolding(vk_plan::specs::Forms::form_value))]
+fn is_row_met(table: &RowTable, bit: bool, halves: &[Residue], posted: Residue, row: u32) -> bool
+    requires row { row < length table.now }
+    requires names { NamesBelow (length halves.now) (slice_index_or table.now row no_row).terms }
+    ensures { result ≡ has_side (slice_index_or table.now row no_row) bit halves.now posted }
 {
-    let posted = case.posted.as_slice()[row as usize];
-    check(plan.row(row), bit, halves, posted)
+    let sum = table.sum(row, halves);
+    if bit {
+        sum.add(table.constant(row)) == posted.neg()
+    } else {
+        sum == posted
+    }
 }

@@ -2,11 +2,11 @@
 ghost use Rattle.std.specs.Prelude.{◌≡◌, IfOk, length};
 ghost use Rattle.vk_plan.specs.Forms.{NamesBelow};
 
-use crate::{LaneCase, LaneFault, check, check_lane, posted};
+use crate::{LaneCase, LaneFault, check, check_lane, check_lane_with, posted};
 use std::alloc::Global;
 use std::test::Fail;
 use vk_commit::Opening;
-use vk_plan::{Form, Plan, Term, WireKind};
+use vk_plan::{Form, Plan, RowTable, Term, WireKind};
 use vk_residue::Residue;
 use vk_seq::Seq;
 use vk_wire::{Shown, WireCom, WireFault};
@@ -125,10 +125,11 @@ fn both_replies_are_accepted(rt: HostRuntime) -> Result<(), Fail> {
 fn another_posted_number_is_refused(rt: HostRuntime) -> Result<(), Fail> {
     let plan = plan_of_a_copy(rt.alloc())?;
     let case = case_of_a_copy(rt.alloc(), 7)?;
+    let table = RowTable::of(rt.alloc(), &plan)?;
     let zero = [half(0x11, 3)?, half(0x33, 10)?];
     let one = [half(0x22, 2)?, half(0x44, 2305843009213693946)?];
     for (bit, shown) in [(false, &zero), (true, &one)] {
-        let refused = check_lane(rt.alloc(), &plan, &case, bit, shown);
+        let refused = check_lane_with(rt.alloc(), &plan, &table, &case, bit, shown);
         assert_eq!(rt; refused.err(), Some(LaneFault::Row { row: 0 }));
     }
     Ok(())

@@ -4,8 +4,9 @@ ghost use Rattle.std.specs.FinMap as map;
 ghost use Rattle.vk_io.specs.Faults.{Causes};
 ghost use Rattle.vk_io.specs.Files.{Files};
 ghost use Rattle.vk_lines.specs.Lines.{OnlyReads, Starts, rest_of};
+ghost use Rattle.vk_board.specs.Fronts.{IsFront};
 ghost use Rattle.vk_verifier.specs.declared.answers.BoardVerdict.{BoardVerdict};
-ghost use Rattle.vk_verifier.specs.Verdicts.{Judges, Gives, begun, counted, ends_judged, verdict_by, verdict_on};
+ghost use Rattle.vk_verifier.specs.Verdicts.{Judges, Gives, begun, counted, ends_judged, plan_of, verdict_by, verdict_on};
 ghost use Rattle.vk_verifier.specs.Parts.{attempt_at, rest_judged, judged_in_parts};
 ghost use Rattle.vk_verifier.specs.Answers.{begun_answer, verdict_answer};
 
@@ -15,7 +16,7 @@ use crate::lane::judge_lanes;
 use crate::stage::Pair;
 use crate::statement::Statement;
 use std::alloc::Global;
-use vk_board::{Head, read_front};
+use vk_board::{Front, Head, read_front};
 use vk_io::Shelf;
 use vk_lines::{Lines, StartErr};
 use vk_reply::{Challenge, read_challenge, read_reply_head};
@@ -77,6 +78,25 @@ pub fn judge_rest<S: Shelf>(
     Ok(())
 }
 
+/// Makes the board's statement, and judges all that stands behind its front.
+fn judge_behind<S: Shelf>(
+    alloc: Global,
+    shelf: &mut S,
+    front: Front,
+    bits: &[bool],
+    pair: &mut Pair,
+) -> Result<(), Halt>
+    requires front { IsFront front }
+    requires bits { length bits.now ≡ front.head.lanes }
+    ensures told { IfSome (S.held shelf.old) (λ files. Judges (λ done. done) result
+        (rest_judged front (plan_of front) 1 bits.now (rest_of pair.old.board files) (rest_of pair.old.reply files))) }
+    ensures shelf { OnlyReads S.held S.Shelf.faults Halt.Failed result shelf.old shelf.new }
+{
+    let statement = Statement::of(alloc, front)?;
+    judge_rest(alloc, shelf, &statement, 0, bits, pair)?;
+    Ok(())
+}
+
 /// Judges the files, from their first lines to their ends.
 #[tactic(auto, unfolding(crate::specs::Parts::judged_in_parts))]
 fn judge<S: Shelf>(
@@ -91,8 +111,7 @@ fn judge<S: Shelf>(
 {
     let front = in_front(read_front(alloc, shelf, &mut pair.board))?;
     let bits = read_attempt(alloc, shelf, &front.head, challenge, &mut pair.reply)?;
-    let statement = Statement::of(alloc, front)?;
-    judge_rest(alloc, shelf, &statement, 0, bits.as_slice(), pair)?;
+    judge_behind(alloc, shelf, front, bits.as_slice(), pair)?;
     Ok(())
 }
 

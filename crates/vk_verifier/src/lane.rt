@@ -15,10 +15,9 @@ use std::alloc::Global;
 use vk_board::{Front, LaneLines, SealLines, read_lane, seats_of};
 use vk_io::Shelf;
 use vk_lines::Lines;
-use vk_plan::Plan;
 use vk_reply::read_reply_lane;
 use vk_residue::NoMemory;
-use vk_row::{LaneCase, LaneFault, check_lane};
+use vk_row::{LaneCase, LaneFault, check_lane_with};
 use vk_seq::Seq;
 use vk_wire::{Shown, WireCom};
 
@@ -89,18 +88,20 @@ pub fn read_case<S: Shelf>(
 /// Whether what is shown of the lane is accepted for the bit.
 fn check(
     alloc: Global,
-    plan: &Plan,
+    statement: &Statement,
     case: &LaneCase,
     lane: u32,
     bit: bool,
     shown: &[Shown],
 ) -> Result<(), Halt>
-    requires { HasCounts plan.now case.now shown.now }
-    ensures judged { Judges (λ done. done) result (lane_verdict lane (checked_lane plan.now case.now bit shown.now)) }
-    ensures accepted { OnOk result (IsAccepted plan.now case.now bit shown.now) }
+    requires { HasCounts statement.now.plan case.now shown.now }
+    ensures judged { Judges (λ done. done) result (lane_verdict lane (checked_lane statement.now.plan case.now bit shown.now)) }
+    ensures accepted { OnOk result (IsAccepted statement.now.plan case.now bit shown.now) }
     ensures inside { IsErrOf result Halt.Failed → ⊥ }
 {
-    match check_lane(alloc, plan, case, bit, shown) {
+    let plan = statement.plan();
+    let table = statement.table();
+    match check_lane_with(alloc, plan, table, case, bit, shown) {
         Ok(_halves) => Ok(()),
         Err(LaneFault::Wire { wire, fault }) => {
             Err(Halt::Refused(BoardVerdict::Wire { lane, wire, fault }))
@@ -132,7 +133,7 @@ pub fn read_checked<S: Shelf>(
         Part::Reply,
         read_reply_lane(alloc, shelf, reply, lane, plan, bit),
     )?;
-    check(alloc, plan, case, lane, bit, shown.as_slice())?;
+    check(alloc, statement, case, lane, bit, shown.as_slice())?;
     Ok(shown)
 }
 

@@ -7,25 +7,28 @@ ghost use Rattle.vk_verifier.specs.Statement.{IsStatement, statement_of};
 use std::alloc::Global;
 use std::marker::Model;
 use vk_board::Front;
-use vk_plan::{Circuit, Plan};
+use vk_plan::{Circuit, Plan, RowTable};
 use vk_residue::NoMemory;
 use vk_vickrey::{VickreyOutcome, VickreyPlan};
 
-/// What stands on a board before its first lane, and the circuit of its lanes.
+/// What stands on a board before its first lane, and the circuit of its lanes, its rows also as a table,
+/// which is made once for all lanes.
 #[derive(Debug, Drop)]
 pub struct Statement {
     front: Front,
     plan: Plan,
+    table: RowTable,
 }
 
 impl Model for Statement {
+    ghost use Rattle.std.specs.Prelude.{◌≡◌};
     ghost use Rattle.vk_verifier.specs.Statement.{StatementValue, IsStatement};
 
     ghost Value = { StatementValue };
 
     ghost view = { λ s. record { front = s.front; plan = s.plan } };
 
-    ghost invariant = { λ s. IsStatement (record { front = s.front; plan = s.plan }) };
+    ghost invariant = { λ s. IsStatement (record { front = s.front; plan = s.plan }) × (s.table ≡ s.plan.rows) };
 }
 
 impl Statement {
@@ -35,7 +38,8 @@ impl Statement {
         ensures { IfOk result (λ statement. statement ≡ statement_of front) }
     {
         let plan = plan_of(alloc, &front)?;
-        Ok(Statement { front, plan })
+        let table = RowTable::of(alloc, &plan)?;
+        Ok(Statement { front, plan, table })
     }
 
     /// What stands on the board before its first lane.
@@ -51,7 +55,11 @@ impl Statement {
         ensures value { result ≡ self.front }
         ensures right { IsFront result }
     {
-        let Statement { front, plan: _plan } = self;
+        let Statement {
+            front,
+            plan: _plan,
+            table: _table,
+        } = self;
         front
     }
 
@@ -61,6 +69,13 @@ impl Statement {
         ensures right { IsStatement self.now }
     {
         &self.plan
+    }
+
+    /// The rows of the circuit as a table.
+    pub fn table(&self) -> &RowTable
+        ensures { result.now ≡ self.now.plan.rows }
+    {
+        &self.table
     }
 }
 

@@ -1,10 +1,11 @@
 // What two replies show of a lane, side by side.
 ghost use Rattle.std.specs.Prelude.{◌≡◌, ◌⊎◌, ◌≤◌, ◌<◌, ◌+◌, length, drop, Err, IsTrue, IsFalse, IsOk, OnOk, IfSome, IfOk, IfErr};
 ghost use Rattle.vk_lines.specs.Lines.{OnlyReads, rest_of, end_at};
+ghost use Rattle.vk_board.specs.Fronts.{IsFront};
 ghost use Rattle.vk_row.specs.Lanes.{IsAccepted};
 ghost use Rattle.vk_verifier.specs.Verdicts.{Judges, in_part};
 ghost use Rattle.vk_verifier.specs.Parts.{reply_judged, attempt_at, rest_judged, Fits};
-ghost use Rattle.vk_verifier.specs.Two.{Finds, IsFound, GivesLane, Refuses, of_second, two_lane_at, base_at, ends_found, accepted_of, ahead_on, rests_of, IsBase, IsTwoLane};
+ghost use Rattle.vk_verifier.specs.Two.{Finds, IsFound, GivesLane, Refuses, of_second, two_lane_at, base_at, second_begun, ends_found, accepted_of, ahead_on, rests_of, IsBase, IsTwoLane};
 
 use crate::answers::Part;
 use crate::halt::{Halt, in_front, in_part};
@@ -14,7 +15,7 @@ use crate::stage::{Base, Pair, TwoLane, TwoReaders};
 use crate::statement::Statement;
 use crate::two_halt::{TwoHalt, accepted_of, found_by, is_refused, of_first, of_second};
 use std::alloc::Global;
-use vk_board::read_front;
+use vk_board::{Front, read_front};
 use vk_io::Shelf;
 use vk_lines::Lines;
 use vk_row::LaneCase;
@@ -217,6 +218,33 @@ fn begin_second<S: Shelf>(
     second
 }
 
+/// Makes the board's statement, and reads the second challenge and the head of the second reply.
+fn begin_base<S: Shelf>(
+    alloc: Global,
+    shelf: &mut S,
+    front: Front,
+    first_bits: Seq<bool>,
+    second: &mut Lines,
+    readers: &mut TwoReaders,
+) -> Result<Base, TwoHalt>
+    requires front { IsFront front }
+    requires bits { length first_bits ≡ front.head.lanes }
+    ensures told { IfSome (S.held shelf.old) (λ files. Finds (λ base. (base, rests_of readers.new files)) result
+        (second_begun (rest_of second.old files) (rest_of readers.old.second files) (front, rest_of readers.old.pair.board files) (first_bits, rest_of readers.old.pair.reply files))) }
+    ensures right { IfOk result IsBase }
+    ensures refuses { IfErr result Refuses }
+    ensures shelf { OnlyReads S.held S.Shelf.faults TwoHalt.Failed result shelf.old shelf.new }
+{
+    let statement = Statement::of(alloc, front)?;
+    let bits = first_bits.as_slice();
+    let second_bits = begin_second(alloc, shelf, &statement, bits, second, readers)?;
+    Ok(Base {
+        statement,
+        first_bits,
+        second_bits,
+    })
+}
+
 /// Reads the board before its first lane, both challenges, and the heads of both replies.
 #[tactic(auto, unfolding(crate::specs::Two::base_at))]
 pub fn begin_lanes<S: Shelf>(
@@ -236,12 +264,6 @@ pub fn begin_lanes<S: Shelf>(
     let front = of_first(in_front(read_front(alloc, shelf, &mut pair.board)))?;
     let head = &front.head;
     let first_bits = of_first(read_attempt(alloc, shelf, head, first, &mut pair.reply))?;
-    let statement = Statement::of(alloc, front)?;
-    let bits = first_bits.as_slice();
-    let second_bits = begin_second(alloc, shelf, &statement, bits, second, readers)?;
-    Ok(Base {
-        statement,
-        first_bits,
-        second_bits,
-    })
+    let base = begin_base(alloc, shelf, front, first_bits, second, readers)?;
+    Ok(base)
 }

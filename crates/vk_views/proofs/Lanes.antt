@@ -8,7 +8,7 @@ use Rattle.vk_plan.specs.declared.wire.WireKind.TheVariants.{Split}
 use Rattle.vk_wire.specs.Made.{shown_wire}
 use Rattle.vk_wire.specs.Values.{IsTape}
 use Rattle.vk_wire.specs.declared.wire.WireTape.{WireTape}
-use Rattle.vk_row.specs.Lanes.{no_row}
+use Rattle.vk_plan.specs.Forms.{no_row}
 use Rattle.vk_prover.specs.Honest.{honest_reply, honest_posted, masks, posted_on, shown_of, no_tape}
 use Rattle.vk_prover.specs.Laws.{IsTapeOf}
 use Rattle.vk_prover.proofs.Wires.{get_or-each_wire, length-each_wire}
