@@ -52,8 +52,8 @@ fn refused_open(error: Error) -> OpenErr {
     }
 }
 
-/// Closes the store. What was kept is in the log beside it if the log can't be copied into it now, and
-/// the next opening finds it there: nothing is lost, and no status speaks of it.
-pub fn close_house(keeper: SqlKeeper<FileStore<File>>) {
-    let _ = keeper.close().close();
+/// Closes the store: what is kept in the log beside it is copied into it. Where that fails nothing is
+/// lost, since the next opening finds the log; but the fault is told.
+pub fn close_house(keeper: SqlKeeper<FileStore<File>>) -> Result<(), Error> {
+    keeper.close().close()
 }

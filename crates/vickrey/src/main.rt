@@ -14,7 +14,8 @@ mod tests;
 
 use crate::house::{close_house, open_house};
 use std::env;
-use std::io::ErrorKind;
+use std::fs::File;
+use std::io::{self, ErrorKind};
 use std::process::ExitCode;
 use std::rt::Env;
 use vk_app::run;
@@ -76,11 +77,23 @@ fn perform<R: Eprint + AllocGlobal, S: Shelf, K: Keeper + Drop, W: Sink>(
     end(rt, status)
 }
 
-/// Does the same over the files and the standard output of `rt`.
+/// The code, or that of a fault of the outside which comes after it, told once.
+fn with_fault<R: Eprint>(rt: &R, code: ExitCode, is_faulty: bool) -> ExitCode {
+    if is_faulty && code != ExitCode::from(6) && code != ExitCode::from(9) {
+        end(rt, 6)
+    } else {
+        code
+    }
+}
+
+/// Does the same over the files and the standard output of `rt`. Where only the last sync tells that
+/// a written file did not reach its disk, that is a fault of the outside.
 fn perform_over<K: Keeper + Drop>(rt: &HostRuntime, words: &[String], keeper: &mut K) -> ExitCode {
     let mut shelf = FileShelf::new(rt, rt.alloc());
     let mut out = OutSink::new(rt);
-    perform(rt, words, &mut shelf, keeper, &mut out)
+    let code = perform(rt, words, &mut shelf, keeper, &mut out);
+    let is_faulty = shelf.settle().is_err();
+    with_fault(rt, code, is_faulty)
 }
 
 /// Whether these words may ask the keeper of the house: their first is a command of the house, or
@@ -100,8 +113,8 @@ fn perform_in_house(rt: &HostRuntime, words: &[String]) -> ExitCode {
     match open_house(rt) {
         Ok(mut keeper) => {
             let code = perform_over(rt, words, &mut keeper);
-            close_house(keeper);
-            code
+            let is_faulty = close_house(keeper).is_err();
+            with_fault(rt, code, is_faulty)
         }
         Err(refusal) => refuse(rt, refusal),
     }
@@ -136,6 +149,20 @@ fn program<E: Env + AllocGlobal>(env: &E, rt: &HostRuntime) -> ExitCode {
     }
 }
 
+/// A handle of the root folder, which can't be written.
+fn open_root(rt: &HostRuntime) -> io::Result<File> {
+    File::open(rt, "/")
+}
+
+/// Three handles, which take the numbers of standard input, output and error where these are closed.
+/// So no file of a command has such a number, and nothing that is printed goes into one.
+fn take_standard_numbers(rt: &HostRuntime) -> io::Result<(File, File, File)> {
+    Ok((open_root(rt)?, open_root(rt)?, open_root(rt)?))
+}
+
 fn main(rt: HostRuntime) -> ExitCode {
-    program(&rt, &rt)
+    match take_standard_numbers(&rt) {
+        Ok(_standing) => program(&rt, &rt),
+        Err(_fault) => end(&rt, 6),
+    }
 }

@@ -1,5 +1,6 @@
 use super::*;
 use std::env::FillError;
+use std::fs;
 use std::test::Fail;
 
 /// The words of a command line, behind a program's name.
@@ -109,8 +110,31 @@ const ID: &str = "000102030405060708090a0b0c0d0e0f";
 
 const SEED: &str = "000102030405060708090a0b0c0d0e0f101112131415161718191a1b1c1d1e1f";
 
+/// Whatever the house's commands of a test leave in the current folder.
+const LEFT: [&str; 10] = [
+    "house.sqlite",
+    "house.sqlite-wal",
+    "house.sqlite-shm",
+    "first",
+    "other",
+    "secret",
+    "seal",
+    "board",
+    "reply",
+    "none",
+];
+
+/// Takes away what is left, by this test or by one before it.
+fn clear(rt: &HostRuntime) {
+    for name in LEFT {
+        let _ = fs::remove_file(rt, name);
+    }
+}
+
+/// One test, since the house of a folder is one file.
 #[test]
-fn the_first_challenge_is_kept_in_the_file(rt: HostRuntime) -> Result<(), Fail> {
+fn the_house_is_kept_in_its_file(rt: HostRuntime) -> Result<(), Fail> {
+    clear(&rt);
     write(&rt, "first", "vickrey-challenge 1\nbits 01\nend\n")?;
     write(&rt, "other", "vickrey-challenge 1\nbits 11\nend\n")?;
     let table: [(&[&str], u8); 12] = [
@@ -133,20 +157,12 @@ fn the_first_challenge_is_kept_in_the_file(rt: HostRuntime) -> Result<(), Fail> 
     for (words, status) in table {
         assert_eq!(rt; status_of(&rt, words), ExitCode::from(status));
     }
-    Ok(())
-}
-
-#[test]
-fn a_store_that_is_open_elsewhere_is_refused(rt: HostRuntime) -> Result<(), Fail> {
-    assert_eq!(rt;
-        status_of(&rt, &["announce", ID, "4", "2"]),
-        ExitCode::from(0)
-    );
     let Ok(keeper) = open_house(&rt) else {
         return Err(Fail::from("not opened"));
     };
     assert_eq!(rt; status_of(&rt, &["show", ID]), ExitCode::from(6));
-    close_house(keeper);
+    assert!(rt; close_house(keeper).is_ok());
     assert_eq!(rt; status_of(&rt, &["show", ID]), ExitCode::from(0));
+    clear(&rt);
     Ok(())
 }

@@ -6,7 +6,7 @@ use crate::outcome::counted;
 use crate::pieces::{read_fully, write_fully};
 use crate::shelf::Shelf;
 use std::alloc::Global;
-use std::fs::OpenOptions;
+use std::fs::{OpenFile, OpenOptions};
 use std::io::{ErrorKind, Read, Seek, SeekFrom};
 use std::os::unix::fs::OpenOptionsExt;
 use std::rt::Files;
@@ -20,21 +20,23 @@ const OWNER_ALONE: u32 = 0o600;
 /// How many files are kept open, at most: those that a command reads side by side, and a few more.
 const MOST_OPEN: usize = 8;
 
-/// A file that is kept open for reading, and the name that it was opened by.
+/// A file that is kept open, and the name that it was opened by.
 #[derive(Drop)]
-struct OpenFile<F> {
+struct NamedFile<F> {
     name: String,
     file: F,
 }
 
 /// The real file system. A name is a path from the current folder. It tells nothing of content, and
 /// each error raises its count. A file that is read stays open, until its name is created or
-/// appended to, or its length is asked.
+/// appended to, or its length is asked. The file that is written stays open too, until another is
+/// written or [`FileShelf::settle`] is called: it is synced then, so that its last error is told.
 #[derive(Drop)]
 pub struct FileShelf<'a, R: Files> {
     rt: &'a R,
     alloc: Global,
-    kept: Vec<OpenFile<R::File>>,
+    kept: Vec<NamedFile<R::File>>,
+    written: Option<NamedFile<R::File>>,
     faults: u64,
 }
 
@@ -47,6 +49,7 @@ impl<'a, R: Files> FileShelf<'a, R> {
             rt,
             alloc,
             kept: Vec::new(alloc),
+            written: None,
             faults: 0,
         }
     }
@@ -83,7 +86,7 @@ impl<R: Files> FileShelf<'_, R> {
         if MOST_OPEN <= self.kept.len() {
             self.kept.swap_remove(0);
         }
-        self.kept.push(OpenFile { name, file })?;
+        self.kept.push(NamedFile { name, file })?;
         Ok(self.kept.len() - 1)
     }
 
@@ -103,6 +106,32 @@ impl<R: Files> FileShelf<'_, R> {
                 Ok(Some(place))
             }
         }
+    }
+
+    /// Closes the file that was written last, once its bytes are where they belong. Errs where only
+    /// that tells that they aren't.
+    pub fn settle(&mut self) -> Result<(), OutsideErr>
+        ensures causes { Causes OutsideErr.Failed result self.old.faults self.new.faults }
+    {
+        match self.written.take() {
+            None => Ok(()),
+            Some(written) => counted(synced(&written.file), &mut self.faults),
+        }
+    }
+
+    /// The file under that name, to be written on at its end.
+    fn writer(&mut self, name: &str) -> Result<NamedFile<R::File>, OutsideErr>
+        ensures causes { Causes OutsideErr.Failed result self.old.faults self.new.faults }
+    {
+        if let Some(written) = self.written.take() {
+            if name == written.name.as_str() {
+                return Ok(written);
+            }
+            counted(synced(&written.file), &mut self.faults)?;
+        }
+        let owned = String::from_str(self.alloc, name).map_err(NoMemory::from)?;
+        let file = counted(open_at_end(self.rt, name), &mut self.faults)?;
+        Ok(NamedFile { name: owned, file })
     }
 }
 
@@ -132,13 +161,18 @@ impl<R: Files> Shelf for FileShelf<'_, R> {
 
     fn create(&mut self, name: &str) -> Result<(), OutsideErr> {
         self.close(name);
-        counted(empty(self.rt, name), &mut self.faults)?;
+        self.settle()?;
+        let owned = String::from_str(self.alloc, name).map_err(NoMemory::from)?;
+        let file = counted(open_empty(self.rt, name), &mut self.faults)?;
+        self.written = Some(NamedFile { name: owned, file });
         Ok(())
     }
 
     fn append(&mut self, name: &str, piece: &[u8]) -> Result<(), OutsideErr> {
         self.close(name);
-        counted(add(self.rt, name, piece), &mut self.faults)?;
+        let mut written = self.writer(name)?;
+        counted(write_fully(&mut written.file, piece), &mut self.faults)?;
+        self.written = Some(written);
         Ok(())
     }
 }
@@ -177,20 +211,27 @@ fn read_from<F: Read + Seek>(file: &mut F, at: u64, into: &mut [u8]) -> io::Resu
     read_fully(file, into)
 }
 
-/// Makes the file at the path hold no bytes.
-fn empty<R: Files>(rt: &R, path: &str) -> io::Result<()> {
+/// The file at the path, which holds no bytes then, opened to be written.
+fn open_empty<R: Files>(rt: &R, path: &str) -> io::Result<R::File> {
     let mut options = OpenOptions::new();
     options.write(true).create(true).truncate(true);
     options.mode(OWNER_ALONE);
-    let _file = options.open(rt, path)?;
-    Ok(())
+    options.open(rt, path)
 }
 
-/// Adds the piece at the end of the file at the path.
-fn add<R: Files>(rt: &R, path: &str, piece: &[u8]) -> io::Result<()> {
+/// The file at the path, opened to be written at its end.
+fn open_at_end<R: Files>(rt: &R, path: &str) -> io::Result<R::File> {
     let mut options = OpenOptions::new();
     options.append(true).create(true);
     options.mode(OWNER_ALONE);
-    let mut file = options.open(rt, path)?;
-    write_fully(&mut file, piece)
+    options.open(rt, path)
+}
+
+/// Waits until what was written is where it belongs. A device or a pipe has no such place, and is as
+/// good as its last write.
+fn synced<F: OpenFile>(file: &F) -> io::Result<()> {
+    match file.sync_data() {
+        Err(error) if error.kind() != ErrorKind::InvalidInput => Err(error),
+        _ => Ok(()),
+    }
 }
