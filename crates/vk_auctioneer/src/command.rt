@@ -7,10 +7,8 @@ ghost use Rattle.vk_auctioneer.specs.Answers.{AsksOnce};
 ghost use Rattle.vk_auctioneer.specs.Common.{Acts, CausesTwo, KeepsAnswers, Told, stores};
 ghost use Rattle.vk_auctioneer.specs.Effects.{house_effect};
 
-use crate::announcing::announce;
-use crate::answering::answer;
-use crate::proving::prove;
-use crate::showing::show;
+use crate::publishing::{answer, prove};
+use crate::standing::{announce, show};
 use crate::submitting::submit;
 use std::alloc::Global;
 use vk_effect::Said;

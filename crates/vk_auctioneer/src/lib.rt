@@ -1,14 +1,12 @@
 //! The auctioneer's commands: what each asks the house, which files it reads and writes, and what it says.
 #![tactic(auto)]
 
-mod announcing;
-mod answering;
 mod command;
 mod inputs;
 mod laws;
-mod proving;
+mod publishing;
 mod refusals;
-mod showing;
+mod standing;
 mod submitting;
 
 pub use command::house_command;

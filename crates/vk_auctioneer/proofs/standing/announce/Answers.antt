@@ -4,7 +4,7 @@ use Rattle.vk_house.specs.Commands.{Announce}
 use Rattle.vk_house.specs.Replies.{Done}
 use Rattle.vk_auctioneer.specs.Effects.{no_file}
 use Rattle.vk_auctioneer.proofs.Asking.{asked_acts, calls_keep, leaves_same}
-use Rattle.vk_auctioneer.proofs.announcing.announce.Goals as goal
+use Rattle.vk_auctioneer.proofs.standing.announce.Goals as goal
 
 pub returns-clause-acts : goal.returns-clause-acts
 returns-clause-acts g c = λ files.

@@ -3,7 +3,7 @@ use Rattle.vk_house.specs.Answers.{as_reply, work_of}
 use Rattle.vk_house.specs.Commands.{Prove}
 use Rattle.vk_auctioneer.specs.Effects.{board_file}
 use Rattle.vk_auctioneer.proofs.Asking.{asked_acts, calls_keep}
-use Rattle.vk_auctioneer.proofs.proving.prove.Goals as goal
+use Rattle.vk_auctioneer.proofs.publishing.prove.Goals as goal
 
 pub returns-clause-acts : goal.returns-clause-acts
 returns-clause-acts g c =

@@ -2,7 +2,7 @@ use Rattle.vk_house.specs.Commands.{Answer}
 use Rattle.vk_auctioneer.specs.Effects.{asked, reply_file}
 use Rattle.vk_auctioneer.specs.Inputs.{challenge_in}
 use Rattle.vk_auctioneer.proofs.Asking.{read_acts}
-use Rattle.vk_auctioneer.proofs.answering.answer.Goals as goal
+use Rattle.vk_auctioneer.proofs.publishing.answer.Goals as goal
 
 pub returns-in-Ok-clause-acts : goal.returns-in-Ok-clause-acts
 returns-in-Ok-clause-acts g c =

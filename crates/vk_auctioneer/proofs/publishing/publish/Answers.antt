@@ -2,7 +2,7 @@ use Rattle.std.proofs.lemmas.Result.{err_from_is_err_and}
 use Rattle.vk_job.specs.Published.{board_of, board_pieces}
 use Rattle.vk_job.proofs.Joined.{board_is_joined}
 use Rattle.vk_auctioneer.proofs.Asking.{text_done, text_stopped}
-use Rattle.vk_auctioneer.proofs.proving.publish.Goals as goal
+use Rattle.vk_auctioneer.proofs.publishing.publish.Goals as goal
 
 pub returns-in_err-write_files-clause-written : goal.returns-in_err-write_files-clause-written
 returns-in_err-write_files-clause-written g c =

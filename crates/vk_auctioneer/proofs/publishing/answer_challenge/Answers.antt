@@ -3,7 +3,7 @@ use Rattle.vk_house.specs.Answers.{as_reply, work_of}
 use Rattle.vk_house.specs.Commands.{Answer}
 use Rattle.vk_auctioneer.specs.Effects.{reply_file}
 use Rattle.vk_auctioneer.proofs.Asking.{asked_acts, calls_keep}
-use Rattle.vk_auctioneer.proofs.answering.answer_challenge.Goals as goal
+use Rattle.vk_auctioneer.proofs.publishing.answer_challenge.Goals as goal
 
 pub returns-clause-acts : goal.returns-clause-acts
 returns-clause-acts g c =
