@@ -5,7 +5,7 @@ ghost use Rattle.vk_seal.specs.Values.{IsSeal, IsSecret};
 
 use super::*;
 use sqlite::{Alter, Connection, Error, FileStore, Files, Options};
-use sqlite_disk::Memory;
+use sqlite_disk::{Crash, Fuse, Memory};
 use std::alloc::Global;
 use std::process::Abort;
 use std::test::Fail;
@@ -166,6 +166,153 @@ fn the_first_challenge_stays_over_closing_and_opening(rt: HostRuntime) -> Result
     assert_eq!(rt; answer(alloc, &mut keeper, "11")?, Err(FIRST));
     let mut keeper = reopened(alloc, keeper)?;
     assert_eq!(rt; answer(alloc, &mut keeper, "01")?, Ok(FIRST));
+    Ok(())
+}
+
+// ---- over files that stop
+
+/// The command that is stopped.
+#[derive(Clone, Copy)]
+enum Step {
+    Prove,
+    Answer,
+}
+
+/// The file of an auction that the command may come to next.
+fn prepared(alloc: Global, step: Step) -> Result<Memory, Fail>
+    ensures { IfOk result (λ db. IsTrue (memory_is_usable db)) }
+{
+    let mut keeper = empty(alloc)?;
+    let _announced = announce(alloc, &mut keeper);
+    let _first = submit(alloc, &mut keeper, 300, 7)?;
+    let _second = submit(alloc, &mut keeper, 65535, 15)?;
+    if let Step::Answer = step {
+        let _proved = prove(alloc, &mut keeper);
+    }
+    closed(keeper.close())
+}
+
+/// Whether the command was done.
+fn does<K: Keeper + Drop>(alloc: Global, keeper: &mut K, step: Step) -> Result<bool, Fail> {
+    match step {
+        Step::Prove => Ok(prove(alloc, keeper).is_some()),
+        Step::Answer => {
+            let challenge = challenge(alloc, "01")?;
+            Ok(House::over(keeper).answer(alloc, &ID, &challenge).is_ok())
+        }
+    }
+}
+
+/// Whether the auction is as after the command. None where it is neither so nor as before.
+fn is_after(auction: &Auction, step: Step) -> Option<bool> {
+    match (step, &auction.phase) {
+        (Step::Prove, Phase::Taking) | (Step::Answer, Phase::Proved { .. }) => Some(false),
+        (Step::Prove, Phase::Proved { .. }) => Some(true),
+        (Step::Answer, Phase::Answered { .. }) if kept_bits(&auction.phase) == FIRST => Some(true),
+        _ => None,
+    }
+}
+
+/// What became of a command over files that take so many calls.
+struct Attempt {
+    /// The command was done.
+    done: bool,
+    /// No call was refused.
+    whole: bool,
+    files: Files<Fuse<Memory>>,
+}
+
+fn attempted(alloc: Global, db: Memory, calls: (u64, u64), step: Step) -> Result<Attempt, Fail>
+    requires { IsTrue (memory_is_usable db) }
+{
+    let log = Fuse::new(Memory::new(alloc), calls.0);
+    let db = Fuse::new(db, calls.1);
+    match Connection::open_files(alloc, Files { log, db }, Options::new(1)) {
+        Ok(connection) => attempted_over(alloc, connection, step),
+        Err((_, left)) => Ok(Attempt {
+            done: false,
+            whole: false,
+            files: left.into_files(),
+        }),
+    }
+}
+
+fn attempted_over(
+    alloc: Global,
+    connection: Connection<FileStore<Fuse<Memory>>>,
+    step: Step,
+) -> Result<Attempt, Fail> {
+    let (done, connection) = match SqlKeeper::over(alloc, connection) {
+        Ok(mut keeper) => (does(alloc, &mut keeper, step)?, keeper.close()),
+        Err((_, connection)) => (false, connection),
+    };
+    match connection.close_files() {
+        Ok(files) => Ok(Attempt {
+            done,
+            whole: done,
+            files,
+        }),
+        Err((_, store)) => Ok(Attempt {
+            done,
+            whole: false,
+            files: store.close(),
+        }),
+    }
+}
+
+/// Whether the auction was as before or as after the command once the machine came back, as after it
+/// where it was done, and as after it once it was done again. The files are those that it left.
+fn comes_back(alloc: Global, attempt: Attempt, step: Step) -> Result<bool, Fail> {
+    let Attempt {
+        done,
+        whole: _,
+        mut files,
+    } = attempt;
+    files.log.crash();
+    files.db.crash();
+    let Ok(connection) = Connection::open_files(alloc, files, Options::new(1)) else {
+        return Ok(false);
+    };
+    let mut keeper = kept_in(alloc, connection)?;
+    let found_then = found(&mut keeper)?.ok_or("lost")?;
+    let Some(after) = is_after(&found_then, step) else {
+        return Ok(false);
+    };
+    let again = does(alloc, &mut keeper, step)?;
+    let found_now = found(&mut keeper)?.ok_or("lost")?;
+    Ok((after || !done) && (again || after) && is_after(&found_now, step) == Some(true))
+}
+
+/// How many calls of the log, or of the store itself, are refused one after another until none is.
+fn stops(alloc: Global, step: Step, of_log: bool) -> Result<Option<u64>, Fail> {
+    for calls in 0..500 {
+        let each = if of_log {
+            (calls, u64::MAX)
+        } else {
+            (u64::MAX, calls)
+        };
+        let attempt = attempted(alloc, prepared(alloc, step)?, each, step)?;
+        let whole = attempt.whole;
+        if !comes_back(alloc, attempt, step)? {
+            return Ok(None);
+        }
+        if whole {
+            return Ok(Some(calls));
+        }
+    }
+    Ok(None)
+}
+
+#[test]
+fn a_store_that_stops_leaves_the_auction_as_before_or_as_after(
+    rt: HostRuntime,
+) -> Result<(), Fail> {
+    for step in [Step::Prove, Step::Answer] {
+        for of_log in [true, false] {
+            let calls = stops(rt.alloc(), step, of_log)?.ok_or("neither as before nor as after")?;
+            assert!(rt; 2 < calls);
+        }
+    }
     Ok(())
 }
 
