@@ -1,10 +1,11 @@
 // Honest auctions as files, judged and extracted from by the program.
-use crate::honest::{Asked, Honest, seat_at};
+use crate::asked::Asked;
+use crate::honest::{Honest, seat_at};
 use crate::runs::words_of;
 use crate::unreplayed::Unreplayed;
 use std::alloc::Global;
 use vk_app::run;
-use vk_io::{MemShelf, MemSink, PieceShelf, Sink};
+use vk_io::{MemShelf, MemSink, PieceShelf, Shelf, Sink};
 use vk_keeper::MemKeeper;
 use vk_lines::{end_line, push_decimal, push_space};
 
@@ -113,7 +114,7 @@ fn push_count(text: &mut Vec<u8>, word: &[u8], number: u64) -> Result<(), Unrepl
 }
 
 /// How many lines the named file has.
-fn lines_in(files: &MemShelf, name: &str) -> u64 {
+pub fn lines_in(files: &MemShelf, name: &str) -> u64 {
     let mut lines = 0u64;
     for byte in files.file(name).unwrap_or(&[]) {
         if *byte == b'\n' {
@@ -145,10 +146,10 @@ fn words_with(alloc: Global, words: &str, asked: Asked) -> Result<String, Unrepl
 }
 
 /// The words of a command and its status. What it printed is handed on.
-fn push_run(
+pub fn push_run<S: Shelf>(
     alloc: Global,
     text: &mut Vec<u8>,
-    shelf: &mut PieceShelf,
+    shelf: &mut S,
     line: &[u8],
 ) -> Result<MemSink, Unreplayed> {
     let words = words_of(alloc, line)?;

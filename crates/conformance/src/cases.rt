@@ -64,3 +64,12 @@ pub fn numbers_in(alloc: Global, case: &[u8]) -> Result<Vec<u64>, Unreplayed> {
     }
     Ok(numbers)
 }
+
+/// The bytes from that place on.
+pub fn behind(bytes: &[u8], place: usize) -> &[u8] {
+    if bytes.len() < place {
+        return &[];
+    }
+    let (_before, behind) = bytes.split_at(place);
+    behind
+}

@@ -1,66 +1,24 @@
-// An honest auction by the library's own parts, as files: its board, three challenges, and the replies to them.
+// An honest auction by the library's own parts: what its board says, and the answers to challenges.
 ghost use Rattle.std.specs.Prelude.{◌≡◌, ◌<◌, ◌≤◌, ◌^◌, All, IfOk, IfSome, length};
 ghost use Rattle.vk_plan.specs.Plans.{Holds};
 
 use crate::unreplayed::Unreplayed;
 use std::alloc::Global;
-use vk_board::{Head, LaneLines, SealLines, head_text, lane_text, seal_lines_text};
+use vk_board::{Head, LaneLines, SealLines};
 use vk_dice::ChaChaWords;
-use vk_io::{PieceShelf, Shelf};
 use vk_plan::{Circuit, Plan};
 use vk_prover::{LaneTape, answer_lane, draw_tape, make_lane};
-use vk_reply::{Challenge, challenge_text, reply_head_text, reply_lane_text};
 use vk_residue::{NoMemory, Residue};
 use vk_seal::{Seal, Secret, make_seal};
 use vk_seq::Seq;
 use vk_vickrey::{VickreyPlan, outcome};
 use vk_wire::Shown;
 
-const ID: [u8; 16] = [0, 1, 2, 3, 4, 5, 6, 7, 8, 9, 10, 11, 12, 13, 14, 15];
+pub const ID: [u8; 16] = [0, 1, 2, 3, 4, 5, 6, 7, 8, 9, 10, 11, 12, 13, 14, 15];
 
 const AUCTIONEER: [u8; 32] = [0xa5; 32];
 
 const BIDDERS: [u8; 32] = [0x5a; 32];
-
-/// What is asked for in each lane.
-#[derive(Clone, Copy)]
-pub enum Asked {
-    /// The first halves.
-    Zeros,
-    /// The second halves.
-    Ones,
-    /// The second halves of the last lane, and the first ones of all others.
-    Last,
-}
-
-impl Asked {
-    /// The name of the challenge's file.
-    pub fn name(self) -> &'static str {
-        match self {
-            Asked::Zeros => "zeros",
-            Asked::Ones => "ones",
-            Asked::Last => "last",
-        }
-    }
-
-    /// The name of the reply's file.
-    pub fn reply(self) -> &'static str {
-        match self {
-            Asked::Zeros => "reply-zeros",
-            Asked::Ones => "reply-ones",
-            Asked::Last => "reply-last",
-        }
-    }
-
-    /// The bit of a lane, from 1.
-    pub fn bit(self, lane: u32, lanes: u32) -> bool {
-        match self {
-            Asked::Zeros => false,
-            Asked::Ones => true,
-            Asked::Last => lane == lanes,
-        }
-    }
-}
 
 /// The seat at a position, from 1: the last seat of all, then those before it.
 pub fn seat_at(position: u32) -> u16 {
@@ -69,22 +27,33 @@ pub fn seat_at(position: u32) -> u16 {
 
 /// What is published of a lane, and what is shown of it for each bit.
 #[derive(Drop)]
-struct HonestLane {
-    lines: LaneLines,
+pub struct HonestLane {
+    pub lines: LaneLines,
     zeros: Seq<Shown>,
     ones: Seq<Shown>,
+}
+
+impl HonestLane {
+    /// What is shown for the bit.
+    pub fn shown(&self, bit: bool) -> &[Shown] {
+        if bit {
+            self.ones.as_slice()
+        } else {
+            self.zeros.as_slice()
+        }
+    }
 }
 
 /// An honest auction: what its board says, and the answer to each challenge.
 #[derive(Drop)]
 pub struct Honest {
-    head: Head,
+    pub head: Head,
     /// How many wires a lane has.
     pub wires: u32,
     /// How many rows a lane has.
     pub rows: u32,
-    seals: Vec<SealLines>,
-    lanes: Vec<HonestLane>,
+    pub seals: Vec<SealLines>,
+    pub lanes: Vec<HonestLane>,
 }
 
 impl Honest {
@@ -112,84 +81,6 @@ impl Honest {
             seals,
             lanes: made,
         })
-    }
-
-    /// Writes the board, and each challenge with its reply.
-    pub fn write(&self, alloc: Global, shelf: &mut PieceShelf) -> Result<(), Unreplayed> {
-        self.write_front(alloc, shelf)?;
-        self.write_lanes(alloc, shelf)?;
-        for asked in [Asked::Zeros, Asked::Ones, Asked::Last] {
-            self.write_challenge(alloc, shelf, asked)?;
-            self.write_reply(alloc, shelf, asked)?;
-        }
-        Ok(())
-    }
-
-    /// Writes the board's lines before its first lane.
-    fn write_front(&self, alloc: Global, shelf: &mut PieceShelf) -> Result<(), Unreplayed> {
-        shelf.create("board")?;
-        let text = head_text(alloc, &self.head)?;
-        shelf.append("board", text.as_slice())?;
-        for seal in &self.seals {
-            let text = seal_lines_text(alloc, seal)?;
-            shelf.append("board", text.as_slice())?;
-        }
-        Ok(())
-    }
-
-    /// Writes the board's lanes and its end.
-    fn write_lanes(&self, alloc: Global, shelf: &mut PieceShelf) -> Result<(), Unreplayed> {
-        for (lane, number) in self.lanes.iter().zip(1u32..=64) {
-            let text = lane_text(alloc, number, &lane.lines)?;
-            shelf.append("board", text.as_slice())?;
-        }
-        shelf.append("board", b"end\n")?;
-        Ok(())
-    }
-
-    fn write_challenge(
-        &self,
-        alloc: Global,
-        shelf: &mut PieceShelf,
-        asked: Asked,
-    ) -> Result<(), Unreplayed> {
-        let mut bits = Seq::new(alloc);
-        for (_lane, number) in self.lanes.iter().zip(1u32..=64) {
-            bits.push(asked.bit(number, self.head.lanes))?;
-        }
-        let text = challenge_text(alloc, &Challenge { bits })?;
-        shelf.create(asked.name())?;
-        shelf.append(asked.name(), text.as_slice())?;
-        Ok(())
-    }
-
-    fn write_reply(
-        &self,
-        alloc: Global,
-        shelf: &mut PieceShelf,
-        asked: Asked,
-    ) -> Result<(), Unreplayed> {
-        shelf.create(asked.reply())?;
-        let text = reply_head_text(alloc, self.head.lanes)?;
-        shelf.append(asked.reply(), text.as_slice())?;
-        for (lane, number) in self.lanes.iter().zip(1u32..=64) {
-            let shown = lane.shown(asked.bit(number, self.head.lanes));
-            let text = reply_lane_text(alloc, number, shown)?;
-            shelf.append(asked.reply(), text.as_slice())?;
-        }
-        shelf.append(asked.reply(), b"end\n")?;
-        Ok(())
-    }
-}
-
-impl HonestLane {
-    /// What is shown for the bit.
-    fn shown(&self, bit: bool) -> &[Shown] {
-        if bit {
-            self.ones.as_slice()
-        } else {
-            self.zeros.as_slice()
-        }
     }
 }
 

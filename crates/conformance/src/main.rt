@@ -6,17 +6,25 @@
 //! extracts from, and whether a fault at each call of a command is told.
 #![tactic(auto)]
 
+mod asked;
 mod auctions;
 mod bids;
 mod cases;
+mod commands;
+mod cuts;
 mod faults;
 mod files;
+mod fixed;
 mod honest;
 mod lists;
 mod runs;
+mod samples;
+mod stops;
 mod streams;
 mod unreplayed;
 mod wires;
+mod world;
+mod written;
 
 use cases::read_cases;
 use std::alloc::Global;
@@ -113,6 +121,8 @@ fn replay_all<S: Shelf, W: Sink>(
         replay(alloc, form, shelf, out)?;
     }
     auctions::replay_auctions(alloc, out)?;
+    samples::replay_samples(alloc, out)?;
+    cuts::replay_cuts(alloc, shelf, out)?;
     faults::replay_faults(alloc, shelf, out)?;
     Ok(())
 }

@@ -1,0 +1,127 @@
+// What a command works on, in memory, and what it says.
+use crate::cases::{behind, read_cases};
+use crate::honest::ID;
+use crate::runs::words_of;
+use crate::unreplayed::Unreplayed;
+use std::alloc::Global;
+use vk_app::run;
+use vk_io::{MemShelf, MemSink, Shelf};
+use vk_keeper::{Keeper, MemKeeper};
+
+/// What is outside of a command, of which a call may fail.
+#[derive(Clone, Copy)]
+pub enum Outside {
+    Shelf,
+    Keeper,
+    Sink,
+}
+
+/// A file that is given: the name that it stands under, and the name that it has among the cases.
+#[derive(Clone, Copy)]
+pub struct Given {
+    pub name: &'static str,
+    pub file: &'static str,
+}
+
+/// Files, auctions that are kept, and what was printed.
+#[derive(Drop)]
+pub struct World {
+    pub files: MemShelf,
+    keeper: MemKeeper,
+    /// How many calls of the keeper were made by what was done before.
+    turns: u64,
+    out: MemSink,
+}
+
+/// The status of a run, and what it printed.
+#[derive(Drop)]
+pub struct Ran {
+    pub status: u8,
+    pub text: Vec<u8>,
+}
+
+impl Ran {
+    /// Whether it ended with this status and said this.
+    pub fn said(&self, status: u8, text: &str) -> bool {
+        self.status == status && self.text.as_slice() == text.as_bytes()
+    }
+}
+
+impl World {
+    /// These files, and a keeper after these commands of a house, each of which is done.
+    pub fn of<S: Shelf>(
+        alloc: Global,
+        shelf: &mut S,
+        given: &[Given],
+        before: &[&str],
+    ) -> Result<World, Unreplayed> {
+        let mut world = World {
+            files: given_files(alloc, shelf, given)?,
+            keeper: MemKeeper::new(alloc),
+            turns: 0,
+            out: MemSink::new(alloc),
+        };
+        for line in before {
+            world.do_before(alloc, line)?;
+        }
+        world.files = given_files(alloc, shelf, given)?;
+        world.out = MemSink::new(alloc);
+        Ok(world)
+    }
+
+    /// Does a command of a house, which gets an auction once and puts it once.
+    fn do_before(&mut self, alloc: Global, line: &str) -> Result<(), Unreplayed> {
+        let ran = self.run(alloc, line)?;
+        self.turns = self.turns.saturating_add(2);
+        if ran.status != 0 {
+            return Err(Unreplayed::NoCase);
+        }
+        Ok(())
+    }
+
+    /// Has the call of that number fail, of those that are still to be made.
+    pub fn fail_at(&mut self, outside: Outside, call: u64) -> Result<(), Unreplayed> {
+        match outside {
+            Outside::Shelf => self.files.fail_at(call)?,
+            Outside::Keeper => self.keeper.fail_at(self.turns.saturating_add(call))?,
+            Outside::Sink => self.out.fail_at(call)?,
+        }
+        Ok(())
+    }
+
+    /// Runs the command, which prints behind what was printed before.
+    pub fn run(&mut self, alloc: Global, line: &str) -> Result<Ran, Unreplayed> {
+        let words = words_of(alloc, line.as_bytes())?;
+        let before = self.out.bytes().len();
+        let status = run(
+            alloc,
+            words.as_slice(),
+            &mut self.files,
+            &mut self.keeper,
+            &mut self.out,
+        );
+        let text = Vec::from_slice(alloc, behind(self.out.bytes(), before))?;
+        Ok(Ran { status, text })
+    }
+
+    /// All that is kept of the auction, as text.
+    pub fn kept(&mut self, alloc: Global) -> Result<String, Unreplayed> {
+        let auction = self.keeper.get(&ID)?;
+        let text = format!(in alloc; "{auction:?}")?;
+        Ok(text)
+    }
+}
+
+/// These files in memory.
+fn given_files<S: Shelf>(
+    alloc: Global,
+    shelf: &mut S,
+    given: &[Given],
+) -> Result<MemShelf, Unreplayed> {
+    let mut files = MemShelf::new(alloc);
+    for Given { name, file } in given {
+        let bytes = read_cases(alloc, shelf, file)?;
+        files.put_file(name, bytes.as_slice())?;
+    }
+    Ok(files)
+}

@@ -1,0 +1,78 @@
+// An auction as files: its board, three challenges, and the replies to them.
+use crate::asked::Asked;
+use crate::honest::Honest;
+use crate::unreplayed::Unreplayed;
+use std::alloc::Global;
+use vk_board::{head_text, lane_text, seal_lines_text};
+use vk_io::{PieceShelf, Shelf};
+use vk_reply::{Challenge, challenge_text, reply_head_text, reply_lane_text};
+use vk_seq::Seq;
+
+impl Honest {
+    /// Writes the board, and each challenge with its reply.
+    pub fn write(&self, alloc: Global, shelf: &mut PieceShelf) -> Result<(), Unreplayed> {
+        self.write_front(alloc, shelf)?;
+        self.write_lanes(alloc, shelf)?;
+        for asked in [Asked::Zeros, Asked::Ones, Asked::Last] {
+            self.write_challenge(alloc, shelf, asked)?;
+            self.write_reply(alloc, shelf, asked)?;
+        }
+        Ok(())
+    }
+
+    /// Writes the board's lines before its first lane.
+    fn write_front(&self, alloc: Global, shelf: &mut PieceShelf) -> Result<(), Unreplayed> {
+        shelf.create("board")?;
+        let text = head_text(alloc, &self.head)?;
+        shelf.append("board", text.as_slice())?;
+        for seal in &self.seals {
+            let text = seal_lines_text(alloc, seal)?;
+            shelf.append("board", text.as_slice())?;
+        }
+        Ok(())
+    }
+
+    /// Writes the board's lanes and its end.
+    fn write_lanes(&self, alloc: Global, shelf: &mut PieceShelf) -> Result<(), Unreplayed> {
+        for (lane, number) in self.lanes.iter().zip(1u32..=64) {
+            let text = lane_text(alloc, number, &lane.lines)?;
+            shelf.append("board", text.as_slice())?;
+        }
+        shelf.append("board", b"end\n")?;
+        Ok(())
+    }
+
+    fn write_challenge(
+        &self,
+        alloc: Global,
+        shelf: &mut PieceShelf,
+        asked: Asked,
+    ) -> Result<(), Unreplayed> {
+        let mut bits = Seq::new(alloc);
+        for (_lane, number) in self.lanes.iter().zip(1u32..=64) {
+            bits.push(asked.bit(number, self.head.lanes))?;
+        }
+        let text = challenge_text(alloc, &Challenge { bits })?;
+        shelf.create(asked.name())?;
+        shelf.append(asked.name(), text.as_slice())?;
+        Ok(())
+    }
+
+    fn write_reply(
+        &self,
+        alloc: Global,
+        shelf: &mut PieceShelf,
+        asked: Asked,
+    ) -> Result<(), Unreplayed> {
+        shelf.create(asked.reply())?;
+        let text = reply_head_text(alloc, self.head.lanes)?;
+        shelf.append(asked.reply(), text.as_slice())?;
+        for (lane, number) in self.lanes.iter().zip(1u32..=64) {
+            let shown = lane.shown(asked.bit(number, self.head.lanes));
+            let text = reply_lane_text(alloc, number, shown)?;
+            shelf.append(asked.reply(), text.as_slice())?;
+        }
+        shelf.append(asked.reply(), b"end\n")?;
+        Ok(())
+    }
+}
