@@ -10,7 +10,7 @@ from dataclasses import dataclass
 from attack import mutations, reference
 from attack.cases import Batch, KilledLater, Limited, LimitedOutput, Output, Refused, SmallDisk, Told
 from attack.defined import EFFECT
-from attack.runs import KILLED, STORE, Folder, Program
+from attack.runs import KILLED, Folder, Program
 from attack.subjects import AUCTION, Attacked, seed_of, two_seals
 
 EVER = 2**62  # a number of calls that no run comes to
@@ -18,6 +18,8 @@ OUTSIDE = "osrwlycCfn"  # the letters of faults.c of all calls but those for mem
 USAGE = (
     b"usage: vickrey seal|announce|submit|prove|answer|show|verify|extract|confront|report|sample|ceremony\n"
 )
+
+HOUSE = {"announce", "submit", "prove", "answer", "show", "ceremony"}  # the commands that open the store
 
 FAULTS = {
     "o": [errno.EMFILE, errno.EACCES, errno.EIO, errno.ENOSPC, errno.EROFS],
@@ -93,14 +95,16 @@ def calls(attack):
 
 
 def interrupted(attack):
-    """A signal interrupts each call, or a call moves one byte of many: neither is a fault."""
+    """A signal interrupts each call, or a call moves one byte of many: neither is a fault. But the database makes no call
+    again, and counts it as a fault of the store."""
     for scenario in attack.scenarios():
+        may = (6, EFFECT) if scenario.words[0] in HOUSE else (EFFECT,)
         for kinds, what, name in (("orw", errno.EINTR, "interrupted"), ("rw", "short", "moves one byte")):
             count = len(attack.made.calls(scenario, kinds))
             for number in attack.some(range(1, count + 1), attack.most(scenario, 10, 10000)):
-                yield Refused(scenario, f"call {number} of {count} ({kinds}) {name}", (EFFECT,), kinds, number, number, what)
+                yield Refused(scenario, f"call {number} of {count} ({kinds}) {name}", may, kinds, number, number, what)
         if scenario is not attack.on.sample:
-            yield Refused(scenario, "each call moves one byte", (EFFECT,), "rw", 1, EVER, "short")
+            yield Refused(scenario, "each call moves one byte", may, "rw", 1, EVER, "short")
 
 
 def killed(attack):
@@ -127,7 +131,7 @@ def disk(attack):
         longest = max((len(text) for step in scenario.steps for _, text in step.written), default=0)
         for most in attack.some(range(longest + 1), 40 if attack.quick else 1500):
             may = (6,) if most < longest else (EFFECT,)
-            if STORE in scenario.files or scenario.name == "ceremony":
+            if scenario.words[0] in HOUSE:
                 may = (6, EFFECT)  # the store of auctions grows, too
             yield Limited(scenario, f"no file may pass {most} bytes", may, most)
     if may_mount(attack.made):
