@@ -1,7 +1,7 @@
 //! `vickrey`: a sealed-bid second-price auction whose auctioneer proves the outcome.
 #![tactic(auto)]
 
-ghost use Rattle.std.specs.Prelude.{◌≡◌, ◌≢◌, ◌⊎◌, IfSome, map, string_bytes};
+ghost use Rattle.std.specs.Prelude.{◌≡◌, ◌≢◌, ◌⊎◌, IfSome, IsFalse, IsTrue, map, string_bytes};
 ghost use Rattle.std.specs.Process.{exit_status};
 ghost use Rattle.vk_io.specs.Faults.{Rose};
 ghost use Rattle.vk_effect.specs.Effects.{outside, stores};
@@ -78,7 +78,10 @@ fn perform<R: Eprint + AllocGlobal, S: Shelf, K: Keeper + Drop, W: Sink>(
 }
 
 /// The code, or that of a fault of the outside which comes after it, told once.
-fn with_fault<R: Eprint>(rt: &R, code: ExitCode, is_faulty: bool) -> ExitCode {
+fn with_fault<R: Eprint>(rt: &R, code: ExitCode, is_faulty: bool) -> ExitCode
+    ensures kept { IsFalse is_faulty → result ≡ code }
+    ensures told { IsTrue is_faulty → result ≢ code → exit_status result ≡ 6 }
+{
     if is_faulty && code != ExitCode::from(6) && code != ExitCode::from(9) {
         end(rt, 6)
     } else {
