@@ -17,8 +17,8 @@ use Rattle.vk_lines.specs.Lines.{LinesValue, Rest, IsNext, Starts, none_left, en
 pub feed_at-le-length : (text : List ℕ) → feed_at text ≤ length text
 feed_at-le-length text = prefix_len-le-length _ text
 
--- no byte but a line feed passes the test
-not_passed : (test : Bool) → (test ≡ true → ⊥) → test ≡ false
+-- a test that is never passed fails
+pub not_passed : (test : Bool) → (test ≡ true → ⊥) → test ≡ false
 not_passed true never = absurd (never refl)
 not_passed false never = refl
 

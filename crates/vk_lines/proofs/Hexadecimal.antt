@@ -1,5 +1,5 @@
 -- Lower-case hexadecimal: writing byte by byte, and both directions between bytes and their text.
-use Rattle.std.proofs.Common.{◌≡◌, ℕ, suc, ◌+◌, ◌-◌, ◌*◌, ◌/◌, ◌%◌, ◌<◌, ◌≤◌, nat_lt, Bool, true, false, ◌&&◌, if◌then◌else◌, inl, inr, List, [], ◌∷◌, ◌++◌, length, take, drop, get_or, slice_index, Option, Some, None, Result, Ok, Err, refl, ap, sym, ◌∙◌, arith, rules, append_assoc}
+use Rattle.std.proofs.Common.{◌≡◌, ℕ, suc, ◌+◌, ◌-◌, ◌*◌, ◌/◌, ◌%◌, ◌<◌, ◌≤◌, nat_le, nat_lt, Bool, true, false, ◌&&◌, if◌then◌else◌, inl, inr, List, [], ◌∷◌, ◌++◌, length, take, drop, max, get_or, slice_index, Option, Some, None, Result, Ok, Err, refl, ap, sym, ◌∙◌, arith, rules, append_assoc}
 use Rattle.std.specs.List.{list_all}
 use Rattle.std.specs.Option.{IfSome}
 use Rattle.std.specs.Result.{result_ok}
@@ -171,30 +171,65 @@ pub hex_none_at : (count : ℕ) (text : List ℕ) (i : ℕ) → i < length text 
 unfolding hex_of
 hex_none_at count text i within great = rw (list_all_at is_lower_digit text i 0 within (digit_none (get_or text i 0) great)) refl
 
+-- the greatest value of the digits so far and of two more is none of a digit
+pub none_more : (count : ℕ) (text : List ℕ) (i greatest high low : ℕ) → 2 * i + 1 < length text
+    → high ≡ digit_value (get_or text (2 * i) 0) → low ≡ digit_value (get_or text (2 * i + 1) 0)
+    → (15 < greatest → hex_of count text ≡ None) → 15 < max greatest (max high low) → hex_of count text ≡ None
+none_more count text i greatest high low within is_high is_low before great =
+    elim (cases_lt 15 greatest) [
+      | inl one ↦ before one
+      | inr small ↦ elim (cases_lt 15 high) [
+          | inl first ↦ hex_none_at count text (2 * i) (omega arith) (rw (← is_high) first)
+          | inr less ↦ hex_none_at count text (2 * i + 1) within (rw (← is_low) (omega arith))
+        ]
+    ]
+
+-- the byte of two digits
+abbrev pub byte_of : ℕ → ℕ → ℕ
+byte_of high low = (high * 16 % 256 + low) % 256
+
 -- two digits more write one byte more
-pub pair_read : (bytes text : List ℕ) (i high low : ℕ) → i < length bytes → 2 * i + 1 < length text
+pair_read : (bytes text : List ℕ) (i high low : ℕ) → i < length bytes → 2 * i + 1 < length text
     → high ≡ digit_value (get_or text (2 * i) 0) → low ≡ digit_value (get_or text (2 * i + 1) 0) → high ≤ 15 → low ≤ 15
-    → hex_text (take i bytes) ≡ take (2 * i) text → hex_text (take (i + 1) (set bytes i (16 * high + low))) ≡ take (2 * (i + 1)) text
+    → hex_text (take i bytes) ≡ take (2 * i) text → hex_text (take (i + 1) (set bytes i (high * 16 + low))) ≡ take (2 * (i + 1)) text
 pair_read bytes text i high low within inside is_high is_low small_high small_low so_far =
-    let over : (16 * high + low) / 16 ≡ high = omega arith in
-    let under : (16 * high + low) % 16 ≡ low = omega arith in
+    let over : (high * 16 + low) / 16 ≡ high = omega arith in
+    let under : (high * 16 + low) % 16 ≡ low = omega arith in
     let first : slice_index lower_digits high ≡ get_or text (2 * i) 0 = rw is_high (digit_is (get_or text (2 * i) 0) (omega arith)) in
     let second : slice_index lower_digits low ≡ get_or text (2 * i + 1) 0 = rw is_low (digit_is (get_or text (2 * i + 1) 0) (omega arith)) in
     let more : take (2 * i + 1) text ≡ take (2 * i) text ++ get_or text (2 * i) 0 ∷ [] = take_more text (2 * i) 0 (omega arith) in
     let last : take (2 * i + 1 + 1) text ≡ take (2 * i + 1) text ++ get_or text (2 * i + 1) 0 ∷ [] = take_more text (2 * i + 1) 0 inside in
     let count : 2 * (i + 1) ≡ 2 * i + 1 + 1 = omega arith in
-    ap hex_text (take-set_at bytes i (i + 1) (16 * high + low) refl within)
-    ∙ encode_with-push lower_digits (take i bytes) (16 * high + low)
+    ap hex_text (take-set_at bytes i (i + 1) (high * 16 + low) refl within)
+    ∙ encode_with-push lower_digits (take i bytes) (high * 16 + low)
     ∙ rw (over, under, first, second, so_far, count, last, more) (sym (append_assoc (take (2 * i) text) (get_or text (2 * i) 0 ∷ []) (get_or text (2 * i + 1) 0 ∷ [])))
+
+-- so do they where the greatest of all digits so far is that of a digit
+pub digits_more : (bytes text : List ℕ) (i greatest high low : ℕ) → i < length bytes → 2 * i + 1 < length text
+    → high ≡ digit_value (get_or text (2 * i) 0) → low ≡ digit_value (get_or text (2 * i + 1) 0) → max greatest (max high low) ≤ 15
+    → (greatest ≤ 15 → hex_text (take i bytes) ≡ take (2 * i) text) → hex_text (take (i + 1) (set bytes i (byte_of high low))) ≡ take (2 * (i + 1)) text
+digits_more bytes text i greatest high low within inside is_high is_low small so_far =
+    let byte : byte_of high low ≡ high * 16 + low = omega arith in
+    rw byte (pair_read bytes text i high low within inside is_high is_low (omega arith) (omega arith) (so_far (omega arith)))
 
 pub bytes_set : (bytes : List ℕ) (i v : ℕ) → v < 256 → IsBytes bytes → IsBytes (set bytes i v)
 bytes_set bytes i v small fit k = let there = fit k in grind (arith, common_steps)
 
 -- bytes whose digits were all read
-pub hex_some : (bytes text : List ℕ) (count i : ℕ) → length bytes ≡ count → length text ≡ 2 * count → i ≡ count → IsBytes bytes
+hex_some : (bytes text : List ℕ) (count i : ℕ) → length bytes ≡ count → length text ≡ 2 * count → i ≡ count → IsBytes bytes
     → hex_text (take i bytes) ≡ take (2 * i) text → hex_of count text ≡ Some bytes
 hex_some bytes text count i long twice all fit so_far =
     let front : take i bytes ≡ bytes = take_all i bytes (omega arith) in
     let whole : take (2 * i) text ≡ text = take_all (2 * i) text (omega arith) in
     let is : text ≡ hex_text bytes = sym whole ∙ sym so_far ∙ ap hex_text front in
     ap (hex_of count) is ∙ hex_of-hex_text count bytes long fit
+
+-- whether or not they were
+pub hex_by : (bytes text : List ℕ) (count i greatest : ℕ) → length bytes ≡ count → length text ≡ 2 * count → i ≡ count → IsBytes bytes
+    → (greatest ≤ 15 → hex_text (take i bytes) ≡ take (2 * i) text) → (15 < greatest → hex_of (length bytes) text ≡ None)
+    → hex_of count text ≡ (if nat_le greatest 15 then Some bytes else None)
+hex_by bytes text count i greatest long twice all fit so_far none =
+    elim (cases_lt 15 greatest) [
+      | inl great ↦ let other : nat_le greatest 15 ≡ false = grind (arith, nat_tests) in rw other (ap (λ n. hex_of n text) (sym long) ∙ none great)
+      | inr small ↦ let is : nat_le greatest 15 ≡ true = grind (arith, nat_tests) in rw is (hex_some bytes text count i long twice all fit (so_far (omega arith)))
+    ]

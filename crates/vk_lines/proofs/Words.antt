@@ -1,5 +1,5 @@
 -- Words, and lines of words between single spaces.
-use Rattle.std.proofs.Common.{nat_le, ◌≡◌, if◌then◌else◌, ℕ, ◌+◌, ◌-◌, ◌*◌, ◌^◌, ◌<◌, ◌≤◌, ◌==◌, nat_lt, Bool, true, false, List, [], ◌∷◌, ◌++◌, length, take, drop, decimal, Option, Some, None, refl, ap, sym, ◌∙◌, arith, length-append, inl, inr}
+use Rattle.std.proofs.Common.{nat_le, get_or, ◌≡◌, if◌then◌else◌, ℕ, ◌+◌, ◌-◌, ◌*◌, ◌^◌, ◌<◌, ◌≤◌, ◌==◌, nat_lt, Bool, true, false, List, [], ◌∷◌, ◌++◌, length, take, drop, decimal, Option, Some, None, refl, ap, sym, ◌∙◌, arith, length-append, inl, inr}
 use Rattle.std.specs.List.{list_all, join_with_byte, position, position_or_len, slice_split}
 use Rattle.std.specs.Str.{bytes_eq, all_ascii_digits}
 use Rattle.std.proofs.lemmas.Bool.{and_parts, cases_Bool, le-leb, leb-true, ltb-true}
@@ -8,11 +8,14 @@ use Rattle.std.proofs.lemmas.Fmt.{digits_decimal, length-decimal-le}
 use Rattle.std.proofs.lemmas.List.Folds.{list_all-append}
 use Rattle.std.proofs.lemmas.List.{take_all, length-drop}
 use Rattle.std.proofs.lemmas.List.Splits.{join_with_byte-slice_split, slice_split_first}
+use Rattle.std.proofs.lemmas.List.Sums.{position_or_len_is}
 use Rattle.std.proofs.lemmas.Slice.Eq.{bytes_eq-Decides}
 use Rattle.hex.specs.Hex.{IsBytes}
+use Rattle.memchr.specs.Find.{IsFirstByte, is_byte}
 use Rattle.vk_lines.specs.Tokens.{number_line, id_line, digests_line, decimal_of, fields_of, hex_of, hex_text, is_lower_digit, meets, behind_word, one_of, two_of, three_of, four_of, one_by, one_field, two_by, two_fields, three_by, three_fields, four_by, four_fields, word_of, ◌>>=◌}
 use Rattle.vk_lines.specs.Forms.{IsLine, IsToken, is_plain, is_word, spaced}
 use Rattle.vk_lines.proofs.Decimals.{own, decimal_of-some, decimal_of-decimal}
+use Rattle.vk_lines.proofs.Feeds.{not_passed}
 use Rattle.vk_lines.proofs.Hexadecimal.{hex_text-lower, hex_of-some, hex_of-hex_text, length-hex_text}
 
 -- ---- words
@@ -44,6 +47,16 @@ pub hex_word : (bytes : List ℕ) → IsBytes bytes → is_word (hex_text bytes)
 hex_word bytes fit = all_weaker is_lower_digit (λ b. nat_lt 32 b) (λ b digit. grind (arith, nat_tests)) (hex_text bytes) (hex_text-lower bytes fit)
 
 -- ---- the fields of words
+
+-- what a search for the first space finds
+pub space_found : (text : List ℕ) (found : Option ℕ) → IsFirstByte (is_byte 32) text found → found ≡ position (λ byte. byte == 32) text
+space_found text (Some at) first =
+    let within : at < length text = first.0.high in
+    let place = position_or_len_is (λ byte. byte == 32) text at 0 (omega arith) (λ k less. not_passed (get_or text k 0 == 32) (first.0.before k (omega arith) less)) (λ inside. first.1) in
+    grind (arith, nat_tests)
+space_found text None nowhere =
+    let place = position_or_len_is (λ byte. byte == 32) text (length text) 0 (omega arith) (λ k less. not_passed (get_or text k 0 == 32) (nowhere k (omega arith) less)) (λ past. absurd (omega arith)) in
+    grind (arith, nat_tests)
 
 fields_of-word : (text : List ℕ) → is_word text ≡ true → fields_of text ≡ text ∷ []
 fields_of-word [] word = refl

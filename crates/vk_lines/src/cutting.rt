@@ -4,6 +4,8 @@ ghost use Rattle.std.specs.Prelude.{◌≡◌, ◌==◌, ◌<◌, length, slice_
 ghost use Rattle.std.specs.List.{position};
 ghost use Rattle.vk_lines.specs.Tokens.{fields_of, with_fields, word_of, behind_word, one_of, two_of, three_of, four_of};
 
+use memchr::memchr;
+
 /// The field of that index, from 0, which may be empty; `None` where the line has fewer fields.
 pub fn field(text: &[u8], index: usize) -> Option<&[u8]>
     ensures { option_map (λ x. x.now) result ≡ slice_get (fields_of text.now) index }
@@ -33,15 +35,7 @@ fn first_space(text: &[u8]) -> Option<usize>
     ensures place { result ≡ position (λ byte. byte == 32) text.now }
     ensures within { IfSome result (λ at. at < length text.now) }
 {
-    let at = space_place(text);
-    at
-}
-
-/// The same, by its value alone.
-fn space_place(text: &[u8]) -> Option<usize>
-    ensures { result ≡ position (λ byte. byte == 32) text.now }
-{
-    text.iter().position(|byte| *byte == b' ')
+    memchr(b' ', text)
 }
 
 /// The text behind this word and a space, where it begins so. No byte of that text is looked at.

@@ -6,24 +6,6 @@ ghost use Rattle.vk_lines.specs.Tokens.{hex_of, hex_text, digit_value, ReadsHex}
 
 use vk_residue::NoMemory;
 
-/// The value of each byte as a lower-case hexadecimal digit; 255 where it is none.
-static DIGIT_VALUES: [u8; 256] = [
-    255, 255, 255, 255, 255, 255, 255, 255, 255, 255, 255, 255, 255, 255, 255, 255, 255, 255, 255,
-    255, 255, 255, 255, 255, 255, 255, 255, 255, 255, 255, 255, 255, 255, 255, 255, 255, 255, 255,
-    255, 255, 255, 255, 255, 255, 255, 255, 255, 255, 0, 1, 2, 3, 4, 5, 6, 7, 8, 9, 255, 255, 255,
-    255, 255, 255, 255, 255, 255, 255, 255, 255, 255, 255, 255, 255, 255, 255, 255, 255, 255, 255,
-    255, 255, 255, 255, 255, 255, 255, 255, 255, 255, 255, 255, 255, 255, 255, 255, 255, 10, 11,
-    12, 13, 14, 15, 255, 255, 255, 255, 255, 255, 255, 255, 255, 255, 255, 255, 255, 255, 255, 255,
-    255, 255, 255, 255, 255, 255, 255, 255, 255, 255, 255, 255, 255, 255, 255, 255, 255, 255, 255,
-    255, 255, 255, 255, 255, 255, 255, 255, 255, 255, 255, 255, 255, 255, 255, 255, 255, 255, 255,
-    255, 255, 255, 255, 255, 255, 255, 255, 255, 255, 255, 255, 255, 255, 255, 255, 255, 255, 255,
-    255, 255, 255, 255, 255, 255, 255, 255, 255, 255, 255, 255, 255, 255, 255, 255, 255, 255, 255,
-    255, 255, 255, 255, 255, 255, 255, 255, 255, 255, 255, 255, 255, 255, 255, 255, 255, 255, 255,
-    255, 255, 255, 255, 255, 255, 255, 255, 255, 255, 255, 255, 255, 255, 255, 255, 255, 255, 255,
-    255, 255, 255, 255, 255, 255, 255, 255, 255, 255, 255, 255, 255, 255, 255, 255, 255, 255, 255,
-    255, 255, 255, 255,
-];
-
 /// The 16 bytes that 32 lower-case hexadecimal digits write; `None` for any other text.
 pub fn read_hex16(text: &[u8]) -> Option<[u8; 16]>
     ensures value { result ≡ hex_of 16 text.now }
@@ -49,15 +31,15 @@ fn read_hex(text: &[u8], bytes: &mut [u8]) -> bool
     if !is_twice(text.len(), bytes.len()) {
         return false;
     }
+    // No way out of the loop, so that the compiler can read many digits at once.
+    let mut greatest: u8 = 0;
     for index in 0..bytes.len() {
         let high = digit_value(text[2 * index]);
         let low = digit_value(text[2 * index + 1]);
-        if high > 15 || low > 15 {
-            return false;
-        }
-        bytes[index] = 16 * high + low;
+        greatest = greatest.max(high.max(low));
+        bytes[index] = high.wrapping_mul(16).wrapping_add(low);
     }
-    true
+    greatest <= 15
 }
 
 /// Whether one length is twice another.
@@ -71,7 +53,13 @@ fn is_twice(length: usize, half: usize) -> bool
 fn digit_value(byte: u8) -> u8
     ensures { result ≡ digit_value byte }
 {
-    DIGIT_VALUES[byte as usize]
+    if b'0' <= byte && byte <= b'9' {
+        byte - b'0'
+    } else if b'a' <= byte && byte <= b'f' {
+        byte - b'a' + 10
+    } else {
+        255
+    }
 }
 
 /// Appends bytes as lower-case hexadecimal. After `NoMemory`, `out` is as before.
