@@ -1,7 +1,6 @@
 -- The fault line of a file: what is read line by line meets the fault that the form's table gives.
 use Rattle.std.proofs.Common.{◌≡◌, ℕ, zero, suc, ◌+◌, ◌<◌, ◌≤◌, ◌==◌, ◌&&◌, nat_lt, Bool, true, false, if◌then◌else◌, List, [], ◌∷◌, ◌++◌, length, take, drop, codes, Option, Some, None, Result, Ok, Err, option_map, ◌⊎◌, refl, ap, sym, ◌∙◌, arith, inl, inr}
-use Rattle.std.specs.List.{slice_split}
-use Rattle.std.proofs.lemmas.Bool.{cases_lt, cases_Bool, eqb-true}
+use Rattle.std.proofs.lemmas.Bool.{eqb-true}
 use Rattle.std.specs.Result.{result_err}
 use Rattle.std.proofs.lemmas.Bool.Decides.{nat_tests}
 use Rattle.std.proofs.lemmas.List.{length-take-le, nil_from_length}
@@ -9,11 +8,11 @@ use Rattle.vk_lines.specs.declared.errors.ReadErr.{ReadErr}
 use Rattle.vk_lines.specs.declared.errors.ReadErr.TheVariants.{Malformed, Failed, NoMemory}
 use Rattle.vk_lines.specs.declared.step.Step.{Step}
 use Rattle.vk_lines.specs.declared.step.Step.TheVariants.{Text, End, Long, Cut}
-use Rattle.vk_lines.specs.Lines.{Rest, ◌>>=◌, feed_at, step_of, step_by, text_at, text_by, line_by, value_at, none_left, end_at, Reads}
+use Rattle.vk_lines.specs.Lines.{Rest, ◌>>=◌, feed_at, step_of, text_at, text_by, line_by, value_at, none_left, end_at, Reads}
 use Rattle.vk_lines.specs.Forms.{Table, Follows, Ends, fault_after, fault_at, fault_from, fault_line, many_onto, whole, IsWhole, FaultsAllButTexts, Answers}
 use Rattle.vk_lines.specs.Tokens.{word_of}
 use Rattle.vk_lines.proofs.Parts.{bind_ok, ok_same}
-use Rattle.vk_lines.proofs.Pieces.{other_pieces, pieces, pieces_feed, pieces_none, text_tells}
+use Rattle.vk_lines.proofs.Pieces.{other_pieces, pieces, pieces_feed, text_tells}
 use Rattle.vk_lines.proofs.Words.{split_some}
 
 -- ---- one line

@@ -179,9 +179,9 @@ none_more count text i greatest high low within is_high is_low before great =
     elim (cases_lt 15 greatest) [
       | inl one ↦ before one
       | inr small ↦ elim (cases_lt 15 high) [
-          | inl first ↦ hex_none_at count text (2 * i) (omega arith) (rw (← is_high) first)
-          | inr less ↦ hex_none_at count text (2 * i + 1) within (rw (← is_low) (omega arith))
-        ]
+        | inl first ↦ hex_none_at count text (2 * i) (omega arith) (rw (← is_high) first)
+        | inr less ↦ hex_none_at count text (2 * i + 1) within (rw (← is_low) (omega arith))
+      ]
     ]
 
 -- the byte of two digits

@@ -1,4 +1,4 @@
-use Rattle.std.proofs.Common.{refl, arith, length, ◌*◌, ◌+◌, ◌<◌, ◌≡◌}
+use Rattle.std.proofs.Common.{refl, arith, length, ◌*◌, ◌<◌, ◌≡◌}
 use Rattle.std.proofs.lemmas.List.{length-set}
 use Rattle.vk_lines.proofs.Hexadecimal.{byte_of, hex_text_none, hex_none_long, none_more, digits_more, hex_by, bytes_set}
 use Rattle.vk_lines.proofs.digits.read_hex.Goals as goal
