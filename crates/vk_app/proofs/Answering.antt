@@ -1,8 +1,7 @@
 -- What runs on one keeper answer for one auction.
-use Rattle.std.proofs.Common.{◌≡◌, ℕ, zero, suc, List, [], ◌∷◌, Option, Some, None, IfSome, refl, sym, ap, subst, ◌∙◌, arith}
+use Rattle.std.proofs.Common.{◌≡◌, ℕ, zero, suc, List, [], ◌∷◌, Option, Some, IfSome, refl, sym, ap, subst, ◌∙◌, arith}
 use Rattle.std.specs.Prelude.{Contains}
 use Rattle.std.specs.FinMap.{get, insert}
-use Rattle.vk_io.specs.Files.{Files}
 use Rattle.vk_io.proofs.Finite.{get_own}
 use Rattle.vk_reply.specs.declared.challenge.Challenge.{Challenge}
 use Rattle.vk_reply.specs.Texts.{challenge_text}
@@ -15,7 +14,7 @@ use Rattle.vk_job.specs.Published.{reply_of}
 use Rattle.vk_house.specs.Once.{KeepsAnswer, KeepsAnswers}
 use Rattle.vk_house.proofs.Once.{keeps_on, keeps_same}
 use Rattle.vk_words.specs.Orders.{Answer}
-use Rattle.vk_app.specs.Auctions.{AreRuns, AsksHouse, IsRun, LeavesReply, Run}
+use Rattle.vk_app.specs.Auctions.{AreRuns, AsksHouse, IsRun, Run}
 use Rattle.vk_app.specs.Auctions as auctions
 
 -- the auction that a run answered stands there still, and the files are of the challenge that it has answered

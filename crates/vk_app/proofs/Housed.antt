@@ -1,11 +1,10 @@
 -- What a whole run of a command of the house leaves.
-use Rattle.std.proofs.Common.{◌≡◌, ℕ, List, [], ◌∷◌, Option, Some, None, IfSome, IsSomeAnd, Result, Ok, Err, refl, sym, ap, subst, ◌∙◌}
+use Rattle.std.proofs.Common.{◌≡◌, ℕ, List, [], ◌∷◌, Option, Some, IfSome, IsSomeAnd, Result, Ok, Err, sym, ap, subst, ◌∙◌}
 use Rattle.std.specs.Prelude.{option_map}
 use Rattle.std.specs.Result.{result_ok}
 use Rattle.std.specs.FinMap.{get, insert}
 use Rattle.vk_io.specs.Files.{Files}
 use Rattle.vk_io.specs.Writing.{written}
-use Rattle.vk_reply.specs.declared.challenge.Challenge.{Challenge}
 use Rattle.vk_keeper.specs.declared.auction.Auction.{Auction}
 use Rattle.vk_keeper.specs.declared.auction.SealRow.{SealRow}
 use Rattle.vk_keeper.specs.Ledgers.{Ledger}

@@ -1,5 +1,5 @@
 -- What a command of the house leaves, of the files and the ledger that it found, and what runs on one keeper are.
-use Rattle.std.specs.Prelude.{◌≡◌, ◌≢◌, ℕ, List, [], ◌∷◌, Option, Some, IsSomeAnd}
+use Rattle.std.specs.Prelude.{◌≡◌, ℕ, List, [], ◌∷◌, Option, Some, IsSomeAnd}
 use Rattle.std.specs.FinMap.{get, insert}
 use Rattle.vk_io.specs.Files.{Files}
 use Rattle.vk_reply.specs.declared.challenge.Challenge.{Challenge}
@@ -13,11 +13,9 @@ use Rattle.vk_job.specs.Published.{board_of, reply_of}
 use Rattle.vk_house.specs.Commands.{HouseCommand}
 use Rattle.vk_house.specs.Once.{KeepsAnswers}
 use Rattle.vk_house.specs.Steps.{house_step}
-use Rattle.vk_words.specs.Commands.{CommandWords, House, command_words}
-use Rattle.vk_words.specs.Orders.{HouseWords, Answer, Prove}
-use Rattle.vk_auctioneer.specs.Laws.{IsAsked}
+use Rattle.vk_words.specs.Commands.{House, command_words}
+use Rattle.vk_words.specs.Orders.{HouseWords, Answer}
 use Rattle.vk_auctioneer.specs.Lines.{reply_said}
-use Rattle.vk_ceremony.specs.Runs.{asked_in}
 use Rattle.vk_app.specs.Commands.{Asks}
 
 -- ---- one run

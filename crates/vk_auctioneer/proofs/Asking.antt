@@ -13,7 +13,7 @@ use Rattle.vk_house.specs.Answers.{Calls}
 use Rattle.vk_house.specs.Commands.{HouseCommand}
 use Rattle.vk_house.specs.Once.{KeepsAnswers}
 use Rattle.vk_house.specs.Replies.{HouseReply, Refused}
-use Rattle.vk_house.specs.Steps.{HouseCall, house_step}
+use Rattle.vk_house.specs.Steps.{HouseCall}
 use Rattle.vk_house.proofs.Once.{call_keeps}
 use Rattle.vk_effect.specs.Effects.{Effect, SaidValue, stores}
 use Rattle.vk_effect.specs.Ends.{Acts}

@@ -1,28 +1,22 @@
 -- What `prove` and `answer` write, and that it is accepted.
-use Rattle.std.proofs.Common.{◌≡◌, ℕ, List, [], ◌∷◌, length, Option, Some, None, IfSome, Result, Ok, Err, refl, sym, ap, subst, ◌∙◌, arith}
+use Rattle.std.proofs.Common.{◌≡◌, ℕ, List, length, IfSome, Result, Ok, Err, refl, sym, ap, subst}
 use Rattle.std.specs.FinMap.{get}
 use Rattle.vk_commit.specs.Values.{AreBytes}
 use Rattle.vk_io.specs.Files.{Files}
 use Rattle.vk_reply.specs.declared.challenge.Challenge.{Challenge}
 use Rattle.vk_reply.specs.Texts.{challenge_text}
-use Rattle.vk_reply.specs.Values.{IsChallenge}
 use Rattle.vk_keeper.specs.declared.auction.Auction.{Auction}
-use Rattle.vk_keeper.specs.Auctions.{IsAuction, challenge_of}
 use Rattle.vk_keeper.specs.Ledgers.{Ledger, IsLedger}
-use Rattle.vk_job.specs.Jobs.{IsProvedAuction, outcome_in}
-use Rattle.vk_job.specs.Published.{board_of, reply_of}
-use Rattle.vk_honest.specs.Answers.{IsChallengeTo}
+use Rattle.vk_job.specs.Published.{reply_of}
 use Rattle.vk_honest.proofs.Accepted.{answers_are_accepted}
 use Rattle.vk_honest.proofs.Sizes.{challenges_are_short}
-use Rattle.vk_house.specs.Commands.{HouseCommand, Prove, Answer}
-use Rattle.vk_house.specs.Replies.{Work}
-use Rattle.vk_house.specs.Steps.{house_step}
+use Rattle.vk_house.specs.Commands.{Prove, Answer}
 use Rattle.vk_effect.specs.Effects.{Effect, SaidValue}
-use Rattle.vk_auctioneer.specs.Effects.{answer_effect, asked, board_file, if_read, prove_effect, reply_file}
+use Rattle.vk_auctioneer.specs.Effects.{asked, board_file, if_read, prove_effect, reply_file}
 use Rattle.vk_auctioneer.specs.Inputs.{challenge_in}
-use Rattle.vk_auctioneer.specs.Laws.{BoardsAreWritten, ChallengesAreAnswered, IsAsked, IsText, RepliesAreAccepted, RepliesAreWritten, WritesBoard, WritesReply}
+use Rattle.vk_auctioneer.specs.Laws.{BoardsAreWritten, ChallengesAreAnswered, IsText, RepliesAreAccepted, RepliesAreWritten, WritesBoard, WritesReply}
 use Rattle.vk_auctioneer.proofs.Reading.{challenge_found, challenge_refused, reads_challenge}
-use Rattle.vk_auctioneer.proofs.Working.{Challenged, Seeded, Worked, answer_challenges, answered_first, prove_seeds, proved_from, worked, worked_right}
+use Rattle.vk_auctioneer.proofs.Working.{Worked, answer_challenges, answered_first, prove_seeds, proved_from, worked, worked_right}
 
 -- ---- boards
 

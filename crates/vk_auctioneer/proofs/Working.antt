@@ -1,5 +1,5 @@
 -- The auction that `prove` and `answer` are done on: it stands under the id afterwards, and is proved.
-use Rattle.std.proofs.Common.{◌≡◌, ℕ, ◌==◌, Bool, true, false, not, List, [], ◌∷◌, length, Option, Some, None, IfSome, IsSome, unwrap_or, refl, sym, ap, subst, ◌∙◌, arith}
+use Rattle.std.proofs.Common.{◌≡◌, ℕ, ◌==◌, true, not, List, [], length, Option, Some, None, IfSome, IsSome, unwrap_or, refl, sym, ap, subst, ◌∙◌, arith}
 use Rattle.std.specs.Bool.{then_some}
 use Rattle.std.specs.Option.{option_or}
 use Rattle.std.specs.Str.{bytes_eq}
@@ -14,13 +14,13 @@ use Rattle.vk_keeper.specs.declared.auction.SealRow.{SealRow}
 use Rattle.vk_keeper.specs.Auctions.{IsAuction, challenge_of, seed_of}
 use Rattle.vk_keeper.specs.Joining.{first_of}
 use Rattle.vk_keeper.specs.Ledgers.{Ledger, IsKeptUnder, IsLedger}
-use Rattle.vk_job.specs.Jobs.{IsProvedAuction, dry_in, outcome_in, seed_in}
+use Rattle.vk_job.specs.Jobs.{IsProvedAuction, dry_in, outcome_in}
 use Rattle.vk_house.specs.declared.errors.HouseErr.{HouseErr}
 use Rattle.vk_house.specs.declared.errors.HouseErr.TheVariants.{OtherSeed}
 use Rattle.vk_house.specs.Commands.{HouseCommand, Prove, Answer, id_of, IsHouseCommand}
 use Rattle.vk_house.specs.Replies.{HouseReply, Work, reply_to}
 use Rattle.vk_house.specs.Refusals.{refusal_of, refusals_of}
-use Rattle.vk_house.specs.Steps.{Step, step_by, step_at, kept_by, in_phase, ledger_after, house_step}
+use Rattle.vk_house.specs.Steps.{step_by, step_at, kept_by, in_phase, house_step}
 use Rattle.vk_house.proofs.Deciding.{challenge_with, dry_in_phase, kept_same}
 use Rattle.vk_house.proofs.Fields.{auction_with}
 use Rattle.vk_house.proofs.Passing.{none_holds, nothing_there, test_passed}

@@ -1,6 +1,6 @@
 -- What the parts of a command of the house answer.
-use Rattle.std.specs.Prelude.{◌≡◌, ℕ, List, [], Option, Some, None, Result, Ok, Err, ◌⊎◌}
-use Rattle.vk_io.specs.Files.{Files, Told}
+use Rattle.std.specs.Prelude.{◌≡◌, Result, Ok, Err, ◌⊎◌}
+use Rattle.vk_io.specs.Files.{Files}
 use Rattle.vk_io.specs.Writing.{WritesAll}
 use Rattle.vk_io.specs.declared.errors.OutsideErr.{OutsideErr}
 use Rattle.vk_io.specs.declared.errors.OutsideErr.TheVariants as outside

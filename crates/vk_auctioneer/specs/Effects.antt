@@ -1,12 +1,12 @@
 -- What the commands of the house do, where nothing outside fails and memory is given.
-use Rattle.std.specs.Prelude.{ℕ, List, [], ◌∷◌, Option, Some, None, option_map, option_and_then, Result, Ok, Err}
+use Rattle.std.specs.Prelude.{ℕ, List, [], ◌∷◌, Option, Some, option_map, option_and_then, Result, Ok, Err}
 use Rattle.vk_io.specs.Files.{Files}
 use Rattle.vk_reply.specs.declared.challenge.Challenge.{Challenge}
 use Rattle.vk_keeper.specs.Ledgers.{Ledger}
 use Rattle.vk_job.specs.Published.{board_of, reply_of}
 use Rattle.vk_house.specs.Commands.{HouseCommand}
 use Rattle.vk_house.specs.Commands as house
-use Rattle.vk_house.specs.Replies.{HouseReply, Done, Position, Work, Stands, Refused}
+use Rattle.vk_house.specs.Replies.{HouseReply, Work}
 use Rattle.vk_house.specs.Steps.{house_step}
 use Rattle.vk_effect.specs.Effects.{Effect, SaidValue, says, writes_and_says}
 use Rattle.vk_words.specs.Orders.{HouseWords, Announce, Submit, Prove, Answer, Show}

@@ -11,7 +11,7 @@ use Rattle.vk_house.specs.declared.errors.HouseErr.TheVariants as house
 use Rattle.vk_house.specs.declared.standing.PhaseName.{PhaseName}
 use Rattle.vk_house.specs.declared.standing.PhaseName.TheVariants.{Taking, Proved, Answered}
 use Rattle.vk_house.specs.declared.standing.Standing.{Standing}
-use Rattle.vk_house.specs.Commands.{HouseCommand, Announce, Submit, Prove, Answer, Show, id_of}
+use Rattle.vk_house.specs.Commands.{HouseCommand, Submit, Answer, id_of}
 use Rattle.vk_house.specs.Replies.{HouseReply, Done, Position, Work, Stands, Refused}
 use Rattle.vk_effect.specs.Effects.{SaidValue}
 use Rattle.vk_effect.specs.Texts.{◌+++◌, line_feed}

@@ -1,5 +1,5 @@
 -- The head, the seals and a lane of a board are read from their texts alone.
-use Rattle.std.proofs.Common.{◌≡◌, ℕ, ◌-◌, ◌^◌, ◌<◌, ◌≤◌, nat_le, true, List, [], ◌∷◌, ◌++◌, length, codes, decimal, flat_map, Result, Ok, refl, ap, arith}
+use Rattle.std.proofs.Common.{◌≡◌, ℕ, ◌-◌, ◌^◌, ◌≤◌, List, [], ◌∷◌, ◌++◌, length, codes, decimal, flat_map, Result, Ok, refl, ap, arith}
 use Rattle.hex.specs.Hex.{IsBytes}
 use Rattle.vk_lines.specs.Lines.{Rest, ◌>>=◌, line_by}
 use Rattle.vk_lines.specs.Forms.{line, spaced, IsLine, IsPart, EachAfter, many_at}

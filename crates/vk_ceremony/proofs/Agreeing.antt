@@ -1,7 +1,7 @@
 -- The form of a script: its texts and its table agree, and what it says is what its commands are.
 use Rattle.std.proofs.Common.{◌≡◌, ℕ, ◌+◌, ◌≤◌, ◌==◌, ◌&&◌, nat_lt, Bool, true, false, not, if◌then◌else◌, List, [], ◌∷◌, ◌++◌, length, map, codes, Option, Some, None, option_map, Result, Ok, Err, refl, ap, sym, subst, ◌∙◌, arith, inl, inr, append_assoc}
-use Rattle.std.specs.Prelude.{IsSome, ◌↔◌}
-use Rattle.std.specs.List.{AllByRecursion, flat_map, join_with_byte, list_all, slice_split}
+use Rattle.std.specs.Prelude.{IsSome}
+use Rattle.std.specs.List.{flat_map, join_with_byte, list_all, slice_split}
 use Rattle.std.specs.Str.{bytes_eq, is_utf8}
 use Rattle.std.proofs.lemmas.Bool.{and_parts, cases_Bool, eqb-true}
 use Rattle.std.proofs.lemmas.Bool.Decides.{nat_tests}
@@ -17,9 +17,9 @@ use Rattle.vk_lines.proofs.Parts.{line_part}
 use Rattle.vk_lines.proofs.Words.{fixed_line, join-fields_of, split_some}
 use Rattle.vk_words.specs.Commands.{command_words, house_words}
 use Rattle.vk_words.specs.Orders.{HouseWords}
-use Rattle.vk_words.specs.Scripts.{line_words, script_words}
+use Rattle.vk_words.specs.Scripts.{script_words}
 use Rattle.vk_ceremony.specs.Scripts.{Order, Over, Script, ScriptLine, closes, heading, line_then, order_line, over_from, pieces, script_at, script_from, script_line, with_order}
-use Rattle.vk_ceremony.specs.Forms.{AreOrders, Commands, Ended, Heading, IsOrder, Place, fault_by, is_apart, place_after, script_table, script_text}
+use Rattle.vk_ceremony.specs.Forms.{AreOrders, Commands, Ended, Heading, fault_by, is_apart, place_after, script_table, script_text}
 
 -- ---- the table
 

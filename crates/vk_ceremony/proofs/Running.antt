@@ -16,10 +16,10 @@ use Rattle.vk_house.specs.Refusals.{refusal_of}
 use Rattle.vk_house.specs.Replies.{HouseReply, Refused, reply_to}
 use Rattle.vk_house.specs.Runs.{Event, HouseRun}
 use Rattle.vk_house.specs.Steps.{HouseCall, house_step, kept_by, ledger_after, step_at, step_by}
-use Rattle.vk_effect.specs.Effects.{Effect, SaidValue, Stores, after, said_of, stores}
+use Rattle.vk_effect.specs.Effects.{Effect, SaidValue, after, said_of, stores}
 use Rattle.vk_effect.specs.Sequences.{last_ledger}
 use Rattle.vk_words.specs.Orders.{HouseWords, Announce, Submit, Prove, Answer, Show}
-use Rattle.vk_auctioneer.specs.Effects.{Writes, asked, board_file, house_effect, if_read, no_file, reply_file}
+use Rattle.vk_auctioneer.specs.Effects.{Writes, asked, house_effect, if_read, no_file, reply_file}
 use Rattle.vk_auctioneer.specs.Inputs.{challenge_in, row_in}
 use Rattle.vk_auctioneer.specs.Lines.{reply_said}
 use Rattle.vk_ceremony.specs.Ceremonies.{Ceremony, after_command, ceremony_behind, ceremony_from, closing_said, ended_by, goes_on, is_refusal, with_command}

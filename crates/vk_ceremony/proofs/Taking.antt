@@ -1,10 +1,9 @@
 -- What a script says is what its next line says, and what is left behind it.
-use Rattle.std.proofs.Common.{◌≡◌, ℕ, ◌+◌, ◌<◌, ◌≤◌, ◌==◌, nat_lt, Bool, true, false, if◌then◌else◌, List, [], ◌∷◌, length, take, drop, map, string_bytes, codes, Option, Some, None, IfSome, option_map, Result, Ok, Err, refl, ap, sym, ◌∙◌, arith, inl, inr, subst}
+use Rattle.std.proofs.Common.{◌≡◌, ℕ, ◌+◌, ◌<◌, ◌≤◌, ◌==◌, nat_lt, true, false, List, [], ◌∷◌, length, take, drop, codes, Option, Some, None, IfSome, option_map, Result, Ok, Err, refl, ap, sym, ◌∙◌, arith, inl, inr, subst}
 use Rattle.std.specs.Prelude.{◌≢◌, ◌⊎◌}
-use Rattle.std.proofs.lemmas.Bool.{cases_lt, cases_Bool, eqb-true}
+use Rattle.std.proofs.lemmas.Bool.{cases_lt}
 use Rattle.std.proofs.lemmas.Bool.Decides.{nat_tests}
 use Rattle.std.proofs.lemmas.List.{length-take-le, nil_from_length}
-use Rattle.std.proofs.lemmas.Slice.Eq.{bytes_eq-Decides}
 use Rattle.std.specs.Str.{bytes_eq}
 use Rattle.std.specs.FinMap.{get}
 use Rattle.vk_io.specs.Files.{Files}
@@ -13,7 +12,7 @@ use Rattle.vk_lines.specs.declared.step.Step.TheVariants.{Text, End, Long, Cut}
 use Rattle.vk_lines.specs.declared.errors.ReadErr.{ReadErr}
 use Rattle.vk_lines.specs.Gives as result
 use Rattle.vk_lines.specs.Gives.{Refuses}
-use Rattle.vk_lines.specs.Lines.{IsNext, LinesValue, Reads, ReadsPart, Rest, line_by, feed_at, rest_in, rest_of, step_by, step_of, text_at, text_by}
+use Rattle.vk_lines.specs.Lines.{IsNext, LinesValue, Reads, ReadsPart, Rest, line_by, feed_at, rest_in, rest_of, step_of, text_at, text_by}
 use Rattle.vk_lines.specs.Tokens.{◌>>=◌, word_of}
 use Rattle.vk_lines.proofs.Parts.{ok_same}
 use Rattle.vk_lines.proofs.Pieces.{other_pieces, pieces_feed, pieces_none, text_tells}
@@ -24,7 +23,7 @@ use Rattle.vk_effect.specs.NamedFiles.{malformed_said}
 use Rattle.vk_auctioneer.specs.Inputs.{begun_in, said_of, value_in}
 use Rattle.vk_words.specs.Orders.{HouseWords}
 use Rattle.vk_words.specs.Scripts.{line_words, script_words}
-use Rattle.vk_ceremony.specs.Scripts.{Order, Over, Script, ScriptLine, behind_heading, closes, heading, line_then, order_line, over_at, over_from, pieces, script_at, script_begun, script_from, script_line, with_order}
+use Rattle.vk_ceremony.specs.Scripts.{Order, behind_heading, closes, heading, line_then, order_line, over_at, over_from, pieces, script_at, script_begun, script_from, script_line}
 use Rattle.vk_ceremony.specs.Turns.{order_then, over_by}
 
 -- ---- a line stands next

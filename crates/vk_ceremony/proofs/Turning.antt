@@ -1,14 +1,14 @@
 -- One turn of a ceremony: what is left of it is what the turn did, and what is left then.
-use Rattle.std.proofs.Common.{◌≡◌, ℕ, zero, Bool, true, false, ◌||◌, if◌then◌else◌, List, [], ◌∷◌, ◌++◌, length, take, map, string_bytes, Option, Some, None, IfSome, Result, Ok, Err, option_map, refl, sym, ap, subst, ◌∙◌, inl, inr, append-nil, arith}
+use Rattle.std.proofs.Common.{◌≡◌, ℕ, zero, Bool, true, false, ◌||◌, if◌then◌else◌, List, [], ◌∷◌, Option, Some, None, IfSome, Result, Ok, Err, option_map, refl, sym, ap, subst, ◌∙◌, inl, append-nil, arith}
 use Rattle.std.specs.Prelude.{IsSomeAnd, option_and_then}
 use Rattle.vk_io.specs.Files.{Files, Told, bytes_of}
 use Rattle.vk_io.specs.Writing.{written}
 use Rattle.vk_io.specs.declared.errors.OutsideErr.{OutsideErr}
 use Rattle.vk_lines.specs.Lines.{LinesValue, rest_in, rest_of}
 use Rattle.vk_keeper.specs.Ledgers.{Ledger}
-use Rattle.vk_effect.specs.Effects.{Effect, Outside, SaidValue, Stores, after, done, outside, puts, stores}
+use Rattle.vk_effect.specs.Effects.{Effect, Outside, Stores, after, done, outside, puts, stores}
 use Rattle.vk_effect.specs.Ends.{Done, Ends, Stopped, TakesPrefix}
-use Rattle.vk_effect.specs.Sequences.{StopsAmong, done_all}
+use Rattle.vk_effect.specs.Sequences.{StopsAmong}
 use Rattle.vk_effect.proofs.Sequences.{done_is}
 use Rattle.vk_words.specs.Orders.{HouseWords}
 use Rattle.vk_words.specs.Scripts.{script_words}
@@ -16,8 +16,8 @@ use Rattle.vk_auctioneer.specs.Effects.{house_effect}
 use Rattle.vk_ceremony.specs.declared.reading.Line.{Line}
 use Rattle.vk_ceremony.specs.declared.holding.Turn.{Turn}
 use Rattle.vk_ceremony.specs.declared.holding.Turn.TheVariants.{Next, Ended}
-use Rattle.vk_ceremony.specs.Scripts.{Script, closes, over_at, script_at, with_order}
-use Rattle.vk_ceremony.specs.Ceremonies.{Ceremony, EndsAll, after_command, ceremony_by, ceremony_from, closed, closing_said, ended_by, goes_on, is_refusal, with_command}
+use Rattle.vk_ceremony.specs.Scripts.{Script, closes, over_at, script_at}
+use Rattle.vk_ceremony.specs.Ceremonies.{Ceremony, EndsAll, after_command, ceremony_by, closed, closing_said, ended_by, goes_on, is_refusal, with_command}
 use Rattle.vk_ceremony.specs.Turns.{Stands, Turns, left_of, order_then, stores_of, turn_by}
 use Rattle.vk_ceremony.proofs.Writing.{command_leaves}
 

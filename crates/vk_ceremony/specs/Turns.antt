@@ -1,6 +1,5 @@
 -- What the steps of a ceremony answer.
-use Rattle.std.specs.Prelude.{◌≡◌, ℕ, ◌+◌, ◌||◌, Bool, if◌then◌else◌, List, map, string_bytes, Option, Some, None, option_and_then, Result, Ok, Err, IsSomeAnd, ◌⊎◌}
-use Rattle.vk_io.specs.Files.{Files}
+use Rattle.std.specs.Prelude.{◌≡◌, ℕ, ◌+◌, ◌||◌, Bool, if◌then◌else◌, List, map, string_bytes, Option, Some, None, option_and_then, Result, Ok, Err, IsSomeAnd}
 use Rattle.vk_io.specs.declared.errors.OutsideErr.{OutsideErr}
 use Rattle.vk_lines.specs.declared.step.Step.{Step}
 use Rattle.vk_lines.specs.declared.step.Step.TheVariants as step

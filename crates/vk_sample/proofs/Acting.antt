@@ -1,6 +1,6 @@
 -- How `sample` ends, from what its parts did.
 use Rattle.std.proofs.Common.{◌≡◌, ℕ, List, [], ◌∷◌, ◌++◌, length, Option, Some, None, Result, Ok, Err, refl, sym, ap, subst, ◌∙◌, inl, inr}
-use Rattle.std.specs.Prelude.{option_map, IfSome, IsSome}
+use Rattle.std.specs.Prelude.{IfSome, IsSome}
 use Rattle.std.specs.FinMap.{insert}
 use Rattle.vk_io.specs.Files.{Files, Told}
 use Rattle.vk_io.specs.Writing.{IsDivided, WritesAll, written}

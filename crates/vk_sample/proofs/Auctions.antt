@@ -1,5 +1,5 @@
 -- The auction of a sample is one that is proved, with the seats and the bids of the sample.
-use Rattle.std.proofs.Common.{◌≡◌, ◌≢◌, ℕ, zero, suc, ◌+◌, ◌<◌, ◌≤◌, List, [], ◌∷◌, ◌++◌, length, map, take, get_or, Option, Some, None, Result, Ok, Err, refl, sym, ap, subst, ◌∙◌, arith}
+use Rattle.std.proofs.Common.{◌≡◌, ◌≢◌, ℕ, zero, suc, ◌+◌, ◌<◌, ◌≤◌, List, [], ◌∷◌, ◌++◌, length, map, take, get_or, Option, Some, None, Ok, refl, sym, ap, subst, ◌∙◌, arith}
 use Rattle.std.specs.Prelude.{All, AllPairs}
 use Rattle.std.proofs.lemmas.List.{get_or-map, length-map, length_push, map-append, take_all, take_more}
 use Rattle.std.proofs.lemmas.List.Elements.{All-nil, All-push}
@@ -9,7 +9,6 @@ use Rattle.vk_keeper.specs.declared.auction.Auction.{Auction}
 use Rattle.vk_keeper.specs.declared.auction.SealRow.{SealRow}
 use Rattle.vk_keeper.specs.Auctions.{IsAuction, IsSealRow}
 use Rattle.vk_job.specs.Jobs.{Dry, dry_in}
-use Rattle.vk_job.specs.Published.{no_row}
 use Rattle.vk_report.specs.declared.sample.SampleCase.{SampleCase}
 use Rattle.vk_report.specs.Samples.{IsSampleCase, lanes, seals, width}
 use Rattle.vk_sample.specs.Auctions.{auction_by, auction_of, auction_with, rows_onto, sealed, secret_at, unless_dry}

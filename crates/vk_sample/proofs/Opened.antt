@@ -1,5 +1,5 @@
 -- What a sample writes is accepted, and read back it opens every bid.
-use Rattle.std.proofs.Common.{◌≡◌, ◌≢◌, ℕ, zero, suc, ◌+◌, Bool, true, false, not, cond, List, [], ◌∷◌, length, Option, Some, Ok, refl, sym, ap, ◌∙◌, arith}
+use Rattle.std.proofs.Common.{◌≡◌, ℕ, zero, suc, ◌+◌, Bool, true, false, not, cond, List, [], ◌∷◌, length, Some, refl, sym, ap, ◌∙◌, arith}
 use Rattle.std.specs.Prelude.{◌&&◌}
 use Rattle.std.specs.List.{count_by, fold, range_with_len}
 use Rattle.std.specs.Str.{bytes_eq}
@@ -11,7 +11,6 @@ use Rattle.vk_io.proofs.Finite.{get_inserted, get_own}
 use Rattle.vk_reply.specs.declared.challenge.Challenge.{Challenge}
 use Rattle.vk_reply.specs.Texts.{challenge_text}
 use Rattle.vk_bids.specs.declared.extraction.Extraction.TheVariants.{Bids}
-use Rattle.vk_bids.specs.Extraction.{extraction_on}
 use Rattle.vk_bids.specs.Headline.{HeldAttempt, HeldFiles}
 use Rattle.vk_bids.specs.Texts.{has_one_bid}
 use Rattle.vk_bids.proofs.Named.{files_are_extracted}
@@ -26,7 +25,7 @@ use Rattle.vk_report.specs.declared.sample.SampleCase.{SampleCase}
 use Rattle.vk_report.specs.Samples.{IsSampleCase, lanes, seals, width}
 use Rattle.vk_words.specs.Names.{AttemptWords}
 use Rattle.vk_sample.specs.Laws.{AreAccepted, HasLines, IsAuctionOf, OpensAll, opened}
-use Rattle.vk_sample.specs.Texts.{files_of, same_count, sample_names}
+use Rattle.vk_sample.specs.Texts.{files_of, sample_names}
 
 -- ---- what a file holds after others are written
 

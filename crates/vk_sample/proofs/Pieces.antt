@@ -1,5 +1,5 @@
 -- The pieces that are written of a sample are its files.
-use Rattle.std.proofs.Common.{◌≡◌, List, [], ◌∷◌, refl, append-nil}
+use Rattle.std.proofs.Common.{◌≡◌, refl, append-nil}
 use Rattle.vk_io.specs.Writing.{texts_of}
 use Rattle.vk_reply.specs.Texts.{challenge_text}
 use Rattle.vk_keeper.specs.declared.auction.Auction.{Auction}

@@ -1,6 +1,6 @@
 -- The circuit of a board: it is a plan, and how many wires and rows it has.
-use Rattle.std.proofs.Common.{◌≡◌, ℕ, ◌-◌, length, inl, inr, sym, ap, ◌∙◌, subst}
-use Rattle.std.proofs.lemmas.Bool.{cases_eq, eq-eqb, ne_eqb}
+use Rattle.std.proofs.Common.{◌≡◌, ℕ, ◌-◌, length, inl, inr, ap, ◌∙◌}
+use Rattle.std.proofs.lemmas.Bool.{cases_eq}
 use Rattle.vk_plan.specs.Plans.{IsPlan}
 use Rattle.vk_vickrey.specs.VickreyPlans.{IsVickreyCase, vickrey_plan, wire_count, row_count}
 use Rattle.vk_vickrey.specs.VickreySteps.{vickrey_is_plan, wires_alone, wires_many, rows_alone, rows_many}

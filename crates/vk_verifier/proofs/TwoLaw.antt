@@ -29,7 +29,7 @@ use Rattle.vk_verifier.specs.declared.stage.TwoVerdict.TheVariants.{Refused}
 use Rattle.vk_verifier.specs.Verdicts.{in_part, in_front, front_judged, plan_of, later_wires, case_of, lane_verdict, lane_judged, lanes_judged, ends_judged, counted, verdict_by, verdict_of, from_start, begun}
 use Rattle.vk_verifier.specs.Statement.{statement_of}
 use Rattle.vk_verifier.specs.Parts.{case_at, reply_judged, attempt_at, rest_judged, judged_in_parts}
-use Rattle.vk_verifier.specs.Two.{Ahead, Rests, AreAccepted, as_second, is_accepted, accepted_of, two_verdict, of_first, of_second, second_told, found_by, two_lane_at, ends_found, ahead_from, ahead_after, ahead_at, base_at, ahead_by, two_on}
+use Rattle.vk_verifier.specs.Two.{Ahead, Rests, as_second, is_accepted, accepted_of, two_verdict, of_first, of_second, second_told, found_by, two_lane_at, ends_found, ahead_from, ahead_after, ahead_at, base_at, ahead_by, two_on}
 use Rattle.vk_verifier.specs.TwoLaw.{bits_read, bits_in, ahead_in, FindsByVerdicts}
 use Rattle.vk_verifier.proofs.Joined.{lane_parts, judged_parts}
 

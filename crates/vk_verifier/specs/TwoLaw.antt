@@ -1,11 +1,11 @@
 -- What two replies to a board come to, by the verdicts on them.
-use Rattle.std.specs.Prelude.{◌≡◌, ℕ, Bool, List, [], map, Result, Ok, Err, IfOk}
+use Rattle.std.specs.Prelude.{◌≡◌, ℕ, Bool, List, [], Result, Ok, Err, IfOk}
 use Rattle.vk_io.specs.Files.{Files, bytes_of}
 use Rattle.vk_lines.specs.Lines.{Rest}
 use Rattle.vk_reply.specs.declared.challenge.Challenge.{Challenge}
 use Rattle.vk_reply.specs.Reading.{challenge_at}
 use Rattle.vk_verifier.specs.Verdicts.{from_start, verdict_of}
-use Rattle.vk_verifier.specs.Two.{Ahead, AreAccepted, ahead_at, two_on, two_verdict}
+use Rattle.vk_verifier.specs.Two.{Ahead, ahead_at, two_on, two_verdict}
 
 abbrev pub bits_read : Result (Challenge × Rest) ℕ → List Bool
 bits_read (Ok challenge) = challenge.0.bits

@@ -2,7 +2,7 @@ use Rattle.std.proofs.Common.{◌≡◌, [], Err, rules}
 use Rattle.vk_report.specs.Samples.{seals}
 use Rattle.vk_sample.specs.Auctions.{auction_by, auction_of, dry_of, rows_onto}
 use Rattle.vk_sample.proofs.Auctions.{all_rows, is_auction}
-use Rattle.vk_sample.proofs.Rows.{bind_refuses, job_made, job_refuses}
+use Rattle.vk_sample.proofs.Rows.{bind_refuses, job_made}
 use Rattle.vk_sample.proofs.making.make_job.Goals as goal
 
 pub of-requires-clause-right : goal.of-requires-clause-right

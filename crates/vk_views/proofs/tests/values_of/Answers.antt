@@ -1,4 +1,4 @@
-use Rattle.std.proofs.Common.{◌≡◌, ◌∙◌, length, arith}
+use Rattle.std.proofs.Common.{◌≡◌, ◌∙◌, arith}
 use Rattle.vk_vickrey.specs.VickreyPlans.{IsVickreyClaim}
 use Rattle.vk_vickrey.specs.VickreyLaws.{vickrey_complete}
 use Rattle.vk_views.proofs.tests.values_of.Goals as goal
