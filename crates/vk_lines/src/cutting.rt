@@ -35,6 +35,10 @@ fn first_space(text: &[u8]) -> Option<usize>
     ensures place { result ≡ position (λ byte. byte == 32) text.now }
     ensures within { IfSome result (λ at. at < length text.now) }
 {
+    // Most words have one letter, and need no search.
+    if text.len() > 1 && text[0] != b' ' && text[1] == b' ' {
+        return Some(1);
+    }
     memchr(b' ', text)
 }
 

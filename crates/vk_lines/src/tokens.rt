@@ -58,12 +58,10 @@ fn next_number(number: u64, digit: u8, most: u64) -> Option<u64>
     if !digit.is_ascii_digit() {
         return None;
     }
-    let longer = u128::from(number) * 10 + u128::from(digit - b'0');
-    if longer <= u128::from(most) {
-        Some(longer as u64)
-    } else {
-        None
-    }
+    let longer = number
+        .checked_mul(10)?
+        .checked_add(u64::from(digit - b'0'))?;
+    if longer <= most { Some(longer) } else { None }
 }
 
 /// The number of a line of this word and a number from `least` to `most`.
