@@ -1,9 +1,8 @@
 // Lists of bids, and the outcome of each.
 ghost use Rattle.std.specs.Prelude.{◌≤◌, length, vec_len};
 
-use crate::cases::numbers_in;
-use crate::unreplayed::Unreplayed;
 use std::alloc::Global;
+use vk_cases::{Unreplayed, numbers_in};
 use vk_lines::{end_line, push_decimal};
 use vk_vickrey::outcome;
 

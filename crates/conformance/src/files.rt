@@ -1,7 +1,6 @@
 // Seals and secrets, most of them changed, and the line at which each stops being one.
-use crate::cases::word_at;
-use crate::unreplayed::Unreplayed;
 use std::alloc::Global;
+use vk_cases::{Unreplayed, word_at};
 use vk_io::Shelf;
 use vk_lines::{Lines, ReadErr, end_line, push_decimal};
 use vk_seal::{read_seal, read_secret};

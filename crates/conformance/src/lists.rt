@@ -1,7 +1,6 @@
 // Lists of words, and the residue that is drawn from each.
-use crate::cases::numbers_in;
-use crate::unreplayed::Unreplayed;
 use std::alloc::Global;
+use vk_cases::{Unreplayed, numbers_in};
 use vk_dice::{ListWords, Words, draw_residue};
 use vk_lines::{end_line, push_decimal};
 

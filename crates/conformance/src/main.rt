@@ -1,35 +1,18 @@
 //! Replays what independent implementations worked out: words and draws, wires, outcomes, which line of
 //! a changed file is the first that may not stand there, and runs of the whole program. What is printed is
 //! to be, byte for byte, what those implementations wrote.
-//!
-//! Behind them come honest auctions, whose files the library's own parts make and the program judges and
-//! extracts from, and whether a fault at each call of a command is told.
 #![tactic(auto)]
 
-mod asked;
-mod auctions;
 mod bids;
-mod cases;
-mod commands;
-mod cuts;
-mod faults;
 mod files;
-mod fixed;
-mod honest;
 mod lists;
 mod runs;
-mod samples;
-mod stops;
 mod streams;
-mod unreplayed;
 mod wires;
-mod world;
-mod written;
 
-use cases::read_cases;
 use std::alloc::Global;
 use std::process::ExitCode;
-use unreplayed::Unreplayed;
+use vk_cases::{Unreplayed, read_cases};
 use vk_io::{FileShelf, OutSink, Shelf, Sink};
 
 /// What a file of cases has, one case a line.
@@ -120,10 +103,6 @@ fn replay_all<S: Shelf, W: Sink>(
     ] {
         replay(alloc, form, shelf, out)?;
     }
-    auctions::replay_auctions(alloc, out)?;
-    samples::replay_samples(alloc, out)?;
-    cuts::replay_cuts(alloc, shelf, out)?;
-    faults::replay_faults(alloc, shelf, out)?;
     Ok(())
 }
 

@@ -1,9 +1,8 @@
 // Runs of the whole program over files in memory: its status, what it prints, and what it leaves.
-use crate::cases::{number_at, read_cases};
-use crate::unreplayed::Unreplayed;
 use sha2::{Digest, Sha256};
 use std::alloc::Global;
 use vk_app::run;
+use vk_cases::{Unreplayed, number_at, read_cases, text_of, words_of};
 use vk_io::{MemShelf, MemSink, Shelf};
 use vk_keeper::MemKeeper;
 use vk_lines::{end_line, push_decimal, push_hex, push_line, push_space};
@@ -149,22 +148,6 @@ fn run_of(case: &[u8]) -> Result<Run<'_>, Unreplayed> {
         words,
         left,
     })
-}
-
-/// The words of a part.
-pub fn words_of(alloc: Global, part: &[u8]) -> Result<Vec<String>, Unreplayed> {
-    let mut words = Vec::new(alloc);
-    for word in part.split(|byte| *byte == b' ') {
-        if !word.is_empty() {
-            words.push(text_of(alloc, word)?)?;
-        }
-    }
-    Ok(words)
-}
-
-/// The bytes as text.
-fn text_of(alloc: Global, bytes: &[u8]) -> Result<String, Unreplayed> {
-    String::from_utf8(Vec::from_slice(alloc, bytes)?).map_err(|_refused| Unreplayed::NoCase)
 }
 
 /// The files of a part, in memory. Each stands there as `NAME=FILE`.

@@ -1,7 +1,6 @@
 // Streams of words: the first of them, some far ones, and what is drawn from the start.
-use crate::cases::{id_at, key_at, number_at};
-use crate::unreplayed::Unreplayed;
 use std::alloc::Global;
+use vk_cases::{Unreplayed, id_at, key_at, number_at};
 use vk_dice::{ChaChaWords, Words, draw_bit, draw_key, draw_residue};
 use vk_lines::{end_line, push_decimal, push_hex, push_line, push_space};
 

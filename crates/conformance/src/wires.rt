@@ -2,9 +2,8 @@
 ghost use Rattle.std.specs.Prelude.{◌≡◌, ◌≤◌, ◌%◌, IfOk};
 ghost use Rattle.vk_plan.specs.Plans.{HasWeight, MayHave};
 
-use crate::cases::{id_at, key_at, number_at, residue_at, word_at};
-use crate::unreplayed::Unreplayed;
 use std::alloc::Global;
+use vk_cases::{Unreplayed, id_at, key_at, number_at, residue_at, word_at};
 use vk_commit::{Opening, Place};
 use vk_lines::{end_line, push_decimal, push_digests_line, push_hex, push_number_line, push_space};
 use vk_plan::WireKind;

@@ -1,14 +1,14 @@
 // The smallest board, a challenge and the reply to it, of which one is cut short.
 use crate::auctions::lines_in;
 use crate::commands::{SMALLEST, VERIFY};
-use crate::unreplayed::Unreplayed;
 use crate::world::World;
 use std::alloc::Global;
+use vk_cases::Unreplayed;
 use vk_io::{Shelf, Sink};
 use vk_lines::{end_line, push_decimal};
 
 /// Tells of each of the files whether `verify` names the line at which it is cut.
-pub fn replay_cuts<S: Shelf, W: Sink>(
+pub fn try_cuts<S: Shelf, W: Sink>(
     alloc: Global,
     shelf: &mut S,
     out: &mut W,

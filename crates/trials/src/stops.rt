@@ -1,8 +1,8 @@
 // What a command leaves that is stopped.
 use crate::commands::Command;
-use crate::unreplayed::Unreplayed;
 use crate::world::World;
 use std::alloc::Global;
+use vk_cases::Unreplayed;
 use vk_io::{MemShelf, Shelf};
 
 /// What stands: the files, and all that is kept of the auction.
@@ -104,6 +104,6 @@ fn are_alike(command: &Command, files: &MemShelf, others: &MemShelf) -> bool {
 
 /// Whether the given files that aren't written are these.
 fn are_given(command: &Command, files: &MemShelf, others: &MemShelf) -> bool {
-    command.given.iter().all(|given| command.writes.contains(&given.name)
-        || files.file(given.name) == others.file(given.name))
+    command.given.iter().all(|name| command.writes.contains(name)
+        || files.file(name) == others.file(name))
 }

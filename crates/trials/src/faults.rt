@@ -1,9 +1,9 @@
 // A fault at each call that a command makes: at the call it is told, and the same words then do the whole command.
 use crate::commands::{COMMANDS, Command};
 use crate::stops::Effect;
-use crate::unreplayed::Unreplayed;
 use crate::world::{Outside, Ran, World};
 use std::alloc::Global;
+use vk_cases::Unreplayed;
 use vk_io::{Shelf, Sink};
 use vk_lines::{end_line, push_decimal};
 
@@ -21,7 +21,7 @@ enum Fault {
 }
 
 /// Tells of each command whether each of its faults is told.
-pub fn replay_faults<S: Shelf, W: Sink>(
+pub fn try_faults<S: Shelf, W: Sink>(
     alloc: Global,
     shelf: &mut S,
     out: &mut W,

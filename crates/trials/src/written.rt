@@ -1,9 +1,9 @@
 // An auction as files: its board, three challenges, and the replies to them.
 use crate::asked::Asked;
 use crate::honest::Honest;
-use crate::unreplayed::Unreplayed;
 use std::alloc::Global;
 use vk_board::{head_text, lane_text, seal_lines_text};
+use vk_cases::Unreplayed;
 use vk_io::{PieceShelf, Shelf};
 use vk_reply::{Challenge, challenge_text, reply_head_text, reply_lane_text};
 use vk_seq::Seq;

@@ -1,14 +1,12 @@
 // `sample 1` over files that stay as they are: what it says of the replies is what it reads, and not what it wrote.
 use crate::asked::Asked;
 use crate::auctions::push_run;
-use crate::cases::behind;
 use crate::fixed::FixedShelf;
 use crate::honest::Honest;
-use crate::runs::words_of;
-use crate::unreplayed::Unreplayed;
 use std::alloc::Global;
 use vk_app::run;
 use vk_board::SealLines;
+use vk_cases::{Unreplayed, behind, words_of};
 use vk_io::{MemShelf, MemSink, PieceShelf, Sink};
 use vk_keeper::MemKeeper;
 use vk_lines::push_line;
@@ -22,7 +20,7 @@ const SPOILED: &str = "sample-reply-2";
 
 /// Tells what `sample 1` says over its own files, of which one is spoiled, and over a board that has a right proof of
 /// another bid in each lane.
-pub fn replay_samples<W: Sink>(alloc: Global, out: &mut W) -> Result<(), Unreplayed> {
+pub fn try_samples<W: Sink>(alloc: Global, out: &mut W) -> Result<(), Unreplayed> {
     let spoiled = PieceShelf::over(spoiled_files(alloc)?);
     let text = sample_text(alloc, b"x begins sample-reply-2", spoiled)?;
     out.put(text.as_slice())?;

@@ -1,12 +1,12 @@
 // Commands of which each call fails in turn: what they find, and what they do where none fails.
-use crate::world::{Given, Outside};
+use crate::world::Outside;
 
 /// A command, over what it finds.
 #[derive(Clone, Copy)]
 pub struct Command {
     pub name: &'static str,
-    /// The files that stand.
-    pub given: &'static [Given],
+    /// The names of the files that stand.
+    pub given: &'static [&'static str],
     /// The commands that the house did before it.
     pub before: &'static [&'static str],
     pub words: &'static str,
@@ -21,63 +21,24 @@ pub struct Command {
 }
 
 /// The smallest board with its two challenges and replies, and the secret of its seal.
-pub const SMALLEST: &[Given] = &[
-    Given {
-        name: "board",
-        file: "f048",
-    },
-    Given {
-        name: "challenge-0",
-        file: "f007",
-    },
-    Given {
-        name: "reply-0",
-        file: "f049",
-    },
-    Given {
-        name: "challenge-1",
-        file: "f008",
-    },
-    Given {
-        name: "reply-1",
-        file: "f050",
-    },
-    Given {
-        name: "secret",
-        file: "f184",
-    },
+pub const SMALLEST: &[&str] = &[
+    "board",
+    "challenge-0",
+    "reply-0",
+    "challenge-1",
+    "reply-1",
+    "secret",
 ];
 
 /// Two seals with their secrets, two challenges, and a file that a bidder's and a house's commands write over.
-const HOUSE: &[Given] = &[
-    Given {
-        name: "seal-7",
-        file: "f211",
-    },
-    Given {
-        name: "secret-7",
-        file: "f227",
-    },
-    Given {
-        name: "seal-8",
-        file: "f215",
-    },
-    Given {
-        name: "secret-8",
-        file: "f244",
-    },
-    Given {
-        name: "challenge-01",
-        file: "f064",
-    },
-    Given {
-        name: "challenge-11",
-        file: "f019",
-    },
-    Given {
-        name: "old",
-        file: "f048",
-    },
+const HOUSE: &[&str] = &[
+    "seal-7",
+    "secret-7",
+    "seal-8",
+    "secret-8",
+    "challenge-01",
+    "challenge-11",
+    "old",
 ];
 
 /// `verify` over the smallest board.

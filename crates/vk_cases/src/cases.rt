@@ -1,4 +1,4 @@
-// Files of cases: one case a line, as fields between single spaces.
+// A file of cases, and the fields of a case.
 ghost use Rattle.std.specs.Prelude.{◌≤◌, IfOk};
 
 use crate::unreplayed::Unreplayed;

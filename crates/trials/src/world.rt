@@ -1,10 +1,8 @@
 // What a command works on, in memory, and what it says.
-use crate::cases::{behind, read_cases};
 use crate::honest::ID;
-use crate::runs::words_of;
-use crate::unreplayed::Unreplayed;
 use std::alloc::Global;
 use vk_app::run;
+use vk_cases::{Unreplayed, behind, read_cases, words_of};
 use vk_io::{MemShelf, MemSink, Shelf};
 use vk_keeper::{Keeper, MemKeeper};
 
@@ -14,13 +12,6 @@ pub enum Outside {
     Shelf,
     Keeper,
     Sink,
-}
-
-/// A file that is given: the name that it stands under, and the name that it has among the cases.
-#[derive(Clone, Copy)]
-pub struct Given {
-    pub name: &'static str,
-    pub file: &'static str,
 }
 
 /// Files, auctions that are kept, and what was printed.
@@ -52,7 +43,7 @@ impl World {
     pub fn of<S: Shelf>(
         alloc: Global,
         shelf: &mut S,
-        given: &[Given],
+        given: &[&str],
         before: &[&str],
     ) -> Result<World, Unreplayed> {
         let mut world = World {
@@ -112,15 +103,15 @@ impl World {
     }
 }
 
-/// These files in memory.
+/// The files of these names, in memory.
 fn given_files<S: Shelf>(
     alloc: Global,
     shelf: &mut S,
-    given: &[Given],
+    given: &[&str],
 ) -> Result<MemShelf, Unreplayed> {
     let mut files = MemShelf::new(alloc);
-    for Given { name, file } in given {
-        let bytes = read_cases(alloc, shelf, file)?;
+    for name in given {
+        let bytes = read_cases(alloc, shelf, name)?;
         files.put_file(name, bytes.as_slice())?;
     }
     Ok(files)

@@ -1,6 +1,6 @@
 use Rattle.std.proofs.Common.{◌≡◌, ◌<◌, ◌^◌, take}
 use Rattle.std.specs.Prelude.{All}
-use Rattle.conformance.proofs.honest.residues.Given as goal
+use Rattle.trials.proofs.honest.residues.Given as goal
 
 abbrev pub invariant-loop-bid : goal.invariant-loop-bid
 invariant-loop-bid l = record {

@@ -1,10 +1,9 @@
 // Honest auctions as files, judged and extracted from by the program.
 use crate::asked::Asked;
 use crate::honest::{Honest, seat_at};
-use crate::runs::words_of;
-use crate::unreplayed::Unreplayed;
 use std::alloc::Global;
 use vk_app::run;
+use vk_cases::{Unreplayed, words_of};
 use vk_io::{MemShelf, MemSink, PieceShelf, Shelf, Sink};
 use vk_keeper::MemKeeper;
 use vk_lines::{end_line, push_decimal, push_space};
@@ -62,7 +61,7 @@ const AUCTIONS: [Auction; 5] = [
 ];
 
 /// Makes each auction, and tells what its files come to.
-pub fn replay_auctions<W: Sink>(alloc: Global, out: &mut W) -> Result<(), Unreplayed> {
+pub fn try_auctions<W: Sink>(alloc: Global, out: &mut W) -> Result<(), Unreplayed> {
     for auction in &AUCTIONS {
         let text = auction_text(alloc, auction)?;
         out.put(text.as_slice())?;

@@ -2,9 +2,9 @@
 ghost use Rattle.std.specs.Prelude.{◌≡◌, ◌<◌, ◌≤◌, ◌^◌, All, IfOk, IfSome, length};
 ghost use Rattle.vk_plan.specs.Plans.{Holds};
 
-use crate::unreplayed::Unreplayed;
 use std::alloc::Global;
 use vk_board::{Head, LaneLines, SealLines};
+use vk_cases::Unreplayed;
 use vk_dice::ChaChaWords;
 use vk_plan::{Circuit, Plan};
 use vk_prover::{LaneTape, answer_lane, draw_tape, make_lane};

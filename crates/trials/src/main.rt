@@ -1,0 +1,42 @@
+//! Honest auctions, whose files the library's own parts make and the program judges and extracts from; samples over
+//! files that stay as they are; files that are cut short; and a fault at each call of a command. Of each it prints what
+//! came of it.
+#![tactic(auto)]
+
+mod asked;
+mod auctions;
+mod commands;
+mod cuts;
+mod faults;
+mod fixed;
+mod honest;
+mod samples;
+mod stops;
+mod world;
+mod written;
+
+use std::alloc::Global;
+use std::process::ExitCode;
+use vk_cases::Unreplayed;
+use vk_io::{FileShelf, OutSink, Shelf, Sink};
+
+/// Puts all on trial, over the files in the folder that it runs in.
+fn try_all<S: Shelf, W: Sink>(alloc: Global, shelf: &mut S, out: &mut W) -> Result<(), Unreplayed> {
+    auctions::try_auctions(alloc, out)?;
+    samples::try_samples(alloc, out)?;
+    cuts::try_cuts(alloc, shelf, out)?;
+    faults::try_faults(alloc, shelf, out)?;
+    Ok(())
+}
+
+fn main(rt: HostRuntime) -> ExitCode {
+    let mut shelf = FileShelf::new(&rt, rt.alloc());
+    let mut out = OutSink::new(&rt);
+    match try_all(rt.alloc(), &mut shelf, &mut out) {
+        Ok(()) => ExitCode::SUCCESS,
+        Err(unreplayed) => {
+            let _ = eprintln!(&rt; "{unreplayed}");
+            ExitCode::FAILURE
+        }
+    }
+}
