@@ -7,7 +7,8 @@
  *   FAULT_TO     the number of the last one
  *   FAULT_DO     an error's number; or `kill`, before the call is made; or `short`, where a read or write moves one byte
  *   FAULT_LOG    a file to which the letter of each counted call is added
- *   FAULT_STORE  of a file with this in its name a close is always c: a database looks after itself
+ *   FAULT_STORE  a file with this in its name is a database's, and its close is always c: it looks after itself
+ *   FAULT_WHOSE  `store`, where the calls on a database's files alone are counted; `own`, where all others are
  */
 #define _GNU_SOURCE
 #include <dlfcn.h>
@@ -31,7 +32,7 @@ enum verdict { GO, FAIL, MOVE_ONE };
 static uintptr_t text_start, text_end;
 static const char *kinds = "";
 static long from, to, calls;
-static int action, log_file = -1;
+static int action, log_file = -1, whose = -1;
 static char written[DESCRIPTORS], stores[DESCRIPTORS];
 
 static int find_program(struct dl_phdr_info *info, size_t size, void *unused) {
@@ -64,13 +65,18 @@ __attribute__((constructor)) static void begin(void) {
         log_file = high;
     }
     kinds = setting("FAULT_KINDS");
+    if (*setting("FAULT_WHOSE"))
+        whose = !strcmp(setting("FAULT_WHOSE"), "store");
     dl_iterate_phdr(find_program, 0);
 }
 
-/* Counts a call of the kind, and says what becomes of it. */
-static enum verdict count(char kind, void *caller) {
+static int is_store(const char *path) { return *setting("FAULT_STORE") && strstr(path, setting("FAULT_STORE")); }
+static int holds_store(int fd) { return fd >= 0 && fd < DESCRIPTORS && stores[fd]; }
+
+/* Counts a call of the kind, on a database's file or another, and says what becomes of it. */
+static enum verdict count(char kind, int on_store, void *caller) {
     uintptr_t at = (uintptr_t)caller;
-    if (at < text_start || at >= text_end || !strchr(kinds, kind))
+    if (at < text_start || at >= text_end || !strchr(kinds, kind) || (whose >= 0 && whose != on_store))
         return GO;
     calls++;
     if (log_file >= 0)
@@ -85,7 +91,9 @@ static enum verdict count(char kind, void *caller) {
     return FAIL;
 }
 
-#define COUNT(kind) count(kind, __builtin_return_address(0))
+#define COUNT(kind) count(kind, 0, __builtin_return_address(0))
+#define COUNT_ON(fd, kind) count(kind, holds_store(fd), __builtin_return_address(0))
+#define COUNT_AT(path, kind) count(kind, is_store(path), __builtin_return_address(0))
 #define NEXT(name) ((__typeof__(&name))dlsym(RTLD_NEXT, #name))
 
 extern void *__libc_malloc(size_t), *__libc_calloc(size_t, size_t), *__libc_realloc(void *, size_t);
@@ -108,7 +116,7 @@ void *mmap(void *at, size_t size, int protection, int flags, int fd, off_t offse
 
 static int opened(int fd, const char *path) {
     if (fd >= 0 && fd < DESCRIPTORS) {
-        stores[fd] = *setting("FAULT_STORE") && strstr(path, setting("FAULT_STORE"));
+        stores[fd] = is_store(path);
         written[fd] = 0;
     }
     return fd;
@@ -127,7 +135,7 @@ static int mode_of(int flags, va_list rest) { return flags & (O_CREAT | O_TMPFIL
         va_start(rest, flags);                                                                                         \
         int mode = mode_of(flags, rest);                                                                               \
         va_end(rest);                                                                                                  \
-        return COUNT('o') == FAIL ? -1 : opened(NEXT(name)(path, flags, mode), path);                                 \
+        return COUNT_AT(path, 'o') == FAIL ? -1 : opened(NEXT(name)(path, flags, mode), path);                        \
     }
 #define OPEN_AT(name)                                                                                                  \
     int name(int folder, const char *path, int flags, ...) {                                                           \
@@ -135,7 +143,7 @@ static int mode_of(int flags, va_list rest) { return flags & (O_CREAT | O_TMPFIL
         va_start(rest, flags);                                                                                         \
         int mode = mode_of(flags, rest);                                                                               \
         va_end(rest);                                                                                                  \
-        return COUNT('o') == FAIL ? -1 : opened(NEXT(name)(folder, path, flags, mode), path);                         \
+        return COUNT_AT(path, 'o') == FAIL ? -1 : opened(NEXT(name)(folder, path, flags, mode), path);                \
     }
 OPEN(open)
 OPEN(open64)
@@ -144,7 +152,7 @@ OPEN_AT(openat64)
 
 #define MOVE(name, kind, data)                                                                                         \
     ssize_t name(int fd, data bytes, size_t length) {                                                                  \
-        enum verdict verdict = COUNT(kind);                                                                            \
+        enum verdict verdict = COUNT_ON(fd, kind);                                                                     \
         if (kind == 'w')                                                                                               \
             note(fd, 1);                                                                                               \
         return verdict == FAIL ? -1 : NEXT(name)(fd, bytes, verdict == MOVE_ONE && length ? 1 : length);               \
@@ -154,7 +162,7 @@ MOVE(write, 'w', const void *)
 
 #define MOVE_AT(name, kind, data)                                                                                      \
     ssize_t name(int fd, data bytes, size_t length, off_t at) {                                                        \
-        enum verdict verdict = COUNT(kind);                                                                            \
+        enum verdict verdict = COUNT_ON(fd, kind);                                                                     \
         return verdict == FAIL ? -1 : NEXT(name)(fd, bytes, verdict == MOVE_ONE && length ? 1 : length, at);           \
     }
 MOVE_AT(pread, 'r', void *)
@@ -163,12 +171,12 @@ MOVE_AT(pwrite, 'w', const void *)
 MOVE_AT(pwrite64, 'w', const void *)
 
 ssize_t writev(int fd, const struct iovec *parts, int length) {
-    return COUNT('w') == FAIL ? -1 : NEXT(writev)(fd, parts, length);
+    return COUNT_ON(fd, 'w') == FAIL ? -1 : NEXT(writev)(fd, parts, length);
 }
 
 int close(int fd) {
     char kind = fd >= 0 && fd < DESCRIPTORS && written[fd] && !stores[fd] ? 'C' : 'c';
-    if (COUNT(kind) != FAIL)
+    if (COUNT_ON(fd, kind) != FAIL)
         return NEXT(close)(fd);
     NEXT(close)(fd); /* a close that fails has let the file go all the same */
     errno = action;
@@ -176,37 +184,37 @@ int close(int fd) {
 }
 
 int statx(int folder, const char *path, int flags, unsigned mask, struct statx *into) {
-    return COUNT('s') == FAIL ? -1 : NEXT(statx)(folder, path, flags, mask, into);
+    return COUNT_AT(path, 's') == FAIL ? -1 : NEXT(statx)(folder, path, flags, mask, into);
 }
-int fstat(int fd, struct stat *into) { return COUNT('s') == FAIL ? -1 : NEXT(fstat)(fd, into); }
-int stat(const char *path, struct stat *into) { return COUNT('s') == FAIL ? -1 : NEXT(stat)(path, into); }
+int fstat(int fd, struct stat *into) { return COUNT_ON(fd, 's') == FAIL ? -1 : NEXT(fstat)(fd, into); }
+int stat(const char *path, struct stat *into) { return COUNT_AT(path, 's') == FAIL ? -1 : NEXT(stat)(path, into); }
 int fstatat(int folder, const char *path, struct stat *into, int flags) {
-    return COUNT('s') == FAIL ? -1 : NEXT(fstatat)(folder, path, into, flags);
+    return COUNT_AT(path, 's') == FAIL ? -1 : NEXT(fstatat)(folder, path, into, flags);
 }
 
-off_t lseek(int fd, off_t to_place, int whence) { return COUNT('l') == FAIL ? -1 : NEXT(lseek)(fd, to_place, whence); }
+off_t lseek(int fd, off_t to_place, int whence) { return COUNT_ON(fd, 'l') == FAIL ? -1 : NEXT(lseek)(fd, to_place, whence); }
 off64_t lseek64(int fd, off64_t to_place, int whence) {
-    return COUNT('l') == FAIL ? -1 : NEXT(lseek64)(fd, to_place, whence);
+    return COUNT_ON(fd, 'l') == FAIL ? -1 : NEXT(lseek64)(fd, to_place, whence);
 }
 
-int fsync(int fd) { return note(fd, 0), COUNT('y') == FAIL ? -1 : NEXT(fsync)(fd); }
-int fdatasync(int fd) { return note(fd, 0), COUNT('y') == FAIL ? -1 : NEXT(fdatasync)(fd); }
-int ftruncate(int fd, off_t length) { return COUNT('w') == FAIL ? -1 : NEXT(ftruncate)(fd, length); }
-int ftruncate64(int fd, off64_t length) { return COUNT('w') == FAIL ? -1 : NEXT(ftruncate64)(fd, length); }
+int fsync(int fd) { return note(fd, 0), COUNT_ON(fd, 'y') == FAIL ? -1 : NEXT(fsync)(fd); }
+int fdatasync(int fd) { return note(fd, 0), COUNT_ON(fd, 'y') == FAIL ? -1 : NEXT(fdatasync)(fd); }
+int ftruncate(int fd, off_t length) { return COUNT_ON(fd, 'w') == FAIL ? -1 : NEXT(ftruncate)(fd, length); }
+int ftruncate64(int fd, off64_t length) { return COUNT_ON(fd, 'w') == FAIL ? -1 : NEXT(ftruncate64)(fd, length); }
 
-int flock(int fd, int operation) { return COUNT('f') == FAIL ? -1 : NEXT(flock)(fd, operation); }
-int fchmod(int fd, mode_t mode) { return COUNT('f') == FAIL ? -1 : NEXT(fchmod)(fd, mode); }
-int fchown(int fd, uid_t user, gid_t group) { return COUNT('f') == FAIL ? -1 : NEXT(fchown)(fd, user, group); }
+int flock(int fd, int operation) { return COUNT_ON(fd, 'f') == FAIL ? -1 : NEXT(flock)(fd, operation); }
+int fchmod(int fd, mode_t mode) { return COUNT_ON(fd, 'f') == FAIL ? -1 : NEXT(fchmod)(fd, mode); }
+int fchown(int fd, uid_t user, gid_t group) { return COUNT_ON(fd, 'f') == FAIL ? -1 : NEXT(fchown)(fd, user, group); }
 int getentropy(void *into, size_t length) { return COUNT('f') == FAIL ? -1 : NEXT(getentropy)(into, length); }
-char *realpath(const char *path, char *into) { return COUNT('f') == FAIL ? NULL : NEXT(realpath)(path, into); }
+char *realpath(const char *path, char *into) { return COUNT_AT(path, 'f') == FAIL ? NULL : NEXT(realpath)(path, into); }
 
-int rename(const char *old, const char *new) { return COUNT('n') == FAIL ? -1 : NEXT(rename)(old, new); }
-int unlink(const char *path) { return COUNT('n') == FAIL ? -1 : NEXT(unlink)(path); }
+int rename(const char *old, const char *new) { return COUNT_AT(old, 'n') == FAIL ? -1 : NEXT(rename)(old, new); }
+int unlink(const char *path) { return COUNT_AT(path, 'n') == FAIL ? -1 : NEXT(unlink)(path); }
 
 int fcntl(int fd, int command, ...) {
     va_list rest;
     va_start(rest, command);
     void *argument = va_arg(rest, void *);
     va_end(rest);
-    return COUNT('f') == FAIL ? -1 : NEXT(fcntl)(fd, command, argument);
+    return COUNT_ON(fd, 'f') == FAIL ? -1 : NEXT(fcntl)(fd, command, argument);
 }

@@ -43,8 +43,10 @@ class Program:
         return Ended(done.returncode, done.stdout or b"", done.stderr)
 
     def fault(self, kinds, first=0, last=0, what="", log=""):
-        """The environment in which the counted calls from first to last fail."""
-        settings = {"KINDS": kinds, "FROM": first, "TO": last, "DO": what, "LOG": log, "STORE": STORE}
+        """The environment in which the counted calls from first to last fail. Kinds may begin with `own` or `store` and a
+        space, where those calls alone are counted."""
+        whose, _, kinds = kinds.rpartition(" ")
+        settings = {"KINDS": kinds, "WHOSE": whose, "FROM": first, "TO": last, "DO": what, "LOG": log, "STORE": STORE}
         return {"LD_PRELOAD": self.faults, **{f"FAULT_{name}": str(value) for name, value in settings.items()}}
 
     def calls(self, scenario, kinds):

@@ -96,15 +96,16 @@ def calls(attack):
 
 def interrupted(attack):
     """A signal interrupts each call, or a call moves one byte of many: neither is a fault. But the database makes no call
-    again, and counts it as a fault of the store."""
+    again, and counts such a call as a fault of the store."""
     for scenario in attack.scenarios():
-        may = (6, EFFECT) if scenario.words[0] in HOUSE else (EFFECT,)
-        for kinds, what, name in (("orw", errno.EINTR, "interrupted"), ("rw", "short", "moves one byte")):
-            count = len(attack.made.calls(scenario, kinds))
-            for number in attack.some(range(1, count + 1), attack.most(scenario, 10, 10000)):
-                yield Refused(scenario, f"call {number} of {count} ({kinds}) {name}", may, kinds, number, number, what)
-        if scenario is not attack.on.sample:
-            yield Refused(scenario, "each call moves one byte", may, "rw", 1, EVER, "short")
+        for whose, may in (("own", (EFFECT,)), ("store", (6, EFFECT))):
+            for letters, what, name in (("orw", errno.EINTR, "interrupted"), ("rw", "short", "moves one byte")):
+                kinds = f"{whose} {letters}"
+                count = len(attack.made.calls(scenario, kinds))
+                for number in attack.some(range(1, count + 1), attack.most(scenario, 10, 10000)):
+                    yield Refused(scenario, f"call {number} of {count} ({kinds}) {name}", may, kinds, number, number, what)
+            if scenario is not attack.on.sample:
+                yield Refused(scenario, f"each call ({whose} rw) moves one byte", may, f"{whose} rw", 1, EVER, "short")
 
 
 def killed(attack):
