@@ -30,13 +30,14 @@ fn try_all<S: Shelf, W: Sink>(alloc: Global, shelf: &mut S, out: &mut W) -> Resu
 }
 
 fn main(rt: HostRuntime) -> ExitCode {
-    let mut shelf = FileShelf::new(&rt, rt.alloc());
-    let mut out = OutSink::new(&rt);
-    match try_all(rt.alloc(), &mut shelf, &mut out) {
-        Ok(()) => ExitCode::SUCCESS,
-        Err(unreplayed) => {
-            let _ = eprintln!(&rt; "{unreplayed}");
-            ExitCode::FAILURE
-        }
+    let alloc = rt.alloc();
+    let tried = try_all(
+        alloc,
+        &mut FileShelf::new(&rt, alloc),
+        &mut OutSink::new(&rt),
+    );
+    if let Err(unreplayed) = tried {
+        let _ = eprintln!(&rt; "{unreplayed}");
     }
+    ExitCode::from(u8::from(tried.is_err()))
 }
