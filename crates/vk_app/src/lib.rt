@@ -9,6 +9,3 @@ mod usage;
 
 pub use command::run;
 pub use laws::every_answer_of_an_auction_is_the_same;
-
-#[cfg(test)]
-mod tests;

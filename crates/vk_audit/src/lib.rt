@@ -14,6 +14,3 @@ pub use extractions::extracted;
 pub use laws::statuses_mean_what_the_files_are;
 pub use reports::{reported, unreported};
 pub use verdicts::{judged, same_challenge, unread};
-
-#[cfg(test)]
-mod tests;

@@ -22,7 +22,4 @@ pub use laws::{
     a_secret_is_bound_by_accepted_replies, accepted_lanes_show_the_outcome,
     accepted_replies_give_bids_or_a_clash,
 };
-pub use printing::{clash_line, extraction_lines, has_one_bid};
-
-#[cfg(test)]
-mod tests;
+pub use printing::{clash_line, extraction_lines, has_one_bid, openings_line};

@@ -19,6 +19,3 @@ pub use laws::{
 pub use published::{position_of, price_stands};
 pub use reading::{read_head, read_lane, read_seals};
 pub use writing::{head_text, lane_text, seal_lines_text};
-
-#[cfg(test)]
-mod tests;

@@ -12,6 +12,3 @@ pub use laws::{
     a_script_says_the_commands_of_its_text, all_but_scripts_have_a_fault_line,
     reading_a_script_stops_at_the_fault_line,
 };
-
-#[cfg(test)]
-mod tests;

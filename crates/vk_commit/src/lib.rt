@@ -4,8 +4,6 @@
 mod commitment;
 mod laws;
 mod place;
-#[cfg(test)]
-mod tests;
 mod two_openings;
 
 pub use commitment::{commit, commit_four, opens, opens_made};

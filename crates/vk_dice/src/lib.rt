@@ -14,6 +14,3 @@ pub use draws::{
 };
 pub use list_words::ListWords;
 pub use words::Words;
-
-#[cfg(test)]
-mod tests;

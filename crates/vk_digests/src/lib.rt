@@ -5,8 +5,6 @@ mod blocks;
 mod constants;
 mod hashing;
 mod rounds;
-#[cfg(test)]
-mod tests;
 mod words;
 
 pub use hashing::digests;

@@ -10,6 +10,3 @@ pub use laws::{a_stop_is_after_some_of_the_commands, commands_one_after_another_
 pub use named::{malformed, missing, refused, too_long};
 pub use printing::print;
 pub use said::Said;
-
-#[cfg(test)]
-mod tests;

@@ -6,8 +6,6 @@ mod clash;
 mod confronting;
 mod lane;
 mod laws;
-#[cfg(test)]
-mod tests;
 mod values;
 
 pub use confronting::confront;

@@ -16,6 +16,3 @@ pub use laws::{
     each_auction_has_a_run_of_its_own, kept_seeds_are_not_dry,
 };
 pub use standing::{PhaseName, Standing};
-
-#[cfg(test)]
-mod tests;

@@ -28,6 +28,3 @@ pub use piece_shelf::PieceShelf;
 pub use shelf::Shelf;
 pub use sink::Sink;
 pub use writing::{FileText, WrittenFiles, write_files};
-
-#[cfg(test)]
-mod tests;

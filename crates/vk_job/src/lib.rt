@@ -15,6 +15,3 @@ pub use laws::{
     dry_wires_are_first, outcomes_are_by_maxima, pieces_are_texts, proved_auctions_hold,
     published_boards_are_of_their_form,
 };
-
-#[cfg(test)]
-mod tests;

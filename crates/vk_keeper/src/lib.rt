@@ -20,6 +20,3 @@ pub use laws::{
 };
 pub use mem_keeper::MemKeeper;
 pub use turns::TurnCount;
-
-#[cfg(test)]
-mod tests;

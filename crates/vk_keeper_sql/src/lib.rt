@@ -13,6 +13,3 @@ mod tables;
 
 pub use errors::OpenErr;
 pub use sql_keeper::SqlKeeper;
-
-#[cfg(test)]
-mod tests;

@@ -23,6 +23,3 @@ pub use tokens::{push_decimal, read_decimal, read_digests, read_id, read_number,
 pub use writing::{
     end_line, push_digests_line, push_hex_line, push_line, push_number_line, push_space,
 };
-
-#[cfg(test)]
-mod tests;

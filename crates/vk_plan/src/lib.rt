@@ -16,6 +16,3 @@ pub use plan::Plan;
 pub use relation::{Relation, add_and_fill};
 pub use table::RowTable;
 pub use wire::WireKind;
-
-#[cfg(test)]
-mod tests;

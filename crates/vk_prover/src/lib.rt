@@ -4,8 +4,6 @@
 mod honest;
 mod laws;
 mod tape;
-#[cfg(test)]
-mod tests;
 
 pub use honest::{answer_lane, make_lane};
 pub use laws::{

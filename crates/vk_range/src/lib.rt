@@ -10,6 +10,3 @@ mod sets;
 pub use equal::{Copied, Equal, SumIs};
 pub use range::{AtLeast, InRange};
 pub use selected::SelectedIs;
-
-#[cfg(test)]
-mod tests;

@@ -111,7 +111,7 @@ impl SelectedIs {
     }
 
     /// The first place that may be the selected one, the number of places where none may.
-    pub(crate) fn first_place(&self, values: &[Residue]) -> u32
+    pub fn first_place(&self, values: &[Residue]) -> u32
         requires fits { IsSelection self.now (length values.now) }
         ensures { result ≡ FirstPlace self.now values.now }
     {

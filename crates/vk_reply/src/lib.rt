@@ -17,6 +17,3 @@ pub use laws::{
 pub use reading::{read_challenge, read_reply_head, read_reply_lane};
 pub use tokens::{bits_of, push_bits};
 pub use writing::{challenge_text, reply_head_text, reply_lane_text};
-
-#[cfg(test)]
-mod tests;

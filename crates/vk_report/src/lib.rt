@@ -12,6 +12,3 @@ pub use reading::{read_report, row_count, wire_count};
 pub use report::{Report, ReportErr};
 pub use sample::{LANES, SEALS, SampleCase, WIDTH, sample_case};
 pub use writing::{report_lines, report_text};
-
-#[cfg(test)]
-mod tests;

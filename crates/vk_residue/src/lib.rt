@@ -8,6 +8,3 @@ mod residue;
 pub use acc::Acc;
 pub use memory::NoMemory;
 pub use residue::{MODULUS, Residue};
-
-#[cfg(test)]
-mod tests;

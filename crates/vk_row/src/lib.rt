@@ -5,8 +5,6 @@ mod case;
 mod lane;
 mod laws;
 mod row;
-#[cfg(test)]
-mod tests;
 mod wires;
 
 pub use case::{LaneCase, LaneFault};

@@ -18,6 +18,3 @@ pub use matching::{Mismatch, matches};
 pub use reading::{read_seal, read_secret};
 pub use secret::{Seal, Secret, XTape};
 pub use writing::{seal_text, secret_text};
-
-#[cfg(test)]
-mod tests;

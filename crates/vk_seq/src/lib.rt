@@ -4,6 +4,3 @@
 mod seq;
 
 pub use seq::Seq;
-
-#[cfg(test)]
-mod tests;

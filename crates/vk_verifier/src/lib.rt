@@ -23,8 +23,3 @@ pub use two_laws::{
     a_finding_is_by_both_verdicts, accepted_replies_give_their_values,
     only_accepted_replies_are_found_to_be,
 };
-
-#[cfg(test)]
-mod tests;
-#[cfg(test)]
-mod two_tests;

@@ -6,6 +6,3 @@ mod plan;
 
 pub use outcomes::{VickreyOutcome, outcome};
 pub use plan::VickreyPlan;
-
-#[cfg(test)]
-mod tests;

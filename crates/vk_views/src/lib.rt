@@ -4,13 +4,11 @@
 
 mod laws;
 mod tapes;
-#[cfg(test)]
-mod tests;
 mod views;
 
 pub use laws::{
     bids_of_one_outcome_give_the_same_views, moved_tapes_give_the_same_views,
     moved_wires_show_the_same, rows_post_the_same, what_is_handed_out_is_the_views,
 };
-pub use tapes::moved;
+pub use tapes::{moved, moved_wire};
 pub use views::{LaneView, view};

@@ -51,7 +51,7 @@ pub fn moved(
 }
 
 /// The tape of one wire.
-pub(crate) fn moved_wire(
+pub fn moved_wire(
     kind: WireKind,
     value: Residue,
     other: Residue,

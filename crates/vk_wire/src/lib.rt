@@ -6,8 +6,6 @@ mod laws;
 mod making;
 mod place;
 mod reading;
-#[cfg(test)]
-mod tests;
 mod wire;
 
 pub use hashing::{hash_four, hash_opened};

@@ -12,6 +12,3 @@ pub use command::{Command, command_of, house_order_of};
 pub use names::{AttemptNames, ConfrontNames, ExtractNames, VerifyNames};
 pub use orders::{HouseOrder, SealOrder};
 pub use script::{script_order, words_of_line, written_name};
-
-#[cfg(test)]
-mod tests;

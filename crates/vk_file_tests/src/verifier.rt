@@ -1,0 +1,120 @@
+// The smallest board and the replies to both bits, as another program wrote them, and files that are refused.
+use vk_verifier::{BoardVerdict, Part, VErr, verdict};
+use std::alloc::Global;
+use std::test::Fail;
+use vk_io::{MemShelf, OutsideErr, Shelf};
+use vk_wire::WireFault;
+
+// The board: what stands before the winner, the winner and the price, what stands before the second row, and
+// that row with the end.
+const START: &[u8] =
+    b"vickrey-board 1\nauction 000102030405060708090a0b0c0d0e0f\nwidth 1\nlanes 1\nseals 1\n";
+
+const PUBLISHED: &[u8] = b"winner 7\nprice 0\n";
+
+const LANE: &[u8] =
+    b"seal 7\nx 023dd1cc99177aec8e6b75b847227ff4a8dd6e2328310f0ffa91f2d60aecd426 774401009878493d88b3ad371899fe26d73791fadb6afe02ad901833daf73de4\nlane 1\nw 3e081a820047b942fb53d64cc48e73072c8bab60338122a8b6cc7d2574478294 b66b11c7a3a9e463f7cc889a27081e01e290916f55650e641b6a2815af4d3a94\nw dcc34ee7a886c4a195cc136f37ec174e14e203f3f6cb45c6c0c8e9ab4b1a3736 88f52883e737aaed134b26aaf44218f208901120c18c8f715c4e7c2cc4641072\nd 2305843009213693944\n";
+
+const LAST: &[u8] = b"d 6\nend\n";
+
+const REPLY_0: &[u8] =
+    b"vickrey-reply 1\nlanes 1\nlane 1\nh 1111111111111111111111111111111111111111111111111111111111111111 3\nh 3333333333333333333333333333333333333333333333333333333333333333 10\na 5555555555555555555555555555555555555555555555555555555555555555 2305843009213693947 6666666666666666666666666666666666666666666666666666666666666666 2305843009213693948\nend\n";
+
+// The reply to bit 1, but for the line of its second wire.
+const REPLY_1: &[u8] =
+    b"vickrey-reply 1\nlanes 1\nlane 1\nh 2222222222222222222222222222222222222222222222222222222222222222 2305843009213693948\n";
+
+const SECOND_WIRE: &[u8] =
+    b"h 4444444444444444444444444444444444444444444444444444444444444444 2305843009213693941\n";
+
+const OTHER_WIRE: &[u8] =
+    b"h 4444444444444444444444444444444444444444444444444444444444444444 2305843009213693940\n";
+
+const REPLY_1_END: &[u8] =
+    b"s 0 5555555555555555555555555555555555555555555555555555555555555555 2305843009213693947\nend\n";
+
+/// The named file holds these pieces, one after another.
+fn put(shelf: &mut MemShelf, name: &str, pieces: &[&[u8]]) -> Result<(), OutsideErr> {
+    for piece in pieces {
+        shelf.append(name, piece)?;
+    }
+    Ok(())
+}
+
+/// The smallest board, both challenges and the reply to each; and what is refused: other boards, a challenge of
+/// two bits, a reply with a byte after its end, and one that opens another value.
+pub fn shelf_of_files(alloc: Global) -> Result<MemShelf, OutsideErr> {
+    let mut shelf = MemShelf::new(alloc);
+    put(&mut shelf, "board", &[START, PUBLISHED, LANE, LAST])?;
+    put(
+        &mut shelf,
+        "price",
+        &[START, b"winner 7\nprice 1\n", LANE, LAST],
+    )?;
+    put(
+        &mut shelf,
+        "winner",
+        &[START, b"winner 8\nprice 0\n", LANE, LAST],
+    )?;
+    put(&mut shelf, "row", &[START, PUBLISHED, LANE, b"d 7\nend\n"])?;
+    put(&mut shelf, "cut", &[START, PUBLISHED, LANE])?;
+    put(&mut shelf, "0", &[b"vickrey-challenge 1\nbits 0\nend\n"])?;
+    put(&mut shelf, "1", &[b"vickrey-challenge 1\nbits 1\nend\n"])?;
+    put(&mut shelf, "01", &[b"vickrey-challenge 1\nbits 01\nend\n"])?;
+    put(&mut shelf, "to 0", &[REPLY_0])?;
+    put(&mut shelf, "longer", &[REPLY_0, b"x"])?;
+    put(&mut shelf, "to 1", &[REPLY_1, SECOND_WIRE, REPLY_1_END])?;
+    put(&mut shelf, "other", &[REPLY_1, OTHER_WIRE, REPLY_1_END])?;
+    Ok(shelf)
+}
+
+/// The first wire after the inputs is opened with another value than its second entry has.
+pub const WRONG_WIRE: BoardVerdict = BoardVerdict::Wire {
+    lane: 1,
+    wire: 1,
+    fault: WireFault::Digest { second: true },
+};
+
+const WRONG_ROW: BoardVerdict = BoardVerdict::Row { lane: 1, row: 1 };
+
+/// A board, a challenge, a reply, and what is answered.
+const ANSWERS: [(&str, &str, &str, Result<BoardVerdict, VErr>); 11] = [
+    ("board", "0", "to 0", Ok(BoardVerdict::Accepted)),
+    ("board", "1", "to 1", Ok(BoardVerdict::Accepted)),
+    ("price", "0", "to 0", Ok(BoardVerdict::Price)),
+    ("winner", "0", "to 0", Ok(BoardVerdict::Winner)),
+    ("board", "01", "to 0", Ok(BoardVerdict::Lanes)),
+    ("row", "0", "to 0", Ok(WRONG_ROW)),
+    ("row", "1", "to 1", Ok(WRONG_ROW)),
+    ("board", "1", "other", Ok(WRONG_WIRE)),
+    (
+        "board",
+        "1",
+        "to 0",
+        Ok(BoardVerdict::Malformed {
+            part: Part::Reply,
+            line: 6,
+        }),
+    ),
+    (
+        "cut",
+        "0",
+        "to 0",
+        Ok(BoardVerdict::Malformed {
+            part: Part::Board,
+            line: 14,
+        }),
+    ),
+    ("board", "none", "to 0", Err(VErr::Missing(Part::Challenge))),
+];
+
+#[test]
+fn the_first_fault_is_the_verdict(rt: HostRuntime) -> Result<(), Fail> {
+    let alloc = rt.alloc();
+    let mut shelf = shelf_of_files(alloc)?;
+    for (board, challenge, reply, expected) in ANSWERS {
+        let found = verdict(alloc, &mut shelf, board, challenge, reply);
+        assert_eq!(rt; found, expected, "{board} {challenge} {reply}");
+    }
+    Ok(())
+}

@@ -1,0 +1,186 @@
+ghost use Rattle.std.specs.Prelude.{◌≡◌, ◌+◌, ◌≤◌, [], length, IfOk};
+ghost use Rattle.vk_reply.specs.Values.{IsChallenge};
+ghost use Rattle.vk_keeper.specs.Auctions.{IsAuction};
+
+use std::alloc::Global;
+use std::process::Abort;
+use std::test::Fail;
+use vk_dice::ChaChaWords;
+use vk_io::OutsideErr;
+use vk_reply::Challenge;
+use vk_seal::make_seal;
+use vk_seq::Seq;
+use vk_keeper::{Auction, Keeper, MemKeeper, Phase, SealRow};
+
+const ONE: [u8; 16] = [1; 16];
+
+const TWO: [u8; 16] = [2; 16];
+
+const ID: [u8; 16] = [0, 1, 2, 3, 4, 5, 6, 7, 8, 9, 10, 11, 12, 13, 14, 15];
+
+const SEED: [u8; 32] = [
+    0, 1, 2, 3, 4, 5, 6, 7, 8, 9, 10, 11, 12, 13, 14, 15, 16, 17, 18, 19, 20, 21, 22, 23, 24, 25,
+    26, 27, 28, 29, 30, 31,
+];
+
+/// An auction that takes seals and has none yet.
+fn opened(alloc: Global, id: &[u8; 16], width: u32) -> Auction
+    requires some_width { 1 ≤ width }
+    requires last_width { width ≤ 40 }
+    ensures right { IsAuction result }
+    ensures made { result ≡ record { id = id.now; width = width; lanes = 2; phase = Phase.Taking; seals = [] } }
+{
+    Auction {
+        id: *id,
+        width,
+        lanes: 2,
+        phase: Phase::Taking,
+        seals: Seq::new(alloc),
+    }
+}
+
+/// The width of the auction that a keeper has under that id.
+fn width_of<K: Keeper>(keeper: &mut K, id: &[u8; 16]) -> Result<Option<u32>, OutsideErr> {
+    let found = keeper.get(id)?;
+    Ok(found.map(|auction| auction.width))
+}
+
+#[test]
+fn an_auction_is_kept_under_its_id(rt: HostRuntime) -> Result<(), Fail> {
+    let mut keeper = MemKeeper::new(rt.alloc());
+    assert_eq!(rt; width_of(&mut keeper, &ONE)?, None);
+    keeper.put(opened(rt.alloc(), &ONE, 4))?;
+    keeper.put(opened(rt.alloc(), &TWO, 9))?;
+    assert_eq!(rt; width_of(&mut keeper, &ONE)?, Some(4));
+    keeper.put(opened(rt.alloc(), &ONE, 5))?;
+    assert_eq!(rt; width_of(&mut keeper, &ONE)?, Some(5));
+    assert_eq!(rt; width_of(&mut keeper, &TWO)?, Some(9));
+    Ok(())
+}
+
+#[test]
+fn the_named_calls_fail_and_change_nothing(rt: HostRuntime) -> Result<(), Fail> {
+    let mut keeper = MemKeeper::new(rt.alloc());
+    keeper.fail_at(2)?;
+    keeper.fail_at(3)?;
+    keeper.put(opened(rt.alloc(), &ONE, 4))?;
+    let refused = keeper.put(opened(rt.alloc(), &ONE, 5));
+    assert_eq!(rt; refused, Err(OutsideErr::Failed));
+    let unanswered = width_of(&mut keeper, &ONE);
+    assert_eq!(rt; unanswered, Err(OutsideErr::Failed));
+    assert_eq!(rt; width_of(&mut keeper, &ONE)?, Some(4));
+    Ok(())
+}
+
+/// A challenge of the bits 0 and 1.
+fn challenge(alloc: Global) -> Result<Challenge, Fail>
+    ensures challenge { IfOk result IsChallenge }
+    ensures bits { IfOk result (λ challenge. length challenge.bits ≡ 2) }
+{
+    let bits = Seq::from_vec(Vec::from_slice(alloc, &[false, true])?);
+    Ok(Challenge { bits })
+}
+
+/// The auction with the seal of that bid, which may join.
+fn joined(alloc: Global, mut auction: Auction, seat: u16, bid: u64) -> Result<Auction, Fail>
+    requires auction { IsAuction auction }
+    requires some_seat { 1 ≤ seat }
+    ensures right { IfOk result IsAuction }
+    ensures seals { IfOk result (λ joined. length joined.seals ≡ length auction.seals + 1) }
+    ensures lanes { IfOk result (λ joined. joined.lanes ≡ auction.lanes) }
+{
+    let mut words = ChaChaWords::of(&SEED, &auction.id, 65536 + u64::from(seat));
+    let (width, lanes) = (auction.width, auction.lanes);
+    let (secret, seal) = make_seal(alloc, bid, seat, &auction.id, width, lanes, &mut words)?;
+    if auction.refusal(&seal, &secret).is_some() {
+        return Err(Fail::from("refused"));
+    }
+    auction.join(SealRow { seal, secret })?;
+    Ok(auction)
+}
+
+/// An auction of two lanes that takes seals and has three.
+fn with_seals(alloc: Global, id: &[u8; 16]) -> Result<Auction, Fail>
+    ensures right { IfOk result IsAuction }
+    ensures seals { IfOk result (λ auction. length auction.seals ≡ 3) }
+    ensures lanes { IfOk result (λ auction. auction.lanes ≡ 2) }
+{
+    let first = joined(alloc, opened(alloc, id, 8), 7, 15)?;
+    let second = joined(alloc, first, 300, 255)?;
+    let third = joined(alloc, second, 65535, 0)?;
+    Ok(third)
+}
+
+/// The same once it is proved.
+fn proved(alloc: Global, id: &[u8; 16], seed: &[u8; 32]) -> Result<Auction, Fail>
+    ensures { IfOk result IsAuction }
+{
+    let mut auction = with_seals(alloc, id)?;
+    auction.phase = Phase::Proved { seed: *seed };
+    Ok(auction)
+}
+
+/// The same once it is answered.
+fn answered(alloc: Global, id: &[u8; 16], seed: &[u8; 32]) -> Result<Auction, Fail>
+    ensures { IfOk result IsAuction }
+{
+    let challenge = challenge(alloc)?;
+    let mut auction = with_seals(alloc, id)?;
+    auction.phase = Phase::Answered {
+        seed: *seed,
+        challenge,
+    };
+    Ok(auction)
+}
+
+/// Checks the seals of an auction that was copied, in lane 2 by what another implementation drew.
+fn check_seals(rt: &impl Abort, auction: &Auction) -> Result<(), Fail> {
+    let rows = auction.seals.as_slice();
+    assert_eq!(rt; rows.len(), 3);
+    let first = &rows[0];
+    assert_eq!(rt; (first.seal.seat, first.secret.bid), (7, 15));
+    let tape = first.secret.lanes.as_slice().get(1).ok_or("no lane 2")?;
+    assert_eq!(rt; tape.mask.get(), 348017112954609804);
+    let last = &rows[2];
+    assert_eq!(rt; (last.seal.seat, last.secret.seat), (65535, 65535));
+    assert_eq!(rt; last.secret.bid, 0);
+    assert_eq!(rt; (last.seal.lanes.len(), last.secret.lanes.len()), (2, 2));
+    Ok(())
+}
+
+#[test]
+fn a_copy_has_every_part(rt: HostRuntime) -> Result<(), Fail> {
+    let alloc = rt.alloc();
+    let auction = answered(alloc, &ID, &SEED)?;
+    let copy = auction.copy(alloc)?;
+    assert_eq!(rt; (copy.id, copy.width, copy.lanes), (ID, 8, 2));
+    let Phase::Answered { seed, challenge } = &copy.phase else {
+        return Err(Fail::from("another phase"));
+    };
+    assert_eq!(rt; *seed, SEED);
+    assert_eq!(rt; challenge.bits.as_slice(), [false, true].as_slice());
+    check_seals(&rt, &copy)?;
+    Ok(())
+}
+
+#[test]
+fn three_auctions_with_seals_are_kept(rt: HostRuntime) -> Result<(), Fail> {
+    let alloc = rt.alloc();
+    let mut keeper = MemKeeper::new(alloc);
+    keeper.put(with_seals(alloc, &ONE)?)?;
+    keeper.put(answered(alloc, &TWO, &SEED)?)?;
+    keeper.put(proved(alloc, &ID, &SEED)?)?;
+    let found = keeper.get(&ID)?.ok_or("not kept")?;
+    let Phase::Proved { seed } = &found.phase else {
+        return Err(Fail::from("another phase"));
+    };
+    assert_eq!(rt; *seed, SEED);
+    check_seals(&rt, &found)?;
+    let second = keeper.get(&TWO)?.ok_or("not kept")?;
+    assert_eq!(rt; second.seals.len(), 3);
+    assert!(rt; matches!(second.phase, Phase::Answered { .. }));
+    let first = keeper.get(&ONE)?.ok_or("not kept")?;
+    assert_eq!(rt; first.seals.len(), 3);
+    assert!(rt; matches!(first.phase, Phase::Taking));
+    Ok(())
+}
