@@ -1,0 +1,12 @@
+mod bids;
+mod board;
+mod files;
+mod lines;
+mod printing;
+mod reply;
+mod report;
+mod seal;
+mod shelves;
+mod two_replies;
+mod verifier;
+mod words;

@@ -1,0 +1,134 @@
+// Two replies to the smallest board, side by side; and files that aren't held, aren't boards or are too long.
+use super::files::{Vast, shelf_of_files};
+use super::verifier::WRONG_WIRE;
+use std::alloc::Global;
+use std::test::Fail;
+use vk_io::{MemShelf, Shelf};
+use vk_verifier::{BoardVerdict, Part, TwoChecker, TwoVerdict, VErr, verdict};
+
+/// Why two replies aren't begun.
+fn refusal(begun: Result<TwoChecker, VErr>) -> Option<VErr> {
+    match begun {
+        Ok(_checker) => None,
+        Err(refusal) => Some(refusal),
+    }
+}
+
+#[test]
+fn the_first_missing_file_is_named(rt: HostRuntime) -> Result<(), Fail> {
+    let mut shelf = MemShelf::new(rt.alloc());
+    shelf.put_file("f", b"x\n")?;
+    let begun = TwoChecker::start(rt.alloc(), &mut shelf, "f", "f", "f", "g", "h");
+    assert_eq!(rt; refusal(begun), Some(VErr::Missing(Part::SecondChallenge)));
+    Ok(())
+}
+
+#[test]
+fn a_file_of_more_than_2_to_the_30_bytes_is_too_long(rt: HostRuntime) {
+    let alloc = rt.alloc();
+    let mut shelf = Vast {
+        length: (1 << 30) + 1,
+    };
+    let refused = Err(VErr::TooLong(Part::Board));
+    assert_eq!(rt; verdict(alloc, &mut shelf, "b", "c", "r"), refused);
+    let begun = TwoChecker::start(alloc, &mut shelf, "b", "c", "r", "d", "s");
+    assert_eq!(rt; refusal(begun), Some(VErr::TooLong(Part::Board)));
+}
+
+/// What is found where no lane is given any more.
+fn last_finding(
+    alloc: Global,
+    shelf: &mut MemShelf,
+    checker: TwoChecker,
+) -> Result<TwoVerdict, Fail> {
+    let (checker, lane) = checker.next_lane(alloc, shelf)?;
+    match lane {
+        None => Ok(checker.finding()),
+        Some(_lane) => Err(Fail::from("two lanes of one")),
+    }
+}
+
+/// How many lanes are given, one at most, and what is found then.
+fn lanes_and_finding(
+    alloc: Global,
+    shelf: &mut MemShelf,
+    checker: TwoChecker,
+) -> Result<(u32, TwoVerdict), Fail> {
+    let (checker, lane) = checker.next_lane(alloc, shelf)?;
+    match lane {
+        None => Ok((0, checker.finding())),
+        Some(_lane) => Ok((1, last_finding(alloc, shelf, checker)?)),
+    }
+}
+
+/// The same of two replies to a board of one lane, each to its challenge.
+fn found(
+    alloc: Global,
+    shelf: &mut MemShelf,
+    board: &'static str,
+    first: (&'static str, &'static str),
+    second: (&'static str, &'static str),
+) -> Result<(u32, TwoVerdict), Fail> {
+    let checker = TwoChecker::start(alloc, shelf, board, first.0, first.1, second.0, second.1)?;
+    let found = lanes_and_finding(alloc, shelf, checker)?;
+    Ok(found)
+}
+
+const FIRST_WIRE: TwoVerdict = TwoVerdict::Refused {
+    second: false,
+    verdict: WRONG_WIRE,
+};
+
+const SECOND_WIRE: TwoVerdict = TwoVerdict::Refused {
+    second: true,
+    verdict: WRONG_WIRE,
+};
+
+const FIRST_END: TwoVerdict = TwoVerdict::Refused {
+    second: false,
+    verdict: BoardVerdict::Malformed {
+        part: Part::Reply,
+        line: 8,
+    },
+};
+
+const SECOND_END: TwoVerdict = TwoVerdict::Refused {
+    second: true,
+    verdict: BoardVerdict::Malformed {
+        part: Part::SecondReply,
+        line: 8,
+    },
+};
+
+const NO_BOARD: TwoVerdict = TwoVerdict::Refused {
+    second: false,
+    verdict: BoardVerdict::Malformed {
+        part: Part::Board,
+        line: 1,
+    },
+};
+
+/// A board, two challenges each with its reply, how many lanes are given, and what is found.
+const FOUND: [(&str, (&str, &str), (&str, &str), u32, TwoVerdict); 8] = [
+    ("board", ("0", "to 0"), ("1", "to 1"), 1, TwoVerdict::Ready),
+    ("board", ("1", "to 1"), ("0", "to 0"), 1, TwoVerdict::Ready),
+    ("board", ("1", "to 1"), ("1", "to 1"), 1, TwoVerdict::Same),
+    ("board", ("0", "to 0"), ("1", "other"), 0, SECOND_WIRE),
+    ("board", ("1", "other"), ("0", "longer"), 0, FIRST_WIRE),
+    ("board", ("0", "longer"), ("1", "other"), 0, FIRST_END),
+    ("board", ("1", "to 1"), ("0", "longer"), 1, SECOND_END),
+    ("0", ("0", "to 0"), ("1", "to 1"), 0, NO_BOARD),
+];
+
+#[test]
+fn two_replies_give_their_lanes_and_come_to_a_verdict(rt: HostRuntime) -> Result<(), Fail> {
+    let alloc = rt.alloc();
+    let mut shelf = shelf_of_files(alloc)?;
+    for (board, first, second, lanes, finding) in FOUND {
+        assert_eq!(rt;
+            found(alloc, &mut shelf, board, first, second)?,
+            (lanes, finding)
+        );
+    }
+    Ok(())
+}

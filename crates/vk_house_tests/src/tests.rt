@@ -1,0 +1,8 @@
+mod app;
+mod auctions;
+mod audit;
+mod ceremony;
+mod house;
+mod job;
+mod keeper;
+mod smallest;

@@ -1,0 +1,58 @@
+// The smallest board and the replies to both bits, as another program wrote them.
+use std::alloc::Global;
+use std::test::Fail;
+use vk_io::MemShelf;
+
+const BOARD: &str = "vickrey-board 1
+auction 000102030405060708090a0b0c0d0e0f
+width 1
+lanes 1
+seals 1
+winner 7
+price 0
+seal 7
+x 023dd1cc99177aec8e6b75b847227ff4a8dd6e2328310f0ffa91f2d60aecd426 774401009878493d88b3ad371899fe26d73791fadb6afe02ad901833daf73de4
+lane 1
+w 3e081a820047b942fb53d64cc48e73072c8bab60338122a8b6cc7d2574478294 b66b11c7a3a9e463f7cc889a27081e01e290916f55650e641b6a2815af4d3a94
+w dcc34ee7a886c4a195cc136f37ec174e14e203f3f6cb45c6c0c8e9ab4b1a3736 88f52883e737aaed134b26aaf44218f208901120c18c8f715c4e7c2cc4641072
+d 2305843009213693944
+d 6
+end
+";
+
+const FIRST_REPLY: &str = "vickrey-reply 1
+lanes 1
+lane 1
+h 1111111111111111111111111111111111111111111111111111111111111111 3
+h 3333333333333333333333333333333333333333333333333333333333333333 10
+a 5555555555555555555555555555555555555555555555555555555555555555 2305843009213693947 6666666666666666666666666666666666666666666666666666666666666666 2305843009213693948
+end
+";
+
+const SECOND_REPLY: &str = "vickrey-reply 1
+lanes 1
+lane 1
+h 2222222222222222222222222222222222222222222222222222222222222222 2305843009213693948
+h 4444444444444444444444444444444444444444444444444444444444444444 2305843009213693941
+s 0 5555555555555555555555555555555555555555555555555555555555555555 2305843009213693947
+end
+";
+
+/// What the two replies show.
+pub const EXTRACTION: &str =
+    "lane 1 seat 7 bid 0 u 1111111111111111111111111111111111111111111111111111111111111111 3 v 2222222222222222222222222222222222222222222222222222222222222222 2305843009213693948
+winner 7 price 0
+seat 7 same
+end
+";
+
+/// A shelf with the smallest board, its two challenges and the replies to them.
+pub fn smallest(alloc: Global) -> Result<MemShelf, Fail> {
+    let mut shelf = MemShelf::new(alloc);
+    shelf.put_file("board", BOARD.as_bytes())?;
+    shelf.put_file("challenge-0", b"vickrey-challenge 1\nbits 0\nend\n")?;
+    shelf.put_file("reply-0", FIRST_REPLY.as_bytes())?;
+    shelf.put_file("challenge-1", b"vickrey-challenge 1\nbits 1\nend\n")?;
+    shelf.put_file("reply-1", SECOND_REPLY.as_bytes())?;
+    Ok(shelf)
+}

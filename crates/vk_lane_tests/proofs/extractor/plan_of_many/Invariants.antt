@@ -1,5 +1,0 @@
-use Rattle.std.proofs.Common.{length, ◌-◌}
-use Rattle.vk_lane_tests.proofs.extractor.plan_of_many.Given as goal
-
-abbrev pub decreases-loop-plan : goal.decreases-loop-plan
-decreases-loop-plan l = 102 - length l.plan.kinds

@@ -1,0 +1,331 @@
+// A lane that an independent implementation made, and a lane with a pair.
+ghost use Rattle.std.specs.Prelude.{◌≡◌, ◌<◌, ◌^◌, IfOk, IsTrue, length};
+ghost use Rattle.vk_row.specs.Lanes.{HasCounts};
+ghost use Rattle.vk_plan.specs.Plans.{HasWeight, MayHave};
+ghost use Rattle.vk_plan.specs.declared.wire.WireKind.TheVariants.{Pair};
+
+use super::numbers::{half, residue};
+use std::alloc::Global;
+use std::test::Fail;
+use vk_commit::{Opening, Place, TwoOpenings, opens};
+use vk_extractor::{confront, extract_lane};
+use vk_plan::{Form, Plan, Term, WireKind};
+use vk_residue::Residue;
+use vk_row::{LaneCase, check_lane};
+use vk_seal::{Secret, XTape};
+use vk_seq::Seq;
+use vk_wire::{Shown, WireCom, WireTape, make, show, wire_place};
+
+const AUCTION: [u8; 16] = [0, 1, 2, 3, 4, 5, 6, 7, 8, 9, 10, 11, 12, 13, 14, 15];
+
+const BID: WireCom = WireCom {
+    first: [
+        0x02, 0x3d, 0xd1, 0xcc, 0x99, 0x17, 0x7a, 0xec, 0x8e, 0x6b, 0x75, 0xb8, 0x47, 0x22, 0x7f,
+        0xf4, 0xa8, 0xdd, 0x6e, 0x23, 0x28, 0x31, 0x0f, 0x0f, 0xfa, 0x91, 0xf2, 0xd6, 0x0a, 0xec,
+        0xd4, 0x26,
+    ],
+    second: [
+        0x7d, 0x27, 0xf5, 0xe5, 0xfa, 0x17, 0x02, 0x02, 0x34, 0xfa, 0xfc, 0x9b, 0x72, 0x35, 0xc8,
+        0x4f, 0x4b, 0x92, 0xbb, 0x9a, 0xbc, 0x75, 0x4d, 0x2a, 0x12, 0xe1, 0x8a, 0x0b, 0x24, 0xec,
+        0x8e, 0x75,
+    ],
+};
+
+const COPY: WireCom = WireCom {
+    first: [
+        0x3e, 0x08, 0x1a, 0x82, 0x00, 0x47, 0xb9, 0x42, 0xfb, 0x53, 0xd6, 0x4c, 0xc4, 0x8e, 0x73,
+        0x07, 0x2c, 0x8b, 0xab, 0x60, 0x33, 0x81, 0x22, 0xa8, 0xb6, 0xcc, 0x7d, 0x25, 0x74, 0x47,
+        0x82, 0x94,
+    ],
+    second: [
+        0xc5, 0x91, 0x4c, 0x57, 0x5c, 0xec, 0xb2, 0x1a, 0x7d, 0x48, 0x84, 0xfb, 0xba, 0x3c, 0xb9,
+        0x14, 0x24, 0x52, 0x9f, 0x83, 0x68, 0x90, 0xe5, 0xb3, 0xc8, 0x35, 0x8d, 0x4e, 0x3c, 0xc6,
+        0xa5, 0x3c,
+    ],
+};
+
+/// One input, a wire of the kind, and the row that the two have one value.
+fn plan_of_two(alloc: Global, kind: WireKind) -> Result<Plan, Fail>
+    requires { HasWeight kind }
+    ensures inputs { IfOk result (λ plan. plan.inputs ≡ 1) }
+    ensures wires { IfOk result (λ plan. length plan.kinds ≡ 2) }
+    ensures rows { IfOk result (λ plan. length plan.rows ≡ 1) }
+{
+    let one = residue(1)?;
+    let minus_one = residue(2305843009213693950)?;
+    let mut plan = Plan::new(alloc, 1)?;
+    let mut terms = Seq::new(alloc);
+    terms.push(Term {
+        wire: 0,
+        factor: one,
+    })?;
+    terms.push(Term {
+        wire: 1,
+        factor: minus_one,
+    })?;
+    let row = Form {
+        terms,
+        constant: Residue::ZERO,
+    };
+    plan.append(&[kind], Some(row))?;
+    Ok(plan)
+}
+
+fn case_of_two(
+    alloc: Global,
+    first: WireCom,
+    second: WireCom,
+    number: u64,
+) -> Result<LaneCase, Fail>
+    ensures seats { IfOk result (λ case. length case.seats ≡ 1) }
+    ensures wires { IfOk result (λ case. length case.coms ≡ 2) }
+    ensures rows { IfOk result (λ case. length case.posted ≡ 1) }
+{
+    let number = residue(number)?;
+    let mut seats = Seq::new(alloc);
+    seats.push(7)?;
+    let mut coms = Seq::new(alloc);
+    coms.push(first)?;
+    coms.push(second)?;
+    let mut posted = Seq::new(alloc);
+    posted.push(number)?;
+    Ok(LaneCase {
+        auction: AUCTION,
+        lane: 1,
+        seats,
+        coms,
+        posted,
+    })
+}
+
+/// The values of a lane, once both challenges are accepted.
+fn values_of_lane(
+    alloc: Global,
+    plan: &Plan,
+    case: &LaneCase,
+    zero: &[Shown],
+    one: &[Shown],
+) -> Result<Vec<Residue>, Fail>
+    requires zero { HasCounts plan.now case.now zero.now }
+    requires one { HasCounts plan.now case.now one.now }
+{
+    check_lane(alloc, plan, case, false, zero)?;
+    check_lane(alloc, plan, case, true, one)?;
+    let values = extract_lane(alloc, plan, case, zero, one)?;
+    Ok(values)
+}
+
+#[test]
+fn a_lane_made_elsewhere_gives_its_bid(rt: HostRuntime) -> Result<(), Fail> {
+    let plan = plan_of_two(rt.alloc(), WireKind::Split)?;
+    let case = case_of_two(rt.alloc(), BID, COPY, 2305843009213693944)?;
+    let zero = [half(0x11, 3)?, half(0x33, 10)?];
+    let one = [half(0x22, 2)?, half(0x44, 2305843009213693946)?];
+    let values = values_of_lane(rt.alloc(), &plan, &case, &zero, &one)?;
+    assert_eq!(rt; values.as_slice(), [residue(5)?, residue(5)?].as_slice());
+    Ok(())
+}
+
+fn tape(mask: u64, swap: bool) -> Result<WireTape, Fail> {
+    Ok(WireTape {
+        mask: residue(mask)?,
+        swap,
+        first_key: [1; 32],
+        second_key: [2; 32],
+    })
+}
+
+fn eight_or_zero(full: bool) -> Residue
+    ensures { MayHave (Pair 3) result }
+{
+    if full {
+        Residue::pow2(3)
+    } else {
+        Residue::ZERO
+    }
+}
+
+#[test]
+fn pairs_give_0_or_their_weight(rt: HostRuntime) -> Result<(), Fail> {
+    let kind = WireKind::Pair(3);
+    let plan = plan_of_two(rt.alloc(), kind)?;
+    let bid = tape(9, false)?;
+    for (full, swap) in [(false, false), (false, true), (true, false), (true, true)] {
+        let value = eight_or_zero(full);
+        let pair = tape(5, swap)?;
+        let first = make(
+            WireKind::Split,
+            &wire_place(&AUCTION, 1, &[7], 0),
+            value,
+            &bid,
+        );
+        let second = make(kind, &wire_place(&AUCTION, 1, &[7], 1), value, &pair);
+        let case = case_of_two(rt.alloc(), first, second, 4)?;
+        let zero = [
+            show(WireKind::Split, value, &bid, false),
+            show(kind, value, &pair, false),
+        ];
+        let one = [
+            show(WireKind::Split, value, &bid, true),
+            show(kind, value, &pair, true),
+        ];
+        let values = values_of_lane(rt.alloc(), &plan, &case, &zero, &one)?;
+        assert_eq!(rt; values.as_slice(), [value, value].as_slice());
+    }
+    Ok(())
+}
+
+/// The plan of two wires, and 100 pairs of weight 8 after them.
+fn plan_of_many(alloc: Global) -> Result<Plan, Fail> {
+    let mut plan = plan_of_two(alloc, WireKind::Split)?;
+    while plan.wires() < 102 {
+        plan.append(&[WireKind::Pair(3)], None)?;
+    }
+    Ok(plan)
+}
+
+/// The value that an honest wire has in the lane of many wires: 5, or of a pair its weight on every
+/// third wire.
+fn value_at(kind: WireKind, wire: u32) -> Result<Residue, Fail>
+    requires { HasWeight kind }
+    ensures { IfOk result (λ value. MayHave kind value) }
+{
+    match kind {
+        WireKind::Split => residue(5),
+        WireKind::Pair(i) => Ok(if wire % 3 == 0 {
+            Residue::pow2(i)
+        } else {
+            Residue::ZERO
+        }),
+    }
+}
+
+fn tape_at(wire: u32) -> Result<WireTape, Fail> {
+    tape(u64::from(wire) + 9, wire % 2 == 0)
+}
+
+/// What lane 2 of the plan commits to. Its one row has the masks 9 and 10.
+fn case_of_many(alloc: Global, plan: &Plan) -> Result<LaneCase, Fail> {
+    let mut coms = Seq::new(alloc);
+    for wire in 0..plan.wires() {
+        let kind = plan.kind(wire);
+        let value = value_at(kind, wire)?;
+        let tape = tape_at(wire)?;
+        coms.push(make(kind, &wire_place(&AUCTION, 2, &[7], wire), value, &tape))?;
+    }
+    let minus_one = residue(2305843009213693950)?;
+    let mut seats = Seq::new(alloc);
+    seats.push(7)?;
+    let mut posted = Seq::new(alloc);
+    posted.push(minus_one)?;
+    Ok(LaneCase {
+        auction: AUCTION,
+        lane: 2,
+        seats,
+        coms,
+        posted,
+    })
+}
+
+/// What is shown of all wires of the plan for the bit.
+fn shown_of_many(alloc: Global, plan: &Plan, bit: bool) -> Result<Vec<Shown>, Fail> {
+    let mut all = Vec::new(alloc);
+    for wire in 0..plan.wires() {
+        let kind = plan.kind(wire);
+        let value = value_at(kind, wire)?;
+        let tape = tape_at(wire)?;
+        all.push(show(kind, value, &tape, bit))?;
+    }
+    Ok(all)
+}
+
+/// Whether there is one of each for the plan.
+fn has_counts(plan: &Plan, case: &LaneCase, shown: &[Shown]) -> bool
+    ensures { IsTrue result → HasCounts plan.now case.now shown.now }
+{
+    case.seats.as_slice().len() == plan.inputs() as usize
+        && case.coms.as_slice().len() == plan.wires() as usize
+        && case.posted.as_slice().len() == plan.rows() as usize
+        && shown.len() == plan.wires() as usize
+}
+
+#[test]
+fn many_wires_of_lane_2_give_their_values(rt: HostRuntime) -> Result<(), Fail> {
+    let plan = plan_of_many(rt.alloc())?;
+    let case = case_of_many(rt.alloc(), &plan)?;
+    let zero = shown_of_many(rt.alloc(), &plan, false)?;
+    let one = shown_of_many(rt.alloc(), &plan, true)?;
+    assert!(rt; has_counts(&plan, &case, zero.as_slice()));
+    assert!(rt; has_counts(&plan, &case, one.as_slice()));
+    let values = values_of_lane(rt.alloc(), &plan, &case, zero.as_slice(), one.as_slice())?;
+    assert_eq!(rt; values.len(), 102);
+    for wire in 0..plan.wires() {
+        let value = value_at(plan.kind(wire), wire)?;
+        assert_eq!(rt;
+            values.as_slice().get(wire as usize),
+            Some(&value),
+            "wire {wire}"
+        );
+    }
+    Ok(())
+}
+
+/// The bid 5 at seat 7, which lane 1 splits into 3 and 2.
+fn secret_of_five(alloc: Global) -> Result<Secret, Fail>
+    ensures bid { IfOk result (λ secret. secret.bid ≡ 5) }
+    ensures lanes { IfOk result (λ secret. length secret.lanes ≡ 1) }
+{
+    let mask = residue(3)?;
+    let mut lanes = Seq::new(alloc);
+    lanes.push(XTape {
+        mask,
+        first_key: [0x11; 32],
+        second_key: [0x22; 32],
+    })?;
+    Ok(Secret {
+        auction: AUCTION,
+        seat: 7,
+        bid: 5,
+        lanes,
+    })
+}
+
+/// Lane 1 of the secret against two openings, which are tested to open its commitments.
+fn confront_lane_1(
+    secret: &Secret,
+    first: &Opening,
+    second: &Opening,
+) -> Result<Option<TwoOpenings>, Fail>
+    requires bid { secret.now.bid < 2 ^ 40 }
+    requires lanes { length secret.now.lanes ≡ 1 }
+{
+    let place = wire_place(&secret.auction, 1, &[secret.seat], 0);
+    let next = Place { slot: 1, ..place };
+    let bid = residue(secret.bid)?;
+    let digests = make(
+        WireKind::Split,
+        &place,
+        bid,
+        &secret.lanes.as_slice()[0].wire(),
+    );
+    if !opens(&place, &digests.first, first) || !opens(&next, &digests.second, second) {
+        return Err(Fail::from("not opened"));
+    }
+    Ok(confront(secret, 1, first, second))
+}
+
+#[test]
+fn a_bidder_holds_the_halves_of_its_own_secret(rt: HostRuntime) -> Result<(), Fail> {
+    let secret = secret_of_five(rt.alloc())?;
+    let first = Opening {
+        key: [0x11; 32],
+        value: residue(3)?,
+    };
+    let second = Opening {
+        key: [0x22; 32],
+        value: residue(2)?,
+    };
+    let two = confront_lane_1(&secret, &first, &second)?;
+    assert!(rt; two.is_none());
+    Ok(())
+}

@@ -1,0 +1,364 @@
+// One bid of 0 by seat 7, a copy of it, and a pair for its one bit; and three bids of width 8. The
+// commitment to the copy's mask was made by an independent implementation.
+ghost use Rattle.std.specs.Prelude.{◌≡◌, ◌<◌, ◌≤◌, ◌+◌, IfOk, length, replicate};
+ghost use Rattle.vk_plan.specs.Forms.{NamesBelow};
+ghost use Rattle.vk_plan.specs.Plans.{Holds};
+
+use super::numbers::{half, inputs_of, opening, residue};
+use std::alloc::Global;
+use std::test::Fail;
+use vk_board::LaneLines;
+use vk_dice::{ChaChaWords, ListWords, Words};
+use vk_plan::{Circuit, Form, Plan, Term, WireKind};
+use vk_prover::{DrawErr, LaneTape, answer_lane, draw_tape, make_lane};
+use vk_residue::{NoMemory, Residue};
+use vk_row::{LaneCase, check_lane};
+use vk_seq::Seq;
+use vk_vickrey::{VickreyPlan, outcome};
+use vk_wire::{Shown, WireTape, make, wire_place};
+
+const AUCTION: [u8; 16] = [0, 1, 2, 3, 4, 5, 6, 7, 8, 9, 10, 11, 12, 13, 14, 15];
+
+const MASK_OF_COPY: [u8; 32] = [
+    0x3e, 0x08, 0x1a, 0x82, 0x00, 0x47, 0xb9, 0x42, 0xfb, 0x53, 0xd6, 0x4c, 0xc4, 0x8e, 0x73, 0x07,
+    0x2c, 0x8b, 0xab, 0x60, 0x33, 0x81, 0x22, 0xa8, 0xb6, 0xcc, 0x7d, 0x25, 0x74, 0x47, 0x82, 0x94,
+];
+
+fn wire_tape(mask: u64, key: u8) -> Result<WireTape, Fail>
+    requires { key < 255 }
+{
+    Ok(WireTape {
+        mask: residue(mask)?,
+        swap: false,
+        first_key: [key; 32],
+        second_key: [key + 1; 32],
+    })
+}
+
+/// One wire less the next.
+fn difference(alloc: Global, wire: u32) -> Result<Form, Fail>
+    requires { wire < 9 }
+    ensures names { IfOk result (λ form. NamesBelow (wire + 2) form.terms) }
+    ensures constant { IfOk result (λ form. form.constant ≡ 0) }
+{
+    let minus_one = residue(2305843009213693950)?;
+    let mut terms = Seq::new(alloc);
+    terms.push(Term {
+        wire,
+        factor: Residue::ONE,
+    })?;
+    terms.push(Term {
+        wire: wire + 1,
+        factor: minus_one,
+    })?;
+    Ok(Form {
+        terms,
+        constant: Residue::ZERO,
+    })
+}
+
+/// One input, its copy, and a pair of weight 1 with the same value. All of them may be 0.
+fn plan_of_a_bit(alloc: Global) -> Result<Plan, Fail>
+    ensures inputs { IfOk result (λ plan. plan.inputs ≡ 1) }
+    ensures wires { IfOk result (λ plan. length plan.kinds ≡ 3) }
+    ensures rows { IfOk result (λ plan. length plan.rows ≡ 2) }
+    ensures holds { IfOk result (λ plan. Holds plan (replicate 3 0)) }
+{
+    let copied = difference(alloc, 0)?;
+    let in_range = difference(alloc, 1)?;
+    let mut plan = Plan::new(alloc, 1)?;
+    plan.append(&[WireKind::Split], Some(copied))?;
+    plan.append(&[WireKind::Pair(0)], Some(in_range))?;
+    Ok(plan)
+}
+
+fn tape_of_a_bit(alloc: Global) -> Result<LaneTape, Fail>
+    ensures { IfOk result (λ tape. length tape.wires ≡ 3) }
+{
+    let bid = wire_tape(3, 0x11)?;
+    let copy = wire_tape(10, 0x33)?;
+    let pair = wire_tape(4, 0x55)?;
+    let mut wires = Seq::new(alloc);
+    wires.push(bid)?;
+    wires.push(copy)?;
+    wires.push(pair)?;
+    Ok(LaneTape { wires })
+}
+
+/// All that is public of the lane, with the commitments of the seal in front.
+fn case_of_a_bit(alloc: Global, lines: LaneLines) -> Result<LaneCase, Fail>
+    ensures seats { IfOk result (λ case. length case.seats ≡ 1) }
+    ensures wires { IfOk result (λ case. length case.coms ≡ 3) }
+    ensures rows { IfOk result (λ case. length case.posted ≡ 2) }
+{
+    if lines.coms.len() != 2 || lines.posted.len() != 2 {
+        return Err("not one line for each".into());
+    }
+    let bid = wire_tape(3, 0x11)?;
+    let place = wire_place(&AUCTION, 1, &[7], 0);
+    let mut coms = Seq::new(alloc);
+    coms.push(make(WireKind::Split, &place, Residue::ZERO, &bid))?;
+    coms.push(lines.coms.as_slice()[0])?;
+    coms.push(lines.coms.as_slice()[1])?;
+    let mut seats = Seq::new(alloc);
+    seats.push(7)?;
+    Ok(LaneCase {
+        auction: AUCTION,
+        lane: 1,
+        seats,
+        coms,
+        posted: lines.posted,
+    })
+}
+
+/// What is to be shown of the lane for the bit.
+fn shown_of_a_bit(bit: bool) -> Result<[Shown; 3], Fail> {
+    if bit {
+        let spent = opening([0x55; 32], 2305843009213693947)?;
+        Ok([
+            half(0x12, 2305843009213693948)?,
+            half(0x34, 2305843009213693941)?,
+            Shown::Spent {
+                second: false,
+                opening: spent,
+            },
+        ])
+    } else {
+        let first = opening([0x55; 32], 2305843009213693947)?;
+        let second = opening([0x56; 32], 2305843009213693948)?;
+        Ok([half(0x11, 3)?, half(0x33, 10)?, Shown::Whole(first, second)])
+    }
+}
+
+/// The halves of the lane for the bit.
+fn halves_of_a_bit(bit: bool) -> Result<[Residue; 3], Fail> {
+    Ok(if bit {
+        [
+            residue(2305843009213693948)?,
+            residue(2305843009213693941)?,
+            residue(2305843009213693947)?,
+        ]
+    } else {
+        [residue(3)?, residue(10)?, residue(4)?]
+    })
+}
+
+#[test]
+fn lines_are_published(rt: HostRuntime) -> Result<(), Fail> {
+    let plan = plan_of_a_bit(rt.alloc())?;
+    let values = [Residue::ZERO; 3];
+    let tape = tape_of_a_bit(rt.alloc())?;
+    let lines = make_lane(rt.alloc(), &plan, &AUCTION, 1, &values, &tape)?;
+    let posted = [residue(2305843009213693944)?, residue(6)?];
+    assert_eq!(rt; lines.posted.as_slice(), posted.as_slice());
+    let copy = lines.coms.as_slice().first().ok_or("no commitment")?;
+    assert_eq!(rt; copy.first.as_slice(), MASK_OF_COPY.as_slice());
+    Ok(())
+}
+
+#[test]
+fn both_replies_show_their_halves(rt: HostRuntime) -> Result<(), Fail> {
+    let plan = plan_of_a_bit(rt.alloc())?;
+    let values = [Residue::ZERO; 3];
+    let tape = tape_of_a_bit(rt.alloc())?;
+    for bit in [false, true] {
+        let shown = answer_lane(rt.alloc(), &plan, &values, &tape, bit)?;
+        let expected = shown_of_a_bit(bit)?;
+        assert_eq!(rt; shown.as_slice(), expected.as_slice());
+    }
+    Ok(())
+}
+
+#[test]
+fn both_replies_are_accepted(rt: HostRuntime) -> Result<(), Fail> {
+    let plan = plan_of_a_bit(rt.alloc())?;
+    let values = [Residue::ZERO; 3];
+    let tape = tape_of_a_bit(rt.alloc())?;
+    let lines = make_lane(rt.alloc(), &plan, &AUCTION, 1, &values, &tape)?;
+    let case = case_of_a_bit(rt.alloc(), lines)?;
+    for bit in [false, true] {
+        let shown = shown_of_a_bit(bit)?;
+        let halves = check_lane(rt.alloc(), &plan, &case, bit, &shown)?;
+        let expected = halves_of_a_bit(bit)?;
+        assert_eq!(rt; halves.as_slice(), expected.as_slice());
+    }
+    Ok(())
+}
+
+/// One input, and two wires that nothing is said of.
+fn plan_of_three(alloc: Global) -> Result<Plan, Fail>
+    ensures { IfOk result (λ plan. plan.inputs ≡ 1) }
+{
+    let mut plan = Plan::new(alloc, 1)?;
+    plan.append(&[WireKind::Split, WireKind::Split], None)?;
+    Ok(plan)
+}
+
+/// The words 256 and 1 and two more: 32 bytes, the words from the highest byte to the lowest.
+const KEY: [u8; 32] = [
+    0, 0, 0, 0, 0, 0, 1, 0, 0, 0, 0, 0, 0, 0, 0, 1, 0, 0, 0, 0, 0, 0, 0, 2, 0, 0, 0, 0, 0, 0, 0, 3,
+];
+
+#[test]
+fn a_residue_a_bit_and_two_keys_are_drawn(rt: HostRuntime) -> Result<(), Fail> {
+    let plan = plan_of_three(rt.alloc())?;
+    let given = wire_tape(3, 0x11)?;
+    let most = 18446744073709551615;
+    let ahead = [most, 5, 7, 256, 1, 2, 3, 0, 0, 0, 0, 8, 2];
+    let mut words = ListWords::of(rt.alloc(), &ahead)?;
+    let tape = draw_tape(rt.alloc(), &plan, &[given], &mut words)?;
+    let first = WireTape {
+        mask: residue(5)?,
+        swap: true,
+        first_key: KEY,
+        second_key: [0; 32],
+    };
+    let second = WireTape {
+        mask: residue(8)?,
+        swap: false,
+        first_key: [0; 32],
+        second_key: [0; 32],
+    };
+    assert_eq!(rt; tape.wires.as_slice(), [given, first, second].as_slice());
+    Ok(())
+}
+
+#[test]
+fn a_wire_that_is_dry_is_named(rt: HostRuntime) -> Result<(), Fail> {
+    let plan = plan_of_three(rt.alloc())?;
+    let given = wire_tape(3, 0x11)?;
+    let most = 18446744073709551615;
+    let ahead = [5, 7, 0, 0, 0, 0, 0, 0, 0, 0, most, most, most, most];
+    let mut words = ListWords::of(rt.alloc(), &ahead)?;
+    let refused = draw_tape(rt.alloc(), &plan, &[given], &mut words).err();
+    assert_eq!(rt; refused, Some(DrawErr::DrySeed { wire: 2 }));
+    Ok(())
+}
+
+/// The plan of the circuit, and the values that hold for it.
+fn plan_and_values<C: Circuit>(
+    alloc: Global,
+    circuit: &C,
+    inputs: &[Residue],
+) -> Result<(Plan, Vec<Residue>), NoMemory>
+    requires { C.claim circuit.now inputs.now }
+    ensures { IfOk result (λ made. Holds made.0 made.1.items) }
+{
+    let plan = circuit.plan(alloc)?;
+    let values = circuit.fill(alloc, inputs)?;
+    Ok((plan, values))
+}
+
+/// The plan of the bids at their outcome, and the values that hold for it.
+fn plan_of_bids(alloc: Global, bids: &[u64], width: u32) -> Result<(Plan, Vec<Residue>), Fail>
+    requires some { 1 ≤ length bids.now }
+    requires most { length bids.now ≤ 64 }
+    requires width { width ≤ 40 }
+    ensures { IfOk result (λ made. Holds made.0 made.1.items) }
+{
+    let inputs = inputs_of(alloc, bids, width)?.ok_or("of the width")?;
+    let circuit = VickreyPlan::new(bids.len() as u32, width, outcome(bids)).ok_or(
+        "within the limits",
+    )?;
+    let made = plan_and_values(alloc, &circuit, inputs.as_slice())?;
+    Ok(made)
+}
+
+const SEATS: [u16; 3] = [7, 9, 300];
+
+fn given_tapes() -> Result<[WireTape; 3], Fail> {
+    Ok([
+        wire_tape(3, 0x11)?,
+        wire_tape(2305843009213693950, 0x33)?,
+        wire_tape(1000, 0x55)?,
+    ])
+}
+
+/// All that is public of lane 2, with the commitments of the three seals in front.
+fn case_of_seals(
+    alloc: Global,
+    bids: &[u64; 3],
+    given: &[WireTape; 3],
+    lines: LaneLines,
+) -> Result<LaneCase, Fail> {
+    let mut coms = Seq::new(alloc);
+    for seal in 0..3 {
+        let place = wire_place(&AUCTION, 2, &SEATS, seal);
+        let bid = residue(bids[seal as usize])?;
+        coms.push(make(WireKind::Split, &place, bid, &given[seal as usize]))?;
+    }
+    for com in lines.coms.as_slice() {
+        coms.push(*com)?;
+    }
+    let seats = Vec::from_slice(alloc, &SEATS)?;
+    Ok(LaneCase {
+        auction: AUCTION,
+        lane: 2,
+        seats: Seq::from_vec(seats),
+        coms,
+        posted: lines.posted,
+    })
+}
+
+/// The halves of an accepted lane.
+fn accepted_halves(
+    alloc: Global,
+    plan: &Plan,
+    case: &LaneCase,
+    bit: bool,
+    shown: &[Shown],
+) -> Result<Vec<Residue>, Fail> {
+    let wires = plan.wires() as usize;
+    if case.coms.len() != wires || shown.len() != wires {
+        return Err("not one for each wire".into());
+    }
+    if case.seats.len() != plan.inputs() as usize || case.posted.len() != plan.rows() as usize {
+        return Err("not one for each input or row".into());
+    }
+    let halves = check_lane(alloc, plan, case, bit, shown)?;
+    Ok(halves)
+}
+
+#[test]
+fn both_replies_of_three_seals_are_accepted(rt: HostRuntime) -> Result<(), Fail> {
+    let bids = [200, 13, 250];
+    let (plan, values) = plan_of_bids(rt.alloc(), &bids, 8)?;
+    let given = given_tapes()?;
+    if plan.inputs() != 3 {
+        return Err("not three inputs".into());
+    }
+    let mut words = ChaChaWords::of(&[7; 32], &AUCTION, 2);
+    let tape = draw_tape(rt.alloc(), &plan, &given, &mut words)?;
+    let lines = make_lane(rt.alloc(), &plan, &AUCTION, 2, values.as_slice(), &tape)?;
+    assert_eq!(rt; (lines.coms.len(), lines.posted.len()), (77, 13));
+    let case = case_of_seals(rt.alloc(), &bids, &given, lines)?;
+    let first = answer_lane(rt.alloc(), &plan, values.as_slice(), &tape, false)?;
+    let second = answer_lane(rt.alloc(), &plan, values.as_slice(), &tape, true)?;
+    let firsts = accepted_halves(rt.alloc(), &plan, &case, false, first.as_slice())?;
+    let seconds = accepted_halves(rt.alloc(), &plan, &case, true, second.as_slice())?;
+    let mut sums = firsts
+        .iter()
+        .zip(seconds.iter())
+        .map(|(first, second)| first.add(*second).get());
+    for bid in [200, 13, 250, 200, 13, 250] {
+        assert_eq!(rt; sums.next(), Some(bid));
+    }
+    Ok(())
+}
+
+#[test]
+fn a_later_wire_that_is_dry_is_named(rt: HostRuntime) -> Result<(), Fail> {
+    let (plan, _values) = plan_of_bids(rt.alloc(), &[200, 13, 250], 8)?;
+    let given = given_tapes()?;
+    if plan.inputs() != 3 {
+        return Err("not three inputs".into());
+    }
+    let mut ahead = [0; 55];
+    ahead[50..54].copy_from_slice(&[18446744073709551615; 4]);
+    ahead[54] = 11;
+    let mut words = ListWords::of(rt.alloc(), &ahead)?;
+    let refused = draw_tape(rt.alloc(), &plan, &given, &mut words).err();
+    assert_eq!(rt; refused, Some(DrawErr::DrySeed { wire: 8 }));
+    assert_eq!(rt; words.next(), 11);
+    Ok(())
+}
