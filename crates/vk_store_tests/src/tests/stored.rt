@@ -1,10 +1,9 @@
-ghost use Rattle.std.specs.Prelude.{◌≤◌, length, IsTrue, IfOk, IfSome};
-ghost use Rattle.sqlite_disk.specs.Memory.{memory_is_usable};
+ghost use Rattle.std.specs.Prelude.{◌≤◌, length, IfOk, IfSome};
 ghost use Rattle.vk_keeper.specs.Auctions.{IsAuction};
 ghost use Rattle.vk_seal.specs.Values.{IsSeal, IsSecret};
 
 use sqlite::{Alter, Connection, Error, FileStore, Files, Options};
-use sqlite_disk::{Crash, Fuse, Memory};
+use sqlite_disk::{Crash, Disk, Fuse, Memory};
 use std::alloc::Global;
 use std::process::Abort;
 use std::test::Fail;
@@ -93,26 +92,36 @@ fn kept_bits(phase: &Phase) -> Bits {
 
 const FIRST: Bits = (Some(false), Some(true));
 
-// ---- over a file, closed and opened again
+// ---- over files, closed and opened again
 
-fn opened(alloc: Global, db: Memory) -> Result<Connection<FileStore<Memory>>, Fail>
-    requires { IsTrue (memory_is_usable db) }
-{
-    let log = Memory::new(alloc);
-    match Connection::open_files(alloc, Files { log, db }, Options::new(1)) {
-        Ok(connection) => Ok(connection),
-        Err((_, _)) => Err(Fail::from("not opened")),
-    }
+/// A store over files, which it gives back where it is closed.
+trait OverFiles: Alter + Drop {
+    type Files: Drop;
+
+    /// The files where they are not opened.
+    fn opened(alloc: Global, files: Self::Files) -> Result<Connection<Self>, Self::Files>;
+
+    /// The files, and whether no call was refused.
+    fn closed(connection: Connection<Self>) -> (Self::Files, bool);
 }
 
-fn closed(connection: Connection<FileStore<Memory>>) -> Result<Memory, Fail>
-    ensures { IfOk result (λ db. IsTrue (memory_is_usable db)) }
-{
-    match connection.close_files() {
-        Ok(Files { log: _, db }) => Ok(db),
-        Err((_, store)) => {
-            drop(store.close());
-            Err(Fail::from("not closed"))
+impl<D: Disk + Drop> OverFiles for FileStore<D> {
+    type Files = Files<D>;
+
+    fn opened(alloc: Global, files: Files<D>) -> Result<Connection<FileStore<D>>, Files<D>> {
+        if !files.log.may_be_used() || !files.db.may_be_used() {
+            return Err(files);
+        }
+        match Connection::open_files(alloc, files, Options::new(1)) {
+            Ok(connection) => Ok(connection),
+            Err((_, left)) => Err(left.into_files()),
+        }
+    }
+
+    fn closed(connection: Connection<FileStore<D>>) -> (Files<D>, bool) {
+        match connection.close_files() {
+            Ok(files) => (files, true),
+            Err((_, store)) => (store.close(), false),
         }
     }
 }
@@ -128,32 +137,43 @@ fn over<S: Alter + Drop>(
     }
 }
 
-fn kept_in<S: Alter + Drop>(
-    alloc: Global,
-    connection: Connection<S>,
-) -> Result<SqlKeeper<S>, Fail> {
+/// A keeper over files.
+fn kept_in<S: OverFiles>(alloc: Global, files: S::Files) -> Result<SqlKeeper<S>, Fail> {
+    let Ok(connection) = S::opened(alloc, files) else {
+        return Err(Fail::from("not opened"));
+    };
     match over(alloc, connection) {
         Ok(keeper) => Ok(keeper),
         Err(_) => Err(Fail::from("refused")),
     }
 }
 
-type FileKeeper = SqlKeeper<FileStore<Memory>>;
-
-/// A keeper over a store without tables.
-fn empty(alloc: Global) -> Result<FileKeeper, Fail> {
-    kept_in(alloc, opened(alloc, Memory::new(alloc))?)
+fn files_of<S: OverFiles>(keeper: SqlKeeper<S>) -> Result<S::Files, Fail> {
+    match S::closed(keeper.close()) {
+        (files, true) => Ok(files),
+        (_, false) => Err(Fail::from("not closed")),
+    }
 }
 
-fn reopened(alloc: Global, keeper: FileKeeper) -> Result<FileKeeper, Fail> {
-    let connection = opened(alloc, closed(keeper.close())?)?;
-    kept_in(alloc, connection)
+fn reopened<S: OverFiles>(alloc: Global, keeper: SqlKeeper<S>) -> Result<SqlKeeper<S>, Fail> {
+    let files = files_of(keeper)?;
+    kept_in(alloc, files)
 }
 
-#[test]
-fn the_first_challenge_stays_over_closing_and_opening(rt: HostRuntime) -> Result<(), Fail> {
-    let alloc = rt.alloc();
-    let mut keeper = empty(alloc)?;
+/// Files of a store without tables.
+fn blank(alloc: Global) -> Files<Memory> {
+    Files {
+        log: Memory::new(alloc),
+        db: Memory::new(alloc),
+    }
+}
+
+fn try_challenges<S: OverFiles>(
+    rt: &impl Abort,
+    alloc: Global,
+    files: S::Files,
+) -> Result<(), Fail> {
+    let mut keeper: SqlKeeper<S> = kept_in(alloc, files)?;
     assert!(rt; announce(alloc, &mut keeper));
     let mut keeper = reopened(alloc, keeper)?;
     assert_eq!(rt; submit(alloc, &mut keeper, 300, 7)?, 1);
@@ -169,6 +189,11 @@ fn the_first_challenge_stays_over_closing_and_opening(rt: HostRuntime) -> Result
     Ok(())
 }
 
+#[test]
+fn the_first_challenge_stays_over_closing_and_opening(rt: HostRuntime) -> Result<(), Fail> {
+    try_challenges::<FileStore<Memory>>(&rt, rt.alloc(), blank(rt.alloc()))
+}
+
 // ---- over files that stop
 
 /// The command that is stopped.
@@ -178,18 +203,16 @@ enum Step {
     Answer,
 }
 
-/// The file of an auction that the command may come to next.
-fn prepared(alloc: Global, step: Step) -> Result<Memory, Fail>
-    ensures { IfOk result (λ db. IsTrue (memory_is_usable db)) }
-{
-    let mut keeper = empty(alloc)?;
+/// The files of an auction that the command may come to next.
+fn prepared<S: OverFiles>(alloc: Global, files: S::Files, step: Step) -> Result<S::Files, Fail> {
+    let mut keeper: SqlKeeper<S> = kept_in(alloc, files)?;
     let _announced = announce(alloc, &mut keeper);
     let _first = submit(alloc, &mut keeper, 300, 7)?;
     let _second = submit(alloc, &mut keeper, 65535, 15)?;
     if let Step::Answer = step {
         let _proved = prove(alloc, &mut keeper);
     }
-    closed(keeper.close())
+    files_of(keeper)
 }
 
 /// Whether the command was done.
@@ -213,90 +236,85 @@ fn is_after(auction: &Auction, step: Step) -> Option<bool> {
     }
 }
 
-/// What became of a command over files that take so many calls.
+/// What became of a command.
+#[derive(Clone, Copy)]
 struct Attempt {
-    /// The command was done.
+    /// It was done.
     done: bool,
-    /// No call was refused.
+    /// No call of the files was refused.
     whole: bool,
-    files: Files<Fuse<Memory>>,
 }
 
-fn attempted(alloc: Global, db: Memory, calls: (u64, u64), step: Step) -> Result<Attempt, Fail>
-    requires { IsTrue (memory_is_usable db) }
-{
-    let log = Fuse::new(Memory::new(alloc), calls.0);
-    let db = Fuse::new(db, calls.1);
-    match Connection::open_files(alloc, Files { log, db }, Options::new(1)) {
-        Ok(connection) => attempted_over(alloc, connection, step),
-        Err((_, left)) => Ok(Attempt {
-            done: false,
-            whole: false,
-            files: left.into_files(),
-        }),
-    }
-}
+const NOT_BEGUN: Attempt = Attempt {
+    done: false,
+    whole: false,
+};
 
-fn attempted_over(
+/// Does the command over files that may stop, and gives them back.
+fn attempted<S: OverFiles>(
     alloc: Global,
-    connection: Connection<FileStore<Fuse<Memory>>>,
+    files: S::Files,
     step: Step,
-) -> Result<Attempt, Fail> {
+) -> Result<(Attempt, S::Files), Fail> {
+    let connection = match S::opened(alloc, files) {
+        Ok(connection) => connection,
+        Err(files) => return Ok((NOT_BEGUN, files)),
+    };
     let (done, connection) = match SqlKeeper::over(alloc, connection) {
         Ok(mut keeper) => (does(alloc, &mut keeper, step)?, keeper.close()),
         Err((_, connection)) => (false, connection),
     };
-    match connection.close_files() {
-        Ok(files) => Ok(Attempt {
-            done,
-            whole: done,
-            files,
-        }),
-        Err((_, store)) => Ok(Attempt {
-            done,
-            whole: false,
-            files: store.close(),
-        }),
-    }
+    let (files, closed) = S::closed(connection);
+    let whole = done && closed;
+    Ok((Attempt { done, whole }, files))
 }
 
 /// Whether the auction was as before or as after the command once the machine came back, as after it
-/// where it was done, and as after it once it was done again. The files are those that it left.
-fn comes_back(alloc: Global, attempt: Attempt, step: Step) -> Result<bool, Fail> {
-    let Attempt {
-        done,
-        whole: _,
-        mut files,
-    } = attempt;
-    files.log.crash();
-    files.db.crash();
-    let Ok(connection) = Connection::open_files(alloc, files, Options::new(1)) else {
-        return Ok(false);
-    };
-    let mut keeper = kept_in(alloc, connection)?;
+/// where it was done, and as after it once it was done again.
+fn comes_back<S: OverFiles>(
+    alloc: Global,
+    files: S::Files,
+    attempt: Attempt,
+    step: Step,
+) -> Result<bool, Fail> {
+    let mut keeper: SqlKeeper<S> = kept_in(alloc, files)?;
     let found_then = found(&mut keeper)?.ok_or("lost")?;
     let Some(after) = is_after(&found_then, step) else {
         return Ok(false);
     };
     let again = does(alloc, &mut keeper, step)?;
     let found_now = found(&mut keeper)?.ok_or("lost")?;
-    Ok((after || !done) && (again || after) && is_after(&found_now, step) == Some(true))
+    let kept = after || !attempt.done;
+    Ok(kept && (again || after) && is_after(&found_now, step) == Some(true))
 }
 
-/// How many calls of the log, or of the store itself, are refused one after another until none is.
-fn stops(alloc: Global, step: Step, of_log: bool) -> Result<Option<u64>, Fail> {
+/// These files, which take so many calls each.
+fn stopping(files: Files<Memory>, of_log: u64, of_db: u64) -> Files<Fuse<Memory>> {
+    Files {
+        log: Fuse::new(files.log, of_log),
+        db: Fuse::new(files.db, of_db),
+    }
+}
+
+type Stopping = FileStore<Fuse<Memory>>;
+
+/// How many calls of the log, or of the store itself, are refused one after another until none is. None
+/// where the auction is neither as before nor as after.
+fn stops(alloc: Global, step: Step, is_log: bool) -> Result<Option<u64>, Fail> {
     for calls in 0..500 {
-        let each = if of_log {
-            (calls, u64::MAX)
+        let files = prepared::<FileStore<Memory>>(alloc, blank(alloc), step)?;
+        let files = if is_log {
+            stopping(files, calls, u64::MAX)
         } else {
-            (u64::MAX, calls)
+            stopping(files, u64::MAX, calls)
         };
-        let attempt = attempted(alloc, prepared(alloc, step)?, each, step)?;
-        let whole = attempt.whole;
-        if !comes_back(alloc, attempt, step)? {
+        let (attempt, mut files) = attempted::<Stopping>(alloc, files, step)?;
+        files.log.crash();
+        files.db.crash();
+        if !comes_back::<Stopping>(alloc, files, attempt, step)? {
             return Ok(None);
         }
-        if whole {
+        if attempt.whole {
             return Ok(Some(calls));
         }
     }
@@ -308,8 +326,8 @@ fn a_store_that_stops_leaves_the_auction_as_before_or_as_after(
     rt: HostRuntime,
 ) -> Result<(), Fail> {
     for step in [Step::Prove, Step::Answer] {
-        for of_log in [true, false] {
-            let calls = stops(rt.alloc(), step, of_log)?.ok_or("neither as before nor as after")?;
+        for is_log in [true, false] {
+            let calls = stops(rt.alloc(), step, is_log)?.ok_or("neither as before nor as after")?;
             assert!(rt; 2 < calls);
         }
     }
@@ -345,10 +363,8 @@ fn first_seat(auction: &Auction) -> Option<(u16, u64)> {
     Some((row.seal.seat, row.secret.bid))
 }
 
-#[test]
-fn an_auction_takes_the_place_of_another(rt: HostRuntime) -> Result<(), Fail> {
-    let alloc = rt.alloc();
-    let mut keeper = empty(alloc)?;
+fn try_another<S: OverFiles>(rt: &impl Abort, alloc: Global, files: S::Files) -> Result<(), Fail> {
+    let mut keeper: SqlKeeper<S> = kept_in(alloc, files)?;
     assert!(rt; found(&mut keeper)?.is_none());
     keeper.put(worked(alloc)?)?;
     let mut other = MemKeeper::new(alloc);
@@ -363,6 +379,11 @@ fn an_auction_takes_the_place_of_another(rt: HostRuntime) -> Result<(), Fail> {
     Ok(())
 }
 
+#[test]
+fn an_auction_takes_the_place_of_another(rt: HostRuntime) -> Result<(), Fail> {
+    try_another::<FileStore<Memory>>(&rt, rt.alloc(), blank(rt.alloc()))
+}
+
 /// Runs statements on the store of a keeper, and makes a keeper of it again.
 fn changed<S: Alter + Drop>(
     alloc: Global,
@@ -374,12 +395,13 @@ fn changed<S: Alter + Drop>(
     Ok(over(alloc, connection))
 }
 
-/// Why no keeper is made over a store that such statements changed.
-fn refusal_of<S: Alter + Drop>(
+/// Why no keeper is made over a new store that such statements changed.
+fn refusal_of<S: OverFiles>(
     alloc: Global,
-    keeper: SqlKeeper<S>,
+    files: S::Files,
     statements: &str,
 ) -> Result<Option<OpenErr>, Fail> {
+    let keeper: SqlKeeper<S> = kept_in(alloc, files)?;
     let made = changed(alloc, keeper, statements)?;
     Ok(made.err())
 }
@@ -409,11 +431,11 @@ fn a_store_of_another_version_is_refused(rt: HostRuntime) -> Result<(), Fail> {
         ("UPDATE about SET version = -1", 1, -1),
     ];
     for (statements, rows, number) in table {
-        let refusal = refusal_of(alloc, empty(alloc)?, statements)?;
+        let refusal = refusal_of::<FileStore<Memory>>(alloc, blank(alloc), statements)?;
         assert_eq!(rt; refusal, Some(OpenErr::Version { rows, number }));
     }
     for statements in ["DROP TABLE about", "UPDATE about SET version = 'x'"] {
-        let refusal = refusal_of(alloc, empty(alloc)?, statements)?;
+        let refusal = refusal_of::<FileStore<Memory>>(alloc, blank(alloc), statements)?;
         assert_eq!(rt; refusal, Some(OpenErr::Refused));
     }
     Ok(())
@@ -452,13 +474,14 @@ const DAMAGES: [&str; 28] = [
 ];
 
 /// The answers after each damage. Each is mended before the next one by keeping the auction anew.
-fn answers_of<S: Alter + Drop>(
+fn answers_of<S: OverFiles>(
     alloc: Global,
-    mut keeper: SqlKeeper<S>,
+    files: S::Files,
     auction: &Auction,
 ) -> Result<Vec<Option<OutsideErr>>, Fail>
     requires { IsAuction auction.now }
 {
+    let mut keeper: SqlKeeper<S> = kept_in(alloc, files)?;
     let mut answers = Vec::new(alloc);
     for damage in DAMAGES {
         keeper.put(auction.copy(alloc)?)?;
@@ -474,7 +497,7 @@ fn answers_of<S: Alter + Drop>(
 #[test]
 fn rows_that_are_no_auction_are_a_fault(rt: HostRuntime) -> Result<(), Fail> {
     let alloc = rt.alloc();
-    let answers = answers_of(alloc, empty(alloc)?, &worked(alloc)?)?;
+    let answers = answers_of::<FileStore<Memory>>(alloc, blank(alloc), &worked(alloc)?)?;
     let (last, faults) = answers.as_slice().split_last().ok_or("no answers")?;
     assert_eq!(rt; faults.len(), DAMAGES.len());
     assert!(rt;
