@@ -105,24 +105,53 @@ trait OverFiles: Alter + Drop {
     fn closed(connection: Connection<Self>) -> (Self::Files, bool);
 }
 
-impl<D: Disk + Drop> OverFiles for FileStore<D> {
-    type Files = Files<D>;
+fn opened<D: Disk + Drop>(
+    alloc: Global,
+    files: Files<D>,
+) -> Result<Connection<FileStore<D>>, Files<D>> {
+    if !files.log.may_be_used() || !files.db.may_be_used() {
+        return Err(files);
+    }
+    match Connection::open_files(alloc, files, Options::new(1)) {
+        Ok(connection) => Ok(connection),
+        Err((_, left)) => Err(left.into_files()),
+    }
+}
 
-    fn opened(alloc: Global, files: Files<D>) -> Result<Connection<FileStore<D>>, Files<D>> {
-        if !files.log.may_be_used() || !files.db.may_be_used() {
-            return Err(files);
-        }
-        match Connection::open_files(alloc, files, Options::new(1)) {
-            Ok(connection) => Ok(connection),
-            Err((_, left)) => Err(left.into_files()),
-        }
+fn closed<D: Disk + Drop>(connection: Connection<FileStore<D>>) -> (Files<D>, bool) {
+    match connection.close_files() {
+        Ok(files) => (files, true),
+        Err((_, store)) => (store.close(), false),
+    }
+}
+
+impl OverFiles for FileStore<Memory> {
+    type Files = Files<Memory>;
+
+    fn opened(alloc: Global, files: Files<Memory>) -> Result<Connection<Self>, Files<Memory>> {
+        opened(alloc, files)
     }
 
-    fn closed(connection: Connection<FileStore<D>>) -> (Files<D>, bool) {
-        match connection.close_files() {
-            Ok(files) => (files, true),
-            Err((_, store)) => (store.close(), false),
-        }
+    fn closed(connection: Connection<Self>) -> (Files<Memory>, bool) {
+        closed(connection)
+    }
+}
+
+/// A store whose files refuse all calls after some.
+type Stopping = FileStore<Fuse<Memory>>;
+
+impl OverFiles for Stopping {
+    type Files = Files<Fuse<Memory>>;
+
+    fn opened(
+        alloc: Global,
+        files: Files<Fuse<Memory>>,
+    ) -> Result<Connection<Self>, Files<Fuse<Memory>>> {
+        opened(alloc, files)
+    }
+
+    fn closed(connection: Connection<Self>) -> (Files<Fuse<Memory>>, bool) {
+        closed(connection)
     }
 }
 
@@ -295,8 +324,6 @@ fn stopping(files: Files<Memory>, of_log: u64, of_db: u64) -> Files<Fuse<Memory>
         db: Fuse::new(files.db, of_db),
     }
 }
-
-type Stopping = FileStore<Fuse<Memory>>;
 
 /// How many calls of the log, or of the store itself, are refused one after another until none is. None
 /// where the auction is neither as before nor as after.
