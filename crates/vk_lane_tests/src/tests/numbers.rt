@@ -40,7 +40,7 @@ pub fn inputs_of(alloc: Global, bids: &[u64], width: u32) -> Result<Option<Vec<R
         if *bid >= Residue::pow2(width).get() {
             return Ok(None);
         }
-        inputs.push(residue_or_zero(*bid))?;
+        inputs.push(Residue::new(*bid).unwrap_or(Residue::ZERO))?;
     }
     Ok(Some(inputs))
 }
