@@ -94,17 +94,7 @@ const FIRST: Bits = (Some(false), Some(true));
 
 // ---- over files, closed and opened again
 
-/// A store over files, which it gives back where it is closed.
-trait OverFiles: Alter + Drop {
-    type Files: Drop;
-
-    /// The files where they are not opened.
-    fn opened(alloc: Global, files: Self::Files) -> Result<Connection<Self>, Self::Files>;
-
-    /// The files, and whether no call was refused.
-    fn closed(connection: Connection<Self>) -> (Self::Files, bool);
-}
-
+/// A store over files, or these where they are not opened.
 fn opened<D: Disk + Drop>(
     alloc: Global,
     files: Files<D>,
@@ -118,40 +108,11 @@ fn opened<D: Disk + Drop>(
     }
 }
 
+/// The files of a store, and whether no call was refused.
 fn closed<D: Disk + Drop>(connection: Connection<FileStore<D>>) -> (Files<D>, bool) {
     match connection.close_files() {
         Ok(files) => (files, true),
         Err((_, store)) => (store.close(), false),
-    }
-}
-
-impl OverFiles for FileStore<Memory> {
-    type Files = Files<Memory>;
-
-    fn opened(alloc: Global, files: Files<Memory>) -> Result<Connection<Self>, Files<Memory>> {
-        opened(alloc, files)
-    }
-
-    fn closed(connection: Connection<Self>) -> (Files<Memory>, bool) {
-        closed(connection)
-    }
-}
-
-/// A store whose files refuse all calls after some.
-type Stopping = FileStore<Fuse<Memory>>;
-
-impl OverFiles for Stopping {
-    type Files = Files<Fuse<Memory>>;
-
-    fn opened(
-        alloc: Global,
-        files: Files<Fuse<Memory>>,
-    ) -> Result<Connection<Self>, Files<Fuse<Memory>>> {
-        opened(alloc, files)
-    }
-
-    fn closed(connection: Connection<Self>) -> (Files<Fuse<Memory>>, bool) {
-        closed(connection)
     }
 }
 
@@ -167,60 +128,89 @@ fn over<S: Alter + Drop>(
 }
 
 /// A keeper over files.
-fn kept_in<S: OverFiles>(alloc: Global, files: S::Files) -> Result<SqlKeeper<S>, Fail> {
-    let Ok(connection) = S::opened(alloc, files) else {
-        return Err(Fail::from("not opened"));
-    };
-    match over(alloc, connection) {
-        Ok(keeper) => Ok(keeper),
-        Err(_) => Err(Fail::from("refused")),
-    }
+fn kept_in<D: Disk + Drop>(
+    alloc: Global,
+    files: Files<D>,
+) -> Result<SqlKeeper<FileStore<D>>, Fail> {
+    let connection = opened(alloc, files).map_err(|_| Fail::from("not opened"))?;
+    over(alloc, connection).map_err(|_| Fail::from("refused"))
 }
 
-fn files_of<S: OverFiles>(keeper: SqlKeeper<S>) -> Result<S::Files, Fail> {
-    match S::closed(keeper.close()) {
+/// The files of a keeper, all of whose calls were done.
+fn files_of<D: Disk + Drop>(keeper: SqlKeeper<FileStore<D>>) -> Result<Files<D>, Fail> {
+    match closed(keeper.close()) {
         (files, true) => Ok(files),
         (_, false) => Err(Fail::from("not closed")),
     }
 }
 
-fn reopened<S: OverFiles>(alloc: Global, keeper: SqlKeeper<S>) -> Result<SqlKeeper<S>, Fail> {
+fn reopened<D: Disk + Drop>(
+    alloc: Global,
+    keeper: SqlKeeper<FileStore<D>>,
+) -> Result<SqlKeeper<FileStore<D>>, Fail> {
     let files = files_of(keeper)?;
     kept_in(alloc, files)
 }
 
-/// Files of a store without tables.
-fn blank(alloc: Global) -> Files<Memory> {
-    Files {
-        log: Memory::new(alloc),
-        db: Memory::new(alloc),
-    }
+/// A keeper over a store without tables.
+fn empty(alloc: Global) -> Result<SqlKeeper<FileStore<Memory>>, Fail> {
+    let log = Memory::new(alloc);
+    let db = Memory::new(alloc);
+    kept_in(alloc, Files { log, db })
 }
 
-fn try_challenges<S: OverFiles>(
+// What follows takes a keeper and gives it back, so that no store of files is dropped: to prove that is dear.
+
+fn try_announce<S: Alter + Drop>(
     rt: &impl Abort,
     alloc: Global,
-    files: S::Files,
-) -> Result<(), Fail> {
-    let mut keeper: SqlKeeper<S> = kept_in(alloc, files)?;
+    mut keeper: SqlKeeper<S>,
+) -> Result<SqlKeeper<S>, Fail> {
     assert!(rt; announce(alloc, &mut keeper));
-    let mut keeper = reopened(alloc, keeper)?;
+    Ok(keeper)
+}
+
+fn try_submit<S: Alter + Drop>(
+    rt: &impl Abort,
+    alloc: Global,
+    mut keeper: SqlKeeper<S>,
+) -> Result<SqlKeeper<S>, Fail> {
     assert_eq!(rt; submit(alloc, &mut keeper, 300, 7)?, 1);
     assert_eq!(rt; submit(alloc, &mut keeper, 65535, 15)?, 2);
-    let mut keeper = reopened(alloc, keeper)?;
+    Ok(keeper)
+}
+
+fn try_prove<S: Alter + Drop>(
+    rt: &impl Abort,
+    alloc: Global,
+    mut keeper: SqlKeeper<S>,
+) -> Result<SqlKeeper<S>, Fail> {
     assert_eq!(rt; prove(alloc, &mut keeper), Some((2, 7)));
-    let mut keeper = reopened(alloc, keeper)?;
-    assert_eq!(rt; answer(alloc, &mut keeper, "01")?, Ok(FIRST));
-    let mut keeper = reopened(alloc, keeper)?;
-    assert_eq!(rt; answer(alloc, &mut keeper, "11")?, Err(FIRST));
-    let mut keeper = reopened(alloc, keeper)?;
-    assert_eq!(rt; answer(alloc, &mut keeper, "01")?, Ok(FIRST));
-    Ok(())
+    Ok(keeper)
+}
+
+fn try_answer<S: Alter + Drop>(
+    rt: &impl Abort,
+    alloc: Global,
+    mut keeper: SqlKeeper<S>,
+    bits: &str,
+    said: Result<Bits, Bits>,
+) -> Result<SqlKeeper<S>, Fail> {
+    assert_eq!(rt; answer(alloc, &mut keeper, bits)?, said);
+    Ok(keeper)
 }
 
 #[test]
 fn the_first_challenge_stays_over_closing_and_opening(rt: HostRuntime) -> Result<(), Fail> {
-    try_challenges::<FileStore<Memory>>(&rt, rt.alloc(), blank(rt.alloc()))
+    let alloc = rt.alloc();
+    let keeper = try_announce(&rt, alloc, empty(alloc)?)?;
+    let keeper = try_submit(&rt, alloc, reopened(alloc, keeper)?)?;
+    let keeper = try_prove(&rt, alloc, reopened(alloc, keeper)?)?;
+    let keeper = try_answer(&rt, alloc, reopened(alloc, keeper)?, "01", Ok(FIRST))?;
+    let keeper = try_answer(&rt, alloc, reopened(alloc, keeper)?, "11", Err(FIRST))?;
+    let keeper = try_answer(&rt, alloc, reopened(alloc, keeper)?, "01", Ok(FIRST))?;
+    let _files = files_of(keeper)?;
+    Ok(())
 }
 
 // ---- over files that stop
@@ -232,16 +222,19 @@ enum Step {
     Answer,
 }
 
-/// The files of an auction that the command may come to next.
-fn prepared<S: OverFiles>(alloc: Global, files: S::Files, step: Step) -> Result<S::Files, Fail> {
-    let mut keeper: SqlKeeper<S> = kept_in(alloc, files)?;
+/// An auction that the command may come to next.
+fn prepared<S: Alter + Drop>(
+    alloc: Global,
+    mut keeper: SqlKeeper<S>,
+    step: Step,
+) -> Result<SqlKeeper<S>, Fail> {
     let _announced = announce(alloc, &mut keeper);
     let _first = submit(alloc, &mut keeper, 300, 7)?;
     let _second = submit(alloc, &mut keeper, 65535, 15)?;
     if let Step::Answer = step {
         let _proved = prove(alloc, &mut keeper);
     }
-    files_of(keeper)
+    Ok(keeper)
 }
 
 /// Whether the command was done.
@@ -265,63 +258,79 @@ fn is_after(auction: &Auction, step: Step) -> Option<bool> {
     }
 }
 
+/// Whether the command was done over a store that may stop.
+fn attempted<S: Alter + Drop>(
+    alloc: Global,
+    connection: Connection<S>,
+    step: Step,
+) -> Result<(bool, Connection<S>), Fail> {
+    match SqlKeeper::over(alloc, connection) {
+        Ok(mut keeper) => Ok((does(alloc, &mut keeper, step)?, keeper.close())),
+        Err((_, connection)) => Ok((false, connection)),
+    }
+}
+
 /// What became of a command.
-#[derive(Clone, Copy)]
 struct Attempt {
     /// It was done.
     done: bool,
     /// No call of the files was refused.
     whole: bool,
+    files: Files<Fuse<Memory>>,
 }
 
-const NOT_BEGUN: Attempt = Attempt {
-    done: false,
-    whole: false,
-};
-
-/// Does the command over files that may stop, and gives them back.
-fn attempted<S: OverFiles>(
-    alloc: Global,
-    files: S::Files,
-    step: Step,
-) -> Result<(Attempt, S::Files), Fail> {
-    let connection = match S::opened(alloc, files) {
-        Ok(connection) => connection,
-        Err(files) => return Ok((NOT_BEGUN, files)),
-    };
-    let (done, connection) = match SqlKeeper::over(alloc, connection) {
-        Ok(mut keeper) => (does(alloc, &mut keeper, step)?, keeper.close()),
-        Err((_, connection)) => (false, connection),
-    };
-    let (files, closed) = S::closed(connection);
-    let whole = done && closed;
-    Ok((Attempt { done, whole }, files))
+fn attempted_in(alloc: Global, files: Files<Fuse<Memory>>, step: Step) -> Result<Attempt, Fail> {
+    match opened(alloc, files) {
+        Ok(connection) => {
+            let (done, connection) = attempted(alloc, connection, step)?;
+            let (files, closed) = closed(connection);
+            let whole = done && closed;
+            Ok(Attempt { done, whole, files })
+        }
+        Err(files) => Ok(Attempt {
+            done: false,
+            whole: false,
+            files,
+        }),
+    }
 }
 
 /// Whether the auction was as before or as after the command once the machine came back, as after it
 /// where it was done, and as after it once it was done again.
-fn comes_back<S: OverFiles>(
+fn comes_back<S: Alter + Drop>(
     alloc: Global,
-    files: S::Files,
-    attempt: Attempt,
+    mut keeper: SqlKeeper<S>,
+    done: bool,
     step: Step,
 ) -> Result<bool, Fail> {
-    let mut keeper: SqlKeeper<S> = kept_in(alloc, files)?;
     let found_then = found(&mut keeper)?.ok_or("lost")?;
     let Some(after) = is_after(&found_then, step) else {
         return Ok(false);
     };
     let again = does(alloc, &mut keeper, step)?;
     let found_now = found(&mut keeper)?.ok_or("lost")?;
-    let kept = after || !attempt.done;
-    Ok(kept && (again || after) && is_after(&found_now, step) == Some(true))
+    Ok((after || !done) && (again || after) && is_after(&found_now, step) == Some(true))
 }
 
-/// These files, which take so many calls each.
-fn stopping(files: Files<Memory>, of_log: u64, of_db: u64) -> Files<Fuse<Memory>> {
-    Files {
+/// The same command once the files take no more than so many calls. None where the auction is then neither
+/// as before nor as after; and else whether no call was refused.
+fn stopped(alloc: Global, step: Step, of_log: u64, of_db: u64) -> Result<Option<bool>, Fail> {
+    let files = files_of(prepared(alloc, empty(alloc)?, step)?)?;
+    let files = Files {
         log: Fuse::new(files.log, of_log),
         db: Fuse::new(files.db, of_db),
+    };
+    let Attempt {
+        done,
+        whole,
+        mut files,
+    } = attempted_in(alloc, files, step)?;
+    files.log.crash();
+    files.db.crash();
+    if comes_back(alloc, kept_in(alloc, files)?, done, step)? {
+        Ok(Some(whole))
+    } else {
+        Ok(None)
     }
 }
 
@@ -329,20 +338,15 @@ fn stopping(files: Files<Memory>, of_log: u64, of_db: u64) -> Files<Fuse<Memory>
 /// where the auction is neither as before nor as after.
 fn stops(alloc: Global, step: Step, is_log: bool) -> Result<Option<u64>, Fail> {
     for calls in 0..500 {
-        let files = prepared::<FileStore<Memory>>(alloc, blank(alloc), step)?;
-        let files = if is_log {
-            stopping(files, calls, u64::MAX)
+        let (of_log, of_db) = if is_log {
+            (calls, u64::MAX)
         } else {
-            stopping(files, u64::MAX, calls)
+            (u64::MAX, calls)
         };
-        let (attempt, mut files) = attempted::<Stopping>(alloc, files, step)?;
-        files.log.crash();
-        files.db.crash();
-        if !comes_back::<Stopping>(alloc, files, attempt, step)? {
-            return Ok(None);
-        }
-        if attempt.whole {
-            return Ok(Some(calls));
+        match stopped(alloc, step, of_log, of_db)? {
+            None => return Ok(None),
+            Some(true) => return Ok(Some(calls)),
+            Some(false) => {}
         }
     }
     Ok(None)
@@ -390,8 +394,11 @@ fn first_seat(auction: &Auction) -> Option<(u16, u64)> {
     Some((row.seal.seat, row.secret.bid))
 }
 
-fn try_another<S: OverFiles>(rt: &impl Abort, alloc: Global, files: S::Files) -> Result<(), Fail> {
-    let mut keeper: SqlKeeper<S> = kept_in(alloc, files)?;
+fn try_another<S: Alter + Drop>(
+    rt: &impl Abort,
+    alloc: Global,
+    mut keeper: SqlKeeper<S>,
+) -> Result<(), Fail> {
     assert!(rt; found(&mut keeper)?.is_none());
     keeper.put(worked(alloc)?)?;
     let mut other = MemKeeper::new(alloc);
@@ -408,7 +415,7 @@ fn try_another<S: OverFiles>(rt: &impl Abort, alloc: Global, files: S::Files) ->
 
 #[test]
 fn an_auction_takes_the_place_of_another(rt: HostRuntime) -> Result<(), Fail> {
-    try_another::<FileStore<Memory>>(&rt, rt.alloc(), blank(rt.alloc()))
+    try_another(&rt, rt.alloc(), empty(rt.alloc())?)
 }
 
 /// Runs statements on the store of a keeper, and makes a keeper of it again.
@@ -422,13 +429,12 @@ fn changed<S: Alter + Drop>(
     Ok(over(alloc, connection))
 }
 
-/// Why no keeper is made over a new store that such statements changed.
-fn refusal_of<S: OverFiles>(
+/// Why no keeper is made over a store that such statements changed.
+fn refusal_of<S: Alter + Drop>(
     alloc: Global,
-    files: S::Files,
+    keeper: SqlKeeper<S>,
     statements: &str,
 ) -> Result<Option<OpenErr>, Fail> {
-    let keeper: SqlKeeper<S> = kept_in(alloc, files)?;
     let made = changed(alloc, keeper, statements)?;
     Ok(made.err())
 }
@@ -458,11 +464,11 @@ fn a_store_of_another_version_is_refused(rt: HostRuntime) -> Result<(), Fail> {
         ("UPDATE about SET version = -1", 1, -1),
     ];
     for (statements, rows, number) in table {
-        let refusal = refusal_of::<FileStore<Memory>>(alloc, blank(alloc), statements)?;
+        let refusal = refusal_of(alloc, empty(alloc)?, statements)?;
         assert_eq!(rt; refusal, Some(OpenErr::Version { rows, number }));
     }
     for statements in ["DROP TABLE about", "UPDATE about SET version = 'x'"] {
-        let refusal = refusal_of::<FileStore<Memory>>(alloc, blank(alloc), statements)?;
+        let refusal = refusal_of(alloc, empty(alloc)?, statements)?;
         assert_eq!(rt; refusal, Some(OpenErr::Refused));
     }
     Ok(())
@@ -501,14 +507,13 @@ const DAMAGES: [&str; 28] = [
 ];
 
 /// The answers after each damage. Each is mended before the next one by keeping the auction anew.
-fn answers_of<S: OverFiles>(
+fn answers_of<S: Alter + Drop>(
     alloc: Global,
-    files: S::Files,
+    mut keeper: SqlKeeper<S>,
     auction: &Auction,
 ) -> Result<Vec<Option<OutsideErr>>, Fail>
     requires { IsAuction auction.now }
 {
-    let mut keeper: SqlKeeper<S> = kept_in(alloc, files)?;
     let mut answers = Vec::new(alloc);
     for damage in DAMAGES {
         keeper.put(auction.copy(alloc)?)?;
@@ -524,7 +529,8 @@ fn answers_of<S: OverFiles>(
 #[test]
 fn rows_that_are_no_auction_are_a_fault(rt: HostRuntime) -> Result<(), Fail> {
     let alloc = rt.alloc();
-    let answers = answers_of::<FileStore<Memory>>(alloc, blank(alloc), &worked(alloc)?)?;
+    let auction = worked(alloc)?;
+    let answers = answers_of(alloc, empty(alloc)?, &auction)?;
     let (last, faults) = answers.as_slice().split_last().ok_or("no answers")?;
     assert_eq!(rt; faults.len(), DAMAGES.len());
     assert!(rt;
