@@ -22,16 +22,16 @@ five wires value same =
 
 pub add_and_fill-requires-clause-room : goal.add_and_fill-requires-clause-room
 add_and_fill-requires-clause-room c =
-    let relation : SelectedIs = record { wires = c.in_ok-five_wires.field-0; value = c.residue.result; width = 8 } in
+    let relation : SelectedIs = record { wires = c.in_ok-five_wires.field-0; value = c.residue_or_zero.result; width = 8 } in
     let kinds : length c.in_ok-plan.plan.kinds ≡ 5 = ap (λ plan. length plan.kinds) c.in_ok-plan.ensures in
     let rows : length c.in_ok-plan.plan.rows ≡ 0 = ap (λ plan. length plan.rows) c.in_ok-plan.ensures in
     let long : length relation.wires ≡ 5 = ap length c.in_ok-five_wires.ensures in
     selected_room c.in_ok-plan.plan relation (subst IsPlan (sym c.in_ok-plan.ensures) (IsPlan-inputs 5 (lit≤ tt)))
-    (subst (IsSelection relation) (sym kinds) (five c.in_ok-five_wires.field-0 c.residue.result c.in_ok-five_wires.ensures)) (omega arith) (omega arith)
+    (subst (IsSelection relation) (sym kinds) (five c.in_ok-five_wires.field-0 c.residue_or_zero.result c.in_ok-five_wires.ensures)) (omega arith) (omega arith)
 
 pub add_and_fill-requires-clause-true_of : goal.add_and_fill-requires-clause-true_of
 add_and_fill-requires-clause-true_of c =
-    let relation : SelectedIs = record { wires = c.in_ok-five_wires.field-0; value = c.residue.result; width = 8 } in
+    let relation : SelectedIs = record { wires = c.in_ok-five_wires.field-0; value = c.residue_or_zero.result; width = 8 } in
     let values = c.in_ok-values.values.items in
     let found = rw c.as_slice.ensures.value at c.first_place.ensures in
     let long : length c.in_ok-five_wires.field-0 ≡ 5 = ap length c.in_ok-five_wires.ensures in

@@ -20,11 +20,11 @@ three wires value same =
 pub fill-requires-clause-fits : goal.fill-requires-clause-fits
 fill-requires-clause-fits c =
     let same : 3 ≡ length c.push-3.new.self.items = omega (arith, c.in_ok-push-3.ensures.len, c.in_ok-push-2.ensures.len, c.in_ok-push.ensures.len, c.new-values.ensures.len, c.push-3.new.self.ok.0) in
-    (plan_of_inputs 3, (three c.in_ok-three_wires.field-0 c.residue-4.result c.in_ok-three_wires.ensures, same))
+    (plan_of_inputs 3, (three c.in_ok-three_wires.field-0 c.residue_or_zero-4.result c.in_ok-three_wires.ensures, same))
 
 pub fill-requires-clause-true_of : goal.fill-requires-clause-true_of
 fill-requires-clause-true_of c =
-    let relation : SelectedIs = record { wires = c.in_ok-three_wires.field-0; value = c.residue-4.result; width = 4 } in
+    let relation : SelectedIs = record { wires = c.in_ok-three_wires.field-0; value = c.residue_or_zero-4.result; width = 4 } in
     let values = c.push-3.new.self.items in
     let found = rw c.as_slice.ensures.value at c.first_place.ensures in
     let long : length c.in_ok-three_wires.field-0 ≡ 3 = ap length c.in_ok-three_wires.ensures in
