@@ -132,8 +132,13 @@ fn kept_in<D: Disk + Drop>(
     alloc: Global,
     files: Files<D>,
 ) -> Result<SqlKeeper<FileStore<D>>, Fail> {
-    let connection = opened(alloc, files).map_err(|_| Fail::from("not opened"))?;
-    over(alloc, connection).map_err(|_| Fail::from("refused"))
+    let Ok(connection) = opened(alloc, files) else {
+        return Err(Fail::from("not opened"));
+    };
+    match over(alloc, connection) {
+        Ok(keeper) => Ok(keeper),
+        Err(_) => Err(Fail::from("refused")),
+    }
 }
 
 /// The files of a keeper, all of whose calls were done.
