@@ -26,11 +26,15 @@ bid_line number bid =
 abbrev pub lane_bids_text : LaneBids → List ℕ
 lane_bids_text lane = flat_map (bid_line lane.number) lane.bids
 
+-- where a commitment stands in its auction
+unfoldable pub place_text : Place → List ℕ
+place_text place =
+    spaced (codes "lane" ∷ decimal place.lane ∷ codes "seat" ∷ decimal place.seat ∷ codes "slot" ∷ decimal place.slot ∷ [])
+
 -- two openings of a digest at a place
 abbrev pub openings_text : Place → List ℕ → Opening → Opening → List ℕ
 openings_text place digest first second =
-    line (spaced (codes "clash" ∷ codes "lane" ∷ decimal place.lane ∷ codes "seat" ∷ decimal place.seat
-    ∷ codes "slot" ∷ decimal place.slot ∷ codes "digest" ∷ hex_text digest
+    line (spaced (codes "clash" ∷ place_text place ∷ codes "digest" ∷ hex_text digest
     ∷ codes "first" ∷ opening_text first ∷ codes "second" ∷ opening_text second ∷ []))
 
 abbrev pub clash_text : TwoOpeningsSeen → List ℕ

@@ -1,56 +1,43 @@
-//! What is printed of a confrontation.
+//! What is printed of a confrontation. It takes no memory.
 
-ghost use Rattle.std.specs.Prelude.{◌≡◌, IfOk, string_bytes};
-ghost use Rattle.vk_bids.specs.ConfrontTexts.{confrontation_text, mismatch_fields};
+ghost use Rattle.std.specs.Prelude.{◌≡◌, ◌≤◌, ◌++◌, decimal, length};
+ghost use Rattle.vk_lines.specs.Forms.{line};
+ghost use Rattle.vk_bids.specs.ConfrontTexts.{confrontation_text};
 
+use crate::clash_printing::clash_line;
 use crate::confrontation::Confrontation;
-use crate::printing::clash_line;
-use std::alloc::Global;
-use vk_residue::NoMemory;
-use vk_seal::Mismatch;
+use vk_seal::with_mismatch;
+use vk_text::ShortText;
 
 /// The line of a confrontation for which both replies are accepted, the challenges differ and the file is a
 /// secret; and of a clash. It is empty for the others, which name files.
-pub fn confrontation_line(alloc: Global, confrontation: &Confrontation) -> Result<String, NoMemory>
-    ensures { IfOk result (λ line. string_bytes line ≡ confrontation_text confrontation.now) }
+pub fn confrontation_line(confrontation: &Confrontation) -> ShortText
+    ensures { result ≡ confrontation_text confrontation.now }
 {
-    let line = match confrontation {
+    match confrontation {
         Confrontation::Refused {
             second: _,
             verdict: _,
         }
         | Confrontation::Same
-        | Confrontation::Malformed { line: _ } => String::new(alloc),
-        Confrontation::NoSeal { seat } => format!(in alloc; "confront no seal {seat}\n")?,
+        | Confrontation::Malformed { line: _ } => ShortText::new(),
+        Confrontation::NoSeal { seat } => seat_line("confront no seal ", *seat),
         Confrontation::Mismatch(mismatch) => {
-            let fields = mismatch_fields(alloc, mismatch)?;
-            format!(in alloc; "confront mismatch {fields}\n")?
+            let start = ShortText::new().word("confront mismatch ");
+            with_mismatch(start, mismatch).word("\n")
         }
-        Confrontation::Clash(two) => clash_line(alloc, two)?,
-        Confrontation::Held { seat } => format!(in alloc; "held seat {seat}\n")?,
-    };
-    Ok(line)
+        Confrontation::Clash(two) => clash_line(two),
+        Confrontation::Held { seat } => seat_line("held seat ", *seat),
+    }
 }
 
-/// The field in which a seal isn't the secret's.
-pub fn mismatch_fields(alloc: Global, mismatch: &Mismatch) -> Result<String, NoMemory>
-    ensures { IfOk result (λ text. string_bytes text ≡ mismatch_fields mismatch.now) }
+/// The line of a word and a seat.
+fn seat_line(word: &str, seat: u16) -> ShortText
+    requires { length word.now ≤ 100 }
+    ensures { result ≡ word.now ++ line (decimal seat) }
 {
-    let fields = match mismatch {
-        Mismatch::Auction { kept: _, given: _ } => format!(in alloc; "auction")?,
-        Mismatch::Seat { kept: _, given: _ } => format!(in alloc; "seat")?,
-        Mismatch::Lanes { kept: _, given: _ } => format!(in alloc; "lanes")?,
-        Mismatch::Digest {
-            lane,
-            second,
-            kept,
-            made,
-        } => {
-            let half = if *second { "1" } else { "0" };
-            let kept = hex::encode(alloc, kept.as_slice())?;
-            let made = hex::encode(alloc, made.as_slice())?;
-            format!(in alloc; "lane {lane} half {half} kept {kept} made {made}")?
-        }
-    };
-    Ok(fields)
+    ShortText::new()
+        .word(word)
+        .number(u64::from(seat))
+        .word("\n")
 }

@@ -21,6 +21,9 @@ use vk_wire::Shown;
 pub type Gathered = Result<Seq<LaneBids>, TwoOpenings>;
 
 /// With what the lane gives, which is the last that was given. After a clash nothing is gathered.
+///
+/// A clash, of this lane or of one before it, is answered whatever memory there is. Errs for want of memory,
+/// where there is none.
 pub fn with_lane(
     alloc: Global,
     checker: &TwoChecker,
@@ -30,6 +33,8 @@ pub fn with_lane(
     requires { IsLastLane checker.now lane.now }
     ensures added { IfSome (base_of checker.now) (λ base. IfOk result (λ after.
         added base.statement.front (given_of checker.now) lane.now before ≡ after)) }
+    ensures clash { IfSome (base_of checker.now) (λ base.
+        IfErr (added base.statement.front (given_of checker.now) lane.now before) (λ two. result ≡ Ok (Err two))) }
     ensures shows { IfSome (base_of checker.now) (λ base. IfOk before (All (LaneShows base.statement.front))
         → IfOk result (λ after. IfOk after (All (LaneShows base.statement.front)))) }
 {
@@ -42,7 +47,7 @@ pub fn with_lane(
     }
 }
 
-/// With the bids of the lane, or its first clash.
+/// With the bids of the lane, or its first clash, which is answered whatever memory there is.
 fn with_more(
     alloc: Global,
     checker: &TwoChecker,
@@ -52,6 +57,8 @@ fn with_more(
     requires { IsLastLane checker.now lane.now }
     ensures added { IfSome (base_of checker.now) (λ base. IfOk result (λ after.
         added base.statement.front (given_of checker.now) lane.now (Ok before) ≡ after)) }
+    ensures clash { IfSome (base_of checker.now) (λ base.
+        IfErr (lane_found base.statement.front (given_of checker.now) lane.now) (λ two. result ≡ Ok (Err two))) }
     ensures shows { IfSome (base_of checker.now) (λ base. All (LaneShows base.statement.front) before
         → IfOk result (λ after. IfOk after (All (LaneShows base.statement.front)))) }
 {

@@ -4,6 +4,7 @@
 #![tactic(auto)]
 
 mod bids;
+mod clash_printing;
 mod confront_printing;
 mod confrontation;
 mod extracting;
@@ -13,7 +14,8 @@ mod laws;
 mod printing;
 
 pub use bids::{LaneBids, OpenedBid};
-pub use confront_printing::{confrontation_line, mismatch_fields};
+pub use clash_printing::{clash_line, openings_line};
+pub use confront_printing::confrontation_line;
 pub use confrontation::{ConfrontErr, ConfrontNames, Confrontation, confront};
 pub use extracting::extract_bids;
 pub use extraction::{Extracted, Extraction, TwoReplies, extract};
@@ -22,4 +24,4 @@ pub use laws::{
     a_secret_is_bound_by_accepted_replies, accepted_lanes_show_the_outcome,
     accepted_replies_give_bids_or_a_clash,
 };
-pub use printing::{clash_line, extraction_lines, has_one_bid, openings_line};
+pub use printing::{extraction_lines, has_one_bid};

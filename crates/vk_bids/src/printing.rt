@@ -1,13 +1,13 @@
-// What is printed of the bids that two replies give, and of two openings of one commitment.
+// What is printed of the bids that two replies give.
 ghost use Rattle.std.specs.Prelude.{◌≡◌, ◌++◌, IfOk, OnOk, string_bytes};
 ghost use Rattle.std.specs.List.{flat_map};
-ghost use Rattle.vk_bids.specs.Texts.{agreement, agreements_text, bid_in, bid_line, clash_text, extraction_text, first_bid, has_one_bid, lane_bids_text, opening_text, openings_text};
+ghost use Rattle.vk_bids.specs.Texts.{agreement, agreements_text, bid_in, bid_line, extraction_text, first_bid, has_one_bid, lane_bids_text, opening_text};
 
 use crate::bids::{LaneBids, OpenedBid};
 use crate::extraction::Extracted;
 use std::alloc::Global;
 use vk_board::SealLines;
-use vk_commit::{Opening, Place, TwoOpenings};
+use vk_commit::Opening;
 use vk_residue::{NoMemory, Residue};
 
 /// The lines of a lane's bids, one for each seal in order.
@@ -31,20 +31,6 @@ fn bid_line(alloc: Global, number: u32, bid: &OpenedBid) -> Result<String, NoMem
     let first = opening_fields(alloc, &bid.first)?;
     let second = opening_fields(alloc, &bid.second)?;
     let line = format!(in alloc; "lane {number} seat {seat} bid {sum} u {first} v {second}\n")?;
-    Ok(line)
-}
-
-/// The line of two openings of one commitment.
-pub fn clash_line(alloc: Global, two: &TwoOpenings) -> Result<String, NoMemory>
-    ensures { IfOk result (λ line. string_bytes line ≡ clash_text two.now) }
-{
-    let line = openings_line(
-        alloc,
-        &two.place(),
-        &two.digest(),
-        &two.first(),
-        &two.second(),
-    )?;
     Ok(line)
 }
 
@@ -132,28 +118,6 @@ fn bid_in(index: usize, lane: &LaneBids) -> Residue
         Some(bid) => bid.bid,
         None => Residue::ZERO,
     }
-}
-
-/// The line of two openings of a digest at a place.
-pub fn openings_line(
-    alloc: Global,
-    place: &Place,
-    digest: &[u8; 32],
-    first: &Opening,
-    second: &Opening,
-) -> Result<String, NoMemory>
-    ensures { IfOk result (λ line. string_bytes line ≡ openings_text place.now digest.now first.now second.now) }
-{
-    let lane = place.lane;
-    let seat = place.seat;
-    let slot = place.slot;
-    let digest = hex::encode(alloc, digest.as_slice())?;
-    let first = opening_fields(alloc, first)?;
-    let second = opening_fields(alloc, second)?;
-    let line = format!(in alloc;
-        "clash lane {lane} seat {seat} slot {slot} digest {digest} first {first} second {second}\n"
-    )?;
-    Ok(line)
 }
 
 /// The key and the value of an opening.

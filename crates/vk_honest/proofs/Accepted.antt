@@ -17,10 +17,10 @@ use Rattle.vk_verifier.specs.Verdicts.{case_of, later_wires}
 use Rattle.vk_verifier.proofs.Plans.{rows_are, wires_are}
 use Rattle.vk_keeper.specs.declared.auction.Auction.{Auction}
 use Rattle.vk_job.specs.Jobs.{IsProvedAuction, outcome_in}
-use Rattle.vk_job.specs.Published.{board_of, head_of, lane_of, published, reply_of, shown_from, shown_in}
+use Rattle.vk_job.specs.Published.{IsChallengeTo, board_of, head_of, lane_of, published, reply_of, shown_from, shown_in}
 use Rattle.vk_job.proofs.Parts.{lanes_are, length_shown}
 use Rattle.vk_job.proofs.Parts as parts
-use Rattle.vk_honest.specs.Answers.{AnswersAreAccepted, IsChallengeTo, front_of}
+use Rattle.vk_honest.specs.Answers.{AnswersAreAccepted, front_of}
 use Rattle.vk_honest.proofs.Fronts.{front_is, same_lanes, same_plan}
 use Rattle.vk_honest.proofs.Cases.{lane_accepted}
 

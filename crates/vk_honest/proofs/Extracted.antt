@@ -31,9 +31,9 @@ use Rattle.vk_keeper.specs.Auctions.{IsSealRow}
 use Rattle.vk_keeper.specs.declared.auction.Auction.{Auction}
 use Rattle.vk_keeper.specs.declared.auction.SealRow.{SealRow}
 use Rattle.vk_job.specs.Jobs.{IsProvedAuction}
-use Rattle.vk_job.specs.Published.{board_of, no_row, reply_of, shown_from, shown_in}
+use Rattle.vk_job.specs.Published.{IsChallengeTo, board_of, no_row, reply_of, shown_from, shown_in}
 use Rattle.vk_job.proofs.Drawing.{lanes_of}
-use Rattle.vk_honest.specs.Answers.{IsChallengeTo, front_of}
+use Rattle.vk_honest.specs.Answers.{front_of}
 use Rattle.vk_honest.specs.Extracted.{BidsAreEqual, RepliesGiveBids, TurnedOpenAll, bid_in_lane, bids_in_lane, sealed_bids}
 use Rattle.vk_honest.proofs.Accepted.{accepts, shown_at}
 use Rattle.vk_honest.proofs.Differing.{DiffersIn, all_differ, length-differing_turned, turned_differ}

@@ -32,10 +32,10 @@ use Rattle.vk_verifier.specs.Acceptance.{shape_of}
 use Rattle.vk_keeper.specs.declared.auction.Auction.{Auction}
 use Rattle.vk_job.specs.Jobs.{IsProvedAuction, outcome_in, plan_of}
 use Rattle.vk_job.specs.Laws.{WhereProved}
-use Rattle.vk_job.specs.Published.{board_of, head_of, published, reply_of, shown_from}
+use Rattle.vk_job.specs.Published.{IsChallengeTo, board_of, head_of, published, reply_of, shown_from}
 use Rattle.vk_job.proofs.Held.{has_seal}
 use Rattle.vk_job.proofs.Parts.{length_shown, reply_is}
-use Rattle.vk_honest.specs.Answers.{IsChallengeTo, WhereChallenged}
+use Rattle.vk_honest.specs.Answers.{WhereChallenged}
 use Rattle.vk_honest.specs.Sizes.{IsShort, board_lines, line_count, reply_lines}
 use Rattle.vk_honest.proofs.Accepted.{board_is}
 use Rattle.vk_honest.proofs.Counted.{HasLines, both_have, flat_have, line_has, lines_as, numbered_have}

@@ -1,18 +1,11 @@
 -- What an honest auctioneer answers is accepted.
-use Rattle.std.specs.Prelude.{◌≡◌, length}
 use Rattle.vk_reply.specs.declared.challenge.Challenge.{Challenge}
-use Rattle.vk_reply.specs.Values.{IsChallenge}
 use Rattle.vk_reply.specs.Texts.{challenge_text}
 use Rattle.vk_board.specs.declared.front.Front.{Front}
 use Rattle.vk_verifier.specs.Acceptance.{Accepts, front_with}
 use Rattle.vk_keeper.specs.declared.auction.Auction.{Auction}
 use Rattle.vk_job.specs.Jobs.{IsProvedAuction, outcome_in}
-use Rattle.vk_job.specs.Published.{board_of, published, reply_of}
-
--- a challenge that has a bit for each lane of the auction
-pub record IsChallengeTo (auction : Auction) (challenge : Challenge) : Type 0 where
-  pub right : IsChallenge challenge
-  pub one_bit_each : length challenge.bits ≡ auction.lanes
+use Rattle.vk_job.specs.Published.{IsChallengeTo, board_of, published, reply_of}
 
 -- a law of every auction that is proved and every such challenge to it
 abbrev pub WhereChallenged : (Auction → Challenge → Type 0) → Type 0

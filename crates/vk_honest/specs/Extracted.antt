@@ -13,8 +13,8 @@ use Rattle.vk_bids.specs.Extraction.{extraction_in}
 use Rattle.vk_bids.specs.Headline.{differing}
 use Rattle.vk_bids.specs.Texts.{has_one_bid}
 use Rattle.vk_job.specs.Jobs.{IsProvedAuction}
-use Rattle.vk_job.specs.Published.{board_of, reply_of}
-use Rattle.vk_honest.specs.Answers.{IsChallengeTo, front_of}
+use Rattle.vk_job.specs.Published.{IsChallengeTo, board_of, reply_of}
+use Rattle.vk_honest.specs.Answers.{front_of}
 
 -- the bid of a seal, and the halves that its secret has in the lane of that number
 abbrev pub bid_in_lane : ℕ → SealRow → OpenedBid

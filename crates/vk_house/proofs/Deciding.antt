@@ -1,7 +1,7 @@
 -- The step of proving and of answering, once all tests but that of the seed have passed.
 use Rattle.std.proofs.Common.{◌≡◌, ℕ, zero, suc, ◌+◌, Bool, not, List, [], ◌∷◌, Option, Some, None, option_map, refl, sym, ap, ◌∙◌}
 use Rattle.std.specs.Bool.{then_some, beq}
-use Rattle.std.specs.Option.{option_or}
+use Rattle.std.specs.Option.{IfSome, option_or}
 use Rattle.std.specs.Str.{bytes_eq}
 use Rattle.std.specs.Cmp.{booleans_Decides}
 use Rattle.std.proofs.lemmas.Slice.Eq.{bytes_eq-Decides, slice_eq-Decides}
@@ -84,6 +84,20 @@ prove_step auction found phase asked seed is some same brings =
     ap (work_step auction) brings
     ∙ prove_by auction.id auction.width auction.lanes auction.phase auction.seals asked seed (sym some) (sym same)
     ∙ ap (step_at (Prove asked seed)) (sym is)
+
+-- the seed that is proved with is as dry before as it is after
+dry_by : (id : List ℕ) (width lanes : ℕ) (phase : Phase) (seals : List SealRow) (seed : List ℕ) → let auction = auction_with id width lanes phase seals in other_seed seed auction ≡ None
+    → dry_seed seed auction ≡ dry_seed (seed_in (phased auction (phase_proved seed phase))) (phased auction (phase_proved seed phase))
+dry_by id width lanes Taking seals seed same = sym (dry_seed_in_phase (auction_with id width lanes Taking seals) (Proved seed) seed)
+dry_by id width lanes (Proved kept) seals seed same = ap (λ s. dry_seed s (auction_with id width lanes (Proved kept) seals)) (sym (same_seed kept seed same))
+dry_by id width lanes (Answered kept challenge) seals seed same =
+    ap (λ s. dry_seed s (auction_with id width lanes (Answered kept challenge) seals)) (sym (same_seed kept seed same))
+
+pub prove_not_dry : (auction : Auction) (found : Option Auction) (phase : Option Phase) (seed : List ℕ) → found ≡ Some auction → None ≡ other_seed seed auction → phase ≡ phase_proved seed auction.phase
+    → dry_seed (seed_in (phased auction phase)) (phased auction phase) ≡ None → IfSome found (λ auction. dry_seed seed auction ≡ None)
+prove_not_dry auction found phase seed is same brings none =
+    rw is (dry_by auction.id auction.width auction.lanes auction.phase auction.seals seed (sym same)
+    ∙ ap (λ p. dry_seed (seed_in (phased auction p)) (phased auction p)) (sym brings) ∙ none)
 
 -- ---- answering
 

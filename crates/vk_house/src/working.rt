@@ -1,12 +1,13 @@
 //! `prove` and `answer`: the work on an auction whose seals are taken.
 
-ghost use Rattle.std.specs.Prelude.{◌≡◌, ◌≤◌, ℕ, IfSome, IfOk, IsErrOf, IsSome, List, Some, length};
+ghost use Rattle.std.specs.Prelude.{◌≡◌, ◌≤◌, ℕ, IfSome, IfOk, IsErrOf, IsSome, List, None, Some, length};
 ghost use Rattle.std.specs.Result.{result_err};
 ghost use Rattle.vk_keeper.specs.Auctions.{IsAuction, seed_of, challenge_of};
 ghost use Rattle.vk_reply.specs.Values.{IsChallenge};
+ghost use Rattle.vk_job.specs.Jobs.{seed_in};
 ghost use Rattle.vk_house.specs.Deciding.{Decides, IsDecisionOn, work_step, step_of, phased};
 ghost use Rattle.vk_house.specs.Commands.{Prove, Answer};
-ghost use Rattle.vk_house.specs.Refusals.{no_seals, other_seed, still_taking, other_length, other_than};
+ghost use Rattle.vk_house.specs.Refusals.{dry_seed, no_seals, other_seed, still_taking, other_length, other_than};
 ghost use Rattle.vk_house.specs.Steps.{step_at, phase_proved, phase_answered};
 
 use crate::errors::HouseErr;
@@ -33,6 +34,7 @@ fn work_in(alloc: Global, mut auction: Auction, phase: Option<Phase>) -> Result<
     ensures job { IfOk result (λ decision. decision.job.auction ≡ phased auction phase) }
     ensures kept { IfOk result (λ decision. IfSome decision.kept (λ auction. auction ≡ decision.job.auction)) }
     ensures right { IfOk result (λ decision. IfSome decision.kept IsAuction) }
+    ensures memory { IsErrOf result HouseErr.NoMemory → dry_seed (seed_in (phased auction phase)) (phased auction phase) ≡ None }
 {
     let is_new = phase.is_some();
     if let Some(phase) = phase {
@@ -80,7 +82,7 @@ fn proved_phase(phase: &Phase, seed: &[u8; 32]) -> Option<Phase>
     }
 }
 
-/// What `prove` answers and keeps, by what was found under the id.
+/// What `prove` answers and keeps, by what was found under the id. A dry seed is told whatever memory there is.
 #[tactic(auto, unfolding(crate::specs::Steps::step_at, vk_keeper::specs::Joining::first_of))]
 pub fn decide_prove(
     alloc: Global,
@@ -92,6 +94,7 @@ pub fn decide_prove(
     ensures inside { IsErrOf result HouseErr.KeeperFailed → ⊥ }
     ensures on { IfOk result (IsDecisionOn found) }
     ensures seed { IfOk result (λ decision. seed_of decision.job.auction.phase ≡ Some seed.now) }
+    ensures memory { IsErrOf result HouseErr.NoMemory → IfSome found (λ auction. dry_seed seed.now auction ≡ None) }
 {
     let auction = found.ok_or(HouseErr::Unknown)?;
     check_seals(&auction)?;

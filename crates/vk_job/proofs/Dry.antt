@@ -1,12 +1,21 @@
 -- The first wire that is dry: what is computed lane by lane is that.
-use Rattle.std.proofs.Common.{◌≡◌, ℕ, zero, suc, ◌+◌, ◌-◌, ◌<◌, ◌≤◌, ◌↔◌, List, Option, Some, None, Result, Ok, Err, refl, sym, ap, ◌∙◌, subst, arith, inl, inr}
+use Rattle.std.proofs.Common.{◌≡◌, ℕ, zero, suc, ◌+◌, ◌-◌, ◌*◌, ◌<◌, ◌≤◌, ◌↔◌, List, Option, Some, None, Result, Ok, Err, refl, sym, ap, ◌∙◌, subst, arith, inl, inr}
+use Rattle.std.specs.Prelude.{length, option_map}
+use Rattle.std.specs.Result.{result_err}
 use Rattle.std.proofs.lemmas.Bool.{cases_lt}
+use Rattle.std.proofs.lemmas.List.{length-map}
+use Rattle.vk_dice.specs.Stream.{word_at}
+use Rattle.vk_seal.specs.Values.{wire_tape}
+use Rattle.vk_extractor.specs.Confronting.{tape_in}
+use Rattle.vk_vickrey.specs.VickreyPlans.{vickrey_plan}
+use Rattle.vk_vickrey.specs.VickreySteps.{vickrey_wires}
+use Rattle.vk_prover.specs.Drawn.{dry_wire}
+use Rattle.vk_prover.proofs.Drawing.{dry_of_tape}
 use Rattle.vk_wire.specs.declared.wire.WireTape.{WireTape}
 use Rattle.vk_keeper.specs.declared.auction.Auction.{Auction}
 use Rattle.vk_job.specs.declared.errors.JobErr.{JobErr}
-use Rattle.vk_job.specs.declared.errors.JobErr.TheVariants.{DrySeed, NoMemory}
-use Rattle.vk_job.specs.Answers.{DryAnswer}
-use Rattle.vk_job.specs.Jobs.{Dry, dry_or, dry_from, dry_in, tape_of, HasTape, IsFirstDry}
+use Rattle.vk_job.specs.Answers.{dry_refusal}
+use Rattle.vk_job.specs.Jobs.{Dry, dry_or, dry_from, dry_in, given_tapes, outcome_in, plan_of, tape_of, HasTape, IsFirstDry}
 
 -- the lane has a tape, or is dry
 data IsTried (auction : Auction) (seed : List ℕ) (lane : ℕ) : Type 0 where
@@ -87,23 +96,73 @@ stops : (found : Result (List WireTape) ℕ) (lane : ℕ) (later : Option Dry) (
 stops (Ok tape) lane later dry some = cc some
 stops (Err wire) lane later dry some = some
 
+refuses_none : (found : Option Dry) → dry_refusal found ≡ Ok tt → found ≡ None
+refuses_none None is = refl
+refuses_none (Some dry) is = cc is
+
 -- a lane that has a tape
-pub dry_turn : (auction : Auction) (seed : List ℕ) (lane left next : ℕ) (whole : Option Dry) → next + 1 ≡ left → dry_or (tape_of auction seed lane) lane None ≡ None
+pub dry_turn : (auction : Auction) (seed : List ℕ) (lane left next : ℕ) (whole : Option Dry) → next + 1 ≡ left → dry_refusal (dry_or (tape_of auction seed lane) lane None) ≡ Ok tt
     → dry_from auction seed lane left ≡ whole → dry_from auction seed (lane + 1) next ≡ whole
 dry_turn auction seed lane left next whole fewer drawn so_far =
     let less : left - 1 ≡ next = omega arith in
-    rw (← less) (sym (passes (tape_of auction seed lane) lane (dry_from auction seed (lane + 1) (left - 1)) drawn) ∙ sym (dry_next auction seed lane left (omega arith)) ∙ so_far)
+    let none = refuses_none (dry_or (tape_of auction seed lane) lane None) drawn in
+    rw (← less) (sym (passes (tape_of auction seed lane) lane (dry_from auction seed (lane + 1) (left - 1)) none) ∙ sym (dry_next auction seed lane left (omega arith)) ∙ so_far)
+
+refused_lane : (found : Result (List WireTape) ℕ) (lane : ℕ) (later : Option Dry) (refusal : JobErr) → dry_refusal (dry_or found lane None) ≡ Err refusal
+    → dry_refusal (dry_or found lane later) ≡ Err refusal
+refused_lane (Ok tape) lane later refusal is = cc is
+refused_lane (Err wire) lane later refusal is = is
 
 -- a lane that is dry
-pub dry_stop : (auction : Auction) (seed : List ℕ) (lane left : ℕ) (whole : Option Dry) (result : Result Unit JobErr) (refusal : JobErr) → 0 < left → result ≡ Err refusal
-    → DryAnswer {T = Unit} (Err refusal) (dry_or (tape_of auction seed lane) lane None) → dry_from auction seed lane left ≡ whole → DryAnswer result whole
-dry_stop auction seed lane left whole result (DrySeed at wire) some is dry so_far =
-    rw is (sym so_far ∙ dry_next auction seed lane left some ∙ stops (tape_of auction seed lane) lane (dry_from auction seed (lane + 1) (left - 1)) (record { lane = at; wire = wire }) dry)
-dry_stop auction seed lane left whole result NoMemory some is dry so_far = rw is tt
+pub dry_stop : (auction : Auction) (seed : List ℕ) (lane left : ℕ) (whole : Option Dry) (refusal : JobErr) → 0 < left
+    → dry_refusal (dry_or (tape_of auction seed lane) lane None) ≡ Err refusal → dry_from auction seed lane left ≡ whole → dry_refusal whole ≡ Err refusal
+dry_stop auction seed lane left whole refusal some dry so_far =
+    ap dry_refusal (sym so_far ∙ dry_next auction seed lane left some)
+    ∙ refused_lane (tape_of auction seed lane) lane (dry_from auction seed (lane + 1) (left - 1)) refusal dry
 
 pub dry_done : (auction : Auction) (seed : List ℕ) (lane left : ℕ) (whole : Option Dry) → left ≡ 0 → dry_from auction seed lane left ≡ whole → whole ≡ None
 unfolding dry_from
 dry_done auction seed lane left whole none so_far = sym so_far ∙ ap (dry_from auction seed lane) none
+
+-- what is dry in a lane, by its first wire that is
+found_dry : (found : Result (List WireTape) ℕ) (lane : ℕ) → dry_or found lane None ≡ option_map (λ wire. record { lane = lane; wire = wire }) (result_err found)
+found_dry (Ok tape) lane = refl
+found_dry (Err wire) lane = refl
+
+inputs_of_plan : (seals width position price : ℕ) → (vickrey_plan seals width position price).inputs ≡ seals
+unfolding vickrey_plan
+inputs_of_plan seals width position price = refl
+
+of_lane : (auction : Auction) (seed : List ℕ) (lane : ℕ)
+    → result_err (tape_of auction seed lane) ≡ dry_wire (length auction.seals) (length (plan_of auction).kinds - (plan_of auction).inputs) (word_at seed auction.id lane)
+unfolding tape_of
+of_lane auction seed lane =
+    let count = length (plan_of auction).kinds - (plan_of auction).inputs in
+    dry_of_tape (given_tapes auction lane) count (word_at seed auction.id lane)
+    ∙ ap (λ n. dry_wire n count (word_at seed auction.id lane)) (length-map auction.seals (λ row. wire_tape (tape_in row.secret lane)))
+
+-- the refusal for a lane is that for its first such wire
+pub lane_refusal : (auction : Auction) (seed : List ℕ) (lane inputs count : ℕ) (ahead : ℕ → ℕ) (found answer : Option ℕ)
+    → inputs ≡ length auction.seals → count ≡ length (plan_of auction).kinds - (plan_of auction).inputs → ahead ≡ word_at seed auction.id lane
+    → found ≡ dry_wire inputs count ahead → found ≡ answer
+    → dry_refusal (option_map (λ wire. record { lane = lane; wire = wire }) answer) ≡ dry_refusal (dry_or (tape_of auction seed lane) lane None)
+lane_refusal auction seed lane inputs count ahead found answer inputs_are count_is words is given =
+    let first : result_err (tape_of auction seed lane) ≡ answer =
+    of_lane auction seed lane
+    ∙ ap (λ n. dry_wire n (length (plan_of auction).kinds - (plan_of auction).inputs) (word_at seed auction.id lane)) (sym inputs_are)
+    ∙ ap (λ n. dry_wire inputs n (word_at seed auction.id lane)) (sym count_is)
+    ∙ ap (dry_wire inputs count) (sym words)
+    ∙ sym is ∙ given in
+    ap dry_refusal (ap (option_map (λ wire. record { lane = lane; wire = wire })) (sym first) ∙ sym (found_dry (tape_of auction seed lane) lane))
+
+-- how many wires a lane has after the inputs
+pub further_wires_are : (auction : Auction) (seals : ℕ) → seals ≡ length auction.seals → 1 ≤ length auction.seals
+    → seals + (seals - 1) + auction.width * (4 * seals - 3) ≡ length (plan_of auction).kinds - (plan_of auction).inputs
+unfolding plan_of
+further_wires_are auction seals is some =
+    let all = vickrey_wires (length auction.seals) auction.width (outcome_in auction).position (outcome_in auction).price some in
+    let inputs = inputs_of_plan (length auction.seals) auction.width (outcome_in auction).position (outcome_in auction).price in
+    rw (all, inputs, is) (omega arith)
 
 -- ---- in all lanes
 

@@ -1,5 +1,5 @@
 -- What an honest auctioneer publishes of an auction that is proved, and what it shows for a challenge.
-use Rattle.std.specs.Prelude.{ℕ, ◌+◌, ◌-◌, Bool, false, slice_index_or, List, [], ◌∷◌, ◌++◌, length, map, codes}
+use Rattle.std.specs.Prelude.{◌≡◌, ℕ, ◌+◌, ◌-◌, Bool, false, slice_index_or, List, [], ◌∷◌, ◌++◌, length, map, codes}
 use Rattle.vk_lines.specs.Forms.{line}
 use Rattle.vk_wire.specs.declared.wire.Shown.{Shown}
 use Rattle.vk_board.specs.declared.board.Head.{Head}
@@ -10,6 +10,7 @@ use Rattle.vk_board.specs.Texts.{board_text, head_text, seal_lines_text, lane_te
 use Rattle.vk_range.specs.Sets.{listed}
 use Rattle.vk_reply.specs.declared.challenge.Challenge.{Challenge}
 use Rattle.vk_reply.specs.Texts.{reply_text, reply_head_text, reply_lane_text}
+use Rattle.vk_reply.specs.Values.{IsChallenge}
 use Rattle.vk_prover.specs.Honest.{honest_lane, honest_reply}
 use Rattle.vk_keeper.specs.declared.auction.Phase.{Phase}
 use Rattle.vk_keeper.specs.declared.auction.Phase.TheVariants.{Taking, Proved, Answered}
@@ -56,6 +57,11 @@ abbrev pub board_of : Auction → List ℕ
 board_of auction = board_text (published auction)
 
 -- ---- the replies
+
+-- a challenge that has a bit for each lane of the auction
+pub record IsChallengeTo (auction : Auction) (challenge : Challenge) : Type 0 where
+  pub right : IsChallenge challenge
+  pub one_bit_each : length challenge.bits ≡ auction.lanes
 
 -- what is shown of a lane, counted from 1, for the bit
 unfoldable pub shown_in : Auction → ℕ → Bool → List Shown

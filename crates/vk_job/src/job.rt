@@ -45,17 +45,17 @@ impl Model for Job {
 
 impl Job {
     /// The job of an auction whose phase has a seed. Errs where a wire is dry, which the first is told
-    /// of, and for want of memory.
+    /// of, whatever memory there is; and where none is dry, for want of memory.
     pub fn of(alloc: Global, auction: Auction) -> Result<Job, JobErr>
         requires right { IsAuction auction }
         requires seeded { IsSome (seed_of auction.phase) }
         ensures { JobAnswer result auction }
     {
+        check_tapes(&auction, &seed_in(&auction.phase))?;
         let bids = bids_of(alloc, auction.seals.as_slice())?;
         let outcome = outcome_in(&auction, bids.as_slice());
         let plan = plan_of(alloc, &auction, outcome)?;
         let values = values_of(alloc, &auction, outcome, bids.as_slice())?;
-        check_tapes(alloc, &auction, &plan, &seed_in(&auction.phase))?;
         Ok(Job {
             auction,
             outcome,

@@ -1,5 +1,5 @@
 -- The tape of a lane as it is drawn from words, after the tapes of the inputs.
-use Rattle.std.specs.Prelude.{◌≡◌, ℕ, zero, suc, List, [], ◌∷◌, ◌++◌, length, Option, Some, None, Result, Ok, Err, option_map}
+use Rattle.std.specs.Prelude.{◌≡◌, ℕ, zero, suc, ◌+◌, List, [], ◌∷◌, ◌++◌, length, Option, Some, None, Result, Ok, Err, option_map}
 use Rattle.vk_dice.specs.Words.{later}
 use Rattle.vk_dice.specs.Draws.{drawn_residue, after_residue, drawn_bit, drawn_key}
 use Rattle.vk_wire.specs.declared.wire.WireTape.{WireTape}
@@ -32,6 +32,16 @@ wires_after wire rest (Some tape) = rest tape
 unfoldable pub drawn_tape : List WireTape → ℕ → (ℕ → ℕ) → Result (List WireTape) ℕ
 drawn_tape before zero ahead = Ok before
 drawn_tape before (suc count) ahead = wires_after (length before) (λ tape. drawn_tape (before ++ tape ∷ []) count (after_wire ahead)) (drawn_wire ahead)
+
+-- a wire's number where it is dry, else the first of those after it
+abbrev pub dry_else : ℕ → Option ℕ → Option WireTape → Option ℕ
+dry_else wire later None = Some wire
+dry_else wire later (Some tape) = later
+
+-- the first of so many wires, counted on from that number, whose tape can't be drawn, if there is one
+unfoldable pub dry_wire : ℕ → ℕ → (ℕ → ℕ) → Option ℕ
+dry_wire wire zero ahead = None
+dry_wire wire (suc count) ahead = dry_else wire (dry_wire (wire + 1) count (after_wire ahead)) (drawn_wire ahead)
 
 -- the words ahead where a wire was dry, and where it was drawn
 abbrev pub words_after : {A : Type 0} → (ℕ → ℕ) → (ℕ → ℕ) → Option A → ℕ → ℕ

@@ -10,4 +10,4 @@ pub use laws::{
     honest_lanes_are_of_their_form, honest_replies_are_accepted,
     replies_of_held_values_are_accepted,
 };
-pub use tape::{DrawErr, LaneTape, draw_tape};
+pub use tape::{DrawErr, LaneTape, draw_tape, first_dry};

@@ -1,12 +1,12 @@
 // The tape of a lane, and how it is drawn.
-ghost use Rattle.std.specs.Prelude.{◌≡◌, ◌-◌, ◌++◌, ◌∷◌, [], All, length, IfOk, IfSome, OnOk};
+ghost use Rattle.std.specs.Prelude.{◌≡◌, ◌+◌, ◌-◌, ◌^◌, ◌<◌, ◌≤◌, All, length, vec_capacity, IfOk, IfSome, IsErrOf};
 ghost use Rattle.vk_dice.specs.Draws.{after_residue};
 ghost use Rattle.vk_wire.specs.Values.{IsTape};
-ghost use Rattle.vk_prover.specs.Drawn.{TapeAnswer, TapeWords, drawn_tape, drawn_wire, after_wire, after_wires, words_after};
+ghost use Rattle.vk_prover.specs.Drawn.{TapeAnswer, TapeWords, drawn_tape, drawn_wire, dry_wire, after_wire, after_wires, words_after};
 ghost use Rattle.vk_prover.specs.Laws.{IsTapeOf};
 ghost use Rattle.vk_prover.specs.declared.tape.DrawErr.TheVariants.{NoMemory as MemoryRefused};
 
-use std::alloc::Global;
+use std::alloc::{AllocFailed, Global};
 use vk_dice::{Words, draw_bit, draw_key, draw_residue};
 use vk_plan::Plan;
 use vk_residue::NoMemory;
@@ -36,9 +36,17 @@ impl From<NoMemory> for DrawErr {
     }
 }
 
+impl<T: Drop> From<AllocFailed<T>> for DrawErr {
+    ghost from_gives = { λ _ e. e ≡ MemoryRefused };
+
+    fn from(_refused: AllocFailed<T>) -> DrawErr {
+        DrawErr::NoMemory
+    }
+}
+
 /// Draws the tape of a lane: the given tapes of the inputs, and then for each further wire in order
 /// a residue, a bit and two keys, drawn from the words in this order. Where a wire is dry, no word after
-/// those that were looked at for its residue is taken.
+/// those that were looked at for its residue is taken. All memory is taken before the first word.
 pub fn draw_tape<W: Words>(
     alloc: Global,
     plan: &Plan,
@@ -49,13 +57,30 @@ pub fn draw_tape<W: Words>(
     ensures drawn { TapeAnswer result (drawn_tape given.now (length plan.now.kinds - plan.now.inputs) (W.ahead words.old)) }
     ensures after { TapeWords result (W.ahead words.new) (after_wires (length plan.now.kinds - plan.now.inputs) (W.ahead words.old)) }
     ensures tape { IfOk result (λ tape. IsTapeOf plan.now tape.wires) }
+    ensures memory { IsErrOf result DrawErr.NoMemory → W.ahead words.new ≡ W.ahead words.old }
 {
-    let mut wires = copied(alloc, given)?;
+    let mut wires = copied(alloc, given, plan.wires())?;
     for wire in plan.inputs()..plan.wires() {
         let tape = draw_wire(words).ok_or(DrawErr::DrySeed { wire })?;
-        keep(&mut wires, tape)?;
+        wires.push(tape)?;
     }
-    Ok(LaneTape { wires })
+    Ok(LaneTape {
+        wires: Seq::from_vec(wires),
+    })
+}
+
+/// The first of so many wires, counted on from `before`, whose tape can't be drawn from the words. None where
+/// each has one. Takes no memory.
+pub fn first_dry<W: Words>(before: u32, count: u32, words: &mut W) -> Option<u32>
+    requires { before + count < 2 ^ 32 }
+    ensures { result ≡ dry_wire before count (W.ahead words.old) }
+{
+    for wire in before..before + count {
+        let Some(_tape) = draw_wire(words) else {
+            return Some(wire);
+        };
+    }
+    None
 }
 
 /// Draws the tape of one wire. None where its residue can't be drawn, and then no further word is taken.
@@ -76,23 +101,17 @@ fn draw_wire<W: Words>(words: &mut W) -> Option<WireTape>
     })
 }
 
-/// The tapes in memory of their own.
-fn copied(alloc: Global, given: &[WireTape]) -> Result<Seq<WireTape>, NoMemory>
-    ensures same { IfOk result (λ wires. wires ≡ given.now) }
-    ensures tapes { IfOk result (λ wires. All IsTape wires) }
+/// The tapes, with room for so many wires.
+fn copied(alloc: Global, given: &[WireTape], count: u32) -> Result<Vec<WireTape>, NoMemory>
+    ensures same { IfOk result (λ wires. wires.items ≡ given.now) }
+    ensures tapes { IfOk result (λ wires. All IsTape wires.items) }
+    ensures room { IfOk result (λ wires. count ≤ vec_capacity wires) }
 {
-    let mut wires = Seq::new(alloc);
+    let mut wires = Vec::with_capacity(alloc, count as usize)?;
     for tape in given {
         wires.push(itself(*tape))?;
     }
     Ok(wires)
-}
-
-fn keep(wires: &mut Seq<WireTape>, tape: WireTape) -> Result<(), NoMemory>
-    ensures { OnOk result (wires.new ≡ wires.old ++ tape ∷ []) }
-{
-    wires.push(tape)?;
-    Ok(())
 }
 
 /// The tape. That it is one is what its type says.

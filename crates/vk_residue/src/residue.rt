@@ -26,8 +26,10 @@ impl Model for Residue {
 }
 
 impl Residue {
+    /// The residue of 0.
     pub const ZERO: Residue = Residue { number: 0 };
 
+    /// The residue of 1.
     pub const ONE: Residue = Residue { number: 1 };
 
     /// The residue of that number. None where it is not below [`MODULUS`].
@@ -114,3 +116,7 @@ pub(crate) fn folded(whole: u128) -> Residue
         number: if once < MODULUS { once } else { once - MODULUS },
     }
 }
+
+const _: () = prove!(Residue::ZERO.number == 0);
+
+const _: () = prove!(Residue::ONE.number == 1);

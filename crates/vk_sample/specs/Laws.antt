@@ -9,8 +9,7 @@ use Rattle.vk_bids.specs.declared.extraction.Extraction.TheVariants.{Bids}
 use Rattle.vk_bids.specs.Extraction.{extraction_on}
 use Rattle.vk_keeper.specs.declared.auction.Auction.{Auction}
 use Rattle.vk_job.specs.Jobs.{IsProvedAuction, bids_of, seats_of}
-use Rattle.vk_job.specs.Published.{board_of, reply_of}
-use Rattle.vk_honest.specs.Answers.{IsChallengeTo}
+use Rattle.vk_job.specs.Published.{IsChallengeTo, board_of, reply_of}
 use Rattle.vk_honest.specs.Extracted.{sealed_bids}
 use Rattle.vk_honest.specs.Sizes.{line_count}
 use Rattle.vk_report.specs.declared.sample.SampleCase.{SampleCase}

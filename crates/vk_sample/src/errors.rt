@@ -1,11 +1,12 @@
-ghost use Rattle.std.specs.Prelude.{◌≡◌, IfOk, IfSome, IsSome, OnOk};
-ghost use Rattle.vk_sample.specs.Auctions.{dry_of, of_job};
-ghost use Rattle.vk_sample.specs.Texts.{dry_said};
+ghost use Rattle.std.specs.Prelude.{◌≡◌, IfSome, IsSome, Ok, OnOk};
+ghost use Rattle.vk_sample.specs.Auctions.{OfBidder, OfHouse, dry_of, of_job};
+ghost use Rattle.vk_sample.specs.Texts.{dry_line, dry_said};
 
-use std::alloc::{AllocFailed, Global};
+use std::alloc::AllocFailed;
 use vk_effect::Said;
 use vk_job::JobErr;
 use vk_residue::NoMemory;
+use vk_text::ShortText;
 
 /// Why there is no auction of a sample.
 #[derive(Clone, Copy, Debug, PartialEq, Eq)]
@@ -41,19 +42,37 @@ impl From<JobErr> for SampleErr {
 }
 
 impl SampleErr {
-    /// What is said of a seed that is dry. Errs for want of memory alone.
-    pub fn said(self, alloc: Global) -> Result<Said, NoMemory>
-        ensures said { IfSome (dry_of self) (λ dry. IfOk result (λ said. said ≡ dry_said dry)) }
+    /// What is said of a seed that is dry. Takes no memory, and errs exactly where that was wanted before.
+    pub fn said(self) -> Result<Said, NoMemory>
+        ensures said { IfSome (dry_of self) (λ dry. result ≡ Ok (dry_said dry)) }
         ensures dry { OnOk result (IsSome (dry_of self)) }
     {
-        let line = match self {
-            SampleErr::DryBidder { lane } => format!(in alloc; "seal dry seed lane {lane}\n")?,
-            SampleErr::DryHouse { lane, wire } => {
-                format!(in alloc; "house dry seed lane {lane} wire {wire}\n")?
-            }
-            SampleErr::NoMemory => return Err(NoMemory),
-        };
-        let said = Said::of_line(alloc, 8, line.as_str())?;
-        Ok(said)
+        match self {
+            SampleErr::DryBidder { lane } => Ok(Said::of_short(8, dry_bidder(lane))),
+            SampleErr::DryHouse { lane, wire } => Ok(Said::of_short(8, dry_house(lane, wire))),
+            SampleErr::NoMemory => Err(NoMemory),
+        }
     }
+}
+
+/// The line of a bidder's seed that gives no residue for the lane.
+fn dry_bidder(lane: u32) -> ShortText
+    ensures { result ≡ dry_line (OfBidder lane) }
+{
+    ShortText::new()
+        .word("seal dry seed lane ")
+        .number(u64::from(lane))
+        .word("\n")
+}
+
+/// The line of an auctioneer's seed that gives no tape for the wire.
+fn dry_house(lane: u32, wire: u32) -> ShortText
+    ensures { result ≡ dry_line (OfHouse (record { lane = lane; wire = wire })) }
+{
+    ShortText::new()
+        .word("house dry seed lane ")
+        .number(u64::from(lane))
+        .word(" wire ")
+        .number(u64::from(wire))
+        .word("\n")
 }

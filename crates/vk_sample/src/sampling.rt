@@ -29,7 +29,7 @@ pub fn sample<S: Shelf>(alloc: Global, shelf: &mut S, number: u64) -> Result<Sai
             said
         }
         Err(dry) => {
-            let said = dry.said(alloc)?;
+            let said = dry.said()?;
             Ok(said)
         }
     }

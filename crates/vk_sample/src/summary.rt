@@ -1,9 +1,10 @@
 // What is said of a sample.
-ghost use Rattle.std.specs.Prelude.{◌≡◌, ◌++◌, IfOk, OnOk, length, string_bytes};
+ghost use Rattle.std.specs.Prelude.{◌≡◌, ◌++◌, IfOk, Ok, OnOk, length, string_bytes};
 ghost use Rattle.std.specs.List.{flat_map};
 ghost use Rattle.vk_board.specs.Values.{IsHead};
 ghost use Rattle.vk_honest.specs.Sizes.{board_lines, reply_lines};
-ghost use Rattle.vk_bids.specs.Texts.{winner_line};
+ghost use Rattle.vk_commit.specs.Commitment.{TwoOpeningsSeen};
+ghost use Rattle.vk_bids.specs.Texts.{clash_text, winner_line};
 ghost use Rattle.vk_sample.specs.Texts.{accepted_text, counts_text, found_text, made_text, opened_said, opened_text, same_count, size_line};
 
 use crate::files::sample_names;
@@ -151,7 +152,9 @@ fn push_opened(
 
 /// Of what the replies come to as they were read back.
 pub fn opened(alloc: Global, made: Vec<String>, extraction: &Extraction) -> Result<Said, NoMemory>
-    ensures { IfOk result (λ said. said ≡ opened_said (flat_map string_bytes made.items) extraction.now) }
+    ensures said { IfOk result (λ said. said ≡ opened_said (flat_map string_bytes made.items) extraction.now) }
+    ensures clash { (two : TwoOpeningsSeen) → extraction.now ≡ Extraction.Clash two
+        → result ≡ Ok (record { status = 3; text = clash_text two }) }
 {
     match extraction {
         Extraction::Bids(found) => {

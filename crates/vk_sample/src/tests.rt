@@ -7,7 +7,7 @@ use crate::summary::made_lines;
 use std::alloc::Global;
 use std::test::Fail;
 use vk_effect::Said;
-use vk_io::{MemShelf, OutsideErr};
+use vk_io::{MemShelf, MemSink, OutsideErr};
 use vk_report::sample_case;
 
 // The bids 0, 3 and 1 of one seal.
@@ -105,11 +105,10 @@ fn shelf_with(alloc: Global, second_challenge: &str, second_reply: &str) -> Resu
 }
 
 /// The text of what is said.
-fn text_of(alloc: Global, said: &Said) -> Result<String, Fail> {
-    let mut text = String::new(alloc);
-    for line in said.lines() {
-        text.push_str(line.as_str())?;
-    }
+fn text_of(alloc: Global, said: &Said) -> Result<Vec<u8>, Fail> {
+    let mut out = MemSink::new(alloc);
+    said.print(&mut out)?;
+    let text = Vec::from_slice(alloc, out.bytes())?;
     Ok(text)
 }
 
@@ -140,7 +139,7 @@ fn files_are_judged_and_extracted_as_they_are_read_back(rt: HostRuntime) -> Resu
         let said = read_back(rt.alloc(), &mut shelf, one_line(rt.alloc())?)?;
         assert_eq!(rt; said.status(), status);
         let said = text_of(rt.alloc(), &said)?;
-        assert_eq!(rt; said.as_str(), text);
+        assert_eq!(rt; said.as_slice(), text.as_bytes());
     }
     Ok(())
 }
@@ -186,13 +185,14 @@ fn the_first_lines_are_of_the_auction_that_was_made(rt: HostRuntime) -> Result<(
     let said = Said::of_lines(0, lines);
     let text = text_of(alloc, &said)?;
     assert_eq!(rt;
-        text.as_str(),
-        "sample 1
+        text.as_slice(),
+        b"sample 1
 seals 20 width 32 lanes 40
 board lines 104908
 reply lines 100963
 winner 102 price 3906057492
 "
+            .as_slice()
     );
     Ok(())
 }
@@ -207,10 +207,10 @@ fn a_dry_seed_is_said(rt: HostRuntime) -> Result<(), Fail> {
         ),
     ];
     for (dry, text) in table {
-        let said = dry.said(rt.alloc())?;
+        let said = dry.said()?;
         assert_eq!(rt; said.status(), 8);
         let said = text_of(rt.alloc(), &said)?;
-        assert_eq!(rt; said.as_str(), text);
+        assert_eq!(rt; said.as_slice(), text.as_bytes());
     }
     Ok(())
 }

@@ -4,3 +4,4 @@ pub mod Reading
 pub mod Tables
 pub mod Made
 pub mod Match
+pub mod Mismatches

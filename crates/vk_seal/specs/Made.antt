@@ -113,9 +113,9 @@ IsExpected (Ok x) expected = Ok x ≡ expected
 IsExpected (Err BidTooLarge) expected = Err BidTooLarge ≡ expected
 IsExpected (Err (DrySeed lane)) expected = Err (DrySeed lane) ≡ expected
 
--- the tapes that were drawn, or the first lane whose tape can't be, unless it is want of memory
+-- the tapes that were drawn, or the first lane whose tape can't be
 abbrev pub TapesAnswer : Result (List XTape) SealErr → Result (List XTape) ℕ → Type 0
 TapesAnswer (Ok tapes) expected = expected ≡ Ok tapes
 TapesAnswer (Err (DrySeed lane)) expected = expected ≡ Err lane
 TapesAnswer (Err BidTooLarge) expected = ⊥
-TapesAnswer (Err NoMemory) expected = Unit {0}
+TapesAnswer (Err NoMemory) expected = ⊥

@@ -4,6 +4,7 @@
 mod laws;
 mod making;
 mod matching;
+mod printing;
 mod reading;
 mod secret;
 mod writing;
@@ -15,6 +16,7 @@ pub use laws::{
 };
 pub use making::{SealErr, make_seal};
 pub use matching::{Mismatch, matches};
+pub use printing::with_mismatch;
 pub use reading::{read_seal, read_secret};
 pub use secret::{Seal, Secret, XTape};
 pub use writing::{seal_text, secret_text};

@@ -1,4 +1,4 @@
-ghost use Rattle.std.specs.Prelude.{◌≡◌, ◌<◌, ◌≤◌, ◌^◌, [], length, Ok, IfOk, IfErr, IfSome};
+ghost use Rattle.std.specs.Prelude.{◌≡◌, ◌<◌, ◌≤◌, ◌^◌, [], length, vec_capacity, Ok, Err, IfOk, IfSome, IsErrOf};
 ghost use Rattle.std.specs.List.{All};
 ghost use Rattle.vk_seal.specs.Made.{IsExpected, Leaves, TapesAnswer, made_seal, sealed_tapes, tapes_onto, drawn_tape, after_drawn, after_tapes, after_seal, lane_com, lane_coms};
 ghost use Rattle.vk_seal.specs.Match.{match_of};
@@ -6,7 +6,7 @@ ghost use Rattle.vk_wire.specs.Values.{IsCom};
 ghost use Rattle.vk_seal.specs.Values.{IsSeal, IsSecret, IsXTape};
 
 use crate::secret::{Seal, Secret, XTape};
-use std::alloc::{AllocFailed, Global};
+use std::alloc::{AllocError, Global};
 use vk_commit::Place;
 use vk_dice::{Words, draw_key, draw_residue};
 use vk_plan::WireKind;
@@ -25,20 +25,20 @@ pub enum SealErr {
     NoMemory,
 }
 
-impl<T: Drop> From<AllocFailed<T>> for SealErr {
+impl From<AllocError> for SealErr {
     ghost use Rattle.std.specs.Prelude.{◌≡◌};
     ghost use Rattle.vk_seal.specs.declared.making.SealErr.TheVariants.{NoMemory};
 
     ghost from_gives = { λ _ e. e ≡ NoMemory };
 
-    fn from(_refused: AllocFailed<T>) -> SealErr {
+    fn from(_refused: AllocError) -> SealErr {
         SealErr::NoMemory
     }
 }
 
 /// Makes the secret of a bid and its seal. For each lane a residue and two keys are drawn from the
-/// words, in this order. A bid that is too large takes no word, and a residue that can't be drawn is
-/// the last that is taken.
+/// words, in this order. A bid that is too large takes no word and no memory, and a residue that can't
+/// be drawn is the last that is taken. All memory is taken before the first word.
 pub fn make_seal<W: Words>(
     alloc: Global,
     bid: u64,
@@ -55,6 +55,8 @@ pub fn make_seal<W: Words>(
     requires few_lanes { lanes ≤ 64 }
     ensures made { IsExpected result (made_seal bid seat auction.now width lanes (W.ahead words.old)) }
     ensures left { Leaves result (after_seal bid width lanes (W.ahead words.old)) (W.ahead words.new) }
+    ensures too_large { 2 ^ width ≤ bid → result ≡ Err SealErr.BidTooLarge }
+    ensures memory { IsErrOf result SealErr.NoMemory → W.ahead words.new ≡ W.ahead words.old }
     ensures secret { IfOk result (λ made. IsSecret made.0) }
     ensures seal { IfOk result (λ made. IsSeal made.1) }
     ensures matched { IfOk result (λ made. match_of made.0 made.1 ≡ Ok tt) }
@@ -62,32 +64,35 @@ pub fn make_seal<W: Words>(
     if bid >= 1 << width {
         return Err(SealErr::BidTooLarge);
     }
-    let tapes = draw_tapes(alloc, lanes, words)?;
-    let made = seal_tapes(alloc, bid, seat, auction, tapes)?;
+    let tapes = Vec::with_capacity(alloc, lanes as usize)?;
+    let coms = Vec::with_capacity(alloc, lanes as usize)?;
+    let tapes = draw_tapes(tapes, lanes, words)?;
+    let made = seal_tapes(bid, seat, auction, tapes, coms);
     Ok(made)
 }
 
-/// The secret of a bid with these tapes, and its seal.
+/// The secret of a bid with these tapes, and its seal, whose commitments go into that room.
 fn seal_tapes(
-    alloc: Global,
     bid: u64,
     seat: u16,
     auction: &[u8; 16],
     tapes: Seq<XTape>,
-) -> Result<(Secret, Seal), SealErr>
+    coms: Vec<WireCom>,
+) -> (Secret, Seal)
     requires small_bid { bid < 2 ^ 40 }
     requires some_seat { 1 ≤ seat }
     requires some_lane { 1 ≤ length tapes }
     requires few_lanes { length tapes ≤ 64 }
     requires tapes { All IsXTape tapes }
-    ensures made { IfOk result (λ made. made ≡ sealed_tapes auction.now seat bid tapes) }
-    ensures secret { IfOk result (λ made. IsSecret made.0) }
-    ensures seal { IfOk result (λ made. IsSeal made.1) }
-    ensures matched { IfOk result (λ made. match_of made.0 made.1 ≡ Ok tt) }
-    ensures memory { IfErr result (λ e. e ≡ SealErr.NoMemory) }
+    requires no_coms { coms.items ≡ [] }
+    requires room { length tapes ≤ vec_capacity coms }
+    ensures made { result ≡ sealed_tapes auction.now seat bid tapes }
+    ensures secret { IsSecret result.0 }
+    ensures seal { IsSeal result.1 }
+    ensures matched { match_of result.0 result.1 ≡ Ok tt }
 {
-    let coms = commit_lanes(alloc, auction, seat, bid, tapes.as_slice())?;
-    Ok((
+    let lanes = commit_lanes(auction, seat, bid, tapes.as_slice(), coms);
+    (
         Secret {
             auction: *auction,
             seat,
@@ -97,25 +102,30 @@ fn seal_tapes(
         Seal {
             auction: *auction,
             seat,
-            lanes: coms,
+            lanes,
         },
-    ))
+    )
 }
 
-/// Draws the tapes of so many lanes.
-fn draw_tapes<W: Words>(alloc: Global, lanes: u32, words: &mut W) -> Result<Seq<XTape>, SealErr>
-    requires { lanes ≤ 64 }
+/// Draws the tapes of so many lanes into that room.
+fn draw_tapes<W: Words>(
+    mut tapes: Vec<XTape>,
+    lanes: u32,
+    words: &mut W,
+) -> Result<Seq<XTape>, SealErr>
+    requires few_lanes { lanes ≤ 64 }
+    requires no_tapes { tapes.items ≡ [] }
+    requires room { lanes ≤ vec_capacity tapes }
     ensures drawn { TapesAnswer result (tapes_onto [] lanes (W.ahead words.old)) }
     ensures left { Leaves result (after_tapes lanes (W.ahead words.old)) (W.ahead words.new) }
     ensures tapes { IfOk result (λ tapes. All IsXTape tapes) }
     ensures count { IfOk result (λ tapes. length tapes ≡ lanes) }
 {
-    let mut tapes = Seq::new(alloc);
     for lane in 0..lanes {
         let tape = draw_tape(words).ok_or(SealErr::DrySeed { lane: lane + 1 })?;
-        tapes.push(tape)?;
+        tapes.push(tape).unwrap();
     }
-    Ok(tapes)
+    Ok(Seq::from_vec(tapes))
 }
 
 /// Draws the tape of one lane.
@@ -134,25 +144,26 @@ fn draw_tape<W: Words>(words: &mut W) -> Option<XTape>
     })
 }
 
-/// The commitments of each lane.
+/// The commitments of each lane, put into that room.
 fn commit_lanes(
-    alloc: Global,
     auction: &[u8; 16],
     seat: u16,
     bid: u64,
     tapes: &[XTape],
-) -> Result<Seq<WireCom>, SealErr>
+    mut coms: Vec<WireCom>,
+) -> Seq<WireCom>
     requires small_bid { bid < 2 ^ 40 }
     requires few_lanes { length tapes.now ≤ 64 }
-    ensures coms { IfOk result (λ coms. coms ≡ lane_coms auction.now seat bid 1 tapes.now) }
-    ensures digests { IfOk result (λ coms. All IsCom coms) }
-    ensures memory { IfErr result (λ e. e ≡ SealErr.NoMemory) }
+    requires no_coms { coms.items ≡ [] }
+    requires room { length tapes.now ≤ vec_capacity coms }
+    ensures coms { result ≡ lane_coms auction.now seat bid 1 tapes.now }
+    ensures digests { All IsCom result }
 {
-    let mut coms = Seq::new(alloc);
     for (index, tape) in tapes.iter().enumerate() {
-        coms.push(commit_lane(auction, seat, bid, index as u16 + 1, tape))?;
+        let com = commit_lane(auction, seat, bid, index as u16 + 1, tape);
+        coms.push(com).unwrap();
     }
-    Ok(coms)
+    Seq::from_vec(coms)
 }
 
 /// The commitments of one lane.

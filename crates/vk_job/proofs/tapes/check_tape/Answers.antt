@@ -1,9 +1,14 @@
-use Rattle.std.proofs.Common.{ap, None}
-use Rattle.vk_job.specs.Jobs.{dry_or}
+use Rattle.std.proofs.Common.{Some, None}
+use Rattle.vk_dice.specs.Stream.{words_ahead}
+use Rattle.vk_job.proofs.Dry.{lane_refusal}
 use Rattle.vk_job.proofs.tapes.check_tape.Goals as goal
 
-pub returns-in-Ok : goal.returns-in-Ok
-returns-in-Ok c = ap (λ found. dry_or found c.args.lane None) c.in-Ok.ensures.drawn
+pub returns-in-Some : goal.returns-in-Some
+returns-in-Some c =
+    lane_refusal c.args.auction.now c.args.seed.now c.args.lane c.len-inputs.result c.further_wires.result (words_ahead c.words_of-words.result) c.first_dry.result (Some c.in-Some.wire)
+    c.len-inputs.ensures c.further_wires.ensures.wires c.words_of-words.ensures c.first_dry.ensures c.in-Some.is
 
-pub returns-in-Err-DrySeed : goal.returns-in-Err-DrySeed
-returns-in-Err-DrySeed c = ap (λ found. dry_or found c.args.lane None) (rw c.in-Err-DrySeed.field-0-is at c.in-Err-DrySeed.ensures.drawn)
+pub returns-in-None : goal.returns-in-None
+returns-in-None c =
+    lane_refusal c.args.auction.now c.args.seed.now c.args.lane c.len-inputs.result c.further_wires.result (words_ahead c.words_of-words.result) c.first_dry.result None
+    c.len-inputs.ensures c.further_wires.ensures.wires c.words_of-words.ensures c.first_dry.ensures c.in-None.is
