@@ -2,4 +2,3 @@ pub mod Finite
 pub mod Places
 pub mod Reading
 pub mod WritingLemmas
-pub mod Transfers

@@ -19,3 +19,9 @@ abbrev pub IsWithin : ℕ → Content → Type 0
 IsWithin most Missing = ⊤
 IsWithin most TooLong = ⊤
 IsWithin most (Held bytes) = length bytes ≤ most
+
+-- where no bytes are taken, and so no memory
+abbrev pub TakesNone : Content → Type 0
+TakesNone Missing = ⊤
+TakesNone TooLong = ⊤
+TakesNone (Held bytes) = ⊥

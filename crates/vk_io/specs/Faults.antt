@@ -17,6 +17,11 @@ abbrev pub Causes : {T E : Type 0} → E → Result T E → ℕ → ℕ → Type
 Causes fault (Ok value) old new = new ≡ old
 Causes fault (Err refusal) old new = (refusal ≡ fault → Rose old new) × (refusal ≢ fault → new ≡ old)
 
+-- a call that answers no such error left the count as it was
+abbrev pub MayCause : {T E : Type 0} → E → Result T E → ℕ → ℕ → Type 0
+MayCause fault (Ok value) old new = new ≡ old
+MayCause fault (Err refusal) old new = refusal ≢ fault → new ≡ old
+
 -- a refusal of the outside in the words of another error
 abbrev pub told_as : {E : Type 0} → E → E → OutsideErr → E
 told_as failed no_memory Failed = failed

@@ -5,15 +5,17 @@ use Rattle.std.specs.FinMap as finite
 use Rattle.vk_io.specs.Faults.{Calls}
 use Rattle.vk_io.specs.Files.{Files}
 
--- a shelf in memory: its files, and its calls
+-- a shelf in memory: its files, its calls, and how many of these wanted memory
 pub record MemoryFiles : Type 0 where
   pub files : Files
   pub calls : Calls
+  pub wants : ℕ
 
--- a sink in memory: the bytes that it took, and its calls
+-- a sink in memory: the bytes that it took, its calls, and how many of these wanted memory
 pub record MemoryBytes : Type 0 where
   pub taken : List ℕ
   pub calls : Calls
+  pub wants : ℕ
 
 abbrev pub calls_code : Coded Calls
 calls_code =
@@ -22,5 +24,5 @@ calls_code =
 
 abbrev pub files_code : Coded MemoryFiles
 files_code =
-    code_by (Files × Calls) (coded× (finite.code (coded_list coded_ℕ) (coded_list coded_ℕ)) calls_code)
-    (λ m. (m.files, m.calls)) (λ p. record { files = p.0; calls = p.1 }) (λ _. refl)
+    code_by (Files × (Calls × ℕ)) (coded× (finite.code (coded_list coded_ℕ) (coded_list coded_ℕ)) (coded× calls_code coded_ℕ))
+    (λ m. (m.files, (m.calls, m.wants))) (λ p. record { files = p.0; calls = p.1.0; wants = p.1.1 }) (λ _. refl)

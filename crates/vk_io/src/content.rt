@@ -1,11 +1,11 @@
 ghost use Rattle.std.specs.Prelude.{◌≡◌, ◌<◌, ◌≤◌, take, vec_len, IfSome, IfOk, IsErrOf};
-ghost use Rattle.vk_io.specs.Content.{content_of, IsWithin};
-ghost use Rattle.vk_io.specs.Faults.{Causes};
+ghost use Rattle.vk_io.specs.Content.{content_of, IsWithin, TakesNone};
+ghost use Rattle.vk_io.specs.Faults.{Causes, MayCause};
 ghost use Rattle.vk_io.specs.Reads.{OnlyReads};
 ghost use Rattle.vk_io.specs.Files.{bytes_of};
 
+use crate::appending::put_behind;
 use crate::errors::OutsideErr;
-use crate::pieces::put_behind;
 use crate::shelf::Shelf;
 use std::alloc::Global;
 use vk_seq::Seq;
@@ -35,7 +35,10 @@ pub fn read_whole<S: Shelf>(
     ensures told { IfSome (S.held shelf.old)
         (λ files. IfOk result (λ content. content ≡ content_of files name.now most)) }
     ensures within { IfOk result (IsWithin most) }
+    ensures free { IfSome (S.held shelf.old) (λ files. TakesNone (content_of files name.now most)
+        → Causes OutsideErr.NoMemory result (S.Shelf.wants shelf.old) (S.Shelf.wants shelf.new)) }
     ensures shelf { OnlyReads S.held S.Shelf.faults OutsideErr.Failed result shelf.old shelf.new }
+    ensures wants { MayCause OutsideErr.NoMemory result (S.Shelf.wants shelf.old) (S.Shelf.wants shelf.new) }
 {
     let length = shelf.length(name)?;
     match length {
@@ -61,6 +64,7 @@ fn read_bytes<S: Shelf>(
         (λ files. IfOk result (λ bytes. bytes.items ≡ take size (bytes_of files name.now))) }
     ensures within { IfOk result (λ bytes. vec_len bytes ≤ size) }
     ensures shelf { OnlyReads S.held S.Shelf.faults OutsideErr.Failed result shelf.old shelf.new }
+    ensures wants { MayCause OutsideErr.NoMemory result (S.Shelf.wants shelf.old) (S.Shelf.wants shelf.new) }
 {
     let mut bytes = Vec::new(alloc);
     let mut piece = [0u8; PIECE];

@@ -1,5 +1,5 @@
-ghost use Rattle.std.specs.Prelude.{◌≡◌};
-ghost use Rattle.vk_io.specs.Faults.{told_as};
+ghost use Rattle.std.specs.Prelude.{◌≡◌, Ok, Err, IfOk, OnErr};
+ghost use Rattle.vk_io.specs.Faults.{Causes, told_as};
 
 use thiserror::Error;
 use vk_residue::NoMemory;
@@ -34,6 +34,22 @@ impl OutsideErr {
         match self {
             OutsideErr::Failed => failed,
             OutsideErr::NoMemory => no_memory,
+        }
+    }
+}
+
+/// What an answer of the program's own memory is to the caller of a shelf or a sink: want of memory
+/// is counted, and nothing else is.
+pub fn count_want<T: Drop>(answer: Result<T, NoMemory>, wants: &mut u64) -> Result<T, OutsideErr>
+    ensures value { IfOk answer (λ value. result ≡ Ok value) }
+    ensures refused { OnErr answer (result ≡ Err OutsideErr.NoMemory) }
+    ensures wants { Causes OutsideErr.NoMemory result wants.old wants.new }
+{
+    match answer {
+        Ok(value) => Ok(value),
+        Err(NoMemory) => {
+            *wants = wants.saturating_add(1);
+            Err(OutsideErr::NoMemory)
         }
     }
 }

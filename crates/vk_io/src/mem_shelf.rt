@@ -5,7 +5,7 @@ ghost use Rattle.vk_io.specs.Files.{bytes_of, part_of, Told, Creates, Appends};
 ghost use Rattle.vk_io.specs.declared.errors.OutsideErr.TheVariants.{Failed};
 
 use crate::calls::CallCount;
-use crate::errors::OutsideErr;
+use crate::errors::{OutsideErr, count_want};
 use crate::named::{NamedFile, append_to, bytes_at, length_in, read_in, write_over};
 use crate::shelf::Shelf;
 use std::alloc::Global;
@@ -18,6 +18,7 @@ use vk_residue::NoMemory;
 pub struct MemShelf {
     files: Vec<NamedFile>,
     calls: CallCount,
+    wants: u64,
     alloc: Global,
 }
 
@@ -30,18 +31,19 @@ impl Model for MemShelf {
 
     ghost use Rattle.vk_io.specs.Named.{files_in};
 
-    ghost view = { λ s. record { files = files_in s.files.items; calls = s.calls } };
+    ghost view = { λ s. record { files = files_in s.files.items; calls = s.calls; wants = s.wants } };
 }
 
 impl MemShelf {
     /// No files, and no call that is to fail. What is held later is made with this allocator.
     #[tactic(auto, unfolding(crate::specs::Named::files_in))]
     pub fn new(alloc: Global) -> MemShelf
-        ensures { result ≡ record { files = map.empty; calls = record { made = 0; failing = []; faults = 0 } } }
+        ensures { result ≡ record { files = map.empty; calls = record { made = 0; failing = []; faults = 0 }; wants = 0 } }
     {
         MemShelf {
             files: Vec::new(alloc),
             calls: CallCount::new(alloc),
+            wants: 0,
             alloc,
         }
     }
@@ -82,12 +84,17 @@ impl Shelf for MemShelf {
 
     ghost faults = { λ s. s.calls.faults };
 
+    ghost wants = { λ s. s.wants };
+
+    ghost length_gives = { λ _ _ _ _. Unit {0} };
+
     fn length(&mut self, name: &str) -> Result<Option<u64>, OutsideErr>
         ensures exact { result ≡ (if fails_next self.old.calls then Err Failed
             else Ok (option_map length (map.get self.old.files name.now))) }
         ensures files { self.new.files ≡ self.old.files }
         ensures counted { self.new.calls ≡ after_call self.old.calls }
         ensures causes { Causes OutsideErr.Failed result self.old.calls.faults self.new.calls.faults }
+        ensures wants { Causes OutsideErr.NoMemory result self.old.wants self.new.wants }
     {
         self.calls.begin()?;
         Ok(length_in(&self.files, name))
@@ -102,6 +109,7 @@ impl Shelf for MemShelf {
         ensures files { self.new.files ≡ self.old.files }
         ensures counted { self.new.calls ≡ after_call self.old.calls }
         ensures causes { Causes OutsideErr.Failed result self.old.calls.faults self.new.calls.faults }
+        ensures wants { Causes OutsideErr.NoMemory result self.old.wants self.new.wants }
     {
         self.calls.begin()?;
         Ok(read_in(&self.files, name, at, into))
@@ -113,10 +121,11 @@ impl Shelf for MemShelf {
         ensures refused { OnErr result (self.new.files ≡ self.old.files) }
         ensures counted { self.new.calls ≡ after_call self.old.calls }
         ensures causes { Causes OutsideErr.Failed result self.old.calls.faults self.new.calls.faults }
+        ensures wants { Causes OutsideErr.NoMemory result self.old.wants self.new.wants }
     {
         self.calls.begin()?;
-        write_over(self.alloc, &mut self.files, name, Vec::new(self.alloc))?;
-        Ok(())
+        let answer = write_over(self.alloc, &mut self.files, name, Vec::new(self.alloc));
+        count_want(answer, &mut self.wants)
     }
 
     fn append(&mut self, name: &str, piece: &[u8]) -> Result<(), OutsideErr>
@@ -126,9 +135,10 @@ impl Shelf for MemShelf {
         ensures refused { OnErr result (self.new.files ≡ self.old.files) }
         ensures counted { self.new.calls ≡ after_call self.old.calls }
         ensures causes { Causes OutsideErr.Failed result self.old.calls.faults self.new.calls.faults }
+        ensures wants { Causes OutsideErr.NoMemory result self.old.wants self.new.wants }
     {
         self.calls.begin()?;
-        append_to(self.alloc, &mut self.files, name, piece)?;
-        Ok(())
+        let answer = append_to(self.alloc, &mut self.files, name, piece);
+        count_want(answer, &mut self.wants)
     }
 }

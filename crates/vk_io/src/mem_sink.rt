@@ -2,9 +2,9 @@ ghost use Rattle.std.specs.Prelude.{◌≡◌, ℕ, ◌≤◌, ◌++◌, ◌↔�
 ghost use Rattle.vk_io.specs.Faults.{Causes, fails_next, fails_too, after_call};
 ghost use Rattle.vk_io.specs.Files.{Told, Takes};
 
+use crate::appending::put_behind;
 use crate::calls::CallCount;
-use crate::errors::OutsideErr;
-use crate::pieces::put_behind;
+use crate::errors::{OutsideErr, count_want};
 use crate::sink::Sink;
 use std::alloc::Global;
 use std::marker::Model;
@@ -16,6 +16,7 @@ use vk_residue::NoMemory;
 pub struct MemSink {
     taken: Vec<u8>,
     calls: CallCount,
+    wants: u64,
 }
 
 impl Model for MemSink {
@@ -23,17 +24,18 @@ impl Model for MemSink {
 
     ghost Value = { MemoryBytes };
 
-    ghost view = { λ s. record { taken = s.taken.items; calls = s.calls } };
+    ghost view = { λ s. record { taken = s.taken.items; calls = s.calls; wants = s.wants } };
 }
 
 impl MemSink {
     /// Nothing taken, and no call that is to fail.
     pub fn new(alloc: Global) -> MemSink
-        ensures { result ≡ record { taken = []; calls = record { made = 0; failing = []; faults = 0 } } }
+        ensures { result ≡ record { taken = []; calls = record { made = 0; failing = []; faults = 0 }; wants = 0 } }
     {
         MemSink {
             taken: Vec::new(alloc),
             calls: CallCount::new(alloc),
+            wants: 0,
         }
     }
 
@@ -62,15 +64,18 @@ impl Sink for MemSink {
 
     ghost faults = { λ s. s.calls.faults };
 
+    ghost wants = { λ s. s.wants };
+
     fn put(&mut self, piece: &[u8]) -> Result<(), OutsideErr>
         ensures fails { IsErrOf result OutsideErr.Failed ↔ IsTrue (fails_next self.old.calls) }
         ensures put { OnOk result (self.new.taken ≡ self.old.taken ++ piece.now) }
         ensures refused { OnErr result (self.new.taken ≡ self.old.taken) }
         ensures counted { self.new.calls ≡ after_call self.old.calls }
         ensures causes { Causes OutsideErr.Failed result self.old.calls.faults self.new.calls.faults }
+        ensures wants { Causes OutsideErr.NoMemory result self.old.wants self.new.wants }
     {
         self.calls.begin()?;
-        put_behind(&mut self.taken, piece)?;
-        Ok(())
+        let answer = put_behind(&mut self.taken, piece);
+        count_want(answer, &mut self.wants)
     }
 }

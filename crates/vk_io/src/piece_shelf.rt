@@ -1,4 +1,4 @@
-ghost use Rattle.std.specs.Prelude.{◌≡◌, ◌≤◌, ◌↔◌, ◌||◌, ◌++◌, nat_lt, length, drop, option_map, IsTrue, IsErrOf, IfOk};
+ghost use Rattle.std.specs.Prelude.{◌≡◌, ◌<◌, ◌≤◌, ◌↔◌, ◌||◌, ◌++◌, nat_lt, length, drop, option_map, IsTrue, IsErrOf, IfOk, OnErr};
 ghost use Rattle.std.specs.FinMap as map;
 ghost use Rattle.vk_io.specs.Faults.{Causes, fails_next, one_more};
 ghost use Rattle.vk_io.specs.Files.{bytes_of, part_of, Creates, Appends};
@@ -68,11 +68,16 @@ impl Shelf for PieceShelf {
 
     ghost faults = { λ s. s.faults };
 
+    ghost wants = { λ s. s.inner.wants };
+
+    ghost length_gives = { λ _ _ _ _. Unit {0} };
+
     fn length(&mut self, name: &str) -> Result<Option<u64>, OutsideErr>
         ensures answer { IfOk result (λ n. n ≡ option_map length (map.get self.old.inner.files name.now)) }
         ensures fails { IsErrOf result OutsideErr.Failed ↔ IsTrue (fails_next self.old.inner.calls) }
         ensures files { self.new.inner.files ≡ self.old.inner.files }
         ensures causes { Causes OutsideErr.Failed result self.old.faults self.new.faults }
+        ensures wants { Causes OutsideErr.NoMemory result self.old.inner.wants self.new.inner.wants }
     {
         let answer = self.inner.length(name);
         self.passed(answer)
@@ -83,10 +88,13 @@ impl Shelf for PieceShelf {
         ensures count { IfOk result (λ n. n ≡ length (part_of (bytes_of self.old.inner.files name.now) at (length into.old))) }
         ensures bytes { IfOk result (λ n. into.new
             ≡ part_of (bytes_of self.old.inner.files name.now) at (length into.old) ++ drop n into.old) }
+        ensures unread { OnErr result (into.new ≡ into.old) }
+        ensures too_large { 4096 < length into.old → self.new.inner ≡ self.old.inner }
         ensures fails { IsErrOf result OutsideErr.Failed
             ↔ IsTrue (nat_lt 4096 (length into.old) || fails_next self.old.inner.calls) }
         ensures files { self.new.inner.files ≡ self.old.inner.files }
         ensures causes { Causes OutsideErr.Failed result self.old.faults self.new.faults }
+        ensures wants { Causes OutsideErr.NoMemory result self.old.inner.wants self.new.inner.wants }
     {
         if MOST_READ < into.len() {
             return Err(self.fault());
@@ -99,6 +107,7 @@ impl Shelf for PieceShelf {
         ensures created { Creates name.now result self.old.inner.files self.new.inner.files }
         ensures fails { IsErrOf result OutsideErr.Failed ↔ IsTrue (fails_next self.old.inner.calls) }
         ensures causes { Causes OutsideErr.Failed result self.old.faults self.new.faults }
+        ensures wants { Causes OutsideErr.NoMemory result self.old.inner.wants self.new.inner.wants }
     {
         let answer = self.inner.create(name);
         self.passed(answer)
@@ -106,9 +115,11 @@ impl Shelf for PieceShelf {
 
     fn append(&mut self, name: &str, piece: &[u8]) -> Result<(), OutsideErr>
         ensures appended { Appends name.now piece.now result self.old.inner.files self.new.inner.files }
+        ensures too_long { 2097152 < length piece.now → self.new.inner ≡ self.old.inner }
         ensures fails { IsErrOf result OutsideErr.Failed
             ↔ IsTrue (nat_lt 2097152 (length piece.now) || fails_next self.old.inner.calls) }
         ensures causes { Causes OutsideErr.Failed result self.old.faults self.new.faults }
+        ensures wants { Causes OutsideErr.NoMemory result self.old.inner.wants self.new.inner.wants }
     {
         if MOST_APPENDED < piece.len() {
             return Err(self.fault());

@@ -1,5 +1,6 @@
-ghost use Rattle.std.specs.Prelude.{◌≡◌, ℕ, ◌≤◌, ◌++◌, length, drop, Option, option_map, IfSome, IfOk, IsErrOf};
+ghost use Rattle.std.specs.Prelude.{◌≡◌, ℕ, ◌≤◌, ◌++◌, List, length, drop, Option, Result, option_map, IfSome, IfOk, IsErrOf};
 ghost use Rattle.std.specs.FinMap as map;
+ghost use Rattle.vk_io.specs.declared.errors.OutsideErr.{OutsideErr};
 ghost use Rattle.vk_io.specs.Faults.{Causes};
 ghost use Rattle.vk_io.specs.Reads.{OnlyReads};
 ghost use Rattle.vk_io.specs.Files.{Files, bytes_of, part_of, Told, Creates, Appends};
@@ -15,11 +16,19 @@ pub trait Shelf {
     /// How many faults of the outside were met. It never falls.
     ghost faults: { Self → ℕ };
 
+    /// How many calls wanted memory that wasn't there. It never falls.
+    ghost wants: { Self → ℕ };
+
+    /// Whether `length` of that name may answer so, and leave the shelf like this.
+    ghost length_gives: { Self → List ℕ → Result (Option ℕ) OutsideErr → Self → Type 0 };
+
     /// The number of bytes of the named file. None where the name isn't held.
     fn length(&mut self, name: &str) -> Result<Option<u64>, OutsideErr>
         ensures answer { IfSome (held self.old)
             (λ files. IfOk result (λ n. n ≡ option_map length (map.get files name.now))) }
-        ensures shelf { OnlyReads held faults OutsideErr.Failed result self.old self.new };
+        ensures gave { length_gives self.old name.now result self.new }
+        ensures shelf { OnlyReads held faults OutsideErr.Failed result self.old self.new }
+        ensures wants { Causes OutsideErr.NoMemory result (wants self.old) (wants self.new) };
 
     /// Puts the bytes of the named file from byte `at` on into the front of `into`, as many as are
     /// left or fit, and answers their number. The rest of `into` stays. 0 where the name isn't held.
@@ -31,17 +40,20 @@ pub trait Shelf {
         ensures bytes { IfSome (held self.old)
             (λ files. IfOk result (λ n.
             into.new ≡ part_of (bytes_of files name.now) at (length into.old) ++ drop n into.old)) }
-        ensures shelf { OnlyReads held faults OutsideErr.Failed result self.old self.new };
+        ensures shelf { OnlyReads held faults OutsideErr.Failed result self.old self.new }
+        ensures wants { Causes OutsideErr.NoMemory result (wants self.old) (wants self.new) };
 
     /// Makes the name hold no bytes, whether or not it was held. Refused, the file is as before or
     /// holds nothing.
     fn create(&mut self, name: &str) -> Result<(), OutsideErr>
         ensures created { Told (Creates name.now result) (held self.old) (held self.new) }
-        ensures causes { Causes OutsideErr.Failed result (faults self.old) (faults self.new) };
+        ensures causes { Causes OutsideErr.Failed result (faults self.old) (faults self.new) }
+        ensures wants { Causes OutsideErr.NoMemory result (wants self.old) (wants self.new) };
 
     /// Adds the piece at the end of the named file, which counts as empty where it isn't held.
     /// Refused, the file has grown by a prefix of the piece, or is as before.
     fn append(&mut self, name: &str, piece: &[u8]) -> Result<(), OutsideErr>
         ensures appended { Told (Appends name.now piece.now result) (held self.old) (held self.new) }
-        ensures causes { Causes OutsideErr.Failed result (faults self.old) (faults self.new) };
+        ensures causes { Causes OutsideErr.Failed result (faults self.old) (faults self.new) }
+        ensures wants { Causes OutsideErr.NoMemory result (wants self.old) (wants self.new) };
 }

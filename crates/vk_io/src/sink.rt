@@ -13,8 +13,12 @@ pub trait Sink {
     /// How many faults of the outside were met. It never falls.
     ghost faults: { Self → ℕ };
 
+    /// How many calls wanted memory that wasn't there. It never falls.
+    ghost wants: { Self → ℕ };
+
     /// Takes the piece. Refused, a prefix of it was taken.
     fn put(&mut self, piece: &[u8]) -> Result<(), OutsideErr>
         ensures put { Told (Takes piece.now result) (taken self.old) (taken self.new) }
-        ensures causes { Causes OutsideErr.Failed result (faults self.old) (faults self.new) };
+        ensures causes { Causes OutsideErr.Failed result (faults self.old) (faults self.new) }
+        ensures wants { Causes OutsideErr.NoMemory result (wants self.old) (wants self.new) };
 }

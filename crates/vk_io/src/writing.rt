@@ -1,5 +1,5 @@
 ghost use Rattle.std.specs.Prelude.{◌≡◌, ◌<◌, List, [], length, slice_index_or, IfOk};
-ghost use Rattle.vk_io.specs.Faults.{Causes};
+ghost use Rattle.vk_io.specs.Faults.{Causes, MayCause};
 ghost use Rattle.vk_io.specs.Files.{Told};
 ghost use Rattle.vk_io.specs.Writing.{WrittenFile, Writes, WritesAll, no_file, text_of, texts_of};
 
@@ -75,6 +75,7 @@ pub fn write_files<S: Shelf, F: WrittenFiles>(
 ) -> Result<(), OutsideErr>
     ensures written { Told (WritesAll (texts_of (F.files files.now)) result) (S.held shelf.old) (S.held shelf.new) }
     ensures causes { Causes OutsideErr.Failed result (S.Shelf.faults shelf.old) (S.Shelf.faults shelf.new) }
+    ensures wants { MayCause OutsideErr.NoMemory result (S.Shelf.wants shelf.old) (S.Shelf.wants shelf.new) }
 {
     for file in 0..files.count() {
         write_file(alloc, shelf, files, file)?;
@@ -93,6 +94,7 @@ fn write_file<S: Shelf, F: WrittenFiles>(
     ensures written { Told (Writes (slice_index_or (F.files files.now) file no_file).name (text_of (slice_index_or (F.files files.now) file no_file)) result)
         (S.held shelf.old) (S.held shelf.new) }
     ensures causes { Causes OutsideErr.Failed result (S.Shelf.faults shelf.old) (S.Shelf.faults shelf.new) }
+    ensures wants { MayCause OutsideErr.NoMemory result (S.Shelf.wants shelf.old) (S.Shelf.wants shelf.new) }
 {
     shelf.create(files.name(file))?;
     for index in 0..files.pieces(file) {

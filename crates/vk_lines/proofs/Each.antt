@@ -42,6 +42,9 @@ each_from_at P before (y ∷ xs) at =
 pub each_none : {X : Type 0} (P : ℕ → X → Type 0) (xs : List X) → xs ≡ [] → EachNumbered P xs
 each_none P xs none k x within = let empty : length xs ≡ 0 = ap length none in absurd (omega arith)
 
+pub one_longer : {X : Type 0} (xs ys : List X) (x : X) (number : ℕ) → length xs ≡ number → ys ≡ xs ++ x ∷ [] → length ys ≡ number + 1
+one_longer xs ys x number count pushed = ap length pushed ∙ length-append xs (x ∷ []) ∙ ap (λ n. n + 1) count
+
 pub each_more : {X : Type 0} (P : ℕ → X → Type 0) (xs ys : List X) (x : X) (number : ℕ) → length xs ≡ number → ys ≡ xs ++ x ∷ []
     → EachNumbered P xs → P number x → EachNumbered P ys
 each_more {X} P xs ys x number count pushed each right k d within =

@@ -2,6 +2,8 @@
 use Rattle.std.specs.Prelude.{◌≡◌, ◌≢◌, ℕ, ◌+◌, ◌-◌, ◌^◌, ◌==◌, ◌<◌, ◌≤◌, nat_lt, min, Bool, true, false, if◌then◌else◌, List, [], length, unwrap_or, take, drop, Option, Some, None, Result, Ok, Err, codes, IsSome, IfSome, ◌++◌}
 use Rattle.std.specs.List.{position_or_len}
 use Rattle.std.specs.FinMap.{get}
+use Rattle.vk_io.specs.declared.errors.OutsideErr.{OutsideErr}
+use Rattle.vk_io.specs.Faults.{told_as}
 use Rattle.vk_io.specs.Files.{Files, bytes_of, part_of}
 use Rattle.vk_lines.specs.declared.errors.ReadErr.{ReadErr}
 use Rattle.vk_lines.specs.declared.errors.ReadErr.TheVariants.{Malformed, Failed, NoMemory}
@@ -115,6 +117,11 @@ refusal_of (Some size) = if nat_lt (2 ^ 30) size then Some TooLong else None
 abbrev pub IsBegun : Option ℕ → Result LinesValue StartErr → Type 0
 IsBegun told (Ok lines) = refusal_of told ≡ None
 IsBegun told (Err refusal) = refusal ≡ unwrap_or (refusal_of told) refused.NoMemory
+
+-- the same, by the shelf's answer where the length was asked
+abbrev pub IsBegunBy : Result (Option ℕ) OutsideErr → Result LinesValue StartErr → Type 0
+IsBegunBy (Ok told) result = IsBegun told result
+IsBegunBy (Err outside) result = result ≡ Err (told_as refused.Failed refused.NoMemory outside)
 
 -- the line that a reader took, with what is left after it; or the number of the line that isn't there
 abbrev pub line_taken : Step → LinesValue → LinesValue → Files → Result (List ℕ × Rest) ℕ

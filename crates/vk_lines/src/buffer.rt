@@ -1,4 +1,5 @@
 ghost use Rattle.std.specs.Prelude.{◌≡◌, ◌+◌, ◌<◌, ◌≤◌, ◌++◌, [], length, take, drop, IfSome, IfOk, OnErr};
+ghost use Rattle.vk_io.specs.Faults.{Causes};
 ghost use Rattle.vk_io.specs.Files.{bytes_of, part_of};
 ghost use Rattle.vk_io.specs.Reads.{OnlyReads};
 ghost use Rattle.vk_lines.specs.Buffers.{IsEnough};
@@ -90,6 +91,7 @@ impl Buffer {
         ensures text { self.new.text ≡ self.old.text }
         ensures refused { OnErr result (self.new.ahead ≡ self.old.ahead) }
         ensures shelf { OnlyReads S.held S.Shelf.faults OutsideErr.Failed result shelf.old shelf.new }
+        ensures wants { Causes OutsideErr.NoMemory result (S.Shelf.wants shelf.old) (S.Shelf.wants shelf.new) }
     {
         let room = self.make_room(left);
         if room == 0 {
@@ -153,6 +155,7 @@ impl Buffer {
         ensures text { self.new.text ≡ self.old.text }
         ensures refused { OnErr result (self.new.ahead ≡ self.old.ahead) }
         ensures shelf { OnlyReads S.held S.Shelf.faults OutsideErr.Failed result shelf.old shelf.new }
+        ensures wants { Causes OutsideErr.NoMemory result (S.Shelf.wants shelf.old) (S.Shelf.wants shelf.new) }
     {
         let count = read_behind(shelf, name, at, &mut self.bytes, self.end, room)?;
         self.end += count;
@@ -175,6 +178,7 @@ fn read_behind<S: Shelf>(
     ensures told { IfSome (S.held shelf.old) (λ files.
         IfOk result (λ count. take count (drop end bytes.new) ≡ part_of (bytes_of files name.now) at room)) }
     ensures shelf { OnlyReads S.held S.Shelf.faults OutsideErr.Failed result shelf.old shelf.new }
+    ensures wants { Causes OutsideErr.NoMemory result (S.Shelf.wants shelf.old) (S.Shelf.wants shelf.new) }
 {
     let count = shelf.read_at(name, at, &mut bytes[end..end + room])?;
     Ok(count)

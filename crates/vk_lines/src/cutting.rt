@@ -1,14 +1,24 @@
 //! The fields of a line, which stand between single spaces.
 
-ghost use Rattle.std.specs.Prelude.{◌≡◌, ◌==◌, ◌<◌, length, slice_get, option_map, IfSome};
-ghost use Rattle.std.specs.List.{position};
+ghost use Rattle.std.specs.Prelude.{◌≡◌, ◌==◌, ◌<◌, ◌≤◌, ◌+◌, ◌↔◌, length, slice_get, option_map, IfSome, IsNone};
+ghost use Rattle.std.specs.List.{count_by, position};
 ghost use Rattle.vk_lines.specs.Tokens.{fields_of, with_fields, word_of, behind_word, one_of, two_of, three_of, four_of};
 
 use memchr::memchr;
 
+/// How many fields a line has: one more than it has spaces.
+pub fn fields(text: &[u8]) -> usize
+    ensures fields { result ≡ length (fields_of text.now) }
+    ensures spaces { result ≡ count_by (λ byte. byte == 32) text.now + 1 }
+{
+    let spaces = text.iter().filter(|byte| **byte == b' ').count();
+    spaces + 1
+}
+
 /// The field of that index, from 0, which may be empty; `None` where the line has fewer fields.
 pub fn field(text: &[u8], index: usize) -> Option<&[u8]>
-    ensures { option_map (λ x. x.now) result ≡ slice_get (fields_of text.now) index }
+    ensures bytes { option_map (λ x. x.now) result ≡ slice_get (fields_of text.now) index }
+    ensures none { IsNone result ↔ (length (fields_of text.now) ≤ index) }
 {
     text.split(|byte| *byte == b' ').nth(index)
 }

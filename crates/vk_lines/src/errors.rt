@@ -57,6 +57,14 @@ impl From<OutsideErr> for ReadErr {
     }
 }
 
+impl From<AllocError> for ReadErr {
+    ghost from_gives = { λ _ e. e ≡ unread.NoMemory };
+
+    fn from(_refused: AllocError) -> ReadErr {
+        ReadErr::NoMemory
+    }
+}
+
 impl<T: Drop> From<AllocFailed<T>> for ReadErr {
     ghost from_gives = { λ _ e. e ≡ unread.NoMemory };
 

@@ -12,7 +12,7 @@ mod tokens;
 mod writing;
 
 pub use cutting::{
-    behind_word, field, four_fields, one_field, read_word, three_fields, two_fields,
+    behind_word, field, fields, four_fields, one_field, read_word, three_fields, two_fields,
 };
 pub use digits::{push_hex, read_hex16, read_hex32};
 pub use errors::{ReadErr, StartErr};

@@ -1,10 +1,12 @@
-ghost use Rattle.std.specs.Prelude.{◌≡◌, ◌≢◌, ◌+◌, ◌-◌, ◌^◌, ◌<◌, ◌≤◌, [], length, take, drop, min, Ok, option_map, ok_or, IfSome, IfOk, OnErr};
+ghost use Rattle.std.specs.Prelude.{◌≡◌, ◌≢◌, ℕ, Option, Result, ◌+◌, ◌-◌, ◌^◌, ◌<◌, ◌≤◌, [], length, take, drop, min, Ok, option_map, ok_or, IsSome, IfSome, IfOk, OnErr};
 ghost use Rattle.std.specs.FinMap as map;
 ghost use Rattle.hex.specs.Hex.{IsBytes};
+ghost use Rattle.vk_io.specs.Faults.{Causes, MayCause};
 ghost use Rattle.vk_io.specs.Files.{Files, bytes_of, part_of};
+ghost use Rattle.vk_io.specs.declared.errors.OutsideErr.{OutsideErr};
 ghost use Rattle.vk_lines.specs.Tokens.{word_of, number_line, id_line};
 ghost use Rattle.vk_lines.specs.Buffers.{HasLooked, after_step};
-ghost use Rattle.vk_lines.specs.Lines.{Starts, KeepsFile, IsBefore, IsBegun, Reads, ReadsPart, IsNext, LinesValue, OnlyReads, line_by, text_at, rest_of, unread, feed_at, step_by, step_of, none_left, value_at, is_text, is_end, answer_by, end_at};
+ghost use Rattle.vk_lines.specs.Lines.{Starts, KeepsFile, IsBefore, IsBegun, IsBegunBy, refusal_of, Reads, ReadsPart, IsNext, LinesValue, OnlyReads, line_by, text_at, rest_of, unread, feed_at, step_by, step_of, none_left, value_at, is_text, is_end, answer_by, end_at};
 
 use crate::buffer::{Buffer, MOST_LINE};
 use crate::cutting::read_word;
@@ -43,16 +45,23 @@ impl Lines {
     /// the shelf fails, and for want of memory.
     pub fn start<S: Shelf>(alloc: Global, shelf: &mut S, name: &str) -> Result<Lines, StartErr>
         ensures told { IfSome (S.held shelf.old) (λ files. Starts files name.now result) }
+        ensures begun { (told : Result (Option ℕ) OutsideErr)
+            × S.Shelf.length_gives shelf.old name.now told shelf.new × IsBegunBy told result }
         ensures before { IfOk result (IsBefore name.now) }
+        ensures free { IfSome (S.held shelf.old) (λ files.
+            IsSome (refusal_of (option_map length (map.get files name.now)))
+            → Causes StartErr.NoMemory result (S.Shelf.wants shelf.old) (S.Shelf.wants shelf.new)) }
         ensures shelf { OnlyReads S.held S.Shelf.faults StartErr.Failed result shelf.old shelf.new }
+        ensures wants { MayCause StartErr.NoMemory result (S.Shelf.wants shelf.old) (S.Shelf.wants shelf.new) }
     {
         let told = shelf.length(name)?;
         let lines = Lines::before_first(alloc, name, told)?;
         Ok(lines)
     }
 
-    /// Before the first line of a file of this length, where it has one and may be read.
-    fn before_first(alloc: Global, name: &str, told: Option<u64>) -> Result<Lines, StartErr>
+    /// Before the first line of a file of this length, as a shelf tells it. Errs as [`Lines::start`]
+    /// does where the shelf does not fail.
+    pub fn before_first(alloc: Global, name: &str, told: Option<u64>) -> Result<Lines, StartErr>
         ensures started { (files : Files) → told ≡ option_map length (map.get files name.now) → Starts files name.now result }
         ensures before { IfOk result (IsBefore name.now) }
         ensures exact { IsBegun told result }
@@ -78,8 +87,10 @@ impl Lines {
         ensures same { IfOk result (λ step. step ≢ Step.Text → self.new.taken ≡ self.old.taken) }
         ensures text { IfOk result (λ step. step ≢ Step.Text → self.new.text ≡ self.old.text) }
         ensures taken { IfOk result (λ step. step ≡ Step.Text → self.new.taken ≡ self.old.taken + 1) }
+        ensures within { unread self.new ≤ self.new.size }
         ensures refused { OnErr result (self.new ≡ self.old) }
         ensures shelf { OnlyReads S.held S.Shelf.faults OutsideErr.Failed result shelf.old shelf.new }
+        ensures wants { Causes OutsideErr.NoMemory result (S.Shelf.wants shelf.old) (S.Shelf.wants shelf.new) }
     {
         self.look_ahead(shelf)?;
         let step = self.take_next();
@@ -92,8 +103,10 @@ impl Lines {
         ensures file { KeepsFile self.old self.new }
         ensures taken { self.new.taken ≡ self.old.taken }
         ensures text { self.new.text ≡ self.old.text }
+        ensures within { unread self.new ≤ self.new.size }
         ensures refused { OnErr result (self.new ≡ self.old) }
         ensures shelf { OnlyReads S.held S.Shelf.faults OutsideErr.Failed result shelf.old shelf.new }
+        ensures wants { Causes OutsideErr.NoMemory result (S.Shelf.wants shelf.old) (S.Shelf.wants shelf.new) }
     {
         let at = self.unread();
         let left = self.left();
@@ -120,6 +133,7 @@ impl Lines {
         ensures same { result ≢ Step.Text → self.new ≡ self.old }
         ensures taken { result ≡ Step.Text → self.new.taken ≡ self.old.taken + 1 }
         ensures file { KeepsFile self.old self.new }
+        ensures within { unread self.new ≤ self.new.size }
         ensures next { (files : Files) (before : LinesValue) → HasLooked before self.old files → IsNext result before self.new files }
     {
         let step = self.take_line();
@@ -130,6 +144,7 @@ impl Lines {
     fn take_line(&mut self) -> Step
         ensures step { result ≡ step_of self.old.ahead }
         ensures taken { self.new ≡ after_step (step_of self.old.ahead) self.old }
+        ensures within { unread self.new ≤ self.new.size }
     {
         let ahead = self.buffer.ahead();
         let feed = feed_place(ahead);
@@ -148,6 +163,15 @@ impl Lines {
         ensures { (one : Files) (other : Files) → bytes_of one self.now.name ≡ bytes_of other self.now.name → rest_of self.now one ≡ rest_of self.now other }
     {}
 
+    /// No reader goes past the length that it was told of its file, which is at most 2^30.
+    pub fn stays_within_its_file(&self)
+        ensures within { unread self.now ≤ self.now.size }
+        ensures small { self.now.size ≤ 2 ^ 30 }
+        ensures fewer { self.now.taken ≤ self.now.at }
+    {
+        let _ = &self.size;
+    }
+
     /// Takes the next line. Malformed, with that line's number, where it isn't there or has no line
     /// feed within 256 bytes.
     pub fn read_text<S: Shelf>(&mut self, shelf: &mut S) -> Result<(), ReadErr>
@@ -155,6 +179,7 @@ impl Lines {
             Reads (λ _. self.new.text) result (rest_of self.new files) (text_at (rest_of self.old files))) }
         ensures file { KeepsFile self.old self.new }
         ensures shelf { OnlyReads S.held S.Shelf.faults ReadErr.Failed result shelf.old shelf.new }
+        ensures wants { Causes ReadErr.NoMemory result (S.Shelf.wants shelf.old) (S.Shelf.wants shelf.new) }
     {
         let before = self.number();
         let step = self.next_line(shelf)?;
@@ -178,6 +203,7 @@ impl Lines {
         ensures told { ReadsPart end_at (S.held shelf.old) self.old self.new result }
         ensures file { KeepsFile self.old self.new }
         ensures shelf { OnlyReads S.held S.Shelf.faults ReadErr.Failed result shelf.old shelf.new }
+        ensures wants { Causes ReadErr.NoMemory result (S.Shelf.wants shelf.old) (S.Shelf.wants shelf.new) }
     {
         self.read_text(shelf)?;
         self.found(read_word(self.text(), b"end"))?;
@@ -193,6 +219,7 @@ impl Lines {
         ensures told { ReadsPart (line_by (word_of line.now)) (S.held shelf.old) self.old self.new result }
         ensures file { KeepsFile self.old self.new }
         ensures shelf { OnlyReads S.held S.Shelf.faults ReadErr.Failed result shelf.old shelf.new }
+        ensures wants { Causes ReadErr.NoMemory result (S.Shelf.wants shelf.old) (S.Shelf.wants shelf.new) }
     {
         self.read_text(shelf)?;
         let value = self.found(read_word(self.text(), line));
@@ -212,6 +239,7 @@ impl Lines {
         ensures file { KeepsFile self.old self.new }
         ensures within { IfOk result (λ number. (least ≤ number) × (number ≤ most)) }
         ensures shelf { OnlyReads S.held S.Shelf.faults ReadErr.Failed result shelf.old shelf.new }
+        ensures wants { Causes ReadErr.NoMemory result (S.Shelf.wants shelf.old) (S.Shelf.wants shelf.new) }
     {
         self.read_text(shelf)?;
         let value = self.found(read_number(self.text(), word, least, most));
@@ -225,6 +253,7 @@ impl Lines {
         ensures file { KeepsFile self.old self.new }
         ensures bytes { IfOk result (λ id. (length id ≡ 16) × IsBytes id) }
         ensures shelf { OnlyReads S.held S.Shelf.faults ReadErr.Failed result shelf.old shelf.new }
+        ensures wants { Causes ReadErr.NoMemory result (S.Shelf.wants shelf.old) (S.Shelf.wants shelf.new) }
     {
         self.read_text(shelf)?;
         let value = self.found(read_id(self.text(), word));

@@ -1,6 +1,7 @@
 //! So many lines of a kind, one after another.
 
-ghost use Rattle.std.specs.Prelude.{◌≡◌, ◌<◌, ◌≤◌, length, IfOk};
+ghost use Rattle.std.specs.Prelude.{◌≡◌, ◌<◌, ◌≤◌, ◌⊎◌, length, IfOk, IsErrOf};
+ghost use Rattle.vk_io.specs.Faults.{Causes, MayCause, Rose};
 ghost use Rattle.vk_lines.specs.Forms.{EachNumbered, many_at};
 ghost use Rattle.vk_lines.specs.Lines.{KeepsFile, OnlyReads, ReadsPart, line_by};
 ghost use Rattle.vk_lines.specs.declared.errors.ReadErr.TheVariants.{Failed};
@@ -35,6 +36,7 @@ pub trait LineKind {
 }
 
 /// Reads so many lines of that kind. Malformed carries the number of the first line that is none.
+/// The memory for all is taken before the first is read, and none after that.
 pub fn read_many<S: Shelf, K: LineKind>(
     alloc: Global,
     shelf: &mut S,
@@ -48,13 +50,16 @@ pub fn read_many<S: Shelf, K: LineKind>(
     ensures each { IfOk result (EachNumbered (K.is_item kind.now)) }
     ensures file { KeepsFile lines.old lines.new }
     ensures shelf { OnlyReads S.held S.Shelf.faults ReadErr.Failed result shelf.old shelf.new }
+    ensures wants { MayCause ReadErr.NoMemory result (S.Shelf.wants shelf.old) (S.Shelf.wants shelf.new) }
+    ensures first { IsErrOf result ReadErr.NoMemory
+        → (lines.new ≡ lines.old) ⊎ Rose (S.Shelf.wants shelf.old) (S.Shelf.wants shelf.new) }
 {
-    let mut items = Seq::new(alloc);
+    let mut items = Vec::with_capacity(alloc, count as usize)?;
     for number in 0..count {
         let item = read_item(shelf, lines, kind, number)?;
         items.push(item)?;
     }
-    Ok(items)
+    Ok(Seq::from_vec(items))
 }
 
 /// Reads the line of that number of its kind.
@@ -70,6 +75,7 @@ pub fn read_item<S: Shelf, K: LineKind>(
     ensures right { IfOk result (K.is_item kind.now number) }
     ensures file { KeepsFile lines.old lines.new }
     ensures shelf { OnlyReads S.held S.Shelf.faults ReadErr.Failed result shelf.old shelf.new }
+    ensures wants { Causes ReadErr.NoMemory result (S.Shelf.wants shelf.old) (S.Shelf.wants shelf.new) }
 {
     lines.read_text(shelf)?;
     let item = lines.found(kind.read(number, lines.text()));

@@ -23,6 +23,7 @@ use std::marker::Model;
 use vk_board::{Front, Head};
 use vk_io::{OutsideErr, Shelf};
 use vk_lines::Lines;
+use vk_plan::Plan;
 
 /// Reads a board, a challenge and the reply to it, and another challenge and the reply to that, lane by lane.
 /// A lane is given where both replies are accepted so far. Once no lane is given any more, it tells what the
@@ -138,6 +139,14 @@ impl TwoChecker {
             Stage::Before(_) => unreachable!(),
             Stage::Running(course) => &course.base.statement,
         }
+    }
+
+    /// The circuit of the board, to which its lanes are held.
+    pub fn plan(&self) -> &Plan
+        requires { HasBase self.now }
+        ensures { IfSome (base_of self.now) (λ base. base.statement.plan ≡ result.now) }
+    {
+        self.statement().plan()
     }
 
     /// What stands on the board before its first lane, without the rest.

@@ -11,4 +11,5 @@ loop-at-preserved g c = record {
   room = grind (arith, common_steps);
   held = c.in_ok-count.ensures.shelf.held ∙ c.loop-at.invariant.held;
   kept = c.in_ok-count.ensures.shelf.causes ∙ c.loop-at.invariant.kept;
+  wants = c.in_ok-count.ensures.wants ∙ c.loop-at.invariant.wants;
 }

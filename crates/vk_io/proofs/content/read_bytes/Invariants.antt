@@ -12,6 +12,7 @@ invariant-loop-at g l =
       room : length l.piece ≡ 4096;
       held : g.S.Shelf.held l.shelf ≡ g.S.Shelf.held l.fn.shelf;
       kept : g.S.Shelf.faults l.shelf ≡ g.S.Shelf.faults l.fn.shelf;
+      wants : g.S.Shelf.wants l.shelf ≡ g.S.Shelf.wants l.fn.shelf;
     }
 
 abbrev pub decreases-loop-at : goal.decreases-loop-at

@@ -60,4 +60,5 @@ loop-index-preserved g c =
     record {
       begun = grown file.name _ file.pieces c.loop-index.index c.as_slice.result.now c.in_ok-append.field-0 old now new (omega arith) c.name-in-loop-index.ensures (c.as_slice.ensures.value ∙ c.in_ok-piece.ensures) c.loop-index.invariant.begun c.in_ok-append.ensures.appended;
       kept = c.in_ok-append.ensures.causes ∙ c.loop-index.invariant.kept;
+      wants = c.in_ok-append.ensures.wants ∙ c.loop-index.invariant.wants;
     }

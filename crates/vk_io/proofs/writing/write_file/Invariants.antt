@@ -12,4 +12,5 @@ invariant-loop-index g l =
     record {
       begun : Told (Writes {E = OutsideErr} file.name (concat (take l.index file.pieces)) (Ok tt)) (g.S.Shelf.held l.fn.shelf) (g.S.Shelf.held l.shelf);
       kept : g.S.Shelf.faults l.shelf ≡ g.S.Shelf.faults l.fn.shelf;
+      wants : g.S.Shelf.wants l.shelf ≡ g.S.Shelf.wants l.fn.shelf;
     }

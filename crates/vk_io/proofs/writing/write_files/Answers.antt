@@ -39,6 +39,7 @@ loop-file-preserved g c =
           (told_chain (Writes {E = OutsideErr} file.name (text_of file) (Ok tt)) (WritesAll {E = OutsideErr} (texts_of (drop (i + 1) files)) answer) (WritesAll {E = OutsideErr} ((file.name, text_of file) ∷ texts_of (drop (i + 1) files)) answer)
           (all_from_rest file.name (text_of file) (texts_of (drop (i + 1) files)) answer tt) now first new c.in_ok-write_file.ensures.written rest));
       kept = c.in_ok-write_file.ensures.causes ∙ c.loop-file.invariant.kept;
+      wants = c.in_ok-write_file.ensures.wants ∙ c.loop-file.invariant.wants;
     }
 
 pub returns-clause-written : goal.returns-clause-written

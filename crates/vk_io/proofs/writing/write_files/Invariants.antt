@@ -10,4 +10,5 @@ invariant-loop-file g l =
     record {
       told : (answer : Result Unit OutsideErr) (new : Option Files) → Told (WritesAll (texts_of (drop l.file (g.F.WrittenFiles.files l.files))) answer) (g.S.Shelf.held l.shelf) new → Told (WritesAll (texts_of (g.F.WrittenFiles.files l.files)) answer) (g.S.Shelf.held l.fn.shelf) new;
       kept : g.S.Shelf.faults l.shelf ≡ g.S.Shelf.faults l.fn.shelf;
+      wants : g.S.Shelf.wants l.shelf ≡ g.S.Shelf.wants l.fn.shelf;
     }

@@ -1,25 +1,27 @@
-use Rattle.std.proofs.Common.{length-append, length, ◌-◌, ◌+◌, ◌∷◌, [], arith, rules, ◌∙◌, refl, ap}
+use Rattle.std.proofs.Common.{length, ◌-◌, ◌+◌, arith, rules, ◌∙◌, refl, ap}
 use Rattle.vk_lines.specs.Forms.{many_at}
 use Rattle.vk_lines.specs.Lines.{line_by, rest_of}
-use Rattle.vk_lines.proofs.Each.{each_none, each_more}
+use Rattle.vk_lines.proofs.Each.{each_none, each_more, one_longer}
 use Rattle.vk_lines.proofs.Loops.{numbered_begin, numbered_turn, numbered_stop, many_done}
 use Rattle.vk_lines.proofs.many.read_many.Goals as goal
 
 pub loop-number-init : goal.loop-number-init
 loop-number-init g c = record {
-  told = numbered_begin (g.S.Shelf.held c.args.shelf.now) (λ n. line_by (g.K.LineKind.item_of c.args.kind.now n)) c.new-items.result _ _ (λ files. rest_of c.args.lines.now files) c.new-items.ensures (omega arith);
-  count = ap length c.new-items.ensures;
-  each = each_none (g.K.LineKind.is_item c.args.kind.now) c.new-items.result c.new-items.ensures;
+  told = numbered_begin (g.S.Shelf.held c.args.shelf.now) (λ n. line_by (g.K.LineKind.item_of c.args.kind.now n)) c.in_ok-items.items.items _ _ (λ files. rest_of c.args.lines.now files) c.in_ok-items.ensures.items (omega arith);
+  count = ap length c.in_ok-items.ensures.items;
+  room = omega (arith, c.in_ok-items.ensures.capacity);
+  each = each_none (g.K.LineKind.is_item c.args.kind.now) c.in_ok-items.items.items c.in_ok-items.ensures.items;
   file = record { name = refl; size = refl };
   held = refl;
   kept = refl;
+  wants = refl;
 }
 
 pub returns-in_err-item-clause-told : goal.returns-in_err-item-clause-told
 returns-in_err-item-clause-told g c =
     numbered_stop (g.S.Shelf.held c.args.shelf.now) (g.S.Shelf.held c.loop-number.shelf) (λ n. line_by (g.K.LineKind.item_of c.args.kind.now n))
     (λ files. many_at c.args.count (λ before. line_by (g.K.LineKind.item_of c.args.kind.now (length before))) (rest_of c.args.lines.now files))
-    c.loop-number.items c.in_err-item.field-0.0 _ c.loop-number.number (c.args.count - c.loop-number.number) (λ files. rest_of c.loop-number.lines files) (λ files. rest_of c.read_item.new.lines files)
+    c.loop-number.items.items c.in_err-item.field-0.0 _ c.loop-number.number (c.args.count - c.loop-number.number) (λ files. rest_of c.loop-number.lines files) (λ files. rest_of c.read_item.new.lines files)
     c.loop-number.invariant.held c.loop-number.invariant.count (omega arith) (search rules) c.loop-number.invariant.told c.in_err-item.ensures.told
 
 pub loop-number-preserved : goal.loop-number-preserved
@@ -29,17 +31,20 @@ loop-number-preserved g c =
     record {
       told = numbered_turn (g.S.Shelf.held c.args.shelf.now) (g.S.Shelf.held l.shelf) (λ n. line_by (g.K.LineKind.item_of c.args.kind.now n))
           (λ files. many_at c.args.count (λ before. line_by (g.K.LineKind.item_of c.args.kind.now (length before))) (rest_of c.args.lines.now files))
-          l.items _ c.in_ok-item.item l.number (c.args.count - l.number) (c.args.count - (l.number + 1)) (λ files. rest_of l.lines files) (λ files. rest_of c.read_item.new.lines files)
-          l.invariant.held l.invariant.count (omega arith) c.in_ok-push.ensures.pushed l.invariant.told c.in_ok-item.ensures.told;
-      count = ap length c.in_ok-push.ensures.pushed ∙ length-append l.items (c.in_ok-item.item ∷ []) ∙ ap (λ n. n + 1) l.invariant.count;
-      each = each_more (g.K.LineKind.is_item c.args.kind.now) l.items _ c.in_ok-item.item l.number l.invariant.count c.in_ok-push.ensures.pushed l.invariant.each c.in_ok-item.ensures.right;
+          l.items.items c.push.new.self.items c.in_ok-item.item l.number (c.args.count - l.number) (c.args.count - (l.number + 1)) (λ files. rest_of l.lines files) (λ files. rest_of c.read_item.new.lines files)
+          l.invariant.held l.invariant.count (omega arith) c.in_ok-push.ensures.items l.invariant.told c.in_ok-item.ensures.told;
+      count = one_longer l.items.items c.push.new.self.items c.in_ok-item.item l.number l.invariant.count c.in_ok-push.ensures.items;
+      each = each_more (g.K.LineKind.is_item c.args.kind.now) l.items.items c.push.new.self.items c.in_ok-item.item l.number l.invariant.count c.in_ok-push.ensures.items l.invariant.each c.in_ok-item.ensures.right;
       file = record { name = file.name ∙ l.invariant.file.name; size = file.size ∙ l.invariant.file.size };
+      room = omega (arith, l.invariant.room, c.in_ok-push.ensures.capacity);
       held = c.in_ok-item.ensures.shelf.held ∙ l.invariant.held;
       kept = c.in_ok-item.ensures.shelf.causes ∙ l.invariant.kept;
+      wants = c.in_ok-item.ensures.wants ∙ l.invariant.wants;
     }
 
 pub returns-clause-told : goal.returns-clause-told
 returns-clause-told g c =
-    many_done (g.S.Shelf.held c.args.shelf.now) (λ before. line_by (g.K.LineKind.item_of c.args.kind.now (length before)))
+    rw c.from_vec.ensures
+    (many_done (g.S.Shelf.held c.args.shelf.now) (λ before. line_by (g.K.LineKind.item_of c.args.kind.now (length before)))
     (λ files. many_at c.args.count (λ before. line_by (g.K.LineKind.item_of c.args.kind.now (length before))) (rest_of c.args.lines.now files))
-    c.loop-number.items (c.args.count - c.loop-number.number) (λ files. rest_of c.loop-number.lines files) (omega arith) c.loop-number.invariant.told
+    c.loop-number.items.items (c.args.count - c.loop-number.number) (λ files. rest_of c.loop-number.lines files) (omega arith) c.loop-number.invariant.told)
