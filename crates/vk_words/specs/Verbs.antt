@@ -1,5 +1,5 @@
 -- Which command a first word names, and how many words it has.
-use Rattle.std.specs.Prelude.{ℕ, if◌then◌else◌, List, codes, Option, Some, None}
+use Rattle.std.specs.Prelude.{ℕ, if◌then◌else◌, Bool, true, false, List, codes, Option, Some, None}
 use Rattle.std.specs.Str.{bytes_eq}
 use Rattle.vk_words.specs.declared.verb.Verb.{Verb}
 use Rattle.vk_words.specs.declared.verb.Verb.TheVariants.{Seal, Announce, Submit, Prove, Answer, Show, Verify, Extract, Confront, Report, Sample, Ceremony}
@@ -20,6 +20,16 @@ verb_of word =
     else if bytes_eq word (codes "sample") then Some Sample
     else if bytes_eq word (codes "ceremony") then Some Ceremony
     else None
+
+-- whether it asks the keeper of the house: a command of the house, and a ceremony of such
+abbrev pub asks_house : Verb → Bool
+asks_house Announce = true
+asks_house Submit = true
+asks_house Prove = true
+asks_house Answer = true
+asks_house Show = true
+asks_house Ceremony = true
+asks_house verb = false
 
 -- how many words it has, the first included
 abbrev pub words_of : Verb → ℕ

@@ -1,7 +1,7 @@
 //! The command that words are.
 
-ghost use Rattle.std.specs.Prelude.{◌≡◌, IfSome, length, map, option_map, string_bytes};
-ghost use Rattle.vk_words.specs.Commands.{IsCommand, command_by, command_seen, command_words, house_in, house_words};
+ghost use Rattle.std.specs.Prelude.{◌≡◌, IfSome, IsFalse, length, map, option_map, string_bytes};
+ghost use Rattle.vk_words.specs.Commands.{AsksNoKeeper, IsCommand, command_by, command_seen, command_words, first_asks, house_in, house_words};
 ghost use Rattle.vk_words.specs.Orders.{IsHouseOrder, house_seen};
 ghost use Rattle.vk_words.specs.Verbs.{words_of};
 
@@ -9,7 +9,7 @@ use crate::names::{
     ConfrontNames, ExtractNames, VerifyNames, confront_names, extract_names, verify_names,
 };
 use crate::orders::{HouseOrder, SealOrder, house_order, seal_order};
-use crate::verb::{Verb, verb_of, words_of};
+use crate::verb::{Verb, asks_house, verb_of, words_of};
 use crate::word::{name, word};
 use vk_lines::read_decimal;
 
@@ -65,6 +65,30 @@ pub fn command_of(words: &[String]) -> Option<Command<'_>>
     }
     let command = command_by(verb, words);
     command
+}
+
+/// Whether words may ask the keeper of the house: whether their first is that of a command which does.
+/// What it is false of asks no keeper.
+#[tactic(auto, using(crate::proofs::Asking::asks_none))]
+pub fn may_ask_house(words: &[String]) -> bool
+    ensures first { result ≡ first_asks (map string_bytes words.now) }
+    ensures none { IsFalse result → AsksNoKeeper (command_words (map string_bytes words.now)) }
+{
+    let asks = first_asks(words);
+    asks
+}
+
+/// Whether their first word is that of a command which asks the keeper of the house.
+fn first_asks(words: &[String]) -> bool
+    ensures { result ≡ first_asks (map string_bytes words.now) }
+{
+    if words.is_empty() {
+        return false;
+    }
+    match verb_of(word(words, 0)) {
+        Some(verb) => asks_house(verb),
+        None => false,
+    }
 }
 
 /// The command of the house that the words are.

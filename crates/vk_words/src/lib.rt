@@ -8,7 +8,7 @@ mod script;
 mod verb;
 mod word;
 
-pub use command::{Command, command_of, house_order_of};
+pub use command::{Command, command_of, house_order_of, may_ask_house};
 pub use names::{AttemptNames, ConfrontNames, ExtractNames, VerifyNames};
 pub use orders::{HouseOrder, SealOrder};
 pub use script::{script_order, words_of_line, written_name};

@@ -1,7 +1,7 @@
 //! Which command a first word names, and how many words it has.
 
 ghost use Rattle.std.specs.Prelude.{◌≡◌};
-ghost use Rattle.vk_words.specs.Verbs.{verb_of, words_of};
+ghost use Rattle.vk_words.specs.Verbs.{asks_house, verb_of, words_of};
 
 /// A command, by its first word.
 #[derive(Clone, Copy, Debug)]
@@ -40,6 +40,18 @@ pub fn verb_of(word: &str) -> Option<Verb>
         _ => return None,
     };
     Some(verb)
+}
+
+/// Whether it asks the keeper of the house: a command of the house, or a ceremony of such.
+pub fn asks_house(verb: Verb) -> bool
+    ensures { result ≡ asks_house verb }
+{
+    match verb {
+        Verb::Announce | Verb::Submit | Verb::Prove | Verb::Answer | Verb::Show | Verb::Ceremony =>
+            true,
+        Verb::Seal | Verb::Verify | Verb::Extract | Verb::Confront | Verb::Report | Verb::Sample =>
+            false,
+    }
 }
 
 /// How many words it has, the first included.

@@ -1,4 +1,4 @@
-use Rattle.vickrey.proofs.perform.Goals as goal
+use Rattle.vickrey.proofs.performing.perform.Goals as goal
 
 pub returns-clause-done : goal.returns-clause-done
 returns-clause-done g c = rw c.end.ensures c.run-status.ensures.done

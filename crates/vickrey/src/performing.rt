@@ -1,0 +1,131 @@
+//! What the words of a command line do, over a house, files and an output.
+
+ghost use Rattle.std.specs.Prelude.{◌≡◌, ◌≢◌, ◌⊎◌, IfSome, map, string_bytes};
+ghost use Rattle.std.specs.Process.{exit_status};
+ghost use Rattle.vk_io.specs.Faults.{Rose};
+ghost use Rattle.vk_words.specs.Commands.{AsksNoKeeper, command_words};
+ghost use Rattle.vk_effect.specs.Effects.{outside, stores};
+ghost use Rattle.vk_app.specs.Commands.{DoesWork, work_on};
+
+use crate::ending::{end, refuse, with_fault};
+use crate::house::House;
+use crate::settling::Settle;
+use std::env;
+use std::io::ErrorKind;
+use std::process::ExitCode;
+use std::rt::Env;
+use vk_app::run;
+use vk_io::{Shelf, Sink};
+use vk_keeper::{Keeper, MemKeeper};
+use vk_residue::NoMemory;
+use vk_words::may_ask_house;
+
+/// The words behind the program's own name. None where one of them is not UTF-8.
+fn words_of<E: Env + AllocGlobal>(env: &E) -> Result<Vec<String>, NoMemory> {
+    let mut words = Vec::new(env.alloc());
+    match env::args(env) {
+        Ok(mut args) => {
+            let _name = args.next();
+            for word in args {
+                words.push(word)?;
+            }
+            Ok(words)
+        }
+        Err(error) => {
+            if error.kind() == ErrorKind::OutOfMemory {
+                return Err(NoMemory);
+            }
+            Ok(words)
+        }
+    }
+}
+
+/// Does what the words say over the shelf and the keeper, prints to the sink, and ends with the status.
+fn perform<R: Eprint + AllocGlobal, S: Shelf, K: Keeper + Drop, W: Sink>(
+    rt: &R,
+    words: &[String],
+    shelf: &mut S,
+    keeper: &mut K,
+    out: &mut W,
+) -> ExitCode
+    ensures done { IfSome (work_on (S.held shelf.old) (K.ledger keeper.old) (map string_bytes words.now))
+        (λ work. exit_status result ≢ 6 → exit_status result ≢ 9
+        → DoesWork (exit_status result) work (outside (stores (S.held shelf.old) (K.ledger keeper.old)) (W.taken out.old))
+        (outside (stores (S.held shelf.new) (K.ledger keeper.new)) (W.taken out.new))) }
+    ensures fault { exit_status result ≡ 6 → Rose (S.Shelf.faults shelf.old) (S.Shelf.faults shelf.new)
+        ⊎ Rose (K.Keeper.faults keeper.old) (K.Keeper.faults keeper.new) ⊎ Rose (W.Sink.faults out.old) (W.Sink.faults out.new) }
+    ensures no_fault { exit_status result ≢ 6 → (S.Shelf.faults shelf.new ≡ S.Shelf.faults shelf.old)
+        × (K.Keeper.faults keeper.new ≡ K.Keeper.faults keeper.old) × (W.Sink.faults out.new ≡ W.Sink.faults out.old) }
+{
+    let status = run(rt.alloc(), words, shelf, keeper, out);
+    end(rt, status)
+}
+
+/// Does the same, and sees that what was written last is where it belongs.
+fn perform_settled<R: Eprint + AllocGlobal, S: Settle, K: Keeper + Drop, W: Sink>(
+    rt: &R,
+    words: &[String],
+    shelf: &mut S,
+    keeper: &mut K,
+    out: &mut W,
+) -> ExitCode
+    ensures no_fault { exit_status result ≢ 6 → exit_status result ≢ 9 → (S.Shelf.faults shelf.new ≡ S.Shelf.faults shelf.old)
+        × (K.Keeper.faults keeper.new ≡ K.Keeper.faults keeper.old) × (W.Sink.faults out.new ≡ W.Sink.faults out.old) }
+{
+    let code = perform(rt, words, shelf, keeper, out);
+    let is_faulty = shelf.settle().is_err();
+    with_fault(rt, code, is_faulty)
+}
+
+/// Does what words say that ask no keeper, so that an empty one is as good as any.
+fn perform_alone<R: Eprint + AllocGlobal, S: Settle, W: Sink>(
+    rt: &R,
+    words: &[String],
+    shelf: &mut S,
+    out: &mut W,
+) -> ExitCode
+    requires { AsksNoKeeper (command_words (map string_bytes words.now)) }
+    ensures no_fault { exit_status result ≢ 6 → exit_status result ≢ 9 → (S.Shelf.faults shelf.new ≡ S.Shelf.faults shelf.old)
+        × (W.Sink.faults out.new ≡ W.Sink.faults out.old) }
+{
+    perform_settled(rt, words, shelf, &mut MemKeeper::new(rt.alloc()), out)
+}
+
+/// Does what the words say over the auctions of the house, which is opened before and closed behind it.
+fn perform_in<R: Eprint + AllocGlobal, H: House, S: Settle, W: Sink>(
+    rt: &R,
+    words: &[String],
+    house: &H,
+    shelf: &mut S,
+    out: &mut W,
+) -> ExitCode {
+    match house.open() {
+        Ok(mut kept) => {
+            let code = perform_settled(rt, words, shelf, &mut kept, out);
+            let is_faulty = house.close(kept).is_err();
+            with_fault(rt, code, is_faulty)
+        }
+        Err(refusal) => refuse(rt, refusal),
+    }
+}
+
+/// Does what the words of `env` say. The house is opened where they may ask it.
+pub fn program<E: Env + AllocGlobal, R: Eprint + AllocGlobal, H: House, S: Settle, W: Sink>(
+    env: &E,
+    rt: &R,
+    house: &H,
+    shelf: &mut S,
+    out: &mut W,
+) -> ExitCode {
+    match words_of(env) {
+        Ok(words) => {
+            let words = words.as_slice();
+            if may_ask_house(words) {
+                perform_in(rt, words, house, shelf, out)
+            } else {
+                perform_alone(rt, words, shelf, out)
+            }
+        }
+        Err(NoMemory) => end(rt, 9),
+    }
+}

@@ -1,0 +1,20 @@
+//! Files of which only a last call tells whether what was written is where it belongs.
+
+ghost use Rattle.vk_io.specs.Faults.{Causes};
+
+use std::rt::Files;
+use vk_files::FileShelf;
+use vk_io::{OutsideErr, Shelf};
+
+/// A shelf whose last written file is settled when it is asked: only then is its last error told.
+pub trait Settle: Shelf {
+    /// Sees that what was written last is where it belongs. Errs where it isn't.
+    fn settle(&mut self) -> Result<(), OutsideErr>
+        ensures causes { Causes OutsideErr.Failed result (Self.faults self.old) (Self.faults self.new) };
+}
+
+impl<R: Files> Settle for FileShelf<'_, R> {
+    fn settle(&mut self) -> Result<(), OutsideErr> {
+        FileShelf::settle(self)
+    }
+}

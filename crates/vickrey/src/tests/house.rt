@@ -1,0 +1,128 @@
+// The house of a folder is one file, so one test has all that is tried over it.
+use super::{ID, SEED, status_of};
+use crate::house::{House, StoreHouse};
+use std::fs;
+use std::os::unix::fs::{PermissionsExt, symlink};
+use std::process::{Abort, ExitCode};
+use std::test::Fail;
+
+/// What the commands of the test leave in the current folder.
+const LEFT: [&str; 13] = [
+    "house.sqlite",
+    "house.sqlite-wal",
+    "house.sqlite-shm",
+    "house.sqlite-journal",
+    "first",
+    "other",
+    "secret",
+    "seal",
+    "board",
+    "reply",
+    "none",
+    "script",
+    "link",
+];
+
+/// Written names that lead to the store, to its log or to a side file of it.
+const STORE_NAMES: [&str; 8] = [
+    "house.sqlite",
+    "house.sqlite-wal",
+    "house.sqlite-shm",
+    "house.sqlite-journal",
+    "./house.sqlite",
+    ".//./house.sqlite-wal",
+    "there/../house.sqlite-journal",
+    "link",
+];
+
+/// Takes away what is left, by this test or by one before it.
+fn clear(rt: &HostRuntime) {
+    for name in LEFT {
+        let _ = fs::remove_file(rt, name);
+    }
+    let _ = fs::remove_dir(rt, "there");
+}
+
+#[test]
+fn the_house_is_kept_in_its_file(rt: HostRuntime) -> Result<(), Fail> {
+    clear(&rt);
+    fs::write(&rt, "first", "vickrey-challenge 1\nbits 01\nend\n")?;
+    fs::write(&rt, "other", "vickrey-challenge 1\nbits 11\nend\n")?;
+    proved(&rt, &rt)?;
+    nothing_is_written_into_the_store(&rt, &rt)?;
+    answered(&rt, &rt)?;
+    one_keeper_at_a_time(&rt, &rt)?;
+    clear(&rt);
+    Ok(())
+}
+
+/// An auction is announced, one seal is handed in, and its board is made.
+fn proved(stop: &impl Abort, rt: &HostRuntime) -> Result<(), Fail> {
+    let table: [(&[&str], u8); 6] = [
+        (&["show", ID], 8),
+        (&["announce", ID, "4", "2"], 0),
+        (
+            &["seal", ID, "7", "15", "4", "2", SEED, "secret", "seal"],
+            0,
+        ),
+        (&["submit", ID, "seal", "secret"], 0),
+        (&["submit", ID, "seal", "secret"], 8),
+        (&["prove", ID, SEED, "board"], 0),
+    ];
+    for (words, status) in table {
+        assert_eq!(stop; status_of(rt, words), ExitCode::from(status));
+    }
+    let mode = fs::metadata(rt, "house.sqlite")?.permissions().mode();
+    assert_eq!(stop; mode & 0o777, 0o600);
+    Ok(())
+}
+
+/// Neither a command line nor a script writes into the store, and what it keeps stays: the answer that was
+/// to be written there is kept, and another challenge is refused.
+fn nothing_is_written_into_the_store(stop: &impl Abort, rt: &HostRuntime) -> Result<(), Fail> {
+    symlink(rt, "house.sqlite-wal", "link")?;
+    fs::create_dir(rt, "there")?;
+    for name in STORE_NAMES {
+        for line in [["answer", ID, "first", name], ["prove", ID, SEED, name]] {
+            assert_eq!(stop; status_of(rt, &line), ExitCode::from(6));
+            let [verb, id, given, name] = line;
+            let script = format!(in rt.alloc();
+                "vickrey-script 1\n{verb} {id} {given} {name}\nend\n"
+            )?;
+            fs::write(rt, "script", script.as_str())?;
+            assert_eq!(stop; status_of(rt, &["ceremony", "script"]), ExitCode::from(6));
+        }
+        let words = ["seal", ID, "8", "15", "4", "2", SEED, name, "none"];
+        assert_eq!(stop; status_of(rt, &words), ExitCode::from(6));
+    }
+    Ok(())
+}
+
+/// The challenge is answered as it was kept, and no other one is.
+fn answered(stop: &impl Abort, rt: &HostRuntime) -> Result<(), Fail> {
+    let table: [(&[&str], u8); 7] = [
+        (&["answer", ID, "other", "none"], 8),
+        (&["answer", ID, "first", "reply"], 0),
+        (&["answer", ID, "other", "none"], 8),
+        (&["answer", ID, "first", "reply"], 0),
+        (&["verify", "board", "first", "reply"], 0),
+        (&["verify", "board", "other", "none"], 5),
+        (&["show", ID], 0),
+    ];
+    for (words, status) in table {
+        assert_eq!(stop; status_of(rt, words), ExitCode::from(status));
+    }
+    Ok(())
+}
+
+/// A store that is open is refused to another keeper, until it is closed.
+fn one_keeper_at_a_time(stop: &impl Abort, rt: &HostRuntime) -> Result<(), Fail> {
+    let house = StoreHouse::of(rt);
+    let Ok(keeper) = house.open() else {
+        return Err(Fail::from("not opened"));
+    };
+    assert_eq!(stop; status_of(rt, &["show", ID]), ExitCode::from(6));
+    assert!(stop; house.close(keeper).is_ok());
+    assert_eq!(stop; status_of(rt, &["show", ID]), ExitCode::from(0));
+    Ok(())
+}

@@ -1,0 +1,8 @@
+mod faults;
+mod faulty;
+mod folder;
+mod large;
+mod output;
+mod plan;
+mod real;
+mod refusals;

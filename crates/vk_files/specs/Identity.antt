@@ -1,0 +1,30 @@
+-- Which file it is that a name leads to.
+use Rattle.std.specs.Prelude.{◌≡◌, ℕ, List, Bool, false, Option, Some, None, not, ◌&&◌, ◌==◌}
+use Rattle.std.specs.List.{list_any}
+use Rattle.std.specs.Str.{bytes_eq}
+use Rattle.std.specs.String.{string_bytes}
+use Rattle.vk_files.specs.declared.file_id.FileId.{FileId}
+use Rattle.vk_files.specs.declared.file_shelf.NamedFile.{NamedFile}
+use Rattle.vk_files.specs.declared.named_ids.NamedId.{NamedId}
+
+-- both are one file: one device, and one number there
+abbrev pub same_file : FileId → FileId → Bool
+same_file a b = (a.device == b.device) && (a.node == b.node)
+
+-- both are told, and one file
+abbrev pub are_same : Option FileId → Option FileId → Bool
+are_same (Some a) (Some b) = same_file a b
+are_same (Some a) None = false
+are_same None other = false
+
+-- the file was opened by that name
+abbrev pub is_named : List NamedId → FileId → List ℕ → Bool
+is_named opened id name = list_any (λ file. same_file file.id id && bytes_eq (string_bytes file.name) name) opened
+
+-- the file was opened by another name
+abbrev pub is_named_otherwise : List NamedId → FileId → List ℕ → Bool
+is_named_otherwise opened id name = list_any (λ file. same_file file.id id && not (bytes_eq (string_bytes file.name) name)) opened
+
+-- a file that is kept open was opened by that name
+abbrev pub HasName : {F : Type 0} → List ℕ → NamedFile F → Type 0
+HasName name file = string_bytes file.name ≡ name

@@ -1,0 +1,5 @@
+pub mod Identity
+pub mod Store
+pub mod Moves
+pub mod Opening
+pub mod Links

@@ -1,0 +1,335 @@
+ghost use Rattle.std.specs.Prelude.{◌≡◌, ◌≢◌, ◌<◌, ◌≤◌, false, length, None, Ok, Err, IfSome, IsSomeAnd, IfOk, OnOk, OnErr};
+ghost use Rattle.std.specs.List.{HoldsAt};
+ghost use Rattle.std.specs.Io.KnownBytes.{Appends};
+ghost use Rattle.vk_io.specs.Faults.{Causes};
+ghost use Rattle.vk_files.specs.Identity.{HasName, is_named_otherwise};
+
+use crate::file_id::FileId;
+use crate::links::end_of_links;
+use crate::moves::{put_counted, read_counted};
+use crate::named_ids::{NamedId, is_named_otherwise, note};
+use crate::opening::{length_of, make_to_write, open_to_read, open_to_write, synced};
+use crate::outcome::{counted, with_want};
+use crate::store::Store;
+use std::alloc::Global;
+use std::fs::{Metadata, OpenFile};
+use std::io;
+use std::io::ErrorKind;
+use std::rt::Files;
+use vk_io::{OutsideErr, Shelf};
+use vk_residue::NoMemory;
+
+/// How many files are kept open, at most: those that a command reads side by side, and a few more.
+const MOST_OPEN: usize = 8;
+
+/// A file that is kept open, and the name that it was opened by.
+#[derive(Drop)]
+struct NamedFile<F> {
+    name: String,
+    file: F,
+}
+
+/// The real file system. A name is a path from the current folder. It tells nothing of content, and
+/// each error raises its count. A file that is read stays open, until its name is created or
+/// appended to, or its length is asked. The file that is written stays open too, until another is
+/// written or [`FileShelf::settle`] is called: it is synced then, so that its last error is told.
+///
+/// Two kinds of file are not written, whatever the name that leads to them: those of the store, and
+/// those that were opened by another name before. To create or append to one is a fault, and leaves it
+/// as it was.
+#[derive(Drop)]
+pub struct FileShelf<'a, R: Files> {
+    rt: &'a R,
+    alloc: Global,
+    store: Store<'a, R>,
+    opened: Vec<NamedId>,
+    kept: Vec<NamedFile<R::File>>,
+    written: Option<NamedFile<R::File>>,
+    faults: u64,
+    wants: u64,
+}
+
+impl<'a, R: Files> FileShelf<'a, R> {
+    /// The files that `rt` reaches, of which those of the SQLite store at the path `store` aren't to be
+    /// written. There are no faults yet. It takes no memory and is never refused.
+    pub fn new(rt: &'a R, alloc: Global, store: &'a str) -> FileShelf<'a, R>
+        ensures faults { result.faults ≡ 0 }
+        ensures wants { result.wants ≡ 0 }
+    {
+        FileShelf {
+            rt,
+            alloc,
+            store: Store::at(rt, alloc, store),
+            opened: Vec::new(alloc),
+            kept: Vec::new(alloc),
+            written: None,
+            faults: 0,
+            wants: 0,
+        }
+    }
+}
+
+impl<R: Files> FileShelf<'_, R> {
+    /// The place of the file that is open under that name.
+    fn place_of(&self, name: &str) -> Option<usize>
+        ensures place { IfSome result (λ place. place < length self.now.kept.items) }
+        ensures name { IfSome result (λ place. HoldsAt (HasName name.now) self.now.kept.items place) }
+    {
+        for (place, kept) in self.kept.iter().enumerate() {
+            if name == kept.name.as_str() {
+                return Some(place);
+            }
+        }
+        None
+    }
+
+    /// Closes the file that is open under that name, if there is one.
+    fn close(&mut self, name: &str)
+        ensures written { self.new.written ≡ self.old.written }
+        ensures kept { self.new.faults ≡ self.old.faults }
+        ensures wants { self.new.wants ≡ self.old.wants }
+    {
+        if let Some(place) = self.place_of(name) {
+            self.kept.swap_remove(place);
+        }
+    }
+
+    /// Keeps a file open under its name, and answers its place. Of too many the first is closed.
+    fn keep(&mut self, name: &str, file: R::File) -> Result<usize, NoMemory>
+        ensures place { IfOk result (λ place. place < length self.new.kept.items) }
+        ensures name { IfOk result (λ place. HoldsAt (HasName name.now) self.new.kept.items place) }
+        ensures kept { self.new.faults ≡ self.old.faults }
+        ensures wants { self.new.wants ≡ self.old.wants }
+    {
+        let name = String::from_str(self.alloc, name)?;
+        if MOST_OPEN <= self.kept.len() {
+            self.kept.swap_remove(0);
+        }
+        self.kept.push(NamedFile { name, file })?;
+        Ok(self.kept.len() - 1)
+    }
+
+    /// The place of the file under that name, which is opened where it isn't open. None where
+    /// nothing is there.
+    fn opened(&mut self, name: &str) -> Result<Option<usize>, OutsideErr>
+        ensures place { IfOk result (λ found. IfSome found (λ place. place < length self.new.kept.items)) }
+        ensures name { IfOk result
+            (λ found. IfSome found (λ place. HoldsAt (HasName name.now) self.new.kept.items place)) }
+        ensures causes { Causes OutsideErr.Failed result self.old.faults self.new.faults }
+        ensures wants { self.new.wants ≡ self.old.wants }
+    {
+        if let Some(place) = self.place_of(name) {
+            return Ok(Some(place));
+        }
+        match counted(open_to_read(self.rt, name), &mut self.faults)? {
+            None => Ok(None),
+            Some(file) => {
+                let metadata = counted(file.metadata(), &mut self.faults)?;
+                self.note(&metadata, name)?;
+                let place = self.keep(name, file)?;
+                Ok(Some(place))
+            }
+        }
+    }
+
+    /// Notes by which name a file was opened. A device, a folder and a pipe have no bytes that could be
+    /// lost by another name, and are passed over.
+    fn note(&mut self, metadata: &Metadata, name: &str) -> Result<(), NoMemory>
+        ensures written { self.new.written ≡ self.old.written }
+        ensures kept { self.new.faults ≡ self.old.faults }
+        ensures wants { self.new.wants ≡ self.old.wants }
+    {
+        match FileId::of(metadata) {
+            Some(id) if metadata.is_file() => note(self.alloc, &mut self.opened, id, name),
+            _ => Ok(()),
+        }
+    }
+
+    /// Closes the file that was written last, once its bytes are where they belong. Errs where only
+    /// that tells that they aren't.
+    pub fn settle(&mut self) -> Result<(), OutsideErr>
+        ensures closed { self.new.written ≡ None }
+        ensures causes { Causes OutsideErr.Failed result self.old.faults self.new.faults }
+        ensures wants { self.new.wants ≡ self.old.wants }
+    {
+        match self.written.take() {
+            None => Ok(()),
+            Some(written) => counted(synced(&written.file), &mut self.faults),
+        }
+    }
+
+    /// The file under that name, to be written on at its end.
+    fn writer(&mut self, name: &str) -> Result<NamedFile<R::File>, OutsideErr>
+        ensures name { IfOk result (HasName name.now) }
+        ensures same { IfSome self.old.written (λ written. HasName name.now written → result ≡ Ok written) }
+        ensures none { self.new.written ≡ None }
+        ensures causes { Causes OutsideErr.Failed result self.old.faults self.new.faults }
+        ensures wants { self.new.wants ≡ self.old.wants }
+    {
+        if let Some(written) = self.written.take() {
+            if name == written.name.as_str() {
+                return Ok(written);
+            }
+            counted(synced(&written.file), &mut self.faults)?;
+        }
+        let opened = self.opened_to_write(name, true)?;
+        Ok(opened)
+    }
+
+    /// The file under that name, opened to be written: at its end, or from its front on with nothing in
+    /// it. A file that may not be written is a fault, and stays as it is.
+    fn opened_to_write(
+        &mut self,
+        name: &str,
+        at_end: bool,
+    ) -> Result<NamedFile<R::File>, OutsideErr>
+        ensures name { IfOk result (HasName name.now) }
+        ensures kept { self.new.written ≡ self.old.written }
+        ensures causes { Causes OutsideErr.Failed result self.old.faults self.new.faults }
+        ensures wants { self.new.wants ≡ self.old.wants }
+    {
+        let owned = String::from_str(self.alloc, name).map_err(NoMemory::from)?;
+        let file = self.found_or_made(name, at_end)?;
+        let metadata = counted(file.metadata(), &mut self.faults)?;
+        self.admit(&metadata, name)?;
+        self.note(&metadata, name)?;
+        if metadata.is_file() && !at_end {
+            counted(file.set_len(0), &mut self.faults)?;
+        }
+        Ok(NamedFile { name: owned, file })
+    }
+
+    /// The file under that name, opened to be written, which is made where nothing is there: where the
+    /// name is a link to nothing, at the place that it leads to.
+    fn found_or_made(&mut self, name: &str, at_end: bool) -> Result<R::File, OutsideErr>
+        ensures kept { self.new.written ≡ self.old.written }
+        ensures causes { Causes OutsideErr.Failed result self.old.faults self.new.faults }
+        ensures wants { self.new.wants ≡ self.old.wants }
+    {
+        if let Some(file) = counted(open_to_write(self.rt, name, at_end), &mut self.faults)? {
+            return Ok(file);
+        }
+        let path = end_of_links(self.rt, self.alloc, name)?;
+        if self.store.awaits(path.as_str(), &mut self.faults)? {
+            return refused(&mut self.faults);
+        }
+        let file = counted(
+            make_to_write(self.rt, path.as_str(), at_end),
+            &mut self.faults,
+        )?;
+        Ok(file)
+    }
+
+    /// Refuses a file that may not be written.
+    fn admit(&mut self, metadata: &Metadata, name: &str) -> Result<(), OutsideErr>
+        ensures written { self.new.written ≡ self.old.written }
+        ensures causes { Causes OutsideErr.Failed result self.old.faults self.new.faults }
+        ensures wants { self.new.wants ≡ self.old.wants }
+    {
+        match FileId::of(metadata) {
+            None => Ok(()),
+            Some(id) => self.admit_id(id, name),
+        }
+    }
+
+    /// Refuses a file of the store, and one that was opened by another name.
+    fn admit_id(&mut self, id: FileId, name: &str) -> Result<(), OutsideErr>
+        ensures one_name { OnOk result (is_named_otherwise self.old.opened.items id name.now ≡ false) }
+        ensures written { self.new.written ≡ self.old.written }
+        ensures causes { Causes OutsideErr.Failed result self.old.faults self.new.faults }
+        ensures wants { self.new.wants ≡ self.old.wants }
+    {
+        if self.store.has(id, &mut self.faults)? || is_named_otherwise(&self.opened, id, name) {
+            return refused(&mut self.faults);
+        }
+        Ok(())
+    }
+
+    /// Creates the file under that name, which is the one that is written then. Refused, none is.
+    fn begin(&mut self, name: &str) -> Result<(), OutsideErr>
+        ensures begun { OnOk result (IsSomeAnd self.new.written (HasName name.now)) }
+        ensures refused { OnErr result (self.new.written ≡ None) }
+        ensures causes { Causes OutsideErr.Failed result self.old.faults self.new.faults }
+        ensures wants { self.new.wants ≡ self.old.wants }
+    {
+        self.close(name);
+        self.settle()?;
+        let written = self.opened_to_write(name, false)?;
+        self.written = Some(written);
+        Ok(())
+    }
+
+    /// Adds the piece at the end of the file under that name, which is the one that is written then.
+    /// Refused, none is.
+    fn add(&mut self, name: &str, piece: &[u8]) -> Result<(), OutsideErr>
+        ensures added { OnOk result (IsSomeAnd self.new.written (HasName name.now)) }
+        ensures piece { IfSome self.old.written (λ old. HasName name.now old → OnOk result
+            (IsSomeAnd self.new.written
+            (λ new. Appends (R.File.contents old.file) (R.File.contents new.file) piece.now))) }
+        ensures refused { OnErr result (self.new.written ≡ None) }
+        ensures causes { Causes OutsideErr.Failed result self.old.faults self.new.faults }
+        ensures wants { self.new.wants ≡ self.old.wants }
+    {
+        self.close(name);
+        let mut written = self.writer(name)?;
+        put_counted(&mut written.file, piece, &mut self.faults)?;
+        self.written = Some(written);
+        Ok(())
+    }
+
+    /// Reads from the file under that name as a shelf does.
+    fn read_part(&mut self, name: &str, at: u64, into: &mut [u8]) -> Result<usize, OutsideErr>
+        ensures bound { IfOk result (λ n. n ≤ length into.old) }
+        ensures causes { Causes OutsideErr.Failed result self.old.faults self.new.faults }
+        ensures wants { self.new.wants ≡ self.old.wants }
+    {
+        match self.opened(name)? {
+            None => Ok(0),
+            Some(place) => {
+                let count = read_counted(&mut self.kept[place].file, at, into, &mut self.faults)?;
+                Ok(count)
+            }
+        }
+    }
+}
+
+/// A file that may not be written is a fault.
+fn refused<T>(faults: &mut u64) -> Result<T, OutsideErr>
+    ensures fault { result ≡ Err OutsideErr.Failed }
+    ensures causes { Causes OutsideErr.Failed result faults.old faults.new }
+{
+    counted(Err(io::Error::from(ErrorKind::PermissionDenied)), faults)
+}
+
+impl<R: Files> Shelf for FileShelf<'_, R> {
+    ghost use Rattle.std.specs.Prelude.{None};
+
+    ghost held = { λ _. None };
+
+    ghost faults = { λ s. s.faults };
+
+    ghost wants = { λ s. s.wants };
+
+    ghost length_gives = { λ _ _ _ _. Unit {0} };
+
+    fn length(&mut self, name: &str) -> Result<Option<u64>, OutsideErr> {
+        self.close(name);
+        let length = counted(length_of(self.rt, name), &mut self.faults)?;
+        Ok(length)
+    }
+
+    fn read_at(&mut self, name: &str, at: u64, into: &mut [u8]) -> Result<usize, OutsideErr> {
+        let answer = self.read_part(name, at, into);
+        with_want(answer, &mut self.wants)
+    }
+
+    fn create(&mut self, name: &str) -> Result<(), OutsideErr> {
+        let answer = self.begin(name);
+        with_want(answer, &mut self.wants)
+    }
+
+    fn append(&mut self, name: &str, piece: &[u8]) -> Result<(), OutsideErr> {
+        let answer = self.add(name, piece);
+        with_want(answer, &mut self.wants)
+    }
+}

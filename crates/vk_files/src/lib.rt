@@ -1,0 +1,18 @@
+//! The real edge of the program: the files of the system as a shelf, and standard output as a sink. Each error of
+//! the system is counted as a fault.
+#![tactic(auto)]
+
+mod file_id;
+mod file_shelf;
+mod links;
+mod moves;
+mod named_ids;
+mod opening;
+mod out_sink;
+mod outcome;
+mod pieces;
+mod store;
+mod store_names;
+
+pub use file_shelf::FileShelf;
+pub use out_sink::OutSink;

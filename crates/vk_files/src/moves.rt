@@ -1,0 +1,58 @@
+//! Bytes moved to a writer and from a reader, where an error is counted as a fault.
+
+ghost use Rattle.std.specs.Prelude.{◌≡◌, ◌≤◌, length, take, IfOk, OnOk, OnErr};
+ghost use Rattle.std.specs.Io.KnownBytes.{Appends};
+ghost use Rattle.vk_io.specs.Faults.{Causes, one_more};
+ghost use Rattle.vk_files.specs.Moves.{GivesFrom};
+
+use crate::outcome::counted;
+use crate::pieces::{read_fully, write_fully};
+use std::io;
+use std::io::{Read, Seek, SeekFrom, Write};
+use vk_io::OutsideErr;
+
+/// Has the writer take the whole piece. An error is counted, once.
+pub fn put_counted<W: Write>(
+    writer: &mut W,
+    piece: &[u8],
+    faults: &mut u64,
+) -> Result<(), OutsideErr>
+    ensures put { OnOk result (Appends (W.contents writer.old) (W.contents writer.new) piece.now) }
+    ensures causes { Causes OutsideErr.Failed result faults.old faults.new }
+    ensures fault { OnErr result (result ≡ Err OutsideErr.Failed) }
+    ensures counted { OnErr result (faults.new ≡ one_more faults.old) }
+{
+    counted(write_fully(writer, piece), faults)?;
+    Ok(())
+}
+
+/// Fills `into` with what the reader gives from `at` on, as far as it gives any, and answers how many
+/// bytes that are. An error is counted, once.
+pub fn read_counted<F: Read + Seek>(
+    file: &mut F,
+    at: u64,
+    into: &mut [u8],
+    faults: &mut u64,
+) -> Result<usize, OutsideErr>
+    ensures bound { IfOk result (λ n. n ≤ length into.old) }
+    ensures bytes { IfOk result
+        (λ n. GivesFrom F.stream_position F.remaining at (length into.old) (take n into.new) file.old file.new) }
+    ensures causes { Causes OutsideErr.Failed result faults.old faults.new }
+    ensures fault { OnErr result (result ≡ Err OutsideErr.Failed) }
+    ensures counted { OnErr result (faults.new ≡ one_more faults.old) }
+{
+    let count = counted(read_from(file, at, into), faults)?;
+    Ok(count)
+}
+
+/// Fills `into` with what the reader gives from `at` on, as far as it gives any, and answers how many
+/// bytes that are.
+fn read_from<F: Read + Seek>(file: &mut F, at: u64, into: &mut [u8]) -> io::Result<usize>
+    ensures bound { IfOk result (λ n. n ≤ length into.old) }
+    ensures bytes { IfOk result
+        (λ n. GivesFrom F.stream_position F.remaining at (length into.old) (take n into.new) file.old file.new) }
+{
+    file.seek(SeekFrom::Start(at))?;
+    let count = read_fully(file, into)?;
+    Ok(count)
+}

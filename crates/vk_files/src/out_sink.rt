@@ -1,0 +1,38 @@
+ghost use Rattle.std.specs.Prelude.{◌≡◌};
+
+use crate::moves::put_counted;
+use std::io;
+use vk_io::{OutsideErr, Sink};
+
+/// Standard output. It tells nothing of what it took, and each error raises its count. It takes no
+/// memory.
+#[derive(Drop)]
+pub struct OutSink<'a, P: Print> {
+    to: &'a P,
+    faults: u64,
+}
+
+impl<'a, P: Print> OutSink<'a, P> {
+    /// The standard output that `rt` reaches, with no faults yet. It takes no memory and is never
+    /// refused.
+    pub fn new(rt: &'a P) -> OutSink<'a, P>
+        ensures { result.faults ≡ 0 }
+    {
+        OutSink { to: rt, faults: 0 }
+    }
+}
+
+impl<P: Print> Sink for OutSink<'_, P> {
+    ghost use Rattle.std.specs.Prelude.{None};
+
+    ghost taken = { λ _. None };
+
+    ghost faults = { λ s. s.faults };
+
+    ghost wants = { λ _. 0 };
+
+    fn put(&mut self, piece: &[u8]) -> Result<(), OutsideErr> {
+        put_counted(&mut io::writer(self.to), piece, &mut self.faults)?;
+        Ok(())
+    }
+}

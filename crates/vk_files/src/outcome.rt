@@ -1,0 +1,32 @@
+ghost use Rattle.std.specs.Prelude.{◌≡◌, Ok, Err, IfOk, OnErr};
+ghost use Rattle.vk_io.specs.Faults.{Causes, one_more};
+
+use std::io;
+use vk_io::OutsideErr;
+
+/// What an outcome of the system is to its caller: an error is counted, and nothing else is.
+pub fn counted<T>(outcome: io::Result<T>, faults: &mut u64) -> Result<T, OutsideErr>
+    ensures value { IfOk outcome (λ value. result ≡ Ok value) }
+    ensures kept { IfOk outcome (λ value. faults.new ≡ faults.old) }
+    ensures fault { OnErr outcome (result ≡ Err OutsideErr.Failed) }
+    ensures counted { OnErr outcome (faults.new ≡ one_more faults.old) }
+{
+    match outcome {
+        Ok(value) => Ok(value),
+        Err(_) => {
+            *faults = faults.saturating_add(1);
+            Err(OutsideErr::Failed)
+        }
+    }
+}
+
+/// The same answer. Want of memory is counted, and nothing else is.
+pub fn with_want<T>(answer: Result<T, OutsideErr>, wants: &mut u64) -> Result<T, OutsideErr>
+    ensures same { result ≡ answer }
+    ensures wants { Causes OutsideErr.NoMemory result wants.old wants.new }
+{
+    if matches!(answer, Err(OutsideErr::NoMemory)) {
+        *wants = wants.saturating_add(1);
+    }
+    answer
+}
