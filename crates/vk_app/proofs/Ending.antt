@@ -7,10 +7,10 @@ use Rattle.vk_io.specs.declared.errors.OutsideErr.{OutsideErr}
 use Rattle.vk_keeper.specs.Ledgers.{Ledger}
 use Rattle.vk_house.specs.Once.{KeepsAnswers}
 use Rattle.vk_house.proofs.Once.{keeps_same}
-use Rattle.vk_words.specs.Commands.{CommandWords, Seal, House, Verify, Extract, Confront, Report, Sample, Ceremony}
+use Rattle.vk_words.specs.Commands.{AsksNoKeeper, CommandWords, Seal, House, Verify, Extract, Confront, Report, Sample, Ceremony}
 use Rattle.vk_effect.specs.Effects.{Effect, Outside}
 use Rattle.vk_effect.specs.Ends.{Ends}
-use Rattle.vk_app.specs.Commands.{AsksNoKeeper, Work, Command, Script, EndsWork, StopsWork, script_in}
+use Rattle.vk_app.specs.Commands.{Work, Command, Script, EndsWork, StopsWork, script_in}
 
 -- a keeper that wasn't asked keeps all
 pub told_same : (ledger : Option Ledger) → Told KeepsAnswers ledger ledger

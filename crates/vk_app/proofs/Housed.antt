@@ -20,7 +20,7 @@ use Rattle.vk_effect.specs.Ends.{Done}
 use Rattle.vk_auctioneer.specs.Effects.{Writes, answer_effect, asked, if_read, no_file, prove_effect, reply_file}
 use Rattle.vk_auctioneer.specs.Inputs.{challenge_in, row_in}
 use Rattle.vk_auctioneer.specs.Laws.{LeavesAuction}
-use Rattle.vk_auctioneer.proofs.Honest.{boards_are_written, replies_are_written}
+use Rattle.vk_auctioneer.proofs.Written.{boards_are_written, replies_are_written}
 use Rattle.vk_auctioneer.proofs.Words.{house_bytes}
 use Rattle.vk_ceremony.specs.Runs.{asked_in}
 use Rattle.vk_app.specs.Auctions.{AsksHouse, IsStep, LeavesBoard, LeavesReply}

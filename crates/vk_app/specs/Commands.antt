@@ -80,12 +80,6 @@ DoesWork status work old new = EndsWork (Ok status) work old new
 abbrev pub StopsWork : Work → Outside → Outside → Type 0
 StopsWork work old new = EndsWork (Err Failed) work old new
 
--- a command that asks no keeper
-abbrev pub AsksNoKeeper : Option CommandWords → Type 0
-AsksNoKeeper (Some (House order)) = ⊥
-AsksNoKeeper (Some (Ceremony script)) = ⊥
-AsksNoKeeper command = Unit {0}
-
 -- these files are told, and the words are this command
 pub record Asks (held : Option Files) (words : List (List ℕ)) (files : Files) (command : CommandWords) : Type 0 where
   pub files_are : held ≡ Some files

@@ -1,3 +1,4 @@
 pub mod Sealing
 pub mod Commands
 pub mod Auctions
+pub mod Accepted

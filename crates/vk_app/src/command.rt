@@ -4,7 +4,7 @@ ghost use Rattle.std.specs.Prelude.{◌≡◌, ◌≢◌, ◌⊎◌, ℕ, List, 
 ghost use Rattle.vk_io.specs.Faults.{Causes, Rose};
 ghost use Rattle.vk_io.specs.Files.{Files, Told};
 ghost use Rattle.vk_keeper.specs.Ledgers.{Ledger};
-ghost use Rattle.vk_words.specs.Commands.{Confront, Extract, IsCommand, Report, Verify, command_seen, command_words};
+ghost use Rattle.vk_words.specs.Commands.{AsksNoKeeper, Confront, Extract, IsCommand, Report, Verify, command_seen, command_words};
 ghost use Rattle.vk_words.specs.Orders.{Answer, HouseWords, Prove};
 ghost use Rattle.vk_words.specs.Names.{ConfrontWords, ExtractWords, VerifyWords};
 ghost use Rattle.vk_effect.specs.Effects.{IsEnd, outside, stores};
@@ -16,7 +16,7 @@ ghost use Rattle.vk_audit.specs.Audits.{audit_seen};
 ghost use Rattle.vk_audit.specs.Statuses.{AcceptsTwoFiles, BindsSecret, IsExtracted, IsReported, IsSame, IsVerified};
 ghost use Rattle.vk_ceremony.specs.Runs.{asked_in};
 ghost use Rattle.vk_app.specs.Auctions.{AsksHouse, IsStep, LeavesBoard, LeavesReply};
-ghost use Rattle.vk_app.specs.Commands.{Asks, AsksNoKeeper, DoesWork, EndsWork, StopsWork, audit_on, command_effect, script_in, work_on};
+ghost use Rattle.vk_app.specs.Commands.{Asks, DoesWork, EndsWork, StopsWork, audit_on, command_effect, script_in, work_on};
 
 use crate::seal::seal;
 use crate::usage::usage;
@@ -24,7 +24,7 @@ use std::alloc::Global;
 use vk_auctioneer::house_command;
 use vk_audit::{AuditOrder, audit};
 use vk_ceremony::ceremony;
-use vk_effect::{Said, print};
+use vk_effect::Said;
 use vk_io::{OutsideErr, Shelf, Sink};
 use vk_keeper::Keeper;
 use vk_sample::sample;
@@ -113,7 +113,7 @@ fn answer<S: Shelf, K: Keeper + Drop, W: Sink>(
         (K.Keeper.faults keeper.old) (K.Keeper.faults keeper.new) (W.Sink.faults out.old) (W.Sink.faults out.new) }
 {
     let said = act(alloc, shelf, keeper, command)?;
-    print(said.lines(), out)?;
+    said.print(out)?;
     Ok(said.status())
 }
 

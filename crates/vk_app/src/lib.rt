@@ -8,4 +8,5 @@ mod seal;
 mod usage;
 
 pub use command::run;
-pub use laws::every_answer_of_an_auction_is_the_same;
+pub use laws::{every_answer_of_an_auction_is_the_same, what_is_answered_is_accepted};
+pub use seal::dry_seed;

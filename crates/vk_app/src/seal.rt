@@ -1,6 +1,6 @@
 //! `seal`: a bidder's secret and seal.
 
-ghost use Rattle.std.specs.Prelude.{◌≡◌, ◌∷◌, [], IfOk, IfSome, Option, codes, decimal, string_bytes};
+ghost use Rattle.std.specs.Prelude.{◌≡◌, ◌≢◌, ◌∷◌, ◌++◌, [], Err, IfErr, IfOk, IfSome, IsErr, IsOk, Option, codes, decimal, string_bytes};
 ghost use Rattle.vk_io.specs.Faults.{Causes};
 ghost use Rattle.vk_io.specs.Writing.{texts_of, whole_files};
 ghost use Rattle.vk_seal.specs.Texts.{secret_text as text_of_secret, seal_text as text_of_seal};
@@ -18,6 +18,7 @@ use vk_io::{FileText, OutsideErr, Shelf, write_files};
 use vk_residue::NoMemory;
 use vk_seal::{Seal, SealErr, Secret, make_seal, seal_text, secret_text};
 use vk_seq::Seq;
+use vk_text::ShortText;
 use vk_words::SealOrder;
 
 /// A file that is to be written.
@@ -49,24 +50,35 @@ fn files_of(
     Ok(Seq::from_vec(files))
 }
 
-/// What a seal that was made says.
-fn sealed(alloc: Global, order: &SealOrder<'_>) -> Result<Said, NoMemory>
-    ensures { IfOk result (λ said. said ≡ record { status = 0; text = sealed_line order.now.seat order.now.lanes }) }
+/// What a seal that was made says. Takes no memory.
+fn sealed(order: &SealOrder<'_>) -> Said
+    ensures { result ≡ record { status = 0; text = sealed_line order.now.seat order.now.lanes } }
 {
-    let seat = order.seat;
-    let lanes = order.lanes;
-    let line = format!(in alloc; "sealed seat {seat} lanes {lanes}\n")?;
-    let said = Said::of_line(alloc, 0, line.as_str())?;
-    Ok(said)
+    let line = ShortText::new()
+        .word("sealed seat ")
+        .number(u64::from(order.seat))
+        .word(" lanes ")
+        .number(u64::from(order.lanes))
+        .word("\n");
+    Said::of_short(0, line)
 }
 
-/// Of a seed that gives no residue for the lane.
-fn dry_seed(alloc: Global, lane: u32) -> Result<Said, NoMemory>
-    ensures { IfOk result (λ said. said ≡ refused_said (codes "seal dry seed lane " +++ decimal lane +++ line_feed)) }
+/// What is said of a bid that isn't below 2^width. Takes no memory.
+fn bid_too_large() -> Said
+    ensures { result ≡ refused_said (codes "seal bid too large" ++ line_feed) }
 {
-    let line = format!(in alloc; "seal dry seed lane {lane}\n")?;
-    let said = Said::of_line(alloc, 8, line.as_str())?;
-    Ok(said)
+    Said::of_short(8, ShortText::new().word("seal bid too large\n"))
+}
+
+/// What is said of a seed that gives no residue for the lane. Takes no memory.
+pub fn dry_seed(lane: u32) -> Said
+    ensures { result ≡ refused_said (codes "seal dry seed lane " +++ decimal lane +++ line_feed) }
+{
+    let line = ShortText::new()
+        .word("seal dry seed lane ")
+        .number(u64::from(lane))
+        .word("\n");
+    Said::of_short(8, line)
 }
 
 /// What is said, and the files that are to be written before.
@@ -86,7 +98,7 @@ fn made(
     ensures said { IfOk result (λ made. made.said ≡ record { status = 0; text = sealed_line order.now.seat order.now.lanes }) }
     ensures files { IfOk result (λ made. texts_of (whole_files made.files) ≡ (order.now.secret.now, text_of_secret secret.now) ∷ (order.now.seal.now, text_of_seal seal.now) ∷ []) }
 {
-    let said = sealed(alloc, order)?;
+    let said = sealed(order);
     let files = files_of(alloc, order, secret, seal)?;
     Ok(Sealing { said, files })
 }
@@ -111,7 +123,7 @@ fn make(alloc: Global, order: &SealOrder<'_>) -> Result<Sealing, NoMemory>
 {
     let stream = 65536 + u64::from(order.seat);
     let mut words = ChaChaWords::of(&order.seed, &order.auction, stream);
-    match make_seal(
+    let sealed = make_seal(
         alloc,
         order.bid,
         order.seat,
@@ -119,16 +131,27 @@ fn make(alloc: Global, order: &SealOrder<'_>) -> Result<Sealing, NoMemory>
         order.width,
         order.lanes,
         &mut words,
-    ) {
+    );
+    let sealing = told(alloc, order, sealed);
+    sealing
+}
+
+/// What comes of a seal that was made, or of why none was. Only a seal that was made takes memory: a refusal is told
+/// as it is.
+fn told(
+    alloc: Global,
+    order: &SealOrder<'_>,
+    sealed: Result<(Secret, Seal), SealErr>,
+) -> Result<Sealing, NoMemory>
+    ensures said { IfOk result (λ sealing. sealing.said ≡ made_said (seal_seen order.now) sealed) }
+    ensures files { IfOk result (λ sealing. texts_of (whole_files sealing.files) ≡ made_writes (seal_seen order.now) sealed) }
+    ensures told { IfErr sealed (λ refusal. refusal ≢ SealErr.NoMemory → IsOk result) }
+    ensures memory { sealed ≡ Err SealErr.NoMemory → IsErr result }
+{
+    match sealed {
         Ok((secret, seal)) => made(alloc, order, &secret, &seal),
-        Err(SealErr::BidTooLarge) => {
-            let said = Said::of_line(alloc, 8, "seal bid too large\n")?;
-            Ok(unmade(alloc, said))
-        }
-        Err(SealErr::DrySeed { lane }) => {
-            let said = dry_seed(alloc, lane)?;
-            Ok(unmade(alloc, said))
-        }
+        Err(SealErr::BidTooLarge) => Ok(unmade(alloc, bid_too_large())),
+        Err(SealErr::DrySeed { lane }) => Ok(unmade(alloc, dry_seed(lane))),
         Err(SealErr::NoMemory) => Err(NoMemory),
     }
 }

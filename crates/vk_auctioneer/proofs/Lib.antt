@@ -1,6 +1,6 @@
 mod Asking
 mod Counting
-mod Reading
+pub mod Reading
 pub mod Working
-pub mod Honest
+pub mod Written
 pub mod Words

@@ -22,7 +22,6 @@ use Rattle.vk_seal.specs.Values.{IsSeal, IsSecret}
 use Rattle.vk_seal.proofs.Forms.{seal_fault, seal_is_whole, secret_fault, secret_is_whole}
 use Rattle.vk_keeper.specs.declared.auction.SealRow.{SealRow}
 use Rattle.vk_keeper.specs.Joining.{first_of}
-use Rattle.vk_honest.specs.Sizes.{IsShort}
 use Rattle.vk_effect.specs.Effects.{SaidValue}
 use Rattle.vk_effect.specs.NamedFiles.{malformed_said, too_long_said}
 use Rattle.vk_auctioneer.specs.Inputs.{begun_in, challenge_in, row_in, value_in}
@@ -84,7 +83,7 @@ file_read : {X : Type 0} (IsValue : X → Type 0) (text : X → List ℕ) (read 
 file_read IsValue text read form files name rest x began given =
     let begun = begun_ok name (get files name) rest began in
     let is = whole_by IsValue text read form name begun.bytes x (read (from_first begun.bytes)) refl (subst (λ r. value_in name (read r) ≡ Ok x) begun.first given) in
-    (is.0, record { held = begun.held ∙ ap Some is.1; short = subst IsShort is.1 begun.short })
+    (is.0, record { held = begun.held ∙ ap Some is.1; short = subst (λ bytes. length bytes ≤ 2 ^ 30) is.1 begun.short })
 
 -- the text of a value is read as that value
 file_begun : (files : Files) (name text : List ℕ) → IsFile files name text → begun_in name (get files name) ≡ Ok (from_first text)

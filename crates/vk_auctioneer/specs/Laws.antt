@@ -1,5 +1,5 @@
 -- The laws of the auctioneer's commands.
-use Rattle.std.specs.Prelude.{◌≡◌, ◌↔◌, ℕ, ◌^◌, nat_lt, if◌then◌else◌, List, [], ◌∷◌, length, Option, Some, None, option_map, Ok, IsSomeAnd}
+use Rattle.std.specs.Prelude.{◌≡◌, ◌↔◌, ℕ, ◌^◌, ◌≤◌, nat_lt, if◌then◌else◌, List, [], ◌∷◌, length, Option, Some, None, option_map, Ok, IsSomeAnd}
 use Rattle.std.specs.Result.{result_err}
 use Rattle.std.specs.FinMap.{get}
 use Rattle.vk_commit.specs.Values.{AreBytes}
@@ -12,17 +12,13 @@ use Rattle.vk_reply.specs.Values.{IsChallenge}
 use Rattle.vk_seal.specs.Tables.{seal_table, secret_table}
 use Rattle.vk_seal.specs.Texts.{seal_text, secret_text}
 use Rattle.vk_seal.specs.Values.{IsSeal, IsSecret}
-use Rattle.vk_verifier.specs.Acceptance.{Accepts}
 use Rattle.vk_keeper.specs.declared.auction.Auction.{Auction}
-use Rattle.vk_keeper.specs.declared.auction.Phase.TheVariants.{Proved}
 use Rattle.vk_keeper.specs.declared.auction.SealRow.{SealRow}
 use Rattle.vk_keeper.specs.Auctions.{challenge_of, seed_of}
 use Rattle.vk_keeper.specs.Joining.{first_of}
 use Rattle.vk_keeper.specs.Ledgers.{Ledger, IsLedger}
 use Rattle.vk_job.specs.Jobs.{IsProvedAuction}
-use Rattle.vk_job.specs.Published.{board_of, reply_of}
-use Rattle.vk_honest.specs.Answers.{IsChallengeTo}
-use Rattle.vk_honest.specs.Sizes.{IsShort}
+use Rattle.vk_job.specs.Published.{IsChallengeTo, board_of, reply_of}
 use Rattle.vk_effect.specs.Effects.{Effect, SaidValue}
 use Rattle.vk_auctioneer.specs.Effects.{answer_effect, prove_effect}
 use Rattle.vk_effect.specs.NamedFiles.{malformed_said, missing_said, too_long_said}
@@ -33,7 +29,7 @@ use Rattle.vk_auctioneer.specs.Inputs.{challenge_in, row_in}
 -- the file of that name holds this text, which is not too long
 pub record IsFile (files : Files) (name text : List ℕ) : Type 0 where
   pub held : get files name ≡ Some text
-  pub short : IsShort text
+  pub short : length text ≤ 2 ^ 30
 
 -- what is said of a file that isn't held or is too long
 abbrev pub unheld_said : List ℕ → Option (List ℕ) → Option SaidValue
@@ -112,33 +108,3 @@ RepliesAreWritten =
     (files : Files) (ledger : Ledger) (id challenge_name reply : List ℕ) → IsLedger ledger → AreBytes 16 id
     → (answer_effect files ledger id challenge_name reply).status ≡ 0
     → (auction : Auction) × ((challenge : Challenge) × WritesReply files id challenge_name reply (answer_effect files ledger id challenge_name reply) auction challenge)
-
--- the effect of `answer`: it leaves an auction with whose board, and the challenge of the named file, what it writes
--- is accepted
-pub record WritesAccepted (files : Files) (id challenge_name reply : List ℕ) (effect : Effect) (auction : Auction) (challenge_file reply_file : List ℕ) : Type 0 where
-  pub kept : LeavesAuction effect id auction
-  pub read : get files challenge_name ≡ Some challenge_file
-  pub written : effect.writes ≡ (reply, reply_file) ∷ []
-  pub accepted : Accepts (board_of auction) challenge_file reply_file
-
--- each `answer` that ends with status 0 does so
-abbrev pub RepliesAreAccepted : Type 0
-RepliesAreAccepted =
-    (files : Files) (ledger : Ledger) (id challenge_name reply : List ℕ) → IsLedger ledger → AreBytes 16 id
-    → (answer_effect files ledger id challenge_name reply).status ≡ 0
-    → (auction : Auction) × ((challenge_file reply_file : List ℕ) × WritesAccepted files id challenge_name reply (answer_effect files ledger id challenge_name reply) auction challenge_file reply_file)
-
--- the auction is proved and was not answered, and the named file is a challenge with a bit for each of its lanes
-pub record IsAsked (files : Files) (ledger : Ledger) (id challenge_name : List ℕ) (auction : Auction) (seed : List ℕ) (challenge : Challenge) : Type 0 where
-  pub held : get ledger id ≡ Some auction
-  pub phase : auction.phase ≡ Proved seed
-  pub proved : IsProvedAuction auction
-  pub asked : IsChallengeTo auction challenge
-  pub read : get files challenge_name ≡ Some (challenge_text challenge)
-
--- every such challenge is answered
-abbrev pub ChallengesAreAnswered : Type 0
-ChallengesAreAnswered =
-    (files : Files) (ledger : Ledger) (id challenge_name reply : List ℕ) (auction : Auction) (seed : List ℕ) (challenge : Challenge)
-    → IsAsked files ledger id challenge_name auction seed challenge
-    → (answer_effect files ledger id challenge_name reply).status ≡ 0

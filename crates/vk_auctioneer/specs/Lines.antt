@@ -3,8 +3,8 @@ use Rattle.std.specs.Prelude.{ℕ, List, [], codes, decimal}
 use Rattle.vk_lines.specs.Tokens.{hex_text}
 use Rattle.vk_vickrey.specs.declared.outcomes.VickreyOutcome.{VickreyOutcome}
 use Rattle.vk_reply.specs.Texts.{bits_text}
+use Rattle.vk_seal.specs.Mismatches.{mismatch_fields}
 use Rattle.vk_keeper.specs.declared.auction.Auction.{Auction}
-use Rattle.vk_bids.specs.ConfrontTexts.{mismatch_fields}
 use Rattle.vk_job.specs.Jobs.{winner_of}
 use Rattle.vk_house.specs.declared.errors.HouseErr.{HouseErr}
 use Rattle.vk_house.specs.declared.errors.HouseErr.TheVariants as house
@@ -41,6 +41,13 @@ refusal_line seat (house.OtherChallenge kept) = codes "house other challenge kep
 refusal_line seat (house.DrySeed lane wire) = codes "house dry seed lane " +++ decimal lane +++ codes " wire " +++ decimal wire +++ line_feed
 refusal_line seat house.KeeperFailed = []
 refusal_line seat house.NoMemory = []
+
+-- a refusal for whose line no memory is taken: all that have one, but the kept challenge's bits
+abbrev pub TakesNoMemory : HouseErr → Type 0
+TakesNoMemory (house.OtherChallenge kept) = ⊥
+TakesNoMemory house.KeeperFailed = ⊥
+TakesNoMemory house.NoMemory = ⊥
+TakesNoMemory _ = Unit {0}
 
 abbrev pub refused_said : ℕ → HouseErr → SaidValue
 refused_said seat refusal = record { status = 8; text = refusal_line seat refusal }

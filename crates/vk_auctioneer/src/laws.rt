@@ -2,7 +2,7 @@
 
 ghost use Rattle.std.specs.Prelude.{ℕ, List};
 ghost use Rattle.vk_io.specs.Files.{Files};
-ghost use Rattle.vk_auctioneer.specs.Laws.{BoardsAreWritten, ChallengesAreAnswered, ReadsChallenge, ReadsRow, RepliesAreAccepted, RepliesAreWritten};
+ghost use Rattle.vk_auctioneer.specs.Laws.{BoardsAreWritten, ReadsChallenge, ReadsRow, RepliesAreWritten};
 
 /// A law: a command reads the values whose texts its files are, and says of others the first fault, by the tables of
 /// the forms.
@@ -16,11 +16,4 @@ pub fn what_is_read_is_what_the_files_are()
 pub fn what_is_written_is_of_the_ledger()
     ensures boards { BoardsAreWritten }
     ensures replies { RepliesAreWritten }
-{}
-
-/// A law: what `answer` writes is accepted with the board of the ledger's auction and the challenge of the file. And
-/// every challenge with a bit for each lane is answered, so there is none that the auctioneer can't answer.
-pub fn what_is_answered_is_accepted()
-    ensures accepted { RepliesAreAccepted }
-    ensures answered { ChallengesAreAnswered }
 {}

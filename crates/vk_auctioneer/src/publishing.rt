@@ -1,13 +1,13 @@
 //! `prove` and `answer`, each of which writes a file of the auction: its board, and the reply to a challenge.
 
-ghost use Rattle.std.specs.Prelude.{◌≡◌, ◌∷◌, [], ℕ, IfOk, IfSome, List, Some, length};
+ghost use Rattle.std.specs.Prelude.{◌≡◌, ◌∷◌, [], ℕ, IfErr, IfOk, IfSome, IsOk, List, Some, length};
 ghost use Rattle.vk_job.specs.Jobs.{winner_of};
 ghost use Rattle.vk_job.specs.Published.{board_of, reply_of};
 ghost use Rattle.vk_house.specs.Commands.{Prove, Answer};
 ghost use Rattle.vk_auctioneer.specs.Answers.{Leaves, Says, AsksOnce};
 ghost use Rattle.vk_auctioneer.specs.Common.{Acts, Causes, CausesTwo, GetsOnce, KeepsAnswers, Told, as_reply, stores, work_of, Gives, OnlyReads};
 ghost use Rattle.vk_auctioneer.specs.Effects.{board_file, on_ledger, prove_effect, answer_effect, asked, on_both, reply_file};
-ghost use Rattle.vk_auctioneer.specs.Lines.{done_said, proved_line, answered_line};
+ghost use Rattle.vk_auctioneer.specs.Lines.{TakesNoMemory, done_said, proved_line, answered_line};
 ghost use Rattle.vk_reply.specs.Values.{IsChallenge};
 ghost use Rattle.vk_keeper.specs.Auctions.{challenge_of};
 ghost use Rattle.vk_auctioneer.specs.Inputs.{challenge_in, said_of};
@@ -52,6 +52,7 @@ fn proved<S: Shelf>(
 ) -> Result<Said, OutsideErr>
     ensures said { (id seed : List ℕ) → Says (Prove id seed) (as_reply work_of answer) result }
     ensures written { Told (Leaves (board_file name.now (as_reply work_of answer)) result) (S.held shelf.old) (S.held shelf.new) }
+    ensures told { IfErr answer (λ refusal. TakesNoMemory refusal → IsOk result) }
     ensures causes { (before after : ℕ) → Causes HouseErr.KeeperFailed answer before after
         → CausesTwo OutsideErr.Failed result (S.Shelf.faults shelf.old) (S.Shelf.faults shelf.new) before after }
 {
@@ -194,6 +195,7 @@ fn answered<S: Shelf>(
     requires { IfOk answer (λ job. challenge_of job.auction.phase ≡ Some challenge.now) }
     ensures said { (id : List ℕ) → Says (Answer id challenge.now) (as_reply work_of answer) result }
     ensures written { Told (Leaves (reply_file name.now challenge.now (as_reply work_of answer)) result) (S.held shelf.old) (S.held shelf.new) }
+    ensures told { IfErr answer (λ refusal. TakesNoMemory refusal → IsOk result) }
     ensures causes { (before after : ℕ) → Causes HouseErr.KeeperFailed answer before after
         → CausesTwo OutsideErr.Failed result (S.Shelf.faults shelf.old) (S.Shelf.faults shelf.new) before after }
 {

@@ -1,24 +1,27 @@
 //! What is said of a refusal of the house.
 
-ghost use Rattle.std.specs.Prelude.{◌≡◌, ℕ, Err, IfOk, OnOk, Result, string_bytes};
+ghost use Rattle.std.specs.Prelude.{◌≡◌, ℕ, Err, IfOk, Ok, OnOk, Result, string_bytes};
 ghost use Rattle.vk_io.specs.Faults.{Causes};
-ghost use Rattle.vk_bids.specs.ConfrontTexts.{mismatch_fields};
 ghost use Rattle.vk_reply.specs.Texts.{bit_character, bits_text};
+ghost use Rattle.vk_seal.specs.Mismatches.{mismatch_fields};
 ghost use Rattle.vk_house.specs.Replies.{Refused};
 ghost use Rattle.vk_auctioneer.specs.Answers.{IsReply};
-ghost use Rattle.vk_auctioneer.specs.Lines.{phase_word, refusal_line, refused_said};
+ghost use Rattle.vk_auctioneer.specs.Lines.{TakesNoMemory, phase_word, refusal_line, refused_said};
 
 use std::alloc::Global;
-use vk_bids::mismatch_fields;
 use vk_effect::Said;
 use vk_house::{HouseErr, PhaseName};
 use vk_io::OutsideErr;
 use vk_reply::Challenge;
 use vk_residue::NoMemory;
+use vk_seal::with_mismatch;
+use vk_text::ShortText;
 
 /// What is said of a refusal, or why nothing is said. The seat is that of the seal that was handed in, 0 where none was.
+/// Only the kept challenge's bits take memory: every other refusal is told as it is.
 pub fn refused(alloc: Global, seat: u16, refusal: HouseErr) -> Result<Said, OutsideErr>
     ensures said { IfOk result (λ said. said ≡ refused_said seat refusal) }
+    ensures told { TakesNoMemory refusal → result ≡ Ok (refused_said seat refusal) }
     ensures reply { OnOk result (IsReply (Refused refusal)) }
     ensures causes { (before after : ℕ) → Causes {T = Unit {0}} HouseErr.KeeperFailed (Err refusal) before after
         → Causes OutsideErr.Failed result before after }
@@ -26,54 +29,91 @@ pub fn refused(alloc: Global, seat: u16, refusal: HouseErr) -> Result<Said, Outs
     match refusal {
         HouseErr::KeeperFailed => Err(OutsideErr::Failed),
         HouseErr::NoMemory => Err(OutsideErr::NoMemory),
-        refusal => {
-            let line = refusal_line(alloc, seat, &refusal)?;
-            let said = Said::of_line(alloc, 8, line.as_str())?;
+        HouseErr::OtherChallenge { kept } => {
+            let said = other_challenge(alloc, &kept)?;
             Ok(said)
+        }
+        refusal => Ok(Said::of_short(8, refusal_line(seat, &refusal))),
+    }
+}
+
+/// The line of a refusal that takes no memory. It is empty for the others.
+fn refusal_line(seat: u16, refusal: &HouseErr) -> ShortText
+    ensures { TakesNoMemory refusal.now → result ≡ refusal_line seat refusal.now }
+{
+    match refusal {
+        HouseErr::Known => ShortText::new().word("house known\n"),
+        HouseErr::Unknown => ShortText::new().word("house unknown\n"),
+        HouseErr::Phase { kept } => phase_line(*kept),
+        HouseErr::Full => ShortText::new().word("house full\n"),
+        HouseErr::OtherAuction { given } => ShortText::new()
+            .word("house other auction ")
+            .hex(given)
+            .word("\n"),
+        HouseErr::SeatTaken => ShortText::new()
+            .word("house seat taken ")
+            .number(u64::from(seat))
+            .word("\n"),
+        HouseErr::Length { kept, given } => length_line(*kept, *given),
+        HouseErr::BidTooLarge => ShortText::new().word("house bid too large\n"),
+        HouseErr::Mismatch(mismatch) => {
+            let start = ShortText::new().word("house mismatch ");
+            with_mismatch(start, mismatch).word("\n")
+        }
+        HouseErr::NoSeals => ShortText::new().word("house no seals\n"),
+        HouseErr::OtherSeed { kept } => ShortText::new()
+            .word("house other seed kept ")
+            .hex(kept)
+            .word("\n"),
+        HouseErr::DrySeed { lane, wire } => dry_line(*lane, *wire),
+        HouseErr::OtherChallenge { kept: _ } | HouseErr::KeeperFailed | HouseErr::NoMemory => {
+            ShortText::new()
         }
     }
 }
 
-/// The line of a refusal. The failure of the keeper and want of memory have none.
-fn refusal_line(alloc: Global, seat: u16, refusal: &HouseErr) -> Result<String, NoMemory>
-    ensures { IfOk result (λ line. string_bytes line ≡ refusal_line seat refusal.now) }
+/// Of an auction that has come so far.
+fn phase_line(kept: PhaseName) -> ShortText
+    ensures { result ≡ refusal_line 0 (HouseErr.Phase kept) }
 {
-    let line = match refusal {
-        HouseErr::Known => format!(in alloc; "house known\n")?,
-        HouseErr::Unknown => format!(in alloc; "house unknown\n")?,
-        HouseErr::Phase { kept } => {
-            let kept = phase_word(*kept);
-            format!(in alloc; "house phase {kept}\n")?
-        }
-        HouseErr::Full => format!(in alloc; "house full\n")?,
-        HouseErr::OtherAuction { given } => {
-            let given = hex::encode(alloc, given.as_slice())?;
-            format!(in alloc; "house other auction {given}\n")?
-        }
-        HouseErr::SeatTaken => format!(in alloc; "house seat taken {seat}\n")?,
-        HouseErr::Length { kept, given } => {
-            format!(in alloc; "house length kept {kept} given {given}\n")?
-        }
-        HouseErr::BidTooLarge => format!(in alloc; "house bid too large\n")?,
-        HouseErr::Mismatch(mismatch) => {
-            let fields = mismatch_fields(alloc, mismatch)?;
-            format!(in alloc; "house mismatch {fields}\n")?
-        }
-        HouseErr::NoSeals => format!(in alloc; "house no seals\n")?,
-        HouseErr::OtherSeed { kept } => {
-            let kept = hex::encode(alloc, kept.as_slice())?;
-            format!(in alloc; "house other seed kept {kept}\n")?
-        }
-        HouseErr::OtherChallenge { kept } => {
-            let kept = bits(alloc, kept)?;
-            format!(in alloc; "house other challenge kept {kept}\n")?
-        }
-        HouseErr::DrySeed { lane, wire } => {
-            format!(in alloc; "house dry seed lane {lane} wire {wire}\n")?
-        }
-        HouseErr::KeeperFailed | HouseErr::NoMemory => String::new(alloc),
-    };
-    Ok(line)
+    ShortText::new()
+        .word("house phase ")
+        .word(phase_word(kept))
+        .word("\n")
+}
+
+/// Of an auction with the kept number of lanes, where another one is given.
+fn length_line(kept: u32, given: u32) -> ShortText
+    ensures { result ≡ refusal_line 0 (HouseErr.Length kept given) }
+{
+    ShortText::new()
+        .word("house length kept ")
+        .number(u64::from(kept))
+        .word(" given ")
+        .number(u64::from(given))
+        .word("\n")
+}
+
+/// Of a seed that gives no tape for the wire.
+fn dry_line(lane: u32, wire: u32) -> ShortText
+    ensures { result ≡ refusal_line 0 (HouseErr.DrySeed lane wire) }
+{
+    ShortText::new()
+        .word("house dry seed lane ")
+        .number(u64::from(lane))
+        .word(" wire ")
+        .number(u64::from(wire))
+        .word("\n")
+}
+
+/// Of an auction that has answered another challenge, the kept one.
+fn other_challenge(alloc: Global, kept: &Challenge) -> Result<Said, NoMemory>
+    ensures { IfOk result (λ said. said ≡ refused_said 0 (HouseErr.OtherChallenge kept.now)) }
+{
+    let kept = bits(alloc, kept)?;
+    let line = format!(in alloc; "house other challenge kept {kept}\n")?;
+    let said = Said::of_line(alloc, 8, line.as_str())?;
+    Ok(said)
 }
 
 /// The word for how far an auction has come.

@@ -1,12 +1,12 @@
 //! `announce` and `show`, which read and write no file: an auction begins, and how it stands is said.
 
-ghost use Rattle.std.specs.Prelude.{◌≡◌, ℕ, IfOk, IfSome, Option};
+ghost use Rattle.std.specs.Prelude.{◌≡◌, ℕ, IfErr, IfOk, IfSome, IsOk, Option};
 ghost use Rattle.vk_house.specs.Replies.{Done, Stands};
 ghost use Rattle.vk_house.specs.Commands.{Announce, IsRoom, Show};
 ghost use Rattle.vk_auctioneer.specs.Answers.{Says};
 ghost use Rattle.vk_auctioneer.specs.Common.{Acts, Causes, Files, GetsOnce, KeepsAnswers, Told, as_reply, stores};
 ghost use Rattle.vk_auctioneer.specs.Effects.{announce_effect, on_ledger, show_effect};
-ghost use Rattle.vk_auctioneer.specs.Lines.{announced_line, done_said, standing_line};
+ghost use Rattle.vk_auctioneer.specs.Lines.{TakesNoMemory, announced_line, done_said, standing_line};
 
 use crate::refusals::{phase_word, refused};
 use std::alloc::Global;
@@ -39,6 +39,7 @@ pub fn announce<K: Keeper + Drop>(
 /// Of what the house answered.
 fn announced(alloc: Global, id: &[u8; 16], answer: Result<(), HouseErr>) -> Result<Said, OutsideErr>
     ensures said { (width lanes : ℕ) → Says (Announce id.now width lanes) (as_reply (λ _. Done) answer) result }
+    ensures told { IfErr answer (λ refusal. TakesNoMemory refusal → IsOk result) }
     ensures causes { (before after : ℕ) → Causes HouseErr.KeeperFailed answer before after → Causes OutsideErr.Failed result before after }
 {
     match answer {
@@ -87,6 +88,7 @@ fn shown(
     answer: Result<Standing, HouseErr>,
 ) -> Result<Said, OutsideErr>
     ensures said { Says (Show id.now) (as_reply Stands answer) result }
+    ensures told { IfErr answer (λ refusal. TakesNoMemory refusal → IsOk result) }
     ensures causes { (before after : ℕ) → Causes HouseErr.KeeperFailed answer before after → Causes OutsideErr.Failed result before after }
 {
     match answer {

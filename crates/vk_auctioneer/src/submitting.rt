@@ -1,6 +1,6 @@
 //! `submit`.
 
-ghost use Rattle.std.specs.Prelude.{◌≡◌, ℕ, IfOk, IfSome, List, Option};
+ghost use Rattle.std.specs.Prelude.{◌≡◌, ℕ, IfErr, IfOk, IfSome, IsOk, List, Option};
 ghost use Rattle.vk_seal.specs.Values.{IsSeal, IsSecret};
 ghost use Rattle.vk_seal.specs.declared.secret.Seal.{Seal};
 ghost use Rattle.vk_seal.specs.declared.secret.Secret.{Secret};
@@ -10,7 +10,7 @@ ghost use Rattle.vk_auctioneer.specs.Answers.{AsksOnce, Says};
 ghost use Rattle.vk_auctioneer.specs.Common.{Acts, Causes, CausesTwo, Files, GetsOnce, Gives, KeepsAnswers, OnlyReads, Told, as_reply, stores};
 ghost use Rattle.vk_auctioneer.specs.Effects.{asked, no_file, on_both, on_ledger, submit_effect};
 ghost use Rattle.vk_auctioneer.specs.Inputs.{row_in, said_of};
-ghost use Rattle.vk_auctioneer.specs.Lines.{done_said, taken_line};
+ghost use Rattle.vk_auctioneer.specs.Lines.{TakesNoMemory, done_said, taken_line};
 
 use crate::inputs::{Unread, begin, seal, secret};
 use crate::refusals::refused;
@@ -91,6 +91,7 @@ fn hand_in<K: Keeper + Drop>(
 /// Of what the house answered of a seal of that seat.
 fn handed_in(alloc: Global, seat: u16, answer: Result<u32, HouseErr>) -> Result<Said, OutsideErr>
     ensures said { (id : List ℕ) (seal : Seal) (secret : Secret) → seal.seat ≡ seat → Says (Submit id seal secret) (as_reply Position answer) result }
+    ensures told { IfErr answer (λ refusal. TakesNoMemory refusal → IsOk result) }
     ensures causes { (before after : ℕ) → Causes HouseErr.KeeperFailed answer before after → Causes OutsideErr.Failed result before after }
 {
     match answer {

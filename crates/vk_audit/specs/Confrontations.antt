@@ -1,4 +1,5 @@
 -- What is said of what a bidder's secret comes to against two replies to a board.
+use Rattle.std.specs.Prelude.{Result}
 use Rattle.vk_io.specs.Files.{Files}
 use Rattle.vk_bids.specs.declared.confrontation.Confrontation.{Confrontation}
 use Rattle.vk_bids.specs.declared.confrontation.Confrontation.TheVariants.{Refused, Same, Malformed, NoSeal, Mismatch, Clash, Held}
@@ -22,6 +23,16 @@ confrontation_said names (Mismatch mismatch) = record { status = 8; text = misma
 confrontation_said names (Clash two) = record { status = 3; text = clash_text two }
 confrontation_said names (Held seat) = record { status = 0; text = held_line seat }
 
+-- what names no file: all that comes after both replies are accepted, but that the secret's file is none
+abbrev pub NamesNoFile : Confrontation → Type 0
+NamesNoFile (Refused second verdict) = ⊥
+NamesNoFile Same = Unit {0}
+NamesNoFile (Malformed line) = ⊥
+NamesNoFile (NoSeal seat) = Unit {0}
+NamesNoFile (Mismatch mismatch) = Unit {0}
+NamesNoFile (Clash two) = Unit {0}
+NamesNoFile (Held seat) = Unit {0}
+
 -- ---- files that give no confrontation
 
 -- a file is missing or too long
@@ -36,9 +47,12 @@ unconfronted_said names (Unread fault) = unread_said names.replies fault
 unconfronted_said names MissingSecret = missing_said names.secret
 unconfronted_said names TooLongSecret = too_long_said names.secret
 
+-- what the named files come to
+abbrev pub confrontation_in : Files → ConfrontWords → Result Confrontation ConfrontErr
+confrontation_in files names =
+    let replies = names.replies in
+    confrontation_on files replies.board replies.first.challenge replies.first.reply replies.second.challenge replies.second.reply names.secret
+
 -- what `confront` says
 abbrev pub confront_said : Files → ConfrontWords → SaidValue
-confront_said files names =
-    let replies = names.replies in
-    answer_said (confrontation_said names) (unconfronted_said names)
-    (confrontation_on files replies.board replies.first.challenge replies.first.reply replies.second.challenge replies.second.reply names.secret)
+confront_said files names = answer_said (confrontation_said names) (unconfronted_said names) (confrontation_in files names)

@@ -2,21 +2,24 @@
 
 ghost use Rattle.std.specs.Prelude.{◌≡◌, IfSome, IfOk};
 ghost use Rattle.vk_io.specs.Reads.{OnlyReads};
-ghost use Rattle.vk_words.specs.Names.{extract_seen, verify_seen};
+ghost use Rattle.vk_lines.specs.Gives.{Gives};
+ghost use Rattle.vk_words.specs.Names.{confront_seen, extract_seen, verify_seen};
+ghost use Rattle.vk_bids.specs.Confrontation.{fault_of};
 ghost use Rattle.vk_audit.specs.Audits.{audit_said, audit_seen};
+ghost use Rattle.vk_audit.specs.Confrontations.{confrontation_in};
 ghost use Rattle.vk_audit.specs.Extractions.{replies_seen};
 ghost use Rattle.vk_audit.specs.Verdicts.{verified_words};
 
-use crate::confrontations::{confronted, unconfronted};
-use crate::extractions::extracted;
+use crate::confrontations::confront_answered;
+use crate::extractions::extract_answered;
 use crate::reports::{reported, unreported};
 use crate::verdicts::{judged, unread};
 use std::alloc::Global;
-use vk_bids::{TwoReplies, confront, extract};
+use vk_bids::{ConfrontErr, Confrontation, TwoReplies, confront, extract};
 use vk_effect::Said;
 use vk_io::{OutsideErr, Shelf};
 use vk_report::read_report;
-use vk_verifier::verdict;
+use vk_verifier::{VErr, verdict};
 use vk_words::{ConfrontNames, ExtractNames, VerifyNames};
 
 /// What is to be audited: the names of the files.
@@ -53,6 +56,24 @@ pub fn replies_of<'a>(names: &ExtractNames<'a>) -> TwoReplies<'a>
     }
 }
 
+/// What the secret comes to against the two replies.
+fn confronted_in<S: Shelf>(
+    alloc: Global,
+    shelf: &mut S,
+    names: &ConfrontNames<'_>,
+) -> Result<Confrontation, ConfrontErr>
+    ensures told { IfSome (S.held shelf.old) (λ files.
+        Gives fault_of (λ confrontation. confrontation) result (confrontation_in files (confront_seen names.now))) }
+    ensures shelf { OnlyReads S.held S.Shelf.faults (ConfrontErr.Unread VErr.Failed) result shelf.old shelf.new }
+{
+    let files = vk_bids::ConfrontNames {
+        replies: replies_of(&names.replies),
+        secret: names.secret,
+    };
+    let answer = confront(alloc, shelf, &files);
+    answer
+}
+
 /// Reads the named files, and says what they come to.
 pub fn audit<S: Shelf>(
     alloc: Global,
@@ -73,22 +94,14 @@ pub fn audit<S: Shelf>(
             Ok(said)
         }
         AuditOrder::Extract(names) => {
-            let said = match extract(alloc, shelf, &replies_of(names)) {
-                Ok(extraction) => extracted(alloc, names, &extraction)?,
-                Err(fault) => unread(alloc, names, fault)?,
-            };
-            Ok(said)
+            let answer = extract(alloc, shelf, &replies_of(names));
+            let said = extract_answered(alloc, names, answer);
+            said
         }
         AuditOrder::Confront(names) => {
-            let files = vk_bids::ConfrontNames {
-                replies: replies_of(&names.replies),
-                secret: names.secret,
-            };
-            let said = match confront(alloc, shelf, &files) {
-                Ok(confrontation) => confronted(alloc, names, &confrontation)?,
-                Err(fault) => unconfronted(alloc, names, fault)?,
-            };
-            Ok(said)
+            let answer = confronted_in(alloc, shelf, names);
+            let said = confront_answered(alloc, names, answer);
+            said
         }
         AuditOrder::Report(board) => {
             let said = match read_report(alloc, shelf, board) {

@@ -1,11 +1,18 @@
 //! What is said of what a bidder's secret comes to against two replies to a board.
 
-ghost use Rattle.std.specs.Prelude.{◌≡◌, ℕ, IfOk, OnOk, Err};
+ghost use Rattle.std.specs.Prelude.{◌≡◌, ℕ, Err, IfOk, IsOk, Ok, OnOk, Result};
+ghost use Rattle.vk_commit.specs.Commitment.{TwoOpeningsSeen};
 ghost use Rattle.vk_io.specs.Faults.{Causes};
+ghost use Rattle.vk_lines.specs.Gives.{Gives};
+ghost use Rattle.vk_bids.specs.declared.confrontation.ConfrontErr.{ConfrontErr};
+ghost use Rattle.vk_bids.specs.declared.confrontation.Confrontation.{Confrontation};
+ghost use Rattle.vk_bids.specs.Confrontation.{fault_of};
 ghost use Rattle.vk_bids.specs.ConfrontTexts.{confrontation_text};
+ghost use Rattle.vk_bids.specs.Texts.{clash_text};
 ghost use Rattle.vk_words.specs.Names.{confront_seen};
 ghost use Rattle.vk_effect.specs.Effects.{IsEnd};
-ghost use Rattle.vk_audit.specs.Confrontations.{IsOfNamedFile, confrontation_said, unconfronted_said};
+ghost use Rattle.vk_audit.specs.Confrontations.{IsOfNamedFile, NamesNoFile, confrontation_said, unconfronted_said};
+ghost use Rattle.vk_audit.specs.Verdicts.{answer_said};
 
 use crate::verdicts::{judged, same_challenge, unread};
 use std::alloc::Global;
@@ -17,34 +24,41 @@ use vk_verifier::VErr;
 use vk_words::ConfrontNames;
 
 /// The line of a confrontation, with that status.
-fn printed(alloc: Global, status: u8, confrontation: &Confrontation) -> Result<Said, NoMemory>
+fn printed(status: u8, confrontation: &Confrontation) -> Said
     requires { IsEnd status }
-    ensures { IfOk result (λ said. said ≡ record { status = status; text = confrontation_text confrontation.now }) }
+    ensures { result ≡ record { status = status; text = confrontation_text confrontation.now } }
 {
-    let line = confrontation_line(alloc, confrontation)?;
-    let said = Said::of_line(alloc, status, line.as_str())?;
-    Ok(said)
+    Said::of_short(status, confrontation_line(confrontation))
 }
 
-/// Of the verdict on a reply that isn't accepted, or of what the secret comes to against two accepted replies.
+/// Of the verdict on a reply that isn't accepted, or of what the secret comes to against two accepted replies. Only
+/// a line that names a file takes memory.
 pub fn confronted(
     alloc: Global,
     names: &ConfrontNames<'_>,
     confrontation: &Confrontation,
 ) -> Result<Said, NoMemory>
-    ensures { IfOk result (λ said. said ≡ confrontation_said (confront_seen names.now) confrontation.now) }
+    ensures said { IfOk result (λ said. said ≡ confrontation_said (confront_seen names.now) confrontation.now) }
+    ensures clash { (two : TwoOpeningsSeen) → confrontation.now ≡ Confrontation.Clash two
+        → result ≡ Ok (record { status = 3; text = clash_text two }) }
+    ensures no_file { NamesNoFile confrontation.now → IsOk result }
 {
     let replies = &names.replies;
-    let said = match confrontation {
-        Confrontation::Refused { second, verdict } => judged(alloc, replies, *second, *verdict)?,
-        Confrontation::Same => same_challenge(alloc)?,
-        Confrontation::Malformed { line } => malformed(alloc, names.secret, *line)?,
-        Confrontation::NoSeal { seat: _ } => printed(alloc, 8, confrontation)?,
-        Confrontation::Mismatch(_) => printed(alloc, 8, confrontation)?,
-        Confrontation::Clash(_) => printed(alloc, 3, confrontation)?,
-        Confrontation::Held { seat: _ } => printed(alloc, 0, confrontation)?,
-    };
-    Ok(said)
+    match confrontation {
+        Confrontation::Refused { second, verdict } => {
+            let said = judged(alloc, replies, *second, *verdict)?;
+            Ok(said)
+        }
+        Confrontation::Same => Ok(same_challenge()),
+        Confrontation::Malformed { line } => {
+            let said = malformed(alloc, names.secret, *line)?;
+            Ok(said)
+        }
+        Confrontation::NoSeal { seat: _ } => Ok(printed(8, confrontation)),
+        Confrontation::Mismatch(_) => Ok(printed(8, confrontation)),
+        Confrontation::Clash(_) => Ok(printed(3, confrontation)),
+        Confrontation::Held { seat: _ } => Ok(printed(0, confrontation)),
+    }
 }
 
 /// Of files the first of which is missing or too long. A failure is handed on.
@@ -63,4 +77,28 @@ pub fn unconfronted(
         ConfrontErr::TooLongSecret => too_long(alloc, names.secret)?,
     };
     Ok(said)
+}
+
+/// Of what the files came to, or of the first that is missing or too long. A failure is handed on.
+pub fn confront_answered(
+    alloc: Global,
+    names: &ConfrontNames<'_>,
+    answer: Result<Confrontation, ConfrontErr>,
+) -> Result<Said, OutsideErr>
+    ensures said { (expected : Result Confrontation ConfrontErr) → Gives fault_of (λ confrontation. confrontation) answer expected
+        → IfOk result (λ said. said ≡ answer_said (confrontation_said (confront_seen names.now)) (unconfronted_said (confront_seen names.now)) expected) }
+    ensures clash { (two : TwoOpeningsSeen) → answer ≡ Ok (Confrontation.Clash two)
+        → result ≡ Ok (record { status = 3; text = clash_text two }) }
+    ensures causes { (before after : ℕ) → Causes (ConfrontErr.Unread VErr.Failed) answer before after → Causes OutsideErr.Failed result before after }
+{
+    match answer {
+        Ok(confrontation) => {
+            let said = confronted(alloc, names, &confrontation)?;
+            Ok(said)
+        }
+        Err(fault) => {
+            let said = unconfronted(alloc, names, fault)?;
+            Ok(said)
+        }
+    }
 }

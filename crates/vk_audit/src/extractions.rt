@@ -1,35 +1,69 @@
 //! What is said of what two replies to a board come to.
 
-ghost use Rattle.std.specs.Prelude.{◌≡◌, IfOk};
+ghost use Rattle.std.specs.Prelude.{◌≡◌, ℕ, IfOk, Ok, Result};
+ghost use Rattle.vk_commit.specs.Commitment.{TwoOpeningsSeen};
+ghost use Rattle.vk_io.specs.Faults.{Causes};
+ghost use Rattle.vk_verifier.specs.declared.answers.VErr.{VErr};
+ghost use Rattle.vk_verifier.specs.Verdicts.{Gives};
+ghost use Rattle.vk_bids.specs.declared.extraction.Extraction.{Extraction};
+ghost use Rattle.vk_bids.specs.Texts.{clash_text};
 ghost use Rattle.vk_words.specs.Names.{extract_seen};
 ghost use Rattle.vk_audit.specs.Extractions.{extraction_said};
+ghost use Rattle.vk_audit.specs.Verdicts.{answer_said, unread_said};
 
-use crate::verdicts::{judged, same_challenge};
+use crate::verdicts::{judged, same_challenge, unread};
 use std::alloc::Global;
 use vk_bids::{Extraction, clash_line, extraction_lines};
 use vk_effect::Said;
+use vk_io::OutsideErr;
 use vk_residue::NoMemory;
+use vk_verifier::VErr;
 use vk_words::ExtractNames;
 
-/// Of the verdict on a reply that isn't accepted, or of what two accepted replies come to.
+/// Of the verdict on a reply that isn't accepted, or of what two accepted replies come to. A clash takes no memory.
 pub fn extracted(
     alloc: Global,
     names: &ExtractNames<'_>,
     extraction: &Extraction,
 ) -> Result<Said, NoMemory>
-    ensures { IfOk result (λ said. said ≡ extraction_said (extract_seen names.now) extraction.now) }
+    ensures said { IfOk result (λ said. said ≡ extraction_said (extract_seen names.now) extraction.now) }
+    ensures clash { (two : TwoOpeningsSeen) → extraction.now ≡ Extraction.Clash two
+        → result ≡ Ok (record { status = 3; text = clash_text two }) }
 {
-    let said = match extraction {
-        Extraction::Refused { second, verdict } => judged(alloc, names, *second, *verdict)?,
-        Extraction::Same => same_challenge(alloc)?,
-        Extraction::Clash(two) => {
-            let line = clash_line(alloc, two)?;
-            Said::of_line(alloc, 3, line.as_str())?
+    match extraction {
+        Extraction::Refused { second, verdict } => {
+            let said = judged(alloc, names, *second, *verdict)?;
+            Ok(said)
         }
+        Extraction::Same => Ok(same_challenge()),
+        Extraction::Clash(two) => Ok(Said::of_short(3, clash_line(two))),
         Extraction::Bids(found) => {
             let lines = extraction_lines(alloc, found)?;
-            Said::of_lines(0, lines)
+            Ok(Said::of_lines(0, lines))
         }
-    };
-    Ok(said)
+    }
+}
+
+/// Of what the files came to, or of the first that is missing or too long. A failure is handed on.
+pub fn extract_answered(
+    alloc: Global,
+    names: &ExtractNames<'_>,
+    answer: Result<Extraction, VErr>,
+) -> Result<Said, OutsideErr>
+    ensures said { (expected : Result Extraction VErr) → Gives (λ extraction. extraction) answer expected
+        → IfOk result (λ said. said ≡ answer_said (extraction_said (extract_seen names.now)) (unread_said (extract_seen names.now)) expected) }
+    ensures clash { (two : TwoOpeningsSeen) → answer ≡ Ok (Extraction.Clash two)
+        → result ≡ Ok (record { status = 3; text = clash_text two }) }
+    ensures causes { (before after : ℕ) → Causes VErr.Failed answer before after → Causes OutsideErr.Failed result before after }
+{
+    match answer {
+        Ok(extraction) => {
+            let said = extracted(alloc, names, &extraction)?;
+            Ok(said)
+        }
+        Err(fault) => {
+            let said = unread(alloc, names, fault)?;
+            Ok(said)
+        }
+    }
 }

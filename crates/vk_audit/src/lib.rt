@@ -9,8 +9,8 @@ mod reports;
 mod verdicts;
 
 pub use auditing::{AuditOrder, audit, replies_of};
-pub use confrontations::{confronted, unconfronted};
-pub use extractions::extracted;
+pub use confrontations::{confront_answered, confronted, unconfronted};
+pub use extractions::{extract_answered, extracted};
 pub use laws::statuses_mean_what_the_files_are;
 pub use reports::{reported, unreported};
 pub use verdicts::{judged, same_challenge, unread};

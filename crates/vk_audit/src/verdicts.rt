@@ -1,6 +1,6 @@
 //! What is said of a verdict, and of files that give none.
 
-ghost use Rattle.std.specs.Prelude.{◌≡◌, ℕ, IfOk, OnOk, Err};
+ghost use Rattle.std.specs.Prelude.{◌≡◌, ℕ, IfOk, IsOk, OnOk, Err};
 ghost use Rattle.vk_io.specs.Faults.{Causes};
 ghost use Rattle.vk_words.specs.Names.{extract_seen};
 ghost use Rattle.vk_effect.specs.NamedFiles.{refused_said};
@@ -10,6 +10,7 @@ use std::alloc::Global;
 use vk_effect::{Said, malformed, missing, refused, too_long};
 use vk_io::OutsideErr;
 use vk_residue::NoMemory;
+use vk_text::ShortText;
 use vk_verifier::{BoardVerdict, Part, VErr};
 use vk_wire::WireFault;
 use vk_words::ExtractNames;
@@ -75,19 +76,21 @@ fn row_refused(alloc: Global, reply: &str, lane: u32, row: u32) -> Result<Said, 
     Ok(said)
 }
 
-/// Of the verdict on the first reply, or on the second. Of one reply alone both names are the same.
+/// Of the verdict on the first reply, or on the second. Of one reply alone both names are the same. That it is
+/// accepted takes no memory.
 pub fn judged(
     alloc: Global,
     names: &ExtractNames<'_>,
     second: bool,
     verdict: BoardVerdict,
 ) -> Result<Said, NoMemory>
-    ensures { IfOk result (λ said. said ≡ judged_said (extract_seen names.now) second verdict) }
+    ensures said { IfOk result (λ said. said ≡ judged_said (extract_seen names.now) second verdict) }
+    ensures accepted { verdict ≡ BoardVerdict.Accepted → IsOk result }
 {
     let board = names.board;
     let reply = reply_of(names, second);
     let said = match verdict {
-        BoardVerdict::Accepted => Said::of_line(alloc, 0, "accepted\n")?,
+        BoardVerdict::Accepted => Said::of_short(0, ShortText::new().word("accepted\n")),
         BoardVerdict::Malformed { part, line } => malformed(alloc, name_of(names, part), line)?,
         BoardVerdict::Price => refused(alloc, board, "price")?,
         BoardVerdict::Winner => refused(alloc, board, "winner")?,
@@ -98,12 +101,11 @@ pub fn judged(
     Ok(said)
 }
 
-/// Of challenges that don't differ.
-pub fn same_challenge(alloc: Global) -> Result<Said, NoMemory>
-    ensures { IfOk result (λ said. said ≡ same_said) }
+/// Of challenges that don't differ. Takes no memory.
+pub fn same_challenge() -> Said
+    ensures { result ≡ same_said }
 {
-    let said = Said::of_line(alloc, 7, "same challenge\n")?;
-    Ok(said)
+    Said::of_short(7, ShortText::new().word("same challenge\n"))
 }
 
 /// Of files that give no verdict, the first of which is missing or too long. A failure is handed on.

@@ -6,7 +6,7 @@ ghost use Rattle.vk_effect.specs.Effects.{IsEnd, Stores, outside};
 ghost use Rattle.vk_ceremony.specs.Ceremonies.{EndsAll, closed, closing_said, end_said};
 
 use std::alloc::Global;
-use vk_effect::{Said, malformed, print};
+use vk_effect::{Said, malformed};
 use vk_io::{OutsideErr, Sink};
 use vk_residue::NoMemory;
 
@@ -58,6 +58,6 @@ pub fn say<W: Sink>(out: &mut W, said: &Said) -> Result<u8, OutsideErr>
     ensures end { IfOk result IsEnd }
     ensures causes { Causes OutsideErr.Failed result (W.Sink.faults out.old) (W.Sink.faults out.new) }
 {
-    print(said.lines(), out)?;
+    said.print(out)?;
     Ok(said.status())
 }

@@ -16,7 +16,6 @@ use crate::closing::{close, say};
 use crate::reading::{Line, begin_script, behind_end, read_line};
 use std::alloc::Global;
 use vk_auctioneer::house_command;
-use vk_effect::print;
 use vk_io::{OutsideErr, Shelf, Sink};
 use vk_keeper::Keeper;
 use vk_lines::Lines;
@@ -166,6 +165,6 @@ fn command<S: Shelf, K: Keeper + Drop, W: Sink>(
         (K.faults keeper.old) (K.faults keeper.new) (W.Sink.faults out.old) (W.Sink.faults out.new) }
 {
     let said = house_command(alloc, shelf, keeper, order)?;
-    print(said.lines(), out)?;
+    said.print(out)?;
     Ok(said.status())
 }

@@ -4,3 +4,4 @@ pub mod NamedFiles
 pub mod Ends
 pub mod Sequences
 pub mod Counts
+pub mod SaidTexts

@@ -2,27 +2,40 @@
 
 ghost use Rattle.std.specs.Prelude.{◌≡◌, IfOk, string_bytes};
 ghost use Rattle.std.specs.List.{flat_map};
+ghost use Rattle.vk_io.specs.Faults.{Causes};
+ghost use Rattle.vk_io.specs.Files.{Told, Takes};
 ghost use Rattle.vk_effect.specs.Effects.{IsEnd};
 
+use crate::printing::print;
 use std::alloc::Global;
 use std::marker::Model;
+use vk_io::{OutsideErr, Sink};
 use vk_residue::NoMemory;
+use vk_text::ShortText;
+
+/// What is to be printed.
+#[derive(Drop)]
+enum SaidText {
+    /// Lines, each with its line feed.
+    Lines(Vec<String>),
+    /// A line for which no memory is taken.
+    Short(ShortText),
+}
 
 /// The status of a command, neither 6 nor 9, and the lines that it prints, each with its line feed.
 #[derive(Drop)]
 pub struct Said {
     status: u8,
-    lines: Vec<String>,
+    text: SaidText,
 }
 
 impl Model for Said {
-    ghost use Rattle.std.specs.Prelude.{string_bytes};
-    ghost use Rattle.std.specs.List.{flat_map};
     ghost use Rattle.vk_effect.specs.Effects.{SaidValue, IsEnd};
+    ghost use Rattle.vk_effect.specs.SaidTexts.{said_text};
 
     ghost Value = { SaidValue };
 
-    ghost view = { λ s. record { status = s.status; text = flat_map string_bytes s.lines.items } };
+    ghost view = { λ s. record { status = s.status; text = said_text s.text } };
 
     ghost invariant = { λ s. IsEnd s.status };
 }
@@ -32,7 +45,21 @@ impl Said {
         requires { IsEnd status }
         ensures { result ≡ record { status = status; text = flat_map string_bytes lines.items } }
     {
-        Said { status, lines }
+        Said {
+            status,
+            text: SaidText::Lines(lines),
+        }
+    }
+
+    /// Takes no memory.
+    pub fn of_short(status: u8, line: ShortText) -> Said
+        requires { IsEnd status }
+        ensures { result ≡ record { status = status; text = line } }
+    {
+        Said {
+            status,
+            text: SaidText::Short(line),
+        }
     }
 
     pub fn of_line(alloc: Global, status: u8, line: &str) -> Result<Said, NoMemory>
@@ -42,7 +69,7 @@ impl Said {
         let mut lines = Vec::new(alloc);
         let line = String::from_str(alloc, line)?;
         lines.push(line)?;
-        Ok(Said { status, lines })
+        Ok(Said::of_lines(status, lines))
     }
 
     pub fn status(&self) -> u8
@@ -52,9 +79,20 @@ impl Said {
         self.status
     }
 
-    pub fn lines(&self) -> &[String]
-        ensures { flat_map string_bytes result.now ≡ self.now.text }
+    /// Prints the text.
+    pub fn print<W: Sink>(&self, out: &mut W) -> Result<(), OutsideErr>
+        ensures printed { Told (Takes self.now.text result) (W.taken out.old) (W.taken out.new) }
+        ensures causes { Causes OutsideErr.Failed result (W.Sink.faults out.old) (W.Sink.faults out.new) }
     {
-        self.lines.as_slice()
+        match &self.text {
+            SaidText::Lines(lines) => {
+                let printed = print(lines.as_slice(), out);
+                printed
+            }
+            SaidText::Short(text) => {
+                let printed = out.put(text.as_bytes());
+                printed
+            }
+        }
     }
 }

@@ -1,4 +1,4 @@
-use Rattle.std.proofs.Common.{Ok, Err}
+use Rattle.std.proofs.Common.{Ok, Err, refl}
 use Rattle.std.specs.Prelude.{option_map, string_bytes}
 use Rattle.std.specs.List.{flat_map}
 use Rattle.std.proofs.lemmas.Result.{err_from_is_err_and}
@@ -30,7 +30,7 @@ returns-in_err-print-clause-ends g c =
     let said = c.in_ok-said.said in
     rw p.1
     (if_some_map (λ effect. Acts (Ok said) effect old new) (λ effect. Ends (Err p.0) effect (outside old taken) (outside new now))
-    (λ effect acts. stopped_printing effect old new taken now said (flat_map string_bytes c.lines.result.now) p.0 p.0 c.lines.ensures acts c.in_err-print.ensures.printed)
+    (λ effect acts. stopped_printing effect old new taken now said said.text p.0 p.0 refl acts c.in_err-print.ensures.printed)
     (command_effect old.files old.ledger (option_map command_seen c.args.command)) c.in_ok-said.ensures.acts)
 
 pub returns-clause-ends : goal.returns-clause-ends
@@ -41,5 +41,5 @@ returns-clause-ends g c =
     let now = g.W.Sink.taken c.print.new.out in
     let said = c.in_ok-said.said in
     if_some_map (λ effect. Acts (Ok said) effect old new) (λ effect. Ends (Ok c.status.result) effect (outside old taken) (outside new now))
-    (λ effect acts. done_at_end OutsideErr effect old new taken now said (flat_map string_bytes c.lines.result.now) c.status.result c.lines.ensures c.status.ensures.value acts c.in_ok-print.ensures.printed)
+    (λ effect acts. done_at_end OutsideErr effect old new taken now said said.text c.status.result refl c.status.ensures.value acts c.in_ok-print.ensures.printed)
     (command_effect old.files old.ledger (option_map command_seen c.args.command)) c.in_ok-said.ensures.acts

@@ -1,4 +1,4 @@
--- What `prove` and `answer` write, and that it is accepted.
+-- What `prove` and `answer` write.
 use Rattle.std.proofs.Common.{◌≡◌, ℕ, List, length, IfSome, Result, Ok, Err, refl, sym, ap, subst}
 use Rattle.std.specs.FinMap.{get}
 use Rattle.vk_commit.specs.Values.{AreBytes}
@@ -8,15 +8,13 @@ use Rattle.vk_reply.specs.Texts.{challenge_text}
 use Rattle.vk_keeper.specs.declared.auction.Auction.{Auction}
 use Rattle.vk_keeper.specs.Ledgers.{Ledger, IsLedger}
 use Rattle.vk_job.specs.Published.{reply_of}
-use Rattle.vk_honest.proofs.Accepted.{answers_are_accepted}
-use Rattle.vk_honest.proofs.Sizes.{challenges_are_short}
 use Rattle.vk_house.specs.Commands.{Prove, Answer}
 use Rattle.vk_effect.specs.Effects.{Effect, SaidValue}
 use Rattle.vk_auctioneer.specs.Effects.{asked, board_file, if_read, prove_effect, reply_file}
 use Rattle.vk_auctioneer.specs.Inputs.{challenge_in}
-use Rattle.vk_auctioneer.specs.Laws.{BoardsAreWritten, ChallengesAreAnswered, IsText, RepliesAreAccepted, RepliesAreWritten, WritesBoard, WritesReply}
-use Rattle.vk_auctioneer.proofs.Reading.{challenge_found, challenge_refused, reads_challenge}
-use Rattle.vk_auctioneer.proofs.Working.{Worked, answer_challenges, answered_first, prove_seeds, proved_from, worked, worked_right}
+use Rattle.vk_auctioneer.specs.Laws.{BoardsAreWritten, IsText, RepliesAreWritten, WritesBoard, WritesReply}
+use Rattle.vk_auctioneer.proofs.Reading.{challenge_refused, reads_challenge}
+use Rattle.vk_auctioneer.proofs.Working.{Worked, answer_challenges, prove_seeds, proved_from, worked, worked_right}
 
 -- ---- boards
 
@@ -70,28 +68,3 @@ replies_are_written files ledger id name reply right is_id done =
             (writes_reply files ledger id name reply challenge work.0 right is_id text work.1),
       ),
     )
-
-pub replies_are_accepted : RepliesAreAccepted
-replies_are_accepted files ledger id name reply right is_id done =
-    let wrote = replies_are_written files ledger id name reply right is_id done in
-    let auction = wrote.0 in
-    let challenge = wrote.1.0 in
-    let is = wrote.1.1 in (
-      auction,
-      (
-        challenge_text challenge,
-        reply_of auction challenge,
-        record {
-          kept = is.kept;
-          read = is.read;
-          written = is.written;
-          accepted = answers_are_accepted auction challenge is.proved is.asked;
-        },
-      ),
-    )
-
-pub challenges_are_answered : ChallengesAreAnswered
-challenges_are_answered files ledger id name reply auction seed challenge is =
-    let text : IsText files name challenge = record { right = is.asked.right; file = record { held = is.read; short = challenges_are_short challenge is.asked.right } } in
-    subst (λ r. (if_read ledger (λ given. asked (reply_file reply given) ledger (Answer id given)) r).status ≡ 0) (sym (challenge_found files name challenge text))
-    (answered_first ledger id challenge auction seed is.held is.phase is.proved is.asked.one_bit_each)

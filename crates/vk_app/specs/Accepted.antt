@@ -1,0 +1,46 @@
+-- What the house answers is accepted, and which challenges it answers.
+use Rattle.std.specs.Prelude.{◌≡◌, ℕ, List, [], ◌∷◌, Some}
+use Rattle.std.specs.FinMap.{get}
+use Rattle.vk_commit.specs.Values.{AreBytes}
+use Rattle.vk_io.specs.Files.{Files}
+use Rattle.vk_reply.specs.declared.challenge.Challenge.{Challenge}
+use Rattle.vk_reply.specs.Texts.{challenge_text}
+use Rattle.vk_verifier.specs.Acceptance.{Accepts}
+use Rattle.vk_keeper.specs.declared.auction.Auction.{Auction}
+use Rattle.vk_keeper.specs.declared.auction.Phase.TheVariants.{Proved}
+use Rattle.vk_keeper.specs.Ledgers.{Ledger, IsLedger}
+use Rattle.vk_job.specs.Jobs.{IsProvedAuction}
+use Rattle.vk_job.specs.Published.{IsChallengeTo, board_of}
+use Rattle.vk_effect.specs.Effects.{Effect}
+use Rattle.vk_auctioneer.specs.Effects.{answer_effect}
+use Rattle.vk_auctioneer.specs.Laws.{LeavesAuction}
+
+-- the effect of `answer`: it leaves an auction with whose board, and the challenge of the named file, what it writes
+-- is accepted
+pub record WritesAccepted (files : Files) (id challenge_name reply : List ℕ) (effect : Effect) (auction : Auction) (challenge_file reply_file : List ℕ) : Type 0 where
+  pub kept : LeavesAuction effect id auction
+  pub read : get files challenge_name ≡ Some challenge_file
+  pub written : effect.writes ≡ (reply, reply_file) ∷ []
+  pub accepted : Accepts (board_of auction) challenge_file reply_file
+
+-- each `answer` that ends with status 0 does so
+abbrev pub RepliesAreAccepted : Type 0
+RepliesAreAccepted =
+    (files : Files) (ledger : Ledger) (id challenge_name reply : List ℕ) → IsLedger ledger → AreBytes 16 id
+    → (answer_effect files ledger id challenge_name reply).status ≡ 0
+    → (auction : Auction) × ((challenge_file reply_file : List ℕ) × WritesAccepted files id challenge_name reply (answer_effect files ledger id challenge_name reply) auction challenge_file reply_file)
+
+-- the auction is proved and was not answered, and the named file is a challenge with a bit for each of its lanes
+pub record IsAsked (files : Files) (ledger : Ledger) (id challenge_name : List ℕ) (auction : Auction) (seed : List ℕ) (challenge : Challenge) : Type 0 where
+  pub held : get ledger id ≡ Some auction
+  pub phase : auction.phase ≡ Proved seed
+  pub proved : IsProvedAuction auction
+  pub asked : IsChallengeTo auction challenge
+  pub read : get files challenge_name ≡ Some (challenge_text challenge)
+
+-- every such challenge is answered
+abbrev pub ChallengesAreAnswered : Type 0
+ChallengesAreAnswered =
+    (files : Files) (ledger : Ledger) (id challenge_name reply : List ℕ) (auction : Auction) (seed : List ℕ) (challenge : Challenge)
+    → IsAsked files ledger id challenge_name auction seed challenge
+    → (answer_effect files ledger id challenge_name reply).status ≡ 0
