@@ -1,32 +1,20 @@
-//! Replays what independent implementations worked out: words and draws, wires, outcomes, which line of
-//! a changed file is the first that may not stand there, and runs of the whole program. What is printed is
-//! to be, byte for byte, what those implementations wrote.
+//! Replays what independent implementations worked out of files and of the whole program: which line of a changed
+//! file is the first that may not stand there, and runs. What is printed is to be, byte for byte, what those
+//! implementations wrote.
 #![tactic(auto)]
 
-mod bids;
 mod files;
-mod lists;
 mod runs;
-mod streams;
-mod wires;
 
 use std::alloc::Global;
 use std::process::ExitCode;
 use vk_cases::{Unreplayed, read_cases};
-use vk_io::{FileShelf, OutSink, Shelf, Sink};
+use vk_files::{FileShelf, OutSink};
+use vk_io::{Shelf, Sink};
 
 /// What a file of cases has, one case a line.
 #[derive(Clone, Copy)]
 enum Form {
-    /// `stream SEED AUCTION NUMBER`.
-    Streams,
-    /// At most four words, with commas between them. Zeros follow them.
-    Lists,
-    /// `wire KIND value NUMBER place AUCTION LANE SEAT SLOT tape MASK SWAP KEY KEY`, where a kind is
-    /// `split` or `pair I`.
-    Wires,
-    /// 1 to 64 bids, with commas between them.
-    Bids,
     /// `NAME | seal` or `NAME | secret`.
     Files,
     /// `NAME | NAME=FILE .. | WORD ..`: the files that a run of the program is given, and its words.
@@ -40,10 +28,6 @@ impl Form {
     /// The file that has the cases.
     fn file(self) -> &'static str {
         match self {
-            Form::Streams => "streams",
-            Form::Lists => "lists",
-            Form::Wires => "wires",
-            Form::Bids => "bids",
             Form::Files => "files",
             Form::Runs => "runs",
             Form::Houses => "houses",
@@ -58,10 +42,6 @@ impl Form {
         case: &[u8],
     ) -> Result<Vec<u8>, Unreplayed> {
         match self {
-            Form::Streams => streams::stream_text(alloc, case),
-            Form::Lists => lists::draw_text(alloc, case),
-            Form::Wires => wires::wire_text(alloc, case),
-            Form::Bids => bids::outcome_text(alloc, case),
             Form::Files => files::fault_text(alloc, shelf, case),
             Form::Runs => runs::run_text(alloc, shelf, case),
             Form::Houses => runs::house_text(alloc, shelf, case),
@@ -92,22 +72,14 @@ fn replay_all<S: Shelf, W: Sink>(
     shelf: &mut S,
     out: &mut W,
 ) -> Result<(), Unreplayed> {
-    for form in [
-        Form::Streams,
-        Form::Lists,
-        Form::Wires,
-        Form::Bids,
-        Form::Files,
-        Form::Runs,
-        Form::Houses,
-    ] {
+    for form in [Form::Files, Form::Runs, Form::Houses] {
         replay(alloc, form, shelf, out)?;
     }
     Ok(())
 }
 
 fn main(rt: HostRuntime) -> ExitCode {
-    let mut shelf = FileShelf::new(&rt, rt.alloc());
+    let mut shelf = FileShelf::new(&rt, rt.alloc(), "house.sqlite");
     let mut out = OutSink::new(&rt);
     match replay_all(rt.alloc(), &mut shelf, &mut out) {
         Ok(()) => ExitCode::SUCCESS,

@@ -21,6 +21,10 @@ impl Shelf for FixedShelf {
 
     ghost faults = { λ s. s.inner.faults };
 
+    ghost wants = { λ s. s.inner.inner.wants };
+
+    ghost length_gives = { λ _ _ _ _. Unit {0} };
+
     fn length(&mut self, name: &str) -> Result<Option<u64>, OutsideErr> {
         self.inner.length(name)
     }

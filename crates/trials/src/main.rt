@@ -18,7 +18,8 @@ mod written;
 use std::alloc::Global;
 use std::process::ExitCode;
 use vk_cases::Unreplayed;
-use vk_io::{FileShelf, OutSink, Shelf, Sink};
+use vk_files::{FileShelf, OutSink};
+use vk_io::{Shelf, Sink};
 
 /// Puts all on trial, over the files in the folder that it runs in.
 fn try_all<S: Shelf, W: Sink>(alloc: Global, shelf: &mut S, out: &mut W) -> Result<(), Unreplayed> {
@@ -33,7 +34,7 @@ fn main(rt: HostRuntime) -> ExitCode {
     let alloc = rt.alloc();
     let tried = try_all(
         alloc,
-        &mut FileShelf::new(&rt, alloc),
+        &mut FileShelf::new(&rt, alloc, "house.sqlite"),
         &mut OutSink::new(&rt),
     );
     if let Err(unreplayed) = tried {

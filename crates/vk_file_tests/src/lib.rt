@@ -1,4 +1,4 @@
-//! Files both ways, verdicts and bids against worked texts, damaged ones, shelves that fail and ample memory.
+//! Seals, boards and replies both ways, two replies side by side, bids, and files that are too long or fail.
 #![tactic(auto)]
 
 #[cfg(test)]

@@ -1,12 +1,9 @@
 mod bids;
 mod board;
 mod files;
-mod lines;
-mod printing;
+mod long;
 mod reply;
 mod report;
 mod seal;
-mod shelves;
+mod smallest;
 mod two_replies;
-mod verifier;
-mod words;

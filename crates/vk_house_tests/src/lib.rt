@@ -1,4 +1,4 @@
-//! The house, its commands and audits against worked runs, outsides that fail and ample memory.
+//! Keepers, jobs and the house against worked runs, calls that fail and ample memory.
 #![tactic(auto)]
 
 #[cfg(test)]

@@ -1,4 +1,4 @@
-//! Numbers, commitments, wires, rows and lanes against outside vectors, worked examples and ample memory.
+//! Rows, lanes, their provers and extractors against outside vectors, worked examples and ample memory.
 #![tactic(auto)]
 
 #[cfg(test)]

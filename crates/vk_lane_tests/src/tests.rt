@@ -1,14 +1,4 @@
-mod commit;
-mod dice;
-mod digests;
 mod extractor;
 mod numbers;
-mod plan;
 mod prover;
-mod range;
-mod residue;
 mod row;
-mod seq;
-mod vickrey;
-mod views;
-mod wire;

@@ -1,4 +1,5 @@
-// What is shown of a lane with two split wires and a pair, as another implementation writes it.
+// A challenge, and what is shown of a lane with two split wires and a pair, as another implementation writes them.
+// Spoiled ones are replayed by the program `conformance`.
 ghost use Rattle.std.specs.Prelude.{◌≡◌, ◌∷◌, [], IfOk};
 ghost use Rattle.vk_plan.specs.declared.wire.WireKind.TheVariants.{Pair, Split};
 
@@ -6,7 +7,7 @@ use std::alloc::Global;
 use std::test::Fail;
 use vk_commit::Opening;
 use vk_io::MemShelf;
-use vk_lines::{Lines, ReadErr};
+use vk_lines::Lines;
 use vk_plan::{Plan, WireKind};
 use vk_reply::{
     challenge_text, read_challenge, read_reply_head, read_reply_lane, reply_head_text,
@@ -33,30 +34,6 @@ s 0 4444444444444444444444444444444444444444444444444444444444444444 23058430092
 end\n\
 ";
 
-const BITS_64: &[u8] = b"vickrey-challenge 1\n\
-bits 0101010101010101010101010101010101010101010101010101010101010101\n\
-end\n";
-
-const BITS_65: &[u8] = b"vickrey-challenge 1\n\
-bits 01010101010101010101010101010101010101010101010101010101010101010\n\
-end\n";
-
-/// The line that is named as the first that may not stand there, 0 for none.
-fn line_of(fault: Option<ReadErr>) -> Result<u64, Fail> {
-    match fault {
-        None => Ok(0),
-        Some(ReadErr::Malformed { line }) => Ok(line),
-        Some(other) => Err(Fail::from(other)),
-    }
-}
-
-fn challenge_fault(alloc: Global, bytes: &[u8]) -> Result<u64, Fail> {
-    let mut shelf = MemShelf::new(alloc);
-    shelf.put_file("c", bytes)?;
-    let mut lines = Lines::start(alloc, &mut shelf, "c")?;
-    line_of(read_challenge(alloc, &mut shelf, &mut lines).err())
-}
-
 #[test]
 fn a_challenge_is_read_and_written_back(rt: HostRuntime) -> Result<(), Fail> {
     let bytes = b"vickrey-challenge 1\nbits 01\nend\n".as_slice();
@@ -66,21 +43,6 @@ fn a_challenge_is_read_and_written_back(rt: HostRuntime) -> Result<(), Fail> {
     let challenge = read_challenge(rt.alloc(), &mut shelf, &mut lines)?;
     assert_eq!(rt; challenge.bits.as_slice(), [false, true].as_slice());
     assert_eq!(rt; challenge_text(rt.alloc(), &challenge)?.as_slice(), bytes);
-    Ok(())
-}
-
-#[test]
-fn a_challenge_has_at_most_64_bits(rt: HostRuntime) -> Result<(), Fail> {
-    assert_eq!(rt; challenge_fault(rt.alloc(), BITS_64)?, 0);
-    assert_eq!(rt; challenge_fault(rt.alloc(), BITS_65)?, 2);
-    assert_eq!(rt;
-        challenge_fault(rt.alloc(), b"vickrey-challenge 1\nbits 02\nend\n")?,
-        2
-    );
-    assert_eq!(rt;
-        challenge_fault(rt.alloc(), b"vickrey-challenge 1\nbits \nend\n")?,
-        2
-    );
     Ok(())
 }
 
@@ -144,71 +106,5 @@ fn replies_to_both_bits_are_read_and_written_back(rt: HostRuntime) -> Result<(),
         copied(rt.alloc(), REPLY_1, true, &one)?.as_slice(),
         REPLY_1
     );
-    Ok(())
-}
-
-/// The end of a reading of a reply of one lane.
-fn reply_end(alloc: Global, bytes: &[u8], bit: bool) -> Result<Option<ReadErr>, Fail> {
-    let mut shelf = MemShelf::new(alloc);
-    shelf.put_file("r", bytes)?;
-    let plan = plan_of_a_pair(alloc)?;
-    let mut lines = Lines::start(alloc, &mut shelf, "r")?;
-    if let Err(fault) = read_reply_head(&mut shelf, &mut lines) {
-        return Ok(Some(fault));
-    }
-    if let Err(fault) = read_reply_lane(alloc, &mut shelf, &mut lines, 1, &plan, bit) {
-        return Ok(Some(fault));
-    }
-    Ok(lines.read_end(&mut shelf).err())
-}
-
-fn reply_fault(alloc: Global, bytes: &[u8], bit: bool) -> Result<u64, Fail> {
-    let end = reply_end(alloc, bytes, bit)?;
-    line_of(end)
-}
-
-/// The reply to bit 1 with another byte at that place.
-fn changed(alloc: Global, place: usize, byte: u8) -> Result<Vec<u8>, Fail> {
-    let mut bytes = Vec::new(alloc);
-    for (index, kept) in REPLY_1.iter().enumerate() {
-        bytes.push(if index == place { byte } else { *kept })?;
-    }
-    Ok(bytes)
-}
-
-#[test]
-fn a_spoiled_reply_names_its_line(rt: HostRuntime) -> Result<(), Fail> {
-    let alloc = rt.alloc();
-    assert_eq!(rt; reply_fault(alloc, REPLY_1, true)?, 0);
-    // `a` where `s` is demanded, and the other way round
-    assert_eq!(rt; reply_fault(alloc, REPLY_0, true)?, 6);
-    assert_eq!(rt; reply_fault(alloc, REPLY_1, false)?, 6);
-    assert_eq!(rt;
-        reply_fault(alloc, b"vickrey-reply 1\nlanes 65\n", true)?,
-        2
-    );
-    assert_eq!(rt;
-        reply_fault(alloc, b"vickrey-reply 1\nlanes 1\nlane 2\n", true)?,
-        3
-    );
-    // an upper-case digit, the value 2305843009213693951, the entry 2, and another last line
-    assert_eq!(rt;
-        reply_fault(alloc, changed(alloc, 33, b'B')?.as_slice(), true)?,
-        4
-    );
-    assert_eq!(rt;
-        reply_fault(alloc, changed(alloc, 202, b'5')?.as_slice(), true)?,
-        5
-    );
-    assert_eq!(rt;
-        reply_fault(alloc, changed(alloc, 207, b'2')?.as_slice(), true)?,
-        6
-    );
-    assert_eq!(rt;
-        reply_fault(alloc, changed(alloc, 294, b'E')?.as_slice(), true)?,
-        7
-    );
-    // no last line
-    assert_eq!(rt; reply_fault(alloc, &REPLY_1[..294], true)?, 7);
     Ok(())
 }

@@ -1,80 +1,11 @@
-// The report of the smallest board, the faults of boards that are refused, and samples.
-use super::files::{Vast, replaced, smallest};
-use std::alloc::Global;
+// Boards that are missing or fail, and samples. Reports, and boards that are refused, are replayed by the program
+// `conformance`.
+use super::smallest::smallest;
 use std::test::Fail;
-use vk_io::{MemShelf, Shelf};
+use vk_io::MemShelf;
 use vk_reply::challenge_text;
-use vk_report::{ReportErr, read_report, report_text, sample_case};
+use vk_report::{ReportErr, read_report, sample_case};
 use vk_vickrey::outcome;
-
-#[test]
-fn the_smallest_board_is_reported_on(rt: HostRuntime) -> Result<(), Fail> {
-    let alloc = rt.alloc();
-    let mut shelf = MemShelf::new(alloc);
-    shelf.put_file("board", smallest())?;
-    let report = read_report(alloc, &mut shelf, "board")?;
-    let text = report_text(alloc, &report)?;
-    let expected = b"auction 000102030405060708090a0b0c0d0e0f\n\
-width 1\n\
-lanes 1\n\
-seals 1\n\
-winner 7\n\
-price 0\n\
-seat 7\n\
-wires 3\n\
-rows 2\n\
-commitments 6\n\
-end\n";
-    assert_eq!(rt; text.as_slice(), expected.as_slice());
-    Ok(())
-}
-
-/// Why no report is made of a file of these bytes, if none is.
-fn refusal(alloc: Global, bytes: &[u8]) -> Result<Option<ReportErr>, Fail> {
-    let mut shelf = MemShelf::new(alloc);
-    shelf.put_file("board", bytes)?;
-    Ok(read_report(alloc, &mut shelf, "board").err())
-}
-
-#[test]
-fn a_board_is_refused_for_a_fault(rt: HostRuntime) -> Result<(), Fail> {
-    let alloc = rt.alloc();
-    let price = replaced(alloc, smallest(), 7, b"price 1")?;
-    assert_eq!(rt; refusal(alloc, &price)?, Some(ReportErr::Price));
-    let winner = replaced(alloc, smallest(), 6, b"winner 8")?;
-    assert_eq!(rt; refusal(alloc, &winner)?, Some(ReportErr::Winner));
-    let after = replaced(alloc, smallest(), 15, b"end\n ")?;
-    assert_eq!(rt;
-        refusal(alloc, &after)?,
-        Some(ReportErr::Malformed { line: 16 })
-    );
-    Ok(())
-}
-
-#[test]
-fn the_first_of_two_faults_is_named(rt: HostRuntime) -> Result<(), Fail> {
-    let alloc = rt.alloc();
-    let price = replaced(alloc, smallest(), 7, b"price 1")?;
-    let winner_too = replaced(alloc, &price, 6, b"winner 8")?;
-    assert_eq!(rt; refusal(alloc, &winner_too)?, Some(ReportErr::Price));
-    let row_too = replaced(alloc, &price, 13, b"d 06")?;
-    assert_eq!(rt; refusal(alloc, &row_too)?, Some(ReportErr::Price));
-    let seal_too = replaced(alloc, &price, 8, b"seal 0")?;
-    assert_eq!(rt;
-        refusal(alloc, &seal_too)?,
-        Some(ReportErr::Malformed { line: 8 })
-    );
-    Ok(())
-}
-
-#[test]
-fn a_file_of_more_than_2_to_the_30_bytes_is_too_long(rt: HostRuntime) {
-    let mut shelf = Vast {
-        length: (1 << 30) + 1,
-    };
-    let refused = read_report(rt.alloc(), &mut shelf, "board").err();
-    assert_eq!(rt; refused, Some(ReportErr::TooLong));
-}
 
 #[test]
 fn a_missing_board_and_a_failure_are_told_apart(rt: HostRuntime) -> Result<(), Fail> {

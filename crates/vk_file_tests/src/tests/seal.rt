@@ -1,9 +1,8 @@
-// Files that another implementation made, and files that it refuses.
-use std::alloc::Global;
+// Files that another implementation made. Those that it refuses are replayed by the program `conformance`.
 use std::test::Fail;
 use vk_dice::{ChaChaWords, ListWords, Words};
 use vk_io::MemShelf;
-use vk_lines::{Lines, ReadErr};
+use vk_lines::Lines;
 use vk_seal::{
     Mismatch, SealErr, make_seal, matches, read_seal, read_secret, seal_text, secret_text,
 };
@@ -76,37 +75,6 @@ fn a_seal_of_64_lanes_is_read_back(rt: HostRuntime) -> Result<(), Fail> {
     let mut lines = Lines::start(rt.alloc(), &mut shelf, "b")?;
     let seal = read_seal(rt.alloc(), &mut shelf, &mut lines)?;
     assert_eq!(rt; (lines.number(), matches(&secret, &seal)), (69, Ok(())));
-    Ok(())
-}
-
-/// The line that is named as the first that may not stand there, 0 for none.
-fn fault_of(alloc: Global, bytes: &[u8], is_secret: bool) -> Result<u64, Fail> {
-    let mut shelf = MemShelf::new(alloc);
-    shelf.put_file("f", bytes)?;
-    let mut lines = Lines::start(alloc, &mut shelf, "f")?;
-    let fault = if is_secret {
-        read_secret(alloc, &mut shelf, &mut lines).err()
-    } else {
-        read_seal(alloc, &mut shelf, &mut lines).err()
-    };
-    match fault {
-        None => Ok(0),
-        Some(ReadErr::Malformed { line }) => Ok(line),
-        Some(other) => Err(Fail::from(other)),
-    }
-}
-
-const CUT_SEAL: &[u8] = b"vickrey-seal 1\n\
-auction 00010203040506070";
-
-const CUT_SECRET: &[u8] = b"vickrey-secret 1\n\
-auction 000102030405060";
-
-// Many more of them are replayed by the program `conformance`.
-#[test]
-fn the_fault_line_of_a_cut_file_is_named(rt: HostRuntime) -> Result<(), Fail> {
-    assert_eq!(rt; fault_of(rt.alloc(), CUT_SEAL, false)?, 2);
-    assert_eq!(rt; fault_of(rt.alloc(), CUT_SECRET, true)?, 2);
     Ok(())
 }
 

@@ -1,10 +1,10 @@
-// Two replies to the smallest board, side by side; and files that aren't held, aren't boards or are too long.
-use super::files::{Vast, shelf_of_files};
-use super::verifier::WRONG_WIRE;
+// Two replies to the smallest board, side by side; and a file that isn't held.
+use super::files::shelf_of_files;
 use std::alloc::Global;
 use std::test::Fail;
-use vk_io::{MemShelf, Shelf};
-use vk_verifier::{BoardVerdict, Part, TwoChecker, TwoVerdict, VErr, verdict};
+use vk_io::MemShelf;
+use vk_verifier::{BoardVerdict, Part, TwoChecker, TwoVerdict, VErr};
+use vk_wire::WireFault;
 
 /// Why two replies aren't begun.
 fn refusal(begun: Result<TwoChecker, VErr>) -> Option<VErr> {
@@ -21,18 +21,6 @@ fn the_first_missing_file_is_named(rt: HostRuntime) -> Result<(), Fail> {
     let begun = TwoChecker::start(rt.alloc(), &mut shelf, "f", "f", "f", "g", "h");
     assert_eq!(rt; refusal(begun), Some(VErr::Missing(Part::SecondChallenge)));
     Ok(())
-}
-
-#[test]
-fn a_file_of_more_than_2_to_the_30_bytes_is_too_long(rt: HostRuntime) {
-    let alloc = rt.alloc();
-    let mut shelf = Vast {
-        length: (1 << 30) + 1,
-    };
-    let refused = Err(VErr::TooLong(Part::Board));
-    assert_eq!(rt; verdict(alloc, &mut shelf, "b", "c", "r"), refused);
-    let begun = TwoChecker::start(alloc, &mut shelf, "b", "c", "r", "d", "s");
-    assert_eq!(rt; refusal(begun), Some(VErr::TooLong(Part::Board)));
 }
 
 /// What is found where no lane is given any more.
@@ -73,6 +61,13 @@ fn found(
     let found = lanes_and_finding(alloc, shelf, checker)?;
     Ok(found)
 }
+
+/// The first wire after the inputs is opened with another value than its second entry has.
+const WRONG_WIRE: BoardVerdict = BoardVerdict::Wire {
+    lane: 1,
+    wire: 1,
+    fault: WireFault::Digest { second: true },
+};
 
 const FIRST_WIRE: TwoVerdict = TwoVerdict::Refused {
     second: false,

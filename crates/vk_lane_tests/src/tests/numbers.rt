@@ -4,7 +4,6 @@ ghost use Rattle.std.specs.Prelude.{◌≡◌, ◌<◌, ◌≤◌, ◌^◌, All,
 use std::alloc::Global;
 use std::test::Fail;
 use vk_commit::Opening;
-use vk_plan::Plan;
 use vk_residue::{NoMemory, Residue};
 use vk_wire::Shown;
 
@@ -13,11 +12,6 @@ pub fn residue(number: u64) -> Result<Residue, Fail>
     ensures { IfOk result (λ value. value ≡ number) }
 {
     Ok(Residue::new(number).ok_or("not below the modulus")?)
-}
-
-/// The residue of a number, 0 where it is not below the modulus.
-pub fn residue_or_zero(number: u64) -> Residue {
-    Residue::new(number).unwrap_or(Residue::ZERO)
 }
 
 pub fn opening(key: [u8; 32], number: u64) -> Result<Opening, Fail> {
@@ -43,16 +37,4 @@ pub fn inputs_of(alloc: Global, bids: &[u64], width: u32) -> Result<Option<Vec<R
         inputs.push(Residue::new(*bid).unwrap_or(Residue::ZERO))?;
     }
     Ok(Some(inputs))
-}
-
-/// Whether each row of the plan is 0 on the values.
-pub fn rows_are_zero(plan: &Plan, values: &[Residue]) -> bool
-    requires { length values.now ≡ length plan.now.kinds }
-{
-    for row in 0..plan.rows() {
-        if plan.row(row).value(values) != Residue::ZERO {
-            return false;
-        }
-    }
-    true
 }

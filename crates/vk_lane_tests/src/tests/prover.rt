@@ -1,7 +1,6 @@
 // One bid of 0 by seat 7, a copy of it, and a pair for its one bit; and three bids of width 8. The
 // commitment to the copy's mask was made by an independent implementation.
-ghost use Rattle.std.specs.Prelude.{◌≡◌, ◌<◌, ◌≤◌, ◌+◌, IfOk, length, replicate};
-ghost use Rattle.vk_plan.specs.Forms.{NamesBelow};
+ghost use Rattle.std.specs.Prelude.{◌≡◌, ◌<◌, ◌≤◌, IfOk, length};
 ghost use Rattle.vk_plan.specs.Plans.{Holds};
 
 use super::numbers::{half, inputs_of, opening, residue};
@@ -9,7 +8,7 @@ use std::alloc::Global;
 use std::test::Fail;
 use vk_board::LaneLines;
 use vk_dice::{ChaChaWords, ListWords, Words};
-use vk_plan::{Circuit, Form, Plan, Term, WireKind};
+use vk_plan::{Circuit, Plan, WireKind};
 use vk_prover::{DrawErr, LaneTape, answer_lane, draw_tape, make_lane};
 use vk_residue::{NoMemory, Residue};
 use vk_row::{LaneCase, check_lane};
@@ -35,46 +34,7 @@ fn wire_tape(mask: u64, key: u8) -> Result<WireTape, Fail>
     })
 }
 
-/// One wire less the next.
-fn difference(alloc: Global, wire: u32) -> Result<Form, Fail>
-    requires { wire < 9 }
-    ensures names { IfOk result (λ form. NamesBelow (wire + 2) form.terms) }
-    ensures constant { IfOk result (λ form. form.constant ≡ 0) }
-{
-    let minus_one = residue(2305843009213693950)?;
-    let mut terms = Seq::new(alloc);
-    terms.push(Term {
-        wire,
-        factor: Residue::ONE,
-    })?;
-    terms.push(Term {
-        wire: wire + 1,
-        factor: minus_one,
-    })?;
-    Ok(Form {
-        terms,
-        constant: Residue::ZERO,
-    })
-}
-
-/// One input, its copy, and a pair of weight 1 with the same value. All of them may be 0.
-fn plan_of_a_bit(alloc: Global) -> Result<Plan, Fail>
-    ensures inputs { IfOk result (λ plan. plan.inputs ≡ 1) }
-    ensures wires { IfOk result (λ plan. length plan.kinds ≡ 3) }
-    ensures rows { IfOk result (λ plan. length plan.rows ≡ 2) }
-    ensures holds { IfOk result (λ plan. Holds plan (replicate 3 0)) }
-{
-    let copied = difference(alloc, 0)?;
-    let in_range = difference(alloc, 1)?;
-    let mut plan = Plan::new(alloc, 1)?;
-    plan.append(&[WireKind::Split], Some(copied))?;
-    plan.append(&[WireKind::Pair(0)], Some(in_range))?;
-    Ok(plan)
-}
-
-fn tape_of_a_bit(alloc: Global) -> Result<LaneTape, Fail>
-    ensures { IfOk result (λ tape. length tape.wires ≡ 3) }
-{
+fn tape_of_a_bit(alloc: Global) -> Result<LaneTape, Fail> {
     let bid = wire_tape(3, 0x11)?;
     let copy = wire_tape(10, 0x33)?;
     let pair = wire_tape(4, 0x55)?;
@@ -85,21 +45,35 @@ fn tape_of_a_bit(alloc: Global) -> Result<LaneTape, Fail>
     Ok(LaneTape { wires })
 }
 
-/// All that is public of the lane, with the commitments of the seal in front.
-fn case_of_a_bit(alloc: Global, lines: LaneLines) -> Result<LaneCase, Fail>
-    ensures seats { IfOk result (λ case. length case.seats ≡ 1) }
-    ensures wires { IfOk result (λ case. length case.coms ≡ 3) }
-    ensures rows { IfOk result (λ case. length case.posted ≡ 2) }
+/// A lane of one bid of 0 at width 1: its plan, the values of its wires, and a tape.
+#[derive(Drop)]
+struct Lane {
+    plan: Plan,
+    values: Vec<Residue>,
+    tape: LaneTape,
+}
+
+fn lane_of_a_bit(alloc: Global) -> Result<Lane, Fail>
+    ensures holds { IfOk result (λ lane. Holds lane.plan lane.values.items) }
+    ensures one_each { IfOk result (λ lane. length lane.tape.wires ≡ length lane.plan.kinds) }
 {
-    if lines.coms.len() != 2 || lines.posted.len() != 2 {
-        return Err("not one line for each".into());
+    let (plan, values) = plan_of_bids(alloc, &[0], 1)?;
+    let tape = tape_of_a_bit(alloc)?;
+    if tape.wires.len() != plan.wires() as usize {
+        return Err("not one tape for each wire".into());
     }
+    Ok(Lane { plan, values, tape })
+}
+
+/// All that is public of the lane, with the commitments of the seal in front.
+fn case_of_a_bit(alloc: Global, lines: LaneLines) -> Result<LaneCase, Fail> {
     let bid = wire_tape(3, 0x11)?;
     let place = wire_place(&AUCTION, 1, &[7], 0);
     let mut coms = Seq::new(alloc);
     coms.push(make(WireKind::Split, &place, Residue::ZERO, &bid))?;
-    coms.push(lines.coms.as_slice()[0])?;
-    coms.push(lines.coms.as_slice()[1])?;
+    for com in lines.coms.as_slice() {
+        coms.push(*com)?;
+    }
     let mut seats = Seq::new(alloc);
     seats.push(7)?;
     Ok(LaneCase {
@@ -145,10 +119,10 @@ fn halves_of_a_bit(bit: bool) -> Result<[Residue; 3], Fail> {
 
 #[test]
 fn lines_are_published(rt: HostRuntime) -> Result<(), Fail> {
-    let plan = plan_of_a_bit(rt.alloc())?;
-    let values = [Residue::ZERO; 3];
-    let tape = tape_of_a_bit(rt.alloc())?;
-    let lines = make_lane(rt.alloc(), &plan, &AUCTION, 1, &values, &tape)?;
+    let lane = lane_of_a_bit(rt.alloc())?;
+    let values = lane.values.as_slice();
+    assert_eq!(rt; values, [Residue::ZERO; 3].as_slice());
+    let lines = make_lane(rt.alloc(), &lane.plan, &AUCTION, 1, values, &lane.tape)?;
     let posted = [residue(2305843009213693944)?, residue(6)?];
     assert_eq!(rt; lines.posted.as_slice(), posted.as_slice());
     let copy = lines.coms.as_slice().first().ok_or("no commitment")?;
@@ -158,11 +132,10 @@ fn lines_are_published(rt: HostRuntime) -> Result<(), Fail> {
 
 #[test]
 fn both_replies_show_their_halves(rt: HostRuntime) -> Result<(), Fail> {
-    let plan = plan_of_a_bit(rt.alloc())?;
-    let values = [Residue::ZERO; 3];
-    let tape = tape_of_a_bit(rt.alloc())?;
+    let lane = lane_of_a_bit(rt.alloc())?;
     for bit in [false, true] {
-        let shown = answer_lane(rt.alloc(), &plan, &values, &tape, bit)?;
+        let values = lane.values.as_slice();
+        let shown = answer_lane(rt.alloc(), &lane.plan, values, &lane.tape, bit)?;
         let expected = shown_of_a_bit(bit)?;
         assert_eq!(rt; shown.as_slice(), expected.as_slice());
     }
@@ -171,14 +144,13 @@ fn both_replies_show_their_halves(rt: HostRuntime) -> Result<(), Fail> {
 
 #[test]
 fn both_replies_are_accepted(rt: HostRuntime) -> Result<(), Fail> {
-    let plan = plan_of_a_bit(rt.alloc())?;
-    let values = [Residue::ZERO; 3];
-    let tape = tape_of_a_bit(rt.alloc())?;
-    let lines = make_lane(rt.alloc(), &plan, &AUCTION, 1, &values, &tape)?;
+    let lane = lane_of_a_bit(rt.alloc())?;
+    let values = lane.values.as_slice();
+    let lines = make_lane(rt.alloc(), &lane.plan, &AUCTION, 1, values, &lane.tape)?;
     let case = case_of_a_bit(rt.alloc(), lines)?;
     for bit in [false, true] {
         let shown = shown_of_a_bit(bit)?;
-        let halves = check_lane(rt.alloc(), &plan, &case, bit, &shown)?;
+        let halves = accepted_halves(rt.alloc(), &lane.plan, &case, bit, &shown)?;
         let expected = halves_of_a_bit(bit)?;
         assert_eq!(rt; halves.as_slice(), expected.as_slice());
     }
@@ -319,6 +291,13 @@ fn accepted_halves(
     Ok(halves)
 }
 
+/// The value of a wire by its two halves.
+fn value_at(firsts: &[Residue], seconds: &[Residue], wire: usize) -> Option<u64> {
+    let first = firsts.get(wire)?;
+    let second = seconds.get(wire)?;
+    Some(first.add(*second).get())
+}
+
 #[test]
 fn both_replies_of_three_seals_are_accepted(rt: HostRuntime) -> Result<(), Fail> {
     let bids = [200, 13, 250];
@@ -336,12 +315,9 @@ fn both_replies_of_three_seals_are_accepted(rt: HostRuntime) -> Result<(), Fail>
     let second = answer_lane(rt.alloc(), &plan, values.as_slice(), &tape, true)?;
     let firsts = accepted_halves(rt.alloc(), &plan, &case, false, first.as_slice())?;
     let seconds = accepted_halves(rt.alloc(), &plan, &case, true, second.as_slice())?;
-    let mut sums = firsts
-        .iter()
-        .zip(seconds.iter())
-        .map(|(first, second)| first.add(*second).get());
-    for bid in [200, 13, 250, 200, 13, 250] {
-        assert_eq!(rt; sums.next(), Some(bid));
+    for (wire, bid) in [(0, 200), (1, 13), (2, 250), (3, 200), (4, 13), (5, 250)] {
+        let value = value_at(firsts.as_slice(), seconds.as_slice(), wire);
+        assert_eq!(rt; value, Some(bid), "wire {wire}");
     }
     Ok(())
 }

@@ -538,11 +538,9 @@ fn rows_that_are_no_auction_are_a_fault(rt: HostRuntime) -> Result<(), Fail> {
     let answers = answers_of(alloc, empty(alloc)?, &auction)?;
     let (last, faults) = answers.as_slice().split_last().ok_or("no answers")?;
     assert_eq!(rt; faults.len(), DAMAGES.len());
-    assert!(rt;
-        faults
-            .iter()
-            .all(|answer| *answer == Some(OutsideErr::Failed))
-    );
+    for answer in faults {
+        assert_eq!(rt; *answer, Some(OutsideErr::Failed));
+    }
     assert_eq!(rt; *last, None);
     Ok(())
 }

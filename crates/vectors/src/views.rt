@@ -1,0 +1,60 @@
+// Single wires: the tape moved from one value to another, and what both show.
+ghost use Rattle.std.specs.Prelude.{IfOk};
+ghost use Rattle.vk_plan.specs.Plans.{HasWeight};
+
+use super::wires::{push_shown, push_words, tape_of, value_at};
+use std::alloc::Global;
+use vk_cases::{Unreplayed, number_at, word_at};
+use vk_lines::{end_line, push_decimal, push_line, push_space};
+use vk_plan::WireKind;
+use vk_views::moved_wire;
+use vk_wire::{WireTape, show};
+
+/// The case, the tape moved for either bit, and what the wire shows for either bit.
+pub fn view_text(alloc: Global, case: &[u8]) -> Result<Vec<u8>, Unreplayed> {
+    let kind = kind_of(case)?;
+    let value = value_at(case, 3, kind)?;
+    let other = value_at(case, 5, kind)?;
+    let tape = tape_of(case, 6)?;
+    let mut text = Vec::new(alloc);
+    push_words(&mut text, case, 0, 6)?;
+    push_words(&mut text, case, 6, 11)?;
+    for bit in [false, true] {
+        text.extend_from_slice(if bit { b"moved1" } else { b"moved0" })?;
+        push_moved(&mut text, &moved_wire(kind, value, other, bit, tape))?;
+    }
+    for bit in [false, true] {
+        let shown = show(kind, value, &tape, bit);
+        text.extend_from_slice(if bit { b"shown1" } else { b"shown0" })?;
+        push_shown(&mut text, &shown)?;
+        let moved = moved_wire(kind, value, other, bit, tape);
+        if show(kind, other, &moved, bit) != shown {
+            push_line(&mut text, b"the other value shows otherwise")?;
+        }
+        if moved_wire(kind, other, value, bit, moved) != tape {
+            push_line(&mut text, b"the tape does not move back")?;
+        }
+    }
+    Ok(text)
+}
+
+/// The kind of the wire.
+fn kind_of(case: &[u8]) -> Result<WireKind, Unreplayed>
+    ensures { IfOk result HasWeight }
+{
+    if word_at(case, 1)? == b"split".as_slice() {
+        return Ok(WireKind::Split);
+    }
+    let i = number_at(case, 1, 60)?;
+    Ok(WireKind::Pair(i as u32))
+}
+
+/// The mask of a tape, and whether it swaps, behind a space each.
+pub fn push_moved(text: &mut Vec<u8>, tape: &WireTape) -> Result<(), Unreplayed> {
+    push_space(text)?;
+    push_decimal(text, tape.mask.get())?;
+    push_space(text)?;
+    push_decimal(text, u64::from(tape.swap))?;
+    end_line(text)?;
+    Ok(())
+}

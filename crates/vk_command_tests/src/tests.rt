@@ -1,0 +1,6 @@
+mod app;
+mod audit;
+mod ceremony;
+mod printing;
+mod smallest;
+mod words;

@@ -1,9 +1,0 @@
-use Rattle.std.proofs.Common.{◌≡◌, ◌<◌, ◌^◌, take}
-use Rattle.std.specs.Prelude.{All}
-use Rattle.vk_lane_tests.proofs.tests.views.inputs_of.Given as goal
-
-abbrev pub invariant-loop-bid : goal.invariant-loop-bid
-invariant-loop-bid l = record {
-  same : l.inputs.items ≡ take l.bid-index l.bids;
-  within : All (λ bid. bid < 2 ^ l.width) (take l.bid-index l.bids);
-}

@@ -1,0 +1,7 @@
+mod commit;
+mod dice;
+mod digests;
+mod numbers;
+mod residue;
+mod seq;
+mod wire;

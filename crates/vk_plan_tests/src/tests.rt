@@ -1,0 +1,4 @@
+mod numbers;
+mod plan;
+mod range;
+mod vickrey;
