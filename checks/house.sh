@@ -59,6 +59,21 @@ seed=$(printf '%064d' 9)
 case_of 0 'proved winner 103 price 60' '' prove $id "$seed" board
 printf 'vickrey-challenge 1\nbits 0110\nend\n' >challenge
 printf 'vickrey-challenge 1\nbits 1001\nend\n' >other
+
+# nothing is written into the store, by whatever name, and what it keeps stays
+case_of 6 '' 'outside fault' answer $id challenge house.sqlite-wal
+case_of 8 'house other challenge kept 0110' '' answer $id other reply
+ln -s house.sqlite link
+mkdir there
+for name in house.sqlite ./house.sqlite-wal there/../house.sqlite-journal "$folder/house.sqlite" link; do
+  case_of 6 '' 'outside fault' prove $id "$seed" "$name"
+  case_of 6 '' 'outside fault' answer $id challenge "$name"
+  case_of 6 '' 'outside fault' seal $id 7 1 8 4 "$seed" "$name" none
+  printf 'vickrey-script 1\nanswer %s challenge %s\nend\n' $id "${name/#$folder/.}" >script
+  case_of 6 '' 'outside fault' ceremony script
+done
+case_of 6 '' 'outside fault' seal $id 7 1 8 4 "$seed" none ./none
+holds '' find . -name 'house.sqlite-journal' -o -name reply
 case_of 0 'answered' '' answer $id challenge reply
 case_of 0 'accepted' '' verify board challenge reply
 case_of 0 "auction $id width 8 lanes 4 seals 3 phase answered" '' show $id

@@ -220,6 +220,59 @@ class Told:
 
 
 @dataclass
+class Spelled:
+    """Words of which a written name leads to a file of the store, or to one that the words name otherwise. It is a fault of
+    the outside: nothing is printed, no file is made but those in `made`, and those that were there are as they were. Then
+    the later words end as they are said to. `lay` are lines of a shell; `{folder}` stands for the path of the folder."""
+
+    label: str
+    words: list
+    files: dict
+    lay: str = ":"
+    made: tuple = ()
+    later: tuple = ()
+
+    def run(self):
+        with Folder(program, self.files) as folder:
+            subprocess.run(["sh", "-c", self.lay], cwd=folder.path, check=True)
+            before = self.beside(folder.path)
+            ended = program.run(self.placed(self.words, folder.path), folder.path)
+            fault = self.judge(ended, before, self.beside(folder.path)) or self.differs_later(folder.path)
+        return Counter([ended.status]), [f"{self.label}: {fault}"] if fault else []
+
+    @staticmethod
+    def placed(words, path):
+        return [word.replace("{folder}", path) for word in words]
+
+    @staticmethod
+    def beside(path):
+        """The files by their paths, of the store the names alone; not its log, which comes and goes with it."""
+        found = {}
+        for place, _, names in os.walk(path):
+            for name in names:
+                at = os.path.join(place, name)
+                is_kept = STORE in name or STORE in os.path.realpath(at) or "kept" in os.path.relpath(at, path)
+                found[os.path.relpath(at, path)] = None if is_kept or not os.path.exists(at) else read(at)
+        return {at: data for at, data in found.items() if not at.endswith("-wal")}
+
+    def judge(self, ended, before, after):
+        if ended != Ended(6, b"", ERRORS[6][0]):
+            return f"{ended}: not a fault of the outside"
+        made = {name: data for name, data in after.items() if name not in before}
+        if set(made) != set(self.made):
+            return f"{ended}: made {sorted(made)}, not {sorted(self.made)}"
+        changed = [name for name, data in before.items() if data is not None and after.get(name) != data]
+        return f"{ended}: changed {changed}" if changed else None
+
+    def differs_later(self, path):
+        for words, status, text in self.later:
+            ended = program.run(self.placed(words, path), path)
+            if (ended.status, ended.text) != (status, text):
+                return f"then {words}: {ended}, not status {status}, {text!r}"
+        return None
+
+
+@dataclass
 class Batch:
     """A batch of changed files."""
 

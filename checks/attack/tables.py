@@ -8,7 +8,7 @@ import time
 from dataclasses import dataclass
 
 from attack import mutations, reference
-from attack.cases import Batch, KilledLater, Limited, LimitedOutput, Output, Refused, SmallDisk, Told
+from attack.cases import Batch, KilledLater, Limited, LimitedOutput, Output, Refused, SmallDisk, Spelled, Told
 from attack.defined import EFFECT
 from attack.runs import KILLED, Folder, Program
 from attack.subjects import AUCTION, Attacked, seed_of, two_seals
@@ -234,6 +234,80 @@ def names(files, seal, sealed, missing):
     yield Told("seal writes one name twice", [*seal, "one", "one"], usage, {})
 
 
+def spellings(attack):
+    """Written names that lead to the store, to its log or to a side file of it, and two names of one file: in a command line
+    and in a script."""
+    before = {scenario.name: scenario.files for scenario in attack.on.writing}
+    if "prove" not in before:
+        return
+    script = lambda line: f"vickrey-script 1\n{line}\nend\n".encode()
+    for label, lay, name in STORE_SPELLINGS:
+        for words, files, later in store_writers(before, name):
+            yield Spelled(f"{words[0]} writes to {label}", words, files, lay, later=later)
+            if words[0] != "seal":
+                files = files | {"script": script(" ".join(words).replace("{folder}", "."))}
+                yield Spelled(f"a script's {words[0]} writes to {label}", ["ceremony", "script"], files, lay, later=later)
+    seal = ["seal", AUCTION, "7", "15", "4", "2", seed_of(7)]
+    yield Spelled("seal writes to a second name of the store", [*seal, "there", "seal"], before["answer"], "ln house.sqlite there")
+    for label, lay, names, made in (
+        ("a name and a dot before it", ":", ["one", "./one"], ["one"]),
+        ("a file and a link to it", "ln -s one two", ["one", "two"], ["one"]),
+        ("a link and its file", "ln -s one two", ["two", "one"], ["one"]),
+        ("two links to one file", "ln -s one two; ln -s one three", ["two", "three"], ["one"]),
+        ("a folder and back", "mkdir there", ["one", "there/../one"], ["one"]),
+    ):
+        yield Spelled(f"seal writes to {label}", [*seal, *names], {}, lay, made)
+    answer = ["answer", AUCTION, "challenge"]
+    _, files, later = store_writers(before, "")[1]
+    for label, lay, name in (
+        ("its challenge with a dot before it", ":", "./challenge"),
+        ("a link to its challenge", "ln -s challenge there", "there"),
+        ("a second name of its challenge", "ln challenge there", "there"),
+    ):
+        yield Spelled(f"answer writes to {label}", [*answer, name], files, lay, later=later)
+    files = before["prove"] | {"script": script(f"prove {AUCTION} {seed_of(1)} ./script")}
+    yield Spelled("a script writes to itself", ["ceremony", "script"], files)
+
+
+STORE_SPELLINGS = [
+    ("the store", ":", "house.sqlite"),
+    ("its log", ":", "house.sqlite-wal"),
+    ("a side file that isn't there", ":", "house.sqlite-shm"),
+    ("a journal that isn't there", ":", "house.sqlite-journal"),
+    ("a dot before it", ":", "./house.sqlite"),
+    ("dots and slashes before its log", ":", ".//././house.sqlite-wal"),
+    ("a folder and back", "mkdir there", "there/../house.sqlite-journal"),
+    ("its whole path", ":", "{folder}/house.sqlite"),
+    ("the whole path of its journal", ":", "{folder}/house.sqlite-journal"),
+    ("a link to it", "ln -s house.sqlite there", "there"),
+    ("a link to a link to it", "ln -s house.sqlite one; ln -s one there", "there"),
+    ("a link to its log", "ln -s house.sqlite-wal there", "there"),
+    ("a link to a journal that isn't there", "ln -s ./house.sqlite-journal there", "there"),
+    ("its log through a link to the folder", "ln -s . there", "there/house.sqlite-wal"),
+    ("its journal through a link to the folder", "ln -s . there", "there/house.sqlite-journal"),
+    ("where a link of its name leads", "mkdir kept; mv house.sqlite kept/real; ln -s kept/real house.sqlite", "kept/real"),
+    ("the log there", "mkdir kept; mv house.sqlite kept/real; ln -s kept/real house.sqlite", "kept/real-wal"),
+    ("a journal there", "mkdir kept; mv house.sqlite kept/real; ln -s kept/real house.sqlite", "./kept/real-journal"),
+]
+
+
+def store_writers(before, name):
+    """The commands that write to a name, over their files, and what is done and said after."""
+    prove, answer = ["prove", AUCTION, seed_of(1)], ["answer", AUCTION]
+    seal = ["seal", AUCTION, "7", "15", "4", "2", seed_of(7)]
+    other = {"other": b"vickrey-challenge 1\nbits 11\nend\n"}
+    proved, answered = (0, b"proved winner 7 price 9\n"), (0, b"answered\n")
+    kept = (8, b"house other challenge kept 01\n")
+    shown = (0, f"auction {AUCTION} width 4 lanes 2 seals 2 phase proved\n".encode())
+    asked = (([*answer, "other", "none"], *kept), ([*answer, "challenge", "reply"], *answered))
+    accepted = ((["verify", "board", "challenge", "reply"], 0, b"accepted\n"),)
+    return [
+        ([*prove, name], before["prove"] | other, (([*prove, "board"], *proved), *asked[1:], *accepted)),
+        ([*answer, "challenge", name], before["answer"] | other, (*asked, *accepted)),
+        ([*seal, name, "seal"], before["answer"], ((["show", AUCTION], *shown),)),
+    ]
+
+
 def sizes(attack):
     """Files of 2^30 bytes, of more, and of a whole board with zeros behind it; most of their bytes are never written."""
     for scenario in attack.on.reading:
@@ -296,4 +370,4 @@ def changed_subjects(attack):
     return subjects + [mutations.Subject(ceremony.words, ceremony.files)] * 2
 
 
-TABLES = [memory, calls, interrupted, killed, disk, output, places, sizes, changed]
+TABLES = [memory, calls, interrupted, killed, disk, output, places, spellings, sizes, changed]

@@ -1,0 +1,89 @@
+#!/usr/bin/env python3
+"""checks/claims.py: each call and each clause that the tables of what is proved name exists, in the crate of its row.
+
+A row's last cell has calls, each followed by the clauses that carry its claim in brackets. A clause belongs to the calls
+before it, back to the last brackets: it has to stand in the contract of one of them, and each of them has to be there.
+"""
+import os
+import re
+import sys
+
+TOP = os.path.join(os.path.dirname(os.path.abspath(__file__)), "..")
+PAGE = os.path.join(TOP, "docs", "PROVED.md")
+HEAD = "| Crate | Claim | Call and clauses |"
+ITEM = re.compile(r"\b(fn|struct|enum|trait|type)\s+(\w+)")
+IMPL = re.compile(r"^\s*impl\b(?:<[^{]*?>)?\s+(?:(\w+)(?:<[^{]*>)?\s+for\s+)?&?(\w+)(?:<[^{]*>)?\s*\{", re.MULTILINE)
+CLAUSE = re.compile(r"^\s*(?:ensures\*?\s+(\w+)\s*\{|ghost\s+(?!use\b)(\w+)\s*[:=])", re.MULTILINE)
+
+
+def sources(crate):
+    for folder, _, names in os.walk(os.path.join(TOP, "crates", crate, "src")):
+        for name in sorted(names):
+            if name.endswith(".rt"):
+                with open(os.path.join(folder, name), encoding="utf-8") as file:
+                    yield file.read()
+
+
+def contracts(crate):
+    """Each item of a crate, with the names of the clauses and the laws that stand behind it and before the next one. A
+    function is known by its own name and, in an impl or a trait, by that of the type too."""
+    found = {}
+    for text in sources(crate):
+        marks = sorted([(m.start(), m.group(2), m.group(1)) for m in ITEM.finditer(text)]
+                       + [(m.start(), m.group(2), "impl") for m in IMPL.finditer(text)]
+                       + [(m.start(), m.group(1), "impl of") for m in IMPL.finditer(text) if m.group(1)])
+        owner = None
+        for (start, name, kind), (end, *_) in zip(marks, marks[1:] + [(len(text),)]):
+            clauses = {one or other for one, other in CLAUSE.findall(text[start:end])}
+            if kind in ("impl", "trait", "struct", "enum"):
+                owner = name
+            names = [name, f"{owner}::{name}"] if kind == "fn" and owner else [name]
+            for known in [*names, *([owner] if kind == "fn" and owner else [])]:
+                found.setdefault(known, set()).update(clauses)
+    return found
+
+
+def rows(text):
+    for table in text.split(HEAD)[1:]:
+        for line in table.split("\n")[2:]:
+            if not line.startswith("|"):
+                break
+            yield [cell.strip() for cell in line.strip("|").split(" | ")]
+
+
+def faults_of(row, last, known):
+    """What a row names that isn't there. `last` are the calls of the row before, which `the same` stands for."""
+    crates, cell = re.findall(r"`(\w+)`", row[0]), row[-1]
+    for crate in crates:
+        if crate not in known:
+            known[crate] = contracts(crate)
+    home = lambda name: [known[crate][name] for crate in crates if name in known[crate]]
+    calls, pending, fault = [], list(last) if "the same" in cell or "the readers" in cell else [], []
+    for brackets, name in re.findall(r"\(([^)]*)\)|`([^`]+)`", cell):
+        if name:
+            name = name.removeprefix("impl ").split(" for ")[-1]
+            if not home(name):
+                fault.append(f"{', '.join(crates)} has no {name}")
+            pending.append(name)
+            calls.append(name)
+        else:
+            for clause in re.findall(r"`(\w+)`", brackets):
+                if not any(clause in clauses for call in pending for clauses in home(call)):
+                    fault.append(f"{', '.join(pending)} of {', '.join(crates)}: no clause {clause}")
+            pending = []
+    return fault, calls or last
+
+
+def main():
+    with open(PAGE, encoding="utf-8") as file:
+        text = file.read()
+    known, last, faults, count = {}, [], [], 0
+    for row in rows(text):
+        fault, last = faults_of(row, last, known)
+        faults, count = faults + fault, count + 1
+    print("\n".join(faults + [f"{count} rows, {len(faults)} faults"]))
+    return 1 if faults or not count else 0
+
+
+if __name__ == "__main__":
+    sys.exit(main())
