@@ -1,5 +1,5 @@
 -- What a command does where nothing outside fails and memory is given.
-use Rattle.std.specs.Prelude.{◌≢◌, ℕ, List, [], ◌++◌, Option, option_map}
+use Rattle.std.specs.Prelude.{◌≡◌, ◌≢◌, ℕ, List, [], ◌++◌, Option, option_map}
 use Rattle.vk_io.specs.Files.{Files}
 use Rattle.vk_io.specs.Writing.{written}
 use Rattle.vk_keeper.specs.Ledgers.{Ledger}
@@ -66,3 +66,9 @@ puts text taken = option_map (λ before. before ++ text) taken
 -- what is outside after the whole effect
 abbrev pub done : Effect → Outside → Outside
 done effect old = record { files = option_map (written effect.writes) old.files; ledger = effect.ledger; taken = puts effect.text old.taken }
+
+-- ---- what is said
+
+-- this was said: the status is its, and its text was put
+abbrev pub IsSaid : SaidValue → ℕ → Option (List ℕ) → Option (List ℕ) → Type 0
+IsSaid said status old new = (status ≡ said.status) × (new ≡ puts said.text old)

@@ -1,5 +1,5 @@
 -- What `sample` says, and which files it writes.
-use Rattle.std.specs.Prelude.{ℕ, ◌+◌, List, [], ◌∷◌, ◌++◌, length, codes, decimal, Result, Ok, Err}
+use Rattle.std.specs.Prelude.{ℕ, List, [], ◌∷◌, ◌++◌, length, codes, decimal, Result, Ok, Err}
 use Rattle.std.specs.List.{count_by, range_with_len}
 use Rattle.vk_board.specs.declared.board.Head.{Head}
 use Rattle.vk_reply.specs.Texts.{challenge_text}
@@ -13,6 +13,7 @@ use Rattle.vk_job.specs.Published.{board_of, reply_of}
 use Rattle.vk_honest.specs.Sizes.{board_lines, reply_lines}
 use Rattle.vk_report.specs.declared.sample.SampleCase.{SampleCase}
 use Rattle.vk_words.specs.Names.{ExtractWords}
+use Rattle.vk_effect.specs.Dry.{bidder_dry_line, house_dry_line}
 use Rattle.vk_effect.specs.Effects.{SaidValue}
 use Rattle.vk_effect.specs.Texts.{◌+++◌, line_feed}
 use Rattle.vk_audit.specs.Extractions.{extraction_said}
@@ -41,8 +42,8 @@ files_of sample auction =
 -- ---- a seed that is dry
 
 abbrev pub dry_line : DrySeed → List ℕ
-dry_line (OfBidder lane) = codes "seal dry seed lane " +++ decimal lane +++ line_feed
-dry_line (OfHouse dry) = codes "house dry seed lane " +++ decimal dry.lane +++ codes " wire " +++ decimal dry.wire +++ line_feed
+dry_line (OfBidder lane) = bidder_dry_line lane
+dry_line (OfHouse dry) = house_dry_line dry.lane dry.wire
 
 abbrev pub dry_said : DrySeed → SaidValue
 dry_said dry = record { status = 8; text = dry_line dry }

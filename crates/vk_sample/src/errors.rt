@@ -1,12 +1,11 @@
 ghost use Rattle.std.specs.Prelude.{◌≡◌, IfSome, IsSome, Ok, OnOk};
-ghost use Rattle.vk_sample.specs.Auctions.{OfBidder, OfHouse, dry_of, of_job};
-ghost use Rattle.vk_sample.specs.Texts.{dry_line, dry_said};
+ghost use Rattle.vk_sample.specs.Auctions.{dry_of, of_job};
+ghost use Rattle.vk_sample.specs.Texts.{dry_said};
 
 use std::alloc::AllocFailed;
-use vk_effect::Said;
+use vk_effect::{Said, bidder_dry_line, house_dry_line};
 use vk_job::JobErr;
 use vk_residue::NoMemory;
-use vk_text::ShortText;
 
 /// Why there is no auction of a sample.
 #[derive(Clone, Copy, Debug, PartialEq, Eq)]
@@ -48,31 +47,9 @@ impl SampleErr {
         ensures dry { OnOk result (IsSome (dry_of self)) }
     {
         match self {
-            SampleErr::DryBidder { lane } => Ok(Said::of_short(8, dry_bidder(lane))),
-            SampleErr::DryHouse { lane, wire } => Ok(Said::of_short(8, dry_house(lane, wire))),
+            SampleErr::DryBidder { lane } => Ok(Said::of_short(8, bidder_dry_line(lane))),
+            SampleErr::DryHouse { lane, wire } => Ok(Said::of_short(8, house_dry_line(lane, wire))),
             SampleErr::NoMemory => Err(NoMemory),
         }
     }
-}
-
-/// The line of a bidder's seed that gives no residue for the lane.
-fn dry_bidder(lane: u32) -> ShortText
-    ensures { result ≡ dry_line (OfBidder lane) }
-{
-    ShortText::new()
-        .word("seal dry seed lane ")
-        .number(u64::from(lane))
-        .word("\n")
-}
-
-/// The line of an auctioneer's seed that gives no tape for the wire.
-fn dry_house(lane: u32, wire: u32) -> ShortText
-    ensures { result ≡ dry_line (OfHouse (record { lane = lane; wire = wire })) }
-{
-    ShortText::new()
-        .word("house dry seed lane ")
-        .number(u64::from(lane))
-        .word(" wire ")
-        .number(u64::from(wire))
-        .word("\n")
 }

@@ -1,0 +1,28 @@
+//! What is said of a seed that gives no tape. Nothing here takes memory.
+
+ghost use Rattle.std.specs.Prelude.{◌≡◌};
+ghost use Rattle.vk_effect.specs.Dry.{bidder_dry_line, house_dry_line};
+
+use vk_text::ShortText;
+
+/// Of a bidder's seed: the first lane, from 1, for which no residue can be drawn.
+pub fn bidder_dry_line(lane: u32) -> ShortText
+    ensures { result ≡ bidder_dry_line lane }
+{
+    ShortText::new()
+        .word("seal dry seed lane ")
+        .number(u64::from(lane))
+        .word("\n")
+}
+
+/// Of the house's seed: the first lane, from 1, and the first wire of it, from 0.
+pub fn house_dry_line(lane: u32, wire: u32) -> ShortText
+    ensures { result ≡ house_dry_line lane wire }
+{
+    ShortText::new()
+        .word("house dry seed lane ")
+        .number(u64::from(lane))
+        .word(" wire ")
+        .number(u64::from(wire))
+        .word("\n")
+}
