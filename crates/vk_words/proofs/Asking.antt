@@ -1,37 +1,59 @@
 -- Which words ask no keeper.
-use Rattle.std.proofs.Common.{◌≡◌, ℕ, ◌==◌, Bool, true, false, List, length, Option, Some, None, IsFalse, cond}
+use Rattle.std.proofs.Common.{ℕ, ◌==◌, Bool, true, false, List, length, Option, Some, None, IfSome, IsFalse}
 use Rattle.std.specs.Prelude.{if◌then◌else◌, option_map}
-use Rattle.vk_lines.specs.Tokens.{◌>>=◌, decimal_of}
-use Rattle.vk_words.specs.declared.verb.Verb.{Verb}
-use Rattle.vk_words.specs.declared.verb.Verb.TheVariants as verbs
-use Rattle.vk_words.specs.Commands.{AsksNoKeeper, CommandWords, Seal, Verify, Extract, Confront, Report, Sample, command_by, command_words, first_asks, verb_asks}
+use Rattle.std.specs.List.{AllByRecursion}
+use Rattle.std.specs.Option.{option_map_or}
+use Rattle.std.specs.Str.{bytes_eq}
+use Rattle.vk_lines.specs.Tokens.{◌>>=◌}
+use Rattle.vk_words.specs.Commands.{AsksNoKeeper, CommandWords, Seal, Verify, Extract, Confront, Report, Sample, command_by, command_words, first_asks}
 use Rattle.vk_words.specs.Names.{confront_in, extract_in, name_at, verify_in, word_at}
 use Rattle.vk_words.specs.Orders.{seal_in}
-use Rattle.vk_words.specs.Verbs.{asks_house, verb_of, words_of}
+use Rattle.vk_words.specs.Table.{Row, commands, row_of}
+use Rattle.vk_words.proofs.Rows.{◌&◌, IfSome-find}
 
 -- a command that is made of what was read
 made : {X : Type 0} (f : X → CommandWords) → ((x : X) → AsksNoKeeper (Some (f x))) → (read : Option X) → AsksNoKeeper (option_map f read)
 made f none (Some x) = none x
 made f none None = tt
 
-by_verb : (verb : Verb) (words : List (List ℕ)) → IsFalse (asks_house verb) → AsksNoKeeper (command_by verb words)
-by_verb verbs.Seal words is = made Seal (λ order. tt) (seal_in words)
-by_verb verbs.Verify words is = made Verify (λ names. tt) (verify_in words)
-by_verb verbs.Extract words is = made Extract (λ names. tt) (extract_in words)
-by_verb verbs.Confront words is = made Confront (λ names. tt) (confront_in words)
-by_verb verbs.Report words is = made Report (λ name. tt) (name_at words 1)
-by_verb verbs.Sample words is = made Sample (λ number. tt) _
-by_verb verb words is = cc
+-- where the row doesn't ask, its command asks no keeper
+abbrev AsksAsItSays : Row → Type 0
+AsksAsItSays row = IsFalse row.asks_house → (words : List (List ℕ)) → AsksNoKeeper (command_by row.verb words)
+
+each_row : AllByRecursion AsksAsItSays commands
+unfolding commands
+each_row =
+    (λ is words. made Seal (λ order. tt) (seal_in words))
+    & (λ is. cc)
+    & (λ is. cc)
+    & (λ is. cc)
+    & (λ is. cc)
+    & (λ is. cc)
+    & (λ is words. made Verify (λ names. tt) (verify_in words))
+    & (λ is words. made Extract (λ names. tt) (extract_in words))
+    & (λ is words. made Confront (λ names. tt) (confront_in words))
+    & (λ is words. made Report (λ name. tt) (name_at words 1))
+    & (λ is words. made Sample (λ number. tt) _)
+    & (λ is. cc)
+    & tt
+
+of_word : (word : List ℕ) → IfSome (row_of word) AsksAsItSays
+unfolding row_of
+of_word word = IfSome-find AsksAsItSays (λ row. bytes_eq row.name word) commands each_row
 
 -- where the words are as many as it has
-by_length : (test : Bool) (verb : Verb) (words : List (List ℕ)) → IsFalse (asks_house verb) → AsksNoKeeper (if test then command_by verb words else None)
-by_length true verb words is = by_verb verb words is
-by_length false verb words is = tt
+by_length : (test : Bool) (command : Option CommandWords) → AsksNoKeeper command → AsksNoKeeper (if test then command else None)
+by_length true command is = is
+by_length false command is = tt
 
-by_first : (verb : Option Verb) (words : List (List ℕ)) → IsFalse (verb_asks verb) → AsksNoKeeper (verb >>= λ v. if length words == words_of v then command_by v words else None)
-by_first None words is = tt
-by_first (Some verb) words is = by_length (length words == words_of verb) verb words is
+by_first :
+    (row : Option Row) (words : List (List ℕ))
+    → IfSome row AsksAsItSays
+    → IsFalse (option_map_or (λ r. r.asks_house) row false)
+    → AsksNoKeeper (row >>= λ r. if length words == r.words then command_by r.verb words else None)
+by_first None words each is = tt
+by_first (Some row) words each is = by_length (length words == row.words) (command_by row.verb words) (each is words)
 
 pub asks_none : (words : List (List ℕ)) → IsFalse (first_asks words) → AsksNoKeeper (command_words words)
 unfolding command_words
-asks_none words is = by_first (verb_of (word_at words 0)) words is
+asks_none words is = by_first (row_of (word_at words 0)) words (of_word (word_at words 0)) is

@@ -1,2 +1,4 @@
 mod Asking
+mod Rows
+mod Listing
 pub mod ScriptLemmas

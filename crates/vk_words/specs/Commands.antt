@@ -1,13 +1,14 @@
 -- The command that words are.
 use Rattle.std.specs.Prelude.{ℕ, ◌-◌, ◌^◌, ◌==◌, if◌then◌else◌, Bool, false, List, length, Option, Some, None, option_map}
+use Rattle.std.specs.Option.{option_map_or}
 use Rattle.vk_lines.specs.Tokens.{◌>>=◌, decimal_of}
 use Rattle.vk_words.specs.declared.command.Command.{Command}
 use Rattle.vk_words.specs.declared.command.Command.TheVariants as commands
-use Rattle.vk_words.specs.declared.verb.Verb.{Verb}
-use Rattle.vk_words.specs.declared.verb.Verb.TheVariants as verbs
+use Rattle.vk_words.specs.declared.table.Verb.{Verb}
+use Rattle.vk_words.specs.declared.table.Verb.TheVariants as verbs
 use Rattle.vk_words.specs.Names.{ConfrontWords, ExtractWords, VerifyWords, confront_in, confront_seen, extract_in, extract_seen, name_at, verify_in, verify_seen, word_at}
 use Rattle.vk_words.specs.Orders.{HouseWords, IsHouseOrder, IsSealOrder, SealWords, house_by, house_seen, seal_in, seal_seen}
-use Rattle.vk_words.specs.Verbs.{asks_house, verb_of, words_of}
+use Rattle.vk_words.specs.Table.{row_of}
 
 -- a command
 pub data CommandWords : Type 0 where
@@ -50,8 +51,8 @@ command_by verb words = option_map House (house_by verb words)
 -- the command that words are, if they are one: the first names it, and they are as many as it has
 unfoldable pub command_words : List (List ℕ) → Option CommandWords
 command_words words =
-    verb_of (word_at words 0) >>= λ verb.
-    if length words == words_of verb then command_by verb words else None
+    row_of (word_at words 0) >>= λ row.
+    if length words == row.words then command_by row.verb words else None
 
 -- a command that asks no keeper
 abbrev pub AsksNoKeeper : Option CommandWords → Type 0
@@ -60,12 +61,8 @@ AsksNoKeeper (Some (Ceremony script)) = ⊥
 AsksNoKeeper command = Unit {0}
 
 -- whether the first word is that of a command which asks the keeper of the house
-abbrev pub verb_asks : Option Verb → Bool
-verb_asks None = false
-verb_asks (Some verb) = asks_house verb
-
 abbrev pub first_asks : List (List ℕ) → Bool
-first_asks words = verb_asks (verb_of (word_at words 0))
+first_asks words = option_map_or (λ row. row.asks_house) (row_of (word_at words 0)) false
 
 -- a command of the house
 abbrev pub house_in : CommandWords → Option HouseWords

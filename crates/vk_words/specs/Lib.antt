@@ -1,5 +1,6 @@
 pub mod Names
-pub mod Verbs
+pub mod Table
+pub mod Usage
 pub mod Orders
 pub mod Commands
 pub mod Scripts

@@ -5,8 +5,8 @@ use Rattle.vk_lines.specs.Tokens.{◌>>=◌, decimal_of, hex_of, number_token}
 use Rattle.vk_words.specs.declared.orders.HouseOrder.{HouseOrder}
 use Rattle.vk_words.specs.declared.orders.HouseOrder.TheVariants as orders
 use Rattle.vk_words.specs.declared.orders.SealOrder.{SealOrder}
-use Rattle.vk_words.specs.declared.verb.Verb.{Verb}
-use Rattle.vk_words.specs.declared.verb.Verb.TheVariants as verbs
+use Rattle.vk_words.specs.declared.table.Verb.{Verb}
+use Rattle.vk_words.specs.declared.table.Verb.TheVariants as verbs
 use Rattle.vk_words.specs.Names.{attempt_at, name_at, word_at}
 
 -- what `seal` is to make: the id of an auction, a seat, a bid, the width, the lanes and the seed, and the names of its files

@@ -3,13 +3,12 @@
 ghost use Rattle.std.specs.Prelude.{◌≡◌, IfSome, IsFalse, length, map, option_map, string_bytes};
 ghost use Rattle.vk_words.specs.Commands.{AsksNoKeeper, IsCommand, command_by, command_seen, command_words, first_asks, house_in, house_words};
 ghost use Rattle.vk_words.specs.Orders.{IsHouseOrder, house_seen};
-ghost use Rattle.vk_words.specs.Verbs.{words_of};
 
 use crate::names::{
     ConfrontNames, ExtractNames, VerifyNames, confront_names, extract_names, verify_names,
 };
 use crate::orders::{HouseOrder, SealOrder, house_order, seal_order};
-use crate::verb::{Verb, asks_house, verb_of, words_of};
+use crate::table::{Verb, row_of};
 use crate::word::{name, word};
 use vk_lines::read_decimal;
 
@@ -29,9 +28,8 @@ pub enum Command<'a> {
     Ceremony(&'a str),
 }
 
-/// The command, of which the words are as many as it has.
+/// The command of that first word, by the words behind it.
 fn command_by(verb: Verb, words: &[String]) -> Option<Command<'_>>
-    requires { length words.now ≡ words_of verb }
     ensures value { option_map command_seen result ≡ command_by verb (map string_bytes words.now) }
     ensures limits { IfSome result IsCommand }
 {
@@ -56,14 +54,11 @@ pub fn command_of(words: &[String]) -> Option<Command<'_>>
     ensures value { option_map command_seen result ≡ command_words (map string_bytes words.now) }
     ensures limits { IfSome result IsCommand }
 {
-    if words.is_empty() {
+    let row = row_of(word(words, 0))?;
+    if words.len() != row.words {
         return None;
     }
-    let verb = verb_of(word(words, 0))?;
-    if words.len() != words_of(verb) {
-        return None;
-    }
-    let command = command_by(verb, words);
+    let command = command_by(row.verb, words);
     command
 }
 
@@ -74,19 +69,8 @@ pub fn may_ask_house(words: &[String]) -> bool
     ensures first { result ≡ first_asks (map string_bytes words.now) }
     ensures none { IsFalse result → AsksNoKeeper (command_words (map string_bytes words.now)) }
 {
-    let asks = first_asks(words);
-    asks
-}
-
-/// Whether their first word is that of a command which asks the keeper of the house.
-fn first_asks(words: &[String]) -> bool
-    ensures { result ≡ first_asks (map string_bytes words.now) }
-{
-    if words.is_empty() {
-        return false;
-    }
-    match verb_of(word(words, 0)) {
-        Some(verb) => asks_house(verb),
+    match row_of(word(words, 0)) {
+        Some(row) => row.asks_house,
         None => false,
     }
 }

@@ -2,13 +2,17 @@
 #![tactic(auto)]
 
 mod command;
+mod laws;
 mod names;
 mod orders;
 mod script;
-mod verb;
+mod table;
+mod usage;
 mod word;
 
 pub use command::{Command, command_of, house_order_of, may_ask_house};
+pub use laws::every_command_is_found_by_its_name;
 pub use names::{AttemptNames, ConfrontNames, ExtractNames, VerifyNames};
 pub use orders::{HouseOrder, SealOrder};
 pub use script::{script_order, words_of_line, written_name};
+pub use usage::usage_line;

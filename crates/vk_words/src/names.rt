@@ -1,6 +1,6 @@
 //! The names of the files that a command reads.
 
-ghost use Rattle.std.specs.Prelude.{◌≡◌, ◌+◌, ◌<◌, ◌≤◌, length, map, option_map, string_bytes};
+ghost use Rattle.std.specs.Prelude.{◌≡◌, ◌+◌, ◌^◌, ◌<◌, map, option_map, string_bytes};
 ghost use Rattle.vk_words.specs.Names.{attempt_seen, extract_seen, verify_seen, confront_seen, attempt_at, extract_in, verify_in, confront_in};
 
 use crate::word::name;
@@ -37,7 +37,7 @@ pub struct ConfrontNames<'a> {
 /// The names of a challenge, at that place, and of the reply behind it.
 #[tactic(auto, unfolding(crate::specs::Names::attempt_at))]
 pub fn attempt_names(words: &[String], place: usize) -> Option<AttemptNames<'_>>
-    requires { place + 1 < length words.now }
+    requires { place + 1 < 2 ^ 64 }
     ensures { option_map attempt_seen result ≡ attempt_at (map string_bytes words.now) place }
 {
     let challenge = name(words, place)?;
@@ -48,7 +48,6 @@ pub fn attempt_names(words: &[String], place: usize) -> Option<AttemptNames<'_>>
 /// The names of a `verify`.
 #[tactic(auto, unfolding(crate::specs::Names::verify_in))]
 pub fn verify_names(words: &[String]) -> Option<VerifyNames<'_>>
-    requires { 4 ≤ length words.now }
     ensures { option_map verify_seen result ≡ verify_in (map string_bytes words.now) }
 {
     let board = name(words, 1)?;
@@ -59,7 +58,6 @@ pub fn verify_names(words: &[String]) -> Option<VerifyNames<'_>>
 /// The names of an `extract`, or of a `confront` without its last.
 #[tactic(auto, unfolding(crate::specs::Names::extract_in))]
 pub fn extract_names(words: &[String]) -> Option<ExtractNames<'_>>
-    requires { 6 ≤ length words.now }
     ensures { option_map extract_seen result ≡ extract_in (map string_bytes words.now) }
 {
     let names = verify_names(words)?;
@@ -74,7 +72,6 @@ pub fn extract_names(words: &[String]) -> Option<ExtractNames<'_>>
 /// The names of a `confront`.
 #[tactic(auto, unfolding(crate::specs::Names::confront_in))]
 pub fn confront_names(words: &[String]) -> Option<ConfrontNames<'_>>
-    requires { 7 ≤ length words.now }
     ensures { option_map confront_seen result ≡ confront_in (map string_bytes words.now) }
 {
     let replies = extract_names(words)?;

@@ -2,10 +2,9 @@
 
 ghost use Rattle.std.specs.Prelude.{◌≡◌, ◌<◌, ◌≤◌, IfSome, length, map, option_map, string_bytes};
 ghost use Rattle.vk_words.specs.Orders.{IsHouseOrder, IsSealOrder, house_by, house_seen, id_at, seal_in, seal_seen, seed_at};
-ghost use Rattle.vk_words.specs.Verbs.{words_of};
 
 use crate::names::{AttemptNames, attempt_names};
-use crate::verb::Verb;
+use crate::table::Verb;
 use crate::word::{count, name, word};
 use vk_lines::{read_decimal, read_hex16, read_hex32};
 
@@ -61,7 +60,6 @@ pub enum HouseOrder<'a> {
 
 /// The id at that place.
 fn id(words: &[String], place: usize) -> Option<[u8; 16]>
-    requires { place < length words.now }
     ensures { result ≡ id_at (map string_bytes words.now) place }
 {
     let id = read_hex16(word(words, place).as_bytes());
@@ -70,7 +68,6 @@ fn id(words: &[String], place: usize) -> Option<[u8; 16]>
 
 /// The seed at that place.
 fn seed(words: &[String], place: usize) -> Option<[u8; 32]>
-    requires { place < length words.now }
     ensures { result ≡ seed_at (map string_bytes words.now) place }
 {
     let seed = read_hex32(word(words, place).as_bytes());
@@ -80,7 +77,6 @@ fn seed(words: &[String], place: usize) -> Option<[u8; 32]>
 /// The order of a `seal`.
 #[tactic(auto, unfolding(crate::specs::Orders::seal_in))]
 pub fn seal_order(words: &[String]) -> Option<SealOrder<'_>>
-    requires { 9 ≤ length words.now }
     ensures value { option_map seal_seen result ≡ seal_in (map string_bytes words.now) }
     ensures limits { IfSome result (λ order. IsSealOrder (seal_seen order)) }
 {
@@ -107,9 +103,8 @@ pub fn seal_order(words: &[String]) -> Option<SealOrder<'_>>
     })
 }
 
-/// A command of the house, of which the words are as many as it has. `None` of the others.
+/// A command of the house. `None` of the others.
 pub fn house_order(verb: Verb, words: &[String]) -> Option<HouseOrder<'_>>
-    requires { length words.now ≡ words_of verb }
     ensures value { option_map house_seen result ≡ house_by verb (map string_bytes words.now) }
     ensures limits { IfSome result IsHouseOrder }
 {

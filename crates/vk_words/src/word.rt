@@ -6,17 +6,18 @@ ghost use Rattle.vk_words.specs.Names.{name_at};
 
 use vk_lines::read_decimal;
 
-/// The word at that place.
+/// The word at that place. It is empty behind the last.
 pub fn word(words: &[String], place: usize) -> &str
-    requires { place < length words.now }
     ensures { result.now ≡ slice_index_or (map string_bytes words.now) place [] }
 {
-    words[place].as_str()
+    match words.get(place) {
+        Some(word) => word.as_str(),
+        None => "",
+    }
 }
 
 /// The name at that place, which has 1 to 255 bytes.
 pub fn name(words: &[String], place: usize) -> Option<&str>
-    requires { place < length words.now }
     ensures { option_map (λ x. x.now) result ≡ name_at (map string_bytes words.now) place }
 {
     let word = word(words, place);
