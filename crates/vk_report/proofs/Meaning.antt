@@ -146,7 +146,7 @@ started_shown : (told : Option (List ℕ)) (rest : Rest) → in_start (started t
 started_shown None rest some = cc
 started_shown (Some bytes) rest some = let is = started_by (nat_lt (2 ^ 30) (length bytes)) bytes rest refl some in (bytes, refl, is.0, is.1)
 
-started_found : (bytes : List ℕ) → length bytes ≤ 2 ^ 30 → in_start (started (Some bytes)) ≡ Ok (record { taken = 0; left = bytes })
+pub started_found : (bytes : List ℕ) → length bytes ≤ 2 ^ 30 → in_start (started (Some bytes)) ≡ Ok (record { taken = 0; left = bytes })
 started_found bytes short = let no : nat_lt (2 ^ 30) (length bytes) ≡ false = grind (arith, nat_tests, short) in rw no refl
 
 pub reported : (files : Files) (name : List ℕ) (report : Report) → report_on files name ≡ Ok report → IsReportOn files name report

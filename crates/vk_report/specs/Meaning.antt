@@ -1,15 +1,21 @@
--- When a file is reported on, by its whole text.
-use Rattle.std.specs.Prelude.{◌≡◌, ◌↔◌, ℕ, ◌-◌, ◌^◌, ◌≤◌, List, length, Contains, Some, Ok}
+-- When a file is reported on, by its whole text, and why another isn't.
+use Rattle.std.specs.Prelude.{◌≡◌, ◌↔◌, ◌⊎◌, ℕ, ◌-◌, ◌^◌, ◌<◌, ◌≤◌, List, ◌++◌, length, Contains, Some, None, Ok, Err}
 use Rattle.std.specs.FinMap.{get}
 use Rattle.vk_io.specs.Files.{Files}
+use Rattle.vk_lines.specs.Forms.{fault_line}
 use Rattle.vk_board.specs.declared.board.Head.{Head}
+use Rattle.vk_board.specs.declared.board.SealLines.{SealLines}
+use Rattle.vk_board.specs.declared.front.Front.{Front}
 use Rattle.vk_board.specs.Values.{Board, Shape, IsBoard}
 use Rattle.vk_board.specs.Texts.{board_text}
-use Rattle.vk_board.specs.Fronts.{PriceStands}
+use Rattle.vk_board.specs.Tables.{board_table}
+use Rattle.vk_board.specs.Fronts.{IsFront, front_text, PriceStands, Begins, PriceFails, WinnerFails}
 use Rattle.vk_board.specs.Reading.{seats_of}
 use Rattle.vk_vickrey.specs.VickreyPlans.{wire_count, row_count}
 use Rattle.vk_report.specs.declared.report.Report.{Report}
-use Rattle.vk_report.specs.Reports.{report_on}
+use Rattle.vk_report.specs.declared.report.ReportErr.{ReportErr}
+use Rattle.vk_report.specs.declared.report.ReportErr.TheVariants.{Missing, TooLong, Malformed, Price, Winner, Failed, NoMemory}
+use Rattle.vk_report.specs.Reports.{report_at, report_on}
 
 -- how many wires after the inputs, and how many rows, each lane of the auction has
 abbrev pub auction_shape : Head → Shape
@@ -38,3 +44,49 @@ pub record IsReportOn (files : Files) (name : List ℕ) (report : Report) : Type
 
 abbrev pub ReportedExactly : Type 0
 ReportedExactly = (files : Files) (name : List ℕ) (report : Report) → (report_on files name ≡ Ok report) ↔ IsReportOn files name report
+
+-- ---- why a file isn't reported on
+
+-- the file begins with what stands before the first lane of a board, and its price and its winner may stand
+pub record HasFront (file : List ℕ) : Type 0 where
+  pub front : Front
+  pub right : IsFront front
+  pub more : List ℕ
+  pub text : file ≡ front_text front ++ more
+
+-- the file has that fault line as a board; and it doesn't begin with a head and its seals, or its price and its
+-- winner may stand
+pub record BoardFails (file : List ℕ) (line : ℕ) : Type 0 where
+  pub fault : fault_line (board_table auction_shape) file ≡ Some line
+  pub place : ((head : Head) (seals : List SealLines) → ¬ Begins file head seals) ⊎ HasFront file
+
+-- the refusal holds of the file's bytes
+abbrev pub ReportFails : ReportErr → List ℕ → Type 0
+ReportFails (Malformed line) file = BoardFails file line
+ReportFails Price file = PriceFails file
+ReportFails Winner file = WinnerFails file
+ReportFails Missing file = ⊥
+ReportFails TooLong file = ⊥
+ReportFails Failed file = ⊥
+ReportFails NoMemory file = ⊥
+
+-- a file of that name is held, has at most 2^30 bytes, and the refusal holds of them
+pub record FailsIn (files : Files) (name : List ℕ) (refusal : ReportErr) : Type 0 where
+  pub file : List ℕ
+  pub held : get files name ≡ Some file
+  pub short : length file ≤ 2 ^ 30
+  pub fails : ReportFails refusal file
+
+-- the named file isn't reported on: none is held, it has more than 2^30 bytes, or the refusal holds of its bytes
+abbrev pub IsUnreported : Files → List ℕ → ReportErr → Type 0
+IsUnreported files name Missing = get files name ≡ None
+IsUnreported files name TooLong = (file : List ℕ) × (get files name ≡ Some file) × (2 ^ 30 < length file)
+IsUnreported files name refusal = FailsIn files name refusal
+
+-- bytes are refused exactly for what holds of them
+abbrev pub RefusedExactly : Type 0
+RefusedExactly = (refusal : ReportErr) (file : List ℕ) → (report_at (record { taken = 0; left = file }) ≡ Err refusal) ↔ ReportFails refusal file
+
+-- so is a named file
+abbrev pub UnreportedExactly : Type 0
+UnreportedExactly = (files : Files) (name : List ℕ) (refusal : ReportErr) → (report_on files name ≡ Err refusal) ↔ IsUnreported files name refusal
