@@ -1,20 +1,16 @@
--- What status 0 of `confront` means, and that a secret that has its seal is held or shown to clash.
-use Rattle.std.proofs.Common.{◌≡◌, ℕ, All, List, Bool, Option, Some, None, Result, Ok, Err, refl, sym, ap, subst, ◌∙◌, arith, inl, inr}
+-- What `confront` says holds of the files: what status 0 means, and that a secret that has its seal is held or shown to clash.
+use Rattle.std.proofs.Common.{◌≡◌, ℕ, ◌^◌, nat_lt, All, Bool, true, false, if◌then◌else◌, List, [], ◌∷◌, length, Option, Some, None, Result, Ok, Err, refl, sym, ap, subst, ◌∙◌, arith, inl, inr}
+use Rattle.std.specs.FinMap.{get}
+use Rattle.std.proofs.lemmas.Bool.Decides.{nat_tests}
 use Rattle.vk_io.specs.Files.{Files, Told}
 use Rattle.vk_lines.specs.Lines.{Rest}
-use Rattle.vk_commit.specs.Commitment.{TwoOpeningsSeen}
-use Rattle.vk_seal.specs.declared.secret.Secret.{Secret}
-use Rattle.vk_seal.specs.declared.matching.Mismatch.{Mismatch as MismatchKind}
-use Rattle.vk_seal.specs.Match.{match_of}
+use Rattle.vk_row.specs.LaneTests.{◌>>=◌}
 use Rattle.vk_seal.specs.Reading.{secret_at}
-use Rattle.vk_seal.proofs.Forms.{secret_is_whole}
-use Rattle.vk_verifier.specs.declared.answers.BoardVerdict.{BoardVerdict}
-use Rattle.vk_verifier.specs.declared.answers.BoardVerdict.TheVariants as verdict
+use Rattle.vk_verifier.specs.declared.answers.Part.{Part}
+use Rattle.vk_verifier.specs.declared.answers.VErr.{VErr}
 use Rattle.vk_verifier.specs.declared.answers.VErr.TheVariants.{Missing, TooLong, Failed, NoMemory}
 use Rattle.vk_verifier.specs.TwoValues.{front_in}
 use Rattle.vk_verifier.specs.Verdicts.{from_start}
-use Rattle.vk_bids.specs.declared.bids.LaneBids.{LaneBids}
-use Rattle.vk_bids.specs.declared.extraction.Extracted.{Extracted}
 use Rattle.vk_bids.specs.declared.extraction.Extraction.{Extraction}
 use Rattle.vk_bids.specs.declared.extraction.Extraction.TheVariants as extraction
 use Rattle.vk_bids.specs.declared.confrontation.Confrontation.{Confrontation}
@@ -22,35 +18,183 @@ use Rattle.vk_bids.specs.declared.confrontation.Confrontation.TheVariants.{Refus
 use Rattle.vk_bids.specs.declared.confrontation.ConfrontErr.{ConfrontErr}
 use Rattle.vk_bids.specs.declared.confrontation.ConfrontErr.TheVariants.{Unread, MissingSecret, TooLongSecret}
 use Rattle.vk_bids.specs.Texts.{clash_text}
-use Rattle.vk_bids.specs.Confrontation.{confrontation_on, board_seal, confrontation_of, confronted_lanes, held_by, index_of_seat, matched_by, sealed_by, secret_in}
-use Rattle.vk_bids.specs.Headline.{IsExtraction, IsFound, IsOf, LaneAgrees, TwoAccepted, differing_in, extraction_of_held}
-use Rattle.vk_bids.specs.Binding.{ClashOr, HeldOrClash, IsConfrontationOf, IsHeldBy, IsSealOf, confrontation_of_held}
+use Rattle.vk_bids.specs.Confrontation.{confrontation_of, confrontation_on, of_extraction, secret_begun, secret_in}
+use Rattle.vk_bids.specs.Headline.{IsHeld, IsOf, LaneAgrees, TwoAccepted, differing_in, extraction_of_held}
+use Rattle.vk_bids.specs.Binding.{ClashOr, HeldOrClash, IsSealOf, confrontation_of_held}
 use Rattle.vk_bids.proofs.Agreeing.{no_clash}
-use Rattle.vk_bids.proofs.Binding.{sealed_are_held_or_clash, secrets_are_bound}
+use Rattle.vk_bids.proofs.Binding.{sealed_are_held_or_clash}
 use Rattle.vk_bids.proofs.ConfrontNamed.{files_are_confronted}
-use Rattle.vk_bids.proofs.Headlines.{accepted_are_extracted, only_accepted_are_extracted}
-use Rattle.vk_words.specs.Names.{ConfrontWords}
+use Rattle.vk_bids.proofs.Headlines.{accepted_are_extracted}
+use Rattle.vk_words.specs.Names.{ConfrontWords, ExtractWords}
 use Rattle.vk_effect.specs.Effects.{SaidValue, puts}
-use Rattle.vk_audit.specs.Verdicts.{answer_said}
-use Rattle.vk_audit.specs.Confrontations.{confrontation_said, confront_said, unconfronted_said}
-use Rattle.vk_audit.specs.Statuses.{BindsExactly, ConfrontsFiles, HoldsSecret, IsBound, PutsSecretClash}
-use Rattle.vk_audit.proofs.Extracting.{answer_found, put_told, refused_never}
+use Rattle.vk_effect.specs.NamedFiles.{missing_said, too_long_said}
+use Rattle.vk_audit.specs.Answers.{ConfrontHolds, SettlesConfront, TellsConfrontations}
+use Rattle.vk_audit.specs.Confrontations.{confrontation_in, confrontation_said, confront_said, unconfronted_said}
+use Rattle.vk_audit.specs.Inputs.{HoldsFiles, IsFirstUnread, IsLong, IsUnheld, confront_inputs, extract_inputs}
+use Rattle.vk_audit.specs.Statuses.{BindsExactly, ConfrontsFiles, HoldsSecret, IsBound, PutsClash, PutsSecretClash}
+use Rattle.vk_audit.specs.Verdicts.{answer_said, name_of}
+use Rattle.vk_audit.proofs.Extracting.{all_held, parts, put_told, refused_never}
+use Rattle.vk_audit.proofs.Extracting as extracting
+use Rattle.vk_audit.proofs.Findings.{confrontation_holds, settled_found}
+use Rattle.vk_audit.proofs.Inputs.{all_read, fault_of, first_unread, one_or_last, unread_found, unread_shown, with_more}
+use Rattle.vk_audit.proofs.Telling.{tells}
 use Rattle.vk_audit.proofs.Verifying.{status_accepted}
 
--- ---- what is said
+-- ---- the answer
 
--- what the named files come to
-abbrev answer_on : Files → ConfrontWords → Result Confrontation ConfrontErr
-answer_on files names =
-    let replies = names.replies in
-    confrontation_on files replies.board replies.first.challenge replies.first.reply replies.second.challenge replies.second.reply names.secret
+module _ (files : Files) (names : ConfrontWords) where
+  abbrev replies : ExtractWords
+  replies = names.replies
 
--- what is said of an answer
-abbrev said_of_answer : ConfrontWords → Result Confrontation ConfrontErr → SaidValue
-said_of_answer names answer = answer_said (confrontation_said names) (unconfronted_said names) answer
+  abbrev answer : Result Confrontation ConfrontErr
+  answer = confrontation_in files names
+
+  abbrev secret_told : Extraction → Option (List ℕ) → Result Confrontation ConfrontErr
+  secret_told extraction told = secret_begun told >>= λ rest. Ok (confrontation_of extraction (secret_in (secret_at rest)))
+
+  of_extracted : (given : Result Extraction VErr) → extracting.answer files replies ≡ given
+      → answer ≡ (of_extraction given >>= λ extraction. secret_told extraction (get files names.secret))
+  unfolding confrontation_on
+  of_extracted given is = ap (λ a. of_extraction a >>= λ extraction. secret_told extraction (get files names.secret)) is
+
+  answer_unread : (unread : Part × Bool) → first_unread files (name_of replies) (parts files replies) ≡ Some unread → answer ≡ Err (Unread (fault_of unread))
+  answer_unread unread is = of_extracted (Err (fault_of unread)) (extracting.answer_unread files replies unread is)
+
+  answer_held : (held : HoldsFiles files replies) → answer ≡ secret_told (extraction_of_held held) (get files names.secret)
+  answer_held held = of_extracted (Ok (extraction_of_held held)) (extracting.answer_read files replies held)
+
+  secret_unheld : (held : HoldsFiles files replies) → IsUnheld files names.secret → answer ≡ Err MissingSecret
+  secret_unheld held is = answer_held held ∙ ap (secret_told (extraction_of_held held)) is
+
+  secret_long : (held : HoldsFiles files replies) → IsLong files names.secret → answer ≡ Err TooLongSecret
+  secret_long held (bytes, is, long) =
+      let test : nat_lt (2 ^ 30) (length bytes) ≡ true = grind (arith, nat_tests, long) in
+      let next : Rest → Result Confrontation ConfrontErr = λ rest. Ok (confrontation_of (extraction_of_held held) (secret_in (secret_at rest))) in
+      answer_held held ∙ (ap (secret_told (extraction_of_held held)) is ∙ ap (λ (t : Bool). (if t then Err TooLongSecret else Ok
+      (from_start bytes)) >>= next) test)
+
+  answer_read : (held : HoldsFiles files replies) (file : List ℕ) → IsHeld files names.secret file → answer ≡ Ok (confrontation_of_held held file)
+  answer_read held file is =
+      (files_are_confronted files replies.board replies.first.challenge replies.first.reply replies.second.challenge replies.second.reply names.secret
+      (confrontation_of_held held file)).1
+      (record { held = held; secret_bytes = file; secret_is = is; is = refl })
+
+  -- the secret is the first that can't be read
+  last_unread : (Reason : Files → List ℕ → Type 0) → first_unread files (name_of replies) (parts files replies) ≡ None → Reason files names.secret
+      → IsFirstUnread files (confront_inputs names) names.secret Reason
+  last_unread Reason none why = record {
+    earlier = extract_inputs replies;
+    later = [];
+    names_are = refl;
+    read = all_read files (name_of replies) (parts files replies) none;
+    why = why;
+  }
+
+  held_by : first_unread files (name_of replies) (parts files replies) ≡ None → HoldsFiles files replies
+  held_by none = all_held files replies (all_read files (name_of replies) (parts files replies) none)
+
+  by_length : (none : first_unread files (name_of replies) (parts files replies) ≡ None) (file : List ℕ) → get files names.secret ≡ Some file
+      → (long : Bool) → nat_lt (2 ^ 30) (length file) ≡ long
+      → ConfrontHolds files names answer
+  by_length none file is true test =
+      let long : IsLong files names.secret = (file, is, grind (arith, nat_tests, test)) in
+      subst (ConfrontHolds files names) (sym (secret_long (held_by none) long)) (last_unread IsLong none long)
+  by_length none file is false test =
+      let held = held_by none in
+      let secret_is : IsHeld files names.secret file = record { is = is; short = grind (arith, nat_tests, test) } in
+      subst (ConfrontHolds files names) (sym (answer_read held file secret_is)) (record {
+        held = held;
+        file = file;
+        file_is = secret_is;
+        holds = confrontation_holds held.board_bytes held.first.challenge_bytes held.first.reply_bytes held.second.challenge_bytes held.second.reply_bytes file;
+      })
+
+  by_secret : first_unread files (name_of replies) (parts files replies) ≡ None → (told : Option (List ℕ)) → get files names.secret ≡ told
+      → ConfrontHolds files names answer
+  by_secret none None is = subst (ConfrontHolds files names) (sym (secret_unheld (held_by none) is)) (last_unread IsUnheld none is)
+  by_secret none (Some file) is = by_length none file is (nat_lt (2 ^ 30) (length file)) refl
+
+  answer_by : (unread : Option (Part × Bool)) → first_unread files (name_of replies) (parts files replies) ≡ unread → ConfrontHolds files names answer
+  answer_by (Some (part, true)) is =
+      subst (ConfrontHolds files names) (sym (answer_unread (part, true) is))
+      (with_more files IsLong (extract_inputs replies) (names.secret ∷ []) (name_of replies part) (unread_shown files (name_of replies)
+      (parts files replies) (part, true) is))
+  answer_by (Some (part, false)) is =
+      subst (ConfrontHolds files names) (sym (answer_unread (part, false) is))
+      (with_more files IsUnheld (extract_inputs replies) (names.secret ∷ []) (name_of replies part) (unread_shown files (name_of replies)
+      (parts files replies) (part, false) is))
+  answer_by None is = by_secret is (get files names.secret) refl
+
+  abbrev said_of : Result Confrontation ConfrontErr → SaidValue
+  said_of answered = answer_said (confrontation_said names) (unconfronted_said names) answered
+
+  -- the first that can't be read is a file of the replies, or the secret's
+  missing_found : (name : List ℕ) → IsFirstUnread files (confront_inputs names) name IsUnheld → said_of answer ≡ missing_said name
+  missing_found name is = elim (one_or_last files IsUnheld (extract_inputs replies) names.secret name is) [
+    | inl first ↦
+        let found = unread_found files (name_of replies) (parts files replies) name false first in
+        ap said_of (answer_unread (found.0, false) found.1) ∙ ap missing_said found.2
+    | inr last ↦
+        ap said_of (secret_unheld (all_held files replies last.0) (subst (IsUnheld files) last.2 last.1)) ∙ ap missing_said (sym last.2)
+  ]
+
+  too_long_found : (name : List ℕ) → IsFirstUnread files (confront_inputs names) name IsLong → said_of answer ≡ too_long_said name
+  too_long_found name is = elim (one_or_last files IsLong (extract_inputs replies) names.secret name is) [
+    | inl first ↦
+        let found = unread_found files (name_of replies) (parts files replies) name true first in
+        ap said_of (answer_unread (found.0, true) found.1) ∙ ap too_long_said found.2
+    | inr last ↦
+        ap said_of (secret_long (all_held files replies last.0) (subst (IsLong files) last.2 last.1)) ∙ ap too_long_said (sym last.2)
+  ]
+
+  answer_settled : (other : Result Confrontation ConfrontErr) → SettlesConfront other → ConfrontHolds files names other → said_of answer ≡ said_of other
+  answer_settled (Ok confrontation) settles holds =
+      let held = holds.held in
+      ap said_of (answer_read held holds.file holds.file_is ∙ ap (λ c. Ok c)
+      (settled_found held.board_bytes held.first.challenge_bytes held.first.reply_bytes held.second.challenge_bytes held.second.reply_bytes holds.file confrontation settles holds.holds))
+  answer_settled (Err (Unread (Missing part))) settles holds = missing_found (name_of replies part) holds
+  answer_settled (Err (Unread (TooLong part))) settles holds = too_long_found (name_of replies part) holds
+  answer_settled (Err (Unread Failed)) settles holds = absurd holds
+  answer_settled (Err (Unread NoMemory)) settles holds = absurd holds
+  answer_settled (Err MissingSecret) settles holds = missing_found names.secret holds
+  answer_settled (Err TooLongSecret) settles holds = too_long_found names.secret holds
+
+  -- the replies clash
+  module _ (held : HoldsFiles files replies) (file : List ℕ) (taken : Option (List ℕ))
+      (two : TwoAccepted held.board_bytes held.first.challenge_bytes held.first.reply_bytes held.second.challenge_bytes held.second.reply_bytes)
+      (clashes : ¬ All (LaneAgrees two) (differing_in two)) where
+    abbrev PutsIt : SaidValue → Type 0
+    PutsIt said = (said.status ≡ 3) × Told (PutsClash two) taken (puts said.text taken)
+
+    by_extraction : (extraction : Extraction) → IsOf two extraction
+        → PutsIt (confrontation_said names (confrontation_of extraction (secret_in (secret_at (from_start file)))))
+    by_extraction (extraction.Refused second refused) is = absurd is
+    by_extraction extraction.Same is = absurd is
+    by_extraction (extraction.Clash clash) is = (refl, put_told (PutsClash two) _ (λ before. record { clash = clash; is = is; put = refl }) taken)
+    by_extraction (extraction.Bids found) is = absurd (clashes is.agree)
+
+    clash_told : IsHeld files names.secret file → PutsIt (said_of answer)
+    clash_told is =
+        subst (λ answer. PutsIt (said_of answer)) (sym (answer_read held file is))
+        (by_extraction (extraction_of_held held)
+        (accepted_are_extracted held.board_bytes held.first.challenge_bytes held.first.reply_bytes held.second.challenge_bytes held.second.reply_bytes two))
+
+  answer_holds : ConfrontHolds files names answer
+  answer_holds = answer_by (first_unread files (name_of replies) (parts files replies)) refl
+
+pub tells_confrontations : TellsConfrontations
+tells_confrontations files names taken = record {
+  told =
+      tells (ConfrontHolds files names) SettlesConfront (said_of files names) (answer files names) taken
+      (answer_holds files names) (answer_settled files names);
+  clashes = λ held read two clashes. clash_told files names held read.0 taken two clashes read.1;
+}
+
+-- ---- where the secret has its seal
 
 -- what is said of a secret that is held, or of a clash
-said_bound : {files : Files} {names : ConfrontWords} (confronts : ConfrontsFiles files names) (index : ℕ) (taken : Option (List ℕ)) (confrontation : Confrontation)
+said_bound : {files : Files} {names : ConfrontWords} (confronts : ConfrontsFiles files names) (index : ℕ) (taken : Option (List ℕ))
+    (confrontation : Confrontation)
     → ClashOr confronts.two (λ found. HeldOrClash confronts.secret index found confrontation) confrontation
     → let said = confrontation_said names confrontation in IsBound confronts index said.status taken (puts said.text taken)
 said_bound {names} confronts index taken confrontation (inl clash) = absurd (no_clash confronts.two clash.0 confronts.agree clash.1)
@@ -67,123 +211,57 @@ said_bound {names} confronts index taken confrontation (inr (found, bids, inr (c
       );
     }
 
--- ---- where the secret has its seal
-
--- the confrontation of the bytes of these files
-abbrev comes_to : {files : Files} {names : ConfrontWords} → ConfrontsFiles files names → Confrontation
-comes_to confronts = confrontation_of_held confronts.held confronts.file
-
-answer_of : (files : Files) (names : ConfrontWords) (confronts : ConfrontsFiles files names) → answer_on files names ≡ Ok (comes_to confronts)
-answer_of files names confronts =
-    let replies = names.replies in
-    (files_are_confronted files replies.board replies.first.challenge replies.first.reply replies.second.challenge replies.second.reply names.secret (comes_to confronts)).1
-    (record { held = confronts.held; secret_bytes = confronts.file; secret_is = confronts.file_is; is = refl })
-
 always_bound : (files : Files) (names : ConfrontWords) (taken : Option (List ℕ)) (confronts : ConfrontsFiles files names) (index : ℕ)
     → IsSealOf (front_in confronts.two.first) confronts.secret index
     → let said = confront_said files names in IsBound confronts index said.status taken (puts said.text taken)
 always_bound files names taken confronts index seal =
     let held = confronts.held in
-    let P : Result Confrontation ConfrontErr → Type 0 = λ answer. let said = said_of_answer names answer in IsBound confronts index said.status taken (puts said.text taken) in
-    subst P (sym (answer_of files names confronts))
-    (said_bound confronts index taken (comes_to confronts)
+    let P : Result Confrontation ConfrontErr → Type 0 = λ answer. let said = said_of files names answer in IsBound confronts index said.status taken
+    (puts said.text taken) in
+    subst P (sym (answer_read files names held confronts.file confronts.file_is))
+    (said_bound confronts index taken (confrontation_of_held held confronts.file)
     (sealed_are_held_or_clash held.board_bytes held.first.challenge_bytes held.first.reply_bytes held.second.challenge_bytes held.second.reply_bytes confronts.file
     confronts.two confronts.secret index confronts.right confronts.text seal))
 
 -- ---- only such files
 
--- of the answer that the secret is held
-record HeldOnes (found_in : Extraction) (read : Result Secret ℕ) : Type 0 where
-  found : Extracted
-  secret : Secret
-  bids : found_in ≡ extraction.Bids found
-  reads : read ≡ Ok secret
-
-held_ones : (found_in : Extraction) (read : Result Secret ℕ) (seat : ℕ) → Held seat ≡ confrontation_of found_in read → HeldOnes found_in read
-held_ones (extraction.Refused second refused) read seat is = cc
-held_ones extraction.Same read seat is = cc
-held_ones (extraction.Clash clash) read seat is = cc
-held_ones (extraction.Bids found) (Ok secret) seat is = record { found = found; secret = secret; bids = refl; reads = refl }
-held_ones (extraction.Bids found) (Err line) seat is = cc
-
-was_read : (read : Result (Secret × Rest) ℕ) (secret : Secret) → secret_in read ≡ Ok secret → (after : Rest) × (read ≡ Ok (secret, after))
-was_read (Ok (other, after)) secret is = let same : other ≡ secret = cc in (after, ap (λ s. Ok (s, after)) same)
-was_read (Err line) secret is = cc
-
-of_bids : {board first_challenge first_reply second_challenge second_reply : List ℕ} (two : TwoAccepted board first_challenge first_reply second_challenge second_reply)
-    (secret : Secret) (confrontation : Confrontation) (seat : ℕ) → Held seat ≡ confrontation → All (LaneAgrees two) (differing_in two)
-    → ClashOr two (λ found. IsConfrontationOf secret found confrontation) confrontation → (found : Extracted) × IsExtraction two found × IsHeldBy secret found
-of_bids two secret confrontation seat is agree (inl clash) = absurd (no_clash two clash.0 agree clash.1)
-of_bids two secret confrontation seat is agree (inr (found, bids, answer)) = (found, bids, (subst (IsConfrontationOf secret found) (sym is) answer).1)
-
-held_shown : (files : Files) (names : ConfrontWords) (seat : ℕ) → answer_on files names ≡ Ok (Held seat) → HoldsSecret files names
-held_shown files names seat ok =
-    let replies = names.replies in
-    let comes = (files_are_confronted files replies.board replies.first.challenge replies.first.reply replies.second.challenge replies.second.reply names.secret (Held seat)).0 ok in
-    let held = comes.held in
-    let ones = held_ones (extraction_of_held held) (secret_in (secret_at (from_start comes.secret_bytes))) seat comes.is in
-    let two = only_accepted_are_extracted held.board_bytes held.first.challenge_bytes held.first.reply_bytes held.second.challenge_bytes held.second.reply_bytes
-    (subst IsFound (sym ones.bids) tt) in
-    let given : IsOf two (extraction.Bids ones.found) = subst (IsOf two) ones.bids
-    (accepted_are_extracted held.board_bytes held.first.challenge_bytes held.first.reply_bytes held.second.challenge_bytes held.second.reply_bytes two) in
-    let read = was_read (secret_at (from_start comes.secret_bytes)) ones.secret ones.reads in
-    let right = secret_is_whole.shown (from_start comes.secret_bytes) ones.secret read.0 read.1 in
-    let bound = of_bids two ones.secret (confrontation_of_held held comes.secret_bytes) seat comes.is given.agree
-    (secrets_are_bound held.board_bytes held.first.challenge_bytes held.first.reply_bytes held.second.challenge_bytes held.second.reply_bytes comes.secret_bytes two ones.secret right.0 right.1) in
+only_held : (files : Files) (names : ConfrontWords) (answered : Result Confrontation ConfrontErr) → ConfrontHolds files names answered
+    → (said_of files names answered).status ≡ 0 → HoldsSecret files names
+only_held files names (Err (Unread (Missing file))) holds zero_is = absurd (omega arith)
+only_held files names (Err (Unread (TooLong file))) holds zero_is = absurd (omega arith)
+only_held files names (Err (Unread Failed)) holds zero_is = absurd holds
+only_held files names (Err (Unread NoMemory)) holds zero_is = absurd holds
+only_held files names (Err MissingSecret) holds zero_is = absurd (omega arith)
+only_held files names (Err TooLongSecret) holds zero_is = absurd (omega arith)
+only_held files names (Ok (Refused second refused)) holds zero_is =
+    let held = holds.held in
+    absurd (refused_never second refused held.board_bytes held.first.challenge_bytes held.first.reply_bytes held.second.challenge_bytes held.second.reply_bytes holds.holds
+    (status_accepted names.replies second refused (λ one. omega arith) (omega arith)))
+only_held files names (Ok Same) holds zero_is = absurd (omega arith)
+only_held files names (Ok (Malformed line)) holds zero_is = absurd (omega arith)
+only_held files names (Ok (NoSeal seat)) holds zero_is = absurd (omega arith)
+only_held files names (Ok (Mismatch mismatch)) holds zero_is = absurd (omega arith)
+only_held files names (Ok (Clash clash)) holds zero_is = absurd (omega arith)
+only_held files names (Ok (Held seat)) holds zero_is =
+    let comes = holds.holds in
     record {
-      confronts = record { held = held; two = two; agree = given.agree; file = comes.secret_bytes; file_is = comes.secret_is; secret = ones.secret; right = right.0; text = right.1 };
-      found = bound.0;
-      bids = bound.1;
-      held = bound.2;
+      confronts = record {
+        held = holds.held;
+        two = comes.two;
+        agree = comes.bids.agree;
+        file = holds.file;
+        file_is = holds.file_is;
+        secret = comes.secret;
+        right = comes.right;
+        text = comes.text;
+      };
+      found = comes.found;
+      bids = comes.bids;
+      held = comes.comes.1;
     }
-
--- a secret that is confronted is no refused reply
-held_never : (seat : ℕ) (clash : Option TwoOpeningsSeen) (second : Bool) (refused : BoardVerdict) → Refused second refused ≡ held_by seat clash → ⊥
-held_never seat None second refused is = cc
-held_never seat (Some two) second refused is = cc
-
-matched_never : (secret : Secret) (index : ℕ) (lanes : List LaneBids) (answer : Result Unit MismatchKind) (second : Bool) (refused : BoardVerdict) → Refused second refused ≡ matched_by secret index lanes answer → ⊥
-matched_never secret index lanes (Err mismatch) second refused is = cc
-matched_never secret index lanes (Ok done) second refused is = held_never secret.seat (confronted_lanes secret index lanes) second refused is
-
-sealed_never : (secret : Secret) (found : Extracted) (at : Option ℕ) (second : Bool) (refused : BoardVerdict) → Refused second refused ≡ sealed_by secret found at → ⊥
-sealed_never secret found None second refused is = cc
-sealed_never secret found (Some index) second refused is =
-    matched_never secret index found.lanes (match_of secret (board_seal found.front.head found.front.seals index)) second refused is
-
-refused_in : (found_in : Extraction) (read : Result Secret ℕ) (second : Bool) (refused : BoardVerdict) → Refused second refused ≡ confrontation_of found_in read → found_in ≡ extraction.Refused second refused
-refused_in (extraction.Refused other fault) read second refused is = cc
-refused_in extraction.Same read second refused is = cc
-refused_in (extraction.Clash clash) read second refused is = cc
-refused_in (extraction.Bids found) (Ok secret) second refused is = absurd (sealed_never secret found (index_of_seat secret.seat found.front.seals) second refused is)
-refused_in (extraction.Bids found) (Err line) second refused is = cc
-
--- no reply is refused by the verdict that it is accepted
-never_refused : (files : Files) (names : ConfrontWords) (second : Bool) → answer_on files names ≡ Ok (Refused second verdict.Accepted) → ⊥
-never_refused files names second ok =
-    let replies = names.replies in
-    let comes = (files_are_confronted files replies.board replies.first.challenge replies.first.reply replies.second.challenge replies.second.reply names.secret (Refused second verdict.Accepted)).0 ok in
-    refused_never files replies second
-    (answer_found files replies comes.held ∙ ap (λ e. Ok e) (refused_in (extraction_of_held comes.held) (secret_in (secret_at (from_start comes.secret_bytes))) second verdict.Accepted comes.is))
-
-only_held : (files : Files) (names : ConfrontWords) (answer : Result Confrontation ConfrontErr) → answer_on files names ≡ answer → (said_of_answer names answer).status ≡ 0 → HoldsSecret files names
-only_held files names (Err (Unread (Missing file))) is zero_is = absurd (omega arith)
-only_held files names (Err (Unread (TooLong file))) is zero_is = absurd (omega arith)
-only_held files names (Err (Unread Failed)) is zero_is = absurd (omega arith)
-only_held files names (Err (Unread NoMemory)) is zero_is = absurd (omega arith)
-only_held files names (Err MissingSecret) is zero_is = absurd (omega arith)
-only_held files names (Err TooLongSecret) is zero_is = absurd (omega arith)
-only_held files names (Ok (Refused second refused)) is zero_is =
-    absurd (never_refused files names second (is ∙ ap (λ answered. Ok (Refused second answered)) (status_accepted names.replies second refused (λ one. omega arith) (omega arith))))
-only_held files names (Ok Same) is zero_is = absurd (omega arith)
-only_held files names (Ok (Malformed line)) is zero_is = absurd (omega arith)
-only_held files names (Ok (NoSeal seat)) is zero_is = absurd (omega arith)
-only_held files names (Ok (Mismatch mismatch)) is zero_is = absurd (omega arith)
-only_held files names (Ok (Clash clash)) is zero_is = absurd (omega arith)
-only_held files names (Ok (Held seat)) is zero_is = held_shown files names seat is
 
 pub binds_exactly : BindsExactly
 binds_exactly files names taken = record {
-  only = λ zero_is. only_held files names (answer_on files names) refl zero_is;
+  only = λ zero_is. only_held files names (answer files names) (answer_holds files names) zero_is;
   always = λ confronts index seal _ _. always_bound files names taken confronts index seal;
 }

@@ -1,57 +1,34 @@
--- Status 0 of `verify` comes exactly where the reply is accepted.
-use Rattle.std.proofs.Common.{◌≡◌, ◌≢◌, ◌<◌, ◌≤◌, Bool, false, Result, Ok, Err, refl, ap, ◌∙◌, arith}
+-- What `verify` says holds of the files, and status 0 comes exactly where the reply is accepted.
+use Rattle.std.proofs.Common.{◌≡◌, ◌≢◌, ℕ, ◌<◌, ◌≤◌, Bool, false, true, List, [], ◌∷◌, Option, Some, None, Result, Ok, Err, refl, sym, ap, subst, ◌∙◌, arith}
+use Rattle.std.specs.FinMap.{get}
 use Rattle.vk_io.specs.Files.{Files}
+use Rattle.vk_row.specs.LaneTests.{◌>>=◌}
 use Rattle.vk_lines.specs.Lines.{Rest}
+use Rattle.vk_verifier.specs.declared.answers.Part.{Part}
 use Rattle.vk_verifier.specs.declared.answers.Part.TheVariants as part
 use Rattle.vk_verifier.specs.declared.answers.BoardVerdict.{BoardVerdict}
 use Rattle.vk_verifier.specs.declared.answers.BoardVerdict.TheVariants as verdict
 use Rattle.vk_verifier.specs.declared.answers.VErr.{VErr}
 use Rattle.vk_verifier.specs.declared.answers.VErr.TheVariants.{Missing, TooLong, Failed, NoMemory}
-use Rattle.vk_verifier.specs.Verdicts.{from_start, judged, verdict_by, verdict_on}
-use Rattle.vk_verifier.proofs.Steps.{value_same}
-use Rattle.vk_verifier.proofs.Accepted.{accepted_exactly}
-use Rattle.vk_bids.proofs.Begun.{attempt_begun, attempt_found, attempt_shown, begun_found, begun_shown}
+use Rattle.vk_verifier.specs.Verdicts.{begun, from_start, judged, verdict_by, verdict_of, verdict_on}
+use Rattle.vk_verifier.proofs.Exact.{verdicts_exact}
+use Rattle.vk_verifier.proofs.Reasons.{verdict_holds}
+use Rattle.vk_bids.specs.Headline.{HeldAttempt, IsHeld}
+use Rattle.vk_bids.proofs.Begun.{attempt_found, begun_found}
 use Rattle.vk_words.specs.Names.{ExtractWords, VerifyWords}
 use Rattle.vk_effect.specs.Effects.{SaidValue}
-use Rattle.vk_audit.specs.Verdicts.{answer_said, judged_said, unread_said, verified_words}
-use Rattle.vk_audit.specs.Statuses.{AcceptsFiles, VerifiesExactly}
+use Rattle.vk_effect.specs.NamedFiles.{missing_said, too_long_said}
+use Rattle.vk_audit.specs.Answers.{TellsVerdicts, VerifyHolds}
+use Rattle.vk_audit.specs.Statuses.{AcceptsFiles, HasVerdict, VerifiesExactly}
+use Rattle.vk_audit.specs.Verdicts.{answer_said, judged_said, name_of, unread_said, verified_words}
+use Rattle.vk_audit.proofs.Inputs.{all_read, begun_unread, fault_of, first_unread, never_none, unread_found, unread_shown}
+use Rattle.vk_audit.proofs.Telling.{tells}
 
--- ---- the verdict
-
-abbrev judged_then : Rest → Rest → Rest → Result BoardVerdict VErr
-judged_then board challenge reply = Ok (verdict_by (judged board challenge reply))
-
-abbrev attempt_then : Files → VerifyWords → Rest → Result BoardVerdict VErr
-attempt_then files names board = attempt_begun files part.Challenge part.Reply names.attempt.challenge names.attempt.reply (judged_then board)
-
--- what is answered for these words
-abbrev answer_on : Files → VerifyWords → Result BoardVerdict VErr
-answer_on files names = verdict_on files names.board names.attempt.challenge names.attempt.reply
-
-accepted_shown : (files : Files) (names : VerifyWords) → answer_on files names ≡ Ok verdict.Accepted → AcceptsFiles files names
-unfolding verdict_on
-accepted_shown files names ok =
-    let board = begun_shown files names.board part.Board (attempt_then files names) verdict.Accepted ok in
-    let attempt = attempt_shown files part.Challenge part.Reply names.attempt.challenge names.attempt.reply (judged_then (from_start board.bytes)) verdict.Accepted board.goes_on in
-    let held = attempt.held in
-    record {
-      board = board.bytes;
-      board_is = board.is;
-      attempt = held;
-      accepts = (accepted_exactly board.bytes held.challenge_bytes held.reply_bytes).0 (value_same _ _ attempt.goes_on);
-    }
-
-accepted_found : (files : Files) (names : VerifyWords) → AcceptsFiles files names → answer_on files names ≡ Ok verdict.Accepted
-unfolding verdict_on
-accepted_found files names is =
-    begun_found files names.board is.board part.Board (attempt_then files names) is.board_is
-    ∙ (attempt_found files part.Challenge part.Reply names.attempt.challenge names.attempt.reply (judged_then (from_start is.board)) is.attempt
-    ∙ ap (λ v. Ok v) ((accepted_exactly is.board is.attempt.challenge_bytes is.attempt.reply_bytes).1 is.accepts))
-
--- ---- the status
+-- ---- verdicts
 
 -- only that a reply is accepted has a status below 4 other than 1
-pub status_accepted : (names : ExtractWords) (second : Bool) (answered : BoardVerdict) → (judged_said names second answered).status ≢ 1 → (judged_said names second answered).status < 4 → answered ≡ verdict.Accepted
+pub status_accepted : (names : ExtractWords) (second : Bool) (answered : BoardVerdict) → (judged_said names second answered).status ≢ 1
+    → (judged_said names second answered).status < 4 → answered ≡ verdict.Accepted
 status_accepted names second verdict.Accepted other small = refl
 status_accepted names second (verdict.Malformed file line) other small = absurd (omega arith)
 status_accepted names second verdict.Price other small = absurd (omega arith)
@@ -69,19 +46,87 @@ status_within names second verdict.Lanes = omega arith
 status_within names second (verdict.Wire lane wire fault) = omega arith
 status_within names second (verdict.Row lane row) = omega arith
 
--- what is said of an answer
-abbrev said_of_answer : VerifyWords → Result BoardVerdict VErr → SaidValue
-said_of_answer names answer = answer_said (judged_said (verified_words names) false) (unread_said (verified_words names)) answer
+-- ---- the answer
 
-answer_accepted : (names : VerifyWords) (answer : Result BoardVerdict VErr) → (said_of_answer names answer).status ≡ 0 → answer ≡ Ok verdict.Accepted
-answer_accepted names (Ok answered) zero_is = ap (λ v. Ok v) (status_accepted (verified_words names) false answered (λ one. omega arith) (omega arith))
-answer_accepted names (Err (Missing file)) zero_is = absurd (omega arith)
-answer_accepted names (Err (TooLong file)) zero_is = absurd (omega arith)
-answer_accepted names (Err Failed) zero_is = absurd (omega arith)
-answer_accepted names (Err NoMemory) zero_is = absurd (omega arith)
+module _ (files : Files) (names : VerifyWords) where
+  abbrev named : Part → List ℕ
+  named = name_of (verified_words names)
+
+  abbrev parts : List Part
+  parts = part.Board ∷ part.Challenge ∷ part.Reply ∷ []
+
+  abbrev answer : Result BoardVerdict VErr
+  answer = verdict_on files names.board names.attempt.challenge names.attempt.reply
+
+  abbrev reply_then : Rest → Rest → Result BoardVerdict VErr
+  reply_then board challenge = begun part.Reply (get files names.attempt.reply) >>= λ reply. Ok (verdict_by (judged board challenge reply))
+
+  abbrev challenge_then : Rest → Result BoardVerdict VErr
+  challenge_then board = begun part.Challenge (get files names.attempt.challenge) >>= reply_then board
+
+  answer_unread : (unread : Part × Bool) → first_unread files named parts ≡ Some unread → answer ≡ Err (fault_of unread)
+  unfolding verdict_on
+  answer_unread unread is =
+      begun_unread part.Board _ challenge_then unread (λ board rest.
+      begun_unread part.Challenge _ (reply_then board) unread (λ challenge rest.
+      begun_unread part.Reply None (λ reply. Ok (verdict_by (judged board challenge reply))) unread (λ reply none. absurd (never_none unread none))
+      (get files names.attempt.reply) rest) (get files names.attempt.challenge) rest) (get files names.board) is
+
+  answer_read : (board : List ℕ) → IsHeld files names.board board → (attempt : HeldAttempt files names.attempt.challenge names.attempt.reply)
+      → answer ≡ Ok (verdict_of board attempt.challenge_bytes attempt.reply_bytes)
+  unfolding verdict_on
+  answer_read board is attempt =
+      begun_found files names.board board part.Board challenge_then is
+      ∙ attempt_found files part.Challenge part.Reply names.attempt.challenge names.attempt.reply (λ challenge reply. Ok (verdict_by (judged
+      (from_start board) challenge reply))) attempt
+
+  answer_by : (unread : Option (Part × Bool)) → first_unread files named parts ≡ unread → VerifyHolds files names answer
+  answer_by (Some (part, true)) is = subst (VerifyHolds files names) (sym (answer_unread (part, true) is)) (unread_shown files named parts (part, true) is)
+  answer_by (Some (part, false)) is = subst (VerifyHolds files names) (sym (answer_unread (part, false) is)) (unread_shown files named parts (part, false) is)
+  answer_by None is =
+      let read = all_read files named parts is in
+      let attempt : HeldAttempt files names.attempt.challenge names.attempt.reply =
+      record { challenge_bytes = read.1.0.0; reply_bytes = read.1.1.0.0; challenge_is = read.1.0.1; reply_is = read.1.1.0.1 } in
+      subst (VerifyHolds files names) (sym (answer_read read.0.0 read.0.1 attempt))
+      (record { board = read.0.0; board_is = read.0.1; attempt = attempt; holds = verdict_holds read.0.0 attempt.challenge_bytes attempt.reply_bytes })
+
+  abbrev said_of : Result BoardVerdict VErr → SaidValue
+  said_of answered = answer_said (judged_said (verified_words names) false) (unread_said (verified_words names)) answered
+
+  answer_settled : (other : Result BoardVerdict VErr) → VerifyHolds files names other → said_of answer ≡ said_of other
+  answer_settled (Ok answered) holds =
+      ap said_of (answer_read holds.board holds.board_is holds.attempt
+      ∙ ap (λ v. Ok v) ((verdicts_exact answered holds.board holds.attempt.challenge_bytes holds.attempt.reply_bytes).1 holds.holds))
+  answer_settled (Err (Missing part)) holds =
+      let found = unread_found files named parts (named part) false holds in
+      ap said_of (answer_unread (found.0, false) found.1) ∙ ap missing_said found.2
+  answer_settled (Err (TooLong part)) holds =
+      let found = unread_found files named parts (named part) true holds in
+      ap said_of (answer_unread (found.0, true) found.1) ∙ ap too_long_said found.2
+  answer_settled (Err Failed) holds = absurd holds
+  answer_settled (Err NoMemory) holds = absurd holds
+
+  answer_holds : VerifyHolds files names answer
+  answer_holds = answer_by (first_unread files named parts) refl
+
+pub tells_verdicts : TellsVerdicts
+tells_verdicts files names taken =
+    tells (VerifyHolds files names) (λ _. Unit {0}) (said_of files names) (answer files names) taken
+    (answer_holds files names) (λ other settles holds. answer_settled files names other holds)
+
+-- ---- status 0
+
+only_accepted : (files : Files) (names : VerifyWords) (answered : Result BoardVerdict VErr) → VerifyHolds files names answered
+    → (said_of files names answered).status ≡ 0 → AcceptsFiles files names
+only_accepted files names (Ok answered) holds zero_is =
+    subst (HasVerdict files names) (status_accepted (verified_words names) false answered (λ one. omega arith) (omega arith)) holds
+only_accepted files names (Err (Missing file)) holds zero_is = absurd (omega arith)
+only_accepted files names (Err (TooLong file)) holds zero_is = absurd (omega arith)
+only_accepted files names (Err Failed) holds zero_is = absurd holds
+only_accepted files names (Err NoMemory) holds zero_is = absurd holds
 
 pub verifies_exactly : VerifiesExactly
 verifies_exactly files names = record {
-  only = λ zero_is. accepted_shown files names (answer_accepted names (answer_on files names) zero_is);
-  always = λ accepts _ _. ap (λ answer. (said_of_answer names answer).status) (accepted_found files names accepts);
+  only = λ zero_is. only_accepted files names (answer files names) (answer_holds files names) zero_is;
+  always = λ accepts _ _. ap (λ (said : SaidValue). said.status) (answer_settled files names (Ok verdict.Accepted) accepts);
 }

@@ -3,4 +3,7 @@ pub mod Extractions
 pub mod Confrontations
 pub mod Reports
 pub mod Audits
+pub mod Inputs
+pub mod Findings
 pub mod Statuses
+pub mod Answers

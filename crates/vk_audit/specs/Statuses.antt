@@ -5,11 +5,15 @@ use Rattle.vk_commit.specs.Commitment.{TwoOpeningsSeen}
 use Rattle.vk_seal.specs.declared.secret.Secret.{Secret}
 use Rattle.vk_seal.specs.Texts.{secret_text}
 use Rattle.vk_seal.specs.Values.{IsSecret}
-use Rattle.vk_verifier.specs.Acceptance.{Accepts}
+use Rattle.vk_verifier.specs.declared.answers.BoardVerdict.{BoardVerdict}
+use Rattle.vk_verifier.specs.declared.answers.BoardVerdict.TheVariants.{Accepted}
+use Rattle.vk_verifier.specs.Refusals.{VerdictHolds}
 use Rattle.vk_verifier.specs.TwoValues.{front_in}
 use Rattle.vk_bids.specs.declared.extraction.Extracted.{Extracted}
+use Rattle.vk_bids.specs.declared.extraction.Extraction.{Extraction}
+use Rattle.vk_bids.specs.declared.extraction.Extraction.TheVariants.{Same}
 use Rattle.vk_bids.specs.Texts.{clash_text, extraction_text}
-use Rattle.vk_bids.specs.Headline.{HeldAttempt, HeldFiles, IsHeld, TwoAccepted, SameAccepted, IsExtraction, IsExtractionClash, LaneAgrees, differing_in}
+use Rattle.vk_bids.specs.Headline.{HeldAttempt, IsHeld, TwoAccepted, IsExtraction, IsExtractionClash, LaneAgrees, differing_in}
 use Rattle.vk_bids.specs.Binding.{HoldsIn, IsClashWith, IsHeldBy, IsSealOf}
 use Rattle.vk_report.specs.declared.report.Report.{Report}
 use Rattle.vk_report.specs.Meaning.{IsReportOn}
@@ -18,17 +22,23 @@ use Rattle.vk_words.specs.Names.{VerifyWords, ExtractWords, ConfrontWords}
 use Rattle.vk_effect.specs.Effects.{puts}
 use Rattle.vk_audit.specs.Confrontations.{confront_said}
 use Rattle.vk_audit.specs.Extractions.{extract_said}
+use Rattle.vk_audit.specs.Findings.{ExtractionHolds}
+use Rattle.vk_audit.specs.Inputs.{HoldsFiles}
 use Rattle.vk_audit.specs.Reports.{report_said}
 use Rattle.vk_audit.specs.Verdicts.{verify_said}
 
 -- ---- `verify`
 
--- the named files are held, and the reply is accepted with the board and the challenge
-pub record AcceptsFiles (files : Files) (names : VerifyWords) : Type 0 where
+-- the named files are held, and the verdict holds of their bytes
+pub record HasVerdict (files : Files) (names : VerifyWords) (verdict : BoardVerdict) : Type 0 where
   pub board : List ℕ
   pub board_is : IsHeld files names.board board
   pub attempt : HeldAttempt files names.attempt.challenge names.attempt.reply
-  pub accepts : Accepts board attempt.challenge_bytes attempt.reply_bytes
+  pub holds : VerdictHolds verdict board attempt.challenge_bytes attempt.reply_bytes
+
+-- the reply is accepted with the board and the challenge
+abbrev pub AcceptsFiles : Files → VerifyWords → Type 0
+AcceptsFiles files names = HasVerdict files names Accepted
 
 -- status 0 comes only where the reply is accepted; and where it is, it comes at every end of the command
 pub record IsVerified (files : Files) (names : VerifyWords) (status : ℕ) : Type 0 where
@@ -37,19 +47,19 @@ pub record IsVerified (files : Files) (names : VerifyWords) (status : ℕ) : Typ
 
 -- ---- `extract`
 
--- the named files are held
-abbrev pub HoldsFiles : Files → ExtractWords → Type 0
-HoldsFiles files names = HeldFiles files names.board names.first.challenge names.first.reply names.second.challenge names.second.reply
-
 -- the named files are held, and both replies are accepted with the board, for challenges that differ
 pub record AcceptsTwoFiles (files : Files) (names : ExtractWords) : Type 0 where
   pub held : HoldsFiles files names
   pub two : TwoAccepted held.board_bytes held.first.challenge_bytes held.first.reply_bytes held.second.challenge_bytes held.second.reply_bytes
 
--- the same for challenges that don't differ
-pub record AcceptsSameFiles (files : Files) (names : ExtractWords) : Type 0 where
+-- they are held, and the extraction holds of their bytes
+pub record HasExtraction (files : Files) (names : ExtractWords) (extraction : Extraction) : Type 0 where
   pub held : HoldsFiles files names
-  pub two : SameAccepted held.board_bytes held.first.challenge_bytes held.first.reply_bytes held.second.challenge_bytes held.second.reply_bytes
+  pub holds : ExtractionHolds extraction held.board_bytes held.first.challenge_bytes held.first.reply_bytes held.second.challenge_bytes held.second.reply_bytes
+
+-- both replies are accepted, for challenges that don't differ
+abbrev pub AcceptsSameFiles : Files → ExtractWords → Type 0
+AcceptsSameFiles files names = HasExtraction files names Same
 
 -- status 7 comes only where the challenges don't differ; and where they don't, it comes at every end of the command
 pub record IsSame (files : Files) (names : ExtractWords) (status : ℕ) : Type 0 where

@@ -1,0 +1,79 @@
+-- What two replies to a board come to, and a secret against them, by the bytes of the files.
+use Rattle.std.specs.Prelude.{◌≡◌, ◌≢◌, ◌⊎◌, ℕ, false, true, List, Some}
+use Rattle.vk_lines.specs.Forms.{fault_line}
+use Rattle.vk_seal.specs.Tables.{secret_table}
+use Rattle.vk_seal.specs.Texts.{secret_text}
+use Rattle.vk_seal.specs.Values.{IsSecret}
+use Rattle.vk_seal.specs.declared.secret.Secret.{Secret}
+use Rattle.vk_verifier.specs.declared.answers.BoardVerdict.{BoardVerdict}
+use Rattle.vk_verifier.specs.declared.answers.BoardVerdict.TheVariants.{Accepted}
+use Rattle.vk_verifier.specs.Acceptance.{Accepts}
+use Rattle.vk_verifier.specs.Refusals.{VerdictHolds}
+use Rattle.vk_verifier.specs.Two.{as_second}
+use Rattle.vk_bids.specs.declared.extraction.Extracted.{Extracted}
+use Rattle.vk_bids.specs.declared.extraction.Extraction.{Extraction}
+use Rattle.vk_bids.specs.declared.extraction.Extraction.TheVariants.{Refused, Same, Clash, Bids}
+use Rattle.vk_bids.specs.declared.confrontation.Confrontation.{Confrontation}
+use Rattle.vk_bids.specs.declared.confrontation.Confrontation.TheVariants as comes
+use Rattle.vk_bids.specs.Headline.{IsExtraction, IsExtractionClash, SameAccepted, TwoAccepted}
+use Rattle.vk_bids.specs.Binding.{IsConfrontationOf}
+
+-- ---- two replies
+
+-- the verdict on this reply is another than that it is accepted, with the parts of the second reply
+pub record SecondFails (verdict : BoardVerdict) (board challenge reply : List ℕ) : Type 0 where
+  pub fault : BoardVerdict
+  pub refuses : fault ≢ Accepted
+  pub holds : VerdictHolds fault board challenge reply
+  pub verdict_is : verdict ≡ as_second fault
+
+-- the first reply is refused; or it is accepted, and the second is refused; or both are accepted, and the challenges
+-- are the same, one commitment is opened with two values, or there are the bids
+abbrev pub ExtractionHolds : Extraction → List ℕ → List ℕ → List ℕ → List ℕ → List ℕ → Type 0
+ExtractionHolds (Refused false verdict) board first_challenge first_reply second_challenge second_reply =
+    (verdict ≢ Accepted) × VerdictHolds verdict board first_challenge first_reply
+ExtractionHolds (Refused true verdict) board first_challenge first_reply second_challenge second_reply =
+    Accepts board first_challenge first_reply × SecondFails verdict board second_challenge second_reply
+ExtractionHolds Same board first_challenge first_reply second_challenge second_reply =
+    SameAccepted board first_challenge first_reply second_challenge second_reply
+ExtractionHolds (Clash clash) board first_challenge first_reply second_challenge second_reply =
+    (two : TwoAccepted board first_challenge first_reply second_challenge second_reply) × IsExtractionClash two clash
+ExtractionHolds (Bids found) board first_challenge first_reply second_challenge second_reply =
+    (two : TwoAccepted board first_challenge first_reply second_challenge second_reply) × IsExtraction two found
+
+-- ---- a secret against two replies
+
+-- the replies give bids, and the file has that fault line as a secret
+pub record SecretFails (board first_challenge first_reply second_challenge second_reply file : List ℕ) (line : ℕ) : Type 0 where
+  pub two : TwoAccepted board first_challenge first_reply second_challenge second_reply
+  pub found : Extracted
+  pub bids : IsExtraction two found
+  pub fault : fault_line secret_table file ≡ Some line
+
+-- the replies give bids, the file is the text of a secret, and against them it comes to this
+pub record SecretComes (board first_challenge first_reply second_challenge second_reply file : List ℕ) (confrontation : Confrontation) : Type 0 where
+  pub two : TwoAccepted board first_challenge first_reply second_challenge second_reply
+  pub found : Extracted
+  pub bids : IsExtraction two found
+  pub secret : Secret
+  pub right : IsSecret secret
+  pub text : file ≡ secret_text secret
+  pub comes : IsConfrontationOf secret found confrontation
+
+-- what the replies come to by themselves, but for bids; and against bids, what the secret's file does
+abbrev pub ConfrontationHolds : Confrontation → List ℕ → List ℕ → List ℕ → List ℕ → List ℕ → List ℕ → Type 0
+ConfrontationHolds (comes.Refused second verdict) board first_challenge first_reply second_challenge second_reply file =
+    ExtractionHolds (Refused second verdict) board first_challenge first_reply second_challenge second_reply
+ConfrontationHolds comes.Same board first_challenge first_reply second_challenge second_reply file =
+    ExtractionHolds Same board first_challenge first_reply second_challenge second_reply
+ConfrontationHolds (comes.Malformed line) board first_challenge first_reply second_challenge second_reply file =
+    SecretFails board first_challenge first_reply second_challenge second_reply file line
+ConfrontationHolds (comes.NoSeal seat) board first_challenge first_reply second_challenge second_reply file =
+    SecretComes board first_challenge first_reply second_challenge second_reply file (comes.NoSeal seat)
+ConfrontationHolds (comes.Mismatch mismatch) board first_challenge first_reply second_challenge second_reply file =
+    SecretComes board first_challenge first_reply second_challenge second_reply file (comes.Mismatch mismatch)
+ConfrontationHolds (comes.Clash clash) board first_challenge first_reply second_challenge second_reply file =
+    ExtractionHolds (Clash clash) board first_challenge first_reply second_challenge second_reply
+    ⊎ SecretComes board first_challenge first_reply second_challenge second_reply file (comes.Clash clash)
+ConfrontationHolds (comes.Held seat) board first_challenge first_reply second_challenge second_reply file =
+    SecretComes board first_challenge first_reply second_challenge second_reply file (comes.Held seat)
