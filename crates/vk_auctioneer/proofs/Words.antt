@@ -1,31 +1,28 @@
--- The id and the seed that stand in the words of a command have 16 and 32 bytes.
-use Rattle.std.proofs.Common.{◌≡◌, ℕ, Bool, true, false, if◌then◌else◌, List, length, Option, Some, None, IfSome, refl}
+-- The words of a command of the house are such that the house may be asked by them.
+use Rattle.std.proofs.Common.{◌≡◌, ℕ, ◌^◌, ◌<◌, ◌≤◌, nat_le, Bool, true, false, if◌then◌else◌, List, length, Option, Some, None, IfSome, refl, arith}
 use Rattle.std.specs.Prelude.{◌==◌, option_map}
 use Rattle.std.specs.Str.{bytes_eq}
+use Rattle.std.proofs.lemmas.Bool.{leb-true}
 use Rattle.vk_commit.specs.Values.{AreBytes}
-use Rattle.vk_lines.specs.Tokens.{◌>>=◌, hex_of, number_token}
+use Rattle.vk_lines.specs.Tokens.{◌>>=◌, hex_of, meets, number_token}
 use Rattle.vk_lines.proofs.Hexadecimal.{hex_of-some}
-use Rattle.vk_words.specs.declared.verb.Verb.{Verb}
-use Rattle.vk_words.specs.declared.verb.Verb.TheVariants as verbs
-use Rattle.vk_words.specs.Commands.{CommandWords, Seal, House, Verify, Extract, Confront, Report, Sample, Ceremony, command_by, command_words}
+use Rattle.vk_lines.proofs.Words.{decimal_token, meeting_token}
+use Rattle.vk_house.specs.Commands.{IsRoom}
+use Rattle.vk_words.specs.declared.table.Verb.{Verb}
+use Rattle.vk_words.specs.declared.table.Verb.TheVariants as verbs
+use Rattle.vk_words.specs.Commands.{CommandWords, Seal, House, Verify, Extract, Confront, Report, Sample, Ceremony, command_by, command_words, house_in, house_words}
 use Rattle.vk_words.specs.Names.{attempt_at, confront_in, extract_in, name_at, verify_in, word_at}
-use Rattle.vk_words.specs.Orders.{HouseWords, Announce, Submit, Prove, Answer, Show, house_by, house_on, id_at, if_other, seal_in, seed_at}
-use Rattle.vk_words.specs.Verbs.{verb_of, words_of}
+use Rattle.vk_words.specs.Orders.{HouseWords, Answer, house_by, house_on, id_at, if_other, seal_in, seed_at}
+use Rattle.vk_words.specs.Scripts.{leaves_name, script_words}
+use Rattle.vk_words.specs.Table.{row_of}
+use Rattle.vk_auctioneer.specs.Laws.{AreHouseWords}
 
--- the id of a command of the house has 16 bytes, and the seed 32
-abbrev pub HaveBytes : HouseWords → Type 0
-HaveBytes (Announce id width lanes) = AreBytes 16 id
-HaveBytes (Submit id seal secret) = AreBytes 16 id
-HaveBytes (Prove id seed board) = AreBytes 16 id × AreBytes 32 seed
-HaveBytes (Answer id challenge reply) = AreBytes 16 id
-HaveBytes (Show id) = AreBytes 16 id
-
--- and so of any command
+-- a command of the house has such words
 abbrev OfHouse : CommandWords → Type 0
-OfHouse (House order) = HaveBytes order
+OfHouse (House order) = AreHouseWords order
 OfHouse command = Unit {0}
 
-then_each : {A B : Type 0} (P : B → Type 0) (found : Option A) (f : A → Option B) → ((x : A) → found ≡ Some x → IfSome (f x) P) → IfSome (found >>= f) P
+pub then_each : {A B : Type 0} (P : B → Type 0) (found : Option A) (f : A → Option B) → ((x : A) → found ≡ Some x → IfSome (f x) P) → IfSome (found >>= f) P
 then_each P None f each = tt
 then_each P (Some x) f each = each x refl
 
@@ -43,14 +40,26 @@ other_each P name other given is =
 hex_bytes : (count : ℕ) (text bytes : List ℕ) → hex_of count text ≡ Some bytes → AreBytes count bytes
 hex_bytes count text bytes found = let is = hex_of-some count text bytes found in (is.0, is.1)
 
-house_each : (words : List (List ℕ)) (id : List ℕ) → AreBytes 16 id → (verb : Verb) → IfSome (house_on id verb words) HaveBytes
+number_within : (least most number : ℕ) (text : List ℕ) → most < 2 ^ 64 → number_token least most text ≡ Some number → (least ≤ number) × (number ≤ most)
+number_within least most number text fits found =
+    let shown = (meeting_token (λ n. nat_le least n) (decimal_token most fits)).shown text number found in
+    (leb-true least number shown.0.1, shown.0.0)
+
+room_of : (wide long : List ℕ) (width lanes : ℕ) → number_token 1 40 wide ≡ Some width → number_token 1 64 long ≡ Some lanes → IsRoom width lanes
+room_of wide long width lanes width_is lanes_are =
+    let widths = number_within 1 40 width wide (omega arith) width_is in
+    let counts = number_within 1 64 lanes long (omega arith) lanes_are in
+    record { some_width = widths.0; last_width = widths.1; some_lane = counts.0; few_lanes = counts.1 }
+
+house_each : (words : List (List ℕ)) (id : List ℕ) → AreBytes 16 id → (verb : Verb) → IfSome (house_on id verb words) AreHouseWords
 house_each words id is verbs.Announce =
-    then_each HaveBytes (number_token 1 40 (word_at words 2)) _ (λ width _. then_each HaveBytes (number_token 1 64 (word_at words 3)) _ (λ lanes _. is))
-house_each words id is verbs.Submit = then_each HaveBytes (name_at words 2) _ (λ seal _. then_each HaveBytes (name_at words 3) _ (λ secret _. is))
+    then_each AreHouseWords (number_token 1 40 (word_at words 2)) _
+    (λ width wide. then_each AreHouseWords (number_token 1 64 (word_at words 3)) _ (λ lanes long. (is, room_of (word_at words 2) (word_at words 3) width lanes wide long)))
+house_each words id is verbs.Submit = then_each AreHouseWords (name_at words 2) _ (λ seal _. then_each AreHouseWords (name_at words 3) _ (λ secret _. is))
 house_each words id is verbs.Prove =
-    then_each HaveBytes (seed_at words 2) _ (λ seed found. then_each HaveBytes (name_at words 3) _ (λ board _. (is, hex_bytes 32 (word_at words 2) seed found)))
+    then_each AreHouseWords (seed_at words 2) _ (λ seed found. then_each AreHouseWords (name_at words 3) _ (λ board _. (is, hex_bytes 32 (word_at words 2) seed found)))
 house_each words id is verbs.Answer =
-    then_each HaveBytes (attempt_at words 2) _ (λ attempt _. other_each HaveBytes attempt.challenge attempt.reply (Answer id attempt.challenge attempt.reply) is)
+    then_each AreHouseWords (attempt_at words 2) _ (λ attempt _. other_each AreHouseWords attempt.challenge attempt.reply (Answer id attempt.challenge attempt.reply) is)
 house_each words id is verbs.Show = is
 house_each words id is verbs.Seal = tt
 house_each words id is verbs.Verify = tt
@@ -60,10 +69,10 @@ house_each words id is verbs.Report = tt
 house_each words id is verbs.Sample = tt
 house_each words id is verbs.Ceremony = tt
 
-by_each : (verb : Verb) (words : List (List ℕ)) → IfSome (house_by verb words) HaveBytes
-by_each verb words = then_each HaveBytes (id_at words 1) _ (λ id found. house_each words id (hex_bytes 16 (word_at words 1) id found) verb)
+by_each : (verb : Verb) (words : List (List ℕ)) → IfSome (house_by verb words) AreHouseWords
+by_each verb words = then_each AreHouseWords (id_at words 1) _ (λ id found. house_each words id (hex_bytes 16 (word_at words 1) id found) verb)
 
-house_map : (found : Option HouseWords) → IfSome found HaveBytes → IfSome (option_map House found) OfHouse
+house_map : (found : Option HouseWords) → IfSome found AreHouseWords → IfSome (option_map House found) OfHouse
 house_map None each = tt
 house_map (Some order) each = each
 
@@ -87,8 +96,22 @@ where_each P false found each = tt
 
 words_each : (words : List (List ℕ)) → IfSome (command_words words) OfHouse
 unfolding command_words
-words_each words = then_each OfHouse (verb_of (word_at words 0)) _ (λ verb _. where_each OfHouse (length words == words_of verb) (command_by verb words) (command_each words verb))
+words_each words = then_each OfHouse (row_of (word_at words 0)) _ (λ row _. where_each OfHouse (length words == row.words) (command_by row.verb words) (command_each words row.verb))
 
 -- words of a command of the house
-pub house_bytes : (words : List (List ℕ)) (order : HouseWords) → command_words words ≡ Some (House order) → HaveBytes order
+pub house_bytes : (words : List (List ℕ)) (order : HouseWords) → command_words words ≡ Some (House order) → AreHouseWords order
 house_bytes words order is = rw is at (words_each words)
+
+-- and those of one in a script
+in_each : (command : CommandWords) → OfHouse command → IfSome (house_in command) AreHouseWords
+in_each (House order) each = each
+in_each command each = tt
+
+house_words_each : (words : List (List ℕ)) → IfSome (house_words words) AreHouseWords
+unfolding house_words
+house_words_each words = then_each AreHouseWords (command_words words) house_in (λ command found. in_each command (rw found at (words_each words)))
+
+pub script_each : (script : List ℕ) (words : List (List ℕ)) → IfSome (script_words script words) AreHouseWords
+unfolding script_words
+script_each script words =
+    then_each AreHouseWords (house_words words) (meets (leaves_name script)) (λ order found. where_each AreHouseWords (leaves_name script order) (Some order) (rw found at (house_words_each words)))

@@ -4,10 +4,8 @@ use Rattle.std.specs.FinMap.{get}
 use Rattle.vk_commit.specs.Values.{AreBytes}
 use Rattle.vk_io.specs.Files.{Files}
 use Rattle.vk_reply.specs.declared.challenge.Challenge.{Challenge}
-use Rattle.vk_reply.specs.Texts.{challenge_text}
 use Rattle.vk_keeper.specs.declared.auction.Auction.{Auction}
 use Rattle.vk_keeper.specs.Ledgers.{Ledger, IsLedger}
-use Rattle.vk_job.specs.Published.{reply_of}
 use Rattle.vk_house.specs.Commands.{Prove, Answer}
 use Rattle.vk_effect.specs.Effects.{Effect, SaidValue}
 use Rattle.vk_auctioneer.specs.Effects.{asked, board_file, if_read, prove_effect, reply_file}

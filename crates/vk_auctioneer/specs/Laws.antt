@@ -19,10 +19,22 @@ use Rattle.vk_keeper.specs.Joining.{first_of}
 use Rattle.vk_keeper.specs.Ledgers.{Ledger, IsLedger}
 use Rattle.vk_job.specs.Jobs.{IsProvedAuction}
 use Rattle.vk_job.specs.Published.{IsChallengeTo, board_of, reply_of}
+use Rattle.vk_house.specs.Commands.{IsRoom}
 use Rattle.vk_effect.specs.Effects.{Effect, SaidValue}
+use Rattle.vk_words.specs.Orders.{HouseWords, Announce, Submit, Prove, Answer, Show}
 use Rattle.vk_auctioneer.specs.Effects.{answer_effect, prove_effect}
 use Rattle.vk_effect.specs.NamedFiles.{malformed_said, missing_said, too_long_said}
 use Rattle.vk_auctioneer.specs.Inputs.{challenge_in, row_in}
+
+-- ---- what the words ask
+
+-- words by which the house may be asked: the id has 16 bytes and the seed 32, and an auction may have the width and the lanes
+abbrev pub AreHouseWords : HouseWords → Type 0
+AreHouseWords (Announce id width lanes) = AreBytes 16 id × IsRoom width lanes
+AreHouseWords (Submit id seal secret) = AreBytes 16 id
+AreHouseWords (Prove id seed board) = AreBytes 16 id × AreBytes 32 seed
+AreHouseWords (Answer id challenge reply) = AreBytes 16 id
+AreHouseWords (Show id) = AreBytes 16 id
 
 -- ---- what is read, by the texts and the tables of the forms
 

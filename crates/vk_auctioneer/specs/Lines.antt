@@ -13,6 +13,7 @@ use Rattle.vk_house.specs.declared.standing.PhaseName.TheVariants.{Taking, Prove
 use Rattle.vk_house.specs.declared.standing.Standing.{Standing}
 use Rattle.vk_house.specs.Commands.{HouseCommand, Submit, Answer, id_of}
 use Rattle.vk_house.specs.Replies.{HouseReply, Done, Position, Work, Stands, Refused}
+use Rattle.vk_effect.specs.Dry.{house_dry_line}
 use Rattle.vk_effect.specs.Effects.{SaidValue}
 use Rattle.vk_effect.specs.Texts.{◌+++◌, line_feed}
 
@@ -38,7 +39,7 @@ refusal_line seat (house.Mismatch mismatch) = codes "house mismatch " +++ mismat
 refusal_line seat house.NoSeals = codes "house no seals" +++ line_feed
 refusal_line seat (house.OtherSeed kept) = codes "house other seed kept " +++ hex_text kept +++ line_feed
 refusal_line seat (house.OtherChallenge kept) = codes "house other challenge kept " +++ bits_text kept.bits +++ line_feed
-refusal_line seat (house.DrySeed lane wire) = codes "house dry seed lane " +++ decimal lane +++ codes " wire " +++ decimal wire +++ line_feed
+refusal_line seat (house.DrySeed lane wire) = house_dry_line lane wire
 refusal_line seat house.KeeperFailed = []
 refusal_line seat house.NoMemory = []
 

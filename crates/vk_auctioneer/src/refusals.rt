@@ -9,7 +9,7 @@ ghost use Rattle.vk_auctioneer.specs.Answers.{IsReply};
 ghost use Rattle.vk_auctioneer.specs.Lines.{TakesNoMemory, phase_word, refusal_line, refused_said};
 
 use std::alloc::Global;
-use vk_effect::Said;
+use vk_effect::{Said, house_dry_line};
 use vk_house::{HouseErr, PhaseName};
 use vk_io::OutsideErr;
 use vk_reply::Challenge;
@@ -65,7 +65,7 @@ fn refusal_line(seat: u16, refusal: &HouseErr) -> ShortText
             .word("house other seed kept ")
             .hex(kept)
             .word("\n"),
-        HouseErr::DrySeed { lane, wire } => dry_line(*lane, *wire),
+        HouseErr::DrySeed { lane, wire } => house_dry_line(*lane, *wire),
         HouseErr::OtherChallenge { kept: _ } | HouseErr::KeeperFailed | HouseErr::NoMemory => {
             ShortText::new()
         }
@@ -91,18 +91,6 @@ fn length_line(kept: u32, given: u32) -> ShortText
         .number(u64::from(kept))
         .word(" given ")
         .number(u64::from(given))
-        .word("\n")
-}
-
-/// Of a seed that gives no tape for the wire.
-fn dry_line(lane: u32, wire: u32) -> ShortText
-    ensures { result ≡ refusal_line 0 (HouseErr.DrySeed lane wire) }
-{
-    ShortText::new()
-        .word("house dry seed lane ")
-        .number(u64::from(lane))
-        .word(" wire ")
-        .number(u64::from(wire))
         .word("\n")
 }
 

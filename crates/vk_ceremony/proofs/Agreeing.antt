@@ -18,6 +18,7 @@ use Rattle.vk_lines.proofs.Words.{fixed_line, join-fields_of, split_some}
 use Rattle.vk_words.specs.Commands.{command_words, house_words}
 use Rattle.vk_words.specs.Orders.{HouseWords}
 use Rattle.vk_words.specs.Scripts.{script_words}
+use Rattle.vk_words.specs.Table.{commands, row_of}
 use Rattle.vk_ceremony.specs.Scripts.{Order, Over, Script, ScriptLine, closes, heading, line_then, order_line, over_from, pieces, script_at, script_from, script_line, with_order}
 use Rattle.vk_ceremony.specs.Forms.{AreOrders, Commands, Ended, Heading, fault_by, is_apart, place_after, script_table, script_text}
 
@@ -157,11 +158,11 @@ fields_apart (b ∷ text) none =
 -- ---- a line that is a command
 
 no_words : (script : List ℕ) → script_words script [] ≡ None
-unfolding script_words house_words command_words
+unfolding script_words house_words command_words row_of commands
 no_words script = refl
 
 end_word : (script : List ℕ) → script_words script (codes "end" ∷ []) ≡ None
-unfolding script_words house_words command_words
+unfolding script_words house_words command_words row_of commands
 end_word script = refl
 
 some_is : {X : Type 0} (o : Option X) → IsSome o → (x : X) × (o ≡ Some x)

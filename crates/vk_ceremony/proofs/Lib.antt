@@ -2,6 +2,9 @@ mod Taking
 mod Writing
 mod Turning
 mod Leading
-mod Agreeing
+pub mod Agreeing
+pub mod Following
 mod Running
 pub mod Whole
+pub mod Performing
+pub mod Standing

@@ -3,3 +3,4 @@ pub mod Forms
 pub mod Ceremonies
 pub mod Turns
 pub mod Runs
+pub mod Acts
