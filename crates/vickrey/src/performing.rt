@@ -1,11 +1,16 @@
 //! What the words of a command line do, over a house, files and an output.
 
-ghost use Rattle.std.specs.Prelude.{◌≡◌, ◌≢◌, ◌⊎◌, IfSome, map, string_bytes};
+ghost use Rattle.std.specs.Prelude.{◌≡◌, ◌≢◌, ◌⊎◌, IfSome, Some, map, string_bytes};
 ghost use Rattle.std.specs.Process.{exit_status};
 ghost use Rattle.vk_io.specs.Faults.{Rose};
-ghost use Rattle.vk_words.specs.Commands.{AsksNoKeeper, command_words};
+ghost use Rattle.vk_io.specs.Files.{Told};
+ghost use Rattle.vk_house.specs.Once.{KeepsAnswers};
+ghost use Rattle.vk_words.specs.Commands.{AsksNoKeeper, Seal, command_words};
+ghost use Rattle.vk_words.specs.Orders.{SealWords};
 ghost use Rattle.vk_effect.specs.Effects.{outside, stores};
-ghost use Rattle.vk_app.specs.Commands.{DoesWork, work_on};
+ghost use Rattle.vk_app.specs.Commands.{DoesWork, StopsWork, work_on};
+ghost use Rattle.vk_app.specs.Promises.{Audits, Headline, HoldsCeremony, KeepsHouse, TellsUsage};
+ghost use Rattle.vk_app.specs.Sealing.{Seals};
 
 use crate::ending::{end, refuse, with_fault};
 use crate::house::House;
@@ -40,7 +45,8 @@ fn words_of<E: Env + AllocGlobal>(env: &E) -> Result<Vec<String>, NoMemory> {
     }
 }
 
-/// Does what the words say over the shelf and the keeper, prints to the sink, and ends with the status.
+/// Does what the words say over the shelf and the keeper, prints to the sink, and ends with the status. What `run` promises of
+/// its status holds of the program's.
 fn perform<R: Eprint + AllocGlobal, S: Shelf, K: Keeper + Drop, W: Sink>(
     rt: &R,
     words: &[String],
@@ -52,6 +58,23 @@ fn perform<R: Eprint + AllocGlobal, S: Shelf, K: Keeper + Drop, W: Sink>(
         (λ work. exit_status result ≢ 6 → exit_status result ≢ 9
         → DoesWork (exit_status result) work (outside (stores (S.held shelf.old) (K.ledger keeper.old)) (W.taken out.old))
         (outside (stores (S.held shelf.new) (K.ledger keeper.new)) (W.taken out.new))) }
+    ensures stopped { IfSome (work_on (S.held shelf.old) (K.ledger keeper.old) (map string_bytes words.now))
+        (λ work. (exit_status result ≡ 6) ⊎ (exit_status result ≡ 9)
+        → StopsWork work (outside (stores (S.held shelf.old) (K.ledger keeper.old)) (W.taken out.old))
+        (outside (stores (S.held shelf.new) (K.ledger keeper.new)) (W.taken out.new))) }
+    ensures headline { IfSome (S.held shelf.old) (λ files. Headline files (map string_bytes words.now) (exit_status result) (W.taken out.old) (W.taken out.new)) }
+    ensures audits { IfSome (S.held shelf.old) (λ files. Audits files (map string_bytes words.now) (exit_status result) (W.taken out.old) (W.taken out.new)) }
+    ensures seals { (order : SealWords) → command_words (map string_bytes words.now) ≡ Some (Seal order) → exit_status result ≢ 6 → exit_status result ≢ 9
+        → Seals order (S.held shelf.old) (S.held shelf.new) (exit_status result) (W.taken out.old) (W.taken out.new) }
+    ensures house { IfSome (S.held shelf.old) (λ files. IfSome (K.ledger keeper.old) (λ ledger.
+        KeepsHouse files ledger (map string_bytes words.now) (exit_status result) (S.held shelf.new) (K.ledger keeper.new) (W.taken out.old) (W.taken out.new))) }
+    ensures ceremony { IfSome (S.held shelf.old) (λ files. IfSome (K.ledger keeper.old) (λ ledger.
+        HoldsCeremony files ledger (map string_bytes words.now) (exit_status result) (S.held shelf.new) (K.ledger keeper.new) (W.taken out.old) (W.taken out.new))) }
+    ensures usage { IfSome (S.held shelf.old) (λ files. IfSome (K.ledger keeper.old) (λ ledger.
+        TellsUsage (map string_bytes words.now) (exit_status result) (W.taken out.old) (W.taken out.new))) }
+    ensures once { Told KeepsAnswers (K.ledger keeper.old) (K.ledger keeper.new) }
+    ensures keeper { AsksNoKeeper (command_words (map string_bytes words.now))
+        → (K.ledger keeper.new ≡ K.ledger keeper.old) × (K.Keeper.faults keeper.new ≡ K.Keeper.faults keeper.old) }
     ensures fault { exit_status result ≡ 6 → Rose (S.Shelf.faults shelf.old) (S.Shelf.faults shelf.new)
         ⊎ Rose (K.Keeper.faults keeper.old) (K.Keeper.faults keeper.new) ⊎ Rose (W.Sink.faults out.old) (W.Sink.faults out.new) }
     ensures no_fault { exit_status result ≢ 6 → (S.Shelf.faults shelf.new ≡ S.Shelf.faults shelf.old)

@@ -1,5 +1,5 @@
 -- What `answer` writes is accepted, and every challenge is answered.
-use Rattle.std.proofs.Common.{◌≡◌, ℕ, refl, sym, subst}
+use Rattle.std.proofs.Common.{◌≡◌, sym, subst}
 use Rattle.vk_reply.specs.Texts.{challenge_text}
 use Rattle.vk_job.specs.Published.{reply_of}
 use Rattle.vk_honest.proofs.Accepted.{answers_are_accepted}

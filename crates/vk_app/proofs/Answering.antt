@@ -1,83 +1,175 @@
--- What runs on one keeper answer for one auction.
-use Rattle.std.proofs.Common.{◌≡◌, ℕ, zero, suc, List, [], ◌∷◌, Option, Some, IfSome, refl, sym, ap, subst, ◌∙◌, arith}
+-- What runs on one keeper leave of one auction: one board, one challenge and one reply.
+use Rattle.std.proofs.Common.{◌≡◌, ℕ, zero, suc, List, [], ◌∷◌, Option, Some, None, IfSome, IsSomeAnd, refl, sym, ap, subst, ◌∙◌, arith}
 use Rattle.std.specs.Prelude.{Contains}
-use Rattle.std.specs.FinMap.{get, insert}
+use Rattle.std.specs.FinMap.{get}
 use Rattle.vk_io.proofs.Finite.{get_own}
 use Rattle.vk_reply.specs.declared.challenge.Challenge.{Challenge}
 use Rattle.vk_reply.specs.Texts.{challenge_text}
+use Rattle.vk_verifier.specs.Acceptance.{Accepts}
 use Rattle.vk_keeper.specs.declared.auction.Auction.{Auction}
 use Rattle.vk_keeper.specs.declared.auction.Phase.{Phase}
 use Rattle.vk_keeper.specs.declared.auction.Phase.TheVariants.{Taking, Proved, Answered}
-use Rattle.vk_keeper.specs.Auctions.{challenge_of}
-use Rattle.vk_keeper.specs.Ledgers.{Ledger}
-use Rattle.vk_job.specs.Published.{reply_of}
-use Rattle.vk_house.specs.Once.{KeepsAnswer, KeepsAnswers}
+use Rattle.vk_keeper.specs.declared.auction.SealRow.{SealRow}
+use Rattle.vk_keeper.specs.Auctions.{challenge_of, seed_of}
+use Rattle.vk_keeper.specs.Ledgers.{Ledger, IsLedger}
+use Rattle.vk_job.specs.Jobs.{plan_of, tape_of, values_of}
+use Rattle.vk_job.specs.Published.{board_of, head_of, lane_of, reply_of}
+use Rattle.vk_house.specs.Once.{KeepsAnswer, KeepsAnswers, KeepsSeed}
+use Rattle.vk_house.proofs.Fields.{auction_with}
 use Rattle.vk_house.proofs.Once.{keeps_on, keeps_same}
-use Rattle.vk_words.specs.Orders.{Answer}
-use Rattle.vk_app.specs.Auctions.{AreRuns, AsksHouse, IsRun, Run}
-use Rattle.vk_app.specs.Auctions as auctions
+use Rattle.vk_ceremony.specs.Acts.{HouseAct}
+use Rattle.vk_app.specs.Auctions.{Answers, AreRuns, IsActOf, IsRun, Proves, PublishesBoard, PublishesReply, Run, orders_of}
+use Rattle.vk_words.specs.Commands.{command_words}
+use Rattle.vk_app.proofs.Served.{served_found, served_keeps}
 
--- the auction that a run answered stands there still, and the files are of the challenge that it has answered
-record Gave (one : Run) (last : Ledger) (id given shown : List ℕ) : Type 0 where
+some_same : {X : Type 0} (x y : X) → ◌≡◌ {A = Option X} (Some x) (Some y) → x ≡ y
+some_same x y is = cc
+
+-- ---- the board of an auction
+
+-- it is that of its seed: no challenge is in it
+board_by : (id : List ℕ) (width lanes : ℕ) (phase : Phase) (seals : List SealRow) (seed : List ℕ) → seed_of phase ≡ Some seed
+    → board_of (auction_with id width lanes phase seals) ≡ board_of (auction_with id width lanes (Proved seed) seals)
+unfolding head_of lane_of plan_of values_of tape_of
+board_by id width lanes Taking seals seed is = cc
+board_by id width lanes (Proved kept) seals seed is = ap (λ s. board_of (auction_with id width lanes (Proved s) seals)) (some_same kept seed is)
+board_by id width lanes (Answered kept challenge) seals seed is = ap (λ s. board_of (auction_with id width lanes (Proved s) seals)) (some_same kept seed is)
+
+board_kept : (auction : Auction) (seed : List ℕ) (later : Auction) → seed_of auction.phase ≡ Some seed → KeepsSeed auction seed later → board_of later ≡ board_of auction
+board_kept auction seed later is keeps =
+    ap board_of keeps.same
+    ∙ board_by auction.id auction.width auction.lanes later.phase auction.seals seed keeps.seed
+    ∙ sym (board_by auction.id auction.width auction.lanes auction.phase auction.seals seed is)
+
+-- ---- what stands in the last ledger
+
+-- the auction of that id there, of which this is the board
+record Published (last : Ledger) (id published : List ℕ) : Type 0 where
+  auction : Auction
+  stands : get last id ≡ Some auction
+  board_is : published ≡ board_of auction
+
+-- the auction of that id there, which was given this challenge and has this reply
+record Replied (last : Ledger) (id given shown : List ℕ) : Type 0 where
   auction : Auction
   answered : Challenge
   stands : get last id ≡ Some auction
   answered_is : challenge_of auction.phase ≡ Some answered
   given_is : given ≡ challenge_text answered
   shown_is : shown ≡ reply_of auction answered
+  accepted : Accepts (board_of auction) (challenge_text answered) (reply_of auction answered)
 
-some_same : {X : Type 0} (x y : X) → ◌≡◌ {A = Option X} (Some x) (Some y) → x ≡ y
-some_same x y is = cc
+keeps_at : (old new : Ledger) (id : List ℕ) (auction : Auction) → KeepsAnswers old new → get old id ≡ Some auction → KeepsAnswer auction auction.phase (get new id)
+keeps_at old new id auction keeps stands = subst (λ found. IfSome found (λ (a : Auction). KeepsAnswer a a.phase (get new id))) stands (keeps id)
 
--- an auction that was answered stays
-stays_by : (auction : Auction) (answered : Challenge) (phase : Phase) (later : Option Auction) → challenge_of phase ≡ Some answered → KeepsAnswer auction phase later → later ≡ Some auction
-stays_by auction answered Taking later is keeps = cc
-stays_by auction answered (Proved seed) later is keeps = cc
-stays_by auction answered (Answered seed kept) later is keeps = keeps
+-- an auction that is proved keeps its board
+board_stays : (auction : Auction) (seed : List ℕ) (phase : Phase) (later : Option Auction) → seed_of phase ≡ Some seed → seed_of auction.phase ≡ Some seed → KeepsAnswer auction phase later
+    → IsSomeAnd later (λ last. board_of last ≡ board_of auction)
+board_stays auction seed Taking later is whole keeps = cc
+board_stays auction seed (Proved kept) None is whole keeps = absurd keeps
+board_stays auction seed (Proved kept) (Some last) is whole keeps = board_kept auction kept last (whole ∙ sym is) keeps
+board_stays auction seed (Answered kept challenge) later is whole keeps = subst (λ l. IsSomeAnd l (λ last. board_of last ≡ board_of auction)) (sym keeps) refl
 
-stays : (old new : Ledger) (id : List ℕ) (auction : Auction) (answered : Challenge) → KeepsAnswers old new → get old id ≡ Some auction → challenge_of auction.phase ≡ Some answered → get new id ≡ Some auction
-stays old new id auction answered keeps stands is =
-    stays_by auction answered auction.phase (get new id) is (subst (λ found. IfSome found (λ (a : Auction). KeepsAnswer a a.phase (get new id))) stands (keeps id))
+-- and one that was answered stays
+reply_stays : (auction : Auction) (answered : Challenge) (phase : Phase) (later : Option Auction) → challenge_of phase ≡ Some answered → KeepsAnswer auction phase later → later ≡ Some auction
+reply_stays auction answered Taking later is keeps = cc
+reply_stays auction answered (Proved seed) later is keeps = cc
+reply_stays auction answered (Answered seed kept) later is keeps = keeps
 
-run_gave : (one : Run) (last : Ledger) (id challenge reply given shown : List ℕ) → IsRun one → KeepsAnswers one.kept last → auctions.Answered one id challenge reply given shown → Gave one last id given shown
-run_gave one last id challenge reply given shown is keeps answered =
-    let asks : AsksHouse (Some one.files) (Some one.ledger) one.words one.files one.ledger (Answer id challenge reply) =
-    record { asks = record { files_are = refl; words_are = answered.words_are }; ledger_is = refl; right = is.right } in
-    let left = is.replies id challenge reply asks answered.done in
-    let wrote : one.left ≡ insert one.files reply (reply_of left.auction left.answered) = some_same one.left (insert one.files reply (reply_of left.auction left.answered)) left.written in
+published_by : (last : Ledger) (id published : List ℕ) (auction : Auction) (found : Option Auction) → get last id ≡ found → published ≡ board_of auction → IsSomeAnd found (λ later. board_of later ≡ board_of auction) → Published last id published
+published_by last id published auction None at is stays = absurd stays
+published_by last id published auction (Some later) at is stays = record { auction = later; stands = at; board_is = is ∙ sym stays }
+
+-- ---- acts
+
+-- what an act publishes, where all that is kept after it is kept until the last ledger
+record Lasts (act : HouseAct) (last : Ledger) : Type 0 where
+  boards : PublishesBoard act
+  replies : PublishesReply act
+  keeps : KeepsAnswers act.kept last
+
+proved_lasts : (act : HouseAct) (last : Ledger) (id published : List ℕ) → Lasts act last → Proves act id published → Published last id published
+proved_lasts act last id published lasts proves =
+    let left = lasts.boards id proves.seed proves.board proves.order_is proves.done in
+    published_by last id published left.auction (get last id) refl
+    (some_same published (board_of left.auction) (sym proves.published_is ∙ ap (λ files. get files proves.board) left.written ∙ get_own act.files proves.board (board_of left.auction)))
+    (board_stays left.auction proves.seed left.auction.phase (get last id) left.seed_is left.seed_is (keeps_at act.kept last id left.auction lasts.keeps left.stands))
+
+answered_lasts : (act : HouseAct) (last : Ledger) (id given shown : List ℕ) → Lasts act last → Answers act id given shown → Replied last id given shown
+answered_lasts act last id given shown lasts answers =
+    let left = lasts.replies id answers.challenge answers.reply answers.order_is answers.done in
     record {
       auction = left.auction;
       answered = left.answered;
-      stands = stays one.kept last id left.auction left.answered keeps left.stands left.answered_is;
+      stands = reply_stays left.auction left.answered left.auction.phase (get last id) left.answered_is (keeps_at act.kept last id left.auction lasts.keeps left.stands);
       answered_is = left.answered_is;
-      given_is = some_same given (challenge_text left.answered) (sym answered.given_is ∙ left.read);
+      given_is = some_same given (challenge_text left.answered) (sym answers.given_is ∙ left.read);
       shown_is = some_same shown (reply_of left.auction left.answered)
-          (sym answered.shown_is ∙ ap (λ files. get files reply) wrote ∙ get_own one.files reply (reply_of left.auction left.answered));
+          (sym answers.shown_is ∙ ap (λ files. get files answers.reply) left.written ∙ get_own act.files answers.reply (reply_of left.auction left.answered));
+      accepted = left.accepted;
     }
 
--- what stands after all runs keeps what was answered before them
-keep : (runs : List Run) (old new : Ledger) → AreRuns runs old new → KeepsAnswers old new
-keep [] old new is = subst (KeepsAnswers old) (sym is) (keeps_same old)
-keep (one ∷ later) old new (begins, is, rest) = keeps_on old one.kept new (subst (λ ledger. KeepsAnswers ledger one.kept) begins is.once) (keep later one.kept new rest)
+-- ---- runs
 
-gave : (runs : List Run) (old new : Ledger) (one : Run) (id challenge reply given shown : List ℕ) → AreRuns runs old new → Contains runs one → auctions.Answered one id challenge reply given shown → Gave one new id given shown
-gave [] old new one id challenge reply given shown are (k, below, at) answered = absurd (omega arith)
-gave (first ∷ later) old new one id challenge reply given shown (begins, is, rest) (zero, below, at) answered =
-    subst (λ r. IsRun r → KeepsAnswers r.kept new → Gave one new id given shown) (sym at)
-    (λ right keeps. run_gave one new id challenge reply given shown right keeps answered) is (keep later first.kept new rest)
-gave (first ∷ later) old new one id challenge reply given shown (begins, is, rest) (suc k, below, at) answered =
-    gave later first.kept new one id challenge reply given shown rest (k, omega arith, at) answered
+run_keeps : (one : Run) → IsRun one → KeepsAnswers one.ledger one.kept
+run_keeps one is = served_keeps (orders_of one.files (command_words one.words)) one.files one.ledger one.acts (Some one.left) one.kept is.performs
 
-pub same_answers : (runs : List Run) (old new : Ledger) (one other : Run) (id challenge reply given shown : List ℕ) (next_challenge next_reply next_given next_shown : List ℕ)
-    → AreRuns runs old new → Contains runs one → Contains runs other
-    → auctions.Answered one id challenge reply given shown → auctions.Answered other id next_challenge next_reply next_given next_shown
-    → (given ≡ next_given) × (shown ≡ next_shown)
-same_answers runs old new one other id challenge reply given shown next_challenge next_reply next_given next_shown are first second answered next =
-    let here = gave runs old new one id challenge reply given shown are first answered in
-    let there = gave runs old new other id next_challenge next_reply next_given next_shown are second next in
-    let auction : here.auction ≡ there.auction = some_same here.auction there.auction (sym here.stands ∙ there.stands) in
+run_lasts : (one : Run) (last : Ledger) (act : HouseAct) → IsRun one → IsLedger one.ledger → KeepsAnswers one.kept last → Contains one.acts act → Lasts act last
+run_lasts one last act is right keeps among = record {
+  boards = is.boards right act among;
+  replies = is.replies right act among;
+  keeps = keeps_on act.kept one.kept last (served_found one.words one.files one.ledger one.acts (Some one.left) (Some one.kept) one.kept act is.performs refl right among).keeps keeps;
+}
+
+runs_keep : (runs : List Run) (old new : Ledger) → AreRuns runs old new → KeepsAnswers old new
+runs_keep [] old new is = subst (KeepsAnswers old) (sym is) (keeps_same old)
+runs_keep (one ∷ later) old new (begins, is, rest) =
+    keeps_on old one.kept new
+    (subst (λ ledger. KeepsAnswers ledger one.kept) begins (run_keeps one is))
+    (runs_keep later one.kept new rest)
+
+lasts : (runs : List Run) (old new : Ledger) (one : Run) (act : HouseAct) → IsLedger old → AreRuns runs old new → Contains runs one → Contains one.acts act → Lasts act new
+lasts [] old new one act right are (k, below, at) among = absurd (omega arith)
+lasts (first ∷ later) old new one act right (begins, is, rest) (zero, below, at) among =
+    run_lasts one new act (subst IsRun at is) (subst (λ (r : Run). IsLedger r.ledger) at (subst IsLedger (sym begins) right))
+    (subst (λ (r : Run). KeepsAnswers r.kept new) at (runs_keep later first.kept new rest)) among
+lasts (first ∷ later) old new one act right (begins, is, rest) (suc k, below, at) among =
+    lasts later first.kept new one act (is.ledgers (subst IsLedger (sym begins) right)) rest (k, omega arith, at) among
+
+act_lasts : (runs : List Run) (old new : Ledger) (act : HouseAct) → IsLedger old → AreRuns runs old new → IsActOf runs act → Lasts act new
+act_lasts runs old new act right are of = lasts runs old new of.0 act right are of.1 of.2
+
+-- ---- the laws
+
+same_auction : (last : Ledger) (id : List ℕ) (one other : Auction) → get last id ≡ Some one → get last id ≡ Some other → one ≡ other
+same_auction last id one other here there = some_same one other (sym here ∙ there)
+
+pub boards_are_one : (runs : List Run) (old new : Ledger) (one other : HouseAct) (id published shown : List ℕ) → IsLedger old → AreRuns runs old new → IsActOf runs one → IsActOf runs other
+    → Proves one id published → Proves other id shown → published ≡ shown
+boards_are_one runs old new one other id published shown right are first second proves next =
+    let here = proved_lasts one new id published (act_lasts runs old new one right are first) proves in
+    let there = proved_lasts other new id shown (act_lasts runs old new other right are second) next in
+    here.board_is ∙ ap board_of (same_auction new id here.auction there.auction here.stands there.stands) ∙ sym there.board_is
+
+pub answers_are_one : (runs : List Run) (old new : Ledger) (one other : HouseAct) (id given shown next_given next_shown : List ℕ) → IsLedger old → AreRuns runs old new → IsActOf runs one → IsActOf runs other
+    → Answers one id given shown → Answers other id next_given next_shown → (given ≡ next_given) × (shown ≡ next_shown)
+answers_are_one runs old new one other id given shown next_given next_shown right are first second answers next =
+    let here = answered_lasts one new id given shown (act_lasts runs old new one right are first) answers in
+    let there = answered_lasts other new id next_given next_shown (act_lasts runs old new other right are second) next in
+    let auction = same_auction new id here.auction there.auction here.stands there.stands in
     let challenges : here.answered ≡ there.answered =
     some_same here.answered there.answered (sym here.answered_is ∙ ap (λ (a : Auction). challenge_of a.phase) auction ∙ there.answered_is) in (
       here.given_is ∙ ap challenge_text challenges ∙ sym there.given_is,
       here.shown_is ∙ ap (λ (a : Auction). reply_of a here.answered) auction ∙ ap (reply_of there.auction) challenges ∙ sym there.shown_is,
     )
+
+pub answers_are_accepted : (runs : List Run) (old new : Ledger) (one other : HouseAct) (id published given shown : List ℕ) → IsLedger old → AreRuns runs old new → IsActOf runs one → IsActOf runs other
+    → Proves one id published → Answers other id given shown → Accepts published given shown
+answers_are_accepted runs old new one other id published given shown right are first second proves answers =
+    let here = proved_lasts one new id published (act_lasts runs old new one right are first) proves in
+    let there = answered_lasts other new id given shown (act_lasts runs old new other right are second) answers in
+    let board : board_of there.auction ≡ published =
+    ap board_of (same_auction new id there.auction here.auction there.stands here.stands) ∙ sym here.board_is in
+    subst (λ b. Accepts b given shown) board
+    (subst (λ g. Accepts (board_of there.auction) g shown) (sym there.given_is)
+    (subst (Accepts (board_of there.auction) (challenge_text there.answered)) (sym there.shown_is) there.accepted))

@@ -1,55 +1,73 @@
--- What the status of a whole run means, of the words of an auditor's commands.
-use Rattle.std.proofs.Common.{◌≡◌, ◌≢◌, ℕ, List, Option, Some, sym, ap, subst, ◌∙◌}
-use Rattle.std.specs.Prelude.{IfSome, ◌⊎◌}
+-- What a whole run of an auditor's command says.
+use Rattle.std.proofs.Common.{◌≡◌, ℕ, List, Option, Some, None, IfSome, sym, subst}
+use Rattle.std.specs.Prelude.{◌⊎◌}
 use Rattle.vk_io.specs.Files.{Files}
 use Rattle.vk_keeper.specs.Ledgers.{Ledger}
 use Rattle.vk_words.specs.Commands.{CommandWords, Confront, Extract, Report, Verify, command_words}
-use Rattle.vk_words.specs.Names.{ConfrontWords, ExtractWords, VerifyWords}
-use Rattle.vk_effect.specs.Effects.{SaidValue, outside, puts, says, stores}
+use Rattle.vk_effect.specs.Effects.{Outside, SaidValue, outside, puts, says, stores}
 use Rattle.vk_effect.specs.Ends.{Done}
+use Rattle.vk_audit.specs.Answers.{TellsConfrontation, TellsExtraction, TellsReport, TellsVerdict}
 use Rattle.vk_audit.specs.Confrontations.{confront_said}
 use Rattle.vk_audit.specs.Extractions.{extract_said}
 use Rattle.vk_audit.specs.Reports.{report_said}
 use Rattle.vk_audit.specs.Verdicts.{verify_said}
 use Rattle.vk_audit.specs.Statuses.{AcceptsTwoFiles, BindsSecret, IsExtracted, IsReported, IsSame, IsVerified}
-use Rattle.vk_audit.proofs.Binding.{binds_exactly}
-use Rattle.vk_audit.proofs.Extracting.{extracts_exactly, tells_same_exactly}
-use Rattle.vk_audit.proofs.Reporting.{reports_exactly}
-use Rattle.vk_audit.proofs.Verifying.{verifies_exactly}
-use Rattle.vk_app.specs.Commands.{Asks, DoesWork, Work, work_of, work_on}
+use Rattle.vk_audit.proofs.Binding.{binds_exactly, tells_confrontations}
+use Rattle.vk_audit.proofs.Extracting.{extracts_exactly, tells_extractions, tells_same_exactly}
+use Rattle.vk_audit.proofs.Reporting.{reports_exactly, tells_reports}
+use Rattle.vk_audit.proofs.Verifying.{tells_verdicts, verifies_exactly}
+use Rattle.vk_app.specs.Commands.{DoesWork, Work, work_of, work_on}
+use Rattle.vk_app.specs.Promises.{Audits, Headline}
 
--- what the status means, by the files and the words
-pub record Means (held : Option Files) (words : List (List ℕ)) (status : ℕ) (old new : Option (List ℕ)) : Type 0 where
-  pub verified : (files : Files) (names : VerifyWords) → Asks held words files (Verify names) → IsVerified files names status
-  pub headline : (files : Files) (names : ExtractWords) → Asks held words files (Extract names) → (accepted : AcceptsTwoFiles files names) → status ≢ 6 → status ≢ 9 → IsExtracted accepted.two status old new
-  pub only : (files : Files) (names : ExtractWords) → Asks held words files (Extract names) → (status ≡ 0) ⊎ (status ≡ 3) → AcceptsTwoFiles files names
-  pub same : (files : Files) (names : ExtractWords) → Asks held words files (Extract names) → IsSame files names status
-  pub bound : (files : Files) (names : ConfrontWords) → Asks held words files (Confront names) → BindsSecret files names status old new
-  pub reported : (files : Files) (board : List ℕ) → Asks held words files (Report board) → IsReported files board status old new
+-- ---- at its end
 
--- the effect of the words is done
-module _ (held left : Option Files) (ledger after : Option Ledger) (words : List (List ℕ)) (status : ℕ) (old new : Option (List ℕ))
-    (ended : IfSome (work_on held ledger words) (λ work. DoesWork status work (outside (stores held ledger) old) (outside (stores left after) new))) where
-  abbrev IsDone : Work → Type 0
-  IsDone work = DoesWork status work (outside (stores held ledger) old) (outside (stores left after) new)
+module _ (files : Files) (ledger : Option Ledger) (words : List (List ℕ)) (status : ℕ) (old : Option (List ℕ)) (new : Outside)
+    (ended : IfSome (work_on (Some files) ledger words) (λ work. DoesWork status work (outside (stores (Some files) ledger) old) new)) where
+  abbrev EndsIt : Work → Type 0
+  EndsIt work = DoesWork status work (outside (stores (Some files) ledger) old) new
 
-  pub done_is : (files : Files) (command : CommandWords) → Asks held words files command → IfSome (work_of (Some files) ledger (Some command)) IsDone
-  done_is files command asks =
-      subst (λ found. IfSome found IsDone)
-      (ap (λ told. work_of told ledger (command_words words)) asks.files_are ∙ ap (λ found. work_of (Some files) ledger found) asks.words_are) ended
+  pub done_is : (command : CommandWords) → command_words words ≡ Some command → IfSome (work_of (Some files) ledger (Some command)) EndsIt
+  done_is command is = subst (λ found. IfSome (work_of (Some files) ledger found) EndsIt) is ended
 
   -- what holds of the status and the text that are said holds of the end
-  from_said : (said : SaidValue) (P : ℕ → Option (List ℕ) → Type 0) → Done status (says ledger said) (outside (stores held ledger) old) (outside (stores left after) new) → P said.status (puts said.text old) → P status new
+  from_said : (said : SaidValue) (P : ℕ → Option (List ℕ) → Type 0) → Done status (says ledger said) (outside (stores (Some files) ledger) old) new → P said.status (puts said.text old) → P status new.taken
   from_said said P done is = subst (λ text. P status text) (sym done.taken_is) (subst (λ n. P n (puts said.text old)) (sym done.status_is) is)
 
-  pub ended_means : Means held words status old new
-  ended_means = record {
-    verified = λ files names asks. from_said (verify_said files names) (λ n _. IsVerified files names n) (done_is files (Verify names) asks) (verifies_exactly files names);
-    headline = λ files names asks accepted _ _.
-        from_said (extract_said files names) (λ n text. IsExtracted accepted.two n old text) (done_is files (Extract names) asks) ((extracts_exactly files names old).0 accepted);
-    only = λ files names asks.
-        from_said (extract_said files names) (λ n _. (n ≡ 0) ⊎ (n ≡ 3) → AcceptsTwoFiles files names) (done_is files (Extract names) asks) (extracts_exactly files names old).1;
-    same = λ files names asks. from_said (extract_said files names) (λ n _. IsSame files names n) (done_is files (Extract names) asks) (tells_same_exactly files names);
-    bound = λ files names asks. from_said (confront_said files names) (λ n text. BindsSecret files names n old text) (done_is files (Confront names) asks) (binds_exactly files names old);
-    reported = λ files board asks. from_said (report_said files board) (λ n text. IsReported files board n old text) (done_is files (Report board) asks) (reports_exactly files board old);
+  pub ended_headline : Headline files words status old new.taken
+  ended_headline = record {
+    found = λ names is accepted _ _.
+        from_said (extract_said files names) (λ n text. IsExtracted accepted.two n old text) (done_is (Extract names) is) ((extracts_exactly files names old).0 accepted);
+    only = λ names is. from_said (extract_said files names) (λ n _. (n ≡ 0) ⊎ (n ≡ 3) → AcceptsTwoFiles files names) (done_is (Extract names) is) (extracts_exactly files names old).1;
   }
+
+  pub ended_audits : Audits files words status old new.taken
+  ended_audits = record {
+    verify = λ names is. record {
+      accepts = from_said (verify_said files names) (λ n _. IsVerified files names n) (done_is (Verify names) is) (verifies_exactly files names);
+      tells = λ _ _. from_said (verify_said files names) (λ n text. TellsVerdict files names n old text) (done_is (Verify names) is) (tells_verdicts files names old);
+    };
+    extract = λ names is. record {
+      same = from_said (extract_said files names) (λ n _. IsSame files names n) (done_is (Extract names) is) (tells_same_exactly files names);
+      tells = λ _ _. from_said (extract_said files names) (λ n text. TellsExtraction files names n old text) (done_is (Extract names) is) (tells_extractions files names old);
+    };
+    confront = λ names is. record {
+      binds = from_said (confront_said files names) (λ n text. BindsSecret files names n old text) (done_is (Confront names) is) (binds_exactly files names old);
+      tells = λ _ _. from_said (confront_said files names) (λ n text. TellsConfrontation files names n old text) (done_is (Confront names) is) (tells_confrontations files names old);
+    };
+    report = λ board is. record {
+      reports = from_said (report_said files board) (λ n text. IsReported files board n old text) (done_is (Report board) is) (reports_exactly files board old);
+      tells = λ _ _. from_said (report_said files board) (λ n text. TellsReport files board n old text) (done_is (Report board) is) (tells_reports files board old);
+    };
+  }
+
+-- ---- as far as the files are told
+
+pub told_headline : (held : Option Files) (ledger : Option Ledger) (words : List (List ℕ)) (status : ℕ) (old : Option (List ℕ)) (new : Outside)
+    → IfSome (work_on held ledger words) (λ work. DoesWork status work (outside (stores held ledger) old) new) → IfSome held (λ files. Headline files words status old new.taken)
+told_headline None ledger words status old new ended = tt
+told_headline (Some files) ledger words status old new ended = ended_headline files ledger words status old new ended
+
+pub told_audits : (held : Option Files) (ledger : Option Ledger) (words : List (List ℕ)) (status : ℕ) (old : Option (List ℕ)) (new : Outside)
+    → IfSome (work_on held ledger words) (λ work. DoesWork status work (outside (stores held ledger) old) new) → IfSome held (λ files. Audits files words status old new.taken)
+told_audits None ledger words status old new ended = tt
+told_audits (Some files) ledger words status old new ended = ended_audits files ledger words status old new ended

@@ -1,5 +1,8 @@
 pub mod Audited
 pub mod Ending
-pub mod Housed
+pub mod Served
+mod Sealing
+mod Statuses
+pub mod Kept
 pub mod Answering
 mod Accepted

@@ -1,13 +1,13 @@
 -- What a command does, where nothing outside fails and memory is given.
-use Rattle.std.specs.Prelude.{◌≡◌, ℕ, List, ◌++◌, codes, Option, Some, None, option_map, Result, Ok, Err}
+use Rattle.std.specs.Prelude.{ℕ, List, Option, Some, None, option_map, Result, Ok, Err}
 use Rattle.vk_io.specs.Files.{Files}
 use Rattle.vk_io.specs.declared.errors.OutsideErr.{OutsideErr}
 use Rattle.vk_io.specs.declared.errors.OutsideErr.TheVariants.{Failed}
 use Rattle.vk_keeper.specs.Ledgers.{Ledger}
 use Rattle.vk_words.specs.Commands.{CommandWords, Seal, House, Verify, Extract, Confront, Report, Sample, Ceremony, command_words}
+use Rattle.vk_words.specs.Usage.{usage_text}
 use Rattle.vk_effect.specs.Effects.{Effect, Outside, SaidValue, says}
 use Rattle.vk_effect.specs.Ends.{Ends}
-use Rattle.vk_effect.specs.Texts.{line_feed}
 use Rattle.vk_audit.specs.Audits.{AuditWords, audit_said}
 use Rattle.vk_audit.specs.Audits as audits
 use Rattle.vk_auctioneer.specs.Effects.{house_effect}
@@ -17,10 +17,6 @@ use Rattle.vk_sample.specs.Samples.{sample_on}
 use Rattle.vk_app.specs.Sealing.{seal_on}
 
 -- ---- words that are no command
-
--- the line that a command line of no form is answered with
-abbrev pub usage_text : List ℕ
-usage_text = codes "usage: vickrey seal|announce|submit|prove|answer|show|verify|extract|confront|report|sample|ceremony" ++ line_feed
 
 abbrev pub usage_said : SaidValue
 usage_said = record { status = 2; text = usage_text }
@@ -79,8 +75,3 @@ DoesWork status work old new = EndsWork (Ok status) work old new
 -- it was stopped, for whichever cause
 abbrev pub StopsWork : Work → Outside → Outside → Type 0
 StopsWork work old new = EndsWork (Err Failed) work old new
-
--- these files are told, and the words are this command
-pub record Asks (held : Option Files) (words : List (List ℕ)) (files : Files) (command : CommandWords) : Type 0 where
-  pub files_are : held ≡ Some files
-  pub words_are : command_words words ≡ Some command

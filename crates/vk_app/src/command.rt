@@ -1,22 +1,19 @@
 //! The top call.
 
-ghost use Rattle.std.specs.Prelude.{◌≡◌, ◌≢◌, ◌⊎◌, ℕ, List, Option, IfSome, IfOk, Some, map, option_map, string_bytes};
+ghost use Rattle.std.specs.Prelude.{◌≡◌, ◌≢◌, ◌⊎◌, Option, IfSome, IfOk, Some, map, option_map, string_bytes};
 ghost use Rattle.vk_io.specs.Faults.{Causes, Rose};
-ghost use Rattle.vk_io.specs.Files.{Files, Told};
+ghost use Rattle.vk_io.specs.Files.{Told};
 ghost use Rattle.vk_keeper.specs.Ledgers.{Ledger};
-ghost use Rattle.vk_words.specs.Commands.{AsksNoKeeper, Confront, Extract, IsCommand, Report, Verify, command_seen, command_words};
-ghost use Rattle.vk_words.specs.Orders.{Answer, HouseWords, Prove};
-ghost use Rattle.vk_words.specs.Names.{ConfrontWords, ExtractWords, VerifyWords};
+ghost use Rattle.vk_words.specs.Commands.{AsksNoKeeper, IsCommand, Seal, command_seen, command_words};
+ghost use Rattle.vk_words.specs.Orders.{SealWords};
 ghost use Rattle.vk_effect.specs.Effects.{IsEnd, outside, stores};
 ghost use Rattle.vk_effect.specs.Ends.{Acts, Ends};
-ghost use Rattle.vk_house.specs.Commands.{HouseCommand};
 ghost use Rattle.vk_house.specs.Once.{KeepsAnswers};
 ghost use Rattle.vk_effect.specs.Counts.{CausesThree, CausesTwo};
 ghost use Rattle.vk_audit.specs.Audits.{audit_seen};
-ghost use Rattle.vk_audit.specs.Statuses.{AcceptsTwoFiles, BindsSecret, IsExtracted, IsReported, IsSame, IsVerified};
-ghost use Rattle.vk_ceremony.specs.Runs.{asked_in};
-ghost use Rattle.vk_app.specs.Auctions.{AsksHouse, IsStep, LeavesBoard, LeavesReply};
-ghost use Rattle.vk_app.specs.Commands.{Asks, DoesWork, EndsWork, StopsWork, audit_on, command_effect, script_in, work_on};
+ghost use Rattle.vk_app.specs.Commands.{DoesWork, EndsWork, StopsWork, audit_on, command_effect, script_in, work_on};
+ghost use Rattle.vk_app.specs.Promises.{Audits, Headline, HoldsCeremony, KeepsHouse, TellsUsage};
+ghost use Rattle.vk_app.specs.Sealing.{Seals};
 
 use crate::seal::seal;
 use crate::usage::usage;
@@ -86,10 +83,7 @@ fn act<S: Shelf, K: Keeper + Drop>(
             let said = sample(alloc, shelf, number)?;
             Ok(said)
         }
-        Some(Command::Ceremony(_)) | None => {
-            let said = usage(alloc)?;
-            Ok(said)
-        }
+        Some(Command::Ceremony(_)) | None => Ok(usage()),
     }
 }
 
@@ -183,45 +177,29 @@ pub fn run<S: Shelf, K: Keeper + Drop, W: Sink>(
         → StopsWork work (outside (stores (S.held shelf.old) (K.ledger keeper.old)) (W.taken out.old))
         (outside (stores (S.held shelf.new) (K.ledger keeper.new)) (W.taken out.new))) }
 
-    // Status 0 of a `verify` is that the reply is accepted.
-    ensures verified { (files : Files) (names : VerifyWords) → Asks (S.held shelf.old) (map string_bytes words.now) files (Verify names)
-        → IsVerified files names result }
-
     // Of two replies that are accepted for different challenges, an `extract` puts the bids whose outcome
     // the board publishes, or two openings of one commitment; and it puts such of no others.
-    ensures headline { (files : Files) (names : ExtractWords) → Asks (S.held shelf.old) (map string_bytes words.now) files (Extract names)
-        → (accepted : AcceptsTwoFiles files names) → result ≢ 6 → result ≢ 9 → IsExtracted accepted.two result (W.taken out.old) (W.taken out.new) }
-    ensures only { (files : Files) (names : ExtractWords) → Asks (S.held shelf.old) (map string_bytes words.now) files (Extract names)
-        → (result ≡ 0) ⊎ (result ≡ 3) → AcceptsTwoFiles files names }
+    ensures headline { IfSome (S.held shelf.old) (λ files. Headline files (map string_bytes words.now) result (W.taken out.old) (W.taken out.new)) }
 
-    // Status 7 of an `extract` is that both are accepted and the challenges don't differ.
-    ensures same { (files : Files) (names : ExtractWords) → Asks (S.held shelf.old) (map string_bytes words.now) files (Extract names)
-        → IsSame files names result }
+    // What each status of `verify`, `extract`, `confront` and `report` means, by the bytes of the named files.
+    ensures audits { IfSome (S.held shelf.old) (λ files. Audits files (map string_bytes words.now) result (W.taken out.old) (W.taken out.new)) }
 
-    // Status 0 of a `confront` is that the secret has the board's seal of its seat, and that the replies open just
-    // its halves. Where the seal is the secret's and they open another, two openings of one commitment are put.
-    ensures bound { (files : Files) (names : ConfrontWords) → Asks (S.held shelf.old) (map string_bytes words.now) files (Confront names)
-        → BindsSecret files names result (W.taken out.old) (W.taken out.new) }
+    // What each status of `seal` means, and which files it leaves.
+    ensures seals { (order : SealWords) → command_words (map string_bytes words.now) ≡ Some (Seal order) → result ≢ 6 → result ≢ 9
+        → Seals order (S.held shelf.old) (S.held shelf.new) result (W.taken out.old) (W.taken out.new) }
 
-    // Status 0 of a `report` is that the file is a board whose price and winner may stand, and what it publishes is put.
-    ensures reported { (files : Files) (board : List ℕ) → Asks (S.held shelf.old) (map string_bytes words.now) files (Report board)
-        → IsReported files board result (W.taken out.old) (W.taken out.new) }
+    // Whatever the words and the status, the house does what it does command by command, in a ceremony too, also where that was
+    // stopped: each is a step of the house, a board is that of the auction that is kept, and a reply is accepted with it.
+    ensures house { IfSome (S.held shelf.old) (λ files. IfSome (K.ledger keeper.old) (λ ledger.
+        KeepsHouse files ledger (map string_bytes words.now) result (S.held shelf.new) (K.ledger keeper.new) (W.taken out.old) (W.taken out.new))) }
 
-    // A command of the house that ends leaves the ledger of the house's step, with the status of its reply.
-    ensures steps { (files : Files) (ledger : Ledger) (order : HouseWords) (command : HouseCommand)
-        → AsksHouse (S.held shelf.old) (K.ledger keeper.old) (map string_bytes words.now) files ledger order → asked_in files order ≡ Some command
-        → result ≢ 6 → result ≢ 9 → IsStep ledger command result (K.ledger keeper.new) }
+    // A ceremony that came to its end did all that its script says, one command after another.
+    ensures ceremony { IfSome (S.held shelf.old) (λ files. IfSome (K.ledger keeper.old) (λ ledger.
+        HoldsCeremony files ledger (map string_bytes words.now) result (S.held shelf.new) (K.ledger keeper.new) (W.taken out.old) (W.taken out.new))) }
 
-    // Status 0 of a `prove` leaves the board of the auction that is kept.
-    ensures boards { (files : Files) (ledger : Ledger) (id seed board : List ℕ)
-        → AsksHouse (S.held shelf.old) (K.ledger keeper.old) (map string_bytes words.now) files ledger (Prove id seed board)
-        → result ≡ 0 → LeavesBoard id seed board files (S.held shelf.new) (K.ledger keeper.new) }
-
-    // Status 0 of an `answer` leaves the reply of the auction that is kept, which is accepted with its board and the
-    // challenge of the named file.
-    ensures replies { (files : Files) (ledger : Ledger) (id challenge reply : List ℕ)
-        → AsksHouse (S.held shelf.old) (K.ledger keeper.old) (map string_bytes words.now) files ledger (Answer id challenge reply)
-        → result ≡ 0 → LeavesReply id challenge reply files (S.held shelf.new) (K.ledger keeper.new) }
+    // Status 2 is that the words are no command.
+    ensures usage { IfSome (S.held shelf.old) (λ files. IfSome (K.ledger keeper.old) (λ ledger.
+        TellsUsage (map string_bytes words.now) result (W.taken out.old) (W.taken out.new))) }
 
     // Whatever the words and the status, an auction that was answered is the same after, and one that was proved has its
     // seed and its seals.

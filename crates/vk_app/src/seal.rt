@@ -1,19 +1,20 @@
 //! `seal`: a bidder's secret and seal.
 
-ghost use Rattle.std.specs.Prelude.{◌≡◌, ◌≢◌, ◌∷◌, ◌++◌, [], Err, IfErr, IfOk, IfSome, IsErr, IsOk, Option, codes, decimal, string_bytes};
+ghost use Rattle.std.specs.Prelude.{◌≡◌, ◌≢◌, ◌∷◌, ◌++◌, [], Err, IfErr, IfOk, IfSome, IsErr, IsOk, Option, codes, string_bytes};
 ghost use Rattle.vk_io.specs.Faults.{Causes};
 ghost use Rattle.vk_io.specs.Writing.{texts_of, whole_files};
 ghost use Rattle.vk_seal.specs.Texts.{secret_text as text_of_secret, seal_text as text_of_seal};
 ghost use Rattle.vk_keeper.specs.Ledgers.{Ledger};
 ghost use Rattle.vk_words.specs.Orders.{IsSealOrder, seal_seen};
+ghost use Rattle.vk_effect.specs.Dry.{bidder_dry_line};
 ghost use Rattle.vk_effect.specs.Effects.{stores};
 ghost use Rattle.vk_effect.specs.Ends.{Acts};
-ghost use Rattle.vk_effect.specs.Texts.{◌+++◌, line_feed};
+ghost use Rattle.vk_effect.specs.Texts.{line_feed};
 ghost use Rattle.vk_app.specs.Sealing.{made_said, made_writes, refused_said, seal_made, seal_on, sealed_line};
 
 use std::alloc::Global;
 use vk_dice::ChaChaWords;
-use vk_effect::Said;
+use vk_effect::{Said, bidder_dry_line};
 use vk_io::{FileText, OutsideErr, Shelf, write_files};
 use vk_residue::NoMemory;
 use vk_seal::{Seal, SealErr, Secret, make_seal, seal_text, secret_text};
@@ -72,13 +73,9 @@ fn bid_too_large() -> Said
 
 /// What is said of a seed that gives no residue for the lane. Takes no memory.
 pub fn dry_seed(lane: u32) -> Said
-    ensures { result ≡ refused_said (codes "seal dry seed lane " +++ decimal lane +++ line_feed) }
+    ensures { result ≡ refused_said (bidder_dry_line lane) }
 {
-    let line = ShortText::new()
-        .word("seal dry seed lane ")
-        .number(u64::from(lane))
-        .word("\n");
-    Said::of_short(8, line)
+    Said::of_short(8, bidder_dry_line(lane))
 }
 
 /// What is said, and the files that are to be written before.

@@ -1,20 +1,14 @@
 //! What is answered to words that are no command.
 
-ghost use Rattle.std.specs.Prelude.{◌≡◌, IfOk};
+ghost use Rattle.std.specs.Prelude.{◌≡◌};
 ghost use Rattle.vk_app.specs.Commands.{usage_said};
 
-use std::alloc::Global;
 use vk_effect::Said;
-use vk_residue::NoMemory;
+use vk_words::usage_line;
 
-/// The line that says which commands there are.
-pub fn usage(alloc: Global) -> Result<Said, NoMemory>
-    ensures { IfOk result (λ said. said ≡ usage_said) }
+/// The line that says which commands there are. Takes no memory.
+pub fn usage() -> Said
+    ensures { result ≡ usage_said }
 {
-    let said = Said::of_line(
-        alloc,
-        2,
-        "usage: vickrey seal|announce|submit|prove|answer|show|verify|extract|confront|report|sample|ceremony\n",
-    )?;
-    Ok(said)
+    Said::of_short(2, usage_line())
 }

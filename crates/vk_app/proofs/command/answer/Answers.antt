@@ -1,6 +1,5 @@
 use Rattle.std.proofs.Common.{Ok, Err, refl}
-use Rattle.std.specs.Prelude.{option_map, string_bytes}
-use Rattle.std.specs.List.{flat_map}
+use Rattle.std.specs.Prelude.{option_map}
 use Rattle.std.proofs.lemmas.Result.{err_from_is_err_and}
 use Rattle.vk_io.specs.declared.errors.OutsideErr.{OutsideErr}
 use Rattle.vk_effect.specs.Effects.{outside, stores}

@@ -1,43 +1,52 @@
-use Rattle.std.proofs.Common.{map, string_bytes}
-use Rattle.vk_app.proofs.Audited.{Means, ended_means}
-use Rattle.vk_app.proofs.Housed.{Leaves, ended_leaves}
+use Rattle.std.proofs.Common.{map, refl, string_bytes, inl, inr}
+use Rattle.vk_io.specs.declared.errors.OutsideErr.TheVariants.{Failed, NoMemory}
+use Rattle.vk_effect.specs.Effects.{Outside, outside, stores}
+use Rattle.vk_app.proofs.Audited.{told_audits, told_headline}
+use Rattle.vk_app.proofs.Kept.{told_ceremony, told_house, told_seal, told_usage, unended_house}
 use Rattle.vk_app.proofs.command.run.Given.{Over}
 use Rattle.vk_app.proofs.command.run.Goals.{In-Ok}
 use Rattle.vk_app.proofs.command.run.Goals as goal
 
--- what the status means at the end of the command
-means : (g : Over) (c : In-Ok g) → Means (g.S.Shelf.held c.args.shelf.now) (map string_bytes c.args.words.now) c.in-Ok.status (g.W.Sink.taken c.args.out.now) (g.W.Sink.taken c.perform.new.out)
-means g c =
-    ended_means (g.S.Shelf.held c.args.shelf.now) (g.S.Shelf.held c.perform.new.shelf) (g.K.Keeper.ledger c.args.keeper.now) (g.K.Keeper.ledger c.perform.new.keeper)
-    (map string_bytes c.args.words.now) c.in-Ok.status (g.W.Sink.taken c.args.out.now) (g.W.Sink.taken c.perform.new.out) c.in-Ok.ensures.ends
-
-pub returns-in-Ok-clause-verified : goal.returns-in-Ok-clause-verified
-returns-in-Ok-clause-verified g c = (means g (goal.at.returns-in-Ok-clause-verified g c).In-Ok).verified
+-- what is outside afterwards
+abbrev after : (g : Over) (c : In-Ok g) → Outside
+after g c = outside (stores (g.S.Shelf.held c.perform.new.shelf) (g.K.Keeper.ledger c.perform.new.keeper)) (g.W.Sink.taken c.perform.new.out)
 
 pub returns-in-Ok-clause-headline : goal.returns-in-Ok-clause-headline
-returns-in-Ok-clause-headline g c = (means g (goal.at.returns-in-Ok-clause-headline g c).In-Ok).headline
+returns-in-Ok-clause-headline g c =
+    told_headline (g.S.Shelf.held c.args.shelf.now) (g.K.Keeper.ledger c.args.keeper.now) (map string_bytes c.args.words.now) c.in-Ok.status (g.W.Sink.taken c.args.out.now)
+    (after g (goal.at.returns-in-Ok-clause-headline g c).In-Ok) c.in-Ok.ensures.ends
 
-pub returns-in-Ok-clause-only : goal.returns-in-Ok-clause-only
-returns-in-Ok-clause-only g c = (means g (goal.at.returns-in-Ok-clause-only g c).In-Ok).only
+pub returns-in-Ok-clause-audits : goal.returns-in-Ok-clause-audits
+returns-in-Ok-clause-audits g c =
+    told_audits (g.S.Shelf.held c.args.shelf.now) (g.K.Keeper.ledger c.args.keeper.now) (map string_bytes c.args.words.now) c.in-Ok.status (g.W.Sink.taken c.args.out.now)
+    (after g (goal.at.returns-in-Ok-clause-audits g c).In-Ok) c.in-Ok.ensures.ends
 
-pub returns-in-Ok-clause-same : goal.returns-in-Ok-clause-same
-returns-in-Ok-clause-same g c = (means g (goal.at.returns-in-Ok-clause-same g c).In-Ok).same
+pub returns-in-Ok-clause-seals : goal.returns-in-Ok-clause-seals
+returns-in-Ok-clause-seals g c =
+    told_seal (g.S.Shelf.held c.args.shelf.now) (g.K.Keeper.ledger c.args.keeper.now) (map string_bytes c.args.words.now) c.in-Ok.status (g.W.Sink.taken c.args.out.now)
+    (after g (goal.at.returns-in-Ok-clause-seals g c).In-Ok) c.in-Ok.ensures.ends
 
-pub returns-in-Ok-clause-bound : goal.returns-in-Ok-clause-bound
-returns-in-Ok-clause-bound g c = (means g (goal.at.returns-in-Ok-clause-bound g c).In-Ok).bound
+pub returns-in-Ok-clause-house : goal.returns-in-Ok-clause-house
+returns-in-Ok-clause-house g c =
+    told_house (g.S.Shelf.held c.args.shelf.now) (g.K.Keeper.ledger c.args.keeper.now) (map string_bytes c.args.words.now) c.in-Ok.status (g.W.Sink.taken c.args.out.now)
+    (after g (goal.at.returns-in-Ok-clause-house g c).In-Ok) c.in-Ok.ensures.ends
 
-pub returns-in-Ok-clause-reported : goal.returns-in-Ok-clause-reported
-returns-in-Ok-clause-reported g c = (means g (goal.at.returns-in-Ok-clause-reported g c).In-Ok).reported
+pub returns-in-Ok-clause-ceremony : goal.returns-in-Ok-clause-ceremony
+returns-in-Ok-clause-ceremony g c =
+    told_ceremony (g.S.Shelf.held c.args.shelf.now) (g.K.Keeper.ledger c.args.keeper.now) (map string_bytes c.args.words.now) c.in-Ok.status (g.W.Sink.taken c.args.out.now)
+    (after g (goal.at.returns-in-Ok-clause-ceremony g c).In-Ok) c.in-Ok.ensures.ends
 
--- and what a command of the house leaves
-leaves : (g : Over) (c : In-Ok g) → Leaves (g.S.Shelf.held c.args.shelf.now) (g.K.Keeper.ledger c.args.keeper.now) (map string_bytes c.args.words.now) c.in-Ok.status (g.S.Shelf.held c.perform.new.shelf) (g.K.Keeper.ledger c.perform.new.keeper)
-leaves g c = ended_leaves _ _ _ _ _ _ (g.W.Sink.taken c.args.out.now) (g.W.Sink.taken c.perform.new.out) c.in-Ok.ensures.ends
+pub returns-in-Ok-clause-usage : goal.returns-in-Ok-clause-usage
+returns-in-Ok-clause-usage g c =
+    told_usage (g.S.Shelf.held c.args.shelf.now) (g.K.Keeper.ledger c.args.keeper.now) (map string_bytes c.args.words.now) c.in-Ok.status (g.W.Sink.taken c.args.out.now)
+    (after g (goal.at.returns-in-Ok-clause-usage g c).In-Ok) c.in-Ok.ensures.ends
 
-pub returns-in-Ok-clause-steps : goal.returns-in-Ok-clause-steps
-returns-in-Ok-clause-steps g c = λ files ledger order command asks is _ _. (leaves g (goal.at.returns-in-Ok-clause-steps g c).In-Ok).steps files ledger order command asks is
+pub returns-in-Err-Failed-clause-house : goal.returns-in-Err-Failed-clause-house
+returns-in-Err-Failed-clause-house g c =
+    unended_house (g.S.Shelf.held c.args.shelf.now) (g.K.Keeper.ledger c.args.keeper.now) (map string_bytes c.args.words.now) _ (g.W.Sink.taken c.args.out.now)
+    (outside (stores (g.S.Shelf.held c.perform.new.shelf) (g.K.Keeper.ledger c.perform.new.keeper)) (g.W.Sink.taken c.perform.new.out)) Failed (inl refl) c.in-Err-Failed.ensures.ends
 
-pub returns-in-Ok-clause-boards : goal.returns-in-Ok-clause-boards
-returns-in-Ok-clause-boards g c = (leaves g (goal.at.returns-in-Ok-clause-boards g c).In-Ok).boards
-
-pub returns-in-Ok-clause-replies : goal.returns-in-Ok-clause-replies
-returns-in-Ok-clause-replies g c = (leaves g (goal.at.returns-in-Ok-clause-replies g c).In-Ok).replies
+pub returns-in-Err-NoMemory-clause-house : goal.returns-in-Err-NoMemory-clause-house
+returns-in-Err-NoMemory-clause-house g c =
+    unended_house (g.S.Shelf.held c.args.shelf.now) (g.K.Keeper.ledger c.args.keeper.now) (map string_bytes c.args.words.now) _ (g.W.Sink.taken c.args.out.now)
+    (outside (stores (g.S.Shelf.held c.perform.new.shelf) (g.K.Keeper.ledger c.perform.new.keeper)) (g.W.Sink.taken c.perform.new.out)) NoMemory (inr refl) c.in-Err-NoMemory.ensures.ends

@@ -1,0 +1,180 @@
+-- What a whole run keeps of its promises on the house, on a ceremony, on a seal, and on words of no form.
+use Rattle.std.proofs.Common.{ap, sym, ◌∙◌, ◌≡◌, ◌≢◌, ℕ, List, Option, Some, None, IfSome, IsSomeAnd, Result, Ok, Err, refl, subst, inl, inr, ◌^◌, ◌<◌, length, if◌then◌else◌, Bool, true, false, [], ◌∷◌, ◌≤◌}
+use Rattle.std.specs.Prelude.{◌⊎◌, option_map, ◌||◌, option_and_then}
+use Rattle.vk_io.specs.Files.{Files}
+use Rattle.vk_io.specs.declared.errors.OutsideErr.{OutsideErr}
+use Rattle.vk_keeper.specs.Ledgers.{Ledger}
+use Rattle.vk_words.specs.Commands.{CommandWords, Seal, command_words}
+use Rattle.vk_words.specs.Orders.{SealWords, HouseWords}
+use Rattle.vk_effect.specs.Effects.{Outside, outside, says, stores, SaidValue, IsSaid, Effect, Stores, after}
+use Rattle.vk_effect.specs.Ends.{Done}
+use Rattle.vk_ceremony.specs.Ceremonies.{Ceremony, EndsAll, ceremony_on, ceremony_behind, closed, after_command, ceremony_from, closing_said, ended_by, goes_on, is_refusal, with_command}
+use Rattle.vk_ceremony.specs.Acts.{PerformsAll}
+use Rattle.vk_ceremony.specs.Runs.{orders_in}
+use Rattle.vk_ceremony.proofs.Performing.{ceremony_performs_all}
+use Rattle.vk_app.specs.Commands.{EndsWork, Script, usage_said, work_of, work_on}
+use Rattle.vk_app.specs.Promises.{CeremonyIsDone, HoldsCeremony, KeepsHouse, TellsUsage}
+use Rattle.vk_app.specs.Sealing.{Seals, seal_effect, seal_on}
+use Rattle.vk_app.proofs.Sealing.{seals}
+use Rattle.vk_app.proofs.Served.{command_done, serves}
+use Rattle.vk_app.proofs.Statuses.{no_command}
+use Rattle.std.specs.FinMap.{get}
+use Rattle.std.proofs.lemmas.Bool.{lt-ltb, le-ltb}
+use Rattle.vk_lines.specs.Gives.{◌>>=◌}
+use Rattle.vk_lines.specs.Lines.{Rest, line_by}
+use Rattle.vk_lines.specs.Tokens.{word_of}
+use Rattle.vk_effect.specs.NamedFiles.{missing_said, too_long_said}
+use Rattle.vk_auctioneer.specs.Inputs.{begun_in}
+use Rattle.vk_ceremony.specs.Scripts.{behind_heading, heading, script_begun, script_at}
+use Rattle.vk_lines.specs.Forms.{fault_line}
+use Rattle.vk_auctioneer.specs.Effects.{house_effect}
+use Rattle.vk_ceremony.specs.Forms.{fault_by, script_table}
+use Rattle.vk_ceremony.proofs.Agreeing.{script_fault}
+
+neither : (P : Type 0) (status : ℕ) → (status ≡ 6) ⊎ (status ≡ 9) → status ≢ 6 → status ≢ 9 → P
+neither P status (inl failed) no_fault no_want = absurd (no_fault failed)
+neither P status (inr wanting) no_fault no_want = absurd (no_want wanting)
+
+some_same : {X : Type 0} (x y : X) → ◌≡◌ {A = Option X} (Some x) (Some y) → x ≡ y
+some_same x y is = cc
+
+err_same : (x y : SaidValue) → ◌≡◌ {A = Result Rest SaidValue} (Err x) (Err y) → x ≡ y
+err_same x y is = cc
+
+long_begun : (script file : List ℕ) → 2 ^ 30 < length file → begun_in script (Some file) ≡ Err (too_long_said script)
+long_begun script file long = ap (λ b. if b then Err (too_long_said script) else Ok (record { taken = 0; left = file })) (lt-ltb (2 ^ 30) (length file) long)
+
+-- ---- what a ceremony says for its script
+
+-- it says it at its end, or a command ended it, and nothing more is said
+abbrev Closes : (Bool → SaidValue) → Ceremony → Type 0
+Closes closing whole = ((refused : Bool) × (whole.closing ≡ closing refused)) ⊎ (whole.closing.text ≡ [])
+
+goes_closing : (closing : Bool → SaidValue) (effect : Effect) (going : Bool) (later : Option Ceremony) → IfSome later (Closes closing) → IfSome (if going then option_map (with_command effect) later else Some (ended_by effect)) (Closes closing)
+goes_closing closing effect true None is = tt
+goes_closing closing effect true (Some later) is = is
+goes_closing closing effect false later is = inr refl
+
+then_closing : (closing : Bool → SaidValue) (found : Option Effect) (later : Effect → Option Ceremony) → ((effect : Effect) → IfSome (later effect) (Closes closing)) → IfSome (option_and_then (λ effect. after_command effect (later effect)) found) (Closes closing)
+then_closing closing None later each = tt
+then_closing closing (Some effect) later each = goes_closing closing effect (goes_on effect.status) (later effect) (each effect)
+
+closes_from : (closing : Bool → SaidValue) (refused : Bool) (orders : List HouseWords) (old : Stores) → IfSome (ceremony_from closing refused orders old) (Closes closing)
+closes_from closing refused [] old = inl (refused, refl)
+closes_from closing refused (order ∷ orders) old =
+    then_closing closing (house_effect old.files old.ledger order) (λ effect. ceremony_from closing (refused || is_refusal effect.status) orders (after effect old))
+    (λ effect. closes_from closing (refused || is_refusal effect.status) orders (after effect old))
+
+-- by what the first line is, and the fault line that follows from it
+closes_by : (script : List ℕ) (old : Stores) (read : Result (Unit × Rest) ℕ) → IfSome (ceremony_behind script old (behind_heading script read)) (Closes (closing_said script (fault_by script read)))
+closes_by script old (Ok read) = closes_from (closing_said script (script_at script read.1).fault) false (script_at script read.1).orders old
+closes_by script old (Err number) = inl (false, refl)
+
+short_begun : (script file : List ℕ) → length file ≤ 2 ^ 30 → begun_in script (Some file) ≡ Ok (record { taken = 0; left = file })
+short_begun script file short = ap (λ b. if b then Err (too_long_said script) else Ok (record { taken = 0; left = file })) (le-ltb (2 ^ 30) (length file) short)
+
+held_script : (files : Files) (script file : List ℕ) → get files script ≡ Some file → length file ≤ 2 ^ 30 → script_begun files script ≡ behind_heading script (line_by (word_of heading) (record { taken = 0; left = file }))
+unfolding script_begun
+held_script files script file is short = ap (λ begun. begun >>= λ rest. behind_heading script (line_by (word_of heading) rest)) (ap (begun_in script) is ∙ short_begun script file short)
+
+of_some : {X : Type 0} (P : X → Type 0) (found : Option X) (x : X) → found ≡ Some x → IfSome found P → P x
+of_some P found x is each = subst (λ f. IfSome f P) is each
+
+closes_so : (files : Files) (old : Stores) (script file : List ℕ) (whole : Ceremony) → get files script ≡ Some file → length file ≤ 2 ^ 30 → ceremony_behind script old (script_begun files script) ≡ Some whole
+    → Closes (closing_said script (fault_line (script_table script) file)) whole
+closes_so files old script file whole is short at =
+    let read = line_by (word_of heading) (record { taken = 0; left = file }) in
+    subst (λ fault. Closes (closing_said script fault) whole) (sym (script_fault script file))
+    (of_some (Closes (closing_said script (fault_by script read))) (ceremony_behind script old (behind_heading script read)) whole (ap (ceremony_behind script old) (sym (held_script files script file is short)) ∙ at) (closes_by script old read))
+
+module _ (files : Files) (ledger : Ledger) (words : List (List ℕ)) (status : ℕ) (old : Option (List ℕ)) (new : Outside) where
+  abbrev EndsSo : Result ℕ OutsideErr → Option CommandWords → Type 0
+  EndsSo result command = IfSome (work_of (Some files) (Some ledger) command) (λ work. EndsWork result work (outside (stores (Some files) (Some ledger)) old) new)
+
+  -- ---- at its end
+
+  pub ended_house : EndsSo (Ok status) (command_words words) → KeepsHouse files ledger words status new.files new.ledger old new.taken
+  ended_house ends = record {
+    serves = serves files ledger (Ok status) old new words ends;
+    command = λ order is _ _. command_done files ledger order status old new (subst (EndsSo (Ok status)) is ends);
+  }
+
+  -- a script that can't be read
+  closed_by : (script : List ℕ) (said : SaidValue) (begun : Result Rest SaidValue) (whole : Ceremony) → begun ≡ Err said → ceremony_behind script (stores (Some files) (Some ledger)) begun ≡ Some whole
+      → EndsAll (Ok status) whole (outside (stores (Some files) (Some ledger)) old) new → IsSaid said status old new.taken
+  closed_by script said (Ok rest) whole is at ends = cc
+  closed_by script said (Err other) whole is at ends =
+      let here : closed said ≡ whole = ap closed (sym (err_same other said is)) ∙ some_same (closed other) whole at in
+      let end : EndsAll (Ok status) (closed said) (outside (stores (Some files) (Some ledger)) old) new = subst (λ w. EndsAll (Ok status) w (outside (stores (Some files) (Some ledger)) old) new) (sym here) ends in
+      (end.0, ap (λ (left : Outside). left.taken) end.1)
+
+  unread_script : (script : List ℕ) (said : SaidValue) (file : Option (List ℕ)) → get files script ≡ file → begun_in script file ≡ Err said → script_begun files script ≡ Err said
+  unfolding script_begun
+  unread_script script said file is unread = ap (λ begun. begun >>= λ rest. behind_heading script (line_by (word_of heading) rest)) (ap (begun_in script) is ∙ unread)
+
+  held_by : (script : List ℕ) (found : Option Ceremony) → ceremony_on (Some files) (Some ledger) script ≡ found → IfSome (option_map Script found) (λ work. EndsWork (Ok status) work (outside (stores (Some files) (Some ledger)) old) new)
+      → IsSomeAnd found (λ whole. EndsAll (Ok status) whole (outside (stores (Some files) (Some ledger)) old) new → PerformsAll (orders_in files script) files ledger whole.closing.text old new)
+      → CeremonyIsDone script files ledger status new.files new.ledger old new.taken
+  held_by script None is ends performs = absurd performs
+  held_by script (Some whole) is ends performs = record {
+    whole = whole;
+    is = is;
+    status_is = ends.0;
+    acts = performs ends;
+    missing = λ none. closed_by script (missing_said script) (script_begun files script) whole (unread_script script (missing_said script) None none refl) is ends;
+    too_long = λ file held long. closed_by script (too_long_said script) (script_begun files script) whole (unread_script script (too_long_said script) (Some file) held (long_begun script file long)) is ends;
+    closing = λ file held short. closes_so files (stores (Some files) (Some ledger)) script file whole held short is;
+  }
+
+  pub ended_ceremony : EndsSo (Ok status) (command_words words) → HoldsCeremony files ledger words status new.files new.ledger old new.taken
+  ended_ceremony ends script is _ _ =
+      held_by script (ceremony_on (Some files) (Some ledger) script) refl (subst (EndsSo (Ok status)) is ends) (ceremony_performs_all files ledger script old status new)
+
+  pub ended_usage : EndsSo (Ok status) (command_words words) → TellsUsage words status old new.taken
+  ended_usage ends = record {
+    only = no_command files ledger status old new (command_words words) ends;
+    always = λ is _ _. (let done : Done status (says (Some ledger) usage_said) (outside (stores (Some files) (Some ledger)) old) new = subst (EndsSo (Ok status)) is ends in (done.status_is, done.taken_is));
+  }
+
+  -- ---- after a stop
+
+  pub stopped_house : (stop : OutsideErr) → EndsSo (Err stop) (command_words words) → (status ≡ 6) ⊎ (status ≡ 9) → KeepsHouse files ledger words status new.files new.ledger old new.taken
+  stopped_house stop ends is = record {
+    serves = serves files ledger (Err stop) old new words ends;
+    command = λ order asks. neither _ status is;
+  }
+
+-- ---- as far as it is told
+
+-- what follows where files and a ledger are told
+told_both : (P : Files → Ledger → Type 0) (Q : Option Files → Option Ledger → Type 0) → ((files : Files) (ledger : Ledger) → Q (Some files) (Some ledger) → P files ledger) → (held : Option Files) (ledger : Option Ledger) → Q held ledger
+    → IfSome held (λ files. IfSome ledger (λ kept. P files kept))
+told_both P Q each None ledger is = tt
+told_both P Q each (Some files) None is = tt
+told_both P Q each (Some files) (Some ledger) is = each files ledger is
+
+module _ (held : Option Files) (ledger : Option Ledger) (words : List (List ℕ)) (status : ℕ) (old : Option (List ℕ)) (new : Outside) where
+  abbrev Ends : Result ℕ OutsideErr → Option Files → Option Ledger → Type 0
+  Ends result files kept = IfSome (work_on files kept words) (λ work. EndsWork result work (outside (stores files kept) old) new)
+
+  pub told_house : Ends (Ok status) held ledger → IfSome held (λ files. IfSome ledger (λ kept. KeepsHouse files kept words status new.files new.ledger old new.taken))
+  told_house = told_both (λ files kept. KeepsHouse files kept words status new.files new.ledger old new.taken) (Ends (Ok status)) (λ files kept. ended_house files kept words status old new) held ledger
+
+  pub told_ceremony : Ends (Ok status) held ledger → IfSome held (λ files. IfSome ledger (λ kept. HoldsCeremony files kept words status new.files new.ledger old new.taken))
+  told_ceremony = told_both (λ files kept. HoldsCeremony files kept words status new.files new.ledger old new.taken) (Ends (Ok status)) (λ files kept. ended_ceremony files kept words status old new) held ledger
+
+  pub told_usage : Ends (Ok status) held ledger → IfSome held (λ files. IfSome ledger (λ kept. TellsUsage words status old new.taken))
+  told_usage = told_both (λ files kept. TellsUsage words status old new.taken) (Ends (Ok status)) (λ files kept. ended_usage files kept words status old new) held ledger
+
+  pub unended_house : (stop : OutsideErr) → (status ≡ 6) ⊎ (status ≡ 9) → Ends (Err stop) held ledger → IfSome held (λ files. IfSome ledger (λ kept. KeepsHouse files kept words status new.files new.ledger old new.taken))
+  unended_house stop is =
+      told_both (λ files kept. KeepsHouse files kept words status new.files new.ledger old new.taken) (Ends (Err stop)) (λ files kept ends. stopped_house files kept words status old new stop ends is) held ledger
+
+  sealed_by : (order : SealWords) → IfSome (work_of held ledger (Some (Seal order))) (λ work. EndsWork (Ok status) work (outside (stores held ledger) old) new) → Done status (seal_effect ledger order) (outside (stores held ledger) old) new
+  unfolding seal_on
+  sealed_by order ends = ends
+
+  pub told_seal : Ends (Ok status) held ledger → (order : SealWords) → command_words words ≡ Some (Seal order) → status ≢ 6 → status ≢ 9 → Seals order held new.files status old new.taken
+  told_seal ends order is _ _ =
+      seals order ledger held status old new
+      (sealed_by order (subst (λ found. IfSome (work_of held ledger found) (λ work. EndsWork (Ok status) work (outside (stores held ledger) old) new)) is ends))

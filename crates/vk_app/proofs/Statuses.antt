@@ -1,0 +1,303 @@
+-- No command but words of no form ends with status 2.
+use Rattle.std.proofs.Common.{◌≡◌, ℕ, Bool, true, false, List, [], ◌∷◌, length, Option, Some, None, IfSome, Result, Ok, Err, refl, sym, subst}
+use Rattle.std.specs.Prelude.{IsSomeAnd, ◌==◌, ◌^◌, ◌||◌, nat_lt, if◌then◌else◌, option_map, option_and_then, IfErr}
+use Rattle.std.specs.FinMap.{get}
+use Rattle.vk_io.specs.Files.{Files}
+use Rattle.vk_lines.specs.Gives.{◌>>=◌}
+use Rattle.vk_lines.specs.Lines.{Rest, line_by}
+use Rattle.vk_lines.specs.Tokens.{word_of}
+use Rattle.vk_reply.specs.Reading.{challenge_at}
+use Rattle.vk_seal.specs.Reading.{seal_at, secret_at}
+use Rattle.vk_verifier.specs.declared.answers.BoardVerdict.{BoardVerdict}
+use Rattle.vk_verifier.specs.declared.answers.BoardVerdict.TheVariants as verdicts
+use Rattle.vk_verifier.specs.declared.answers.VErr.{VErr}
+use Rattle.vk_verifier.specs.declared.answers.VErr.TheVariants as unread
+use Rattle.vk_verifier.specs.Verdicts.{verdict_on}
+use Rattle.vk_bids.specs.declared.confrontation.Confrontation.{Confrontation}
+use Rattle.vk_bids.specs.declared.confrontation.Confrontation.TheVariants as confrontations
+use Rattle.vk_bids.specs.declared.confrontation.ConfrontErr.{ConfrontErr}
+use Rattle.vk_bids.specs.declared.confrontation.ConfrontErr.TheVariants as unconfronted
+use Rattle.vk_bids.specs.declared.extraction.Extraction.{Extraction}
+use Rattle.vk_bids.specs.declared.extraction.Extraction.TheVariants as extractions
+use Rattle.vk_bids.specs.Extraction.{extraction_on}
+use Rattle.vk_report.specs.declared.report.ReportErr.{ReportErr}
+use Rattle.vk_report.specs.declared.report.ReportErr.TheVariants as unreported
+use Rattle.vk_report.specs.Reports.{report_on}
+use Rattle.vk_report.specs.Samples.{sample_of}
+use Rattle.vk_seal.specs.declared.making.SealErr.{SealErr}
+use Rattle.vk_seal.specs.declared.making.SealErr.TheVariants as unmade
+use Rattle.vk_seal.specs.declared.secret.Secret.{Secret}
+use Rattle.vk_seal.specs.declared.secret.Seal.{Seal as MadeSeal}
+use Rattle.vk_keeper.specs.Ledgers.{Ledger}
+use Rattle.vk_keeper.specs.declared.auction.Auction.{Auction}
+use Rattle.vk_keeper.specs.declared.auction.SealRow.{SealRow}
+use Rattle.vk_house.specs.Commands.{HouseCommand}
+use Rattle.vk_house.specs.Commands as house
+use Rattle.vk_house.specs.Replies.{HouseReply}
+use Rattle.vk_house.specs.Replies as replies
+use Rattle.vk_house.specs.Steps.{house_step}
+use Rattle.vk_words.specs.Commands.{CommandWords, Seal, House, Verify, Extract, Confront, Report, Sample, Ceremony}
+use Rattle.vk_words.specs.Names.{ConfrontWords, ExtractWords}
+use Rattle.vk_words.specs.Orders.{HouseWords, SealWords, Announce, Submit, Prove, Answer, Show}
+use Rattle.vk_effect.specs.Effects.{Effect, Outside, SaidValue, Stores, after, outside, stores}
+use Rattle.vk_effect.specs.Ends.{Ends}
+use Rattle.vk_audit.specs.Audits.{AuditWords, audit_said}
+use Rattle.vk_audit.specs.Audits as audits
+use Rattle.vk_audit.specs.Confrontations.{confrontation_in, confrontation_said, unconfronted_said}
+use Rattle.vk_audit.specs.Extractions.{extraction_said}
+use Rattle.vk_audit.specs.Reports.{unreported_said}
+use Rattle.vk_audit.specs.Verdicts.{answer_said, judged_said, unread_said, verified_words}
+use Rattle.vk_auctioneer.specs.Effects.{Writes, asked, board_file, house_effect, if_read, no_file, on_ledger, reply_file}
+use Rattle.vk_auctioneer.specs.Inputs.{begun_in, challenge_in, row_in, value_in}
+use Rattle.vk_auctioneer.specs.Lines.{reply_said}
+use Rattle.vk_ceremony.specs.Ceremonies as ceremonies
+use Rattle.vk_ceremony.specs.Ceremonies.{EndsAll, after_command, ceremony_behind, ceremony_from, ceremony_on, closing_said, ended_by, goes_on, is_refusal, with_command}
+use Rattle.vk_ceremony.specs.Scripts.{behind_heading, heading, script_at, script_begun}
+use Rattle.vk_ceremony.proofs.Following.{ceremony_follows, order_told}
+use Rattle.vk_sample.specs.Auctions.{DrySeed, auction_of}
+use Rattle.vk_sample.specs.Samples.{effect_by, sample_on}
+use Rattle.vk_effect.specs.NamedFiles.{too_long_said}
+use Rattle.vk_app.specs.Commands.{Command, EndsWork, Script, Work, audit_on, work_of}
+use Rattle.vk_app.specs.Sealing.{made_said, seal_made, seal_on}
+
+abbrev IsOther : ℕ → Type 0
+IsOther status = (status == 2) ≡ false
+
+abbrev SaysOther : SaidValue → Type 0
+SaysOther said = IsOther said.status
+
+-- ---- an auditor's command
+
+by_answer : {X E : Type 0} (of_value : X → SaidValue) (of_fault : E → SaidValue) (answer : Result X E) → ((x : X) → SaysOther (of_value x)) → ((e : E) → SaysOther (of_fault e)) → SaysOther (answer_said of_value of_fault answer)
+by_answer of_value of_fault (Ok x) values faults = values x
+by_answer of_value of_fault (Err e) values faults = faults e
+
+judged : (names : ExtractWords) (second : Bool) (verdict : BoardVerdict) → SaysOther (judged_said names second verdict)
+judged names second verdicts.Accepted = refl
+judged names second (verdicts.Malformed part line) = refl
+judged names second verdicts.Price = refl
+judged names second verdicts.Winner = refl
+judged names second verdicts.Lanes = refl
+judged names second (verdicts.Wire lane wire fault) = refl
+judged names second (verdicts.Row lane row) = refl
+
+unread_files : (names : ExtractWords) (fault : VErr) → SaysOther (unread_said names fault)
+unread_files names (unread.Missing part) = refl
+unread_files names (unread.TooLong part) = refl
+unread_files names unread.Failed = refl
+unread_files names unread.NoMemory = refl
+
+extracted : (names : ExtractWords) (extraction : Extraction) → SaysOther (extraction_said names extraction)
+extracted names (extractions.Refused second verdict) = judged names second verdict
+extracted names extractions.Same = refl
+extracted names (extractions.Clash two) = refl
+extracted names (extractions.Bids found) = refl
+
+confronted : (names : ConfrontWords) (confrontation : Confrontation) → SaysOther (confrontation_said names confrontation)
+confronted names (confrontations.Refused second verdict) = judged names.replies second verdict
+confronted names confrontations.Same = refl
+confronted names (confrontations.Malformed line) = refl
+confronted names (confrontations.NoSeal seat) = refl
+confronted names (confrontations.Mismatch mismatch) = refl
+confronted names (confrontations.Clash two) = refl
+confronted names (confrontations.Held seat) = refl
+
+unconfronted_files : (names : ConfrontWords) (fault : ConfrontErr) → SaysOther (unconfronted_said names fault)
+unconfronted_files names (unconfronted.Unread fault) = unread_files names.replies fault
+unconfronted_files names unconfronted.MissingSecret = refl
+unconfronted_files names unconfronted.TooLongSecret = refl
+
+unreported_file : (board : List ℕ) (fault : ReportErr) → SaysOther (unreported_said board fault)
+unreported_file board unreported.Missing = refl
+unreported_file board unreported.TooLong = refl
+unreported_file board (unreported.Malformed line) = refl
+unreported_file board unreported.Price = refl
+unreported_file board unreported.Winner = refl
+unreported_file board unreported.Failed = refl
+unreported_file board unreported.NoMemory = refl
+
+-- ---- a bidder's
+
+sealed : (order : SealWords) (made : Result (Secret × MadeSeal) SealErr) → SaysOther (made_said order made)
+sealed order (Ok made) = refl
+sealed order (Err unmade.BidTooLarge) = refl
+sealed order (Err (unmade.DrySeed lane)) = refl
+sealed order (Err unmade.NoMemory) = refl
+
+-- ---- a command of the house
+
+replied : (command : HouseCommand) (reply : HouseReply) → SaysOther (reply_said command reply)
+replied command replies.Done = refl
+replied command (replies.Position position) = refl
+replied command (replies.Work auction outcome) = refl
+replied command (replies.Stands standing) = refl
+replied command (replies.Refused refusal) = refl
+
+is_begun : (name : List ℕ) (file : Option (List ℕ)) → IfErr (begun_in name file) SaysOther
+is_begun name None = refl
+is_begun name (Some bytes) =
+    elim (nat_lt (2 ^ 30) (length bytes)) as (λ long. IfErr {T = Rest} (if long then Err (too_long_said name) else Ok (record { taken = 0; left = bytes })) SaysOther) [
+      | true ↦ refl
+      | false ↦ tt
+    ]
+
+is_value : {X : Type 0} (name : List ℕ) (read : Result (X × Rest) ℕ) → IfErr (value_in name read) SaysOther
+is_value name (Ok read) = tt
+is_value name (Err line) = refl
+
+then_said : {A B : Type 0} (found : Result A SaidValue) (f : A → Result B SaidValue) → IfErr found SaysOther → ((x : A) → IfErr (f x) SaysOther) → IfErr (found >>= f) SaysOther
+then_said (Ok x) f here later = later x
+then_said (Err said) f here later = here
+
+row_read : (files : Files) (seal secret : List ℕ) → IfErr (row_in files seal secret) SaysOther
+unfolding row_in
+row_read files seal secret =
+    then_said (begun_in seal (get files seal)) _ (is_begun seal (get files seal)) (λ seal_file.
+    then_said (begun_in secret (get files secret)) _ (is_begun secret (get files secret)) (λ secret_file.
+    then_said (value_in seal (seal_at seal_file)) _ (is_value seal (seal_at seal_file)) (λ made.
+    then_said (value_in secret (secret_at secret_file)) _ (is_value secret (secret_at secret_file)) (λ known. tt))))
+
+challenge_read : (files : Files) (name : List ℕ) → IfErr (challenge_in files name) SaysOther
+unfolding challenge_in
+challenge_read files name =
+    then_said (begun_in name (get files name)) _ (is_begun name (get files name)) (λ file.
+    then_said (value_in name (challenge_at file)) _ (is_value name (challenge_at file)) (λ challenge. tt))
+
+abbrev EndsOther : Effect → Type 0
+EndsOther effect = IsOther effect.status
+
+asks_read : {X : Type 0} (ledger : Ledger) (read : Result X SaidValue) (writes : X → HouseReply → Writes) (command : X → HouseCommand) → IfErr read SaysOther → EndsOther (if_read ledger (λ x. asked (writes x) ledger (command x)) read)
+asks_read ledger (Ok x) writes command is = replied (command x) (house_step ledger (command x)).0
+asks_read ledger (Err said) writes command is = is
+
+asks_house : (kept : Option Ledger) (writes : HouseReply → Writes) (command : HouseCommand) → IfSome (on_ledger (λ ledger. asked writes ledger command) kept) EndsOther
+asks_house None writes command = tt
+asks_house (Some ledger) writes command = replied command (house_step ledger command).0
+
+served : (held : Option Files) (kept : Option Ledger) (order : HouseWords) → IfSome (house_effect held kept order) EndsOther
+served held kept (Announce id width lanes) = asks_house kept no_file (house.Announce id width lanes)
+served held kept (Prove id seed board) = asks_house kept (board_file board) (house.Prove id seed)
+served held kept (Show id) = asks_house kept no_file (house.Show id)
+served None kept (Submit id seal secret) = tt
+served (Some files) None (Submit id seal secret) = tt
+served (Some files) (Some ledger) (Submit id seal secret) =
+    asks_read ledger (row_in files seal secret) (λ _. no_file) (λ (row : SealRow). house.Submit id row.seal row.secret) (row_read files seal secret)
+served None kept (Answer id challenge reply) = tt
+served (Some files) None (Answer id challenge reply) = tt
+served (Some files) (Some ledger) (Answer id challenge reply) =
+    asks_read ledger (challenge_in files challenge) (reply_file reply) (house.Answer id) (challenge_read files challenge)
+
+-- ---- a ceremony
+
+abbrev ClosesOther : ceremonies.Ceremony → Type 0
+ClosesOther whole = SaysOther whole.closing
+
+closes : (script : List ℕ) (fault : Option ℕ) (refused : Bool) → SaysOther (closing_said script fault refused)
+closes script None true = refl
+closes script None false = refl
+closes script (Some line) refused = refl
+
+goes : (effect : Effect) (going : Bool) (later : Option ceremonies.Ceremony) → EndsOther effect → IfSome later ClosesOther → IfSome (if going then option_map (with_command effect) later else Some (ended_by effect)) ClosesOther
+goes effect true None ends is = tt
+goes effect true (Some later) ends is = is
+goes effect false later ends is = ends
+
+then_reached : (found : Option Effect) (later : Effect → Option ceremonies.Ceremony) → IfSome found EndsOther → ((effect : Effect) → IfSome (later effect) ClosesOther) → IfSome (option_and_then (λ effect. after_command effect (later effect)) found) ClosesOther
+then_reached None later is each = tt
+then_reached (Some effect) later is each = goes effect (goes_on effect.status) (later effect) is (each effect)
+
+reached : (script : List ℕ) (fault : Option ℕ) (refused : Bool) (orders : List HouseWords) (old : Stores) → IfSome (ceremony_from (closing_said script fault) refused orders old) ClosesOther
+reached script fault refused [] old = closes script fault refused
+reached script fault refused (order ∷ orders) old =
+    then_reached (house_effect old.files old.ledger order) (λ effect. ceremony_from (closing_said script fault) (refused || is_refusal effect.status) orders (after effect old))
+    (served old.files old.ledger order) (λ effect. reached script fault (refused || is_refusal effect.status) orders (after effect old))
+
+behind : (script : List ℕ) (old : Stores) (rest : Result Rest SaidValue) → IfErr rest SaysOther → IfSome (ceremony_behind script old rest) ClosesOther
+behind script old (Ok rest) is = reached script (script_at script rest).fault false (script_at script rest).orders old
+behind script old (Err said) is = is
+
+is_headed : (script : List ℕ) (read : Result (Unit × Rest) ℕ) → IfErr (behind_heading script read) SaysOther
+is_headed script (Ok read) = tt
+is_headed script (Err line) = refl
+
+script_read : (files : Files) (script : List ℕ) → IfErr (script_begun files script) SaysOther
+unfolding script_begun
+script_read files script = then_said (begun_in script (get files script)) _ (is_begun script (get files script)) (λ file. is_headed script (line_by (word_of heading) file))
+
+held : (files : Option Files) (kept : Option Ledger) (script : List ℕ) → IfSome (ceremony_on files kept script) ClosesOther
+held None kept script = tt
+held (Some files) kept script = behind script (stores (Some files) kept) (script_begun files script) (script_read files script)
+
+-- ---- every command
+
+sampled : (files : Files) (kept : Option Ledger) (number : ℕ) (made : Result Auction DrySeed) → IsSomeAnd (effect_by (Some files) kept number (sample_of number) made) EndsOther
+sampled files kept number (Ok auction) = refl
+sampled files kept number (Err dry) = refl
+
+audited : (files : Files) (order : AuditWords) → SaysOther (audit_said files order)
+audited files (audits.Verify names) =
+    by_answer _ _ (verdict_on files names.board names.attempt.challenge names.attempt.reply) (judged (verified_words names) false) (unread_files (verified_words names))
+audited files (audits.Extract names) =
+    by_answer _ _ (extraction_on files names.board names.first.challenge names.first.reply names.second.challenge names.second.reply) (extracted names) (unread_files names)
+audited files (audits.Confront names) = by_answer _ _ (confrontation_in files names) (confronted names) (unconfronted_files names)
+audited files (audits.Report board) = by_answer _ _ (report_on files board) (λ report. refl) (unreported_file board)
+
+-- ---- no end with that status
+
+-- an end of what is told has another status
+two_told : {X : Type 0} (Ends : X → Type 0) (status_of : X → ℕ) (found : Option X) (status : ℕ) → IsSomeAnd found (λ x. IsOther (status_of x)) → IfSome found Ends → ((x : X) → Ends x → status ≡ status_of x) → status ≡ 2 → ⊥
+two_told Ends status_of None status told ends is two = absurd told
+two_told Ends status_of (Some x) status told ends is two = absurd (cc (told, is x ends, two))
+
+told_other : {X : Type 0} (P Q : X → Type 0) (found : Option X) → IsSomeAnd found Q → IfSome found P → IsSomeAnd found P
+told_other P Q None told each = absurd told
+told_other P Q (Some x) told each = each
+
+module _ (files : Files) (ledger : Ledger) (status : ℕ) (old : Option (List ℕ)) (new : Outside) where
+  abbrev before : Outside
+  before = outside (stores (Some files) (Some ledger)) old
+
+  abbrev EndsThis : Work → Type 0
+  EndsThis work = EndsWork (Ok status) work before new
+
+  by_command : (found : Option Effect) → IfSome (option_map Command found) EndsThis → IfSome found (λ effect. Ends (Ok status) effect before new)
+  by_command None ends = tt
+  by_command (Some effect) ends = ends
+
+  by_script : (found : Option ceremonies.Ceremony) → IfSome (option_map Script found) EndsThis → IfSome found (λ whole. EndsAll (Ok status) whole before new)
+  by_script None ends = tt
+  by_script (Some whole) ends = ends
+
+  command_other : (found : Option Effect) → IsSomeAnd found EndsOther → IfSome (option_map Command found) EndsThis → status ≡ 2 → ⊥
+  command_other found told ends = two_told (λ effect. Ends (Ok status) effect before new) (λ effect. effect.status) found status told (by_command found ends) (λ effect done. done.status_is)
+
+  script_other : (found : Option ceremonies.Ceremony) → IsSomeAnd found ClosesOther → IfSome (option_map Script found) EndsThis → status ≡ 2 → ⊥
+  script_other found told ends = two_told (λ whole. EndsAll (Ok status) whole before new) (λ whole. whole.closing.status) found status told (by_script found ends) (λ whole done. done.0)
+
+  sealed_told : (order : SealWords) → IsSomeAnd (seal_on (Some ledger) order) EndsOther
+  unfolding seal_on
+  sealed_told order = sealed order (seal_made order)
+
+  sampled_told : (number : ℕ) → IsSomeAnd (sample_on (Some files) (Some ledger) number) EndsOther
+  unfolding sample_on
+  sampled_told number = sampled files (Some ledger) number (auction_of (sample_of number))
+
+  order_is_told : (order : HouseWords) → IsSomeAnd (house_effect (Some files) (Some ledger) order) EndsOther
+  order_is_told order =
+      let told = order_told files ledger order in
+      subst (λ found. IsSomeAnd found EndsOther) (sym told.1) (subst (λ found. IfSome found EndsOther) told.1 (served (Some files) (Some ledger) order))
+
+  script_is_told : (script : List ℕ) → IsSomeAnd (ceremony_on (Some files) (Some ledger) script) ClosesOther
+  script_is_told script =
+      told_other ClosesOther _ (ceremony_on (Some files) (Some ledger) script) (ceremony_follows files ledger script) (held (Some files) (Some ledger) script)
+
+  pub no_command : (command : Option CommandWords) → IfSome (work_of (Some files) (Some ledger) command) EndsThis → status ≡ 2 → command ≡ None
+  no_command None ends two = refl
+  no_command (Some (Seal order)) ends two = absurd (command_other (seal_on (Some ledger) order) (sealed_told order) ends two)
+  no_command (Some (House order)) ends two = absurd (command_other (house_effect (Some files) (Some ledger) order) (order_is_told order) ends two)
+  no_command (Some (Verify names)) ends two = absurd (command_other (audit_on (Some files) (Some ledger) (audits.Verify names)) (audited files (audits.Verify names)) ends two)
+  no_command (Some (Extract names)) ends two = absurd (command_other (audit_on (Some files) (Some ledger) (audits.Extract names)) (audited files (audits.Extract names)) ends two)
+  no_command (Some (Confront names)) ends two = absurd (command_other (audit_on (Some files) (Some ledger) (audits.Confront names)) (audited files (audits.Confront names)) ends two)
+  no_command (Some (Report board)) ends two = absurd (command_other (audit_on (Some files) (Some ledger) (audits.Report board)) (audited files (audits.Report board)) ends two)
+  no_command (Some (Sample number)) ends two = absurd (command_other (sample_on (Some files) (Some ledger) number) (sampled_told number) ends two)
+  no_command (Some (Ceremony script)) ends two = absurd (script_other (ceremony_on (Some files) (Some ledger) script) (script_is_told script) ends two)

@@ -1,0 +1,98 @@
+-- What `run` promises, one record for each family of commands, over files and a ledger that are told.
+use Rattle.std.specs.Prelude.{◌≡◌, ◌≢◌, ◌⊎◌, ℕ, ◌^◌, ◌<◌, ◌≤◌, Bool, List, [], length, Option, Some, None}
+use Rattle.std.specs.FinMap.{get}
+use Rattle.vk_io.specs.Files.{Files}
+use Rattle.vk_keeper.specs.Ledgers.{Ledger}
+use Rattle.vk_words.specs.Commands.{Confront, Extract, House, Report, Verify, command_words}
+use Rattle.vk_words.specs.Commands as commands
+use Rattle.vk_words.specs.Names.{ConfrontWords, ExtractWords, VerifyWords}
+use Rattle.vk_words.specs.Orders.{HouseWords}
+use Rattle.vk_effect.specs.Effects.{IsSaid, outside, stores}
+use Rattle.vk_effect.specs.NamedFiles.{missing_said, too_long_said}
+use Rattle.vk_audit.specs.Answers.{TellsConfrontation, TellsExtraction, TellsReport, TellsVerdict}
+use Rattle.vk_audit.specs.Statuses.{AcceptsTwoFiles, BindsSecret, IsExtracted, IsReported, IsSame, IsVerified}
+use Rattle.vk_ceremony.specs.Acts.{PerformsAll}
+use Rattle.vk_lines.specs.Forms.{fault_line}
+use Rattle.vk_ceremony.specs.Ceremonies.{Ceremony, ceremony_on, closing_said}
+use Rattle.vk_ceremony.specs.Forms.{script_table}
+use Rattle.vk_ceremony.specs.Runs.{orders_in}
+use Rattle.vk_app.specs.Auctions.{CommandIsDone, Serves}
+use Rattle.vk_app.specs.Commands.{usage_said}
+
+-- ---- the headline
+
+-- of two replies that are accepted with one board for different challenges, `extract` puts the bids of each lane whose bits
+-- differ: they are below 2^width, open the lane's seals, and have the Vickrey outcome that the board publishes. Or it puts two
+-- openings of one commitment. It puts such of no others
+pub record Headline (files : Files) (words : List (List ℕ)) (status : ℕ) (old new : Option (List ℕ)) : Type 0 where
+  pub found : (names : ExtractWords) → command_words words ≡ Some (Extract names) → (accepted : AcceptsTwoFiles files names)
+      → status ≢ 6 → status ≢ 9 → IsExtracted accepted.two status old new
+  pub only : (names : ExtractWords) → command_words words ≡ Some (Extract names) → (status ≡ 0) ⊎ (status ≡ 3) → AcceptsTwoFiles files names
+
+-- ---- the auditor's commands
+
+-- status 0 of a `verify` is that the reply is accepted. Every end says the verdict that holds of the files, or which of them is
+-- missing or too long
+pub record Verifies (files : Files) (names : VerifyWords) (status : ℕ) (old new : Option (List ℕ)) : Type 0 where
+  pub accepts : IsVerified files names status
+  pub tells : status ≢ 6 → status ≢ 9 → TellsVerdict files names status old new
+
+-- status 7 of an `extract` is that both replies are accepted and the challenges don't differ. Every end says what holds of
+-- the files: the bids, a clash, the verdict on a reply that isn't accepted, or which file is missing or too long
+pub record Extracts (files : Files) (names : ExtractWords) (status : ℕ) (old new : Option (List ℕ)) : Type 0 where
+  pub same : IsSame files names status
+  pub tells : status ≢ 6 → status ≢ 9 → TellsExtraction files names status old new
+
+-- status 0 of a `confront` is that the secret has the board's seal of its seat, and that the replies open just its halves.
+-- Where the seal is the secret's and they open another, two openings of one commitment are put. Every end says what holds of the
+-- files; where the replies themselves open a commitment with two values, that
+pub record Confronts (files : Files) (names : ConfrontWords) (status : ℕ) (old new : Option (List ℕ)) : Type 0 where
+  pub binds : BindsSecret files names status old new
+  pub tells : status ≢ 6 → status ≢ 9 → TellsConfrontation files names status old new
+
+-- status 0 of a `report` is that the file is a board whose price and winner may stand, and what it publishes is put. Every
+-- end says that, or the first fault of the file
+pub record Reports (files : Files) (board : List ℕ) (status : ℕ) (old new : Option (List ℕ)) : Type 0 where
+  pub reports : IsReported files board status old new
+  pub tells : status ≢ 6 → status ≢ 9 → TellsReport files board status old new
+
+pub record Audits (files : Files) (words : List (List ℕ)) (status : ℕ) (old new : Option (List ℕ)) : Type 0 where
+  pub verify : (names : VerifyWords) → command_words words ≡ Some (Verify names) → Verifies files names status old new
+  pub extract : (names : ExtractWords) → command_words words ≡ Some (Extract names) → Extracts files names status old new
+  pub confront : (names : ConfrontWords) → command_words words ≡ Some (Confront names) → Confronts files names status old new
+  pub report : (board : List ℕ) → command_words words ≡ Some (Report board) → Reports files board status old new
+
+-- ---- the house's
+
+-- whatever the words and the status, what was done at the house is done command by command, and each keeps its promises. A single
+-- command that came to its end is one of these, and what it says was put
+pub record KeepsHouse (files : Files) (ledger : Ledger) (words : List (List ℕ)) (status : ℕ) (held : Option Files) (kept : Option Ledger) (old new : Option (List ℕ)) : Type 0 where
+  pub serves : Serves words files ledger held kept
+  pub command : (order : HouseWords) → command_words words ≡ Some (House order) → status ≢ 6 → status ≢ 9
+      → CommandIsDone order files ledger held kept status old new
+
+-- ---- a ceremony's
+
+-- it came to its end: its commands were done one after another up to the first that ends it, what they say was put, and then
+-- what is said for the script itself, of which this is the status. A script that isn't held, or is too long, is said to be so. Of
+-- another its fault line by its table is said, or that it has none; or a command ended it, and nothing more is said
+pub record CeremonyIsDone (script : List ℕ) (files : Files) (ledger : Ledger) (status : ℕ) (held : Option Files) (kept : Option Ledger) (old new : Option (List ℕ)) : Type 0 where
+  pub whole : Ceremony
+  pub is : ceremony_on (Some files) (Some ledger) script ≡ Some whole
+  pub status_is : status ≡ whole.closing.status
+  pub acts : PerformsAll (orders_in files script) files ledger whole.closing.text old (outside (stores held kept) new)
+  pub missing : get files script ≡ None → IsSaid (missing_said script) status old new
+  pub too_long : (file : List ℕ) → get files script ≡ Some file → 2 ^ 30 < length file → IsSaid (too_long_said script) status old new
+  pub closing : (file : List ℕ) → get files script ≡ Some file → length file ≤ 2 ^ 30
+      → ((refused : Bool) × (whole.closing ≡ closing_said script (fault_line (script_table script) file) refused)) ⊎ (whole.closing.text ≡ [])
+
+abbrev pub HoldsCeremony : Files → Ledger → List (List ℕ) → ℕ → Option Files → Option Ledger → Option (List ℕ) → Option (List ℕ) → Type 0
+HoldsCeremony files ledger words status held kept old new =
+    (script : List ℕ) → command_words words ≡ Some (commands.Ceremony script) → status ≢ 6 → status ≢ 9 → CeremonyIsDone script files ledger status held kept old new
+
+-- ---- words of no form
+
+-- status 2 is that the words are no command, and then the usage line is put
+pub record TellsUsage (words : List (List ℕ)) (status : ℕ) (old new : Option (List ℕ)) : Type 0 where
+  pub only : status ≡ 2 → command_words words ≡ None
+  pub always : command_words words ≡ None → status ≢ 6 → status ≢ 9 → IsSaid usage_said status old new
