@@ -1,9 +1,8 @@
 // What the steps work on.
 use crate::changes::{put_file, with_line};
-use crate::watched::WatchedShelf;
 use std::alloc::Global;
 use vk_app::run;
-use vk_cases::{Unreplayed, words_of};
+use vk_cases::{Unreplayed, WatchedShelf, words_of};
 use vk_io::MemSink;
 use vk_keeper::MemKeeper;
 

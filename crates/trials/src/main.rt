@@ -8,7 +8,6 @@ mod auctions;
 mod commands;
 mod cuts;
 mod faults;
-mod fixed;
 mod honest;
 mod samples;
 mod stops;
@@ -17,28 +16,22 @@ mod written;
 
 use std::alloc::Global;
 use std::process::ExitCode;
-use vk_cases::Unreplayed;
-use vk_files::{FileShelf, OutSink};
+use vk_cases::{Replay, Replayed, replay_here};
 use vk_io::{Shelf, Sink};
 
-/// Puts all on trial, over the files in the folder that it runs in.
-fn try_all<S: Shelf, W: Sink>(alloc: Global, shelf: &mut S, out: &mut W) -> Result<(), Unreplayed> {
-    auctions::try_auctions(alloc, out)?;
-    samples::try_samples(alloc, out)?;
-    cuts::try_cuts(alloc, shelf, out)?;
-    faults::try_faults(alloc, shelf, out)?;
-    Ok(())
+/// All that is put on trial.
+struct Trials;
+
+impl Replay for Trials {
+    fn replay<S: Shelf, W: Sink>(&self, alloc: Global, shelf: &mut S, out: &mut W) -> Replayed {
+        auctions::try_auctions(alloc, out)?;
+        samples::try_samples(alloc, out)?;
+        cuts::try_cuts(alloc, shelf, out)?;
+        faults::try_faults(alloc, shelf, out)?;
+        Ok(())
+    }
 }
 
 fn main(rt: HostRuntime) -> ExitCode {
-    let alloc = rt.alloc();
-    let tried = try_all(
-        alloc,
-        &mut FileShelf::new(&rt, alloc, "house.sqlite"),
-        &mut OutSink::new(&rt),
-    );
-    if let Err(unreplayed) = tried {
-        let _ = eprintln!(&rt; "{unreplayed}");
-    }
-    ExitCode::from(u8::from(tried.is_err()))
+    replay_here(&rt, &Trials)
 }

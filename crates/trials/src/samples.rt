@@ -1,12 +1,11 @@
 // `sample 1` over files that stay as they are: what it says of the replies is what it reads, and not what it wrote.
 use crate::asked::Asked;
 use crate::auctions::push_run;
-use crate::fixed::FixedShelf;
 use crate::honest::Honest;
 use std::alloc::Global;
 use vk_app::run;
 use vk_board::SealLines;
-use vk_cases::{Unreplayed, behind, words_of};
+use vk_cases::{Unreplayed, WatchedShelf, behind, words_of};
 use vk_io::{MemShelf, MemSink, PieceShelf, Sink};
 use vk_keeper::MemKeeper;
 use vk_lines::push_line;
@@ -21,20 +20,20 @@ const SPOILED: &str = "sample-reply-2";
 /// Tells what `sample 1` says over its own files, of which one is spoiled, and over a board that has a right proof of
 /// another bid in each lane.
 pub fn try_samples<W: Sink>(alloc: Global, out: &mut W) -> Result<(), Unreplayed> {
-    let spoiled = PieceShelf::over(spoiled_files(alloc)?);
+    let spoiled = spoiled_files(alloc)?;
     let text = sample_text(alloc, b"x begins sample-reply-2", spoiled)?;
     out.put(text.as_slice())?;
-    let mixed = PieceShelf::over(files_of_two_bids(alloc)?);
+    let mixed = files_of_two_bids(alloc)?;
     let text = sample_text(alloc, b"lane 1 has bid 0, lane 2 bid 1", mixed)?;
     out.put(text.as_slice())?;
     Ok(())
 }
 
 /// What is told of the files, and what `sample 1` says over them.
-fn sample_text(alloc: Global, told: &[u8], files: PieceShelf) -> Result<Vec<u8>, Unreplayed> {
+fn sample_text(alloc: Global, told: &[u8], files: MemShelf) -> Result<Vec<u8>, Unreplayed> {
     let mut text = Vec::new(alloc);
     push_line(&mut text, told)?;
-    let mut shelf = FixedShelf::over(files);
+    let mut shelf = WatchedShelf::fixed(alloc, files);
     let out = push_run(alloc, &mut text, &mut shelf, LINE)?;
     text.extend_from_slice(out.bytes())?;
     Ok(text)

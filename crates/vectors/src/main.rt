@@ -12,13 +12,11 @@ mod wires;
 
 use std::alloc::Global;
 use std::process::ExitCode;
-use vk_cases::{Unreplayed, read_cases};
-use vk_files::{FileShelf, OutSink};
-use vk_io::{Shelf, Sink};
+use vk_cases::{Form, Unreplayed, replay_forms};
+use vk_io::Shelf;
 
 /// What a file of cases has, one case a line.
-#[derive(Clone, Copy)]
-enum Form {
+enum Cases {
     /// `stream SEED AUCTION NUMBER`.
     Streams,
     /// At most four words, with commas between them. Zeros follow them.
@@ -37,79 +35,48 @@ enum Form {
     Lanes,
 }
 
-impl Form {
-    /// The file that has the cases.
-    fn file(self) -> &'static str {
+impl Form for Cases {
+    fn file(&self) -> &'static str {
         match self {
-            Form::Streams => "streams",
-            Form::Lists => "lists",
-            Form::Wires => "wires",
-            Form::Fours => "fours",
-            Form::Bids => "bids",
-            Form::Views => "views",
-            Form::Lanes => "lanes",
+            Cases::Streams => "streams",
+            Cases::Lists => "lists",
+            Cases::Wires => "wires",
+            Cases::Fours => "fours",
+            Cases::Bids => "bids",
+            Cases::Views => "views",
+            Cases::Lanes => "lanes",
         }
     }
 
-    /// The case, and what comes of it.
-    fn text(self, alloc: Global, case: &[u8]) -> Result<Vec<u8>, Unreplayed> {
+    fn text<S: Shelf>(
+        &self,
+        alloc: Global,
+        _shelf: &mut S,
+        case: &[u8],
+    ) -> Result<Vec<u8>, Unreplayed> {
         match self {
-            Form::Streams => streams::stream_text(alloc, case),
-            Form::Lists => lists::draw_text(alloc, case),
-            Form::Wires => wires::wire_text(alloc, case),
-            Form::Fours => fours::hashed_text(alloc, case),
-            Form::Bids => bids::outcome_text(alloc, case),
-            Form::Views => views::view_text(alloc, case),
-            Form::Lanes => lanes::lane_text(alloc, case),
+            Cases::Streams => streams::stream_text(alloc, case),
+            Cases::Lists => lists::draw_text(alloc, case),
+            Cases::Wires => wires::wire_text(alloc, case),
+            Cases::Fours => fours::hashed_text(alloc, case),
+            Cases::Bids => bids::outcome_text(alloc, case),
+            Cases::Views => views::view_text(alloc, case),
+            Cases::Lanes => lanes::lane_text(alloc, case),
         }
     }
 }
 
-/// Replays every case of one form.
-fn replay<S: Shelf, W: Sink>(
-    alloc: Global,
-    form: Form,
-    shelf: &mut S,
-    out: &mut W,
-) -> Result<(), Unreplayed> {
-    let cases = read_cases(alloc, shelf, form.file())?;
-    for case in cases.as_slice().split(|byte| *byte == b'\n') {
-        if !case.is_empty() {
-            let text = form.text(alloc, case)?;
-            out.put(text.as_slice())?;
-        }
-    }
-    Ok(())
-}
-
-/// Replays the files of cases in the folder that it runs in.
-fn replay_all<S: Shelf, W: Sink>(
-    alloc: Global,
-    shelf: &mut S,
-    out: &mut W,
-) -> Result<(), Unreplayed> {
-    for form in [
-        Form::Streams,
-        Form::Lists,
-        Form::Wires,
-        Form::Fours,
-        Form::Bids,
-        Form::Views,
-        Form::Lanes,
-    ] {
-        replay(alloc, form, shelf, out)?;
-    }
-    Ok(())
-}
+/// All forms, in the order in which they are replayed.
+const FORMS: [Cases; 7] = [
+    Cases::Streams,
+    Cases::Lists,
+    Cases::Wires,
+    Cases::Fours,
+    Cases::Bids,
+    Cases::Views,
+    Cases::Lanes,
+];
 
 fn main(rt: HostRuntime) -> ExitCode {
-    let mut shelf = FileShelf::new(&rt, rt.alloc(), "house.sqlite");
-    let mut out = OutSink::new(&rt);
-    match replay_all(rt.alloc(), &mut shelf, &mut out) {
-        Ok(()) => ExitCode::SUCCESS,
-        Err(unreplayed) => {
-            let _ = eprintln!(&rt; "{unreplayed}");
-            ExitCode::FAILURE
-        }
-    }
+    replay_forms(&rt, &FORMS)
 }

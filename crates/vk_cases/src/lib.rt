@@ -1,10 +1,15 @@
-//! Files of cases that are replayed, one case a line, as fields between single spaces, and why one was not replayed.
+//! Files of cases that are replayed, one case a line, as fields between single spaces; the programs that replay them,
+//! and why one stopped before the end.
 #![tactic(auto)]
 
 mod cases;
+mod replaying;
 mod unreplayed;
+mod watched;
 mod words;
 
 pub use cases::{behind, id_at, key_at, number_at, numbers_in, read_cases, residue_at, word_at};
+pub use replaying::{Form, Replay, Replayed, replay_forms, replay_here};
 pub use unreplayed::Unreplayed;
+pub use watched::WatchedShelf;
 pub use words::{text_of, words_of};

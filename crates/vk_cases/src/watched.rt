@@ -1,4 +1,4 @@
-// A shelf that notes how far each of its files was read.
+// A shelf that notes how far each of its files was read, and may leave them as they are.
 ghost use Rattle.std.specs.Prelude.{◌≡◌, None};
 
 use std::alloc::Global;
@@ -12,11 +12,12 @@ struct Reach {
     place: u64,
 }
 
-/// Files in memory that are read and written in pieces, and how far each was read. It tells
-/// nothing.
+/// Files in memory that are read and written in pieces, and how far each was read. Where they are fixed
+/// they stay as they are, whatever is written. It tells nothing.
 #[derive(Drop)]
 pub struct WatchedShelf {
     inner: PieceShelf,
+    is_fixed: bool,
     reached: Vec<Reach>,
     alloc: Global,
 }
@@ -26,6 +27,17 @@ impl WatchedShelf {
     pub fn new(alloc: Global) -> WatchedShelf {
         WatchedShelf {
             inner: PieceShelf::over(MemShelf::new(alloc)),
+            is_fixed: false,
+            reached: Vec::new(alloc),
+            alloc,
+        }
+    }
+
+    /// These files, which stay as they are.
+    pub fn fixed(alloc: Global, files: MemShelf) -> WatchedShelf {
+        WatchedShelf {
+            inner: PieceShelf::over(files),
+            is_fixed: true,
             reached: Vec::new(alloc),
             alloc,
         }
@@ -90,10 +102,16 @@ impl Shelf for WatchedShelf {
     }
 
     fn create(&mut self, name: &str) -> Result<(), OutsideErr> {
+        if self.is_fixed {
+            return Ok(());
+        }
         self.inner.create(name)
     }
 
     fn append(&mut self, name: &str, piece: &[u8]) -> Result<(), OutsideErr> {
+        if self.is_fixed {
+            return Ok(());
+        }
         self.inner.append(name, piece)
     }
 }
