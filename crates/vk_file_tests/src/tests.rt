@@ -5,5 +5,4 @@ mod long;
 mod reply;
 mod report;
 mod seal;
-mod smallest;
 mod two_replies;

@@ -51,7 +51,7 @@ fn the_house_is_kept_in_its_file(rt: HostRuntime) -> Result<(), Fail> {
     proved(&rt, &rt)?;
     nothing_is_written_into_the_store(&rt, &rt)?;
     answered(&rt, &rt)?;
-    one_keeper_at_a_time(&rt, &rt)?;
+    one_keeper_at_a_time(&rt, &rt, &StoreHouse::of(&rt))?;
     clear(&rt);
     Ok(())
 }
@@ -70,10 +70,10 @@ fn proved(stop: &impl Abort, rt: &HostRuntime) -> Result<(), Fail> {
         (&["prove", ID, SEED, "board"], 0),
     ];
     for (words, status) in table {
-        assert_eq!(stop; status_of(rt, words), ExitCode::from(status));
+        assert!(stop; status_of(rt, words) == ExitCode::from(status));
     }
     let mode = fs::metadata(rt, "house.sqlite")?.permissions().mode();
-    assert_eq!(stop; mode & 0o777, 0o600);
+    assert!(stop; mode & 0o777 == 0o600);
     Ok(())
 }
 
@@ -84,17 +84,21 @@ fn nothing_is_written_into_the_store(stop: &impl Abort, rt: &HostRuntime) -> Res
     fs::create_dir(rt, "there")?;
     for name in STORE_NAMES {
         for line in [["answer", ID, "first", name], ["prove", ID, SEED, name]] {
-            assert_eq!(stop; status_of(rt, &line), ExitCode::from(6));
-            let [verb, id, given, name] = line;
-            let script = format!(in rt.alloc();
-                "vickrey-script 1\n{verb} {id} {given} {name}\nend\n"
-            )?;
-            fs::write(rt, "script", script.as_str())?;
-            assert_eq!(stop; status_of(rt, &["ceremony", "script"]), ExitCode::from(6));
+            assert!(stop; status_of(rt, &line) == ExitCode::from(6));
+            write_script(rt, &line)?;
+            assert!(stop; status_of(rt, &["ceremony", "script"]) == ExitCode::from(6));
         }
         let words = ["seal", ID, "8", "15", "4", "2", SEED, name, "none"];
-        assert_eq!(stop; status_of(rt, &words), ExitCode::from(6));
+        assert!(stop; status_of(rt, &words) == ExitCode::from(6));
     }
+    Ok(())
+}
+
+/// A script of that line.
+fn write_script(rt: &HostRuntime, line: &[&str; 4]) -> Result<(), Fail> {
+    let [verb, id, given, name] = *line;
+    let script = format!(in rt.alloc(); "vickrey-script 1\n{verb} {id} {given} {name}\nend\n")?;
+    fs::write(rt, "script", script.as_str())?;
     Ok(())
 }
 
@@ -110,19 +114,22 @@ fn answered(stop: &impl Abort, rt: &HostRuntime) -> Result<(), Fail> {
         (&["show", ID], 0),
     ];
     for (words, status) in table {
-        assert_eq!(stop; status_of(rt, words), ExitCode::from(status));
+        assert!(stop; status_of(rt, words) == ExitCode::from(status));
     }
     Ok(())
 }
 
 /// A store that is open is refused to another keeper, until it is closed.
-fn one_keeper_at_a_time(stop: &impl Abort, rt: &HostRuntime) -> Result<(), Fail> {
-    let house = StoreHouse::of(rt);
+fn one_keeper_at_a_time<H: House>(
+    stop: &impl Abort,
+    rt: &HostRuntime,
+    house: &H,
+) -> Result<(), Fail> {
     let Ok(keeper) = house.open() else {
         return Err(Fail::from("not opened"));
     };
-    assert_eq!(stop; status_of(rt, &["show", ID]), ExitCode::from(6));
+    assert!(stop; status_of(rt, &["show", ID]) == ExitCode::from(6));
     assert!(stop; house.close(keeper).is_ok());
-    assert_eq!(stop; status_of(rt, &["show", ID]), ExitCode::from(0));
+    assert!(stop; status_of(rt, &["show", ID]) == ExitCode::from(0));
     Ok(())
 }

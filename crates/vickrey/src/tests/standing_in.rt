@@ -155,24 +155,21 @@ fn the_house_is_opened_where_it_may_be_asked(rt: HostRuntime) {
         (&["answer", ID, "challenge", "reply"], 5, 4),
     ];
     for (words, status, opened) in table {
-        assert_eq!(rt; outside.status_of(words), ExitCode::from(status));
-        assert_eq!(rt; outside.opened.get(), opened);
+        assert!(rt; outside.status_of(words) == ExitCode::from(status));
+        assert!(rt; outside.opened.get() == opened);
     }
 }
 
 #[test]
 fn a_fault_behind_a_command_is_told(rt: HostRuntime) {
     let closing = Outside::new(rt.alloc(), true, false);
-    assert_eq!(rt;
-        closing.status_of(&["announce", ID, "4", "2"]),
-        ExitCode::from(6)
-    );
-    assert_eq!(rt; closing.status_of(&["report", "board"]), ExitCode::from(5));
+    assert!(rt; closing.status_of(&["announce", ID, "4", "2"]) == ExitCode::from(6));
+    assert!(rt; closing.status_of(&["report", "board"]) == ExitCode::from(5));
     let settling = Outside::new(rt.alloc(), false, true);
     let seal = ["seal", ID, "7", "15", "4", "2", SEED, "secret", "seal"];
-    assert_eq!(rt; settling.status_of(&seal), ExitCode::from(6));
+    assert!(rt; settling.status_of(&seal) == ExitCode::from(6));
     let sound = Outside::new(rt.alloc(), false, false);
-    assert_eq!(rt; sound.status_of(&seal), ExitCode::from(0));
+    assert!(rt; sound.status_of(&seal) == ExitCode::from(0));
 }
 
 #[test]
@@ -180,14 +177,14 @@ fn what_is_said_on_standard_error(rt: HostRuntime) -> Result<(), Fail> {
     let said = RefCell::new(String::new(rt.alloc()));
     let errors = Errors { said: &said };
     for status in [0, 6, 9] {
-        assert_eq!(rt; end(&errors, status), ExitCode::from(status));
+        assert!(rt; end(&errors, status) == ExitCode::from(status));
     }
     let other = OpenErr::Version { rows: 1, number: 7 };
-    assert_eq!(rt; refuse(&errors, other), ExitCode::from(6));
-    assert_eq!(rt; refuse(&errors, OpenErr::Refused), ExitCode::from(6));
-    assert_eq!(rt; refuse(&errors, OpenErr::NoMemory), ExitCode::from(9));
+    assert!(rt; refuse(&errors, other) == ExitCode::from(6));
+    assert!(rt; refuse(&errors, OpenErr::Refused) == ExitCode::from(6));
+    assert!(rt; refuse(&errors, OpenErr::NoMemory) == ExitCode::from(9));
     let text = said.try_borrow().map_err(|_| Fail::from("in use"))?;
     let all = "outside fault\nno memory\nother store\noutside fault\nno memory\n";
-    assert_eq!(rt; text.as_str(), all);
+    assert!(rt; text.as_str() == all);
     Ok(())
 }

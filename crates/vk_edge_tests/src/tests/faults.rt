@@ -5,6 +5,7 @@ use crate::tests::folder::{Folder, bytes_of};
 use crate::tests::plan::{Call, Plan, Wrong};
 use std::alloc::Global;
 use std::fs;
+use std::process::Abort;
 use std::rt::Files;
 use std::test::Fail;
 use vk_files::FileShelf;
@@ -78,19 +79,25 @@ fn each_call_that_fails_is_a_fault(rt: HostRuntime) -> Result<(), Fail> {
         (Call::Write, 3),
     ];
     for (call, least) in table {
-        let mut met = 0u32;
-        for at in 1..100u32 {
-            let plan = Plan::new(call, at, Wrong::Fails);
-            let Some(outcome) = outcome_at(&rt, &names, &plan) else {
-                break;
-            };
-            assert_eq!(rt; outcome, Err(OutsideErr::Failed), "{call:?} {at}");
-            met = at;
-        }
-        assert!(rt; least <= met, "{call:?} {met}");
+        let met = try_each(&rt, &rt, &names, call);
+        assert!(rt; least <= met);
     }
     folder.remove(&rt)?;
     Ok(())
+}
+
+/// Each call of the kind fails in turn, which is a fault. Answers how many there are.
+fn try_each(stop: &impl Abort, rt: &HostRuntime, names: &Names, call: Call) -> u32 {
+    let mut met = 0u32;
+    for at in 1..100u32 {
+        let plan = Plan::new(call, at, Wrong::Fails);
+        let Some(outcome) = outcome_at(rt, names, &plan) else {
+            break;
+        };
+        assert!(stop; outcome == Err(OutsideErr::Failed), "call {at}");
+        met = at;
+    }
+    met
 }
 
 #[test]
@@ -101,14 +108,14 @@ fn a_call_that_moves_less_is_made_up_for(rt: HostRuntime) -> Result<(), Fail> {
         for wrong in [Wrong::IsInterrupted, Wrong::MovesOne] {
             let plan = Plan::new(call, 1, wrong);
             let outcome = outcome_at(&rt, &names, &plan);
-            assert_eq!(rt; outcome, Some(Ok((*b"bcd", Some(5)))));
+            assert!(rt; outcome == Some(Ok((*b"bcd", Some(5)))));
             let bytes = bytes_of(&rt, names.first.as_str())?.ok_or("no file")?;
-            assert_eq!(rt; bytes.as_slice(), b"abcde".as_slice());
+            assert!(rt; bytes.as_slice() == b"abcde".as_slice());
         }
     }
     let plan = Plan::new(Call::Write, 2, Wrong::MovesNone);
     let outcome = outcome_at(&rt, &names, &plan);
-    assert_eq!(rt; outcome, Some(Err(OutsideErr::Failed)));
+    assert!(rt; outcome == Some(Err(OutsideErr::Failed)));
     folder.remove(&rt)?;
     Ok(())
 }

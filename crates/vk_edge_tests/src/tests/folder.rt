@@ -1,9 +1,11 @@
 use std::alloc::Global;
 use std::fs::Permissions;
 use std::os::unix::fs::{MetadataExt, PermissionsExt};
+use std::process::Abort;
 use std::rt::Files;
 use std::test::Fail;
 use std::{fs, io, process};
+use vk_io::Shelf;
 
 /// A folder of this process alone, outside of the repository, and the path of a name in it.
 #[derive(Drop)]
@@ -64,4 +66,17 @@ pub fn time_of<R: Files>(rt: &R, path: &str) -> io::Result<(i64, i64)> {
 pub fn put(rt: &HostRuntime, path: &str, text: &str) -> io::Result<()> {
     fs::write(rt, path, text)?;
     fs::set_permissions(rt, path, Permissions::from_mode(0o644))
+}
+
+/// The file at the path begins with that byte.
+pub fn try_byte<S: Shelf>(
+    rt: &impl Abort,
+    shelf: &mut S,
+    path: &str,
+    byte: u8,
+) -> Result<(), Fail> {
+    let mut into = [0u8];
+    assert!(rt; shelf.read_at(path, 0, &mut into)? == 1);
+    assert!(rt; into == [byte]);
+    Ok(())
 }

@@ -1,9 +1,10 @@
 //! Large files, and names that end one another.
 
-use crate::tests::folder::Folder;
+use crate::tests::folder::{Folder, try_byte};
 use std::fs;
-use std::fs::OpenOptions;
-use std::io::{Seek, SeekFrom, Write};
+use std::fs::{OpenFile, OpenOptions};
+use std::io::{self, Seek, SeekFrom, Write};
+use std::process::Abort;
 use std::test::Fail;
 use vk_files::FileShelf;
 use vk_io::Shelf;
@@ -13,6 +14,17 @@ fn put_at(rt: &HostRuntime, path: &str, length: u64, at: u64, bytes: &[u8]) -> R
     let mut options = OpenOptions::new();
     options.write(true).create_new(true);
     let mut file = options.open(rt, path)?;
+    fill(&mut file, length, at, bytes)?;
+    Ok(())
+}
+
+/// Gives the file that length, and puts the bytes at the place.
+fn fill<F: OpenFile + Seek + Write>(
+    file: &mut F,
+    length: u64,
+    at: u64,
+    bytes: &[u8],
+) -> io::Result<()> {
     file.set_len(length)?;
     file.seek(SeekFrom::Start(at))?;
     file.write_all(bytes)?;
@@ -25,14 +37,19 @@ fn a_large_file_has_its_length_and_its_bytes(rt: HostRuntime) -> Result<(), Fail
     let path = folder.at("a")?;
     put_at(&rt, path.as_str(), 1073741825, 16777221, b"far")?;
     let mut shelf = FileShelf::new(&rt, rt.alloc(), "house.sqlite");
-    assert_eq!(rt; shelf.length(path.as_str())?, Some(1073741825));
-    let mut into = [7u8; 5];
-    assert_eq!(rt; shelf.read_at(path.as_str(), 16777220, &mut into)?, 5);
-    assert_eq!(rt; into, *b"\0far\0");
-    assert_eq!(rt; shelf.read_at(path.as_str(), 5, &mut into)?, 5);
-    assert_eq!(rt; into, [0u8; 5]);
-    assert_eq!(rt; shelf.read_at(path.as_str(), 1073741824, &mut into)?, 1);
+    try_large(&rt, &mut shelf, path.as_str())?;
     folder.remove(&rt)?;
+    Ok(())
+}
+
+fn try_large<S: Shelf>(rt: &impl Abort, shelf: &mut S, path: &str) -> Result<(), Fail> {
+    assert!(rt; shelf.length(path)? == Some(1073741825));
+    let mut into = [7u8; 5];
+    assert!(rt; shelf.read_at(path, 16777220, &mut into)? == 5);
+    assert!(rt; into == *b"\0far\0");
+    assert!(rt; shelf.read_at(path, 5, &mut into)? == 5);
+    assert!(rt; into == [0u8; 5]);
+    assert!(rt; shelf.read_at(path, 1073741824, &mut into)? == 1);
     Ok(())
 }
 
@@ -42,13 +59,23 @@ fn a_large_piece_is_written_whole(rt: HostRuntime) -> Result<(), Fail> {
     let path = folder.at("a")?;
     let piece = vec![in rt.alloc(); 7u8; 1048579]?;
     let mut shelf = FileShelf::new(&rt, rt.alloc(), "house.sqlite");
-    shelf.append(path.as_str(), b"a")?;
-    shelf.append(path.as_str(), piece.as_slice())?;
-    assert_eq!(rt; shelf.length(path.as_str())?, Some(1048580));
-    let mut into = [0u8; 4];
-    assert_eq!(rt; shelf.read_at(path.as_str(), 1048577, &mut into)?, 3);
-    assert_eq!(rt; into, [7u8, 7, 7, 0]);
+    try_piece(&rt, &mut shelf, path.as_str(), piece.as_slice())?;
     folder.remove(&rt)?;
+    Ok(())
+}
+
+fn try_piece<S: Shelf>(
+    rt: &impl Abort,
+    shelf: &mut S,
+    path: &str,
+    piece: &[u8],
+) -> Result<(), Fail> {
+    shelf.append(path, b"a")?;
+    shelf.append(path, piece)?;
+    assert!(rt; shelf.length(path)? == Some(1048580));
+    let mut into = [0u8; 4];
+    assert!(rt; shelf.read_at(path, 1048577, &mut into)? == 3);
+    assert!(rt; into == [7u8, 7, 7, 0]);
     Ok(())
 }
 
@@ -60,14 +87,16 @@ fn a_name_that_ends_another_name_is_another_file(rt: HostRuntime) -> Result<(), 
     fs::create_dir(&rt, folder.at("tmp")?.as_str())?;
     fs::create_dir(&rt, folder.at(folder.path())?.as_str())?;
     let mut shelf = FileShelf::new(&rt, rt.alloc(), "house.sqlite");
-    let mut into = [0u8];
-    for (path, text) in [(long.as_str(), b"l"), (short.as_str(), b"s")] {
-        shelf.append(path, text)?;
-    }
-    for (path, text) in [(long.as_str(), b"l"), (short.as_str(), b"s")] {
-        assert_eq!(rt; shelf.read_at(path, 0, &mut into)?, 1);
-        assert_eq!(rt; into, *text);
-    }
+    try_two(&rt, &mut shelf, long.as_str(), short.as_str())?;
     folder.remove(&rt)?;
+    Ok(())
+}
+
+/// The two paths have a file each.
+fn try_two<S: Shelf>(rt: &impl Abort, shelf: &mut S, long: &str, short: &str) -> Result<(), Fail> {
+    shelf.append(long, b"l")?;
+    shelf.append(short, b"s")?;
+    try_byte(rt, shelf, long, b'l')?;
+    try_byte(rt, shelf, short, b's')?;
     Ok(())
 }

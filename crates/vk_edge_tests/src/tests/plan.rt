@@ -6,7 +6,7 @@ use std::cell::Cell;
 use std::io::{self, ErrorKind};
 
 /// A kind of calls to the system.
-#[derive(Clone, Copy, Debug, PartialEq, Eq)]
+#[derive(Clone, Copy, PartialEq, Eq)]
 pub enum Call {
     Open,
     Look,
@@ -19,7 +19,7 @@ pub enum Call {
 }
 
 /// What a call that goes wrong does.
-#[derive(Clone, Copy, Debug, PartialEq, Eq)]
+#[derive(Clone, Copy)]
 pub enum Wrong {
     Fails,
     IsInterrupted,

@@ -1,26 +1,52 @@
 // The smallest board, read part by part and written back, and the winner of three seals. Boards that are refused are
 // replayed by the program `conformance`.
-use super::smallest::smallest;
+use super::files::board;
+use std::alloc::Global;
 use std::test::Fail;
 use vk_board::{
-    Head, head_text, lane_text, read_front, read_head, read_lane, read_seals, seal_lines_text,
-    seats_of,
+    Head, LaneLines, SealLines, head_text, lane_text, read_front, read_head, read_lane, read_seals,
+    seal_lines_text, seats_of,
 };
-use vk_io::MemShelf;
+use vk_io::{MemShelf, Shelf};
 use vk_lines::Lines;
+use vk_seq::Seq;
 
 const ID: [u8; 16] = [0, 1, 2, 3, 4, 5, 6, 7, 8, 9, 10, 11, 12, 13, 14, 15];
 
+/// The parts of the smallest board.
+type Parts = (Head, Seq<SealLines>, LaneLines);
+
+/// The parts of the file, which is the smallest board.
+fn parts_in<S: Shelf>(alloc: Global, shelf: &mut S) -> Result<Parts, Fail> {
+    let mut lines = Lines::start(alloc, shelf, "board")?;
+    let head = read_head(shelf, &mut lines)?;
+    let seals = read_seals(alloc, shelf, &mut lines, &head)?;
+    let lane = read_lane(alloc, shelf, &mut lines, 1, 2, 2)?;
+    lines.read_end(shelf)?;
+    Ok((head, seals, lane))
+}
+
+/// The parts as a file.
+fn text_of(
+    alloc: Global,
+    head: &Head,
+    seals: &[SealLines],
+    lane: &LaneLines,
+) -> Result<Vec<u8>, Fail> {
+    let mut written = head_text(alloc, head)?;
+    for seal in seals {
+        written.extend_from_slice(&seal_lines_text(alloc, seal)?)?;
+    }
+    written.extend_from_slice(&lane_text(alloc, 1, lane)?)?;
+    written.extend_from_slice(b"end\n")?;
+    Ok(written)
+}
+
 #[test]
 fn the_smallest_board_is_read_and_written_back(rt: HostRuntime) -> Result<(), Fail> {
-    let alloc = rt.alloc();
-    let mut shelf = MemShelf::new(alloc);
-    shelf.put_file("board", smallest())?;
-    let mut lines = Lines::start(alloc, &mut shelf, "board")?;
-    let head = read_head(&mut shelf, &mut lines)?;
-    let seals = read_seals(alloc, &mut shelf, &mut lines, &head)?;
-    let lane = read_lane(alloc, &mut shelf, &mut lines, 1, 2, 2)?;
-    lines.read_end(&mut shelf)?;
+    let mut shelf = MemShelf::new(rt.alloc());
+    shelf.put_file("board", board())?;
+    let (head, seals, lane) = parts_in(rt.alloc(), &mut shelf)?;
     let expected = Head {
         auction: ID,
         width: 1,
@@ -29,14 +55,9 @@ fn the_smallest_board_is_read_and_written_back(rt: HostRuntime) -> Result<(), Fa
         winner: 7,
         price: 0,
     };
-    assert_eq!(rt; head, expected);
-    let mut written = head_text(alloc, &head)?;
-    for seal in seals.as_slice() {
-        written.extend_from_slice(&seal_lines_text(alloc, seal)?)?;
-    }
-    written.extend_from_slice(&lane_text(alloc, 1, &lane)?)?;
-    written.extend_from_slice(b"end\n")?;
-    assert_eq!(rt; written.as_slice(), smallest());
+    assert!(rt; head == expected);
+    let written = text_of(rt.alloc(), &head, seals.as_slice(), &lane)?;
+    assert!(rt; written.as_slice() == board());
     Ok(())
 }
 
@@ -62,8 +83,8 @@ fn the_winner_of_three_seals_is_found(rt: HostRuntime) -> Result<(), Fail> {
     shelf.put_file("board", THREE)?;
     let mut lines = Lines::start(alloc, &mut shelf, "board")?;
     let front = read_front(alloc, &mut shelf, &mut lines)?;
-    assert_eq!(rt; front.position, 3);
+    assert!(rt; front.position == 3);
     let seats = seats_of(alloc, front.seals.as_slice())?;
-    assert_eq!(rt; seats.as_slice(), [7, 65535, 500].as_slice());
+    assert!(rt; seats.as_slice() == [7, 65535, 500].as_slice());
     Ok(())
 }

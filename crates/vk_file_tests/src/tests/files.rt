@@ -2,24 +2,31 @@
 use std::alloc::Global;
 use vk_io::{MemShelf, OutsideErr, Shelf};
 
-const BOARD: &[u8] =
-    b"vickrey-board 1\nauction 000102030405060708090a0b0c0d0e0f\nwidth 1\nlanes 1\nseals 1\nwinner 7\nprice 0\nseal 7\nx 023dd1cc99177aec8e6b75b847227ff4a8dd6e2328310f0ffa91f2d60aecd426 774401009878493d88b3ad371899fe26d73791fadb6afe02ad901833daf73de4\nlane 1\nw 3e081a820047b942fb53d64cc48e73072c8bab60338122a8b6cc7d2574478294 b66b11c7a3a9e463f7cc889a27081e01e290916f55650e641b6a2815af4d3a94\nw dcc34ee7a886c4a195cc136f37ec174e14e203f3f6cb45c6c0c8e9ab4b1a3736 88f52883e737aaed134b26aaf44218f208901120c18c8f715c4e7c2cc4641072\nd 2305843009213693944\nd 6\nend\n";
+/// The smallest board.
+pub fn board() -> &'static [u8] {
+    b"vickrey-board 1\nauction 000102030405060708090a0b0c0d0e0f\nwidth 1\nlanes 1\nseals 1\nwinner 7\nprice 0\nseal 7\nx 023dd1cc99177aec8e6b75b847227ff4a8dd6e2328310f0ffa91f2d60aecd426 774401009878493d88b3ad371899fe26d73791fadb6afe02ad901833daf73de4\nlane 1\nw 3e081a820047b942fb53d64cc48e73072c8bab60338122a8b6cc7d2574478294 b66b11c7a3a9e463f7cc889a27081e01e290916f55650e641b6a2815af4d3a94\nw dcc34ee7a886c4a195cc136f37ec174e14e203f3f6cb45c6c0c8e9ab4b1a3736 88f52883e737aaed134b26aaf44218f208901120c18c8f715c4e7c2cc4641072\nd 2305843009213693944\nd 6\nend\n"
+}
 
-const REPLY_0: &[u8] =
-    b"vickrey-reply 1\nlanes 1\nlane 1\nh 1111111111111111111111111111111111111111111111111111111111111111 3\nh 3333333333333333333333333333333333333333333333333333333333333333 10\na 5555555555555555555555555555555555555555555555555555555555555555 2305843009213693947 6666666666666666666666666666666666666666666666666666666666666666 2305843009213693948\nend\n";
+/// The reply to bit 0.
+pub fn reply_0() -> &'static [u8] {
+    b"vickrey-reply 1\nlanes 1\nlane 1\nh 1111111111111111111111111111111111111111111111111111111111111111 3\nh 3333333333333333333333333333333333333333333333333333333333333333 10\na 5555555555555555555555555555555555555555555555555555555555555555 2305843009213693947 6666666666666666666666666666666666666666666666666666666666666666 2305843009213693948\nend\n"
+}
 
 // The reply to bit 1, but for the line of its second wire.
-const REPLY_1: &[u8] =
-    b"vickrey-reply 1\nlanes 1\nlane 1\nh 2222222222222222222222222222222222222222222222222222222222222222 2305843009213693948\n";
+pub fn reply_1() -> &'static [u8] {
+    b"vickrey-reply 1\nlanes 1\nlane 1\nh 2222222222222222222222222222222222222222222222222222222222222222 2305843009213693948\n"
+}
 
-const SECOND_WIRE: &[u8] =
-    b"h 4444444444444444444444444444444444444444444444444444444444444444 2305843009213693941\n";
+pub fn second_wire() -> &'static [u8] {
+    b"h 4444444444444444444444444444444444444444444444444444444444444444 2305843009213693941\n"
+}
 
 const OTHER_WIRE: &[u8] =
     b"h 4444444444444444444444444444444444444444444444444444444444444444 2305843009213693940\n";
 
-const REPLY_1_END: &[u8] =
-    b"s 0 5555555555555555555555555555555555555555555555555555555555555555 2305843009213693947\nend\n";
+pub fn reply_1_end() -> &'static [u8] {
+    b"s 0 5555555555555555555555555555555555555555555555555555555555555555 2305843009213693947\nend\n"
+}
 
 /// The named file holds these pieces, one after another.
 fn put(shelf: &mut MemShelf, name: &str, pieces: &[&[u8]]) -> Result<(), OutsideErr> {
@@ -33,12 +40,16 @@ fn put(shelf: &mut MemShelf, name: &str, pieces: &[&[u8]]) -> Result<(), Outside
 /// end, and one that opens another value.
 pub fn shelf_of_files(alloc: Global) -> Result<MemShelf, OutsideErr> {
     let mut shelf = MemShelf::new(alloc);
-    put(&mut shelf, "board", &[BOARD])?;
+    put(&mut shelf, "board", &[board()])?;
     put(&mut shelf, "0", &[b"vickrey-challenge 1\nbits 0\nend\n"])?;
     put(&mut shelf, "1", &[b"vickrey-challenge 1\nbits 1\nend\n"])?;
-    put(&mut shelf, "to 0", &[REPLY_0])?;
-    put(&mut shelf, "longer", &[REPLY_0, b"x"])?;
-    put(&mut shelf, "to 1", &[REPLY_1, SECOND_WIRE, REPLY_1_END])?;
-    put(&mut shelf, "other", &[REPLY_1, OTHER_WIRE, REPLY_1_END])?;
+    put(&mut shelf, "to 0", &[reply_0()])?;
+    put(&mut shelf, "longer", &[reply_0(), b"x"])?;
+    put(
+        &mut shelf,
+        "to 1",
+        &[reply_1(), second_wire(), reply_1_end()],
+    )?;
+    put(&mut shelf, "other", &[reply_1(), OTHER_WIRE, reply_1_end()])?;
     Ok(shelf)
 }

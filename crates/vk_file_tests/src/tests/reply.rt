@@ -3,10 +3,11 @@
 ghost use Rattle.std.specs.Prelude.{◌≡◌, ◌∷◌, [], IfOk};
 ghost use Rattle.vk_plan.specs.declared.wire.WireKind.TheVariants.{Pair, Split};
 
+use super::files::{reply_0, reply_1, reply_1_end, second_wire};
 use std::alloc::Global;
 use std::test::Fail;
 use vk_commit::Opening;
-use vk_io::MemShelf;
+use vk_io::{MemShelf, Shelf};
 use vk_lines::Lines;
 use vk_plan::{Plan, WireKind};
 use vk_reply::{
@@ -14,25 +15,8 @@ use vk_reply::{
     reply_lane_text,
 };
 use vk_residue::Residue;
+use vk_seq::Seq;
 use vk_wire::Shown;
-
-const REPLY_0: &[u8] = b"vickrey-reply 1\n\
-lanes 1\n\
-lane 1\n\
-h aaaaaaaaaaaaaaaaaaaaaaaaaaaaaaaaaaaaaaaaaaaaaaaaaaaaaaaaaaaaaaaa 3\n\
-h cccccccccccccccccccccccccccccccccccccccccccccccccccccccccccccccc 10\n\
-a 4444444444444444444444444444444444444444444444444444444444444444 2305843009213693947 5555555555555555555555555555555555555555555555555555555555555555 2305843009213693948\n\
-end\n\
-";
-
-const REPLY_1: &[u8] = b"vickrey-reply 1\n\
-lanes 1\n\
-lane 1\n\
-h bbbbbbbbbbbbbbbbbbbbbbbbbbbbbbbbbbbbbbbbbbbbbbbbbbbbbbbbbbbbbbbb 2305843009213693948\n\
-h dddddddddddddddddddddddddddddddddddddddddddddddddddddddddddddddd 2305843009213693941\n\
-s 0 4444444444444444444444444444444444444444444444444444444444444444 2305843009213693947\n\
-end\n\
-";
 
 #[test]
 fn a_challenge_is_read_and_written_back(rt: HostRuntime) -> Result<(), Fail> {
@@ -41,8 +25,8 @@ fn a_challenge_is_read_and_written_back(rt: HostRuntime) -> Result<(), Fail> {
     shelf.put_file("c", bytes)?;
     let mut lines = Lines::start(rt.alloc(), &mut shelf, "c")?;
     let challenge = read_challenge(rt.alloc(), &mut shelf, &mut lines)?;
-    assert_eq!(rt; challenge.bits.as_slice(), [false, true].as_slice());
-    assert_eq!(rt; challenge_text(rt.alloc(), &challenge)?.as_slice(), bytes);
+    assert!(rt; challenge.bits.as_slice() == [false, true].as_slice());
+    assert!(rt; challenge_text(rt.alloc(), &challenge)?.as_slice() == bytes);
     Ok(())
 }
 
@@ -68,15 +52,32 @@ fn copied(alloc: Global, bytes: &[u8], bit: bool, expected: &[Shown]) -> Result<
     let mut shelf = MemShelf::new(alloc);
     shelf.put_file("r", bytes)?;
     let plan = plan_of_a_pair(alloc)?;
-    let mut lines = Lines::start(alloc, &mut shelf, "r")?;
-    let lanes = read_reply_head(&mut shelf, &mut lines)?;
-    let shown = read_reply_lane(alloc, &mut shelf, &mut lines, 1, &plan, bit)?;
-    lines.read_end(&mut shelf)?;
+    let (lanes, shown) = lane_in(alloc, &mut shelf, &plan, bit)?;
     if shown.as_slice() != expected {
         return Err(Fail::from("another lane was read"));
     }
+    text_of(alloc, lanes, shown.as_slice())
+}
+
+/// How many lanes the reply says to have, and what is shown of its one lane.
+fn lane_in<S: Shelf>(
+    alloc: Global,
+    shelf: &mut S,
+    plan: &Plan,
+    bit: bool,
+) -> Result<(u32, Seq<Shown>), Fail>
+    requires { plan.now.kinds ≡ Split ∷ Split ∷ Pair 0 ∷ [] }
+{
+    let mut lines = Lines::start(alloc, shelf, "r")?;
+    let lanes = read_reply_head(shelf, &mut lines)?;
+    let shown = read_reply_lane(alloc, shelf, &mut lines, 1, plan, bit)?;
+    lines.read_end(shelf)?;
+    Ok((lanes, shown))
+}
+
+fn text_of(alloc: Global, lanes: u32, shown: &[Shown]) -> Result<Vec<u8>, Fail> {
     let mut text = reply_head_text(alloc, lanes)?;
-    let lane = reply_lane_text(alloc, 1, shown.as_slice())?;
+    let lane = reply_lane_text(alloc, 1, shown)?;
     text.extend_from_slice(lane.as_slice())?;
     text.extend_from_slice(b"end\n")?;
     Ok(text)
@@ -84,27 +85,30 @@ fn copied(alloc: Global, bytes: &[u8], bit: bool, expected: &[Shown]) -> Result<
 
 #[test]
 fn replies_to_both_bits_are_read_and_written_back(rt: HostRuntime) -> Result<(), Fail> {
-    let first = opening(0x44, 2305843009213693947)?;
+    let first = opening(0x55, 2305843009213693947)?;
     let zero = [
-        Shown::Half(opening(0xaa, 3)?),
-        Shown::Half(opening(0xcc, 10)?),
-        Shown::Whole(first, opening(0x55, 2305843009213693948)?),
+        Shown::Half(opening(0x11, 3)?),
+        Shown::Half(opening(0x33, 10)?),
+        Shown::Whole(first, opening(0x66, 2305843009213693948)?),
     ];
     let one = [
-        Shown::Half(opening(0xbb, 2305843009213693948)?),
-        Shown::Half(opening(0xdd, 2305843009213693941)?),
+        Shown::Half(opening(0x22, 2305843009213693948)?),
+        Shown::Half(opening(0x44, 2305843009213693941)?),
         Shown::Spent {
             second: false,
             opening: first,
         },
     ];
-    assert_eq!(rt;
-        copied(rt.alloc(), REPLY_0, false, &zero)?.as_slice(),
-        REPLY_0
-    );
-    assert_eq!(rt;
-        copied(rt.alloc(), REPLY_1, true, &one)?.as_slice(),
-        REPLY_1
-    );
+    let to_one = joined(rt.alloc(), reply_1(), second_wire(), reply_1_end())?;
+    assert!(rt; copied(rt.alloc(), reply_0(), false, &zero)?.as_slice() == reply_0());
+    assert!(rt; copied(rt.alloc(), &to_one, true, &one)?.as_slice() == to_one.as_slice());
     Ok(())
+}
+
+/// Three pieces, one after another.
+fn joined(alloc: Global, first: &[u8], second: &[u8], third: &[u8]) -> Result<Vec<u8>, Fail> {
+    let mut bytes = Vec::from_slice(alloc, first)?;
+    bytes.extend_from_slice(second)?;
+    bytes.extend_from_slice(third)?;
+    Ok(bytes)
 }

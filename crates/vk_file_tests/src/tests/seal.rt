@@ -1,10 +1,15 @@
 // Files that another implementation made. Those that it refuses are replayed by the program `conformance`.
+ghost use Rattle.std.specs.Prelude.{IfOk};
+ghost use Rattle.vk_seal.specs.Values.{IsSeal, IsSecret};
+
+use std::alloc::Global;
 use std::test::Fail;
 use vk_dice::{ChaChaWords, ListWords, Words};
-use vk_io::MemShelf;
+use vk_io::{MemShelf, Shelf};
 use vk_lines::Lines;
 use vk_seal::{
-    Mismatch, SealErr, make_seal, matches, read_seal, read_secret, seal_text, secret_text,
+    Mismatch, Seal, SealErr, Secret, make_seal, matches, read_seal, read_secret, seal_text,
+    secret_text,
 };
 
 const ID: [u8; 16] = [0, 1, 2, 3, 4, 5, 6, 7, 8, 9, 10, 11, 12, 13, 14, 15];
@@ -38,9 +43,27 @@ end\n\
 fn a_seal_is_made_and_written_as_elsewhere(rt: HostRuntime) -> Result<(), Fail> {
     let mut words = ChaChaWords::of(&SEED, &ID, 65543);
     let (secret, seal) = make_seal(rt.alloc(), 15, 7, &ID, 4, 2, &mut words)?;
-    assert_eq!(rt; secret_text(rt.alloc(), &secret)?.as_slice(), SECRET);
-    assert_eq!(rt; seal_text(rt.alloc(), &seal)?.as_slice(), SEAL);
+    assert!(rt; secret_text(rt.alloc(), &secret)?.as_slice() == SECRET);
+    assert!(rt; seal_text(rt.alloc(), &seal)?.as_slice() == SEAL);
     Ok(())
+}
+
+/// The secret of the file `a`.
+fn secret_in<S: Shelf>(alloc: Global, shelf: &mut S) -> Result<Secret, Fail>
+    ensures { IfOk result IsSecret }
+{
+    let mut lines = Lines::start(alloc, shelf, "a")?;
+    let secret = read_secret(alloc, shelf, &mut lines)?;
+    Ok(secret)
+}
+
+/// The seal of the file `b`, and how many lines were read.
+fn seal_in<S: Shelf>(alloc: Global, shelf: &mut S) -> Result<(Seal, u64), Fail>
+    ensures { IfOk result (λ found. IsSeal found.0) }
+{
+    let mut lines = Lines::start(alloc, shelf, "b")?;
+    let seal = read_seal(alloc, shelf, &mut lines)?;
+    Ok((seal, lines.number()))
 }
 
 #[test]
@@ -48,17 +71,12 @@ fn what_was_written_is_read_and_matches(rt: HostRuntime) -> Result<(), Fail> {
     let mut shelf = MemShelf::new(rt.alloc());
     shelf.put_file("a", SECRET)?;
     shelf.put_file("b", SEAL)?;
-    let mut lines = Lines::start(rt.alloc(), &mut shelf, "a")?;
-    let secret = read_secret(rt.alloc(), &mut shelf, &mut lines)?;
-    let mut lines = Lines::start(rt.alloc(), &mut shelf, "b")?;
-    let mut seal = read_seal(rt.alloc(), &mut shelf, &mut lines)?;
-    assert_eq!(rt; secret.bid, 15);
-    assert_eq!(rt; matches(&secret, &seal), Ok(()));
+    let secret = secret_in(rt.alloc(), &mut shelf)?;
+    let (mut seal, _lines) = seal_in(rt.alloc(), &mut shelf)?;
+    assert!(rt; secret.bid == 15);
+    assert!(rt; matches(&secret, &seal) == Ok(()));
     seal.seat = 8;
-    assert_eq!(rt;
-        matches(&secret, &seal),
-        Err(Mismatch::Seat { kept: 8, given: 7 })
-    );
+    assert!(rt; matches(&secret, &seal) == Err(Mismatch::Seat { kept: 8, given: 7 }));
     Ok(())
 }
 
@@ -70,11 +88,9 @@ fn a_seal_of_64_lanes_is_read_back(rt: HostRuntime) -> Result<(), Fail> {
     let mut shelf = MemShelf::new(rt.alloc());
     shelf.put_file("a", secret_text(rt.alloc(), &secret)?.as_slice())?;
     shelf.put_file("b", seal_text(rt.alloc(), &seal)?.as_slice())?;
-    let mut lines = Lines::start(rt.alloc(), &mut shelf, "a")?;
-    let secret = read_secret(rt.alloc(), &mut shelf, &mut lines)?;
-    let mut lines = Lines::start(rt.alloc(), &mut shelf, "b")?;
-    let seal = read_seal(rt.alloc(), &mut shelf, &mut lines)?;
-    assert_eq!(rt; (lines.number(), matches(&secret, &seal)), (69, Ok(())));
+    let secret = secret_in(rt.alloc(), &mut shelf)?;
+    let (seal, lines) = seal_in(rt.alloc(), &mut shelf)?;
+    assert!(rt; (lines, matches(&secret, &seal)) == (69, Ok(())));
     Ok(())
 }
 
@@ -86,9 +102,9 @@ fn a_bid_or_a_seed_may_be_refused(rt: HostRuntime) -> Result<(), Fail> {
         &[7, 0, 0, 0, 0, 0, 0, 0, 0, most, most, most, most],
     )?;
     let large = make_seal(rt.alloc(), 16, 7, &ID, 4, 2, &mut words).err();
-    assert_eq!(rt; large, Some(SealErr::BidTooLarge));
+    assert!(rt; large == Some(SealErr::BidTooLarge));
     let dry = make_seal(rt.alloc(), 15, 7, &ID, 4, 2, &mut words).err();
-    assert_eq!(rt; dry, Some(SealErr::DrySeed { lane: 2 }));
+    assert!(rt; dry == Some(SealErr::DrySeed { lane: 2 }));
     Ok(())
 }
 
@@ -100,9 +116,9 @@ fn the_words_left_are_those_after_the_last_drawn(rt: HostRuntime) -> Result<(), 
         &[7, 0, 0, 0, 0, 0, 0, 0, 0, 98, most, most, most, most, 99],
     )?;
     make_seal(rt.alloc(), 15, 7, &ID, 4, 1, &mut words)?;
-    assert_eq!(rt; words.next(), 98);
+    assert!(rt; words.next() == 98);
     let dry = make_seal(rt.alloc(), 15, 7, &ID, 4, 1, &mut words).err();
-    assert_eq!(rt; dry, Some(SealErr::DrySeed { lane: 1 }));
-    assert_eq!(rt; words.next(), 99);
+    assert!(rt; dry == Some(SealErr::DrySeed { lane: 1 }));
+    assert!(rt; words.next() == 99);
     Ok(())
 }

@@ -19,7 +19,7 @@ fn the_first_missing_file_is_named(rt: HostRuntime) -> Result<(), Fail> {
     let mut shelf = MemShelf::new(rt.alloc());
     shelf.put_file("f", b"x\n")?;
     let begun = TwoChecker::start(rt.alloc(), &mut shelf, "f", "f", "f", "g", "h");
-    assert_eq!(rt; refusal(begun), Some(VErr::Missing(Part::SecondChallenge)));
+    assert!(rt; refusal(begun) == Some(VErr::Missing(Part::SecondChallenge)));
     Ok(())
 }
 
@@ -120,10 +120,7 @@ fn two_replies_give_their_lanes_and_come_to_a_verdict(rt: HostRuntime) -> Result
     let alloc = rt.alloc();
     let mut shelf = shelf_of_files(alloc)?;
     for (board, first, second, lanes, finding) in FOUND {
-        assert_eq!(rt;
-            found(alloc, &mut shelf, board, first, second)?,
-            (lanes, finding)
-        );
+        assert!(rt; found(alloc, &mut shelf, board, first, second)? == (lanes, finding));
     }
     Ok(())
 }

@@ -4,6 +4,7 @@ ghost use Rattle.vk_seal.specs.Values.{IsSeal, IsSecret};
 ghost use Rattle.vk_house.specs.Commands.{IsRoom};
 
 use std::alloc::Global;
+use std::process::Abort;
 use std::test::Fail;
 use vk_dice::ChaChaWords;
 use vk_house::{House, HouseErr, PhaseName, Standing};
@@ -33,7 +34,7 @@ fn sealed(alloc: Global, seed: u8, seat: u16, bid: u64, lanes: u32) -> Result<(S
 }
 
 /// What a call came to, as far as the tests look at it.
-#[derive(Clone, Copy, Debug, PartialEq, Eq)]
+#[derive(Clone, Copy, PartialEq, Eq)]
 enum Said {
     Done,
     Position(u32),
@@ -159,6 +160,8 @@ fn with_seals<K: Keeper + Drop>(alloc: Global, house: &mut House<'_, K>) -> Resu
     Ok(third)
 }
 
+// What is tried borrows the house: nothing is dropped where an assertion ends it, and so it is proved fast.
+
 const NO_BITS: Bits = (None, None);
 
 const FIRST: Bits = (Some(false), Some(true));
@@ -167,24 +170,21 @@ const SECOND: Bits = (Some(true), Some(true));
 
 #[test]
 fn an_auction_is_proved_and_answered_once(rt: HostRuntime) -> Result<(), Fail> {
-    let alloc = rt.alloc();
-    let mut keeper = MemKeeper::new(alloc);
-    let mut house = House::over(&mut keeper);
-    assert_eq!(rt; with_seals(alloc, &mut house)?, Said::Position(3));
-    assert_eq!(rt; prove(alloc, &mut house, &SEED), Said::Work(2, 9, NO_BITS));
-    assert_eq!(rt;
-        answer(alloc, &mut house, &[false, true])?,
-        Said::Work(2, 9, FIRST)
-    );
-    assert_eq!(rt;
-        answer(alloc, &mut house, &[true, true])?,
-        Said::OtherChallenge(FIRST)
-    );
-    assert_eq!(rt;
-        answer(alloc, &mut house, &[false, true])?,
-        Said::Work(2, 9, FIRST)
-    );
-    assert_eq!(rt; prove(alloc, &mut house, &SEED), Said::Work(2, 9, FIRST));
+    let mut keeper = MemKeeper::new(rt.alloc());
+    try_once(&rt, rt.alloc(), &mut House::over(&mut keeper))
+}
+
+fn try_once<K: Keeper + Drop>(
+    rt: &impl Abort,
+    alloc: Global,
+    house: &mut House<'_, K>,
+) -> Result<(), Fail> {
+    assert!(rt; with_seals(alloc, house)? == Said::Position(3));
+    assert!(rt; prove(alloc, house, &SEED) == Said::Work(2, 9, NO_BITS));
+    assert!(rt; answer(alloc, house, &[false, true])? == Said::Work(2, 9, FIRST));
+    assert!(rt; answer(alloc, house, &[true, true])? == Said::OtherChallenge(FIRST));
+    assert!(rt; answer(alloc, house, &[false, true])? == Said::Work(2, 9, FIRST));
+    assert!(rt; prove(alloc, house, &SEED) == Said::Work(2, 9, FIRST));
     let phase = PhaseName::Answered;
     let standing = Standing {
         width: 4,
@@ -192,113 +192,125 @@ fn an_auction_is_proved_and_answered_once(rt: HostRuntime) -> Result<(), Fail> {
         seals: 3,
         phase,
     };
-    assert_eq!(rt; show(&mut house), Ok(standing));
+    assert!(rt; show(house) == Ok(standing));
     Ok(())
 }
 
 #[test]
 fn what_is_refused_while_seals_are_taken(rt: HostRuntime) -> Result<(), Fail> {
-    let alloc = rt.alloc();
-    let mut keeper = MemKeeper::new(alloc);
-    let mut house = House::over(&mut keeper);
-    assert_eq!(rt; show(&mut house), Err(Said::Other("unknown")));
-    assert_eq!(rt; announce(alloc, &mut house, &ID), Said::Done);
-    assert_eq!(rt; announce(alloc, &mut house, &ID), Said::Other("known"));
-    assert_eq!(rt; prove(alloc, &mut house, &SEED), Said::Other("no seals"));
-    assert_eq!(rt;
-        answer(alloc, &mut house, &[true, true])?,
-        Said::Phase(PhaseName::Taking)
-    );
+    let mut keeper = MemKeeper::new(rt.alloc());
+    try_taking(&rt, rt.alloc(), &mut House::over(&mut keeper))
+}
+
+fn try_taking<K: Keeper + Drop>(
+    rt: &impl Abort,
+    alloc: Global,
+    house: &mut House<'_, K>,
+) -> Result<(), Fail> {
+    assert!(rt; show(house) == Err(Said::Other("unknown")));
+    assert!(rt; announce(alloc, house, &ID) == Said::Done);
+    assert!(rt; announce(alloc, house, &ID) == Said::Other("known"));
+    assert!(rt; prove(alloc, house, &SEED) == Said::Other("no seals"));
+    assert!(rt; answer(alloc, house, &[true, true])? == Said::Phase(PhaseName::Taking));
     Ok(())
 }
 
 #[test]
 fn what_is_refused_once_it_is_proved(rt: HostRuntime) -> Result<(), Fail> {
-    let alloc = rt.alloc();
-    let mut keeper = MemKeeper::new(alloc);
-    let mut house = House::over(&mut keeper);
-    assert_eq!(rt; with_seals(alloc, &mut house)?, Said::Position(3));
-    assert_eq!(rt; prove(alloc, &mut house, &SEED), Said::Work(2, 9, NO_BITS));
-    assert_eq!(rt; prove(alloc, &mut house, &[1; 32]), Said::OtherSeed(SEED));
-    assert_eq!(rt;
-        hand_in(alloc, &mut house, 8, 3, 2)?,
-        Said::Phase(PhaseName::Proved)
-    );
-    assert_eq!(rt; answer(alloc, &mut house, &[true])?, Said::Length(2, 1));
+    let mut keeper = MemKeeper::new(rt.alloc());
+    try_proved(&rt, rt.alloc(), &mut House::over(&mut keeper))
+}
+
+fn try_proved<K: Keeper + Drop>(
+    rt: &impl Abort,
+    alloc: Global,
+    house: &mut House<'_, K>,
+) -> Result<(), Fail> {
+    assert!(rt; with_seals(alloc, house)? == Said::Position(3));
+    assert!(rt; prove(alloc, house, &SEED) == Said::Work(2, 9, NO_BITS));
+    assert!(rt; prove(alloc, house, &[1; 32]) == Said::OtherSeed(SEED));
+    assert!(rt; hand_in(alloc, house, 8, 3, 2)? == Said::Phase(PhaseName::Proved));
+    assert!(rt; answer(alloc, house, &[true])? == Said::Length(2, 1));
     Ok(())
 }
 
 #[test]
 fn what_may_not_join(rt: HostRuntime) -> Result<(), Fail> {
-    let alloc = rt.alloc();
-    let mut keeper = MemKeeper::new(alloc);
-    let mut house = House::over(&mut keeper);
-    assert_eq!(rt; announce(alloc, &mut house, &ID), Said::Done);
-    assert_eq!(rt;
-        hand_in(alloc, &mut house, 8, 16, 2)?,
-        Said::Other("bid too large")
-    );
-    assert_eq!(rt; hand_in(alloc, &mut house, 8, 15, 2)?, Said::Position(1));
-    assert_eq!(rt;
-        hand_in(alloc, &mut house, 8, 15, 2)?,
-        Said::Other("seat taken")
-    );
-    assert_eq!(rt; hand_in(alloc, &mut house, 9, 15, 3)?, Said::Length(2, 3));
-    assert_eq!(rt; hand_in(alloc, &mut house, 9, 0, 2)?, Said::Position(2));
+    let mut keeper = MemKeeper::new(rt.alloc());
+    try_joining(&rt, rt.alloc(), &mut House::over(&mut keeper))
+}
+
+fn try_joining<K: Keeper + Drop>(
+    rt: &impl Abort,
+    alloc: Global,
+    house: &mut House<'_, K>,
+) -> Result<(), Fail> {
+    assert!(rt; announce(alloc, house, &ID) == Said::Done);
+    assert!(rt; hand_in(alloc, house, 8, 16, 2)? == Said::Other("bid too large"));
+    assert!(rt; hand_in(alloc, house, 8, 15, 2)? == Said::Position(1));
+    assert!(rt; hand_in(alloc, house, 8, 15, 2)? == Said::Other("seat taken"));
+    assert!(rt; hand_in(alloc, house, 9, 15, 3)? == Said::Length(2, 3));
+    assert!(rt; hand_in(alloc, house, 9, 0, 2)? == Said::Position(2));
     Ok(())
 }
 
 #[test]
 fn a_seal_is_of_its_auction_and_secret(rt: HostRuntime) -> Result<(), Fail> {
-    let alloc = rt.alloc();
-    let mut keeper = MemKeeper::new(alloc);
-    let mut house = House::over(&mut keeper);
-    assert_eq!(rt; announce(alloc, &mut house, &ID), Said::Done);
-    assert_eq!(rt; announce(alloc, &mut house, &OTHER), Said::Done);
+    let mut keeper = MemKeeper::new(rt.alloc());
+    try_seals(&rt, rt.alloc(), &mut House::over(&mut keeper))
+}
+
+fn try_seals<K: Keeper + Drop>(
+    rt: &impl Abort,
+    alloc: Global,
+    house: &mut House<'_, K>,
+) -> Result<(), Fail> {
+    assert!(rt; announce(alloc, house, &ID) == Said::Done);
+    assert!(rt; announce(alloc, house, &OTHER) == Said::Done);
     let (secret, seal) = sealed(alloc, 1, 8, 3, 2)?;
-    assert_eq!(rt;
-        submit(&mut house, &OTHER, seal, secret),
-        Said::OtherAuction(ID)
-    );
+    assert!(rt; submit(house, &OTHER, seal, secret) == Said::OtherAuction(ID));
     let first = sealed(alloc, 1, 8, 3, 2)?;
     let second = sealed(alloc, 2, 8, 3, 2)?;
-    assert_eq!(rt;
-        submit(&mut house, &ID, first.1, second.0),
-        Said::Mismatch(1, false)
-    );
+    assert!(rt; submit(house, &ID, first.1, second.0) == Said::Mismatch(1, false));
     Ok(())
 }
 
 #[test]
 fn sixty_four_seals_are_taken(rt: HostRuntime) -> Result<(), Fail> {
-    let alloc = rt.alloc();
-    let mut keeper = MemKeeper::new(alloc);
-    let mut house = House::over(&mut keeper);
-    assert_eq!(rt; announce(alloc, &mut house, &ID), Said::Done);
+    let mut keeper = MemKeeper::new(rt.alloc());
+    try_many(&rt, rt.alloc(), &mut House::over(&mut keeper))
+}
+
+fn try_many<K: Keeper + Drop>(
+    rt: &impl Abort,
+    alloc: Global,
+    house: &mut House<'_, K>,
+) -> Result<(), Fail> {
+    assert!(rt; announce(alloc, house, &ID) == Said::Done);
     for seat in 1..=64u16 {
-        let said = hand_in(alloc, &mut house, seat, 1, 2)?;
-        assert_eq!(rt; said, Said::Position(u32::from(seat)));
+        let said = hand_in(alloc, house, seat, 1, 2)?;
+        assert!(rt; said == Said::Position(u32::from(seat)));
     }
-    assert_eq!(rt; hand_in(alloc, &mut house, 65, 1, 2)?, Said::Other("full"));
+    assert!(rt; hand_in(alloc, house, 65, 1, 2)? == Said::Other("full"));
     Ok(())
 }
 
 #[test]
 fn a_challenge_that_is_not_kept_is_not_answered(rt: HostRuntime) -> Result<(), Fail> {
-    let alloc = rt.alloc();
-    let mut keeper = MemKeeper::new(alloc);
+    let mut keeper = MemKeeper::new(rt.alloc());
     // The second call of `answer`, after two calls each of `announce`, three of `submit` and `prove`.
     keeper.fail_at(12)?;
-    let mut house = House::over(&mut keeper);
-    assert_eq!(rt; with_seals(alloc, &mut house)?, Said::Position(3));
-    assert_eq!(rt; prove(alloc, &mut house, &SEED), Said::Work(2, 9, NO_BITS));
-    assert_eq!(rt;
-        answer(alloc, &mut house, &[false, true])?,
-        Said::Other("keeper failed")
-    );
-    assert_eq!(rt;
-        answer(alloc, &mut house, &[true, true])?,
-        Said::Work(2, 9, SECOND)
-    );
+    try_unkept(&rt, rt.alloc(), &mut House::over(&mut keeper))
+}
+
+fn try_unkept<K: Keeper + Drop>(
+    rt: &impl Abort,
+    alloc: Global,
+    house: &mut House<'_, K>,
+) -> Result<(), Fail> {
+    assert!(rt; with_seals(alloc, house)? == Said::Position(3));
+    assert!(rt; prove(alloc, house, &SEED) == Said::Work(2, 9, NO_BITS));
+    assert!(rt; answer(alloc, house, &[false, true])? == Said::Other("keeper failed"));
+    assert!(rt; answer(alloc, house, &[true, true])? == Said::Work(2, 9, SECOND));
     Ok(())
 }

@@ -46,14 +46,19 @@ fn width_of<K: Keeper>(keeper: &mut K, id: &[u8; 16]) -> Result<Option<u32>, Out
 
 #[test]
 fn an_auction_is_kept_under_its_id(rt: HostRuntime) -> Result<(), Fail> {
-    let mut keeper = MemKeeper::new(rt.alloc());
-    assert_eq!(rt; width_of(&mut keeper, &ONE)?, None);
-    keeper.put(opened(rt.alloc(), &ONE, 4))?;
-    keeper.put(opened(rt.alloc(), &TWO, 9))?;
-    assert_eq!(rt; width_of(&mut keeper, &ONE)?, Some(4));
-    keeper.put(opened(rt.alloc(), &ONE, 5))?;
-    assert_eq!(rt; width_of(&mut keeper, &ONE)?, Some(5));
-    assert_eq!(rt; width_of(&mut keeper, &TWO)?, Some(9));
+    try_widths(&rt, rt.alloc(), &mut MemKeeper::new(rt.alloc()))
+}
+
+// What is tried borrows the keeper: nothing is dropped where an assertion ends it, and so it is proved fast.
+
+fn try_widths<K: Keeper>(rt: &impl Abort, alloc: Global, keeper: &mut K) -> Result<(), Fail> {
+    assert!(rt; width_of(keeper, &ONE)? == None);
+    keeper.put(opened(alloc, &ONE, 4))?;
+    keeper.put(opened(alloc, &TWO, 9))?;
+    assert!(rt; width_of(keeper, &ONE)? == Some(4));
+    keeper.put(opened(alloc, &ONE, 5))?;
+    assert!(rt; width_of(keeper, &ONE)? == Some(5));
+    assert!(rt; width_of(keeper, &TWO)? == Some(9));
     Ok(())
 }
 
@@ -62,12 +67,16 @@ fn the_named_calls_fail_and_change_nothing(rt: HostRuntime) -> Result<(), Fail> 
     let mut keeper = MemKeeper::new(rt.alloc());
     keeper.fail_at(2)?;
     keeper.fail_at(3)?;
-    keeper.put(opened(rt.alloc(), &ONE, 4))?;
-    let refused = keeper.put(opened(rt.alloc(), &ONE, 5));
-    assert_eq!(rt; refused, Err(OutsideErr::Failed));
-    let unanswered = width_of(&mut keeper, &ONE);
-    assert_eq!(rt; unanswered, Err(OutsideErr::Failed));
-    assert_eq!(rt; width_of(&mut keeper, &ONE)?, Some(4));
+    try_failing(&rt, rt.alloc(), &mut keeper)
+}
+
+fn try_failing<K: Keeper>(rt: &impl Abort, alloc: Global, keeper: &mut K) -> Result<(), Fail> {
+    keeper.put(opened(alloc, &ONE, 4))?;
+    let refused = keeper.put(opened(alloc, &ONE, 5));
+    assert!(rt; refused == Err(OutsideErr::Failed));
+    let unanswered = width_of(keeper, &ONE);
+    assert!(rt; unanswered == Err(OutsideErr::Failed));
+    assert!(rt; width_of(keeper, &ONE)? == Some(4));
     Ok(())
 }
 
@@ -117,15 +126,15 @@ fn answered(alloc: Global, id: &[u8; 16], seed: &[u8; 32]) -> Result<Auction, Fa
 /// Checks the seals of an auction that was copied, in lane 2 by what another implementation drew.
 fn check_seals(rt: &impl Abort, auction: &Auction) -> Result<(), Fail> {
     let rows = auction.seals.as_slice();
-    assert_eq!(rt; rows.len(), 3);
+    assert!(rt; rows.len() == 3);
     let first = &rows[0];
-    assert_eq!(rt; (first.seal.seat, first.secret.bid), (7, 15));
+    assert!(rt; (first.seal.seat, first.secret.bid) == (7, 15));
     let tape = first.secret.lanes.as_slice().get(1).ok_or("no lane 2")?;
-    assert_eq!(rt; tape.mask.get(), 348017112954609804);
+    assert!(rt; tape.mask.get() == 348017112954609804);
     let last = &rows[2];
-    assert_eq!(rt; (last.seal.seat, last.secret.seat), (65535, 65535));
-    assert_eq!(rt; last.secret.bid, 0);
-    assert_eq!(rt; (last.seal.lanes.len(), last.secret.lanes.len()), (2, 2));
+    assert!(rt; (last.seal.seat, last.secret.seat) == (65535, 65535));
+    assert!(rt; last.secret.bid == 0);
+    assert!(rt; (last.seal.lanes.len(), last.secret.lanes.len()) == (2, 2));
     Ok(())
 }
 
@@ -134,13 +143,17 @@ fn a_copy_has_every_part(rt: HostRuntime) -> Result<(), Fail> {
     let alloc = rt.alloc();
     let auction = answered(alloc, &ID, &SEED)?;
     let copy = auction.copy(alloc)?;
-    assert_eq!(rt; (copy.id, copy.width, copy.lanes), (ID, 8, 2));
+    check_copy(&rt, &copy)
+}
+
+fn check_copy(rt: &impl Abort, copy: &Auction) -> Result<(), Fail> {
+    assert!(rt; (copy.id, copy.width, copy.lanes) == (ID, 8, 2));
     let Phase::Answered { seed, challenge } = &copy.phase else {
         return Err(Fail::from("another phase"));
     };
-    assert_eq!(rt; *seed, SEED);
-    assert_eq!(rt; challenge.bits.as_slice(), [false, true].as_slice());
-    check_seals(&rt, &copy)?;
+    assert!(rt; *seed == SEED);
+    assert!(rt; challenge.bits.as_slice() == [false, true].as_slice());
+    check_seals(rt, copy)?;
     Ok(())
 }
 
@@ -151,17 +164,32 @@ fn three_auctions_with_seals_are_kept(rt: HostRuntime) -> Result<(), Fail> {
     keeper.put(with_seals(alloc, &ONE)?)?;
     keeper.put(answered(alloc, &TWO, &SEED)?)?;
     keeper.put(proved(alloc, &ID, &SEED)?)?;
-    let found = keeper.get(&ID)?.ok_or("not kept")?;
+    check_proved(&rt, &found(&mut keeper, &ID)?)?;
+    check_answered(&rt, &found(&mut keeper, &TWO)?);
+    check_taking(&rt, &found(&mut keeper, &ONE)?);
+    Ok(())
+}
+
+fn found<K: Keeper>(keeper: &mut K, id: &[u8; 16]) -> Result<Auction, Fail> {
+    let found = keeper.get(id)?.ok_or("not kept")?;
+    Ok(found)
+}
+
+fn check_proved(rt: &impl Abort, found: &Auction) -> Result<(), Fail> {
     let Phase::Proved { seed } = &found.phase else {
         return Err(Fail::from("another phase"));
     };
-    assert_eq!(rt; *seed, SEED);
-    check_seals(&rt, &found)?;
-    let second = keeper.get(&TWO)?.ok_or("not kept")?;
-    assert_eq!(rt; second.seals.len(), 3);
-    assert!(rt; matches!(second.phase, Phase::Answered { .. }));
-    let first = keeper.get(&ONE)?.ok_or("not kept")?;
-    assert_eq!(rt; first.seals.len(), 3);
-    assert!(rt; matches!(first.phase, Phase::Taking));
+    assert!(rt; *seed == SEED);
+    check_seals(rt, found)?;
     Ok(())
+}
+
+fn check_answered(rt: &impl Abort, found: &Auction) {
+    assert!(rt; found.seals.len() == 3);
+    assert!(rt; matches!(found.phase, Phase::Answered { .. }));
+}
+
+fn check_taking(rt: &impl Abort, found: &Auction) {
+    assert!(rt; found.seals.len() == 3);
+    assert!(rt; matches!(found.phase, Phase::Taking));
 }

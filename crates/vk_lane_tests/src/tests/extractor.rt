@@ -6,6 +6,7 @@ ghost use Rattle.vk_plan.specs.declared.wire.WireKind.TheVariants.{Pair};
 
 use super::numbers::{half, residue};
 use std::alloc::Global;
+use std::process::Abort;
 use std::test::Fail;
 use vk_commit::{Opening, Place, TwoOpenings, opens};
 use vk_extractor::{confront, extract_lane};
@@ -122,7 +123,7 @@ fn a_lane_made_elsewhere_gives_its_bid(rt: HostRuntime) -> Result<(), Fail> {
     let zero = [half(0x11, 3)?, half(0x33, 10)?];
     let one = [half(0x22, 2)?, half(0x44, 2305843009213693946)?];
     let values = values_of_lane(rt.alloc(), &plan, &case, &zero, &one)?;
-    assert_eq!(rt; values.as_slice(), [residue(5)?, residue(5)?].as_slice());
+    assert!(rt; values.as_slice() == [residue(5)?, residue(5)?].as_slice());
     Ok(())
 }
 
@@ -147,31 +148,47 @@ fn eight_or_zero(full: bool) -> Residue
 
 #[test]
 fn pairs_give_0_or_their_weight(rt: HostRuntime) -> Result<(), Fail> {
-    let kind = WireKind::Pair(3);
-    let plan = plan_of_two(rt.alloc(), kind)?;
-    let bid = tape(9, false)?;
+    let plan = plan_of_two(rt.alloc(), WireKind::Pair(3))?;
     for (full, swap) in [(false, false), (false, true), (true, false), (true, true)] {
-        let value = eight_or_zero(full);
-        let pair = tape(5, swap)?;
-        let first = make(
-            WireKind::Split,
-            &wire_place(&AUCTION, 1, &[7], 0),
-            value,
-            &bid,
-        );
-        let second = make(kind, &wire_place(&AUCTION, 1, &[7], 1), value, &pair);
-        let case = case_of_two(rt.alloc(), first, second, 4)?;
-        let zero = [
-            show(WireKind::Split, value, &bid, false),
-            show(kind, value, &pair, false),
-        ];
-        let one = [
-            show(WireKind::Split, value, &bid, true),
-            show(kind, value, &pair, true),
-        ];
-        let values = values_of_lane(rt.alloc(), &plan, &case, &zero, &one)?;
-        assert_eq!(rt; values.as_slice(), [value, value].as_slice());
+        try_pair(&rt, rt.alloc(), &plan, eight_or_zero(full), swap)?;
     }
+    Ok(())
+}
+
+/// A pair of that value gives it, as the bid does that it is a copy of.
+fn try_pair(
+    rt: &impl Abort,
+    alloc: Global,
+    plan: &Plan,
+    value: Residue,
+    swap: bool,
+) -> Result<(), Fail>
+    requires value { MayHave (Pair 3) value }
+    requires inputs { plan.now.inputs ≡ 1 }
+    requires wires { length plan.now.kinds ≡ 2 }
+    requires rows { length plan.now.rows ≡ 1 }
+{
+    let kind = WireKind::Pair(3);
+    let bid = tape(9, false)?;
+    let pair = tape(5, swap)?;
+    let first = make(
+        WireKind::Split,
+        &wire_place(&AUCTION, 1, &[7], 0),
+        value,
+        &bid,
+    );
+    let second = make(kind, &wire_place(&AUCTION, 1, &[7], 1), value, &pair);
+    let case = case_of_two(alloc, first, second, 4)?;
+    let zero = [
+        show(WireKind::Split, value, &bid, false),
+        show(kind, value, &pair, false),
+    ];
+    let one = [
+        show(WireKind::Split, value, &bid, true),
+        show(kind, value, &pair, true),
+    ];
+    let values = values_of_lane(alloc, plan, &case, &zero, &one)?;
+    assert!(rt; values.as_slice() == [value, value].as_slice());
     Ok(())
 }
 
@@ -258,14 +275,14 @@ fn many_wires_of_lane_2_give_their_values(rt: HostRuntime) -> Result<(), Fail> {
     assert!(rt; has_counts(&plan, &case, zero.as_slice()));
     assert!(rt; has_counts(&plan, &case, one.as_slice()));
     let values = values_of_lane(rt.alloc(), &plan, &case, zero.as_slice(), one.as_slice())?;
-    assert_eq!(rt; values.len(), 102);
+    assert!(rt; values.len() == 102);
+    try_values(&rt, &plan, values.as_slice())
+}
+
+fn try_values(rt: &impl Abort, plan: &Plan, values: &[Residue]) -> Result<(), Fail> {
     for wire in 0..plan.wires() {
         let value = value_at(plan.kind(wire), wire)?;
-        assert_eq!(rt;
-            values.as_slice().get(wire as usize),
-            Some(&value),
-            "wire {wire}"
-        );
+        assert!(rt; values.get(wire as usize) == Some(&value), "wire {wire}");
     }
     Ok(())
 }

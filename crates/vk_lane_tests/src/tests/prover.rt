@@ -5,6 +5,7 @@ ghost use Rattle.vk_plan.specs.Plans.{Holds};
 
 use super::numbers::{half, inputs_of, opening, residue};
 use std::alloc::Global;
+use std::process::Abort;
 use std::test::Fail;
 use vk_board::LaneLines;
 use vk_dice::{ChaChaWords, ListWords, Words};
@@ -121,12 +122,16 @@ fn halves_of_a_bit(bit: bool) -> Result<[Residue; 3], Fail> {
 fn lines_are_published(rt: HostRuntime) -> Result<(), Fail> {
     let lane = lane_of_a_bit(rt.alloc())?;
     let values = lane.values.as_slice();
-    assert_eq!(rt; values, [Residue::ZERO; 3].as_slice());
+    assert!(rt; values == [Residue::ZERO; 3].as_slice());
     let lines = make_lane(rt.alloc(), &lane.plan, &AUCTION, 1, values, &lane.tape)?;
+    try_lines(&rt, &lines)
+}
+
+fn try_lines(rt: &impl Abort, lines: &LaneLines) -> Result<(), Fail> {
     let posted = [residue(2305843009213693944)?, residue(6)?];
-    assert_eq!(rt; lines.posted.as_slice(), posted.as_slice());
+    assert!(rt; lines.posted.as_slice() == posted.as_slice());
     let copy = lines.coms.as_slice().first().ok_or("no commitment")?;
-    assert_eq!(rt; copy.first.as_slice(), MASK_OF_COPY.as_slice());
+    assert!(rt; copy.first == MASK_OF_COPY);
     Ok(())
 }
 
@@ -137,7 +142,7 @@ fn both_replies_show_their_halves(rt: HostRuntime) -> Result<(), Fail> {
         let values = lane.values.as_slice();
         let shown = answer_lane(rt.alloc(), &lane.plan, values, &lane.tape, bit)?;
         let expected = shown_of_a_bit(bit)?;
-        assert_eq!(rt; shown.as_slice(), expected.as_slice());
+        assert!(rt; shown.as_slice() == expected.as_slice());
     }
     Ok(())
 }
@@ -148,12 +153,22 @@ fn both_replies_are_accepted(rt: HostRuntime) -> Result<(), Fail> {
     let values = lane.values.as_slice();
     let lines = make_lane(rt.alloc(), &lane.plan, &AUCTION, 1, values, &lane.tape)?;
     let case = case_of_a_bit(rt.alloc(), lines)?;
-    for bit in [false, true] {
-        let shown = shown_of_a_bit(bit)?;
-        let halves = accepted_halves(rt.alloc(), &lane.plan, &case, bit, &shown)?;
-        let expected = halves_of_a_bit(bit)?;
-        assert_eq!(rt; halves.as_slice(), expected.as_slice());
-    }
+    try_reply(&rt, rt.alloc(), &lane.plan, &case, false)?;
+    try_reply(&rt, rt.alloc(), &lane.plan, &case, true)
+}
+
+/// The reply for the bit is accepted with the halves that it is known to have.
+fn try_reply(
+    rt: &impl Abort,
+    alloc: Global,
+    plan: &Plan,
+    case: &LaneCase,
+    bit: bool,
+) -> Result<(), Fail> {
+    let shown = shown_of_a_bit(bit)?;
+    let expected = halves_of_a_bit(bit)?;
+    let halves = accepted_halves(alloc, plan, case, bit, &shown)?;
+    assert!(rt; halves.as_slice() == expected.as_slice());
     Ok(())
 }
 
@@ -191,7 +206,7 @@ fn a_residue_a_bit_and_two_keys_are_drawn(rt: HostRuntime) -> Result<(), Fail> {
         first_key: [0; 32],
         second_key: [0; 32],
     };
-    assert_eq!(rt; tape.wires.as_slice(), [given, first, second].as_slice());
+    assert!(rt; tape.wires.as_slice() == [given, first, second].as_slice());
     Ok(())
 }
 
@@ -203,7 +218,7 @@ fn a_wire_that_is_dry_is_named(rt: HostRuntime) -> Result<(), Fail> {
     let ahead = [5, 7, 0, 0, 0, 0, 0, 0, 0, 0, most, most, most, most];
     let mut words = ListWords::of(rt.alloc(), &ahead)?;
     let refused = draw_tape(rt.alloc(), &plan, &[given], &mut words).err();
-    assert_eq!(rt; refused, Some(DrawErr::DrySeed { wire: 2 }));
+    assert!(rt; refused == Some(DrawErr::DrySeed { wire: 2 }));
     Ok(())
 }
 
@@ -298,43 +313,94 @@ fn value_at(firsts: &[Residue], seconds: &[Residue], wire: usize) -> Option<u64>
     Some(first.add(*second).get())
 }
 
+const BIDS: [u64; 3] = [200, 13, 250];
+
 #[test]
 fn both_replies_of_three_seals_are_accepted(rt: HostRuntime) -> Result<(), Fail> {
-    let bids = [200, 13, 250];
-    let (plan, values) = plan_of_bids(rt.alloc(), &bids, 8)?;
-    let given = given_tapes()?;
+    let (plan, values) = plan_of_bids(rt.alloc(), &BIDS, 8)?;
+    let mut words = ChaChaWords::of(&[7; 32], &AUCTION, 2);
+    let tape = tape_of_seals(rt.alloc(), &plan, &mut words)?;
+    try_seals(&rt, rt.alloc(), &plan, values.as_slice(), &tape)
+}
+
+/// A tape for the plan of three seals, behind the tapes that are given.
+fn tape_of_seals<W: Words>(alloc: Global, plan: &Plan, words: &mut W) -> Result<LaneTape, Fail>
+    ensures { IfOk result (λ tape. length tape.wires ≡ length plan.now.kinds) }
+{
     if plan.inputs() != 3 {
         return Err("not three inputs".into());
     }
-    let mut words = ChaChaWords::of(&[7; 32], &AUCTION, 2);
-    let tape = draw_tape(rt.alloc(), &plan, &given, &mut words)?;
-    let lines = make_lane(rt.alloc(), &plan, &AUCTION, 2, values.as_slice(), &tape)?;
-    assert_eq!(rt; (lines.coms.len(), lines.posted.len()), (77, 13));
-    let case = case_of_seals(rt.alloc(), &bids, &given, lines)?;
-    let first = answer_lane(rt.alloc(), &plan, values.as_slice(), &tape, false)?;
-    let second = answer_lane(rt.alloc(), &plan, values.as_slice(), &tape, true)?;
-    let firsts = accepted_halves(rt.alloc(), &plan, &case, false, first.as_slice())?;
-    let seconds = accepted_halves(rt.alloc(), &plan, &case, true, second.as_slice())?;
-    for (wire, bid) in [(0, 200), (1, 13), (2, 250), (3, 200), (4, 13), (5, 250)] {
-        let value = value_at(firsts.as_slice(), seconds.as_slice(), wire);
-        assert_eq!(rt; value, Some(bid), "wire {wire}");
-    }
+    let given = given_tapes()?;
+    let tape = draw_tape(alloc, plan, &given, words)?;
+    Ok(tape)
+}
+
+/// The bids and their copies are the values of the first wires.
+fn try_seals(
+    rt: &impl Abort,
+    alloc: Global,
+    plan: &Plan,
+    values: &[Residue],
+    tape: &LaneTape,
+) -> Result<(), Fail>
+    requires holds { Holds plan.now values.now }
+    requires one_each { length tape.now.wires ≡ length plan.now.kinds }
+{
+    let given = given_tapes()?;
+    let lines = make_lane(alloc, plan, &AUCTION, 2, values, tape)?;
+    assert!(rt; (lines.coms.len(), lines.posted.len()) == (77, 13));
+    let case = case_of_seals(alloc, &BIDS, &given, lines)?;
+    let firsts = halves_of_seals(alloc, plan, values, tape, &case, false)?;
+    let seconds = halves_of_seals(alloc, plan, values, tape, &case, true)?;
+    try_values(rt, firsts.as_slice(), seconds.as_slice());
     Ok(())
+}
+
+/// The halves of the accepted reply for the bit.
+fn halves_of_seals(
+    alloc: Global,
+    plan: &Plan,
+    values: &[Residue],
+    tape: &LaneTape,
+    case: &LaneCase,
+    bit: bool,
+) -> Result<Vec<Residue>, Fail>
+    requires holds { Holds plan.now values.now }
+    requires one_each { length tape.now.wires ≡ length plan.now.kinds }
+{
+    let shown = answer_lane(alloc, plan, values, tape, bit)?;
+    let halves = accepted_halves(alloc, plan, case, bit, shown.as_slice())?;
+    Ok(halves)
+}
+
+fn try_values(rt: &impl Abort, firsts: &[Residue], seconds: &[Residue]) {
+    for (wire, bid) in [(0, 200), (1, 13), (2, 250), (3, 200), (4, 13), (5, 250)] {
+        assert!(rt; value_at(firsts, seconds, wire) == Some(bid), "wire {wire}");
+    }
 }
 
 #[test]
 fn a_later_wire_that_is_dry_is_named(rt: HostRuntime) -> Result<(), Fail> {
-    let (plan, _values) = plan_of_bids(rt.alloc(), &[200, 13, 250], 8)?;
-    let given = given_tapes()?;
-    if plan.inputs() != 3 {
-        return Err("not three inputs".into());
-    }
+    let (plan, _values) = plan_of_bids(rt.alloc(), &BIDS, 8)?;
     let mut ahead = [0; 55];
     ahead[50..54].copy_from_slice(&[18446744073709551615; 4]);
     ahead[54] = 11;
     let mut words = ListWords::of(rt.alloc(), &ahead)?;
-    let refused = draw_tape(rt.alloc(), &plan, &given, &mut words).err();
-    assert_eq!(rt; refused, Some(DrawErr::DrySeed { wire: 8 }));
-    assert_eq!(rt; words.next(), 11);
+    try_dry(&rt, rt.alloc(), &plan, &mut words)
+}
+
+fn try_dry<W: Words>(
+    rt: &impl Abort,
+    alloc: Global,
+    plan: &Plan,
+    words: &mut W,
+) -> Result<(), Fail> {
+    if plan.inputs() != 3 {
+        return Err("not three inputs".into());
+    }
+    let given = given_tapes()?;
+    let refused = draw_tape(alloc, plan, &given, words).err();
+    assert!(rt; refused == Some(DrawErr::DrySeed { wire: 8 }));
+    assert!(rt; words.next() == 11);
     Ok(())
 }

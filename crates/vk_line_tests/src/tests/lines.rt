@@ -10,7 +10,7 @@ use vk_lines::{
 };
 
 fn check_decimal(rt: &impl Abort, text: &[u8], number: Option<u64>) {
-    assert_eq!(rt; read_decimal(text, u64::MAX), number);
+    assert!(rt; read_decimal(text, u64::MAX) == number);
 }
 
 #[test]
@@ -22,24 +22,24 @@ fn canonical_decimals_alone_are_read(rt: HostRuntime) {
     check_decimal(&rt, b"", None);
     check_decimal(&rt, b"07", None);
     check_decimal(&rt, b"+7", None);
-    assert_eq!(rt; read_decimal(b"7", 6), None);
+    assert!(rt; read_decimal(b"7", 6) == None);
 }
 
 #[test]
 fn lower_case_hexadecimal_alone_is_read(rt: HostRuntime) {
     let id = *b"000102030405060708090a0b0c0d0e0f";
     let bytes = [0, 1, 2, 3, 4, 5, 6, 7, 8, 9, 10, 11, 12, 13, 14, 15];
-    assert_eq!(rt; read_hex16(&id), Some(bytes));
-    assert_eq!(rt; read_hex16(b"000102030405060708090A0B0C0D0E0F"), None);
-    assert_eq!(rt; read_hex16(b"000102030405060708090a0b0c0d0e0"), None);
-    assert_eq!(rt; read_hex32(&[b'f'; 64]), Some([255; 32]));
-    assert_eq!(rt; read_hex32(&id), None);
+    assert!(rt; read_hex16(&id) == Some(bytes));
+    assert!(rt; read_hex16(b"000102030405060708090A0B0C0D0E0F") == None);
+    assert!(rt; read_hex16(b"000102030405060708090a0b0c0d0e0") == None);
+    assert!(rt; read_hex32(&[b'f'; 64]) == Some([255; 32]));
+    assert!(rt; read_hex32(&id) == None);
 }
 
 #[test]
 fn fields_stand_between_single_spaces(rt: HostRuntime) -> Result<(), Fail> {
-    assert_eq!(rt; field(b"lanes 4", 1).ok_or("no field")?, b"4".as_slice());
-    assert_eq!(rt; field(b"lanes  4", 1).ok_or("no field")?.len(), 0);
+    assert!(rt; field(b"lanes 4", 1).ok_or("no field")? == b"4".as_slice());
+    assert!(rt; field(b"lanes  4", 1).ok_or("no field")?.len() == 0);
     assert!(rt; field(b"lanes 4", 2).is_none());
     Ok(())
 }
@@ -47,18 +47,18 @@ fn fields_stand_between_single_spaces(rt: HostRuntime) -> Result<(), Fail> {
 #[test]
 fn a_line_is_a_word_and_its_fields(rt: HostRuntime) -> Result<(), Fail> {
     let rest = behind_word(b"s 1 ab 7", b"s").ok_or("another word")?;
-    assert_eq!(rt; rest, b"1 ab 7".as_slice());
+    assert!(rt; rest == b"1 ab 7".as_slice());
     assert!(rt; four_fields(rest).is_none());
     let fields = four_fields(b"1 ab  7").ok_or("not four fields")?;
-    assert_eq!(rt; fields.1, b"ab".as_slice());
-    assert_eq!(rt; fields.2.len(), 0);
-    assert_eq!(rt; fields.3, b"7".as_slice());
+    assert!(rt; fields.1 == b"ab".as_slice());
+    assert!(rt; fields.2.len() == 0);
+    assert!(rt; fields.3 == b"7".as_slice());
     assert!(rt; one_field(b"4 ").is_none());
     assert!(rt; behind_word(b"seal", b"seal").is_none());
     assert!(rt; behind_word(b"seals 4", b"seal").is_none());
-    assert_eq!(rt; read_number(b"lanes 4", b"lanes", 4, 4), Some(4));
-    assert_eq!(rt; read_number(b"lanes 4 ", b"lanes", 4, 4), None);
-    assert_eq!(rt; read_number(b"lanes 4", b"lanes", 5, 9), None);
+    assert!(rt; read_number(b"lanes 4", b"lanes", 4, 4) == Some(4));
+    assert!(rt; read_number(b"lanes 4 ", b"lanes", 4, 4) == None);
+    assert!(rt; read_number(b"lanes 4", b"lanes", 5, 9) == None);
     assert!(rt; read_digests(b"x 00 00", b"x").is_none());
     Ok(())
 }
@@ -69,7 +69,7 @@ fn tokens_are_written(rt: HostRuntime) -> Result<(), Fail> {
     push_decimal(&mut out, 0)?;
     push_decimal(&mut out, 18446744073709551615)?;
     push_hex(&mut out, &[0, 171, 255])?;
-    assert_eq!(rt; out.as_slice(), b"01844674407370955161500abff".as_slice());
+    assert!(rt; out.as_slice() == b"01844674407370955161500abff".as_slice());
     Ok(())
 }
 
@@ -78,16 +78,19 @@ fn lines_are_taken_to_the_end(rt: HostRuntime) -> Result<(), Fail> {
     let mut shelf = MemShelf::new(rt.alloc());
     shelf.put_file("f", b"vickrey-seal 1\n\nend\nx")?;
     let mut lines = Lines::start(rt.alloc(), &mut shelf, "f")?;
-    assert_eq!(rt; lines.next_line(&mut shelf)?, Step::Text);
-    assert_eq!(rt; lines.text(), b"vickrey-seal 1".as_slice());
-    assert_eq!(rt; lines.next_line(&mut shelf)?, Step::Text);
-    assert_eq!(rt; lines.text().len(), 0);
-    assert_eq!(rt;
-        lines.read_end(&mut shelf),
-        Err(ReadErr::Malformed { line: 4 })
-    );
-    assert_eq!(rt; lines.number(), 3);
-    assert_eq!(rt; lines.next_line(&mut shelf)?, Step::Cut);
+    try_lines(&rt, &mut shelf, &mut lines)
+}
+
+// What is tried borrows shelf and lines: nothing is dropped where an assertion ends it, and so it is proved fast.
+
+fn try_lines<S: Shelf>(rt: &impl Abort, shelf: &mut S, lines: &mut Lines) -> Result<(), Fail> {
+    assert!(rt; lines.next_line(shelf)? == Step::Text);
+    assert!(rt; lines.text() == b"vickrey-seal 1".as_slice());
+    assert!(rt; lines.next_line(shelf)? == Step::Text);
+    assert!(rt; lines.text().len() == 0);
+    assert!(rt; lines.read_end(shelf) == Err(ReadErr::Malformed { line: 4 }));
+    assert!(rt; lines.number() == 3);
+    assert!(rt; lines.next_line(shelf)? == Step::Cut);
     Ok(())
 }
 
@@ -101,14 +104,11 @@ fn a_line_has_at_most_256_bytes(rt: HostRuntime) -> Result<(), Fail> {
     bytes[256] = b'\n';
     shelf.put_file("long", &bytes)?;
     let mut whole = Lines::start(rt.alloc(), &mut shelf, "whole")?;
-    assert_eq!(rt; whole.next_line(&mut shelf)?, Step::Text);
-    assert_eq!(rt; whole.text().len(), 255);
+    assert!(rt; whole.next_line(&mut shelf)? == Step::Text);
+    assert!(rt; whole.text().len() == 255);
     let mut long = Lines::start(rt.alloc(), &mut shelf, "long")?;
-    assert_eq!(rt; long.next_line(&mut shelf)?, Step::Long);
-    assert_eq!(rt;
-        long.read_end(&mut shelf),
-        Err(ReadErr::Malformed { line: 1 })
-    );
+    assert!(rt; long.next_line(&mut shelf)? == Step::Long);
+    assert!(rt; long.read_end(&mut shelf) == Err(ReadErr::Malformed { line: 1 }));
     Ok(())
 }
 
@@ -130,15 +130,19 @@ fn letters(alloc: Global, first: &[u8]) -> Result<MemShelf, Fail> {
 fn check_letters(rt: &impl Abort, alloc: Global, first: &[u8]) -> Result<(), Fail> {
     let mut shelf = PieceShelf::over(letters(alloc, first)?);
     let mut lines = Lines::start(alloc, &mut shelf, "f")?;
-    assert_eq!(rt; lines.read_text(&mut shelf), Ok(()));
-    assert_eq!(rt; lines.text(), first);
-    for line in 0..40u8 {
-        assert_eq!(rt; lines.read_text(&mut shelf), Ok(()));
-        assert_eq!(rt; lines.text(), [b'A' + line; 255].as_slice());
-    }
-    assert_eq!(rt; lines.read_end(&mut shelf), Ok(()));
-    assert_eq!(rt; lines.number(), 42);
+    try_letters(rt, &mut shelf, &mut lines, first);
     Ok(())
+}
+
+fn try_letters<S: Shelf>(rt: &impl Abort, shelf: &mut S, lines: &mut Lines, first: &[u8]) {
+    assert!(rt; lines.read_text(shelf) == Ok(()));
+    assert!(rt; lines.text() == first);
+    for line in 0..40u8 {
+        assert!(rt; lines.read_text(shelf) == Ok(()));
+        assert!(rt; lines.text() == [b'A' + line; 255].as_slice());
+    }
+    assert!(rt; lines.read_end(shelf) == Ok(()));
+    assert!(rt; lines.number() == 42);
 }
 
 #[test]
@@ -178,7 +182,7 @@ fn so_many_lines_of_a_kind_are_read(rt: HostRuntime) -> Result<(), Fail> {
     shelf.put_file("f", b"lane 1\nlane 2\nlane 3\nlane 3\n")?;
     let mut lines = Lines::start(rt.alloc(), &mut shelf, "f")?;
     let three = read_many(rt.alloc(), &mut shelf, &mut lines, &LaneNumbers, 3)?;
-    assert_eq!(rt; three.as_slice(), [1u64, 2, 3].as_slice());
+    assert!(rt; three.as_slice() == [1u64, 2, 3].as_slice());
     let mut again = Lines::start(rt.alloc(), &mut shelf, "f")?;
     let four = read_many(rt.alloc(), &mut shelf, &mut again, &LaneNumbers, 4);
     assert!(rt; four.is_err_and(|e| e == ReadErr::Malformed { line: 4 }));
@@ -191,18 +195,22 @@ fn a_refused_read_leaves_the_line_and_what_is_left(rt: HostRuntime) -> Result<()
     shelf.fail_at(2)?;
     shelf.fail_at(4)?;
     let mut lines = Lines::start(rt.alloc(), &mut shelf, "f")?;
-    assert_eq!(rt; lines.next_line(&mut shelf), Err(OutsideErr::Failed));
-    assert_eq!(rt; lines.text().len(), 0);
-    assert_eq!(rt; lines.number(), 0);
-    for _line in 0..16 {
-        assert_eq!(rt; lines.read_text(&mut shelf), Ok(()));
-    }
-    assert_eq!(rt; lines.next_line(&mut shelf), Err(OutsideErr::Failed));
-    assert_eq!(rt; lines.text(), [b'O'; 255].as_slice());
-    assert_eq!(rt; lines.number(), 16);
-    assert_eq!(rt; lines.read_text(&mut shelf), Ok(()));
-    assert_eq!(rt; lines.text(), [b'P'; 255].as_slice());
+    try_refused(&rt, &mut shelf, &mut lines);
     Ok(())
+}
+
+fn try_refused<S: Shelf>(rt: &impl Abort, shelf: &mut S, lines: &mut Lines) {
+    assert!(rt; lines.next_line(shelf) == Err(OutsideErr::Failed));
+    assert!(rt; lines.text().len() == 0);
+    assert!(rt; lines.number() == 0);
+    for _line in 0..16 {
+        assert!(rt; lines.read_text(shelf) == Ok(()));
+    }
+    assert!(rt; lines.next_line(shelf) == Err(OutsideErr::Failed));
+    assert!(rt; lines.text() == [b'O'; 255].as_slice());
+    assert!(rt; lines.number() == 16);
+    assert!(rt; lines.read_text(shelf) == Ok(()));
+    assert!(rt; lines.text() == [b'P'; 255].as_slice());
 }
 
 #[test]
@@ -212,8 +220,12 @@ fn a_failed_read_leaves_the_reader_as_before(rt: HostRuntime) -> Result<(), Fail
     shelf.fail_at(3)?;
     assert!(rt; Lines::start(rt.alloc(), &mut shelf, "g").is_err_and(|e| e == StartErr::Missing));
     let mut lines = Lines::start(rt.alloc(), &mut shelf, "f")?;
-    assert_eq!(rt; lines.read_end(&mut shelf), Err(ReadErr::Failed));
-    assert_eq!(rt; lines.read_end(&mut shelf), Ok(()));
-    assert_eq!(rt; lines.next_line(&mut shelf)?, Step::End);
+    try_failed(&rt, &mut shelf, &mut lines)
+}
+
+fn try_failed<S: Shelf>(rt: &impl Abort, shelf: &mut S, lines: &mut Lines) -> Result<(), Fail> {
+    assert!(rt; lines.read_end(shelf) == Err(ReadErr::Failed));
+    assert!(rt; lines.read_end(shelf) == Ok(()));
+    assert!(rt; lines.next_line(shelf)? == Step::End);
     Ok(())
 }

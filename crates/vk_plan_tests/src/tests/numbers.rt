@@ -10,13 +10,17 @@ pub fn residue_or_zero(number: u64) -> Residue {
     Residue::new(number).unwrap_or(Residue::ZERO)
 }
 
-/// The values as numbers.
-pub fn numbers(alloc: Global, values: &[Residue]) -> Result<Vec<u64>, NoMemory> {
-    let mut numbers = Vec::new(alloc);
-    for value in values {
-        numbers.push(value.get())?;
+/// Whether the values are these numbers.
+pub fn are(values: &[Residue], numbers: &[u64]) -> bool {
+    if values.len() != numbers.len() {
+        return false;
     }
-    Ok(numbers)
+    for place in 0..values.len() {
+        if values[place].get() != numbers[place] {
+            return false;
+        }
+    }
+    true
 }
 
 /// The bids as residues. None where one is not of the width.

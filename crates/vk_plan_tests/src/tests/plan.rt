@@ -32,8 +32,8 @@ fn sample_form(alloc: Global) -> Result<Form, NoMemory>
 fn a_form_is_factor_times_value_and_the_constant(rt: HostRuntime) -> Result<(), Fail> {
     let form = sample_form(rt.alloc())?.copy(rt.alloc())?;
     let values = [residue_or_zero(10), residue_or_zero(3)];
-    assert_eq!(rt; form.linear(&values).get(), 17);
-    assert_eq!(rt; form.value(&values).get(), 22);
+    assert!(rt; form.linear(&values).get() == 17);
+    assert!(rt; form.value(&values).get() == 22);
     Ok(())
 }
 
@@ -42,9 +42,9 @@ fn wires_and_rows_come_and_go(rt: HostRuntime) -> Result<(), Fail> {
     let mut plan = Plan::new(rt.alloc(), 1)?;
     plan.append(&[WireKind::Pair(3)], Some(sample_form(rt.alloc())?))?;
     plan.append(&[WireKind::Split, WireKind::Pair(60)], None)?;
-    assert_eq!(rt; (plan.inputs(), plan.wires(), plan.rows()), (1, 4, 1));
-    assert_eq!(rt; plan.kind(1), WireKind::Pair(3));
-    assert_eq!(rt; plan.row(0).constant.get(), 5);
+    assert!(rt; (plan.inputs(), plan.wires(), plan.rows()) == (1, 4, 1));
+    assert!(rt; plan.kind(1) == WireKind::Pair(3));
+    assert!(rt; plan.row(0).constant.get() == 5);
     let table = RowTable::of(rt.alloc(), &plan)?;
     let values = [
         residue_or_zero(10),
@@ -52,11 +52,8 @@ fn wires_and_rows_come_and_go(rt: HostRuntime) -> Result<(), Fail> {
         residue_or_zero(0),
         residue_or_zero(0),
     ];
-    assert_eq!(rt;
-        (table.sum(0, &values).get(), table.constant(0).get()),
-        (17, 5)
-    );
+    assert!(rt; (table.sum(0, &values).get(), table.constant(0).get()) == (17, 5));
     plan.cut(2, 0);
-    assert_eq!(rt; (plan.inputs(), plan.wires(), plan.rows()), (1, 2, 0));
+    assert!(rt; (plan.inputs(), plan.wires(), plan.rows()) == (1, 2, 0));
     Ok(())
 }

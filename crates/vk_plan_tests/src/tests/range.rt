@@ -3,8 +3,9 @@ ghost use Rattle.vk_residue.specs.Residue.{IsResidue};
 ghost use Rattle.vk_plan.specs.Plans.{Holds, plan_of_inputs};
 ghost use Rattle.vk_range.specs.Sets.{plus};
 
-use super::numbers::{residue_or_zero, rows_are_zero};
+use super::numbers::{are, residue_or_zero, rows_are_zero};
 use std::alloc::Global;
+use std::process::Abort;
 use std::test::Fail;
 use vk_plan::{Form, Plan, Relation, Term, add_and_fill};
 use vk_range::{Copied, Equal, InRange, SelectedIs, SumIs};
@@ -54,27 +55,25 @@ fn range_values(alloc: Global, width: u32, number: u64) -> Result<Option<Vec<Res
     Ok(Some(values))
 }
 
+/// Whether the number and its pairs are these.
+fn has_range(alloc: Global, width: u32, number: u64, numbers: &[u64]) -> Result<bool, Fail>
+    requires some { 1 ≤ width }
+    requires most { width ≤ 40 }
+{
+    let values = range_values(alloc, width, number)?.ok_or("of the width")?;
+    Ok(are(values.as_slice(), numbers))
+}
+
 #[test]
 fn a_range_is_filled_at_its_ends(rt: HostRuntime) -> Result<(), Fail> {
-    let none = range_values(rt.alloc(), 1, 0)?.ok_or("of the width")?;
-    assert_eq!(rt; none.as_slice(), [Residue::ZERO; 2].as_slice());
-    let bit = range_values(rt.alloc(), 1, 1)?.ok_or("of the width")?;
-    assert_eq!(rt;
-        bit.as_slice(),
-        [residue_or_zero(1), residue_or_zero(1)].as_slice()
-    );
-    let low = range_values(rt.alloc(), 4, 0)?.ok_or("of the width")?;
-    assert_eq!(rt; low.as_slice(), [Residue::ZERO; 5].as_slice());
-    let high = range_values(rt.alloc(), 4, 15)?.ok_or("of the width")?;
-    assert_eq!(rt;
-        high.as_slice(),
-        [15, 1, 2, 4, 8].map(residue_or_zero).as_slice()
-    );
-    let least = range_values(rt.alloc(), 40, 0)?.ok_or("of the width")?;
-    assert_eq!(rt; least.as_slice(), [Residue::ZERO; 41].as_slice());
+    assert!(rt; has_range(rt.alloc(), 1, 0, &[0; 2])?);
+    assert!(rt; has_range(rt.alloc(), 1, 1, &[1; 2])?);
+    assert!(rt; has_range(rt.alloc(), 4, 0, &[0; 5])?);
+    assert!(rt; has_range(rt.alloc(), 4, 15, &[15, 1, 2, 4, 8])?);
+    assert!(rt; has_range(rt.alloc(), 40, 0, &[0; 41])?);
     let wide = range_values(rt.alloc(), 40, 1099511627775)?.ok_or("of the width")?;
-    assert_eq!(rt; wide.len(), 41);
-    assert_eq!(rt; wide[40].get(), 549755813888);
+    assert!(rt; wide.len() == 41);
+    assert!(rt; wide[40].get() == 549755813888);
     assert!(rt; range_values(rt.alloc(), 40, 1099511627776)?.is_none());
     Ok(())
 }
@@ -114,14 +113,14 @@ fn selectors_of(alloc: Global, numbers: [u64; 3], value: u64) -> Result<[u64; 3]
 
 #[test]
 fn the_first_place_that_serves_is_selected(rt: HostRuntime) -> Result<(), Fail> {
-    assert_eq!(rt; selectors_of(rt.alloc(), [9, 7, 4], 9)?, [1, 0, 0]);
-    assert_eq!(rt; selectors_of(rt.alloc(), [7, 9, 4], 9)?, [0, 1, 0]);
-    assert_eq!(rt; selectors_of(rt.alloc(), [7, 4, 9], 9)?, [0, 0, 1]);
-    assert_eq!(rt; selectors_of(rt.alloc(), [7, 9, 9], 9)?, [0, 1, 0]);
+    assert!(rt; selectors_of(rt.alloc(), [9, 7, 4], 9)? == [1, 0, 0]);
+    assert!(rt; selectors_of(rt.alloc(), [7, 9, 4], 9)? == [0, 1, 0]);
+    assert!(rt; selectors_of(rt.alloc(), [7, 4, 9], 9)? == [0, 0, 1]);
+    assert!(rt; selectors_of(rt.alloc(), [7, 9, 9], 9)? == [0, 1, 0]);
     assert!(rt; selection_of(rt.alloc(), [3, 4, 5], 9)?.is_none());
     let values = selection_of(rt.alloc(), [9, 7, 4], 9)?.ok_or("no place")?;
     let sets = [9, 7, 4, 1, 0, 0, 0, 0, 0, 0, 1, 0, 4, 8, 0, 2, 0, 8];
-    assert_eq!(rt; values.as_slice(), sets.map(residue_or_zero).as_slice());
+    assert!(rt; are(values.as_slice(), &sets));
     Ok(())
 }
 
@@ -139,12 +138,12 @@ fn equal_wires_hold(rt: HostRuntime) -> Result<(), Fail> {
         &mut plan,
         &mut values,
     )?;
-    assert_eq!(rt; (plan.wires(), plan.rows(), values.len()), (2, 1, 2));
+    assert!(rt; (plan.wires(), plan.rows(), values.len()) == (2, 1, 2));
     SumIs {
         form: wire_form(rt.alloc(), 1)?,
     }
     .add(rt.alloc(), &mut plan)?;
-    assert_eq!(rt; plan.rows(), 2);
+    assert!(rt; plan.rows() == 2);
     Ok(())
 }
 
@@ -220,25 +219,38 @@ fn selected_input(
 
 #[test]
 fn five_wires_of_width_8_are_filled(rt: HostRuntime) -> Result<(), Fail> {
-    let numbers = [200, 13, 250, 250, 13];
-    let (plan, values) = equal_inputs(rt.alloc(), numbers)?.ok_or("not equal")?;
-    assert_eq!(rt; (plan.wires(), plan.rows()), (5, 1));
-    assert_eq!(rt; values.as_slice(), numbers.map(residue_or_zero).as_slice());
-    assert!(rt; rows_are_zero(&plan, values.as_slice()));
-    assert!(rt; equal_inputs(rt.alloc(), [200, 13, 250, 250, 7])?.is_none());
+    try_equal(&rt, rt.alloc())?;
+    try_copied(&rt, rt.alloc())?;
+    try_selected(&rt, rt.alloc())
+}
 
-    let (plan, values) = copied_input(rt.alloc(), numbers)?;
-    assert_eq!(rt; (plan.wires(), plan.rows()), (6, 1));
-    assert_eq!(rt; values[5].get(), 250);
-    assert!(rt; rows_are_zero(&plan, values.as_slice()));
+const NUMBERS: [u64; 5] = [200, 13, 250, 250, 13];
 
-    let (plan, values) = selected_input(rt.alloc(), numbers, 250)?.ok_or("no place")?;
-    assert_eq!(rt; (plan.wires(), plan.rows()), (50, 6));
+fn try_equal(rt: &impl Abort, alloc: Global) -> Result<(), Fail> {
+    let (plan, values) = equal_inputs(alloc, NUMBERS)?.ok_or("not equal")?;
+    assert!(rt; (plan.wires(), plan.rows()) == (5, 1));
+    assert!(rt; are(values.as_slice(), &NUMBERS));
+    assert!(rt; rows_are_zero(&plan, values.as_slice()));
+    assert!(rt; equal_inputs(alloc, [200, 13, 250, 250, 7])?.is_none());
+    Ok(())
+}
+
+fn try_copied(rt: &impl Abort, alloc: Global) -> Result<(), Fail> {
+    let (plan, values) = copied_input(alloc, NUMBERS)?;
+    assert!(rt; (plan.wires(), plan.rows()) == (6, 1));
+    assert!(rt; values[5].get() == 250);
+    assert!(rt; rows_are_zero(&plan, values.as_slice()));
+    Ok(())
+}
+
+fn try_selected(rt: &impl Abort, alloc: Global) -> Result<(), Fail> {
+    let (plan, values) = selected_input(alloc, NUMBERS, 250)?.ok_or("no place")?;
+    assert!(rt; (plan.wires(), plan.rows()) == (50, 6));
     let filled = [
         200, 13, 250, 250, 13, 0, 0, 1, 0, 0, 1, 0, 4, 8, 0, 0, 64, 128, 0, 2, 0, 0, 16, 0, 0, 0,
         0, 0, 0, 0, 0, 0, 0, 0, 1, 2, 4, 8, 16, 32, 64, 128, 0, 2, 0, 0, 16, 0, 0, 0,
     ];
-    assert_eq!(rt; values.as_slice(), filled.map(residue_or_zero).as_slice());
+    assert!(rt; are(values.as_slice(), &filled));
     assert!(rt; rows_are_zero(&plan, values.as_slice()));
     Ok(())
 }

@@ -1,7 +1,7 @@
 // Outcomes of many lists of bids are replayed by the program `vectors`.
 ghost use Rattle.std.specs.Prelude.{◌≤◌, ◌<◌, length};
 
-use super::numbers::{inputs_of, numbers, rows_are_zero};
+use super::numbers::{are, inputs_of, rows_are_zero};
 use std::alloc::Global;
 use std::test::Fail;
 use vk_plan::Circuit;
@@ -40,12 +40,9 @@ fn counts(
 
 #[test]
 fn plans_have_their_wires_and_rows(rt: HostRuntime) -> Result<(), Fail> {
-    assert_eq!(rt; counts(rt.alloc(), 1, 1, published(1, 0))?, (3, 2));
-    assert_eq!(rt; counts(rt.alloc(), 4, 4, published(2, 9))?, (63, 18));
-    assert_eq!(rt;
-        counts(rt.alloc(), 64, 40, published(1, 1099511627775))?,
-        (10311, 318)
-    );
+    assert!(rt; counts(rt.alloc(), 1, 1, published(1, 0))? == (3, 2));
+    assert!(rt; counts(rt.alloc(), 4, 4, published(2, 9))? == (63, 18));
+    assert!(rt; counts(rt.alloc(), 64, 40, published(1, 1099511627775))? == (10311, 318));
     Ok(())
 }
 
@@ -56,8 +53,8 @@ fn a_wrong_outcome_leaves_a_form_out_of_range(rt: HostRuntime) -> Result<(), Fai
     let bids = [3, 5, 3, 5].map(|bid| Residue::new(bid).unwrap_or(Residue::ZERO));
     let mut values = [Residue::ZERO; 25];
     values[..4].copy_from_slice(&bids);
-    assert_eq!(rt; (plan.wires(), plan.rows()), (25, 8));
-    assert_eq!(rt; plan.row(4).value(&values).get(), 2305843009213693949);
+    assert!(rt; (plan.wires(), plan.rows()) == (25, 8));
+    assert!(rt; plan.row(4).value(&values).get() == 2305843009213693949);
     Ok(())
 }
 
@@ -75,26 +72,15 @@ fn honest(alloc: Global, bids: &[u64], width: u32) -> Result<Vec<Residue>, Fail>
     Ok(values)
 }
 
-/// The honest values as numbers.
-fn honest_numbers(alloc: Global, bids: &[u64], width: u32) -> Result<Vec<u64>, Fail>
-    requires some { 1 ≤ length bids.now }
-    requires most { length bids.now ≤ 64 }
-    requires width { width ≤ 40 }
-{
-    let values = honest(alloc, bids, width)?;
-    let numbers = numbers(alloc, values.as_slice())?;
-    Ok(numbers)
-}
-
 #[test]
 fn honest_values_are_bids_bits_and_a_selector(rt: HostRuntime) -> Result<(), Fail> {
-    let found = honest_numbers(rt.alloc(), &[7, 9, 9, 4], 4)?;
+    let found = honest(rt.alloc(), &[7, 9, 9, 4], 4)?;
     let expected = [
         7, 9, 9, 4, 7, 9, 9, 4, 1, 2, 4, 0, 1, 0, 0, 8, 1, 0, 0, 8, 0, 0, 4, 0, 1, 0, 0, 0, 0, 0,
         0, 0, 1, 0, 4, 0, 0, 2, 0, 0, 0, 0, 0, 0, 1, 0, 4, 0, 0, 1, 0, 1, 0, 4, 8, 0, 0, 0, 0, 0,
         2, 0, 8,
     ];
-    assert_eq!(rt; found.as_slice(), expected.as_slice());
+    assert!(rt; are(found.as_slice(), &expected));
     Ok(())
 }
 
@@ -122,15 +108,12 @@ fn filled_counts(alloc: Global, bids: &[u64], width: u32) -> Result<(u32, u32), 
 #[test]
 fn five_bids_and_one_bid_of_width_8_hold(rt: HostRuntime) -> Result<(), Fail> {
     let five = [200, 13, 250, 250, 13];
-    assert_eq!(rt; filled_counts(rt.alloc(), &five, 8)?, (150, 23));
-    let found = honest_numbers(rt.alloc(), &five, 8)?;
+    assert!(rt; filled_counts(rt.alloc(), &five, 8)? == (150, 23));
+    let found = honest(rt.alloc(), &five, 8)?;
     let selectors = found.as_slice().get(114..118).ok_or("too few values")?;
-    assert_eq!(rt; selectors, [0, 0, 1, 0].as_slice());
-    assert_eq!(rt; filled_counts(rt.alloc(), &[200], 8)?, (10, 2));
-    let found = honest_numbers(rt.alloc(), &[200], 8)?;
-    assert_eq!(rt;
-        found.as_slice(),
-        [200, 200, 0, 0, 0, 8, 0, 0, 64, 128].as_slice()
-    );
+    assert!(rt; are(selectors, &[0, 0, 1, 0]));
+    assert!(rt; filled_counts(rt.alloc(), &[200], 8)? == (10, 2));
+    let found = honest(rt.alloc(), &[200], 8)?;
+    assert!(rt; are(found.as_slice(), &[200, 200, 0, 0, 0, 8, 0, 0, 64, 128]));
     Ok(())
 }

@@ -180,9 +180,18 @@ fn try_submit<S: Alter + Drop>(
     alloc: Global,
     mut keeper: SqlKeeper<S>,
 ) -> Result<SqlKeeper<S>, Fail> {
-    assert_eq!(rt; submit(alloc, &mut keeper, 300, 7)?, 1);
-    assert_eq!(rt; submit(alloc, &mut keeper, 65535, 15)?, 2);
+    submit_two(rt, alloc, &mut keeper)?;
     Ok(keeper)
+}
+
+fn submit_two<K: Keeper + Drop>(
+    rt: &impl Abort,
+    alloc: Global,
+    keeper: &mut K,
+) -> Result<(), Fail> {
+    assert!(rt; submit(alloc, keeper, 300, 7)? == 1);
+    assert!(rt; submit(alloc, keeper, 65535, 15)? == 2);
+    Ok(())
 }
 
 fn try_prove<S: Alter + Drop>(
@@ -190,7 +199,7 @@ fn try_prove<S: Alter + Drop>(
     alloc: Global,
     mut keeper: SqlKeeper<S>,
 ) -> Result<SqlKeeper<S>, Fail> {
-    assert_eq!(rt; prove(alloc, &mut keeper), Some((2, 7)));
+    assert!(rt; prove(alloc, &mut keeper) == Some((2, 7)));
     Ok(keeper)
 }
 
@@ -201,7 +210,7 @@ fn try_answer<S: Alter + Drop>(
     bits: &str,
     said: Result<Bits, Bits>,
 ) -> Result<SqlKeeper<S>, Fail> {
-    assert_eq!(rt; answer(alloc, &mut keeper, bits)?, said);
+    assert!(rt; answer(alloc, &mut keeper, bits)? == said);
     Ok(keeper)
 }
 
@@ -233,13 +242,18 @@ fn prepared<S: Alter + Drop>(
     mut keeper: SqlKeeper<S>,
     step: Step,
 ) -> Result<SqlKeeper<S>, Fail> {
-    let _announced = announce(alloc, &mut keeper);
-    let _first = submit(alloc, &mut keeper, 300, 7)?;
-    let _second = submit(alloc, &mut keeper, 65535, 15)?;
-    if let Step::Answer = step {
-        let _proved = prove(alloc, &mut keeper);
-    }
+    prepare(alloc, &mut keeper, step)?;
     Ok(keeper)
+}
+
+fn prepare<K: Keeper + Drop>(alloc: Global, keeper: &mut K, step: Step) -> Result<(), Fail> {
+    let _announced = announce(alloc, keeper);
+    let _first = submit(alloc, keeper, 300, 7)?;
+    let _second = submit(alloc, keeper, 65535, 15)?;
+    if let Step::Answer = step {
+        let _proved = prove(alloc, keeper);
+    }
+    Ok(())
 }
 
 /// Whether the command was done.
@@ -308,13 +322,28 @@ fn comes_back<S: Alter + Drop>(
     done: bool,
     step: Step,
 ) -> Result<bool, Fail> {
-    let found_then = found(&mut keeper)?.ok_or("lost")?;
-    let Some(after) = is_after(&found_then, step) else {
+    let is_back = is_back(alloc, &mut keeper, done, step)?;
+    Ok(is_back)
+}
+
+fn is_back<K: Keeper + Drop>(
+    alloc: Global,
+    keeper: &mut K,
+    done: bool,
+    step: Step,
+) -> Result<bool, Fail> {
+    let Some(after) = found_after(keeper, step)? else {
         return Ok(false);
     };
-    let again = does(alloc, &mut keeper, step)?;
-    let found_now = found(&mut keeper)?.ok_or("lost")?;
-    Ok((after || !done) && (again || after) && is_after(&found_now, step) == Some(true))
+    let again = does(alloc, keeper, step)?;
+    let now = found_after(keeper, step)?;
+    Ok((after || !done) && (again || after) && now == Some(true))
+}
+
+/// Whether the auction that is found is as after the command.
+fn found_after<K: Keeper>(keeper: &mut K, step: Step) -> Result<Option<bool>, Fail> {
+    let found = found(keeper)?.ok_or("lost")?;
+    Ok(is_after(&found, step))
 }
 
 /// The same command once the files take no more than so many calls. None where the auction is then neither
@@ -377,12 +406,17 @@ fn worked(alloc: Global) -> Result<Auction, Fail>
     ensures { IfOk result IsAuction }
 {
     let mut keeper = MemKeeper::new(alloc);
-    let _announced = announce(alloc, &mut keeper);
-    let _first = submit(alloc, &mut keeper, 300, 7)?;
-    let _second = submit(alloc, &mut keeper, 65535, 15)?;
-    let _proved = prove(alloc, &mut keeper);
+    prepare(alloc, &mut keeper, Step::Answer)?;
     let _answered = answer(alloc, &mut keeper, "01")?;
-    let auction = found(&mut keeper)?.ok_or("no auction")?;
+    let auction = kept(&mut keeper)?;
+    Ok(auction)
+}
+
+/// The auction that the keeper has.
+fn kept<K: Keeper>(keeper: &mut K) -> Result<Auction, Fail>
+    ensures { IfOk result IsAuction }
+{
+    let auction = found(keeper)?.ok_or("no auction")?;
     Ok(auction)
 }
 
@@ -399,23 +433,38 @@ fn first_seat(auction: &Auction) -> Option<(u16, u64)> {
     Some((row.seal.seat, row.secret.bid))
 }
 
+/// An auction of one seal.
+fn begun(alloc: Global) -> Result<Auction, Fail>
+    ensures { IfOk result IsAuction }
+{
+    let mut keeper = MemKeeper::new(alloc);
+    let _announced = announce(alloc, &mut keeper);
+    let _first = submit(alloc, &mut keeper, 65535, 1)?;
+    let auction = kept(&mut keeper)?;
+    Ok(auction)
+}
+
 fn try_another<S: Alter + Drop>(
     rt: &impl Abort,
     alloc: Global,
     mut keeper: SqlKeeper<S>,
 ) -> Result<(), Fail> {
-    assert!(rt; found(&mut keeper)?.is_none());
+    put_another(rt, alloc, &mut keeper)
+}
+
+fn put_another<K: Keeper>(rt: &impl Abort, alloc: Global, keeper: &mut K) -> Result<(), Fail> {
+    assert!(rt; found(keeper)?.is_none());
     keeper.put(worked(alloc)?)?;
-    let mut other = MemKeeper::new(alloc);
-    let _announced = announce(alloc, &mut other);
-    let _first = submit(alloc, &mut other, 65535, 1)?;
-    keeper.put(found(&mut other)?.ok_or("no auction")?)?;
-    let auction = found(&mut keeper)?.ok_or("not kept")?;
-    assert_eq!(rt; (auction.id, auction.width, auction.lanes), (ID, 4, 2));
-    assert_eq!(rt; auction.seals.len(), 1);
-    assert_eq!(rt; first_seat(&auction), Some((65535, 1)));
-    assert!(rt; matches!(auction.phase, Phase::Taking));
+    keeper.put(begun(alloc)?)?;
+    check_begun(rt, &kept(keeper)?);
     Ok(())
+}
+
+fn check_begun(rt: &impl Abort, auction: &Auction) {
+    assert!(rt; (auction.id, auction.width, auction.lanes) == (ID, 4, 2));
+    assert!(rt; auction.seals.len() == 1);
+    assert!(rt; first_seat(auction) == Some((65535, 1)));
+    assert!(rt; matches!(auction.phase, Phase::Taking));
 }
 
 #[test]
@@ -470,17 +519,20 @@ fn a_store_of_another_version_is_refused(rt: HostRuntime) -> Result<(), Fail> {
     ];
     for (statements, rows, number) in table {
         let refusal = refusal_of(alloc, empty(alloc)?, statements)?;
-        assert_eq!(rt; refusal, Some(OpenErr::Version { rows, number }));
+        assert!(rt; refusal == Some(OpenErr::Version { rows, number }));
     }
     for statements in ["DROP TABLE about", "UPDATE about SET version = 'x'"] {
         let refusal = refusal_of(alloc, empty(alloc)?, statements)?;
-        assert_eq!(rt; refusal, Some(OpenErr::Refused));
+        assert!(rt; refusal == Some(OpenErr::Refused));
     }
     Ok(())
 }
 
+/// How many damages are tried.
+const DAMAGED: usize = 28;
+
 /// What may not stand in the row of an auction, or of its first seal.
-const DAMAGES: [&str; 28] = [
+const DAMAGES: [&str; DAMAGED] = [
     "UPDATE auction SET width = 0",
     "UPDATE auction SET width = 3",
     "UPDATE auction SET width = 41",
@@ -537,10 +589,10 @@ fn rows_that_are_no_auction_are_a_fault(rt: HostRuntime) -> Result<(), Fail> {
     let auction = worked(alloc)?;
     let answers = answers_of(alloc, empty(alloc)?, &auction)?;
     let (last, faults) = answers.as_slice().split_last().ok_or("no answers")?;
-    assert_eq!(rt; faults.len(), DAMAGES.len());
+    assert!(rt; faults.len() == DAMAGED);
     for answer in faults {
-        assert_eq!(rt; *answer, Some(OutsideErr::Failed));
+        assert!(rt; *answer == Some(OutsideErr::Failed));
     }
-    assert_eq!(rt; *last, None);
+    assert!(rt; *last == None);
     Ok(())
 }
