@@ -1,113 +1,144 @@
--- Reading a board stops at its fault line.
-use Rattle.std.proofs.Common.{◌≡◌, ℕ, ◌+◌, List, [], ◌∷◌, ◌++◌, length, codes, Ok, refl, arith, length-append, subst}
+-- Reading a board stops at its fault line. What stands behind a head is proved for every head: a crate with a
+-- head of its own shows that reading it follows its table to `behind_head`, line by line with `head_line_then`,
+-- as `head_follows` does here, and takes all that stands behind it from `behind_ends`.
+use Rattle.std.proofs.Common.{◌≡◌, ℕ, ◌+◌, List, [], ◌∷◌, ◌++◌, length, codes, Option, option_map, Result, Ok, refl, arith, length-append, subst}
 use Rattle.std.specs.Result.{result_err}
-use Rattle.vk_lines.specs.Lines.{line_by}
+use Rattle.vk_lines.specs.Lines.{Rest, ◌>>=◌, line_by}
 use Rattle.vk_lines.specs.Forms.{Table, Follows, Ends, fault_line, many_at, whole}
 use Rattle.vk_lines.proofs.Faults.{line_follows, many_follows, follows_then, follows_done, ends_then, end_ends, ends_done, fault_line_is}
 use Rattle.vk_board.specs.declared.board.Head.{Head}
 use Rattle.vk_board.specs.declared.board.SealLines.{SealLines}
 use Rattle.vk_board.specs.declared.board.LaneLines.{LaneLines}
-use Rattle.vk_board.specs.Values.{Shape}
-use Rattle.vk_board.specs.Reading.{com_line, posted_line, seats_of, head_at, seal_at, seals_at, lane_at, lanes_at, board_at}
-use Rattle.vk_board.specs.Tables.{Heading, Auction, Width, Lanes, Seals, Winner, Price, Seal, Input, Lane, Wire, Row, Last, Over, Place, lane_place, row_place, wire_place, seal_place, input_place, board_table}
+use Rattle.vk_board.specs.Values.{Shape, Frame, frame_of}
+use Rattle.vk_board.specs.Reading.{com_line, posted_line, seats_of, head_at, seal_at, seal_lines_at, lane_at, lane_lines_at, behind_at, board_at}
+use Rattle.vk_board.specs.Tables.{InHead, Seal, Input, Lane, Wire, Row, Last, Over, Place, lane_place, row_place, wire_place, seal_place, input_place, behind_head, HeadTable, sealed_table}
+use Rattle.vk_board.specs.Tables.{Heading, Auction, Width, Lanes, Seals, Winner, Price, HeadPlace, head_table, board_table}
 use Rattle.vk_board.proofs.Seats.{seats_more}
 use Rattle.vk_board.proofs.Forms.{head_with, seal_with, lane_with}
 use Rattle.vk_board.proofs.Boards.{board_with}
 
-abbrev pub after_head : Head → Place
-after_head head = seal_place head head.seals []
+module _ {H : Type 0} (head : HeadTable H) where
+  abbrev table : Table (Place H)
+  table = sealed_table head
 
-pub head_follows : (shape : Head → Shape) → Follows (board_table shape) Heading head_at after_head
+  -- a line of the head, and what is read behind it
+  pub head_line_then : {X Z : Type 0} (place : H) (parse : List ℕ → Option X) (between : X → Place H)
+      {read : X → Rest → Result (Z × Rest) ℕ} {after : Z → Place H}
+      → ((text : List ℕ) → head.next place text ≡ option_map between (parse text))
+      → ((x : X) → Follows table (between x) (read x) after)
+      → Follows table (InHead place) (λ rest. line_by parse rest >>= λ p. read p.0 p.1) after
+  head_line_then place parse between next later =
+      follows_then table (InHead place) (line_follows table (InHead place) parse between next refl) later
+
+  -- ---- behind the head
+
+  module _ (frame : Frame) where
+    inputs_follow : (more : ℕ) (seats : List ℕ) (count : ℕ)
+        → Follows table (input_place frame more seats count) (many_at count (λ _. line_by (com_line (codes "x"))))
+        (λ _. seal_place frame more seats)
+    inputs_follow more seats count =
+        many_follows table (λ left before. input_place frame more seats left) (λ _. line_by (com_line (codes "x")))
+        (λ left before. line_follows table (Input frame more seats left) (com_line (codes "x"))
+        (λ _. input_place frame more seats left) (λ text. refl) refl) count []
+
+    seal_done : (more : ℕ) (before : List SealLines) (seal : SealLines)
+        → Follows table (seal_place frame more (seats_of before ++ seal.seat ∷ [])) (λ rest. Ok (seal, rest))
+        (λ s. seal_place frame more (seats_of (before ++ s ∷ [])))
+    seal_done more before seal =
+        let after : SealLines → Place H = λ s. seal_place frame more (seats_of (before ++ s ∷ [])) in
+        let P : List ℕ → Type 0 = λ seats. Follows table (seal_place frame more seats) (λ rest. Ok (seal, rest)) after in
+        subst P (seats_more before seal) (follows_done table after seal)
+
+    seal_follows : (more : ℕ) (before : List SealLines)
+        → Follows table (Seal frame more (seats_of before)) (seal_at frame.lanes before)
+        (λ seal. seal_place frame more (seats_of (before ++ seal ∷ [])))
+    unfolding seal_at
+    seal_follows more before =
+        let seats : List ℕ = seats_of before in
+        let inputs : ℕ → Place H = λ seat. input_place frame more (seats ++ seat ∷ []) frame.lanes in
+        follows_then table (Seal frame more seats) (line_follows table (Seal frame more seats) _ inputs (λ text. refl) refl) (λ seat.
+        follows_then table (inputs seat) (inputs_follow more (seats ++ seat ∷ []) frame.lanes) (λ coms.
+        seal_done more before (seal_with seat coms)))
+
+    pub seals_follow : Follows table (behind_head frame) (seal_lines_at frame.seals frame.lanes) (λ _. lane_place frame 1 frame.lanes)
+    seals_follow =
+        many_follows table (λ left before. seal_place frame left (seats_of before)) (seal_at frame.lanes)
+        seal_follows frame.seals []
+
+    rows_follow : (lane more count : ℕ)
+        → Follows table (row_place frame lane more count) (many_at count (λ _. line_by posted_line))
+        (λ _. lane_place frame (lane + 1) more)
+    rows_follow lane more count =
+        many_follows table (λ left before. row_place frame lane more left) (λ _. line_by posted_line)
+        (λ left before. line_follows table (Row frame lane more left) posted_line
+        (λ _. row_place frame lane more left) (λ text. refl) refl) count []
+
+    wires_follow : (lane more count : ℕ)
+        → Follows table (wire_place frame lane more count) (many_at count (λ _. line_by (com_line (codes "w"))))
+        (λ _. row_place frame lane more frame.shape.rows)
+    wires_follow lane more count =
+        many_follows table (λ left before. wire_place frame lane more left) (λ _. line_by (com_line (codes "w")))
+        (λ left before. line_follows table (Wire frame lane more left) (com_line (codes "w"))
+        (λ _. wire_place frame lane more left) (λ text. refl) refl) count []
+
+    lane_done : (more : ℕ) (before : List LaneLines) (lines : LaneLines)
+        → Follows table (lane_place frame (length before + 1 + 1) more) (λ rest. Ok (lines, rest))
+        (λ l. lane_place frame (length (before ++ l ∷ []) + 1) more)
+    lane_done more before lines =
+        let after : LaneLines → Place H = λ l. lane_place frame (length (before ++ l ∷ []) + 1) more in
+        let P : ℕ → Type 0 = λ lane. Follows table (lane_place frame lane more) (λ rest. Ok (lines, rest)) after in
+        let number : length (before ++ lines ∷ []) + 1 ≡ length before + 1 + 1 = omega (arith, length-append before (lines ∷ [])) in
+        subst P number (follows_done table after lines)
+
+    lane_follows : (more : ℕ) (before : List LaneLines)
+        → Follows table (Lane frame (length before + 1) more)
+        (lane_at (length before + 1) frame.shape.wires frame.shape.rows)
+        (λ lines. lane_place frame (length (before ++ lines ∷ []) + 1) more)
+    unfolding lane_at
+    lane_follows more before =
+        let lane : ℕ = length before + 1 in
+        let wires : Place H = wire_place frame lane more frame.shape.wires in
+        let rows : Place H = row_place frame lane more frame.shape.rows in
+        follows_then table (Lane frame lane more) (line_follows table (Lane frame lane more) _ (λ _. wires) (λ text. refl) refl) (λ number.
+        follows_then table wires (wires_follow lane more frame.shape.wires) (λ coms.
+        follows_then table rows (rows_follow lane more frame.shape.rows) (λ posted.
+        lane_done more before (lane_with coms posted))))
+
+    pub lanes_follow : Follows table (lane_place frame 1 frame.lanes) (lane_lines_at frame.lanes frame.shape) (λ _. Last)
+    lanes_follow =
+        many_follows table (λ left before. lane_place frame (length before + 1) left)
+        (λ before. lane_at (length before + 1) frame.shape.wires frame.shape.rows) lane_follows frame.lanes []
+
+    -- the seals, the lanes and the end, from which a value is made
+    pub behind_ends : {B : Type 0} (make : List SealLines → List LaneLines → B)
+        → Ends table (behind_head frame) (behind_at frame make)
+    behind_ends make =
+        ends_then table (behind_head frame) seals_follow (λ seals.
+        ends_then table (lane_place frame 1 frame.lanes) lanes_follow (λ lanes.
+        ends_done table Last (make seals lanes) (end_ends table Last Over (λ text. refl) refl (λ text. refl) refl)))
+
+-- ---- a board
+
+pub head_follows : (shape : Head → Shape)
+    → Follows (board_table shape) (InHead Heading) head_at (λ head. behind_head (frame_of shape head))
 unfolding head_at
 head_follows shape =
-    let table : Table Place = board_table shape in
-    follows_then table Heading (line_follows table Heading _ (λ _. Auction) (λ text. refl) refl) (λ heading.
-    follows_then table Auction (line_follows table Auction _ Width (λ text. refl) refl) (λ auction.
-    follows_then table (Width auction) (line_follows table (Width auction) _ (Lanes auction) (λ text. refl) refl) (λ width.
-    follows_then table (Lanes auction width) (line_follows table (Lanes auction width) _ (Seals auction width) (λ text. refl) refl) (λ lanes.
-    follows_then table (Seals auction width lanes) (line_follows table (Seals auction width lanes) _ (Winner auction width lanes) (λ text. refl) refl) (λ seals.
-    follows_then table (Winner auction width lanes seals) (line_follows table (Winner auction width lanes seals) _ (Price auction width lanes seals) (λ text. refl) refl) (λ winner.
-    follows_then table (Price auction width lanes seals winner) (line_follows table (Price auction width lanes seals winner) _ (λ price. seal_place (head_with auction width lanes seals winner price) seals []) (λ text. refl) refl) (λ price.
-    follows_done table after_head (head_with auction width lanes seals winner price))))))))
+    let head = head_table shape in
+    let after : Head → Place HeadPlace = λ h. behind_head (frame_of shape h) in
+    head_line_then head Heading _ (λ _. InHead Auction) (λ text. refl) (λ heading.
+    head_line_then head Auction _ (λ auction. InHead (Width auction)) (λ text. refl) (λ auction.
+    head_line_then head (Width auction) _ (λ width. InHead (Lanes auction width)) (λ text. refl) (λ width.
+    head_line_then head (Lanes auction width) _ (λ lanes. InHead (Seals auction width lanes)) (λ text. refl) (λ lanes.
+    head_line_then head (Seals auction width lanes) _ (λ seals. InHead (Winner auction width lanes seals)) (λ text. refl) (λ seals.
+    head_line_then head (Winner auction width lanes seals) _ (λ winner. InHead (Price auction width lanes seals winner)) (λ text. refl) (λ winner.
+    head_line_then head (Price auction width lanes seals winner) _ (λ price. after (head_with auction width lanes seals winner price)) (λ text. refl) (λ price.
+    follows_done (board_table shape) after (head_with auction width lanes seals winner price))))))))
 
--- ---- the seals
-
-inputs_follow : (shape : Head → Shape) (head : Head) (more : ℕ) (seats : List ℕ) (count : ℕ) → Follows (board_table shape) (input_place head more seats count) (many_at count (λ _. line_by (com_line (codes "x")))) (λ _. seal_place head more seats)
-inputs_follow shape head more seats count =
-    let table : Table Place = board_table shape in
-    many_follows table (λ left before. input_place head more seats left) (λ _. line_by (com_line (codes "x")))
-    (λ left before. line_follows table (Input head more seats left) (com_line (codes "x")) (λ _. input_place head more seats left) (λ text. refl) refl) count []
-
-seal_done : (shape : Head → Shape) (head : Head) (more : ℕ) (before : List SealLines) (seal : SealLines)
-    → Follows (board_table shape) (seal_place head more (seats_of before ++ seal.seat ∷ [])) (λ rest. Ok (seal, rest)) (λ s. seal_place head more (seats_of (before ++ s ∷ [])))
-seal_done shape head more before seal =
-    let after : SealLines → Place = λ s. seal_place head more (seats_of (before ++ s ∷ [])) in
-    let P : List ℕ → Type 0 = λ seats. Follows (board_table shape) (seal_place head more seats) (λ rest. Ok (seal, rest)) after in
-    subst P (seats_more before seal) (follows_done (board_table shape) after seal)
-
-seal_follows : (shape : Head → Shape) (head : Head) (more : ℕ) (before : List SealLines)
-    → Follows (board_table shape) (Seal head more (seats_of before)) (seal_at head.lanes before) (λ seal. seal_place head more (seats_of (before ++ seal ∷ [])))
-unfolding seal_at
-seal_follows shape head more before =
-    let table : Table Place = board_table shape in
-    let seats : List ℕ = seats_of before in
-    follows_then table (Seal head more seats) (line_follows table (Seal head more seats) _ (λ seat. input_place head more (seats ++ seat ∷ []) head.lanes) (λ text. refl) refl) (λ seat.
-    follows_then table (input_place head more (seats ++ seat ∷ []) head.lanes) (inputs_follow shape head more (seats ++ seat ∷ []) head.lanes) (λ coms.
-    seal_done shape head more before (seal_with seat coms)))
-
-pub seals_follow : (shape : Head → Shape) (head : Head) → Follows (board_table shape) (after_head head) (seals_at head) (λ _. lane_place head 1 head.lanes)
-seals_follow shape head =
-    many_follows (board_table shape) (λ left before. seal_place head left (seats_of before)) (seal_at head.lanes) (λ left before. seal_follows shape head left before) head.seals []
-
--- ---- the lanes
-
-rows_follow : (shape : Head → Shape) (head : Head) (lane more count : ℕ) → Follows (board_table shape) (row_place head lane more count) (many_at count (λ _. line_by posted_line)) (λ _. lane_place head (lane + 1) more)
-rows_follow shape head lane more count =
-    let table : Table Place = board_table shape in
-    many_follows table (λ left before. row_place head lane more left) (λ _. line_by posted_line)
-    (λ left before. line_follows table (Row head lane more left) posted_line (λ _. row_place head lane more left) (λ text. refl) refl) count []
-
-wires_follow : (shape : Head → Shape) (head : Head) (lane more count : ℕ)
-    → Follows (board_table shape) (wire_place head lane more (shape head).rows count) (many_at count (λ _. line_by (com_line (codes "w")))) (λ _. row_place head lane more (shape head).rows)
-wires_follow shape head lane more count =
-    let table : Table Place = board_table shape in
-    many_follows table (λ left before. wire_place head lane more (shape head).rows left) (λ _. line_by (com_line (codes "w")))
-    (λ left before. line_follows table (Wire head lane more left) (com_line (codes "w")) (λ _. wire_place head lane more (shape head).rows left) (λ text. refl) refl) count []
-
-lane_done : (shape : Head → Shape) (head : Head) (more : ℕ) (before : List LaneLines) (lines : LaneLines)
-    → Follows (board_table shape) (lane_place head (length before + 1 + 1) more) (λ rest. Ok (lines, rest)) (λ l. lane_place head (length (before ++ l ∷ []) + 1) more)
-lane_done shape head more before lines =
-    let after : LaneLines → Place = λ l. lane_place head (length (before ++ l ∷ []) + 1) more in
-    let P : ℕ → Type 0 = λ lane. Follows (board_table shape) (lane_place head lane more) (λ rest. Ok (lines, rest)) after in
-    let number : length (before ++ lines ∷ []) + 1 ≡ length before + 1 + 1 = omega (arith, length-append before (lines ∷ [])) in
-    subst P number (follows_done (board_table shape) after lines)
-
-lane_follows : (shape : Head → Shape) (head : Head) (more : ℕ) (before : List LaneLines)
-    → Follows (board_table shape) (Lane head (length before + 1) more) (lane_at (length before + 1) (shape head).wires (shape head).rows) (λ lines. lane_place head (length (before ++ lines ∷ []) + 1) more)
-unfolding lane_at
-lane_follows shape head more before =
-    let table : Table Place = board_table shape in
-    let lane : ℕ = length before + 1 in
-    follows_then table (Lane head lane more) (line_follows table (Lane head lane more) _ (λ _. wire_place head lane more (shape head).rows (shape head).wires) (λ text. refl) refl) (λ number.
-    follows_then table (wire_place head lane more (shape head).rows (shape head).wires) (wires_follow shape head lane more (shape head).wires) (λ coms.
-    follows_then table (row_place head lane more (shape head).rows) (rows_follow shape head lane more (shape head).rows) (λ posted.
-    lane_done shape head more before (lane_with coms posted))))
-
-lanes_follow : (shape : Head → Shape) (head : Head) → Follows (board_table shape) (lane_place head 1 head.lanes) (lanes_at shape head) (λ _. Last)
-lanes_follow shape head =
-    many_follows (board_table shape) (λ left before. lane_place head (length before + 1) left) (λ before. lane_at (length before + 1) (shape head).wires (shape head).rows)
-    (λ left before. lane_follows shape head left before) head.lanes []
-
--- ---- the board
-
-pub board_ends : (shape : Head → Shape) → Ends (board_table shape) Heading (board_at shape)
+pub board_ends : (shape : Head → Shape) → Ends (board_table shape) (InHead Heading) (board_at shape)
 unfolding board_at
 board_ends shape =
-    let table : Table Place = board_table shape in
-    ends_then table Heading (head_follows shape) (λ head.
-    ends_then table (after_head head) (seals_follow shape head) (λ seals.
-    ends_then table (lane_place head 1 head.lanes) (lanes_follow shape head) (λ lanes.
-    ends_done table Last (board_with head seals lanes) (end_ends table Last Over (λ text. refl) refl (λ text. refl) refl))))
+    ends_then (board_table shape) (InHead Heading) (head_follows shape)
+    (λ head. behind_ends (head_table shape) (frame_of shape head) (board_with head))
 
 pub board_fault : (shape : Head → Shape) (bytes : List ℕ) → fault_line (board_table shape) bytes ≡ result_err (whole (board_at shape) bytes)
 board_fault shape bytes = fault_line_is (board_table shape) (board_at shape) (board_ends shape) bytes

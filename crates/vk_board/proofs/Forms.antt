@@ -12,9 +12,9 @@ use Rattle.vk_wire.specs.Values.{IsCom}
 use Rattle.vk_board.specs.declared.board.Head.{Head}
 use Rattle.vk_board.specs.declared.board.SealLines.{SealLines}
 use Rattle.vk_board.specs.declared.board.LaneLines.{LaneLines}
-use Rattle.vk_board.specs.Values.{IsHead, IsSealAfter, AreSeals, IsLaneLines}
+use Rattle.vk_board.specs.Values.{IsHead, IsSealAfter, AreSealsOf, AreSeals, IsLaneLines}
 use Rattle.vk_board.specs.Texts.{com_text, posted_text, head_text, seal_lines_text, lane_text}
-use Rattle.vk_board.specs.Reading.{com_line, posted_line, seats_of, head_at, seal_at, seals_at, lane_at}
+use Rattle.vk_board.specs.Reading.{com_line, posted_line, seats_of, head_at, seal_at, seal_lines_at, seals_at, lane_at}
 use Rattle.vk_board.proofs.Seats.{new_from_test, new_to_test}
 use Rattle.vk_board.proofs.Lines.{com_line_is, posted_line_is, seat_line_is, to_residues, from_residues}
 
@@ -190,10 +190,13 @@ seal_is_part lanes before =
     ))
     (λ seal. refl)
 
-pub seals_are_part : (head : Head) → IsPart (AreSeals head) (flat_map seal_lines_text) (seals_at head)
-seals_are_part head =
-    part_same (many_part head.seals (λ before. seal_is_part head.lanes before))
+pub seal_lines_are_part : (count lanes : ℕ) → IsPart (AreSealsOf count lanes) (flat_map seal_lines_text) (seal_lines_at count lanes)
+seal_lines_are_part count lanes =
+    part_same (many_part count (λ before. seal_is_part lanes before))
     (λ seals is. record { count = is.0; each = is.1 }) (λ seals is. (is.count, is.each)) (λ seals. refl)
+
+pub seals_are_part : (head : Head) → IsPart (AreSeals head) (flat_map seal_lines_text) (seals_at head)
+seals_are_part head = seal_lines_are_part head.seals head.lanes
 
 -- ---- a lane
 

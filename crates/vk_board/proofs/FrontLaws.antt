@@ -7,9 +7,9 @@ use Rattle.vk_lines.specs.Forms.{fault_line}
 use Rattle.vk_board.specs.declared.board.Head.{Head}
 use Rattle.vk_board.specs.declared.board.SealLines.{SealLines}
 use Rattle.vk_board.specs.declared.front.Front.{Front}
-use Rattle.vk_board.specs.Values.{Shape}
+use Rattle.vk_board.specs.Values.{Shape, frame_of}
 use Rattle.vk_board.specs.Texts.{head_text, seal_lines_text}
-use Rattle.vk_board.specs.Tables.{board_table}
+use Rattle.vk_board.specs.Tables.{head_table, board_table}
 use Rattle.vk_board.specs.Reading.{head_at, seals_at}
 use Rattle.vk_board.specs.Published.{price_stands, position_of}
 use Rattle.vk_lines.specs.Gives.{◌>>=◌}
@@ -126,7 +126,7 @@ line_by_way shape bytes number (NoHead line stop) refused =
     (head_follows shape).err start line stop ∙ ap Some (line_same line number (sym (at_head start line stop) ∙ refused))
 line_by_way shape bytes number (NoSeals head middle line is stop) refused =
     let start : Rest = record { taken = 0; left = bytes } in
-    (head_follows shape).ok start head middle is ∙ (seals_follow shape head).err middle line stop
+    (head_follows shape).ok start head middle is ∙ (seals_follow (head_table shape) (frame_of shape head)).err middle line stop
     ∙ ap Some (line_same line number (sym (at_seals start head middle line is stop) ∙ refused))
 line_by_way shape bytes number (Both head seals after read) refused =
     absurd (no_line head seals after (price_stands head) (position_of head.winner seals) number (sym (at_tests (record { taken = 0; left = bytes }) head seals after read) ∙ refused))
@@ -149,7 +149,7 @@ line_refused shape bytes number (NoHead line stop) is =
     at_head start line stop ∙ ap (λ n. Err (Malformed n)) same
 line_refused shape bytes number (NoSeals head middle line head_is stop) is =
     let start : Rest = record { taken = 0; left = bytes } in
-    let same : line ≡ number = same_Some line number (sym ((head_follows shape).ok start head middle head_is ∙ (seals_follow shape head).err middle line stop) ∙ is.line) in
+    let same : line ≡ number = same_Some line number (sym ((head_follows shape).ok start head middle head_is ∙ (seals_follow (head_table shape) (frame_of shape head)).err middle line stop) ∙ is.line) in
     at_seals start head middle line head_is stop ∙ ap (λ n. Err (Malformed n)) same
 line_refused shape bytes number (Both head seals after read) is =
     absurd (is.before head seals (text_shown (record { taken = 0; left = bytes }) head seals after read))

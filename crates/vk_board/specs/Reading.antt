@@ -10,7 +10,7 @@ use Rattle.vk_wire.specs.declared.wire.WireCom.{WireCom}
 use Rattle.vk_board.specs.declared.board.Head.{Head}
 use Rattle.vk_board.specs.declared.board.SealLines.{SealLines}
 use Rattle.vk_board.specs.declared.board.LaneLines.{LaneLines}
-use Rattle.vk_board.specs.Values.{Board, Shape}
+use Rattle.vk_board.specs.Values.{Board, Shape, Frame, frame_of}
 
 -- ---- lines
 
@@ -58,9 +58,13 @@ seal_at lanes before rest =
     many_at lanes (λ _. line_by (com_line (codes "x"))) seat.1 >>= λ coms.
     Ok (record { seat = seat.0; coms = coms.0 }, coms.1)
 
+-- so many seals of so many lanes
+abbrev pub seal_lines_at : ℕ → ℕ → Rest → Result (List SealLines × Rest) ℕ
+seal_lines_at seals lanes rest = many_at seals (seal_at lanes) rest
+
 -- the seals of a board with this head
 abbrev pub seals_at : Head → Rest → Result (List SealLines × Rest) ℕ
-seals_at head rest = many_at head.seals (seal_at head.lanes) rest
+seals_at head rest = seal_lines_at head.seals head.lanes rest
 
 -- the lane of that number, with so many wires after the inputs and so many rows
 unfoldable pub lane_at : ℕ → ℕ → ℕ → Rest → Result (LaneLines × Rest) ℕ
@@ -70,16 +74,24 @@ lane_at lane wires rows rest =
     many_at rows (λ _. line_by posted_line) coms.1 >>= λ posted.
     Ok (record { coms = coms.0; posted = posted.0 }, posted.1)
 
--- the lanes of a board with this head, numbered from 1
+-- so many lanes of this shape, numbered from 1
+abbrev pub lane_lines_at : ℕ → Shape → Rest → Result (List LaneLines × Rest) ℕ
+lane_lines_at lanes shape rest = many_at lanes (λ before. lane_at (length before + 1) shape.wires shape.rows) rest
+
+-- the lanes of a board with this head
 abbrev pub lanes_at : (Head → Shape) → Head → Rest → Result (List LaneLines × Rest) ℕ
-lanes_at shape head rest =
-    many_at head.lanes (λ before. lane_at (length before + 1) (shape head).wires (shape head).rows) rest
+lanes_at shape head rest = lane_lines_at head.lanes (shape head) rest
+
+-- what stands behind a head that tells this frame, to the end of the file, as the value that is made of it
+abbrev pub behind_at : {B : Type 0} → Frame → (List SealLines → List LaneLines → B) → Rest → Result (B × Rest) ℕ
+behind_at frame make rest =
+    seal_lines_at frame.seals frame.lanes rest >>= λ seals.
+    lane_lines_at frame.lanes frame.shape seals.1 >>= λ lanes.
+    end_at lanes.1 >>= λ over.
+    Ok (make seals.0 lanes.0, over.1)
 
 -- a board whose head tells the shape of its lanes
 unfoldable pub board_at : (Head → Shape) → Rest → Result (Board × Rest) ℕ
 board_at shape rest =
     head_at rest >>= λ head.
-    seals_at head.0 head.1 >>= λ seals.
-    lanes_at shape head.0 seals.1 >>= λ lanes.
-    end_at lanes.1 >>= λ over.
-    Ok (record { head = head.0; seals = seals.0; lanes = lanes.0 }, over.1)
+    behind_at (frame_of shape head.0) (λ seals lanes. record { head = head.0; seals = seals; lanes = lanes }) head.1

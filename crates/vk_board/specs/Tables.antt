@@ -1,77 +1,114 @@
--- What may stand next in a board, place by place.
+-- What may stand next in a file of a head, seals and lanes, place by place. Boards are such files.
 use Rattle.std.specs.Prelude.{ℕ, zero, suc, ◌+◌, ◌-◌, ◌^◌, Bool, true, false, List, [], ◌∷◌, ◌++◌, codes, Option, None, option_map}
 use Rattle.vk_lines.specs.Forms.{Table}
 use Rattle.vk_lines.specs.Tokens.{word_of, number_line, id_line}
 use Rattle.vk_board.specs.declared.board.Head.{Head}
-use Rattle.vk_board.specs.Values.{Shape}
+use Rattle.vk_board.specs.Values.{Shape, Frame, frame_of}
 use Rattle.vk_board.specs.Reading.{com_line, posted_line, seat_line}
 
--- the places, each named for the line that may stand there, with what the lines before tell of those to
--- come. In the head those are its fields so far, and then the head. Among the seals: how many follow this one,
--- the seats so far, and how many lines of this one follow. Among the lanes: the number of this one, how many
--- follow it, and how many lines of this kind follow
-pub data Place : Type 0 where
-  Heading : Place
-  Auction : Place
-  Width : List ℕ → Place
-  Lanes : List ℕ → ℕ → Place
-  Seals : List ℕ → ℕ → ℕ → Place
-  Winner : List ℕ → ℕ → ℕ → ℕ → Place
-  Price : List ℕ → ℕ → ℕ → ℕ → ℕ → Place
-  Seal : Head → ℕ → List ℕ → Place
-  Input : Head → ℕ → List ℕ → ℕ → Place
-  Lane : Head → ℕ → ℕ → Place
-  Wire : Head → ℕ → ℕ → ℕ → Place
-  Row : Head → ℕ → ℕ → ℕ → Place
-  Last : Place
-  Over : Place
+-- ---- behind a head
 
-abbrev pub is_over : Place → Bool
+-- the places of a file, each named for the line that may stand there, with what the lines before tell of those
+-- to come. The places of a head are its own. Among the seals: what the head told, how many follow this one, the
+-- seats so far, and how many lines of this one follow. Among the lanes: what the head told, the number of this
+-- one, how many follow it, and how many lines of this kind follow
+pub data Place (H : Type 0) : Type 0 where
+  InHead : H → Place H
+  Seal : Frame → ℕ → List ℕ → Place H
+  Input : Frame → ℕ → List ℕ → ℕ → Place H
+  Lane : Frame → ℕ → ℕ → Place H
+  Wire : Frame → ℕ → ℕ → ℕ → Place H
+  Row : Frame → ℕ → ℕ → ℕ → Place H
+  Last : Place H
+  Over : Place H
+
+abbrev pub is_over : {H : Type 0} → Place H → Bool
 is_over Over = true
 is_over _ = false
 
 -- the place where so many lanes are left, from that number on
-abbrev pub lane_place : Head → ℕ → ℕ → Place
-lane_place head lane zero = Last
-lane_place head lane (suc more) = Lane head lane more
+abbrev pub lane_place : {H : Type 0} → Frame → ℕ → ℕ → Place H
+lane_place frame lane zero = Last
+lane_place frame lane (suc more) = Lane frame lane more
 
 -- where so many rows of that lane are left, and so many lanes after it
-abbrev pub row_place : Head → ℕ → ℕ → ℕ → Place
-row_place head lane lanes zero = lane_place head (lane + 1) lanes
-row_place head lane lanes (suc more) = Row head lane lanes more
+abbrev pub row_place : {H : Type 0} → Frame → ℕ → ℕ → ℕ → Place H
+row_place frame lane lanes zero = lane_place frame (lane + 1) lanes
+row_place frame lane lanes (suc more) = Row frame lane lanes more
 
--- where so many wires of that lane are left, so many lanes after it, and all its rows, which are so many
-abbrev pub wire_place : Head → ℕ → ℕ → ℕ → ℕ → Place
-wire_place head lane lanes rows zero = row_place head lane lanes rows
-wire_place head lane lanes rows (suc more) = Wire head lane lanes more
+-- where so many wires of that lane are left, all its rows, and so many lanes after it
+abbrev pub wire_place : {H : Type 0} → Frame → ℕ → ℕ → ℕ → Place H
+wire_place frame lane lanes zero = row_place frame lane lanes frame.shape.rows
+wire_place frame lane lanes (suc more) = Wire frame lane lanes more
 
 -- where so many seals are left after those with these seats
-abbrev pub seal_place : Head → ℕ → List ℕ → Place
-seal_place head zero seats = lane_place head 1 head.lanes
-seal_place head (suc more) seats = Seal head more seats
+abbrev pub seal_place : {H : Type 0} → Frame → ℕ → List ℕ → Place H
+seal_place frame zero seats = lane_place frame 1 frame.lanes
+seal_place frame (suc more) seats = Seal frame more seats
 
 -- where so many lines of a seal are left, and so many seals after it; its seat is among these
-abbrev pub input_place : Head → ℕ → List ℕ → ℕ → Place
-input_place head seals seats zero = seal_place head seals seats
-input_place head seals seats (suc more) = Input head seals seats more
+abbrev pub input_place : {H : Type 0} → Frame → ℕ → List ℕ → ℕ → Place H
+input_place frame seals seats zero = seal_place frame seals seats
+input_place frame seals seats (suc more) = Input frame seals seats more
 
-abbrev pub board_next : (Head → Shape) → Place → List ℕ → Option Place
-board_next shape Heading text = option_map (λ _. Auction) (word_of (codes "vickrey-board 1") text)
-board_next shape Auction text = option_map Width (id_line (codes "auction") text)
-board_next shape (Width auction) text = option_map (Lanes auction) (number_line (codes "width") 1 40 text)
-board_next shape (Lanes auction width) text = option_map (Seals auction width) (number_line (codes "lanes") 1 64 text)
-board_next shape (Seals auction width lanes) text = option_map (Winner auction width lanes) (number_line (codes "seals") 1 64 text)
-board_next shape (Winner auction width lanes seals) text = option_map (Price auction width lanes seals) (number_line (codes "winner") 1 65535 text)
-board_next shape (Price auction width lanes seals winner) text =
-    option_map (λ price. seal_place (record { auction = auction; width = width; lanes = lanes; seals = seals; winner = winner; price = price }) seals [])
+-- where all seals and lanes of a frame are left
+abbrev pub behind_head : {H : Type 0} → Frame → Place H
+behind_head frame = seal_place frame frame.seals []
+
+-- a head by its table: its first place, and the place after a line that may stand at one of its places, None
+-- where no such line may. The last of them leads to the place behind the head
+pub record HeadTable (H : Type 0) : Type 0 where
+  pub first : H
+  pub next : H → List ℕ → Option (Place H)
+
+abbrev pub sealed_next : {H : Type 0} → HeadTable H → Place H → List ℕ → Option (Place H)
+sealed_next head (InHead place) text = head.next place text
+sealed_next head (Seal frame more seats) text =
+    option_map (λ seat. input_place frame more (seats ++ seat ∷ []) frame.lanes) (seat_line seats text)
+sealed_next head (Input frame seals seats more) text =
+    option_map (λ _. input_place frame seals seats more) (com_line (codes "x") text)
+sealed_next head (Lane frame lane more) text =
+    option_map (λ _. wire_place frame lane more frame.shape.wires) (number_line (codes "lane") lane lane text)
+sealed_next head (Wire frame lane lanes more) text =
+    option_map (λ _. wire_place frame lane lanes more) (com_line (codes "w") text)
+sealed_next head (Row frame lane lanes more) text =
+    option_map (λ _. row_place frame lane lanes more) (posted_line text)
+sealed_next head Last text = option_map (λ _. Over) (word_of (codes "end") text)
+sealed_next head Over text = None
+
+-- a file with this head
+abbrev pub sealed_table : {H : Type 0} → HeadTable H → Table (Place H)
+sealed_table head = record { first = InHead head.first; next = sealed_next head; over = is_over }
+
+-- ---- a board
+
+-- the places of a board's head, each with its fields so far
+pub data HeadPlace : Type 0 where
+  Heading : HeadPlace
+  Auction : HeadPlace
+  Width : List ℕ → HeadPlace
+  Lanes : List ℕ → ℕ → HeadPlace
+  Seals : List ℕ → ℕ → ℕ → HeadPlace
+  Winner : List ℕ → ℕ → ℕ → ℕ → HeadPlace
+  Price : List ℕ → ℕ → ℕ → ℕ → ℕ → HeadPlace
+
+abbrev pub head_next : (Head → Shape) → HeadPlace → List ℕ → Option (Place HeadPlace)
+head_next shape Heading text = option_map (λ _. InHead Auction) (word_of (codes "vickrey-board 1") text)
+head_next shape Auction text = option_map (λ auction. InHead (Width auction)) (id_line (codes "auction") text)
+head_next shape (Width auction) text =
+    option_map (λ width. InHead (Lanes auction width)) (number_line (codes "width") 1 40 text)
+head_next shape (Lanes auction width) text =
+    option_map (λ lanes. InHead (Seals auction width lanes)) (number_line (codes "lanes") 1 64 text)
+head_next shape (Seals auction width lanes) text =
+    option_map (λ seals. InHead (Winner auction width lanes seals)) (number_line (codes "seals") 1 64 text)
+head_next shape (Winner auction width lanes seals) text =
+    option_map (λ winner. InHead (Price auction width lanes seals winner)) (number_line (codes "winner") 1 65535 text)
+head_next shape (Price auction width lanes seals winner) text =
+    option_map (λ price. behind_head (frame_of shape (record { auction = auction; width = width; lanes = lanes; seals = seals; winner = winner; price = price })))
     (number_line (codes "price") 0 (2 ^ 64 - 1) text)
-board_next shape (Seal head more seats) text = option_map (λ seat. input_place head more (seats ++ seat ∷ []) head.lanes) (seat_line seats text)
-board_next shape (Input head seals seats more) text = option_map (λ _. input_place head seals seats more) (com_line (codes "x") text)
-board_next shape (Lane head lane more) text = option_map (λ _. wire_place head lane more (shape head).rows (shape head).wires) (number_line (codes "lane") lane lane text)
-board_next shape (Wire head lane lanes more) text = option_map (λ _. wire_place head lane lanes (shape head).rows more) (com_line (codes "w") text)
-board_next shape (Row head lane lanes more) text = option_map (λ _. row_place head lane lanes more) (posted_line text)
-board_next shape Last text = option_map (λ _. Over) (word_of (codes "end") text)
-board_next shape Over text = None
 
-abbrev pub board_table : (Head → Shape) → Table Place
-board_table shape = record { first = Heading; next = board_next shape; over = is_over }
+abbrev pub head_table : (Head → Shape) → HeadTable HeadPlace
+head_table shape = record { first = Heading; next = head_next shape }
+
+abbrev pub board_table : (Head → Shape) → Table (Place HeadPlace)
+board_table shape = sealed_table (head_table shape)

@@ -43,9 +43,12 @@ lane_text lane lines =
 abbrev pub lanes_text : ℕ → List LaneLines → List ℕ
 lanes_text lane lanes = numbered_text lane_text lane lanes
 
+-- what stands behind a head, to the end of the file
+abbrev pub behind_text : List SealLines → List LaneLines → List ℕ
+behind_text seals lanes =
+    flat_map seal_lines_text seals
+    ++ (lanes_text 1 lanes
+    ++ line (codes "end"))
+
 unfoldable pub board_text : Board → List ℕ
-board_text board =
-    head_text board.head
-    ++ (flat_map seal_lines_text board.seals
-    ++ (lanes_text 1 board.lanes
-    ++ line (codes "end")))
+board_text board = head_text board.head ++ behind_text board.seals board.lanes

@@ -35,10 +35,14 @@ pub record IsSealAfter (lanes : ℕ) (before : List SealLines) (seal : SealLines
   pub right : IsSealLines lanes seal
   pub new_seat : AllByRecursion (λ earlier. earlier.seat ≢ seal.seat) before
 
--- the seals of a board with this head: as many as it says, and their seats are all different
-pub record AreSeals (head : Head) (seals : List SealLines) : Type 0 where
-  pub count : length seals ≡ head.seals
-  pub each : EachAfter (IsSealAfter head.lanes) [] seals
+-- so many seals, each of so many lanes, and their seats are all different
+pub record AreSealsOf (number lanes : ℕ) (seals : List SealLines) : Type 0 where
+  pub count : length seals ≡ number
+  pub each : EachAfter (IsSealAfter lanes) [] seals
+
+-- the seals of a board with this head
+abbrev pub AreSeals : Head → List SealLines → Type 0
+AreSeals head seals = AreSealsOf head.seals head.lanes seals
 
 -- what stands on a board of one lane: so many wires' commitments and so many rows' posted numbers
 pub record IsLaneLines (wires rows : ℕ) (lines : LaneLines) : Type 0 where
@@ -57,6 +61,15 @@ pub record Board : Type 0 where
 pub record Shape : Type 0 where
   pub wires : ℕ
   pub rows : ℕ
+
+-- what a head tells of what stands behind it: how many seals, how many lanes, and the shape of each lane
+pub record Frame : Type 0 where
+  pub seals : ℕ
+  pub lanes : ℕ
+  pub shape : Shape
+
+abbrev pub frame_of : (Head → Shape) → Head → Frame
+frame_of shape head = record { seals = head.seals; lanes = head.lanes; shape = shape head }
 
 -- a board whose head tells the shape of each of its lanes
 pub record IsBoard (shape : Head → Shape) (board : Board) : Type 0 where

@@ -4,8 +4,8 @@ ghost use Rattle.vk_residue.specs.Residue.{IsResidue};
 ghost use Rattle.vk_lines.specs.Forms.{many_at};
 ghost use Rattle.vk_lines.specs.Lines.{KeepsFile, OnlyReads, ReadsPart, line_by};
 ghost use Rattle.vk_lines.specs.declared.errors.ReadErr.TheVariants.{Failed};
-ghost use Rattle.vk_board.specs.Values.{AreBytes, IsCom, IsHead, IsSealAfter, AreSeals, IsLaneLines};
-ghost use Rattle.vk_board.specs.Reading.{com_line, posted_line, seats_of, is_new_seat, seat_line, head_at, seal_at, seals_at, lane_at};
+ghost use Rattle.vk_board.specs.Values.{AreBytes, IsCom, IsHead, IsSealAfter, AreSealsOf, AreSeals, IsLaneLines};
+ghost use Rattle.vk_board.specs.Reading.{com_line, posted_line, seats_of, is_new_seat, seat_line, head_at, seal_at, seal_lines_at, seals_at, lane_at};
 
 use crate::board::{Head, LaneLines, SealLines};
 use std::alloc::Global;
@@ -64,8 +64,7 @@ fn head_from(
     }
 }
 
-/// Reads the seals of a board with this head. Malformed carries the number of the first line that
-/// isn't what its place demands; a seat that an earlier seal has is a fault at its line.
+/// Reads the seals of a board with this head, as read_seal_lines does.
 pub fn read_seals<S: Shelf>(
     alloc: Global,
     shelf: &mut S,
@@ -77,9 +76,27 @@ pub fn read_seals<S: Shelf>(
     ensures file { KeepsFile lines.old lines.new }
     ensures shelf { OnlyReads S.held S.Shelf.faults ReadErr.Failed result shelf.old shelf.new }
 {
+    let seals = read_seal_lines(alloc, shelf, lines, head.seals, head.lanes)?;
+    Ok(seals)
+}
+
+/// Reads this many seals of this many lanes. Malformed carries the number of the first line that
+/// isn't what its place demands; a seat that an earlier seal has is a fault at its line.
+pub fn read_seal_lines<S: Shelf>(
+    alloc: Global,
+    shelf: &mut S,
+    lines: &mut Lines,
+    count: u32,
+    lanes: u32,
+) -> Result<Seq<SealLines>, ReadErr>
+    ensures told { ReadsPart (seal_lines_at count lanes) (S.held shelf.old) lines.old lines.new result }
+    ensures right { IfOk result (AreSealsOf count lanes) }
+    ensures file { KeepsFile lines.old lines.new }
+    ensures shelf { OnlyReads S.held S.Shelf.faults ReadErr.Failed result shelf.old shelf.new }
+{
     let mut seals = Seq::new(alloc);
-    for index in 0..head.seals {
-        let seal = read_seal(alloc, shelf, lines, head.lanes, &seals)?;
+    for index in 0..count {
+        let seal = read_seal(alloc, shelf, lines, lanes, &seals)?;
         seals.push(seal)?;
     }
     Ok(seals)

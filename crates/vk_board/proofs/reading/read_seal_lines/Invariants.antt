@@ -3,15 +3,15 @@ use Rattle.vk_board.specs.Values.{IsSealAfter}
 use Rattle.std.proofs.Common.{length, ◌≡◌, ◌-◌, [], IfSome}
 use Rattle.vk_lines.specs.Lines.{KeepsFile, rest_of}
 use Rattle.vk_board.specs.Reading.{seal_at}
-use Rattle.vk_board.proofs.reading.read_seals.Given as goal
+use Rattle.vk_board.proofs.reading.read_seal_lines.Given as goal
 
 -- what is left gives the rest of the seals
 abbrev pub invariant-loop-index : goal.invariant-loop-index
 invariant-loop-index g l = record {
   told : IfSome (g.S.Shelf.held l.fn.shelf) (λ files.
-      many_onto l.seals (l.head.seals - l.index) (seal_at l.head.lanes) (rest_of l.lines files) ≡ many_onto [] l.head.seals (seal_at l.head.lanes) (rest_of l.fn.lines files));
+      many_onto l.seals (l.count - l.index) (seal_at l.lanes) (rest_of l.lines files) ≡ many_onto [] l.count (seal_at l.lanes) (rest_of l.fn.lines files));
   count : length l.seals ≡ l.index;
-  right : EachAfter (IsSealAfter l.head.lanes) [] l.seals;
+  right : EachAfter (IsSealAfter l.lanes) [] l.seals;
   held : g.S.Shelf.held l.shelf ≡ g.S.Shelf.held l.fn.shelf;
   kept : g.S.Shelf.faults l.shelf ≡ g.S.Shelf.faults l.fn.shelf;
   file : KeepsFile l.fn.lines l.lines;
