@@ -90,6 +90,10 @@ difference_names wires left right strict l r =
     let Named : Term → Type 0 = λ term. term.wire < wires in
     All-cons Named (plus left) (minus right ∷ []) l (All-cons Named (minus right) [] r (All-nil Named))
 
+-- the one wire of a form is there
+pub one_name : (wires : ℕ) (term : Term) → term.wire < wires → NamesBelow wires (term ∷ [])
+one_name wires term h = All-cons (λ (t : Term). t.wire < wires) term [] h (All-nil (λ (t : Term). t.wire < wires))
+
 pub equal_sound : (plan : PlanValue) (left right : ℕ) (values : List ℕ) → left < length plan.kinds → right < length plan.kinds
     → Holds (extended plan [] (difference_form left right false ∷ [])) values
     → slice_index (take (length plan.kinds) values) left ≡ slice_index (take (length plan.kinds) values) right

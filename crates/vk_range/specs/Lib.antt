@@ -6,3 +6,7 @@ pub mod Selected
 pub mod SelectedLaws
 pub mod Rooms
 pub mod Series
+pub mod Ranges
+pub mod RangesLaws
+pub mod Copies
+pub mod Others

@@ -9,11 +9,15 @@ use Rattle.vk_plan.specs.Forms.{NamesBelow}
 use Rattle.vk_plan.specs.FormLaws.{NamesBelow-more}
 use Rattle.vk_plan.specs.Plans.{PlanValue, IsPlan, HasWeight, extended}
 use Rattle.vk_plan.specs.PlanLaws.{IsPlan-extended}
+use Rattle.vk_range.specs.declared.ranges.Ranges.{Ranges}
 use Rattle.vk_range.specs.declared.selected.SelectedIs.{SelectedIs}
 use Rattle.vk_range.specs.Sets.{test_set, set_row}
 use Rattle.vk_range.specs.Forms.{difference_form, IsRange}
 use Rattle.vk_range.specs.SetLaws.{length_listed, set_row_names, test_set_weights}
 use Rattle.vk_range.specs.Laws.{difference_names}
+use Rattle.vk_range.specs.Series.{series_room}
+use Rattle.vk_range.specs.Ranges.{form_at, AreRanges, ranges_wires, ranges_rows}
+use Rattle.vk_range.specs.RangesLaws.{ranges_series}
 use Rattle.vk_range.specs.Selected.{IsSelection, place_row, selected_wires, selected_rows}
 use Rattle.vk_range.specs.SelectedLaws.{stage_room, length_kinds}
 
@@ -59,6 +63,13 @@ pub at_least_room : (plan : PlanValue) (left right : ℕ) (strict : Bool) (width
 at_least_room plan left right strict width is_plan l r some most wires rows =
     in_range_room plan (difference_form left right strict) width is_plan
     (record { names = difference_names (length plan.kinds) left right strict l r; some = some; most = most }) wires rows
+
+pub ranges_room : (plan : PlanValue) (relation : Ranges) → IsPlan plan → AreRanges relation (length plan.kinds)
+    → length plan.kinds + length relation.forms * relation.width ≤ 16777216 → length plan.rows + length relation.forms ≤ 16777216
+    → IsPlan (extended plan (ranges_wires relation) (ranges_rows relation (length plan.kinds)))
+ranges_room plan relation is_plan fits wires rows =
+    series_room plan (form_at relation.forms) relation.width (length plan.kinds) (length relation.forms) is_plan
+    (ranges_series relation plan fits) wires rows
 
 pub selected_room : (plan : PlanValue) (relation : SelectedIs) → IsPlan plan → IsSelection relation (length plan.kinds)
     → length plan.kinds + length relation.wires + length relation.wires * relation.width ≤ 16777216

@@ -93,6 +93,23 @@ IsSeries-fewer : (plan : PlanValue) (form : ℕ → Form) (width base few many :
 IsSeries-fewer plan form width base few many le is_series =
     record { names = λ i h. is_series.names i (omega arith); base_within = is_series.base_within; some = is_series.some; most = is_series.most }
 
+-- where there is room for all the sets, there is for the first of them
+pub series_shorter : (plan : PlanValue) (form : ℕ → Form) (width base few many : ℕ) → IsPlan plan → IsSeries plan form width base many
+    → few ≤ many → IsPlan (series plan form width many) → IsPlan (series plan form width few)
+series_shorter plan form width base few many is_plan is_series le whole =
+    let row : ℕ → Form = λ i. set_row (form i) (length plan.kinds + i * width) width in
+    series_room plan form width base few is_plan (IsSeries-fewer plan form width base few many le is_series)
+    (omega (arith, whole.wires, length_series plan form width many, mul-le-mul_right width le))
+    (omega (arith, whole.few_rows, length-append plan.rows (listed row many), length_listed row many))
+
+-- room for the next set
+pub next_room : (plan now : PlanValue) (form : ℕ → Form) (width count : ℕ) → now ≡ series plan form width count
+    → IsPlan (series plan form width (count + 1))
+    → IsPlan (extended now (test_set width) (set_row (form count) (length now.kinds) width ∷ []))
+next_room plan now form width count same is_plan =
+    subst (λ p. IsPlan (extended p (test_set width) (set_row (form count) (length p.kinds) width ∷ []))) (sym same)
+    (subst IsPlan (series_more plan form width count) is_plan)
+
 -- one more form is one in a range of the plan so far
 pub next_range : (plan : PlanValue) (form : ℕ → Form) (width base count next : ℕ) → next < count → IsSeries plan form width base count
     → IsRange (form next) width (series plan form width next)

@@ -176,6 +176,10 @@ length_joined f each zero h = omega arith
 length_joined f each (suc n) h =
     length-append (joined f n) (f n) ∙ omega (arith, length_joined f each n h, h n, suc-mul n each)
 
+pub joined-same : {A : Type 0} (f g : ℕ → List A) (n : ℕ) → ((i : ℕ) → i < n → f i ≡ g i) → joined f n ≡ joined g n
+joined-same f g zero h = refl
+joined-same f g (suc n) h = cc (joined-same f g n (λ i l. h i (omega arith)), h n (omega arith))
+
 pub joined_more : {A : Type 0} (f : ℕ → List A) (n : ℕ) → joined f (n + 1) ≡ joined f n ++ f n
 joined_more f n = ap (joined f) (add-one n)
 

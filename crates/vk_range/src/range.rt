@@ -33,8 +33,7 @@ impl Relation for InRange {
         in_range_complete plan r.form r.width values own fits holds below };
 
     fn add(&self, alloc: Global, plan: &mut Plan) -> Result<(), NoMemory> {
-        let form = self.form.copy(alloc)?;
-        add_set(alloc, plan, form, self.width)?;
+        add_set(alloc, plan, &self.form, self.width)?;
         Ok(())
     }
 
@@ -73,7 +72,7 @@ impl Relation for AtLeast {
 
     fn add(&self, alloc: Global, plan: &mut Plan) -> Result<(), NoMemory> {
         let form = difference(alloc, self.left, self.right, self.strict)?;
-        add_set(alloc, plan, form, self.width)?;
+        add_set(alloc, plan, &form, self.width)?;
         Ok(())
     }
 

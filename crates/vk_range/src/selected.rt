@@ -176,7 +176,7 @@ impl SelectedIs {
         ensures as_before { OnErr result (plan.new ≡ plan.old) }
     {
         let form = self.form(alloc, start, place)?;
-        add_set(alloc, plan, form, self.width)?;
+        add_set(alloc, plan, &form, self.width)?;
         Ok(())
     }
 }

@@ -48,13 +48,25 @@ pub(crate) fn constant_of(strict: bool) -> Residue
     }
 }
 
-/// Left less right, less 1 where strict.
-pub(crate) fn difference(
+/// The wire times the factor, plus the constant.
+pub fn one_term(
     alloc: Global,
-    left: u32,
-    right: u32,
-    strict: bool,
+    wire: u32,
+    factor: Residue,
+    constant: Residue,
 ) -> Result<Form, NoMemory>
+    ensures { IfOk result (λ form. form ≡ record { terms = record { wire = wire; factor = factor } ∷ []; constant = constant }) }
+{
+    let mut terms = Vec::new(alloc);
+    terms.push(Term { wire, factor })?;
+    Ok(Form {
+        terms: Seq::from_vec(terms),
+        constant,
+    })
+}
+
+/// Left less right, less 1 where strict.
+pub fn difference(alloc: Global, left: u32, right: u32, strict: bool) -> Result<Form, NoMemory>
     ensures { IfOk result (λ form. form ≡ difference_form left right strict) }
 {
     let mut terms = Vec::new(alloc);
@@ -78,18 +90,17 @@ fn pairs(alloc: Global, width: u32) -> Result<Vec<WireKind>, NoMemory>
 }
 
 /// The form minus each pair of the set that begins at that wire.
-fn row_of_set(form: Form, start: u32, width: u32) -> Result<Form, NoMemory>
+fn row_of_set(alloc: Global, form: &Form, start: u32, width: u32) -> Result<Form, NoMemory>
     requires { start + width < 4294967296 }
-    ensures { IfOk result (λ row. row ≡ set_row form start width) }
+    ensures { IfOk result (λ row. row ≡ set_row form.now start width) }
 {
-    let constant = form.constant;
-    let mut terms = form.terms.into_vec();
+    let mut terms = Vec::from_slice(alloc, form.terms.as_slice())?;
     for i in 0..width {
         terms.push(minus_wire(start + i))?;
     }
     Ok(Form {
         terms: Seq::from_vec(terms),
-        constant,
+        constant: form.constant,
     })
 }
 
@@ -97,18 +108,18 @@ fn row_of_set(form: Form, start: u32, width: u32) -> Result<Form, NoMemory>
 pub(crate) fn add_set(
     alloc: Global,
     plan: &mut Plan,
-    form: Form,
+    form: &Form,
     width: u32,
 ) -> Result<(), NoMemory>
     requires width { width ≤ 40 }
-    requires room { IsPlan (extended plan.old (test_set width) (set_row form (length plan.old.kinds) width ∷ [])) }
+    requires room { IsPlan (extended plan.old (test_set width) (set_row form.now (length plan.old.kinds) width ∷ [])) }
     ensures added { OnOk result
-        (plan.new ≡ extended plan.old (test_set width) (set_row form (length plan.old.kinds) width ∷ [])) }
+        (plan.new ≡ extended plan.old (test_set width) (set_row form.now (length plan.old.kinds) width ∷ [])) }
     ensures as_before { OnErr result (plan.new ≡ plan.old) }
 {
     let start = plan.wires();
     let kinds = pairs(alloc, width)?;
-    let row = row_of_set(form, start, width)?;
+    let row = row_of_set(alloc, form, start, width)?;
     plan.append(kinds.as_slice(), Some(row))?;
     Ok(())
 }

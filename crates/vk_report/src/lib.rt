@@ -11,7 +11,7 @@ pub use laws::{
     a_file_is_refused_for_what_fails_first, a_file_is_reported_on_where_it_is_a_board,
     each_number_has_a_sample,
 };
-pub use reading::{read_report, row_count, wire_count};
+pub use reading::read_report;
 pub use report::{Report, ReportErr};
 pub use sample::{LANES, SEALS, SampleCase, WIDTH, sample_case};
 pub use writing::{report_lines, report_text};

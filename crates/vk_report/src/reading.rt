@@ -1,37 +1,16 @@
 ghost use Rattle.std.specs.Prelude.{◌≡◌, IfSome, IfOk, Ok};
 ghost use Rattle.vk_lines.specs.Lines.{OnlyReads, ReadsPart, rest_of};
-ghost use Rattle.vk_board.specs.Values.{IsHead};
 ghost use Rattle.vk_board.specs.Fronts.{IsFront};
 ghost use Rattle.vk_lines.specs.Gives.{Gives};
-ghost use Rattle.vk_vickrey.specs.VickreyPlans.{wire_count, row_count};
 ghost use Rattle.vk_report.specs.Reports.{IsReport, fault_of, report_with, lanes_passed, report_at, report_on};
 
 use crate::report::{Report, ReportErr};
 use std::alloc::Global;
-use vk_board::{Front, FrontErr, Head, read_front, read_lane, seats_of};
+use vk_board::{Front, FrontErr, read_front, read_lane, seats_of};
 use vk_io::Shelf;
 use vk_lines::{Lines, ReadErr};
 use vk_residue::NoMemory;
-
-/// How many wires each lane has, the inputs included.
-pub fn wire_count(head: &Head) -> u32
-    requires { IsHead head.now }
-    ensures { result ≡ wire_count head.now.seals head.now.width }
-{
-    2 * head.seals + (head.seals - 1) + head.width * (4 * head.seals - 3)
-}
-
-/// How many rows each lane has.
-pub fn row_count(head: &Head) -> u32
-    requires { IsHead head.now }
-    ensures { result ≡ row_count head.now.seals }
-{
-    if head.seals == 1 {
-        2
-    } else {
-        5 * head.seals - 2
-    }
-}
+use vk_vickrey::{row_count, wire_count};
 
 /// The report of a board with this front.
 fn report_from(alloc: Global, front: &Front) -> Result<Report, NoMemory>
@@ -43,8 +22,8 @@ fn report_from(alloc: Global, front: &Front) -> Result<Report, NoMemory>
     Ok(Report {
         head: front.head,
         seats,
-        wires: wire_count(&front.head),
-        rows: row_count(&front.head),
+        wires: wire_count(front.head.seals, front.head.width),
+        rows: row_count(front.head.seals),
     })
 }
 

@@ -4,4 +4,4 @@ pub mod VickreyPlans
 pub mod VickreyLaws
 pub mod VickreySteps
 pub mod VickreySelectors
-pub mod VickreySets
+pub mod VickreyRanges

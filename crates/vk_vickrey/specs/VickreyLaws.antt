@@ -1,63 +1,28 @@
 -- The plan of a second-price auction shows its outcome, and every outcome can be shown.
-use Rattle.std.specs.Prelude.{ℕ, ◌+◌, ◌-◌, ◌*◌, ◌%◌, ◌^◌, ◌<◌, ◌≤◌, ◌≡◌, ◌≢◌, ◌==◌, Bool, true, false, if◌then◌else◌, nat_lt, List, [], ◌∷◌, ◌++◌, All, length, take, replicate, slice_index}
+use Rattle.std.specs.Prelude.{ℕ, ◌+◌, ◌-◌, ◌*◌, ◌%◌, ◌^◌, ◌<◌, ◌≤◌, ◌≡◌, ◌≢◌, ◌==◌, Bool, true, false, if◌then◌else◌, nat_lt, List, [], ◌++◌, All, length, take, slice_index}
 use Rattle.std.proofs.Common.{refl, sym, ap, ◌∙◌, subst, arith, inl, inr, length-append, get_or-take}
-use Rattle.std.proofs.lemmas.List.{append-nil, get_or_default, length-replicate, get_or_append_left, get_or-append-add, length-take-le, take_all}
-use Rattle.std.proofs.lemmas.List.Elements.{All-cons, All-nil}
+use Rattle.std.proofs.lemmas.List.{append-nil, get_or_default, length-take-le, take_all}
 use Rattle.std.proofs.lemmas.Bool.{cases_lt, cases_eq, lt-ltb, le-ltb}
 use Rattle.std.proofs.lemmas.Bool.Decides.{eqb_tells}
 use Rattle.std.proofs.Math.Pow.{pow_mono}
 use Rattle.vk_residue.specs.Residue.{modulus, IsResidue, sum, difference}
-use Rattle.vk_plan.specs.declared.wire.WireKind.TheVariants.{Split}
-use Rattle.vk_plan.specs.declared.form.Term.{Term}
 use Rattle.vk_plan.specs.declared.form.Form.{Form}
-use Rattle.vk_plan.specs.Forms.{linear_part, form_value, NamesBelow}
-use Rattle.vk_plan.specs.Plans.{PlanValue, NamesOwnWires, Holds, plan_of_inputs, extended}
-use Rattle.vk_plan.specs.PlanLaws.{Holds-extended, Holds-before, Holds-inputs, AreZero-appended, names-extended}
+use Rattle.vk_plan.specs.Forms.{linear_part, form_value}
+use Rattle.vk_plan.specs.Plans.{PlanValue, NamesOwnWires, Holds, extended}
+use Rattle.vk_plan.specs.PlanLaws.{Holds-before}
+use Rattle.vk_range.specs.Others.{other, other_before, other_within, other_not, other_of, other_index}
+use Rattle.vk_range.specs.Copies.{copies, copies_rows, length_copies, copies_names, copied_sound, copies_complete, BeginsWith, begins_alone, begins_longer}
 use Rattle.vk_range.specs.Sets.{IsOfWidth, plus, minus}
-use Rattle.vk_range.specs.Forms.{difference_form, less_one}
+use Rattle.vk_range.specs.Forms.{less_one}
 use Rattle.vk_range.specs.SetLaws.{length_listed, at_listed, All-listed}
-use Rattle.vk_range.specs.Laws.{difference_value, difference_names, same_from_zero, zero_from_same}
+use Rattle.vk_range.specs.Laws.{difference_value, difference_names, one_name}
 use Rattle.vk_range.specs.Series.{same_plan, series, series_rows, series_values, IsSeries, length_series, series_sound_within, series_complete, names_series}
 use Rattle.vk_range.specs.Selected.{IsSelection, IsSelected, selected_wires, selected_rows, selected_values}
 use Rattle.vk_range.specs.SelectedLaws.{selected_sound, selected_complete}
 use Rattle.vk_vickrey.specs.Outcomes.{bid_at, IsPosition}
-use Rattle.vk_vickrey.specs.VickreyPlans.{IsVickreyCase, IsVickreyClaim, other, copies_kinds, copies_rows, bid_form, win_form, price_form, price_selection, vickrey_plan, after_bids, after_wins, after_prices, after_selection, honest_values}
-
--- the other places
-other_before : (winner k : ℕ) → k < winner → other winner k ≡ k
-other_before winner k h = ap (λ b. if b then k else k + 1) (lt-ltb k winner h)
-
-other_after : (winner k : ℕ) → winner ≤ k → other winner k ≡ k + 1
-other_after winner k h = ap (λ b. if b then k else k + 1) (le-ltb k winner h)
-
-pub other_within : (seals winner k : ℕ) → winner < seals → k < seals - 1 → other winner k < seals
-other_within seals winner k w h = elim (cases_lt k winner) [
-  | inl q ↦ omega (arith, other_before winner k q)
-  | inr q ↦ omega (arith, other_after winner k q)
-]
-
-other_not : (winner k : ℕ) → other winner k ≢ winner
-other_not winner k e = elim (cases_lt k winner) [
-  | inl q ↦ omega (arith, other_before winner k q)
-  | inr q ↦ omega (arith, other_after winner k q)
-]
-
-other_of : (seals winner place : ℕ) → place < seals → winner < seals → place ≢ winner → (k : ℕ) × (k < seals - 1) × (other winner k ≡ place)
-other_of seals winner place h w ne = elim (cases_lt place winner) [
-  | inl q ↦ (place, omega arith, other_before winner place q)
-  | inr q ↦ (place - 1, omega (arith, ne), other_after winner (place - 1) (omega (arith, ne)) ∙ omega (arith, ne))
-]
-
-other_index : (winner k place : ℕ) → other winner k ≡ place → place < winner → k < winner
-other_index winner k place e before = elim (cases_lt k winner) [
-  | inl q ↦ q
-  | inr q ↦ omega (arith, other_after winner k q)
-]
+use Rattle.vk_vickrey.specs.VickreyPlans.{IsVickreyCase, IsVickreyClaim, bid_form, win_form, price_form, price_selection, vickrey_plan, after_bids, after_wins, after_prices, after_selection, honest_values}
 
 -- the plans on the way
-abbrev pub copies : ℕ → ℕ → PlanValue
-copies seals count = extended (plan_of_inputs seals) (copies_kinds count) (copies_rows seals count)
-
 abbrev pub with_bids : ℕ → ℕ → PlanValue
 with_bids seals width = series (copies seals seals) (bid_form seals) width seals
 
@@ -72,13 +37,10 @@ with_selection seals width winner price =
     let relation = price_selection seals width winner price in
     extended (with_prices seals width winner price) (selected_wires relation) (selected_rows relation (length (with_prices seals width winner price).kinds))
 
-pub length_copies : (seals count : ℕ) → length (copies seals count).kinds ≡ seals + count
-length_copies seals count = length-append (replicate seals Split) (copies_kinds count) ∙ omega (arith, length-replicate seals Split, length_listed (λ _. Split) count)
-
-length_bids : (seals width : ℕ) → length (with_bids seals width).kinds ≡ 2 * seals + seals * width
+pub length_bids : (seals width : ℕ) → length (with_bids seals width).kinds ≡ 2 * seals + seals * width
 length_bids seals width = length_series (copies seals seals) (bid_form seals) width seals ∙ omega (arith, length_copies seals seals)
 
-length_wins : (seals width winner : ℕ) → length (with_wins seals width winner).kinds ≡ 2 * seals + seals * width + (seals - 1) * width
+pub length_wins : (seals width winner : ℕ) → length (with_wins seals width winner).kinds ≡ 2 * seals + seals * width + (seals - 1) * width
 length_wins seals width winner = length_series (with_bids seals width) (win_form seals winner) width (seals - 1) ∙ omega (arith, length_bids seals width)
 
 pub length_prices : (seals width winner price : ℕ) → length (with_prices seals width winner price).kinds ≡ 2 * seals + seals * width + (seals - 1) * width + (seals - 1) * width
@@ -86,16 +48,6 @@ length_prices seals width winner price =
     length_series (with_wins seals width winner) (price_form seals winner price) width (seals - 1) ∙ omega (arith, length_wins seals width winner)
 
 -- the forms name X and Y alone
-copies_names : (seals count : ℕ) → count ≤ seals → NamesOwnWires (copies seals count)
-copies_names seals count few =
-    names-extended (plan_of_inputs seals) (copies_kinds count) (copies_rows seals count) (All-nil (λ row. NamesBelow (length (replicate seals Split)) row.terms))
-    (All-listed (λ row. NamesBelow (length (replicate seals Split) + length (copies_kinds count)) row.terms) (λ j. difference_form j (seals + j) false) count
-    (λ j h. difference_names (length (replicate seals Split) + length (copies_kinds count)) j (seals + j) false
-    (omega (arith, length-replicate seals Split)) (omega (arith, length-replicate seals Split, length_listed (λ _. Split) count))))
-
-one_name : (wires : ℕ) (term : Term) → term.wire < wires → NamesBelow wires (term ∷ [])
-one_name wires term h = All-cons (λ (t : Term). t.wire < wires) term [] h (All-nil (λ (t : Term). t.wire < wires))
-
 pub bids_series : (seals width : ℕ) → 1 ≤ width → width ≤ 40 → IsSeries (copies seals seals) (bid_form seals) width (seals + seals) seals
 bids_series seals width some most = record {
   names = λ j h. one_name (seals + seals) (plus (seals + j)) (omega arith);
@@ -248,16 +200,6 @@ record IsShown (seals width winner price : ℕ) (values : List ℕ) : Type 0 whe
   bids : (j : ℕ) → j < seals → slice_index values (seals + j) < 2 ^ width
   wins : (k : ℕ) → k < seals - 1 → IsOfWidth width (form_value (win_form seals winner k) values)
   prices : (k : ℕ) → k < seals - 1 → IsOfWidth width (form_value (price_form seals winner price k) values)
-
-copied_sound : (seals j : ℕ) (values : List ℕ) → j < seals → Holds (copies seals seals) values → slice_index values j ≡ slice_index values (seals + j)
-copied_sound seals j values h holds =
-    let row = AreZero-appended (plan_of_inputs seals) (copies_kinds seals) (copies_rows seals seals) values holds in
-    let form = difference_form j (seals + j) false in
-    let long = length_listed (λ i. difference_form i (seals + i) false) seals in
-    let nothing = subst (λ f. form_value f values ≡ 0) (at_listed (λ i. difference_form i (seals + i) false) seals j form h) (row j form (omega arith)) in
-    let enough : length values ≡ seals + seals = holds.one_each ∙ length_copies seals seals in
-    same_from_zero (slice_index values j) (slice_index values (seals + j)) (holds.residues j 0 (omega arith)) (holds.residues (seals + j) 0 (omega arith))
-    (sym (difference_value j (seals + j) false values) ∙ nothing)
 
 prices_shown : (seals width winner price : ℕ) (values : List ℕ) → winner < seals → 1 ≤ width → width ≤ 40 → All IsResidue values
     → length (with_prices seals width winner price).kinds ≤ length values
@@ -416,40 +358,12 @@ vickrey_sound seals width position price values case holds =
           (λ _. selection_held seals width winner price values selected.0 case.most_width w case.within_width enough shown selected.1))
     ]
 
--- values that begin with the bids and their copies
-pub record BeginsWith (bids values : List ℕ) : Type 0 where
-  pub enough : length bids + length bids ≤ length values
-  pub copied : (j : ℕ) → j < length bids → slice_index values (length bids + j) ≡ slice_index bids j
-
-pub begins_alone : (bids : List ℕ) → BeginsWith bids (bids ++ bids)
-begins_alone bids = record {
-  enough = omega (arith, length-append bids bids);
-  copied = λ j h. get_or-append-add bids bids j 0;
-}
-
-pub begins_longer : (bids values more : List ℕ) → BeginsWith bids values → BeginsWith bids (values ++ more)
-begins_longer bids values more begins = record {
-  enough = omega (arith, begins.enough, length-append values more);
-  copied = λ j h. get_or_append_left values more 0 (length bids + j) (omega (arith, begins.enough)) ∙ begins.copied j h;
-}
-
 -- a place below the number of seals is a position, one higher
 position_of : (bids : List ℕ) (place : ℕ) → place < length bids → IsPosition bids (place + 1)
 position_of bids place h = record { some = omega arith; within = omega arith }
 
 bid_at_place : (bids : List ℕ) (place : ℕ) → bid_at bids (place + 1) ≡ slice_index bids place
 bid_at_place bids place = let back : place + 1 - 1 ≡ place = omega arith in ap (slice_index bids) back
-
-copies_complete : (bids : List ℕ) → All IsResidue bids → Holds (copies (length bids) (length bids)) (bids ++ bids)
-copies_complete bids residues =
-    let n = length bids in
-    Holds-extended (plan_of_inputs n) (copies_kinds n) (copies_rows n n) bids bids (All-nil (λ row. NamesBelow (length (replicate n Split)) row.terms))
-    (Holds-inputs n bids refl residues) (sym (length_listed (λ _. Split) n)) residues
-    (λ j h. let inside : j < n = omega (arith, length_listed (λ _. Split) n) in rw (at_listed (λ _. Split) n j Split inside) tt)
-    (All-listed (λ row. form_value row (bids ++ bids) ≡ 0) (λ j. difference_form j (n + j) false) n
-    (λ j h. difference_value j (n + j) false (bids ++ bids)
-    ∙ zero_from_same (slice_index (bids ++ bids) j) (slice_index (bids ++ bids) (n + j))
-    (get_or_append_left bids bids 0 j h ∙ sym (get_or-append-add bids bids j 0))))
 
 module _ (seals width position price : ℕ) (bids values : List ℕ) (case : IsVickreyCase seals width position price)
     (claim : IsVickreyClaim seals width position price bids) (begins : BeginsWith bids values) where

@@ -1,11 +1,12 @@
 -- The plan that shows a second-price outcome, and the values that hold for it. Wires, rows and the
 -- places below count from 0; the published position counts from 1.
-use Rattle.std.specs.Prelude.{ℕ, ◌+◌, ◌-◌, ◌*◌, ◌^◌, ◌<◌, ◌≤◌, ◌≡◌, ◌==◌, false, if◌then◌else◌, nat_lt, List, [], ◌∷◌, ◌++◌, All, length, replicate}
-use Rattle.vk_plan.specs.declared.wire.WireKind.{WireKind}
+use Rattle.std.specs.Prelude.{ℕ, ◌+◌, ◌-◌, ◌*◌, ◌^◌, ◌<◌, ◌≤◌, ◌≡◌, ◌==◌, if◌then◌else◌, nat_lt, List, [], ◌∷◌, ◌++◌, All, length, replicate}
 use Rattle.vk_plan.specs.declared.wire.WireKind.TheVariants.{Split}
 use Rattle.vk_plan.specs.declared.form.Form.{Form}
 use Rattle.vk_plan.specs.Plans.{PlanValue}
 use Rattle.vk_range.specs.declared.selected.SelectedIs.{SelectedIs}
+use Rattle.vk_range.specs.Others.{other}
+use Rattle.vk_range.specs.Copies.{copies_kinds, copies_rows}
 use Rattle.vk_range.specs.Sets.{listed, plus, minus}
 use Rattle.vk_range.specs.Forms.{difference_form}
 use Rattle.vk_range.specs.Series.{series_kinds, series_rows, series_values}
@@ -29,18 +30,7 @@ pub record IsVickreyClaim (seals width position price : ℕ) (bids : List ℕ) :
   pub within_width : All (λ bid. bid < 2 ^ width) bids
   pub outcome : IsVickreyOutcome bids position price
 
--- the places other than the winner's, in ascending order
-abbrev pub other : ℕ → ℕ → ℕ
-other winner k = if nat_lt k winner then k else k + 1
-
--- each bid X_j has a copy Y_j behind all of them
-abbrev pub copies_kinds : ℕ → List WireKind
-copies_kinds count = listed (λ _. Split) count
-
-abbrev pub copies_rows : ℕ → ℕ → List Form
-copies_rows seals count = listed (λ j. difference_form j (seals + j) false) count
-
--- Y_j
+-- Y_j, the copy of the bid X_j
 abbrev pub bid_form : ℕ → ℕ → Form
 bid_form seals j = record { terms = plus (seals + j) ∷ []; constant = 0 }
 

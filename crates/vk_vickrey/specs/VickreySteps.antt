@@ -1,56 +1,27 @@
 -- What the code meets on its way: plans that are plans, and room for the next set.
-use Rattle.std.specs.Prelude.{Option, Some, None, IsNone, IfSome, unwrap_or, ℕ, ◌+◌, ◌-◌, ◌*◌, ◌^◌, ◌<◌, ◌≤◌, ◌≡◌, ◌≢◌, false, if◌then◌else◌, List, [], ◌∷◌, ◌++◌, length, take, replicate}
-use Rattle.std.proofs.Common.{suc, suc-mul, refl, sym, ap, ◌∙◌, subst, arith, inl, inr, length-append, mul-le-mul_left, mul-le-mul_right, append_assoc, lit≤}
-use Rattle.std.proofs.lemmas.List.{append-nil, length-replicate, take-append-le, take_at}
+use Rattle.std.specs.Prelude.{Option, Some, None, IsNone, IfSome, unwrap_or, ℕ, ◌+◌, ◌-◌, ◌*◌, ◌^◌, ◌<◌, ◌≤◌, ◌≡◌, ◌≢◌, false, if◌then◌else◌, List, ◌++◌, length, take, replicate}
+use Rattle.std.proofs.Common.{suc, suc-mul, refl, sym, ap, ◌∙◌, subst, arith, inl, inr, length-append, mul-le-mul_left, mul-le-mul_right, lit≤}
+use Rattle.std.proofs.lemmas.List.{length-replicate, take-append-le, take_at}
 use Rattle.std.proofs.lemmas.Bool.{eq-eqb, ne_eqb}
 use Rattle.std.proofs.lemmas.Bool.Decides.{eqb_tells}
 use Rattle.std.proofs.Math.Pow.{pow_mono}
 use Rattle.vk_residue.specs.Residue.{modulus}
 use Rattle.vk_plan.specs.declared.wire.WireKind.TheVariants.{Split}
 use Rattle.vk_plan.specs.declared.form.Form.{Form}
-use Rattle.vk_plan.specs.Forms.{form_value, NamesBelow}
-use Rattle.vk_plan.specs.FormLaws.{form_value_within}
-use Rattle.vk_plan.specs.Plans.{PlanValue, IsPlan, Holds, HasWeight, plan_of_inputs, extended}
-use Rattle.vk_plan.specs.PlanLaws.{IsPlan-inputs, IsPlan-extended}
+use Rattle.vk_plan.specs.Plans.{PlanValue, IsPlan, Holds, plan_of_inputs, extended}
 use Rattle.vk_range.specs.declared.selected.SelectedIs.{SelectedIs}
-use Rattle.vk_range.specs.Sets.{listed, IsOfWidth, test_set, set_row}
-use Rattle.vk_range.specs.Forms.{difference_form, IsRange}
-use Rattle.vk_range.specs.SetLaws.{length_listed, listed_more, All-listed}
-use Rattle.vk_range.specs.Laws.{difference_names}
-use Rattle.vk_range.specs.Series.{same_plan, series, series_rows, series_values, IsSeries, length_series, series_more, series_room}
+use Rattle.vk_range.specs.Others.{other, other_within}
+use Rattle.vk_range.specs.Copies.{copies, copies_rows, length_copies, IsPlan-copies}
+use Rattle.vk_range.specs.Sets.{listed, set_row}
+use Rattle.vk_range.specs.Forms.{difference_form}
+use Rattle.vk_range.specs.SetLaws.{length_listed, All-listed}
+use Rattle.vk_range.specs.Series.{series, series_rows, series_values, IsSeries, length_series, series_room}
 use Rattle.vk_range.specs.Selected.{IsSelection, selected_wires, selected_rows, selected_values}
 use Rattle.vk_range.specs.Rooms.{selected_room}
 use Rattle.vk_range.specs.Selected.{place_row}
 use Rattle.vk_range.specs.SelectedLaws.{length_kinds}
-use Rattle.vk_vickrey.specs.VickreyPlans.{IsVickreyCase, IsVickreyClaim, other, copies_kinds, copies_rows, bid_form, win_form, price_form, price_selection, vickrey_plan, wire_count, row_count, after_bids, after_wins, after_prices, after_selection, honest_values}
-use Rattle.vk_vickrey.specs.VickreyLaws.{length_prices, plan_alone, plan_many, BeginsWith, begins_alone, begins_longer, copies, with_bids, with_wins, with_prices, selection, vickrey_sound, other_within, length_copies, bids_series, wins_series, prices_series}
-
--- one copy more
-pub copies_more : (seals count : ℕ) → copies seals (count + 1) ≡ extended (copies seals count) (Split ∷ []) (difference_form count (length (copies seals count).kinds) false ∷ [])
-copies_more seals count =
-    let row : ℕ → Form = λ j. difference_form j (seals + j) false in
-    let at = ap (λ n. difference_form count n false) (length_copies seals count) in
-    let kinds = listed_more (λ _. Split) count in
-    let rows = listed_more row count in
-    let kinds' : replicate seals Split ++ copies_kinds (count + 1) ≡ replicate seals Split ++ copies_kinds count ++ Split ∷ [] =
-    ap (λ more. replicate seals Split ++ more) kinds ∙ sym (append_assoc (replicate seals Split) (copies_kinds count) (Split ∷ [])) in
-    same_plan seals (replicate seals Split ++ copies_kinds (count + 1)) (replicate seals Split ++ copies_kinds count ++ Split ∷ [])
-    (copies_rows seals (count + 1)) (copies_rows seals count ++ difference_form count (length (copies seals count).kinds) false ∷ [])
-    kinds' (rows ∙ ap (λ r. copies_rows seals count ++ r ∷ []) (sym at))
-
-pub copies_none : (seals : ℕ) → copies seals 0 ≡ plan_of_inputs seals
-copies_none seals = same_plan seals (replicate seals Split ++ []) (replicate seals Split) [] [] (append-nil (replicate seals Split)) refl
-
--- each plan on the way is a plan
-pub IsPlan-copies : (seals count : ℕ) → seals ≤ 64 → count ≤ seals → IsPlan (copies seals count)
-IsPlan-copies seals count few some =
-    IsPlan-extended (plan_of_inputs seals) (copies_kinds count) (copies_rows seals count) (IsPlan-inputs seals (omega arith))
-    (All-listed HasWeight (λ _. Split) count (λ j h. tt))
-    (All-listed (λ row. NamesBelow (length (replicate seals Split) + length (copies_kinds count)) row.terms) (λ j. difference_form j (seals + j) false) count
-    (λ j h. difference_names (length (replicate seals Split) + length (copies_kinds count)) j (seals + j) false
-    (omega (arith, length-replicate seals Split)) (omega (arith, length-replicate seals Split, length_listed (λ _. Split) count))))
-    (omega (arith, length-replicate seals Split, length_listed (λ _. Split) count))
-    (omega (arith, length_listed (λ j. difference_form j (seals + j) false) count))
+use Rattle.vk_vickrey.specs.VickreyPlans.{IsVickreyCase, IsVickreyClaim, bid_form, win_form, price_form, price_selection, vickrey_plan, wire_count, row_count, after_bids, after_wins, after_prices, after_selection, honest_values}
+use Rattle.vk_vickrey.specs.VickreyLaws.{length_prices, plan_alone, plan_many, with_bids, with_wins, with_prices, selection, vickrey_sound, bids_series, wins_series, prices_series}
 
 products : (count width : ℕ) → count ≤ 64 → width ≤ 40 → count * width ≤ 2560
 products count width few small = omega (arith, mul-le-mul_right width few, mul-le-mul_left 64 small)
@@ -75,7 +46,7 @@ small_series plan form width base most count wires rows small is_series few many
 
 small_copies : (seals : ℕ) → seals ≤ 64 → IsSmall (copies seals seals) 128 64
 small_copies seals few = record {
-  is_plan = IsPlan-copies seals seals few (omega arith);
+  is_plan = IsPlan-copies seals seals (omega arith) (omega arith);
   wires_within = omega (arith, length_copies seals seals);
   rows_within = omega (arith, length_listed (λ j. difference_form j (seals + j) false) seals);
 }
@@ -95,13 +66,6 @@ pub small_prices : (seals width winner price count : ℕ) → seals ≤ 64 → w
 small_prices seals width winner price count few w some most le =
     small_series (with_wins seals width winner) (price_form seals winner price) width (seals + seals) (seals - 1) count 5248 192
     (small_wins seals width winner (seals - 1) few w some most (omega arith)) (prices_series seals width winner price w some most) le (omega arith) (lit≤ tt) (lit≤ tt)
-
--- room for the next set of each part
-pub next_room : (plan now : PlanValue) (form : ℕ → Form) (width count : ℕ) → now ≡ series plan form width count → IsPlan (series plan form width (count + 1))
-    → IsPlan (extended now (test_set width) (set_row (form count) (length now.kinds) width ∷ []))
-next_room plan now form width count same is_plan =
-    subst (λ p. IsPlan (extended p (test_set width) (set_row (form count) (length p.kinds) width ∷ []))) (sym same)
-    (subst IsPlan (series_more plan form width count) is_plan)
 
 module _ (seals width position price : ℕ) (case : IsVickreyCase seals width position price) where
   pub is_winner : position - 1 < seals
@@ -142,37 +106,7 @@ pub circuit_sound : (seals width position price : ℕ) (values : List ℕ) → I
 unfolding vickrey_plan
 circuit_sound seals width position price values case holds = vickrey_sound seals width position price values case holds
 
--- copies
-pub copies_room : (seals count : ℕ) (now : PlanValue) → seals ≤ 64 → now ≡ copies seals count → count < seals
-    → IsPlan (extended now (Split ∷ []) (difference_form count (length now.kinds) false ∷ []))
-copies_room seals count now few same h =
-    subst (λ p. IsPlan (extended p (Split ∷ []) (difference_form count (length p.kinds) false ∷ []))) (sym same)
-    (subst IsPlan (copies_more seals count) (IsPlan-copies seals (count + 1) few (omega arith)))
-
-pub copies_added : (seals count : ℕ) (now next : PlanValue) → now ≡ copies seals count
-    → next ≡ extended now (Split ∷ []) (difference_form count (length now.kinds) false ∷ []) → next ≡ copies seals (count + 1)
-copies_added seals count now next same added =
-    added ∙ ap (λ p. extended p (Split ∷ []) (difference_form count (length p.kinds) false ∷ [])) same ∙ sym (copies_more seals count)
-
--- a range over as many values as there are
-pub range_over : (form : Form) (width : ℕ) (values : List ℕ) → NamesBelow (length values) form.terms → 1 ≤ width → width ≤ 40
-    → (plan : PlanValue) × (IsRange form width plan × (length plan.kinds ≡ length values))
-range_over form width values names some most =
-    let same = length-replicate (length values) Split in
-    (plan_of_inputs (length values), (record { names = subst (λ n. NamesBelow n form.terms) (sym same) names; some = some; most = most }, same))
-
-pub still_of_width : (form : Form) (width : ℕ) (values more now : List ℕ) → now ≡ values ++ more → NamesBelow (length values) form.terms
-    → IsOfWidth width (form_value form values) → IsOfWidth width (form_value form now)
-still_of_width form width values more now same names below =
-    subst (IsOfWidth width) (sym (ap (form_value form) same ∙ form_value_within form values more names)) below
-
 module _ (seals width position price : ℕ) (case : IsVickreyCase seals width position price) where
-  pub wins_fits : (wires count : ℕ) → seals + seals ≤ wires → count < seals - 1
-      → (seals + (position - 1) < wires) × (seals + other (position - 1) count < wires) × (1 ≤ width) × (width ≤ 40)
-  wins_fits wires count enough h =
-      let w = is_winner seals width position price case in
-      (omega arith, omega (arith, other_within seals (position - 1) count w h), case.some_width, case.most_width)
-
   -- the selection
   pub prices_plan : IsPlan (with_prices seals width (position - 1) price)
   prices_plan = (small_prices seals width (position - 1) price (seals - 1) case.most_seals (is_winner seals width position price case) case.some_width case.most_width (omega arith)).is_plan
@@ -209,13 +143,6 @@ module _ (seals width position price : ℕ) (case : IsVickreyCase seals width po
       filled ∙ (sym (ap (λ b. if b then before else before ++ selected_values (price_selection seals width (position - 1) price) before) (ne_eqb seals 1 many))
       ∙ ap (after_selection seals width (position - 1) price) same)
 
-  pub wins_over : (values : List ℕ) (count : ℕ) → seals + seals ≤ length values → count < seals - 1
-      → (plan : PlanValue) × (((seals + (position - 1) < length plan.kinds) × (seals + other (position - 1) count < length plan.kinds) × (1 ≤ width) × (width ≤ 40))
-      × (length plan.kinds ≡ length values))
-  wins_over values count enough h =
-      let same = length-replicate (length values) Split in
-      (plan_of_inputs (length values), (wins_fits (length (replicate (length values) Split)) count (omega arith) h, same))
-
   pub selection_over : (values : List ℕ) → seals ≢ 1 → seals + seals ≤ length values
       → (plan : PlanValue) × (IsSelection (price_selection seals width (position - 1) price) (length plan.kinds) × (length plan.kinds ≡ length values))
   selection_over values many enough =
@@ -235,13 +162,6 @@ module _ (seals width position price : ℕ) (case : IsVickreyCase seals width po
           same,
         ),
       )
-
--- values that begin with the bids and their copies
-pub begins_here : (bids values : List ℕ) → values ≡ bids ++ bids → BeginsWith bids values
-begins_here bids values same = subst (BeginsWith bids) (sym same) (begins_alone bids)
-
-pub begins_next : (bids values more next : List ℕ) → next ≡ values ++ more → BeginsWith bids values → BeginsWith bids next
-begins_next bids values more next same begins = subst (BeginsWith bids) (sym same) (begins_longer bids values more begins)
 
 -- a price of at most 40 bits is a residue
 pub price_is_residue : (made : Option ℕ) (width price : ℕ) → width ≤ 40 → price < 2 ^ width → (IsNone made → modulus ≤ price) → IfSome made (λ r. r ≡ price)

@@ -1,18 +1,19 @@
 ghost use Rattle.std.specs.Prelude.{◌≡◌, ◌+◌, ◌-◌, ◌*◌, ◌<◌, ◌≤◌, ◌↔◌, ◌++◌, ◌∷◌, [], List, ℕ, length, take, IsSome, IfSome, IfOk, OnOk, nat_lt};
 ghost use Rattle.vk_plan.specs.Plans.{PlanValue, Holds, IsPlan, extended};
+ghost use Rattle.vk_range.specs.Others.{other as OtherPlace};
 ghost use Rattle.vk_range.specs.Sets.{IsOfWidth, bit_parts, set_row, test_set};
 ghost use Rattle.vk_range.specs.Series.{series, series_values};
 ghost use Rattle.vk_plan.specs.Forms.{form_value};
-ghost use Rattle.vk_vickrey.specs.VickreyPlans.{IsVickreyCase, IsVickreyClaim, vickrey_plan, wire_count, row_count, honest_values, bid_form, price_form, price_selection, other};
-ghost use Rattle.vk_vickrey.specs.VickreyLaws.{copies, vickrey_complete};
-ghost use Rattle.vk_vickrey.specs.VickreySets.{sets_before, sets_count, sets_form, values_before};
+ghost use Rattle.vk_vickrey.specs.VickreyPlans.{IsVickreyCase, IsVickreyClaim, vickrey_plan, wire_count, row_count, honest_values, bid_form, price_form, price_selection};
+ghost use Rattle.vk_vickrey.specs.VickreyLaws.{vickrey_complete, with_prices};
+ghost use Rattle.vk_vickrey.specs.VickreyRanges.{bid_ranges, win_ranges, price_ranges, values_before};
 ghost use Rattle.vk_vickrey.specs.VickreySelectors.{IsFirstHolder, SelectsAt, selectors_start};
 ghost use Rattle.vk_vickrey.specs.VickreySteps.{circuit_begins, circuit_sound, vickrey_is_plan};
 
 use crate::outcomes::VickreyOutcome;
 use std::alloc::Global;
-use vk_plan::{Circuit, Form, Plan, Relation, Term};
-use vk_range::{AtLeast, Copied, InRange, SelectedIs};
+use vk_plan::{Circuit, Form, Plan, Relation};
+use vk_range::{Ranges, SelectedIs, add_copies, difference, one_term, other, with_copies};
 use vk_residue::{NoMemory, Residue};
 use vk_seq::Seq;
 
@@ -28,17 +29,6 @@ pub struct VickreyPlan {
     /// What the winner pays, below 2^width, and 0 where there is one bid.
     pub price: u64,
     pub ghost in_limits: { IsVickreyCase seals width position price },
-}
-
-/// What the sets of the plan that stand one after another are of.
-#[derive(Clone, Copy, Debug)]
-enum Sets {
-    /// The copy of each bid.
-    Bids,
-    /// The winner's copy less each other, less 1 where the other stands before.
-    Wins,
-    /// The price less each other copy.
-    Prices,
 }
 
 impl VickreyPlan {
@@ -96,11 +86,7 @@ impl Circuit for VickreyPlan {
         ensures wires { IfOk result (λ plan. length plan.kinds ≡ wire_count self.now.seals self.now.width) }
         ensures rows { IfOk result (λ plan. length plan.rows ≡ row_count self.now.seals) }
     {
-        let mut plan = Plan::new(alloc, self.seals)?;
-        self.add_copies(alloc, &mut plan)?;
-        self.add_sets(alloc, Sets::Bids, &mut plan)?;
-        self.add_sets(alloc, Sets::Wins, &mut plan)?;
-        self.add_sets(alloc, Sets::Prices, &mut plan)?;
+        let mut plan = self.plan_before_selection(alloc)?;
         if self.seals == 1 {
             return Ok(plan);
         }
@@ -118,7 +104,7 @@ impl Circuit for VickreyPlan {
             (place : ℕ) → place < self.now.seals - 1 → IsFirstHolder inputs.now (self.now.position - 1) self.now.price place
             → SelectsAt values.items (selectors_start self.now.seals self.now.width) (self.now.seals - 1) place) }
     {
-        let mut values = self.before_selection(alloc, inputs)?;
+        let mut values = self.values_before_selection(alloc, inputs)?;
         if self.seals == 1 {
             return Ok(values);
         }
@@ -138,15 +124,12 @@ impl VickreyPlan {
     }
 
     /// The copy of the bid at the k-th place other than the winner's.
+    #[tactic(auto, using(vk_range::specs::Others::other_within))]
     fn other_copy(&self, k: u32) -> u32
         requires { k < self.now.seals - 1 }
-        ensures { result ≡ self.now.seals + other (self.now.position - 1) k }
+        ensures { result ≡ self.now.seals + OtherPlace (self.now.position - 1) k }
     {
-        if k < self.winner() {
-            self.seals + k
-        } else {
-            self.seals + (k + 1)
-        }
+        self.seals + other(self.winner(), k)
     }
 
     fn price_residue(&self) -> Residue
@@ -155,61 +138,58 @@ impl VickreyPlan {
         Residue::new(self.price).unwrap_or(Residue::ZERO)
     }
 
-    /// The copy of a bid.
-    fn bid_range(&self, alloc: Global, j: u32) -> Result<InRange, NoMemory>
-        requires { j < self.now.seals }
-        ensures { IfOk result (λ relation. relation ≡ record { form = bid_form self.now.seals j; width = self.now.width }) }
+    /// The copy of each bid.
+    fn bids(&self, alloc: Global) -> Result<Ranges, NoMemory>
+        ensures { IfOk result (λ ranges. ranges ≡ bid_ranges self.now.seals self.now.width) }
     {
-        let mut terms = Vec::new(alloc);
-        terms.push(Term {
-            wire: self.seals + j,
-            factor: Residue::ONE,
-        })?;
-        Ok(InRange {
-            form: Form {
-                terms: Seq::from_vec(terms),
-                constant: Residue::ZERO,
-            },
-            width: self.width,
-        })
+        let mut forms = Vec::new(alloc);
+        for j in 0..self.seals {
+            let form = one_term(alloc, self.seals + j, Residue::ONE, Residue::ZERO)?;
+            forms.push(form)?;
+        }
+        Ok(self.ranges(forms))
     }
 
-    /// The winner's copy is at least another's, and more than it where the other stands before.
-    fn win(&self, k: u32) -> AtLeast
-        requires { k < self.now.seals - 1 }
-        ensures { result ≡ record {
-          left = self.now.seals + (self.now.position - 1);
-          right = self.now.seals + other (self.now.position - 1) k;
-          strict = nat_lt k (self.now.position - 1);
-          width = self.now.width;
-        } }
+    /// The winner's copy less each other, less 1 where the other stands before.
+    fn wins(&self, alloc: Global) -> Result<Ranges, NoMemory>
+        ensures { IfOk result (λ ranges. ranges ≡ win_ranges self.now.seals self.now.width (self.now.position - 1)) }
     {
-        AtLeast {
-            left: self.seals + self.winner(),
-            right: self.other_copy(k),
-            strict: k < self.winner(),
+        let mut forms = Vec::new(alloc);
+        for k in 0..self.seals - 1 {
+            let strict = k < self.winner();
+            let form = difference(
+                alloc,
+                self.seals + self.winner(),
+                self.other_copy(k),
+                strict,
+            )?;
+            forms.push(form)?;
+        }
+        Ok(self.ranges(forms))
+    }
+
+    /// The price less each other copy.
+    fn prices(&self, alloc: Global) -> Result<Ranges, NoMemory>
+        ensures { IfOk result (λ ranges.
+            ranges ≡ price_ranges self.now.seals self.now.width (self.now.position - 1) self.now.price) }
+    {
+        let mut forms = Vec::new(alloc);
+        for k in 0..self.seals - 1 {
+            let minus = Residue::ONE.neg();
+            let form = one_term(alloc, self.other_copy(k), minus, self.price_residue())?;
+            forms.push(form)?;
+        }
+        Ok(self.ranges(forms))
+    }
+
+    /// Each form is of the plan's width.
+    fn ranges(&self, forms: Vec<Form>) -> Ranges
+        ensures { result ≡ record { forms = forms.items; width = self.now.width } }
+    {
+        Ranges {
+            forms: Seq::from_vec(forms),
             width: self.width,
         }
-    }
-
-    /// The price less another's copy.
-    fn price_range(&self, alloc: Global, k: u32) -> Result<InRange, NoMemory>
-        requires { k < self.now.seals - 1 }
-        ensures { IfOk result (λ relation.
-            relation ≡ record { form = price_form self.now.seals (self.now.position - 1) self.now.price k; width = self.now.width }) }
-    {
-        let mut terms = Vec::new(alloc);
-        terms.push(Term {
-            wire: self.other_copy(k),
-            factor: Residue::ONE.neg(),
-        })?;
-        Ok(InRange {
-            form: Form {
-                terms: Seq::from_vec(terms),
-                constant: self.price_residue(),
-            },
-            width: self.width,
-        })
     }
 
     /// One of the others' copies is the price.
@@ -228,133 +208,39 @@ impl VickreyPlan {
         })
     }
 
-    fn add_copies(&self, alloc: Global, plan: &mut Plan) -> Result<(), NoMemory>
-        requires { plan.old ≡ copies self.now.seals 0 }
-        ensures { OnOk result (plan.new ≡ copies self.now.seals self.now.seals) }
+    /// The bids, their copies, and the sets of the bids, the wins and the prices.
+    fn plan_before_selection(&self, alloc: Global) -> Result<Plan, NoMemory>
+        ensures { IfOk result (λ plan.
+            plan ≡ with_prices self.now.seals self.now.width (self.now.position - 1) self.now.price) }
     {
-        for j in 0..self.seals {
-            Copied { wire: j }.add(alloc, plan)?;
-        }
-        Ok(())
+        let mut plan = Plan::new(alloc, self.seals)?;
+        add_copies(alloc, self.seals, &mut plan)?;
+        let bids = self.bids(alloc)?;
+        bids.add(alloc, &mut plan)?;
+        let wins = self.wins(alloc)?;
+        wins.add(alloc, &mut plan)?;
+        let prices = self.prices(alloc)?;
+        prices.add(alloc, &mut plan)?;
+        Ok(plan)
     }
 
-    /// The bids, their copies, and the values of the sets of the bids, the wins and the prices.
-    fn before_selection(&self, alloc: Global, bids: &[Residue]) -> Result<Vec<Residue>, NoMemory>
+    /// The values of these wires.
+    fn values_before_selection(
+        &self,
+        alloc: Global,
+        bids: &[Residue],
+    ) -> Result<Vec<Residue>, NoMemory>
         requires { IsVickreyClaim self.now.seals self.now.width self.now.position self.now.price bids.now }
         ensures { IfOk result (λ values.
             values.items ≡ values_before self.now.seals self.now.width (self.now.position - 1) self.now.price bids.now) }
     {
         let mut values = with_copies(alloc, bids)?;
-        self.fill_sets(alloc, Sets::Bids, &mut values)?;
-        self.fill_sets(alloc, Sets::Wins, &mut values)?;
-        self.fill_sets(alloc, Sets::Prices, &mut values)?;
+        let copies = self.bids(alloc)?;
+        copies.fill(&mut values)?;
+        let wins = self.wins(alloc)?;
+        wins.fill(&mut values)?;
+        let prices = self.prices(alloc)?;
+        prices.fill(&mut values)?;
         Ok(values)
     }
-
-    /// How many there are.
-    fn count(&self, sets: Sets) -> u32
-        ensures { result ≡ sets_count sets self.now.seals }
-    {
-        match sets {
-            Sets::Bids => self.seals,
-            Sets::Wins | Sets::Prices => self.seals - 1,
-        }
-    }
-
-    /// Appends the k-th set, and the row that makes its form the set's sum.
-    fn add_set(&self, alloc: Global, sets: Sets, k: u32, plan: &mut Plan) -> Result<(), NoMemory>
-        requires inside { k < sets_count sets self.now.seals }
-        requires enough { self.now.seals + self.now.seals ≤ length plan.old.kinds }
-        requires room { IsPlan (extended plan.old (test_set self.now.width)
-            (set_row (sets_form sets self.now.seals (self.now.position - 1) self.now.price k) (length plan.old.kinds) self.now.width ∷ [])) }
-        ensures { OnOk result (plan.new ≡ extended plan.old (test_set self.now.width)
-            (set_row (sets_form sets self.now.seals (self.now.position - 1) self.now.price k) (length plan.old.kinds) self.now.width ∷ [])) }
-    {
-        match sets {
-            Sets::Bids => {
-                let range = self.bid_range(alloc, k)?;
-                range.add(alloc, plan)?;
-            }
-            Sets::Wins => {
-                let at_least = self.win(k);
-                at_least.add(alloc, plan)?;
-            }
-            Sets::Prices => {
-                let range = self.price_range(alloc, k)?;
-                range.add(alloc, plan)?;
-            }
-        }
-        Ok(())
-    }
-
-    fn add_sets(&self, alloc: Global, sets: Sets, plan: &mut Plan) -> Result<(), NoMemory>
-        requires { plan.old ≡ sets_before sets self.now.seals self.now.width (self.now.position - 1) }
-        ensures { OnOk result (plan.new ≡ series (sets_before sets self.now.seals self.now.width (self.now.position - 1))
-            (sets_form sets self.now.seals (self.now.position - 1) self.now.price) self.now.width (sets_count sets self.now.seals)) }
-    {
-        for k in 0..self.count(sets) {
-            self.add_set(alloc, sets, k, plan)?;
-        }
-        Ok(())
-    }
-
-    /// Appends the values of the k-th set, which come to its form's value.
-    fn fill_set(
-        &self,
-        alloc: Global,
-        sets: Sets,
-        k: u32,
-        values: &mut Vec<Residue>,
-    ) -> Result<(), NoMemory>
-        requires inside { k < sets_count sets self.now.seals }
-        requires enough { self.now.seals + self.now.seals ≤ length values.old.items }
-        requires of_width { IsOfWidth self.now.width
-            (form_value (sets_form sets self.now.seals (self.now.position - 1) self.now.price k) values.old.items) }
-        ensures { OnOk result (values.new.items ≡ values.old.items
-            ++ bit_parts (form_value (sets_form sets self.now.seals (self.now.position - 1) self.now.price k) values.old.items) self.now.width) }
-    {
-        match sets {
-            Sets::Bids => {
-                let range = self.bid_range(alloc, k)?;
-                range.fill(values)?;
-            }
-            Sets::Wins => {
-                let at_least = self.win(k);
-                at_least.fill(values)?;
-            }
-            Sets::Prices => {
-                let range = self.price_range(alloc, k)?;
-                range.fill(values)?;
-            }
-        }
-        Ok(())
-    }
-
-    fn fill_sets(
-        &self,
-        alloc: Global,
-        sets: Sets,
-        values: &mut Vec<Residue>,
-    ) -> Result<(), NoMemory>
-        requires enough { self.now.seals + self.now.seals ≤ length values.old.items }
-        requires each { (k : ℕ) → k < sets_count sets self.now.seals
-            → IsOfWidth self.now.width (form_value (sets_form sets self.now.seals (self.now.position - 1) self.now.price k) values.old.items) }
-        ensures { OnOk result (values.new.items ≡ values.old.items
-            ++ series_values values.old.items (sets_form sets self.now.seals (self.now.position - 1) self.now.price) self.now.width (sets_count sets self.now.seals)) }
-    {
-        for k in 0..self.count(sets) {
-            self.fill_set(alloc, sets, k, values)?;
-        }
-        Ok(())
-    }
-}
-
-/// The bids, and behind them their copies.
-fn with_copies(alloc: Global, bids: &[Residue]) -> Result<Vec<Residue>, NoMemory>
-    ensures { IfOk result (λ values. values.items ≡ bids.now ++ bids.now) }
-{
-    let mut values = Vec::new(alloc);
-    values.extend_from_slice(bids)?;
-    values.extend_from_slice(bids)?;
-    Ok(values)
 }

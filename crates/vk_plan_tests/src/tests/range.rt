@@ -1,14 +1,16 @@
-ghost use Rattle.std.specs.Prelude.{◌≡◌, ◌≤◌, [], ◌∷◌, All, length, IfOk, IfSome};
+ghost use Rattle.std.specs.Prelude.{◌≡◌, ◌≤◌, [], ◌∷◌, All, IsTrue, false, length, IfOk, IfSome};
 ghost use Rattle.vk_residue.specs.Residue.{IsResidue};
 ghost use Rattle.vk_plan.specs.Plans.{Holds, plan_of_inputs};
 ghost use Rattle.vk_range.specs.Sets.{plus};
+ghost use Rattle.vk_range.specs.Forms.{difference_form};
+ghost use Rattle.vk_range.specs.Ranges.{AreRanges, AreOfWidth};
 
 use super::numbers::{are, residue_or_zero, rows_are_zero};
 use std::alloc::Global;
 use std::process::Abort;
 use std::test::Fail;
 use vk_plan::{Form, Plan, Relation, Term, add_and_fill};
-use vk_range::{Copied, Equal, InRange, SelectedIs, SumIs};
+use vk_range::{Copied, Equal, InRange, Ranges, SelectedIs, SumIs, difference};
 use vk_residue::{NoMemory, Residue};
 use vk_seq::Seq;
 
@@ -215,6 +217,63 @@ fn selected_input(
     }
     add_and_fill(alloc, &relation, &mut plan, &mut values)?;
     Ok(Some((plan, values)))
+}
+
+/// The first wire, the second, and the third less the fourth, each of width 3.
+fn three_ranges(alloc: Global) -> Result<Ranges, NoMemory>
+    ensures { IfOk result (λ ranges. ranges ≡ record {
+      forms = record { terms = plus 0 ∷ []; constant = 0 } ∷ record { terms = plus 1 ∷ []; constant = 0 } ∷ difference_form 2 3 false ∷ [];
+      width = 3;
+    }) }
+{
+    let mut forms = Vec::new(alloc);
+    forms.push(wire_form(alloc, 0)?)?;
+    forms.push(wire_form(alloc, 1)?)?;
+    forms.push(difference(alloc, 2, 3, false)?)?;
+    Ok(Ranges {
+        forms: Seq::from_vec(forms),
+        width: 3,
+    })
+}
+
+/// Whether each form is of the width.
+fn are_of_width(ranges: &Ranges, values: &[Residue]) -> bool
+    requires { AreRanges ranges.now (length values.now) }
+    ensures { IsTrue result → AreOfWidth ranges.now values.now }
+{
+    for form in ranges.forms.as_slice() {
+        if form.value(values).get() >= Residue::pow2(ranges.width).get() {
+            return false;
+        }
+    }
+    true
+}
+
+/// Five inputs with these ranges, and the values of all wires. None where a form is not of the width.
+fn ranged_inputs(alloc: Global, numbers: [u64; 5]) -> Result<Option<(Plan, Vec<Residue>)>, NoMemory>
+    ensures holds { IfOk result (λ found. IfSome found (λ made. Holds made.0 made.1.items)) }
+{
+    let mut plan = Plan::new(alloc, 5)?;
+    let mut values = five_values(alloc, numbers)?;
+    let ranges = three_ranges(alloc)?;
+    if !are_of_width(&ranges, values.as_slice()) {
+        return Ok(None);
+    }
+    add_and_fill(alloc, &ranges, &mut plan, &mut values)?;
+    Ok(Some((plan, values)))
+}
+
+#[test]
+fn three_forms_of_width_3_are_filled(rt: HostRuntime) -> Result<(), Fail> {
+    let (plan, values) = ranged_inputs(rt.alloc(), [5, 2, 9, 6, 70])?.ok_or("of the width")?;
+    assert!(rt; (plan.wires(), plan.rows()) == (14, 3));
+    // 5 = 1 + 4, 2 = 2, and 9 - 6 = 3 = 1 + 2
+    let filled = [5, 2, 9, 6, 70, 1, 0, 4, 0, 2, 0, 1, 2, 0];
+    assert!(rt; are(values.as_slice(), &filled));
+    assert!(rt; rows_are_zero(&plan, values.as_slice()));
+    assert!(rt; ranged_inputs(rt.alloc(), [5, 8, 9, 6, 70])?.is_none());
+    assert!(rt; ranged_inputs(rt.alloc(), [5, 2, 6, 9, 70])?.is_none());
+    Ok(())
 }
 
 #[test]

@@ -9,6 +9,6 @@ returns-clause-right c = record {
   price = c.requires.price;
   winner = rw c.in_ok-seats.ensures (rw c.as_slice.ensures (winner_is c.args.front.now c.requires.seals c.requires.winner));
   seats = ap length c.in_ok-seats.ensures ∙ rw c.as_slice.ensures (length-map c.args.front.now.seals (λ seal. seal.seat) ∙ c.requires.seals.count);
-  wires = c.wire_count.ensures;
-  rows = c.row_count.ensures;
+  wires = c.wire_count.ensures.count;
+  rows = c.row_count.ensures.count;
 }

@@ -1,6 +1,6 @@
 use Rattle.std.proofs.Common.{◌+◌, ◌-◌, []}
 use Rattle.vk_range.specs.SetLaws.{listed_push}
-use Rattle.vk_vickrey.specs.VickreyPlans.{other}
+use Rattle.vk_range.specs.Others.{other}
 use Rattle.vk_vickrey.proofs.plan.VickreyPlan.price_selection.Goals as goal
 
 pub loop-k-preserved : goal.loop-k-preserved

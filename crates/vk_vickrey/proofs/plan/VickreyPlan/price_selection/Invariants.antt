@@ -1,6 +1,6 @@
 use Rattle.std.proofs.Common.{◌≡◌, ◌+◌, ◌-◌}
 use Rattle.vk_range.specs.Sets.{listed}
-use Rattle.vk_vickrey.specs.VickreyPlans.{other}
+use Rattle.vk_range.specs.Others.{other}
 use Rattle.vk_vickrey.proofs.plan.VickreyPlan.price_selection.Given as goal
 
 abbrev pub invariant-loop-k : goal.invariant-loop-k

@@ -7,10 +7,10 @@ use Rattle.vk_vickrey.specs.VickreySteps.{selection_fits, selection_room, vickre
 use Rattle.vk_vickrey.proofs.plan.VickreyPlanCircuit.plan.Goals as goal
 use Rattle.vk_vickrey.proofs.plan.VickreyPlanCircuit.plan.Goals.{Then-self-eq1, After-drop-selection-2}
 
-alone : (c : Then-self-eq1) → c.add_sets-3.new.plan ≡ vickrey_plan c.args.self.now.seals c.args.self.now.width c.args.self.now.position c.args.self.now.price
+alone : (c : Then-self-eq1) → c.in_ok-plan.plan ≡ vickrey_plan c.args.self.now.seals c.args.self.now.width c.args.self.now.position c.args.self.now.price
 alone c =
     let s = c.args.self.now in
-    c.in_ok-add_sets-3.ensures ∙ sym (plan_alone s.seals s.width s.position s.price (eq-eqb s.seals 1 c.if-self-eq1.true))
+    c.in_ok-plan.ensures ∙ sym (plan_alone s.seals s.width s.position s.price (eq-eqb s.seals 1 c.if-self-eq1.true))
 
 pub returns-then-self-eq1-clause-plan : goal.returns-then-self-eq1-clause-plan
 returns-then-self-eq1-clause-plan c = alone c
@@ -28,17 +28,17 @@ returns-then-self-eq1-clause-rows c =
 pub add-requires-clause-fits : goal.add-requires-clause-fits
 add-requires-clause-fits c =
     let s = c.args.self.now in
-    rw (c.in_ok-selection.ensures, c.in_ok-add_sets-3.ensures) (selection_fits s.seals s.width s.position s.price s.in_limits c.if-self-eq1.false)
+    rw (c.in_ok-selection.ensures, c.in_ok-plan.ensures) (selection_fits s.seals s.width s.position s.price s.in_limits c.if-self-eq1.false)
 
 pub add-requires-clause-room : goal.add-requires-clause-room
 add-requires-clause-room c =
     let s = c.args.self.now in
-    rw (c.in_ok-selection.ensures, c.in_ok-add_sets-3.ensures) (selection_room s.seals s.width s.position s.price s.in_limits c.if-self-eq1.false)
+    rw (c.in_ok-selection.ensures, c.in_ok-plan.ensures) (selection_room s.seals s.width s.position s.price s.in_limits c.if-self-eq1.false)
 
 many : (c : After-drop-selection-2) → c.add.new.plan ≡ vickrey_plan c.args.self.now.seals c.args.self.now.width c.args.self.now.position c.args.self.now.price
 many c =
     let s = c.args.self.now in
-    (rw (c.in_ok-selection.ensures, c.in_ok-add_sets-3.ensures) at c.in_ok-add.ensures.added)
+    (rw (c.in_ok-selection.ensures, c.in_ok-plan.ensures) at c.in_ok-add.ensures.added)
     ∙ sym (plan_many s.seals s.width s.position s.price (ne_eqb s.seals 1 c.if-self-eq1.false))
 
 pub returns-clause-plan : goal.returns-clause-plan

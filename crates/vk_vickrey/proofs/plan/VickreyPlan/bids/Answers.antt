@@ -1,0 +1,11 @@
+use Rattle.std.proofs.Common.{[]}
+use Rattle.vk_range.specs.SetLaws.{listed_push}
+use Rattle.vk_vickrey.specs.VickreyPlans.{bid_form}
+use Rattle.vk_vickrey.proofs.plan.VickreyPlan.bids.Goals as goal
+
+pub loop-j-preserved : goal.loop-j-preserved
+loop-j-preserved c =
+    let s = c.args.self.now in
+    listed_push (bid_form s.seals) [] c.loop-j.forms.items c.push.new.self.items c.in_ok-form.form c.loop-j.j
+    c.in_ok-push.ensures.items c.loop-j.invariant
+    c.in_ok-form.ensures
