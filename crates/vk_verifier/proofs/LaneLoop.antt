@@ -4,72 +4,75 @@ use Rattle.std.proofs.Math.Seq.{drop-cons}
 use Rattle.std.proofs.Math.ListN.{drop_of_length-le}
 use Rattle.vk_io.specs.Files.{Files}
 use Rattle.vk_lines.specs.Lines.{Rest}
-use Rattle.vk_plan.specs.Plans.{PlanValue}
 use Rattle.vk_row.specs.LaneTests.{◌>>=◌}
-use Rattle.vk_verifier.specs.declared.answers.BoardVerdict.{BoardVerdict}
-use Rattle.vk_board.specs.declared.front.Front.{Front}
+use Rattle.vk_verifier.specs.declared.answers.Fault.{Fault}
 use Rattle.vk_verifier.specs.declared.halt.Halt.{Halt}
 use Rattle.vk_verifier.specs.declared.halt.Halt.TheVariants.{Refused, Failed, NoMemory}
-use Rattle.vk_verifier.specs.Verdicts.{Judges, lane_judged, lanes_judged}
+use Rattle.vk_verifier.specs.Statement.{StatementValue}
+use Rattle.vk_verifier.specs.Behind.{Judges, lane_judged, lanes_judged}
 
 -- the next lane, and then those after it
-next_lane : (front : Front) (plan : PlanValue) (bits : List Bool) (index : ℕ) (bit : Bool) (board reply : Rest) → index < length bits → bit ≡ get_or bits index bit
-    → lanes_judged front plan (index + 1) (drop index bits) board reply
-    ≡ (lane_judged front plan (index + 1) bit board reply >>= λ rests. lanes_judged front plan (index + 1 + 1) (drop (index + 1) bits) rests.0 rests.1)
+next_lane : (s : StatementValue) (bits : List Bool) (index : ℕ) (bit : Bool) (board reply : Rest) → index < length bits
+    → bit ≡ get_or bits index bit
+    → lanes_judged s (index + 1) (drop index bits) board reply
+    ≡ (lane_judged s (index + 1) bit board reply >>= λ rests. lanes_judged s (index + 1 + 1) (drop (index + 1) bits) rests.0 rests.1)
 unfolding lanes_judged
-next_lane front plan bits index bit board reply within is =
+next_lane s bits index bit board reply within is =
     let next : suc index ≡ index + 1 = omega arith in
     let left : drop index bits ≡ bit ∷ drop (index + 1) bits = drop-cons bits index bit within ∙ ap (λ b. b ∷ drop (suc index) bits) (sym is) ∙ ap (λ i. bit ∷ drop i bits) next in
-    ap (λ left. lanes_judged front plan (index + 1) left board reply) left
+    ap (λ left. lanes_judged s (index + 1) left board reply) left
 
 -- after a lane that was accepted
-pub lane_turn : (held now : Option Files) (front : Front) (plan : PlanValue) (bits : List Bool) (index : ℕ) (bit : Bool) (done : Unit {0})
-    (whole : Files → Result (Rest × Rest) BoardVerdict) (board reply board_now reply_now : Files → Rest)
+pub lane_turn : (held now : Option Files) (s : StatementValue) (bits : List Bool) (index : ℕ) (bit : Bool)
+    (done : Unit {0})
+    (whole : Files → Result (Rest × Rest) Fault) (board reply board_now reply_now : Files → Rest)
     → index < length bits → bit ≡ get_or bits index bit → now ≡ held
-    → IfSome held (λ files. lanes_judged front plan (index + 1) (drop index bits) (board files) (reply files) ≡ whole files)
-    → IfSome now (λ files. Judges (λ (_ : Unit {0}). (board_now files, reply_now files)) (Ok done) (lane_judged front plan (index + 1) bit (board files) (reply files)))
-    → IfSome held (λ files. lanes_judged front plan (index + 1 + 1) (drop (index + 1) bits) (board_now files) (reply_now files) ≡ whole files)
-lane_turn None now front plan bits index bit done whole board reply board_now reply_now within is same so_far step = tt
-lane_turn (Some files) now front plan bits index bit done whole board reply board_now reply_now within is same so_far step =
-    let judged = subst (λ told. IfSome told (λ files. Judges (λ (_ : Unit {0}). (board_now files, reply_now files)) (Ok done) (lane_judged front plan (index + 1) bit (board files) (reply files)))) same step in
-    sym (next_lane front plan bits index bit (board files) (reply files) within is
-    ∙ ap (λ r. r >>= λ rests. lanes_judged front plan (index + 1 + 1) (drop (index + 1) bits) rests.0 rests.1) judged) ∙ so_far
+    → IfSome held (λ files. lanes_judged s (index + 1) (drop index bits) (board files) (reply files) ≡ whole files)
+    → IfSome now (λ files. Judges (λ (_ : Unit {0}). (board_now files, reply_now files)) (Ok done) (lane_judged s (index + 1) bit (board files) (reply files)))
+    → IfSome held (λ files. lanes_judged s (index + 1 + 1) (drop (index + 1) bits) (board_now files) (reply_now files) ≡ whole files)
+lane_turn None now s bits index bit done whole board reply board_now reply_now within is same so_far step = tt
+lane_turn (Some files) now s bits index bit done whole board reply board_now reply_now within is same so_far step =
+    let judged = subst (λ told. IfSome told (λ files. Judges (λ (_ : Unit {0}). (board_now files, reply_now files)) (Ok done) (lane_judged s (index + 1) bit (board files) (reply files)))) same step in
+    sym (next_lane s bits index bit (board files) (reply files) within is
+    ∙ ap (λ r. r >>= λ rests. lanes_judged s (index + 1 + 1) (drop (index + 1) bits) rests.0 rests.1) judged) ∙ so_far
 
-stop : (held : Option Files) (front : Front) (plan : PlanValue) (bits : List Bool) (index : ℕ) (bit : Bool) (halt : Halt)
-    (whole : Files → Result (Rest × Rest) BoardVerdict) (board reply board_now reply_now : Files → Rest)
+stop : (held : Option Files) (s : StatementValue) (bits : List Bool) (index : ℕ) (bit : Bool) (halt : Halt Fault)
+    (whole : Files → Result (Rest × Rest) Fault) (board reply board_now reply_now : Files → Rest)
     → index < length bits → bit ≡ get_or bits index bit
-    → IfSome held (λ files. lanes_judged front plan (index + 1) (drop index bits) (board files) (reply files) ≡ whole files)
-    → IfSome held (λ files. Judges {T = Unit {0}} (λ _. (board_now files, reply_now files)) (Err halt) (lane_judged front plan (index + 1) bit (board files) (reply files)))
+    → IfSome held (λ files. lanes_judged s (index + 1) (drop index bits) (board files) (reply files) ≡ whole files)
+    → IfSome held (λ files. Judges {T = Unit {0}} (λ _. (board_now files, reply_now files)) (Err halt) (lane_judged s (index + 1) bit (board files) (reply files)))
     → IfSome held (λ files. Judges {T = Unit {0}} (λ _. (board_now files, reply_now files)) (Err halt) (whole files))
-stop None front plan bits index bit halt whole board reply board_now reply_now within is so_far step = tt
-stop (Some files) front plan bits index bit (Refused verdict) whole board reply board_now reply_now within is so_far step =
-    sym so_far ∙ next_lane front plan bits index bit (board files) (reply files) within is
-    ∙ ap (λ r. r >>= λ rests. lanes_judged front plan (index + 1 + 1) (drop (index + 1) bits) rests.0 rests.1) step
-stop (Some files) front plan bits index bit Failed whole board reply board_now reply_now within is so_far step = tt
-stop (Some files) front plan bits index bit NoMemory whole board reply board_now reply_now within is so_far step = tt
+stop None s bits index bit halt whole board reply board_now reply_now within is so_far step = tt
+stop (Some files) s bits index bit (Refused fault) whole board reply board_now reply_now within is so_far step =
+    sym so_far ∙ next_lane s bits index bit (board files) (reply files) within is
+    ∙ ap (λ r. r >>= λ rests. lanes_judged s (index + 1 + 1) (drop (index + 1) bits) rests.0 rests.1) step
+stop (Some files) s bits index bit Failed whole board reply board_now reply_now within is so_far step = tt
+stop (Some files) s bits index bit NoMemory whole board reply board_now reply_now within is so_far step = tt
 
 -- after a lane that was not accepted
-pub lane_stop : (held now : Option Files) (front : Front) (plan : PlanValue) (bits : List Bool) (index : ℕ) (bit : Bool) (halt : Halt) (result : Result (Unit {0}) Halt)
-    (whole : Files → Result (Rest × Rest) BoardVerdict) (board reply board_now reply_now : Files → Rest)
+pub lane_stop : (held now : Option Files) (s : StatementValue) (bits : List Bool) (index : ℕ) (bit : Bool)
+    (halt : Halt Fault) (result : Result (Unit {0}) (Halt Fault))
+    (whole : Files → Result (Rest × Rest) Fault) (board reply board_now reply_now : Files → Rest)
     → index < length bits → bit ≡ get_or bits index bit → now ≡ held → result ≡ Err halt
-    → IfSome held (λ files. lanes_judged front plan (index + 1) (drop index bits) (board files) (reply files) ≡ whole files)
-    → IfSome now (λ files. Judges {T = Unit {0}} (λ _. (board_now files, reply_now files)) (Err halt) (lane_judged front plan (index + 1) bit (board files) (reply files)))
+    → IfSome held (λ files. lanes_judged s (index + 1) (drop index bits) (board files) (reply files) ≡ whole files)
+    → IfSome now (λ files. Judges {T = Unit {0}} (λ _. (board_now files, reply_now files)) (Err halt) (lane_judged s (index + 1) bit (board files) (reply files)))
     → IfSome held (λ files. Judges {T = Unit {0}} (λ _. (board_now files, reply_now files)) result (whole files))
-lane_stop held now front plan bits index bit halt result whole board reply board_now reply_now within is same ends so_far step =
-    let P : Option Files → Type 0 = λ told. IfSome told (λ files. Judges {T = Unit {0}} (λ _. (board_now files, reply_now files)) (Err halt) (lane_judged front plan (index + 1) bit (board files) (reply files))) in
-    let Q : Result (Unit {0}) Halt → Type 0 = λ r. IfSome held (λ files. Judges {T = Unit {0}} (λ _. (board_now files, reply_now files)) r (whole files)) in
-    subst Q (sym ends) (stop held front plan bits index bit halt whole board reply board_now reply_now within is so_far (subst P same step))
+lane_stop held now s bits index bit halt result whole board reply board_now reply_now within is same ends so_far step =
+    let P : Option Files → Type 0 = λ told. IfSome told (λ files. Judges {T = Unit {0}} (λ _. (board_now files, reply_now files)) (Err halt) (lane_judged s (index + 1) bit (board files) (reply files))) in
+    let Q : Result (Unit {0}) (Halt Fault) → Type 0 = λ r. IfSome held (λ files. Judges {T = Unit {0}} (λ _. (board_now files, reply_now files)) r (whole files)) in
+    subst Q (sym ends) (stop held s bits index bit halt whole board reply board_now reply_now within is so_far (subst P same step))
 
-none_left : (front : Front) (plan : PlanValue) (number : ℕ) (bits : List Bool) (board reply : Rest) → length bits ≡ 0 → lanes_judged front plan number bits board reply ≡ Ok (board, reply)
+none_left : (s : StatementValue) (number : ℕ) (bits : List Bool) (board reply : Rest) → length bits ≡ 0
+    → lanes_judged s number bits board reply ≡ Ok (board, reply)
 unfolding lanes_judged
-none_left front plan number [] board reply none = refl
-none_left front plan number (bit ∷ bits) board reply none = cc
+none_left s number [] board reply none = refl
+none_left s number (bit ∷ bits) board reply none = cc
 
 -- after the last lane
-pub lanes_done : (held : Option Files) (front : Front) (plan : PlanValue) (bits : List Bool) (index : ℕ) (done : Unit {0})
-    (whole : Files → Result (Rest × Rest) BoardVerdict) (board reply : Files → Rest) → length bits ≤ index
-    → IfSome held (λ files. lanes_judged front plan (index + 1) (drop index bits) (board files) (reply files) ≡ whole files)
+pub lanes_done : (held : Option Files) (s : StatementValue) (bits : List Bool) (index : ℕ) (done : Unit {0})
+    (whole : Files → Result (Rest × Rest) Fault) (board reply : Files → Rest) → length bits ≤ index
+    → IfSome held (λ files. lanes_judged s (index + 1) (drop index bits) (board files) (reply files) ≡ whole files)
     → IfSome held (λ files. Judges {T = Unit {0}} (λ _. (board files, reply files)) (Ok done) (whole files))
-lanes_done None front plan bits index done whole board reply past so_far = tt
-lanes_done (Some files) front plan bits index done whole board reply past so_far =
-    sym so_far ∙ none_left front plan (index + 1) (drop index bits) (board files) (reply files) (ap length (drop_of_length-le bits past))
+lanes_done None s bits index done whole board reply past so_far = tt
+lanes_done (Some files) s bits index done whole board reply past so_far =
+    sym so_far ∙ none_left s (index + 1) (drop index bits) (board files) (reply files) (ap length (drop_of_length-le bits past))

@@ -6,14 +6,14 @@ pub mod Plans
 pub mod Many
 pub mod Lanes
 pub mod LaneLists
-pub mod Refusals
 pub mod Files
 pub mod Wholes
+pub mod Passed
 pub mod Accepted
 pub mod LaneStops
-pub mod Passed
 pub mod Reasons
 pub mod Exact
+pub mod Verdicts
 pub mod Joined
 pub mod Bits
 pub mod TwoFound

@@ -1,8 +1,8 @@
 -- So many parts of a file one after another: the first of them, and those that were read before.
-use Rattle.std.proofs.Common.{◌≡◌, ℕ, zero, suc, ◌+◌, ◌<◌, List, [], ◌∷◌, ◌++◌, length, Result, Ok, Err, refl, sym, ap, ◌∙◌, append_assoc, append-nil, length-append, arith}
+use Rattle.std.proofs.Common.{◌≡◌, ℕ, zero, suc, ◌<◌, List, [], ◌∷◌, ◌++◌, length, Result, Ok, Err, refl, sym, ap, ◌∙◌, append_assoc, append-nil, arith}
 use Rattle.std.specs.Prelude.{slice_index_or}
 use Rattle.std.proofs.lemmas.List.{get_or_at}
-use Rattle.vk_lines.specs.Lines.{Rest, ◌>>=◌}
+use Rattle.vk_lines.specs.Lines.{Rest, ◌>>=◌, end_at}
 use Rattle.vk_lines.specs.Forms.{many_onto}
 use Rattle.vk_lines.proofs.Parts.{bind_ok, ok_same}
 
@@ -24,13 +24,6 @@ module _ {X : Type 0} (read : List X → Rest → Result (X × Rest) ℕ) where
   unfolding many_onto
   many_last before rest ys after some = ap (λ p. p.1) (ok_same (before, rest) (ys, after) some)
 
-  pub many_count : (before : List X) (count : ℕ) (rest : Rest) (ys : List X) (after : Rest) → many_onto before count read rest ≡ Ok (ys, after) → length ys ≡ length before + count
-  unfolding many_onto
-  many_count before zero rest ys after some = ap length (sym (ap (λ p. p.0) (ok_same (before, rest) (ys, after) some))) ∙ omega arith
-  many_count before (suc count) rest ys after some =
-      let first = bind_ok (read before rest) (λ p. many_onto (before ++ p.0 ∷ []) count read p.1) (ys, after) some in
-      omega (arith, many_count (before ++ first.0.0 ∷ []) count first.0.1 ys after first.2, length-append before (first.0.0 ∷ []))
-
   -- what was read before stays in front
   many_begins : (before : List X) (count : ℕ) (rest : Rest) (ys : List X) (after : Rest) → many_onto before count read rest ≡ Ok (ys, after) → (more : List X) × (ys ≡ before ++ more)
   unfolding many_onto
@@ -47,19 +40,8 @@ module _ {X : Type 0} (read : List X → Rest → Result (X × Rest) ℕ) where
       ap (λ zs. slice_index_or zs (length before) default) (begins.1 ∙ append_assoc before (x ∷ []) begins.0)
       ∙ get_or_at before x begins.0 default (length before) refl
 
-  -- one part more
-  pub many_more : (before : List X) (count : ℕ) (rest : Rest) (ys : List X) (after : Rest) (y : X) (next : Rest) → many_onto before count read rest ≡ Ok (ys, after) → read ys after ≡ Ok (y, next)
-      → many_onto before (suc count) read rest ≡ Ok (ys ++ y ∷ [], next)
-  unfolding many_onto
-  many_more before zero rest ys after y next some last =
-      let same = ok_same (before, rest) (ys, after) some in
-      ap (λ p. read p.0 p.1 >>= λ q. Ok (p.0 ++ q.0 ∷ [], q.1)) same ∙ ap (λ r. r >>= λ q. Ok (ys ++ q.0 ∷ [], q.1)) last
-  many_more before (suc count) rest ys after y next some last =
-      let first = bind_ok (read before rest) (λ p. many_onto (before ++ p.0 ∷ []) count read p.1) (ys, after) some in
-      ap (λ r. r >>= λ p. many_onto (before ++ p.0 ∷ []) (suc count) read p.1) first.1 ∙ many_more (before ++ first.0.0 ∷ []) count first.0.1 ys after y next first.2 last
-
   -- reading stops in a part
-  pub many_stop : (before : List X) (count total : ℕ) (rest : Rest) (ys : List X) (after : Rest) (line : ℕ) → count < total → many_onto before count read rest ≡ Ok (ys, after) → read ys after ≡ Err line
+  many_stop : (before : List X) (count total : ℕ) (rest : Rest) (ys : List X) (after : Rest) (line : ℕ) → count < total → many_onto before count read rest ≡ Ok (ys, after) → read ys after ≡ Err line
       → many_onto before total read rest ≡ Err line
   unfolding many_onto
   many_stop before count zero rest ys after line within some stop = absurd (omega (arith, within))
@@ -69,3 +51,16 @@ module _ {X : Type 0} (read : List X → Rest → Result (X × Rest) ℕ) where
   many_stop before (suc count) (suc total) rest ys after line within some stop =
       let first = bind_ok (read before rest) (λ p. many_onto (before ++ p.0 ∷ []) count read p.1) (ys, after) some in
       ap (λ r. r >>= λ p. many_onto (before ++ p.0 ∷ []) total read p.1) first.1 ∙ many_stop (before ++ first.0.0 ∷ []) count total first.0.1 ys after line (omega (arith, within)) first.2 stop
+
+  -- so many parts, and then the end of the file
+  abbrev pub parts_and_end : ℕ → Rest → Result (List X × Rest) ℕ
+  parts_and_end count rest = many_onto [] count read rest >>= λ xs. end_at xs.1 >>= λ over. Ok (xs.0, over.1)
+
+  pub stop_in : (count total : ℕ) (rest : Rest) (xs : List X) (after : Rest) (line : ℕ) → count < total → many_onto [] count read rest ≡ Ok (xs, after) → read xs after ≡ Err line
+      → parts_and_end total rest ≡ Err line
+  stop_in count total rest xs after line within some stop =
+      ap (λ r. r >>= λ p. end_at p.1 >>= λ over. Ok (p.0, over.1)) (many_stop [] count total rest xs after line within some stop)
+
+  pub stop_after : (count : ℕ) (rest : Rest) (xs : List X) (after : Rest) (line : ℕ) → many_onto [] count read rest ≡ Ok (xs, after) → end_at after ≡ Err line → parts_and_end count rest ≡ Err line
+  stop_after count rest xs after line all stop =
+      ap (λ r. r >>= λ p. end_at p.1 >>= λ over. Ok (p.0, over.1)) all ∙ ap (λ r. r >>= λ over. Ok (xs, over.1)) stop

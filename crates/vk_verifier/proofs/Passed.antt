@@ -1,317 +1,414 @@
 -- The lanes that are read from both files and accepted: their values, their texts, and what stands next.
-use Rattle.std.proofs.Common.{◌≡◌, ℕ, ◌+◌, ◌-◌, ◌^◌, ◌<◌, ◌≤◌, Bool, List, [], ◌++◌, length, Ok, Err, refl, ap, sym, ◌∙◌, subst, arith, append_assoc}
-use Rattle.std.specs.List.{AllByRecursion}
-use Rattle.std.proofs.lemmas.List.{append_cancel_left}
+use Rattle.std.proofs.Common.{◌≡◌, ℕ, suc, ◌+◌, ◌-◌, ◌^◌, ◌<◌, ◌≤◌, Bool, false, List, [], ◌++◌, length, take, drop, codes, Result, Ok, Err, refl, ap, sym, ◌∙◌, subst, arith, append_assoc}
+use Rattle.std.specs.Prelude.{slice_index_or}
+use Rattle.std.proofs.Math.Seq.{drop-cons}
+use Rattle.std.proofs.Math.ListN.{drop_of_length-le}
+use Rattle.std.proofs.lemmas.List.{append_cancel_left, length-take-le}
+use Rattle.std.proofs.lemmas.List.Elements.{All-from_recursion}
+use Rattle.std.proofs.lemmas.Option.{slice_get-get_or}
 use Rattle.vk_lines.specs.Lines.{Rest, end_at}
-use Rattle.vk_lines.specs.Forms.{many_onto, numbered_text}
-use Rattle.vk_lines.proofs.Each.{at_from_each}
+use Rattle.vk_lines.specs.Forms.{IsPart, line, many_at, numbered_text}
+use Rattle.vk_lines.proofs.Each.{at_from_each, each_from_at}
 use Rattle.vk_lines.proofs.Numbered.{numbered_part, numbered_all}
-use Rattle.vk_plan.specs.Plans.{PlanValue}
+use Rattle.vk_lines.proofs.Parts.{part_same, end_found, end_shown}
 use Rattle.vk_wire.specs.declared.wire.Shown.{Shown}
-use Rattle.vk_row.specs.declared.case.LaneFault.{LaneFault}
-use Rattle.vk_row.specs.LaneTests.{checked_lane}
-use Rattle.vk_row.proofs.Whole.{err_faulty}
+use Rattle.vk_row.specs.declared.case.LaneCase.{LaneCase}
+use Rattle.vk_row.specs.Lanes.{HasCounts, IsAccepted}
+use Rattle.vk_row.specs.LaneTests.{◌>>=◌}
+use Rattle.vk_row.proofs.Whole.{ok_accepted, accepted_ok}
 use Rattle.vk_board.specs.declared.board.LaneLines.{LaneLines}
-use Rattle.vk_board.specs.declared.front.Front.{Front}
-use Rattle.vk_board.specs.Values.{Board, IsBoard, IsLaneLines}
-use Rattle.vk_board.specs.Texts.{lane_text, lanes_text, board_text}
-use Rattle.vk_board.specs.Reading.{lane_at, lanes_at, board_at}
-use Rattle.vk_board.specs.Fronts.{IsFront, front_at, front_text}
+use Rattle.vk_board.specs.Values.{IsLaneLines}
+use Rattle.vk_board.specs.Texts.{lane_text, lanes_text}
+use Rattle.vk_board.specs.Reading.{lane_at}
 use Rattle.vk_board.proofs.Forms.{lane_is_part}
-use Rattle.vk_board.proofs.Boards.{board_with, board_is_whole}
-use Rattle.vk_board.proofs.Fronts.{FrontRead, front_at_shown}
-use Rattle.vk_board.proofs.FrontLaws.{fronts_read}
 use Rattle.vk_reply.specs.declared.challenge.Challenge.{Challenge}
-use Rattle.vk_reply.specs.Values.{AreShown, IsReply}
+use Rattle.vk_reply.specs.Values.{AreShown}
 use Rattle.vk_reply.specs.Texts.{reply_head_text, reply_lane_text, reply_text}
-use Rattle.vk_reply.specs.Reading.{challenge_at, reply_head_at, reply_lane_at, reply_at}
+use Rattle.vk_reply.specs.Reading.{challenge_at, reply_head_at, reply_lane_at}
 use Rattle.vk_reply.proofs.Challenges.{challenge_is_whole}
-use Rattle.vk_reply.proofs.Replies.{reply_is_whole}
 use Rattle.vk_reply.proofs.Replies as replies
-use Rattle.vk_verifier.specs.declared.answers.Part.TheVariants as part
-use Rattle.vk_verifier.specs.Verdicts.{plan_of, case_of, later_wires, from_start}
-use Rattle.vk_verifier.specs.Acceptance.{shape_of, bit_of}
-use Rattle.vk_verifier.specs.Refusals.{HasFront, IsOfChallenge, HasCount, AreLanes, AreShownFor, front_and_lanes, count_and_lanes, LanesPass, BoardGoesOn, ReplyGoesOn, LaneFails}
-use Rattle.vk_verifier.proofs.Plans.{is_plan, wires_are, rows_are}
+use Rattle.vk_verifier.specs.declared.answers.Fault.{Fault}
+use Rattle.vk_verifier.specs.Statement.{StatementValue, IsStatement}
+use Rattle.vk_verifier.specs.Behind.{case_of, later_wires, lane_judged, lanes_judged, ends_judged, behind_judged}
+use Rattle.vk_verifier.specs.Verdicts.{from_start}
+use Rattle.vk_verifier.specs.Acceptance.{bit_of, no_lines, AreLanes, LaneIsAccepted, file_text}
+use Rattle.vk_verifier.specs.Refusals.{IsOfChallenge, HasCount, AreShownFor, front_and_lanes, count_and_lanes, LanesPass, FileGoesOn, ReplyGoesOn}
 use Rattle.vk_verifier.proofs.Counts.{has_counts}
-use Rattle.vk_verifier.proofs.LaneLists.{next_lines, next_shown, LanesRead}
-use Rattle.vk_verifier.proofs.Files.{counts}
-use Rattle.vk_verifier.proofs.Wholes.{board_joined, board_no_end, reply_joined, reply_no_end}
-use Rattle.vk_verifier.proofs.Accepted.{AcceptedAt, accepted_at, same_lanes}
+use Rattle.vk_verifier.proofs.LaneLists.{next_lines, next_shown, IsChecked, LanesRead, lanes_found, taken_bits, lanes_split}
+use Rattle.vk_verifier.proofs.Files.{Begun, begun_judged, ends_then}
 
--- what was read of the three files before the first lane
-pub record FilesBegun (board challenge reply : List ℕ) : Type 0 where
-  pub front : Front
-  pub bits : Challenge
+-- ---- lanes and their texts
+
+small_lane : (lane : ℕ) → lane ≤ 64 → lane < 2 ^ 64
+small_lane lane few = omega arith
+
+lines_part : (s : StatementValue) (count : ℕ) → count ≤ 64
+    → IsPart (λ lines. (length lines ≡ count) × AreLanes s lines) (lanes_text 1) (many_at count (next_lines s))
+lines_part s count few =
+    let wires : ℕ = later_wires s.plan in
+    let rows : ℕ = length s.plan.rows in
+    numbered_all {IsValue = IsLaneLines wires rows} {text = lane_text} {read = λ lane. lane_at lane wires rows} 64 count
+    few (λ lane small. lane_is_part lane wires rows small)
+
+same_lane : (s : StatementValue) (bits : Challenge) (one : List Shown) (m n : ℕ) → m ≡ n
+    → AreShown s.plan.kinds (bit_of bits m) one → AreShown s.plan.kinds (bit_of bits n) one
+same_lane s bits one m n same are =
+    let A : ℕ → Type 0 = λ lane. AreShown s.plan.kinds (bit_of bits lane) one in
+    subst A same are
+
+from_first : (index : ℕ) → 0 + index + 1 ≡ index + 1
+from_first index = omega arith
+
+shown_part : (s : StatementValue) (bits : Challenge) (count : ℕ) → count ≤ 64
+    → IsPart (λ shown. (length shown ≡ count) × AreShownFor s bits shown) (numbered_text reply_lane_text 1)
+    (many_at count (next_shown s (bit_of bits)))
+shown_part s bits count few =
+    let L : ℕ → List Shown → Type 0 = λ lane one. AreShown s.plan.kinds (bit_of bits lane) one in
+    part_same
+    (numbered_part {IsValue = L} {text = reply_lane_text}
+    {read = λ lane. reply_lane_at lane s.plan.kinds (bit_of bits lane)} 64 count few
+    (λ lane small. replies.lane_is_part lane s.plan.kinds (bit_of bits lane) (small_lane lane small)))
+    (λ shown is. (
+      is.0,
+      λ index one there.
+          same_lane s bits one (0 + index + 1) (index + 1) (from_first index)
+          (at_from_each (λ n. L (n + 1)) [] shown is.1 index one there),
+    ))
+    (λ shown is. (
+      is.0,
+      each_from_at (λ n. L (n + 1)) [] shown (λ index one there.
+          same_lane s bits one (index + 1) (0 + index + 1) (sym (from_first index)) (is.1 index one there)),
+    ))
+    (λ shown. refl)
+
+begins_more : (bytes text part more rest : List ℕ) → bytes ≡ text ++ rest → rest ≡ part ++ more
+    → bytes ≡ (text ++ part) ++ more
+begins_more bytes text part more rest first next = first ∙ ap (λ r. text ++ r) next ∙ sym (append_assoc text part more)
+
+-- what stands in a file after a text that it begins with
+rest_is : (bytes text part more rest : List ℕ) → bytes ≡ text ++ rest → bytes ≡ (text ++ part) ++ more
+    → rest ≡ part ++ more
+rest_is bytes text part more rest first next = append_cancel_left text rest (part ++ more)
+    (sym first ∙ next ∙ append_assoc text part more)
+
+-- ---- the check of a lane, and what it says
+
+module _ (s : StatementValue) (is : IsStatement s) (bits : Challenge) (lines : List LaneLines) (shown : List (List Shown)) where
+  counts_at : (index : ℕ) → index < length lines → index < length shown → AreLanes s lines → AreShownFor s bits shown
+      → HasCounts s.plan (case_of s (index + 1) (slice_index_or lines index no_lines)) (slice_index_or shown index [])
+  counts_at index within inside are each =
+      has_counts s (index + 1) (bit_of bits (index + 1)) (slice_index_or lines index no_lines) (slice_index_or shown index []) is
+      (All-from_recursion (IsLaneLines (later_wires s.plan) (length s.plan.rows)) lines are index no_lines within)
+      (each index (slice_index_or shown index []) (slice_get-get_or shown index [] inside))
+
+  abbrev AcceptedAt : ℕ → ℕ → Type 0
+  AcceptedAt number index = IsAccepted s.plan (case_of s number (slice_index_or lines index no_lines))
+      (bit_of bits number) (slice_index_or shown index [])
+
+  pub accepted_at : (lane : ℕ) → 1 ≤ lane → lane ≤ length lines → lane ≤ length shown → AreLanes s lines
+      → AreShownFor s bits shown
+      → IsChecked s (bit_of bits) lines shown (lane - 1) → LaneIsAccepted s lines bits shown lane
+  accepted_at lane some within inside are each check =
+      let index : ℕ = lane - 1 in
+      let number : index + 1 ≡ lane = omega (arith, some) in
+      let counts = counts_at index (omega (arith, some, within)) (omega (arith, some, inside)) are each in
+      let case : LaneCase = case_of s (index + 1) (slice_index_or lines index no_lines) in
+      let here : AcceptedAt (index + 1) index = (
+        check.0,
+        ok_accepted s.plan case (bit_of bits (index + 1)) (slice_index_or shown index []) check.0 is.plan
+            counts check.1,
+      ) in
+      let P : ℕ → Type 0 = λ n. AcceptedAt n index in
+      subst P number here
+
+  pub checked_at : (index : ℕ) → LaneIsAccepted s lines bits shown (index + 1)
+      → IsChecked s (bit_of bits) lines shown index
+  checked_at index accepted =
+      let here : index + 1 - 1 ≡ index = omega arith in
+      let P : ℕ → Type 0 = λ i. AcceptedAt (index + 1) i in
+      let at : AcceptedAt (index + 1) index = subst P here accepted in (
+        at.0,
+        accepted_ok s.plan (case_of s (index + 1) (slice_index_or lines index no_lines)) (bit_of bits (index + 1))
+            (slice_index_or shown index []) at.0 is.plan at.1,
+      )
+
+-- ---- so many lanes that were read, behind a front with this text
+
+pub record Passed (s : StatementValue) (front file challenge reply : List ℕ) (rest : Rest) : Type 0 where
+  pub is : IsStatement s
+  pub at : file ≡ front ++ rest.left
+  pub begun : Begun s (from_start challenge) (from_start reply)
   pub count : ℕ
-  pub front_rest : Rest
-  pub challenge_rest : Rest
-  pub count_rest : Rest
-  pub front_read : front_at (from_start board) ≡ Ok (front, front_rest)
-  pub challenge_read : challenge_at (from_start challenge) ≡ Ok (bits, challenge_rest)
-  pub count_read : reply_head_at (from_start reply) ≡ Ok (count, count_rest)
+  pub within : count ≤ s.lanes
+  pub rests : Rest × Rest
+  pub read : LanesRead s (bit_of begun.bits) [] [] count rest begun.count_rest rests
 
-pub has_front : (board : List ℕ) (front : Front) (after : Rest) → front_at (from_start board) ≡ Ok (front, after) → HasFront board front
-has_front board front after read =
-    let shown = fronts_read.shown (from_start board) front after read in
-    record { right = shown.0; begins = (after.left, shown.1) }
-
-pub is_challenge : (challenge : List ℕ) (bits : Challenge) (after : Rest) → challenge_at (from_start challenge) ≡ Ok (bits, after) → IsOfChallenge challenge bits
+pub is_challenge : (challenge : List ℕ) (bits : Challenge) (after : Rest)
+    → challenge_at (from_start challenge) ≡ Ok (bits, after) → IsOfChallenge challenge bits
 is_challenge challenge bits after read =
     let shown = challenge_is_whole.shown (from_start challenge) bits after read in
     record { right = shown.0; text = shown.1 }
 
-pub has_count : (reply : List ℕ) (count : ℕ) (after : Rest) → reply_head_at (from_start reply) ≡ Ok (count, after) → HasCount reply count
+pub has_count : (reply : List ℕ) (count : ℕ) (after : Rest) → reply_head_at (from_start reply) ≡ Ok (count, after)
+    → HasCount reply count
 has_count reply count after read =
     let shown = replies.head_is_part.shown (from_start reply) count after read in
     record { some = shown.0.0; few = shown.0.1; begins = (after.left, shown.1) }
 
--- ---- the lanes to the one that isn't passed
+module _ {s : StatementValue} {front file challenge reply : List ℕ} {rest : Rest}
+    (p : Passed s front file challenge reply rest) where
+  few : p.count ≤ 64
+  few = omega (arith, p.within, p.is.few_lanes)
 
--- they and their texts
-pub record LinesTo (front : Front) (rest : Rest) (count : ℕ) (lines : List LaneLines) (after : Rest) : Type 0 where
-  pub count_is : length lines ≡ count
-  pub are : AreLanes front.head lines
-  pub text : rest.left ≡ lanes_text 1 lines ++ after.left
+  pub lines_are : ((length p.read.lines ≡ p.count) × AreLanes s p.read.lines)
+      × (rest.left ≡ lanes_text 1 p.read.lines ++ p.rests.0.left)
+  lines_are = (lines_part s p.count few).shown rest p.read.lines p.rests.0 p.read.board_read
 
-pub lines_to : (front : Front) (rest : Rest) (count : ℕ) (lines : List LaneLines) (after : Rest) → IsFront front → count ≤ 64 → many_onto [] count (next_lines (plan_of front)) rest ≡ Ok (lines, after)
-    → LinesTo front rest count lines after
-lines_to front rest count lines after is few read =
-    let wires : ℕ = later_wires (plan_of front) in
-    let rows : ℕ = length (plan_of front).rows in
-    let shown = (numbered_all {IsValue = IsLaneLines wires rows} {text = lane_text} {read = λ lane. lane_at lane wires rows} 64 count few (λ lane small. lane_is_part lane wires rows small)).shown rest lines after read in
-    let W : ℕ → Type 0 = λ w. AllByRecursion (IsLaneLines w rows) lines in
-    let R : ℕ → Type 0 = λ r. AllByRecursion (IsLaneLines (shape_of front.head).wires r) lines in
-    record { count_is = shown.0.0; are = subst R (rows_are front is) (subst W (wires_are front is) shown.0.1); text = shown.1 }
+  pub shown_are : ((length p.read.shown ≡ p.count) × AreShownFor s p.begun.bits p.read.shown)
+      × (p.begun.count_rest.left ≡ numbered_text reply_lane_text 1 p.read.shown ++ p.rests.1.left)
+  shown_are = (shown_part s p.begun.bits p.count few).shown p.begun.count_rest p.read.shown p.rests.1 p.read.reply_read
 
-pub record ShownTo (front : Front) (bits : Challenge) (rest : Rest) (count : ℕ) (shown : List (List Shown)) (after : Rest) : Type 0 where
-  pub count_is : length shown ≡ count
-  pub are : AreShownFor front bits shown
-  pub text : rest.left ≡ numbered_text reply_lane_text 1 shown ++ after.left
+  pub file_is : file ≡ front_and_lanes front p.read.lines ++ p.rests.0.left
+  file_is = begins_more file front (lanes_text 1 p.read.lines) p.rests.0.left rest.left p.at lines_are.1
 
-pub small_lane : (lane : ℕ) → lane ≤ 64 → lane < 2 ^ 64
-small_lane lane few = omega arith
+  pub reply_is : reply ≡ count_and_lanes s.lanes p.read.shown ++ p.rests.1.left
+  reply_is =
+      begins_more reply (reply_head_text s.lanes) (numbered_text reply_lane_text 1 p.read.shown) p.rests.1.left
+      p.begun.count_rest.left
+      (replies.head_is_part.shown (from_start reply) s.lanes p.begun.count_rest p.begun.count_read).1 shown_are.1
 
-pub shown_to : (front : Front) (bits : Challenge) (rest : Rest) (count : ℕ) (shown : List (List Shown)) (after : Rest) → count ≤ 64
-    → many_onto [] count (next_shown (plan_of front) (bit_of bits)) rest ≡ Ok (shown, after) → ShownTo front bits rest count shown after
-shown_to front bits rest count shown after few read =
-    let kinds = (plan_of front).kinds in
-    let L : ℕ → List Shown → Type 0 = λ lane one. AreShown kinds (bit_of bits lane) one in
-    let are = (numbered_part {IsValue = L} {text = reply_lane_text} {read = λ lane. reply_lane_at lane kinds (bit_of bits lane)} 64 count few
-    (λ lane small. replies.lane_is_part lane kinds (bit_of bits lane) (small_lane lane small))).shown rest shown after read in
-    record {
-      count_is = are.0.0;
-      are = λ index one is.
-          let same : 0 + index + 1 ≡ index + 1 = omega arith in
-          let A : ℕ → Type 0 = λ lane. L lane one in
-          subst A same (at_from_each (λ n. L (n + 1)) [] shown are.0.1 index one is);
-      text = are.1;
-    }
+  abbrev pub lanes_pass : LanesPass s front file challenge reply p.count
+  lanes_pass = record {
+    lines = p.read.lines;
+    challenge = p.begun.bits;
+    reply = p.read.shown;
+    is_challenge = is_challenge challenge p.begun.bits p.begun.challenge_rest p.begun.challenge_read;
+    one_bit_each = p.begun.one_bit_each;
+    within = p.within;
+    lines_to = lines_are.0.0;
+    shown_to = shown_are.0.0;
+    right = lines_are.0.1;
+    shown = shown_are.0.1;
+    file_begins = (p.rests.0.left, file_is);
+    reply_begins = (p.rests.1.left, reply_is);
+    accepted = λ lane some most.
+        accepted_at s p.is p.begun.bits p.read.lines p.read.shown lane some (omega (arith, most, lines_are.0.0))
+        (omega (arith, most, shown_are.0.0)) lines_are.0.1 shown_are.0.1
+        (p.read.checked (lane - 1) (omega arith) (omega (arith, some, most)));
+  }
 
-pub begins_more : (bytes text part more rest : List ℕ) → bytes ≡ text ++ rest → rest ≡ part ++ more → bytes ≡ (text ++ part) ++ more
-begins_more bytes text part more rest first next = first ∙ ap (λ r. text ++ r) next ∙ sym (append_assoc text part more)
+  -- ---- the next lane in the file, and in the reply
 
--- what stands in a file after a text that it begins with
-pub rest_is : (bytes text part more rest : List ℕ) → bytes ≡ text ++ rest → bytes ≡ (text ++ part) ++ more → rest ≡ part ++ more
-rest_is bytes text part more rest first next = append_cancel_left text rest (part ++ more) (sym first ∙ next ∙ append_assoc text part more)
+  abbrev pub next_bit : Bool
+  next_bit = bit_of p.begun.bits (p.count + 1)
 
--- the lines of a lane, by the shape of the lanes and by the plan
-pub shaped : (front : Front) (lines : LaneLines) → IsFront front → IsLaneLines (later_wires (plan_of front)) (length (plan_of front).rows) lines → IsLaneLines (shape_of front.head).wires (shape_of front.head).rows lines
-shaped front lines is right =
-    let W : ℕ → Type 0 = λ w. IsLaneLines w (length (plan_of front).rows) lines in
-    let R : ℕ → Type 0 = λ r. IsLaneLines (shape_of front.head).wires r lines in
-    subst R (rows_are front is) (subst W (wires_are front is) right)
+  abbrev pub lines_next : Result (LaneLines × Rest) ℕ
+  lines_next = lane_at (p.count + 1) (later_wires s.plan) (length s.plan.rows) p.rests.0
 
-pub planned : (front : Front) (lines : LaneLines) → IsFront front → IsLaneLines (shape_of front.head).wires (shape_of front.head).rows lines → IsLaneLines (later_wires (plan_of front)) (length (plan_of front).rows) lines
-planned front lines is right =
-    let W : ℕ → Type 0 = λ w. IsLaneLines w (length (plan_of front).rows) lines in
-    let R : ℕ → Type 0 = λ r. IsLaneLines (shape_of front.head).wires r lines in
-    subst W (sym (wires_are front is)) (subst R (sym (rows_are front is)) right)
+  abbrev pub shown_next : Result (List Shown × Rest) ℕ
+  shown_next = reply_lane_at (p.count + 1) s.plan.kinds next_bit p.rests.1
 
--- ---- the lanes that pass
+  next_few : p.count < s.lanes → p.count + 1 ≤ 64
+  next_few more = omega (arith, more, p.is.few_lanes)
 
-module _ (board challenge reply : List ℕ) (files : FilesBegun board challenge reply) (one_bit_each : length files.bits.bits ≡ files.front.head.lanes) (one_each : files.count ≡ files.front.head.lanes) where
-  abbrev pub plan : PlanValue
-  plan = plan_of files.front
+  next_lines_part : p.count < s.lanes
+      → IsPart (IsLaneLines (later_wires s.plan) (length s.plan.rows)) (lane_text (p.count + 1))
+      (lane_at (p.count + 1) (later_wires s.plan) (length s.plan.rows))
+  next_lines_part more = lane_is_part (p.count + 1) (later_wires s.plan) (length s.plan.rows) (next_few more)
 
-  pub right : IsFront files.front
-  right = (has_front board files.front files.front_rest files.front_read).right
+  next_shown_part : p.count < s.lanes
+      → IsPart (AreShown s.plan.kinds next_bit) (reply_lane_text (p.count + 1))
+      (reply_lane_at (p.count + 1) s.plan.kinds next_bit)
+  next_shown_part more = replies.lane_is_part (p.count + 1) s.plan.kinds next_bit (small_lane (p.count + 1) (next_few more))
 
-  pub few_lanes : (count : ℕ) → count ≤ length files.bits.bits → count ≤ 64
-  few_lanes count within = let few = right.head.few_lanes in omega (arith, few, within, one_bit_each)
+  pub file_goes_on : (lines : LaneLines) (after : Rest) → p.count < s.lanes → lines_next ≡ Ok (lines, after)
+      → FileGoesOn s front file p.read.lines lines
+  file_goes_on lines after more read =
+      let shown = (next_lines_part more).shown p.rests.0 lines after read in
+      record {
+        right = shown.0;
+        begins = (
+          after.left,
+          begins_more file (front_and_lanes front p.read.lines) (lane_text (length p.read.lines + 1) lines) after.left
+              p.rests.0.left file_is
+              (shown.1 ∙ ap (λ n. lane_text (n + 1) lines ++ after.left) (sym lines_are.0.0)),
+        );
+      }
 
-  module _ (count : ℕ) (within : count ≤ length files.bits.bits) (rests : Rest × Rest) (read : LanesRead files.front plan (bit_of files.bits) [] [] count files.front_rest files.count_rest rests) where
-    pub lines_are : LinesTo files.front files.front_rest count read.lines rests.0
-    lines_are = lines_to files.front files.front_rest count read.lines rests.0 right (few_lanes count within) read.board_read
+  pub file_found : (lines : LaneLines) → p.count < s.lanes → FileGoesOn s front file p.read.lines lines
+      → (after : Rest) × (lines_next ≡ Ok (lines, after))
+  file_found lines more goes_on =
+      let left : p.rests.0.left ≡ lane_text (p.count + 1) lines ++ goes_on.begins.0 =
+      rest_is file (front_and_lanes front p.read.lines) (lane_text (length p.read.lines + 1) lines) goes_on.begins.0
+      p.rests.0.left file_is goes_on.begins.1
+      ∙ ap (λ n. lane_text (n + 1) lines ++ goes_on.begins.0) lines_are.0.0 in
+      let found = (next_lines_part more).found p.rests.0 lines goes_on.begins.0 goes_on.right left in
+      (record { taken = found.0; left = goes_on.begins.0 }, found.1)
 
-    pub shown_are : ShownTo files.front files.bits files.count_rest count read.shown rests.1
-    shown_are = shown_to files.front files.bits files.count_rest count read.shown rests.1 (few_lanes count within) read.reply_read
+  pub reply_goes_on : (shown : List Shown) (after : Rest) → p.count < s.lanes → shown_next ≡ Ok (shown, after)
+      → ReplyGoesOn s reply p.begun.bits p.read.shown shown
+  reply_goes_on shown after more read =
+      let is = (next_shown_part more).shown p.rests.1 shown after read in
+      let A : ℕ → Type 0 = λ n. AreShown s.plan.kinds (bit_of p.begun.bits (n + 1)) shown in
+      record {
+        right = subst A (sym shown_are.0.0) is.0;
+        begins = (
+          after.left,
+          begins_more reply (count_and_lanes s.lanes p.read.shown) (reply_lane_text (length p.read.shown + 1) shown)
+              after.left p.rests.1.left reply_is
+              (is.1 ∙ ap (λ n. reply_lane_text (n + 1) shown ++ after.left) (sym shown_are.0.0)),
+        );
+      }
 
-    pub board_is : board ≡ front_and_lanes files.front read.lines ++ rests.0.left
-    board_is =
-        begins_more board (front_text files.front) (lanes_text 1 read.lines) rests.0.left files.front_rest.left (fronts_read.shown (from_start board) files.front files.front_rest files.front_read).1 lines_are.text
+  pub reply_found : (shown : List Shown) → p.count < s.lanes → ReplyGoesOn s reply p.begun.bits p.read.shown shown
+      → (after : Rest) × (shown_next ≡ Ok (shown, after))
+  reply_found shown more goes_on =
+      let left : p.rests.1.left ≡ reply_lane_text (p.count + 1) shown ++ goes_on.begins.0 =
+      rest_is reply (count_and_lanes s.lanes p.read.shown) (reply_lane_text (length p.read.shown + 1) shown)
+      goes_on.begins.0 p.rests.1.left reply_is goes_on.begins.1
+      ∙ ap (λ n. reply_lane_text (n + 1) shown ++ goes_on.begins.0) shown_are.0.0 in
+      let A : ℕ → Type 0 = λ n. AreShown s.plan.kinds (bit_of p.begun.bits (n + 1)) shown in
+      let found = (next_shown_part more).found p.rests.1 shown goes_on.begins.0 (subst A shown_are.0.0 goes_on.right) left in
+      (record { taken = found.0; left = goes_on.begins.0 }, found.1)
 
-    pub reply_is : reply ≡ count_and_lanes files.front read.shown ++ rests.1.left
-    reply_is =
-        let head = (replies.head_is_part.shown (from_start reply) files.count files.count_rest files.count_read).1 ∙ ap (λ n. reply_head_text n ++ files.count_rest.left) one_each in
-        begins_more reply (reply_head_text files.front.head.lanes) (numbered_text reply_lane_text 1 read.shown) rests.1.left files.count_rest.left head shown_are.text
+  -- what is shown of it has the counts that its check asks for
+  pub next_counts : (lines : LaneLines) (shown : List Shown) (next after : Rest) → p.count < s.lanes
+      → lines_next ≡ Ok (lines, next) → shown_next ≡ Ok (shown, after)
+      → HasCounts s.plan (case_of s (p.count + 1) lines) shown
+  next_counts lines shown next after more lines_read shown_read =
+      has_counts s (p.count + 1) next_bit lines shown p.is
+      ((next_lines_part more).shown p.rests.0 lines next lines_read).0
+      ((next_shown_part more).shown p.rests.1 shown after shown_read).0
 
-    pub lane_passes : (lane : ℕ) → 1 ≤ lane → lane ≤ count → AcceptedAt files.front right (bit_of files.bits) read.lines read.shown lane (lane - 1)
-    lane_passes lane some most =
-        accepted_at files.front right (bit_of files.bits) read.lines read.shown lane some (omega (arith, most, lines_are.count_is)) (omega (arith, most, shown_are.count_is)) lines_are.are shown_are.are
-        (read.checked (lane - 1) (omega arith) (omega (arith, some, most)))
+  -- ---- the ends, where they are all lanes
 
-    abbrev pub lanes_pass : LanesPass board challenge reply count
-    lanes_pass = record {
-      board = board_with files.front.head files.front.seals read.lines;
-      position = files.front.position;
-      challenge = files.bits;
-      reply = read.shown;
-      front = right;
-      is_challenge = is_challenge challenge files.bits files.challenge_rest files.challenge_read;
-      one_bit_each = one_bit_each;
-      within = omega (arith, within, one_bit_each);
-      lines_to = lines_are.count_is;
-      shown_to = shown_are.count_is;
-      lines = lines_are.are;
-      shown = shown_are.are;
-      board_begins = (rests.0.left, board_is);
-      reply_begins = (rests.1.left, reply_is);
-      accepted = lane_passes;
-    }
+  pub file_over : (over : Unit {0} × Rest) → end_at p.rests.0 ≡ Ok over → file ≡ file_text front p.read.lines
+  file_over over read =
+      file_is ∙ ap (λ left. front_and_lanes front p.read.lines ++ left) (end_shown p.rests.0 over.0 over.1 read)
+      ∙ append_assoc front (lanes_text 1 p.read.lines) (line (codes "end"))
 
-    -- the next lane on the board, and in the reply
-    pub board_goes_on : (lines : LaneLines) (next : Rest) → count < length files.bits.bits → lane_at (count + 1) (later_wires plan) (length plan.rows) rests.0 ≡ Ok (lines, next)
-        → BoardGoesOn board (board_with files.front.head files.front.seals read.lines) files.front.position lines
-    board_goes_on lines next more found =
-        let shown = (lane_is_part (count + 1) (later_wires plan) (length plan.rows) (few_lanes (count + 1) (omega (arith, more)))).shown rests.0 lines next found in
-        record {
-          right = shaped files.front lines right shown.0;
-          begins = (
-            next.left,
-            begins_more board (front_and_lanes files.front read.lines) (lane_text (length read.lines + 1) lines) next.left rests.0.left board_is
-                (shown.1 ∙ ap (λ n. lane_text (n + 1) lines ++ next.left) (sym lines_are.count_is)),
-          );
-        }
+  pub file_end : file ≡ file_text front p.read.lines → (after : Rest) × (end_at p.rests.0 ≡ Ok (tt, after))
+  file_end text =
+      end_found p.rests.0 (append_cancel_left (front_and_lanes front p.read.lines) p.rests.0.left (line (codes "end"))
+      (sym file_is ∙ text ∙ sym (append_assoc front (lanes_text 1 p.read.lines) (line (codes "end")))))
 
-    pub board_found : (lines : LaneLines) → count < length files.bits.bits → BoardGoesOn board (board_with files.front.head files.front.seals read.lines) files.front.position lines
-        → (next : Rest) × (lane_at (count + 1) (later_wires plan) (length plan.rows) rests.0 ≡ Ok (lines, next))
-    board_found lines more goes_on =
-        let left : rests.0.left ≡ lane_text (count + 1) lines ++ goes_on.begins.0 =
-        rest_is board (front_and_lanes files.front read.lines) (lane_text (length read.lines + 1) lines) goes_on.begins.0 rests.0.left board_is goes_on.begins.1
-        ∙ ap (λ n. lane_text (n + 1) lines ++ goes_on.begins.0) lines_are.count_is in
-        let found = (lane_is_part (count + 1) (later_wires plan) (length plan.rows) (few_lanes (count + 1) (omega (arith, more)))).found rests.0 lines goes_on.begins.0 (planned files.front lines right goes_on.right) left in
-        (record { taken = found.0; left = goes_on.begins.0 }, found.1)
+  whole_reply : p.count ≡ s.lanes → reply_text p.read.shown ≡ count_and_lanes s.lanes p.read.shown ++ line (codes "end")
+  unfolding reply_text
+  whole_reply all =
+      let rest_text : List ℕ = numbered_text reply_lane_text 1 p.read.shown in
+      ap (λ n. reply_head_text n ++ (rest_text ++ line (codes "end"))) (shown_are.0.0 ∙ all)
+      ∙ sym (append_assoc (reply_head_text s.lanes) rest_text (line (codes "end")))
 
-    pub reply_goes_on : (shown : List Shown) (next : Rest) → count < length files.bits.bits → reply_lane_at (count + 1) plan.kinds (bit_of files.bits (count + 1)) rests.1 ≡ Ok (shown, next)
-        → ReplyGoesOn reply files.front files.bits read.shown shown
-    reply_goes_on shown next more found =
-        let are = (replies.lane_is_part (count + 1) plan.kinds (bit_of files.bits (count + 1)) (small_lane (count + 1) (few_lanes (count + 1) (omega (arith, more))))).shown rests.1 shown next found in
-        let A : ℕ → Type 0 = λ n. AreShown plan.kinds (bit_of files.bits (n + 1)) shown in
-        record {
-          right = subst A (sym shown_are.count_is) are.0;
-          begins = (
-            next.left,
-            begins_more reply (count_and_lanes files.front read.shown) (reply_lane_text (length read.shown + 1) shown) next.left rests.1.left reply_is
-                (are.1 ∙ ap (λ n. reply_lane_text (n + 1) shown ++ next.left) (sym shown_are.count_is)),
-          );
-        }
+  pub reply_over : (over : Unit {0} × Rest) → p.count ≡ s.lanes → end_at p.rests.1 ≡ Ok over
+      → reply ≡ reply_text p.read.shown
+  reply_over over all read = reply_is
+      ∙ ap (λ left. count_and_lanes s.lanes p.read.shown ++ left) (end_shown p.rests.1 over.0 over.1 read)
+      ∙ sym (whole_reply all)
 
-    pub reply_found : (shown : List Shown) → count < length files.bits.bits → ReplyGoesOn reply files.front files.bits read.shown shown
-        → (next : Rest) × (reply_lane_at (count + 1) plan.kinds (bit_of files.bits (count + 1)) rests.1 ≡ Ok (shown, next))
-    reply_found shown more goes_on =
-        let left : rests.1.left ≡ reply_lane_text (count + 1) shown ++ goes_on.begins.0 =
-        rest_is reply (count_and_lanes files.front read.shown) (reply_lane_text (length read.shown + 1) shown) goes_on.begins.0 rests.1.left reply_is goes_on.begins.1
-        ∙ ap (λ n. reply_lane_text (n + 1) shown ++ goes_on.begins.0) shown_are.count_is in
-        let A : ℕ → Type 0 = λ n. AreShown plan.kinds (bit_of files.bits (n + 1)) shown in
-        let found = (replies.lane_is_part (count + 1) plan.kinds (bit_of files.bits (count + 1)) (small_lane (count + 1) (few_lanes (count + 1) (omega (arith, more))))).found rests.1 shown goes_on.begins.0
-        (subst A shown_are.count_is goes_on.right) left in
-        (record { taken = found.0; left = goes_on.begins.0 }, found.1)
+  pub reply_end : p.count ≡ s.lanes → reply ≡ reply_text p.read.shown
+      → (after : Rest) × (end_at p.rests.1 ≡ Ok (tt, after))
+  reply_end all text =
+      end_found p.rests.1 (append_cancel_left (count_and_lanes s.lanes p.read.shown) p.rests.1.left (line (codes "end"))
+      (sym reply_is ∙ text ∙ whole_reply all))
 
-    pub lane_fails : (lines : LaneLines) (shown : List Shown) (next after : Rest) (fault : LaneFault) → count < length files.bits.bits
-        → lane_at (count + 1) (later_wires plan) (length plan.rows) rests.0 ≡ Ok (lines, next) → reply_lane_at (count + 1) plan.kinds (bit_of files.bits (count + 1)) rests.1 ≡ Ok (shown, after)
-        → checked_lane plan (case_of files.front (count + 1) lines) (bit_of files.bits (count + 1)) shown ≡ Err fault → LaneFails board challenge reply (count + 1) fault
-    lane_fails lines shown next after fault more lines_read shown_read stop =
-        let number : ℕ = count + 1 in
-        let bit : Bool = bit_of files.bits number in
-        let few = few_lanes number (omega (arith, more)) in
-        let are_lines = ((lane_is_part number (later_wires plan) (length plan.rows) few).shown rests.0 lines next lines_read).0 in
-        let are_shown = ((replies.lane_is_part number plan.kinds bit (small_lane number few)).shown rests.1 shown after shown_read).0 in
-        let counts = has_counts files.front plan number bit lines shown right (is_plan files.front right) refl are_lines are_shown in
-        record {
-          lanes = count;
-          is_next = refl;
-          before = lanes_pass;
-          within = omega (arith, more, one_bit_each);
-          lines = lines;
-          shown = shown;
-          board = board_goes_on lines next more lines_read;
-          reply = reply_goes_on shown after more shown_read;
-          has_fault = err_faulty plan (case_of files.front number lines) bit shown fault (is_plan files.front right) counts stop;
-        }
+  -- ---- what is judged behind the front is what is judged behind these lanes
 
-    -- ---- where they are all lanes, to the ends
+  abbrev pub all_judged : Result (Unit {0}) Fault
+  all_judged = behind_judged s rest (from_start challenge) (from_start reply)
 
-    is_board : count ≡ files.front.head.lanes → IsBoard shape_of (board_with files.front.head files.front.seals read.lines)
-    is_board all = record { head = right.head; seals = right.seals; count = lines_are.count_is ∙ all; lanes = lines_are.are }
+  some_bits : p.count ≤ length p.begun.bits.bits
+  some_bits = omega (arith, p.within, p.begun.one_bit_each)
 
-    is_reply : count ≡ files.front.head.lanes → IsReply plan.kinds (bit_of files.bits) read.shown
-    is_reply all =
-        let some = right.head.some_lane in
-        let few = right.head.few_lanes in
-        record { some_lane = omega (arith, some, all, shown_are.count_is); few_lanes = omega (arith, few, all, shown_are.count_is); each = shown_are.are }
+  judged_on : all_judged
+      ≡ (lanes_judged s (1 + p.count) (drop p.count p.begun.bits.bits) p.rests.0 p.rests.1 >>= ends_then)
+  judged_on =
+      let bits : List Bool = p.begun.bits.bits in
+      let long : length (take p.count bits) ≡ p.count = length-take-le p.count bits some_bits in
+      let L : ℕ → Type 0 = λ n. LanesRead s (bit_of p.begun.bits) [] [] n rest p.begun.count_rest p.rests in
+      let passed = lanes_found s (bit_of p.begun.bits) [] [] (take p.count bits) rest p.begun.count_rest p.rests refl
+      (taken_bits p.begun.bits p.count some_bits) (subst L (sym long) p.read) in
+      begun_judged s rest (from_start challenge) (from_start reply) p.begun
+      ∙ ap (λ r. r >>= ends_then) (lanes_split s 1 bits p.count rest p.begun.count_rest p.rests passed)
 
-    parts : FrontRead (from_start board) files.front files.front_rest
-    parts = front_at_shown (from_start board) files.front files.front_rest files.front_read
+  pub lane_refused : (fault : Fault) → p.count < s.lanes
+      → lane_judged s (p.count + 1) next_bit p.rests.0 p.rests.1 ≡ Err fault → all_judged ≡ Err fault
+  unfolding lanes_judged
+  lane_refused fault more stop =
+      let bits : List Bool = p.begun.bits.bits in
+      let inside : p.count < length bits = omega (arith, more, p.begun.one_bit_each) in
+      let number : 1 + p.count ≡ p.count + 1 = omega arith in
+      let index : p.count ≡ p.count + 1 - 1 = omega arith in
+      let here : lane_judged s (1 + p.count) (slice_index_or bits p.count false) p.rests.0 p.rests.1 ≡ Err fault =
+      ap (λ n. lane_judged s n (slice_index_or bits p.count false) p.rests.0 p.rests.1) number
+      ∙ (ap (λ i. lane_judged s (p.count + 1) (slice_index_or bits i false) p.rests.0 p.rests.1) index ∙ stop) in
+      judged_on
+      ∙ (ap (λ bs. lanes_judged s (1 + p.count) bs p.rests.0 p.rests.1 >>= ends_then) (drop-cons bits p.count false inside)
+      ∙ ap (λ r. r >>= (λ r. lanes_judged s (1 + p.count + 1) (drop (suc p.count) bits) r.0 r.1) >>= ends_then) here)
 
-    lanes_read : count ≡ files.front.head.lanes → lanes_at shape_of files.front.head files.front_rest ≡ Ok (read.lines, rests.0)
-    lanes_read all = sym (same_lanes files.front count files.front_rest right all) ∙ read.board_read
+  pub ends_are : p.count ≡ s.lanes → all_judged ≡ ends_judged p.rests.0 p.rests.1
+  unfolding lanes_judged
+  ends_are all =
+      let past : length p.begun.bits.bits ≤ p.count = omega (arith, all, p.begun.one_bit_each) in
+      judged_on ∙ ap (λ bs. lanes_judged s (1 + p.count) bs p.rests.0 p.rests.1 >>= ends_then)
+      (drop_of_length-le p.begun.bits.bits past)
 
-    shown_read : count ≡ files.front.head.lanes → many_onto [] files.count (next_shown plan (bit_of files.bits)) files.count_rest ≡ Ok (read.shown, rests.1)
-    shown_read all = ap (λ n. many_onto [] n (next_shown plan (bit_of files.bits)) files.count_rest) (one_each ∙ sym all) ∙ read.reply_read
+-- ---- and back: lanes that pass are read
 
-    -- the end is read, and so the file is the text
-    pub board_over : (over : Unit {0} × Rest) → count ≡ files.front.head.lanes → end_at rests.0 ≡ Ok over → board ≡ board_text (board_with files.front.head files.front.seals read.lines)
-    board_over over all end_read =
-        let whole : Board = board_with files.front.head files.front.seals read.lines in
-        ((board_is_whole shape_of).shown (from_start board) whole over.1 (board_joined shape_of (from_start board) whole (record {
-          head_rest = parts.middle;
-          seals_rest = files.front_rest;
-          lanes_rest = rests.0;
-          over = over;
-          head_read = parts.head_read;
-          seals_read = parts.seals_read;
-          lanes_read = lanes_read all;
-          end_read = end_read;
-        }))).1
+module _ {s : StatementValue} {front file challenge reply : List ℕ} {lanes : ℕ} (is : IsStatement s) (rest : Rest)
+    (at : file ≡ front ++ rest.left) (pass : LanesPass s front file challenge reply lanes) where
+  pass_few : lanes ≤ 64
+  pass_few = omega (arith, pass.within, is.few_lanes)
 
-    pub reply_over : (over : Unit {0} × Rest) → count ≡ files.front.head.lanes → end_at rests.1 ≡ Ok over → reply ≡ reply_text read.shown
-    reply_over over all end_read =
-        ((reply_is_whole plan.kinds (bit_of files.bits)).shown (from_start reply) read.shown over.1 (reply_joined plan.kinds (bit_of files.bits) (from_start reply) read.shown (record {
-          count = files.count;
-          count_rest = files.count_rest;
-          lanes_rest = rests.1;
-          over = over;
-          head_read = files.count_read;
-          lanes_read = shown_read all;
-          end_read = end_read;
-        }))).1
+  pub bits_found : (after : Rest) × (challenge_at (from_start challenge) ≡ Ok (pass.challenge, after))
+  bits_found = challenge_is_whole.found (from_start challenge) pass.challenge pass.is_challenge.right pass.is_challenge.text
 
-    -- the end isn't read, and so the file isn't, nor is it the text
-    pub board_unread : (line : ℕ) → count ≡ files.front.head.lanes → end_at rests.0 ≡ Err line → board_at shape_of (from_start board) ≡ Err line
-    board_unread line all stop =
-        board_no_end shape_of (from_start board) (board_with files.front.head files.front.seals read.lines) parts.middle files.front_rest rests.0 line parts.head_read parts.seals_read (lanes_read all) stop
+  abbrev shown_left : List ℕ
+  shown_left = numbered_text reply_lane_text 1 pass.reply ++ pass.reply_begins.0
 
-    pub board_not_over : (line : ℕ) → count ≡ files.front.head.lanes → end_at rests.0 ≡ Err line → ¬ (board ≡ board_text (board_with files.front.head files.front.seals read.lines))
-    board_not_over line all stop text =
-        let found = (board_is_whole shape_of).found (from_start board) (board_with files.front.head files.front.seals read.lines) (is_board all) text in
-        cc (found.1, board_unread line all stop)
+  pub count_found : (taken : ℕ) × (reply_head_at (from_start reply) ≡ Ok (s.lanes, record { taken = taken; left = shown_left }))
+  count_found =
+      replies.head_is_part.found (from_start reply) s.lanes shown_left (is.some_lane, is.few_lanes)
+      (pass.reply_begins.1 ∙ append_assoc (reply_head_text s.lanes) (numbered_text reply_lane_text 1 pass.reply)
+      pass.reply_begins.0)
 
-    pub reply_unread : (line : ℕ) → count ≡ files.front.head.lanes → end_at rests.1 ≡ Err line → reply_at plan.kinds (bit_of files.bits) (from_start reply) ≡ Err line
-    reply_unread line all stop =
-        reply_no_end plan.kinds (bit_of files.bits) (from_start reply) files.count read.shown files.count_rest rests.1 line files.count_read (shown_read all) stop
+  abbrev begun : Begun s (from_start challenge) (from_start reply)
+  begun = record {
+    bits = pass.challenge;
+    challenge_rest = bits_found.0;
+    count_rest = record { taken = count_found.0; left = shown_left };
+    challenge_read = bits_found.1;
+    count_read = count_found.1;
+    one_bit_each = pass.one_bit_each;
+  }
 
-    pub reply_not_over : (line : ℕ) → count ≡ files.front.head.lanes → end_at rests.1 ≡ Err line → ¬ (reply ≡ reply_text read.shown)
-    reply_not_over line all stop text =
-        let found = (reply_is_whole plan.kinds (bit_of files.bits)).found (from_start reply) read.shown (is_reply all) text in
-        cc (found.1, reply_unread line all stop)
+  pub lines_found : (taken : ℕ) × (many_at lanes (next_lines s) rest
+      ≡ Ok (pass.lines, record { taken = taken; left = pass.file_begins.0 }))
+  lines_found =
+      (lines_part s lanes pass_few).found rest pass.lines pass.file_begins.0 (pass.lines_to, pass.right)
+      (rest_is file front (lanes_text 1 pass.lines) pass.file_begins.0 rest.left at pass.file_begins.1)
+
+  pub shown_found : (taken : ℕ) × (many_at lanes (next_shown s (bit_of pass.challenge)) begun.count_rest
+      ≡ Ok (pass.reply, record { taken = taken; left = pass.reply_begins.0 }))
+  shown_found = (shown_part s pass.challenge lanes pass_few).found begun.count_rest pass.reply pass.reply_begins.0
+      (pass.shown_to, pass.shown) refl
+
+  abbrev pub passed : Passed s front file challenge reply rest
+  passed = record {
+    is = is;
+    at = at;
+    begun = begun;
+    count = lanes;
+    within = pass.within;
+    rests = (
+      record { taken = lines_found.0; left = pass.file_begins.0 },
+      record { taken = shown_found.0; left = pass.reply_begins.0 },
+    );
+    read = record {
+      lines = pass.lines;
+      shown = pass.reply;
+      board_read = lines_found.1;
+      reply_read = shown_found.1;
+      checked = λ index low high. checked_at s is pass.challenge pass.lines pass.reply index
+          (pass.accepted (index + 1) (omega arith) (omega (arith, high)));
+    };
+  }

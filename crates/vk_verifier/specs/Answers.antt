@@ -12,37 +12,47 @@ use Rattle.vk_board.specs.declared.front.FrontErr.{FrontErr}
 use Rattle.vk_board.specs.declared.front.FrontErr.TheVariants as unread
 use Rattle.vk_verifier.specs.declared.answers.Part.{Part}
 use Rattle.vk_verifier.specs.declared.answers.Part.TheVariants as part
+use Rattle.vk_verifier.specs.declared.answers.Fault.{Fault}
+use Rattle.vk_verifier.specs.declared.answers.Fault.TheVariants as fault
 use Rattle.vk_verifier.specs.declared.answers.BoardVerdict.{BoardVerdict}
 use Rattle.vk_verifier.specs.declared.answers.BoardVerdict.TheVariants.{Accepted, Malformed, Price, Winner}
 use Rattle.vk_verifier.specs.declared.answers.VErr.{VErr}
 use Rattle.vk_verifier.specs.declared.answers.VErr.TheVariants as verr
 use Rattle.vk_verifier.specs.declared.halt.Halt.{Halt}
-use Rattle.vk_verifier.specs.declared.halt.Halt.TheVariants as halt
+use Rattle.vk_verifier.specs.declared.halt.Halt.TheVariants.{Refused, Failed, NoMemory}
 use Rattle.vk_verifier.specs.declared.stage.TwoLane.{TwoLane}
-use Rattle.vk_verifier.specs.declared.stage.TwoVerdict.{TwoVerdict}
-use Rattle.vk_verifier.specs.declared.stage.TwoVerdict.TheVariants.{Refused}
+use Rattle.vk_verifier.specs.declared.stage.Finding.{Finding}
+use Rattle.vk_verifier.specs.declared.stage.Finding.TheVariants as finding
 use Rattle.vk_verifier.specs.declared.stage.Base.{Base}
 use Rattle.vk_verifier.specs.declared.stage.TwoReaders.{TwoReaders}
 use Rattle.vk_verifier.specs.declared.stage.Course.{Course}
 use Rattle.vk_verifier.specs.declared.stage.Stage.{Stage}
 use Rattle.vk_verifier.specs.declared.stage.Stage.TheVariants.{Before, Running}
-use Rattle.vk_verifier.specs.declared.two_halt.TwoHalt.{TwoHalt}
-use Rattle.vk_verifier.specs.declared.two_halt.TwoHalt.TheVariants.{Found, Failed, NoMemory}
-use Rattle.vk_verifier.specs.Two.{as_second}
+use Rattle.vk_verifier.specs.Two.{second_fault}
+use Rattle.vk_verifier.specs.Verdicts.{as_verdict}
 
--- what was read of a file: a fault of its form is the verdict
-abbrev pub read_answer : {X : Type 0} → Part → Result X ReadErr → Result X Halt
+-- what was read of a file: a fault of its form is the fault
+abbrev pub read_answer : {X : Type 0} → Part → Result X ReadErr → Result X (Halt Fault)
 read_answer file (Ok x) = Ok x
-read_answer file (Err (read.Malformed line)) = Err (halt.Refused (Malformed file line))
-read_answer file (Err read.Failed) = Err halt.Failed
-read_answer file (Err read.NoMemory) = Err halt.NoMemory
+read_answer file (Err (read.Malformed line)) = Err (Refused (fault.Malformed file line))
+read_answer file (Err read.Failed) = Err Failed
+read_answer file (Err read.NoMemory) = Err NoMemory
 
 -- what was read of a board before its first lane: a fault of it is the verdict
-abbrev pub front_answer : {X : Type 0} → Result X FrontErr → Result X Halt
+abbrev pub front_answer : {X : Type 0} → Result X FrontErr → Result X (Halt BoardVerdict)
 front_answer (Ok x) = Ok x
-front_answer (Err (unread.Unread fault)) = read_answer part.Board (Err fault)
-front_answer (Err unread.Price) = Err (halt.Refused Price)
-front_answer (Err unread.Winner) = Err (halt.Refused Winner)
+front_answer (Err (unread.Unread (read.Malformed line))) = Err (Refused (Malformed part.Board line))
+front_answer (Err (unread.Unread read.Failed)) = Err Failed
+front_answer (Err (unread.Unread read.NoMemory)) = Err NoMemory
+front_answer (Err unread.Price) = Err (Refused Price)
+front_answer (Err unread.Winner) = Err (Refused Winner)
+
+-- what was judged behind the front of a board: a fault is the verdict
+abbrev pub board_answer : {X : Type 0} → Result X (Halt Fault) → Result X (Halt BoardVerdict)
+board_answer (Ok x) = Ok x
+board_answer (Err (Refused fault)) = Err (Refused (as_verdict fault))
+board_answer (Err Failed) = Err Failed
+board_answer (Err NoMemory) = Err NoMemory
 
 -- a file that is begun, or why it isn't
 abbrev pub begun_answer : Part → Result LinesValue StartErr → Result LinesValue VErr
@@ -53,53 +63,60 @@ begun_answer file (Err start.Failed) = Err verr.Failed
 begun_answer file (Err start.NoMemory) = Err verr.NoMemory
 
 -- the verdict that judging came to
-abbrev pub verdict_answer : Result Unit Halt → Result BoardVerdict VErr
+abbrev pub verdict_answer : Result Unit (Halt BoardVerdict) → Result BoardVerdict VErr
 verdict_answer (Ok done) = Ok Accepted
-verdict_answer (Err (halt.Refused verdict)) = Ok verdict
-verdict_answer (Err halt.Failed) = Err verr.Failed
-verdict_answer (Err halt.NoMemory) = Err verr.NoMemory
+verdict_answer (Err (Refused verdict)) = Ok verdict
+verdict_answer (Err Failed) = Err verr.Failed
+verdict_answer (Err NoMemory) = Err verr.NoMemory
 
 -- what was judged of the first reply: a fault of it is what is found
-abbrev pub first_answer : {X : Type 0} → Result X Halt → Result X TwoHalt
+abbrev pub first_answer : {X : Type 0} → Result X (Halt Fault) → Result X (Halt (Finding Fault))
 first_answer (Ok x) = Ok x
-first_answer (Err (halt.Refused verdict)) = Err (Found (Refused false verdict))
-first_answer (Err halt.Failed) = Err Failed
-first_answer (Err halt.NoMemory) = Err NoMemory
+first_answer (Err (Refused fault)) = Err (Refused (finding.Refused false fault))
+first_answer (Err Failed) = Err Failed
+first_answer (Err NoMemory) = Err NoMemory
 
 -- what is found where the second reply has this fault, by what was judged of the first
-abbrev pub second_halt : BoardVerdict → Result Unit Halt → TwoHalt
-second_halt verdict (Ok done) = Found (Refused true (as_second verdict))
-second_halt verdict (Err (halt.Refused first)) = Found (Refused false first)
-second_halt verdict (Err halt.Failed) = Failed
-second_halt verdict (Err halt.NoMemory) = NoMemory
+abbrev pub second_halt : Fault → Result Unit (Halt Fault) → Halt (Finding Fault)
+second_halt fault (Ok done) = Refused (finding.Refused true (second_fault fault))
+second_halt fault (Err (Refused first)) = Refused (finding.Refused false first)
+second_halt fault (Err Failed) = Failed
+second_halt fault (Err NoMemory) = NoMemory
 
 -- what was judged of the second reply, and, where there is a fault of it, of the first
-abbrev pub second_answer : {X : Type 0} → Result Unit Halt → Result X Halt → Result X TwoHalt
+abbrev pub second_answer : {X : Type 0} → Result Unit (Halt Fault) → Result X (Halt Fault) → Result X (Halt (Finding Fault))
 second_answer first (Ok x) = Ok x
-second_answer first (Err (halt.Refused verdict)) = Err (second_halt verdict first)
-second_answer first (Err halt.Failed) = Err Failed
-second_answer first (Err halt.NoMemory) = Err NoMemory
+second_answer first (Err (Refused fault)) = Err (second_halt fault first)
+second_answer first (Err Failed) = Err Failed
+second_answer first (Err NoMemory) = Err NoMemory
 
--- what was judged of the ends: of the board with the first reply, and, where there is no fault, of the second
-abbrev pub ends_halt : TwoVerdict → Result Unit Halt → Result Unit Halt → TwoHalt
-ends_halt accepted (Ok done) (Ok over) = Found accepted
-ends_halt accepted (Ok done) (Err (halt.Refused verdict)) = Found (Refused true (as_second verdict))
-ends_halt accepted (Ok done) (Err halt.Failed) = Failed
-ends_halt accepted (Ok done) (Err halt.NoMemory) = NoMemory
-ends_halt accepted (Err (halt.Refused verdict)) second = Found (Refused false verdict)
-ends_halt accepted (Err halt.Failed) second = Failed
-ends_halt accepted (Err halt.NoMemory) second = NoMemory
+-- what was judged of the ends: of the file with the first reply, and, where there is no fault, of the second
+abbrev pub ends_halt : Finding Fault → Result Unit (Halt Fault) → Result Unit (Halt Fault) → Halt (Finding Fault)
+ends_halt accepted (Ok done) (Ok over) = Refused accepted
+ends_halt accepted (Ok done) (Err (Refused fault)) = Refused (finding.Refused true (second_fault fault))
+ends_halt accepted (Ok done) (Err Failed) = Failed
+ends_halt accepted (Ok done) (Err NoMemory) = NoMemory
+ends_halt accepted (Err (Refused fault)) second = Refused (finding.Refused false fault)
+ends_halt accepted (Err Failed) second = Failed
+ends_halt accepted (Err NoMemory) second = NoMemory
 
 -- before the first lane, where there is no fault before it
-abbrev pub start_answer : Result Base TwoHalt → TwoReaders → Result Stage VErr
+abbrev pub start_answer : Result Base (Halt (Finding Fault)) → TwoReaders → Result Stage OutsideErr
 start_answer (Ok base) readers = Ok (Running (record { base = base; readers = readers; given = 0; finding = None }))
-start_answer (Err (Found finding)) readers = Ok (Before finding)
-start_answer (Err Failed) readers = Err verr.Failed
-start_answer (Err NoMemory) readers = Err verr.NoMemory
+start_answer (Err (Refused finding)) readers = Ok (Before finding)
+start_answer (Err Failed) readers = Err line.Failed
+start_answer (Err NoMemory) readers = Err line.NoMemory
 
 -- after a step from so many lanes
-abbrev pub step_answer : Base → TwoReaders → ℕ → Result TwoLane TwoHalt → Result (Course × Option TwoLane) OutsideErr
+abbrev pub step_answer : Base → TwoReaders → ℕ → Result TwoLane (Halt (Finding Fault)) → Result (Course × Option TwoLane) OutsideErr
 step_answer base readers given (Ok lane) = Ok (record { base = base; readers = readers; given = given + 1; finding = None }, Some lane)
-step_answer base readers given (Err (Found finding)) = Ok (record { base = base; readers = readers; given = given; finding = Some finding }, None)
+step_answer base readers given (Err (Refused finding)) = Ok (record { base = base; readers = readers; given = given; finding = Some finding }, None)
 step_answer base readers given (Err Failed) = Err line.Failed
 step_answer base readers given (Err NoMemory) = Err line.NoMemory
+
+-- what was come to, where a refusal is one of the values
+abbrev pub known_answer : {X V : Type 0} → Result X (Halt V) → Result (Result X V) OutsideErr
+known_answer (Ok x) = Ok (Ok x)
+known_answer (Err (Refused refusal)) = Ok (Err refusal)
+known_answer (Err Failed) = Err line.Failed
+known_answer (Err NoMemory) = Err line.NoMemory

@@ -1,7 +1,9 @@
-pub mod Verdicts
 pub mod Statement
+pub mod Behind
+pub mod Verdicts
 pub mod Parts
 pub mod Two
+pub mod TwoBoards
 pub mod Answers
 pub mod TwoLaw
 pub mod Acceptance

@@ -1,7 +1,7 @@
--- Why a board, a challenge and the reply to it are refused, in the words of their texts and values.
-use Rattle.std.specs.Prelude.{◌≡◌, ◌↔◌, ◌⊎◌, ℕ, ◌+◌, ◌<◌, ◌≤◌, List, ◌++◌, length, slice_get, Some}
-use Rattle.std.specs.List.{AllByRecursion}
-use Rattle.vk_lines.specs.Forms.{fault_line, numbered_text}
+-- Why files are refused, in the words of their texts and values: behind a front with some text, and of a board.
+use Rattle.std.specs.Prelude.{◌≡◌, ◌↔◌, ◌⊎◌, ℕ, ◌+◌, ◌<◌, ◌≤◌, List, ◌++◌, length, slice_get, Some, Result, Ok, Err}
+use Rattle.vk_lines.specs.Lines.{Rest, ◌>>=◌, end_at}
+use Rattle.vk_lines.specs.Forms.{fault_line, many_at, numbered_text}
 use Rattle.vk_wire.specs.declared.wire.Shown.{Shown}
 use Rattle.vk_row.specs.declared.case.LaneFault.{LaneFault}
 use Rattle.vk_row.specs.declared.case.LaneFault.TheVariants as faults
@@ -10,8 +10,9 @@ use Rattle.vk_board.specs.declared.front.Front.{Front}
 use Rattle.vk_board.specs.declared.board.Head.{Head}
 use Rattle.vk_board.specs.declared.board.SealLines.{SealLines}
 use Rattle.vk_board.specs.declared.board.LaneLines.{LaneLines}
-use Rattle.vk_board.specs.Values.{Board, IsLaneLines}
-use Rattle.vk_board.specs.Texts.{lane_text, lanes_text, board_text}
+use Rattle.vk_board.specs.Values.{IsLaneLines}
+use Rattle.vk_board.specs.Texts.{lane_text, lanes_text}
+use Rattle.vk_board.specs.Reading.{lane_at}
 use Rattle.vk_board.specs.Tables.{board_table}
 use Rattle.vk_board.specs.Fronts.{IsFront, front_text, Begins, PriceFails, WinnerFails}
 use Rattle.vk_reply.specs.declared.challenge.Challenge.{Challenge}
@@ -19,18 +20,17 @@ use Rattle.vk_reply.specs.Values.{IsChallenge, AreShown}
 use Rattle.vk_reply.specs.Texts.{challenge_text, reply_head_text, reply_lane_text, reply_text}
 use Rattle.vk_reply.specs.Tables.{challenge_table, reply_table}
 use Rattle.vk_verifier.specs.declared.answers.Part.TheVariants as part
+use Rattle.vk_verifier.specs.declared.answers.Fault.{Fault}
+use Rattle.vk_verifier.specs.declared.answers.Fault.TheVariants as behind
 use Rattle.vk_verifier.specs.declared.answers.BoardVerdict.{BoardVerdict}
 use Rattle.vk_verifier.specs.declared.answers.BoardVerdict.TheVariants.{Accepted, Malformed, Price, Winner, Lanes, Wire, Row}
-use Rattle.vk_verifier.specs.Verdicts.{plan_of, case_of, verdict_of}
-use Rattle.vk_verifier.specs.Acceptance.{Accepts, LaneIsAccepted, shape_of, bit_of, front_with}
+use Rattle.vk_verifier.specs.Statement.{StatementValue, IsStatement}
+use Rattle.vk_verifier.specs.Behind.{later_wires, case_of, behind_judged}
+use Rattle.vk_verifier.specs.Verdicts.{statement_of, from_start, verdict_of}
+use Rattle.vk_verifier.specs.Acceptance.{Accepts, AcceptsBehind, AreLanes, LaneIsAccepted, file_text, shape_of, bit_of}
 
 abbrev pub BeginsWith : List ℕ → List ℕ → Type 0
 BeginsWith bytes text = (more : List ℕ) × (bytes ≡ text ++ more)
-
--- the board begins with what stands before its first lane, and its price and its winner may stand
-pub record HasFront (board_file : List ℕ) (front : Front) : Type 0 where
-  pub right : IsFront front
-  pub begins : BeginsWith board_file (front_text front)
 
 -- the file is the text of the challenge
 pub record IsOfChallenge (challenge_file : List ℕ) (challenge : Challenge) : Type 0 where
@@ -43,130 +43,157 @@ pub record HasCount (reply_file : List ℕ) (lanes : ℕ) : Type 0 where
   pub few : lanes ≤ 64
   pub begins : BeginsWith reply_file (reply_head_text lanes)
 
--- ---- lanes that stand in both files
-
--- the lines of these lanes are those of a board with this head
-abbrev pub AreLanes : Head → List LaneLines → Type 0
-AreLanes head lanes = AllByRecursion (IsLaneLines (shape_of head).wires (shape_of head).rows) lanes
+-- ---- lanes that stand in both files, behind a front with this text
 
 -- what is shown of these lanes, from lane 1 on, has the form of what is shown for the challenge's bits
-abbrev pub AreShownFor : Front → Challenge → List (List Shown) → Type 0
-AreShownFor front challenge reply = (index : ℕ) (shown : List Shown) → slice_get reply index ≡ Some shown → AreShown (plan_of front).kinds (bit_of challenge (index + 1)) shown
+abbrev pub AreShownFor : StatementValue → Challenge → List (List Shown) → Type 0
+AreShownFor s challenge reply = (index : ℕ) (shown : List Shown) → slice_get reply index ≡ Some shown → AreShown s.plan.kinds (bit_of challenge (index + 1)) shown
 
--- the text of the board, and of a reply to it, to the end of these lanes
-abbrev pub front_and_lanes : Front → List LaneLines → List ℕ
-front_and_lanes front lanes = front_text front ++ lanes_text 1 lanes
+-- the text of the file, and of a reply to it of so many lanes, to the end of these lanes
+abbrev pub front_and_lanes : List ℕ → List LaneLines → List ℕ
+front_and_lanes front lines = front ++ lanes_text 1 lines
 
-abbrev pub count_and_lanes : Front → List (List Shown) → List ℕ
-count_and_lanes front reply = reply_head_text front.head.lanes ++ numbered_text reply_lane_text 1 reply
+abbrev pub count_and_lanes : ℕ → List (List Shown) → List ℕ
+count_and_lanes lanes reply = reply_head_text lanes ++ numbered_text reply_lane_text 1 reply
 
--- the files begin with so many lanes, whose front, challenge and numbers are right, and these are accepted
-pub record LanesPass (board_file challenge_file reply_file : List ℕ) (lanes : ℕ) : Type 0 where
-  pub board : Board
-  pub position : ℕ
+-- the files begin with so many lanes, whose challenge and numbers are right, and these are accepted
+pub record LanesPass (s : StatementValue) (front : List ℕ) (file challenge_file reply_file : List ℕ) (lanes : ℕ) : Type 0 where
+  pub lines : List LaneLines
   pub challenge : Challenge
   pub reply : List (List Shown)
-  pub front : IsFront (front_with board position)
   pub is_challenge : IsOfChallenge challenge_file challenge
-  pub one_bit_each : length challenge.bits ≡ board.head.lanes
-  pub within : lanes ≤ board.head.lanes
-  pub lines_to : length board.lanes ≡ lanes
+  pub one_bit_each : length challenge.bits ≡ s.lanes
+  pub within : lanes ≤ s.lanes
+  pub lines_to : length lines ≡ lanes
   pub shown_to : length reply ≡ lanes
-  pub lines : AreLanes board.head board.lanes
-  pub shown : AreShownFor (front_with board position) challenge reply
-  pub board_begins : BeginsWith board_file (front_and_lanes (front_with board position) board.lanes)
-  pub reply_begins : BeginsWith reply_file (count_and_lanes (front_with board position) reply)
-  pub accepted : (lane : ℕ) → 1 ≤ lane → lane ≤ lanes → LaneIsAccepted board position challenge reply lane
+  pub right : AreLanes s lines
+  pub shown : AreShownFor s challenge reply
+  pub file_begins : BeginsWith file (front_and_lanes front lines)
+  pub reply_begins : BeginsWith reply_file (count_and_lanes s.lanes reply)
+  pub accepted : (lane : ℕ) → 1 ≤ lane → lane ≤ lanes → LaneIsAccepted s lines challenge reply lane
 
--- after the lanes of this board the file goes on with these lines of the next
-pub record BoardGoesOn (board_file : List ℕ) (board : Board) (position : ℕ) (lines : LaneLines) : Type 0 where
-  pub right : IsLaneLines (shape_of board.head).wires (shape_of board.head).rows lines
-  pub begins : BeginsWith board_file (front_and_lanes (front_with board position) board.lanes ++ lane_text (length board.lanes + 1) lines)
+-- after these lanes the file goes on with these lines of the next
+pub record FileGoesOn (s : StatementValue) (front : List ℕ) (file : List ℕ) (lines : List LaneLines) (next : LaneLines) : Type 0 where
+  pub right : IsLaneLines (later_wires s.plan) (length s.plan.rows) next
+  pub begins : BeginsWith file (front_and_lanes front lines ++ lane_text (length lines + 1) next)
 
 -- after the lanes of this reply the file goes on with this of the next
-pub record ReplyGoesOn (reply_file : List ℕ) (front : Front) (challenge : Challenge) (reply : List (List Shown)) (shown : List Shown) : Type 0 where
-  pub right : AreShown (plan_of front).kinds (bit_of challenge (length reply + 1)) shown
-  pub begins : BeginsWith reply_file (count_and_lanes front reply ++ reply_lane_text (length reply + 1) shown)
+pub record ReplyGoesOn (s : StatementValue) (reply_file : List ℕ) (challenge : Challenge) (reply : List (List Shown)) (shown : List Shown) : Type 0 where
+  pub right : AreShown s.plan.kinds (bit_of challenge (length reply + 1)) shown
+  pub begins : BeginsWith reply_file (count_and_lanes s.lanes reply ++ reply_lane_text (length reply + 1) shown)
 
 -- ---- a lane
 
 -- so many lanes pass, the next one stands in both files, and what is shown of it has that fault, its first
-pub record LaneFails (board_file challenge_file reply_file : List ℕ) (lane : ℕ) (fault : LaneFault) : Type 0 where
+pub record LaneFails (s : StatementValue) (front : List ℕ) (file challenge_file reply_file : List ℕ) (lane : ℕ) (fault : LaneFault) : Type 0 where
   pub lanes : ℕ
   pub is_next : lane ≡ lanes + 1
-  pub before : LanesPass board_file challenge_file reply_file lanes
-  pub within : lane ≤ before.board.head.lanes
-  pub lines : LaneLines
+  pub before : LanesPass s front file challenge_file reply_file lanes
+  pub within : lane ≤ s.lanes
+  pub next : LaneLines
   pub shown : List Shown
-  pub board : BoardGoesOn board_file before.board before.position lines
-  pub reply : ReplyGoesOn reply_file (front_with before.board before.position) before.challenge before.reply shown
-  pub has_fault : HasLaneFault (plan_of (front_with before.board before.position)) (case_of (front_with before.board before.position) lane lines) (bit_of before.challenge lane) shown fault
+  pub in_file : FileGoesOn s front file before.lines next
+  pub in_reply : ReplyGoesOn s reply_file before.challenge before.reply shown
+  pub has_fault : HasLaneFault s.plan (case_of s lane next) (bit_of before.challenge lane) shown fault
 
 -- ---- the numbers of lanes
 
--- the front, the challenge and the head of the reply are right, and they don't say one number of lanes
-pub record LanesFail (board_file challenge_file reply_file : List ℕ) : Type 0 where
-  pub front : Front
+-- the challenge and the head of the reply are right, and they don't say the statement's number of lanes
+pub record LanesFail (s : StatementValue) (challenge_file reply_file : List ℕ) : Type 0 where
   pub challenge : Challenge
-  pub lanes : ℕ
-  pub has_front : HasFront board_file front
+  pub replies : ℕ
   pub is_challenge : IsOfChallenge challenge_file challenge
-  pub has_count : HasCount reply_file lanes
-  pub differ : ¬ ((length challenge.bits ≡ front.head.lanes) × (lanes ≡ front.head.lanes))
+  pub has_count : HasCount reply_file replies
+  pub differ : ¬ ((length challenge.bits ≡ s.lanes) × (replies ≡ s.lanes))
 
 -- ---- the form of a file
 
--- the board stops being right after lanes that pass: the next one's lines aren't there, or, after the last, the end
-pub record BoardStops (board_file challenge_file reply_file : List ℕ) : Type 0 where
+-- the file stops being right after lanes that pass: the next one's lines aren't there, or, after the last, the end
+pub record FileStops (s : StatementValue) (front : List ℕ) (file challenge_file reply_file : List ℕ) : Type 0 where
   pub lanes : ℕ
-  pub before : LanesPass board_file challenge_file reply_file lanes
-  pub lane : lanes < before.board.head.lanes → (lines : LaneLines) → ¬ BoardGoesOn board_file before.board before.position lines
-  pub over : lanes ≡ before.board.head.lanes → ¬ (board_file ≡ board_text before.board)
+  pub before : LanesPass s front file challenge_file reply_file lanes
+  pub lane : lanes < s.lanes → (next : LaneLines) → ¬ FileGoesOn s front file before.lines next
+  pub over : lanes ≡ s.lanes → ¬ (file ≡ file_text front before.lines)
 
--- the board has that fault line: it has no head and seals, or stops after lanes that pass
-pub record BoardFails (board_file challenge_file reply_file : List ℕ) (line : ℕ) : Type 0 where
-  pub fault : fault_line (board_table shape_of) board_file ≡ Some line
-  pub place : ((head : Head) (seals : List SealLines) → ¬ Begins board_file head seals) ⊎ BoardStops board_file challenge_file reply_file
-
--- the front is right, and the challenge has that fault line
-pub record ChallengeFails (board_file challenge_file : List ℕ) (line : ℕ) : Type 0 where
-  pub front : Front
-  pub has_front : HasFront board_file front
-  pub fault : fault_line challenge_table challenge_file ≡ Some line
-
--- the reply stops being right after lanes that pass, where the board goes on, or is over and right
-pub record ReplyStops (board_file challenge_file reply_file : List ℕ) : Type 0 where
+-- the reply stops being right after lanes that pass, where the file goes on, or is over and right
+pub record ReplyStops (s : StatementValue) (front : List ℕ) (file challenge_file reply_file : List ℕ) : Type 0 where
   pub lanes : ℕ
-  pub before : LanesPass board_file challenge_file reply_file lanes
-  pub lane : lanes < before.board.head.lanes → ((lines : LaneLines) × BoardGoesOn board_file before.board before.position lines)
-      × ((shown : List Shown) → ¬ ReplyGoesOn reply_file (front_with before.board before.position) before.challenge before.reply shown)
-  pub over : lanes ≡ before.board.head.lanes → (board_file ≡ board_text before.board) × ¬ (reply_file ≡ reply_text before.reply)
+  pub before : LanesPass s front file challenge_file reply_file lanes
+  pub lane : lanes < s.lanes → ((next : LaneLines) × FileGoesOn s front file before.lines next)
+      × ((shown : List Shown) → ¬ ReplyGoesOn s reply_file before.challenge before.reply shown)
+  pub over : lanes ≡ s.lanes → (file ≡ file_text front before.lines) × ¬ (reply_file ≡ reply_text before.reply)
 
--- the front and the challenge are right, and the reply has that fault line, for the wires of the board and the
--- challenge's bits: it has no head, or stops after lanes that pass
-pub record ReplyFails (board_file challenge_file reply_file : List ℕ) (line : ℕ) : Type 0 where
-  pub front : Front
+-- the challenge is right, and the reply has that fault line, for the statement's wires and the challenge's bits: it has
+-- no head, or stops after lanes that pass
+pub record ReplyFails (s : StatementValue) (front : List ℕ) (file challenge_file reply_file : List ℕ) (line : ℕ) : Type 0 where
   pub challenge : Challenge
-  pub has_front : HasFront board_file front
   pub is_challenge : IsOfChallenge challenge_file challenge
-  pub fault : fault_line (reply_table (plan_of front).kinds (bit_of challenge)) reply_file ≡ Some line
-  pub place : ((lanes : ℕ) → ¬ HasCount reply_file lanes) ⊎ ReplyStops board_file challenge_file reply_file
+  pub fault : fault_line (reply_table s.plan.kinds (bit_of challenge)) reply_file ≡ Some line
+  pub place : ((lanes : ℕ) → ¬ HasCount reply_file lanes) ⊎ ReplyStops s front file challenge_file reply_file
 
--- ---- every verdict
+-- ---- every fault behind a front
+
+-- what is read of the file behind its front: the lines of all lanes, and its end
+abbrev pub lanes_and_end_at : StatementValue → Rest → Result (List LaneLines × Rest) ℕ
+lanes_and_end_at s rest =
+    many_at s.lanes (λ before. lane_at (length before + 1) (later_wires s.plan) (length s.plan.rows)) rest >>= λ lanes.
+    end_at lanes.1 >>= λ over.
+    Ok (lanes.0, over.1)
+
+-- the fault holds of files whose front has this text. Which line is the fault line of the first file is told by its form
+abbrev pub FaultHolds : StatementValue → List ℕ → (ℕ → Type 0) → Fault → List ℕ → List ℕ → List ℕ → Type 0
+FaultHolds s front IsFaultLine (behind.Malformed part.Board line) file challenge reply = IsFaultLine line × FileStops s front file challenge reply
+FaultHolds s front IsFaultLine (behind.Malformed part.Challenge line) file challenge reply = fault_line challenge_table challenge ≡ Some line
+FaultHolds s front IsFaultLine (behind.Malformed part.Reply line) file challenge reply = ReplyFails s front file challenge reply line
+FaultHolds s front IsFaultLine (behind.Malformed part.SecondChallenge line) file challenge reply = ⊥
+FaultHolds s front IsFaultLine (behind.Malformed part.SecondReply line) file challenge reply = ⊥
+FaultHolds s front IsFaultLine behind.Lanes file challenge reply = LanesFail s challenge reply
+FaultHolds s front IsFaultLine (behind.Wire lane wire fault) file challenge reply = LaneFails s front file challenge reply lane (faults.Wire wire fault)
+FaultHolds s front IsFaultLine (behind.Row lane row) file challenge reply = LaneFails s front file challenge reply lane (faults.Row row)
+
+-- of every statement and every front, where the lines of the file are read on behind it: the tests are passed exactly
+-- where the reply is accepted, and each fault is found exactly where it holds
+abbrev pub BehindIsExact : Type 0
+BehindIsExact = (s : StatementValue) → IsStatement s → (front file challenge reply : List ℕ) (rest : Rest) → file ≡ front ++ rest.left
+    → ((behind_judged s rest (from_start challenge) (from_start reply) ≡ Ok tt) ↔ AcceptsBehind s front file challenge reply)
+    × ((fault : Fault) → (behind_judged s rest (from_start challenge) (from_start reply) ≡ Err fault)
+    ↔ FaultHolds s front (λ line. lanes_and_end_at s rest ≡ Err line) fault file challenge reply)
+
+-- ---- boards
+
+-- the board begins with what stands before its first lane, and its price and its winner may stand
+pub record HasFront (board_file : List ℕ) (front : Front) : Type 0 where
+  pub right : IsFront front
+  pub begins : BeginsWith board_file (front_text front)
+
+-- which line of a board is its fault line
+abbrev pub IsBoardLine : List ℕ → ℕ → Type 0
+IsBoardLine board_file line = fault_line (board_table shape_of) board_file ≡ Some line
+
+-- the board has a front, and this fault behind it
+pub record FailsBehind (board_file challenge_file reply_file : List ℕ) (fault : Fault) : Type 0 where
+  pub front : Front
+  pub has_front : HasFront board_file front
+  pub holds : FaultHolds (statement_of front) (front_text front) (IsBoardLine board_file) fault board_file challenge_file reply_file
+
+-- the board has that fault line: it has no head and seals, or stops behind its front
+abbrev pub BoardFails : List ℕ → List ℕ → List ℕ → ℕ → Type 0
+BoardFails board challenge reply line =
+    (IsBoardLine board line × ((head : Head) (seals : List SealLines) → ¬ Begins board head seals)) ⊎ FailsBehind board challenge reply (behind.Malformed part.Board line)
 
 -- the verdict holds of the files
 abbrev pub VerdictHolds : BoardVerdict → List ℕ → List ℕ → List ℕ → Type 0
 VerdictHolds Accepted board challenge reply = Accepts board challenge reply
 VerdictHolds (Malformed part.Board line) board challenge reply = BoardFails board challenge reply line
-VerdictHolds (Malformed part.Challenge line) board challenge reply = ChallengeFails board challenge line
-VerdictHolds (Malformed part.Reply line) board challenge reply = ReplyFails board challenge reply line
+VerdictHolds (Malformed part.Challenge line) board challenge reply = FailsBehind board challenge reply (behind.Malformed part.Challenge line)
+VerdictHolds (Malformed part.Reply line) board challenge reply = FailsBehind board challenge reply (behind.Malformed part.Reply line)
 VerdictHolds (Malformed part.SecondChallenge line) board challenge reply = ⊥
 VerdictHolds (Malformed part.SecondReply line) board challenge reply = ⊥
 VerdictHolds Price board challenge reply = PriceFails board
 VerdictHolds Winner board challenge reply = WinnerFails board
-VerdictHolds Lanes board challenge reply = LanesFail board challenge reply
-VerdictHolds (Wire lane wire fault) board challenge reply = LaneFails board challenge reply lane (faults.Wire wire fault)
-VerdictHolds (Row lane row) board challenge reply = LaneFails board challenge reply lane (faults.Row row)
+VerdictHolds Lanes board challenge reply = FailsBehind board challenge reply behind.Lanes
+VerdictHolds (Wire lane wire fault) board challenge reply = FailsBehind board challenge reply (behind.Wire lane wire fault)
+VerdictHolds (Row lane row) board challenge reply = FailsBehind board challenge reply (behind.Row lane row)
 
 -- a verdict is given exactly where it holds
 abbrev pub VerdictsAreExact : Type 0

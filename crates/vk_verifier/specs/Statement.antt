@@ -1,20 +1,23 @@
--- What the lanes of a board are to show.
-use Rattle.std.specs.Prelude.{◌≡◌}
-use Rattle.vk_plan.specs.Plans.{PlanValue}
-use Rattle.vk_board.specs.declared.front.Front.{Front}
-use Rattle.vk_board.specs.Fronts.{IsFront}
-use Rattle.vk_verifier.specs.Verdicts.{plan_of}
+-- What is to be shown lane by lane: of which auction, in how many lanes, of which seals, by which circuit.
+use Rattle.std.specs.Prelude.{◌≡◌, ℕ, ◌≤◌, List, [], length}
+use Rattle.vk_lines.specs.Forms.{EachAfter}
+use Rattle.vk_plan.specs.Plans.{PlanValue, IsPlan}
+use Rattle.vk_board.specs.declared.board.SealLines.{SealLines}
+use Rattle.vk_board.specs.Values.{AreBytes, IsSealAfter}
 
--- what stands on a board before its first lane, and the circuit of its lanes
+-- the auction's id, how many lanes there are, the seals, and the circuit of each lane, whose inputs the seals are
 pub record StatementValue : Type 0 where
-  pub front : Front
+  pub auction : List ℕ
+  pub lanes : ℕ
+  pub seals : List SealLines
   pub plan : PlanValue
 
--- the circuit is that of the front
-pub record IsStatement (statement : StatementValue) : Type 0 where
-  pub front : IsFront statement.front
-  pub plan : statement.plan ≡ plan_of statement.front
-
--- the statement of a front
-abbrev pub statement_of : Front → StatementValue
-statement_of front = record { front = front; plan = plan_of front }
+-- an id of 16 bytes, 1 to 64 lanes, seals of so many lanes whose seats are all different, and a plan with an input
+-- for each of them
+pub record IsStatement (s : StatementValue) : Type 0 where
+  pub id : AreBytes 16 s.auction
+  pub some_lane : 1 ≤ s.lanes
+  pub few_lanes : s.lanes ≤ 64
+  pub seals : EachAfter (IsSealAfter s.lanes) [] s.seals
+  pub inputs : s.plan.inputs ≡ length s.seals
+  pub plan : IsPlan s.plan

@@ -1,69 +1,128 @@
--- What two accepted replies to a board give, in the words of the values whose texts the files are.
-use Rattle.std.specs.Prelude.{◌≡◌, ℕ, ◌+◌, ◌-◌, List, [], length, slice_get, slice_index_or, Option, Some}
+-- What two accepted replies give, in the words of the values whose texts the files are: behind a front, and of a board.
+use Rattle.std.specs.Prelude.{◌≡◌, ℕ, ◌+◌, ◌-◌, Bool, List, [], ◌++◌, length, slice_get, slice_index_or, Option, Some}
+use Rattle.vk_lines.specs.Lines.{Rest}
 use Rattle.vk_wire.specs.declared.wire.Shown.{Shown}
 use Rattle.vk_row.specs.declared.case.LaneCase.{LaneCase}
 use Rattle.vk_board.specs.declared.front.Front.{Front}
+use Rattle.vk_verifier.specs.declared.answers.BoardVerdict.{BoardVerdict}
 use Rattle.vk_verifier.specs.declared.stage.Base.{Base}
 use Rattle.vk_verifier.specs.declared.stage.TwoLane.{TwoLane}
-use Rattle.vk_verifier.specs.Verdicts.{case_of, from_start}
-use Rattle.vk_verifier.specs.Statement.{statement_of}
-use Rattle.vk_verifier.specs.Acceptance.{Accepts, front_with, bit_of, no_lines}
-use Rattle.vk_verifier.specs.Two.{Ahead, AreAccepted, accepted_of, base_at, base_in}
+use Rattle.vk_verifier.specs.Statement.{StatementValue, IsStatement}
+use Rattle.vk_verifier.specs.Behind.{case_of}
+use Rattle.vk_verifier.specs.Verdicts.{from_start}
+use Rattle.vk_verifier.specs.Acceptance.{Accepts, AcceptsBehind, bit_of, no_lines}
+use Rattle.vk_verifier.specs.Two.{Ahead, AreAccepted, accepted_of, ahead_behind, base_behind, base_in}
+use Rattle.vk_verifier.specs.TwoBoards.{BoardBase, base_at}
 use Rattle.vk_verifier.specs.TwoLaw.{ahead_in}
+
+-- ---- behind a front
+
+module _ {s : StatementValue} {front file : List ℕ} where
+  -- all that is public of the lane of that number, from 1
+  abbrev pub case_behind : {challenge reply : List ℕ} → AcceptsBehind s front file challenge reply → ℕ → LaneCase
+  case_behind accepted number = case_of s number (slice_index_or accepted.lines (number - 1) no_lines)
+
+  -- what the reply shows of it
+  abbrev pub shown_behind : {challenge reply : List ℕ} → AcceptsBehind s front file challenge reply → ℕ → List Shown
+  shown_behind accepted number = slice_index_or accepted.reply (number - 1) []
+
+  -- the statement, and the bits of both challenges
+  abbrev pub base_with : {first_challenge first_reply second_challenge second_reply : List ℕ}
+      → AcceptsBehind s front file first_challenge first_reply → AcceptsBehind s front file second_challenge second_reply → Base
+  base_with first second = record { statement = s; first_bits = first.challenge.bits; second_bits = second.challenge.bits }
+
+  -- the lane of that number, with what each reply shows of it for its challenge's bit
+  abbrev pub two_lane_behind : {first_challenge first_reply second_challenge second_reply : List ℕ}
+      → AcceptsBehind s front file first_challenge first_reply → AcceptsBehind s front file second_challenge second_reply → ℕ → TwoLane
+  two_lane_behind first second number = record {
+    case = case_behind first number;
+    first_bit = bit_of first.challenge number;
+    first = shown_behind first number;
+    second_bit = bit_of second.challenge number;
+    second = shown_behind second number;
+  }
+
+  -- what is given: the lanes 1, 2, .. of the file, and what is found by the challenges
+  pub record GivesBehind {V : Type 0} {first_challenge first_reply second_challenge second_reply : List ℕ}
+      (first : AcceptsBehind s front file first_challenge first_reply) (second : AcceptsBehind s front file second_challenge second_reply) (ahead : Ahead V) : Type 0 where
+    pub one_each : length ahead.lanes ≡ s.lanes
+    pub each : (index : ℕ) (lane : TwoLane) → slice_get ahead.lanes index ≡ Some lane → lane ≡ two_lane_behind first second (index + 1)
+    pub finding : ahead.finding ≡ accepted_of first.challenge.bits second.challenge.bits
+
+-- of every statement and every front, where the lines of the file are read on behind it: what two accepted replies
+-- give is what stands in their files
+abbrev pub AcceptedBehindGive : Type 0
+AcceptedBehindGive = (s : StatementValue) → IsStatement s → (front file first_challenge first_reply second_challenge second_reply : List ℕ) (rest : Rest) → file ≡ front ++ rest.left
+    → (first : AcceptsBehind s front file first_challenge first_reply) (second : AcceptsBehind s front file second_challenge second_reply)
+    → (second.lines ≡ first.lines)
+    × (base_in (base_behind s rest (from_start first_challenge) (from_start first_reply) (from_start second_challenge) (from_start second_reply)) ≡ Some (base_with first second))
+    × GivesBehind first second (ahead_behind s rest (from_start first_challenge) (from_start first_reply) (from_start second_challenge) (from_start second_reply))
+
+-- two replies are found to be accepted only where they are
+abbrev pub OnlyAcceptedBehind : Type 0
+OnlyAcceptedBehind = (s : StatementValue) → IsStatement s → (front file first_challenge first_reply second_challenge second_reply : List ℕ) (rest : Rest) → file ≡ front ++ rest.left
+    → AreAccepted (ahead_behind s rest (from_start first_challenge) (from_start first_reply) (from_start second_challenge) (from_start second_reply)).finding
+    → AcceptsBehind s front file first_challenge first_reply × AcceptsBehind s front file second_challenge second_reply
+
+-- ---- boards
 
 -- what stands on the accepted board before its first lane
 abbrev pub front_in : {board challenge reply : List ℕ} → Accepts board challenge reply → Front
-front_in accepted = front_with accepted.board accepted.position
+front_in accepted = accepted.front
 
 -- all that is public of the lane of that number, from 1
 abbrev pub case_in : {board challenge reply : List ℕ} → Accepts board challenge reply → ℕ → LaneCase
-case_in accepted number = case_of (front_in accepted) number (slice_index_or accepted.board.lanes (number - 1) no_lines)
+case_in accepted number = case_behind accepted.behind number
 
 -- what the reply shows of it
 abbrev pub shown_in : {board challenge reply : List ℕ} → Accepts board challenge reply → ℕ → List Shown
-shown_in accepted number = slice_index_or accepted.reply (number - 1) []
+shown_in accepted number = shown_behind accepted.behind number
+
+-- the bits of the challenge
+abbrev pub bits_of : {board challenge reply : List ℕ} → Accepts board challenge reply → List Bool
+bits_of accepted = accepted.behind.challenge.bits
 
 -- what is read before the first lane of the bytes of a board, a challenge and the reply to it, and another
 -- challenge and reply
-abbrev pub begun_in : List ℕ → List ℕ → List ℕ → List ℕ → List ℕ → Option Base
+abbrev pub begun_in : List ℕ → List ℕ → List ℕ → List ℕ → List ℕ → Option BoardBase
 begun_in board first_challenge first_reply second_challenge second_reply =
-    base_in (base_at (from_start board) (from_start first_challenge) (from_start first_reply) (from_start second_challenge) (from_start second_reply))
+    base_at (from_start board) (from_start first_challenge) (from_start first_reply) (from_start second_challenge) (from_start second_reply)
 
--- the board's statement, and the bits of both challenges
-abbrev pub base_with : {board first_challenge first_reply second_challenge second_reply : List ℕ}
-    → Accepts board first_challenge first_reply → Accepts board second_challenge second_reply → Base
-base_with first second = record { statement = statement_of (front_in first); first_bits = first.challenge.bits; second_bits = second.challenge.bits }
+-- the board's front, and the bits of both challenges
+abbrev pub board_with : {board first_challenge first_reply second_challenge second_reply : List ℕ}
+    → Accepts board first_challenge first_reply → Accepts board second_challenge second_reply → BoardBase
+board_with first second = record { front = first.front; first_bits = bits_of first; second_bits = bits_of second }
 
 -- the lane of that number, with what each reply shows of it for its challenge's bit
 abbrev pub two_lane_in : {board first_challenge first_reply second_challenge second_reply : List ℕ}
     → Accepts board first_challenge first_reply → Accepts board second_challenge second_reply → ℕ → TwoLane
 two_lane_in first second number = record {
   case = case_in first number;
-  first_bit = bit_of first.challenge number;
+  first_bit = bit_of first.behind.challenge number;
   first = shown_in first number;
-  second_bit = bit_of second.challenge number;
+  second_bit = bit_of second.behind.challenge number;
   second = shown_in second number;
 }
 
--- both were accepted on one board, with one place of its winner
+-- both were accepted on one board
 pub record AreOfOneBoard {board first_challenge first_reply second_challenge second_reply : List ℕ}
     (first : Accepts board first_challenge first_reply) (second : Accepts board second_challenge second_reply) : Type 0 where
-  pub one_board : second.board ≡ first.board
-  pub one_place : second.position ≡ first.position
+  pub one_front : second.front ≡ first.front
+  pub one_lines : second.behind.lines ≡ first.behind.lines
 
 -- what is given: the lanes 1, 2, .. of the board, and what is found by the challenges
 pub record GivesValues {board first_challenge first_reply second_challenge second_reply : List ℕ}
-    (first : Accepts board first_challenge first_reply) (second : Accepts board second_challenge second_reply) (ahead : Ahead) : Type 0 where
-  pub one_each : length ahead.lanes ≡ first.board.head.lanes
+    (first : Accepts board first_challenge first_reply) (second : Accepts board second_challenge second_reply) (ahead : Ahead BoardVerdict) : Type 0 where
+  pub one_each : length ahead.lanes ≡ first.front.head.lanes
   pub each : (index : ℕ) (lane : TwoLane) → slice_get ahead.lanes index ≡ Some lane → lane ≡ two_lane_in first second (index + 1)
-  pub finding : ahead.finding ≡ accepted_of first.challenge.bits second.challenge.bits
+  pub finding : ahead.finding ≡ accepted_of (bits_of first) (bits_of second)
 
 -- what two accepted replies give is what stands in their files
 abbrev pub AcceptedGive : Type 0
 AcceptedGive = (board first_challenge first_reply second_challenge second_reply : List ℕ)
     (first : Accepts board first_challenge first_reply) (second : Accepts board second_challenge second_reply)
     → AreOfOneBoard first second
-    × (begun_in board first_challenge first_reply second_challenge second_reply ≡ Some (base_with first second))
+    × (begun_in board first_challenge first_reply second_challenge second_reply ≡ Some (board_with first second))
     × GivesValues first second (ahead_in board first_challenge first_reply second_challenge second_reply)
 
 -- two replies are found to be accepted only where they are

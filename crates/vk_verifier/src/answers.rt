@@ -1,6 +1,8 @@
+// What is answered of files.
 ghost use Rattle.std.specs.Prelude.{◌≡◌};
 ghost use Rattle.vk_io.specs.Faults.{told_as};
 ghost use Rattle.vk_verifier.specs.declared.answers.VErr.TheVariants as verr;
+ghost use Rattle.vk_verifier.specs.Verdicts.{as_verdict};
 
 use vk_io::OutsideErr;
 use vk_wire::WireFault;
@@ -13,6 +15,30 @@ pub enum Part {
     Reply,
     SecondChallenge,
     SecondReply,
+}
+
+/// The first fault behind a front: of a challenge, of the reply to it, and of the lanes and ends of both files.
+#[derive(Clone, Copy, Debug, PartialEq, Eq)]
+pub enum Fault {
+    /// The file is not of its form. The line, counted from 1, is the first that isn't what its place demands.
+    Malformed {
+        part: Part,
+        line: u64,
+    },
+    /// The challenge's bits, or the reply's lanes, aren't as many as the statement's lanes.
+    Lanes,
+    /// In the lane, counted from 1, the wire, counted from 0, is the first that reads nothing.
+    Wire {
+        lane: u32,
+        wire: u32,
+        fault: WireFault,
+    },
+    /// In the lane, counted from 1, every wire reads its half, and the row, counted from 0, is the first
+    /// that these don't meet.
+    Row {
+        lane: u32,
+        row: u32,
+    },
 }
 
 /// The first fault of a board, a challenge and a reply, or that there is none.
@@ -42,6 +68,19 @@ pub enum BoardVerdict {
         lane: u32,
         row: u32,
     },
+}
+
+impl From<Fault> for BoardVerdict {
+    ghost from_gives = { λ fault verdict. verdict ≡ as_verdict fault };
+
+    fn from(fault: Fault) -> BoardVerdict {
+        match fault {
+            Fault::Malformed { part, line } => BoardVerdict::Malformed { part, line },
+            Fault::Lanes => BoardVerdict::Lanes,
+            Fault::Wire { lane, wire, fault } => BoardVerdict::Wire { lane, wire, fault },
+            Fault::Row { lane, row } => BoardVerdict::Row { lane, row },
+        }
+    }
 }
 
 /// Why no verdict was given.

@@ -1,18 +1,18 @@
-// The verdict on one lane.
+// What is judged of one lane.
 ghost use Rattle.std.specs.Prelude.{◌≡◌, ◌≤◌, ◌<◌, ◌+◌, ◌++◌, All, length, drop, IfSome, IfOk, OnOk, IsErrOf};
 ghost use Rattle.vk_lines.specs.Lines.{OnlyReads, rest_of};
-ghost use Rattle.vk_board.specs.Fronts.{IsFront};
 ghost use Rattle.vk_row.specs.Lanes.{HasCounts, IsAccepted};
 ghost use Rattle.vk_row.specs.LaneTests.{checked_lane};
-ghost use Rattle.vk_verifier.specs.Verdicts.{Judges, case_of, input_coms, lane_verdict, lane_judged, lanes_judged};
+ghost use Rattle.vk_verifier.specs.Statement.{IsStatement};
+ghost use Rattle.vk_verifier.specs.Behind.{Judges, case_of, input_coms, lane_fault, lane_judged, lanes_judged};
 ghost use Rattle.vk_verifier.specs.Parts.{case_at, reply_judged, IsCase, Fits};
 
-use crate::answers::{BoardVerdict, Part};
+use crate::answers::{Fault, Part};
 use crate::halt::{Halt, in_part};
 use crate::stage::Pair;
 use crate::statement::Statement;
 use std::alloc::Global;
-use vk_board::{Front, LaneLines, SealLines, read_lane, seats_of};
+use vk_board::{LaneLines, SealLines, read_lane, seats_of};
 use vk_io::Shelf;
 use vk_lines::Lines;
 use vk_reply::read_reply_lane;
@@ -40,17 +40,21 @@ fn coms_of(
 }
 
 /// All that is public of the lane, counted from 1.
-fn case_of(alloc: Global, front: &Front, lane: u32, lines: LaneLines) -> Result<LaneCase, NoMemory>
-    requires front { IsFront front.now }
+fn case_of(
+    alloc: Global,
+    statement: &Statement,
+    lane: u32,
+    lines: LaneLines,
+) -> Result<LaneCase, NoMemory>
     requires first { 1 ≤ lane }
-    requires last { lane ≤ front.now.head.lanes }
-    ensures { IfOk result (λ case. case ≡ case_of front.now lane lines) }
+    requires last { lane ≤ statement.now.lanes }
+    ensures { IfOk result (λ case. case ≡ case_of statement.now lane lines) }
 {
     let index = lane as usize - 1;
-    let seats = seats_of(alloc, front.seals.as_slice())?;
-    let coms = coms_of(alloc, front.seals.as_slice(), index, lines.coms.as_slice())?;
+    let seats = seats_of(alloc, statement.seals())?;
+    let coms = coms_of(alloc, statement.seals(), index, lines.coms.as_slice())?;
     Ok(LaneCase {
-        auction: front.head.auction,
+        auction: statement.auction(),
         lane: lane as u16,
         seats,
         coms,
@@ -58,7 +62,7 @@ fn case_of(alloc: Global, front: &Front, lane: u32, lines: LaneLines) -> Result<
     })
 }
 
-/// Reads the lines of a lane on the board: all that is public of it.
+/// Reads the lines of a lane in the file: all that is public of it.
 #[tactic(auto, unfolding(crate::specs::Parts::case_at))]
 pub fn read_case<S: Shelf>(
     alloc: Global,
@@ -66,12 +70,12 @@ pub fn read_case<S: Shelf>(
     statement: &Statement,
     lane: u32,
     board: &mut Lines,
-) -> Result<LaneCase, Halt>
+) -> Result<LaneCase, Halt<Fault>>
     requires first { 1 ≤ lane }
-    requires last { lane ≤ statement.now.front.head.lanes }
+    requires last { lane ≤ statement.now.lanes }
     ensures told { IfSome (S.held shelf.old) (λ files.
-        Judges (λ case. (case, rest_of board.new files)) result (case_at statement.now.front statement.now.plan lane (rest_of board.old files))) }
-    ensures right { IfOk result (IsCase statement.now.front statement.now.plan lane) }
+        Judges (λ case. (case, rest_of board.new files)) result (case_at statement.now lane (rest_of board.old files))) }
+    ensures right { IfOk result (IsCase statement.now lane) }
     ensures fits { IfOk result (Fits statement.now.plan) }
     ensures shelf { OnlyReads S.held S.Shelf.faults Halt.Failed result shelf.old shelf.new }
 {
@@ -81,7 +85,7 @@ pub fn read_case<S: Shelf>(
         Part::Board,
         read_lane(alloc, shelf, board, lane, wires, plan.rows()),
     )?;
-    let case = case_of(alloc, statement.front(), lane, lines)?;
+    let case = case_of(alloc, statement, lane, lines)?;
     Ok(case)
 }
 
@@ -93,9 +97,9 @@ fn check(
     lane: u32,
     bit: bool,
     shown: &[Shown],
-) -> Result<(), Halt>
+) -> Result<(), Halt<Fault>>
     requires { HasCounts statement.now.plan case.now shown.now }
-    ensures judged { Judges (λ done. done) result (lane_verdict lane (checked_lane statement.now.plan case.now bit shown.now)) }
+    ensures judged { Judges (λ done. done) result (lane_fault lane (checked_lane statement.now.plan case.now bit shown.now)) }
     ensures accepted { OnOk result (IsAccepted statement.now.plan case.now bit shown.now) }
     ensures inside { IsErrOf result Halt.Failed → ⊥ }
 {
@@ -104,9 +108,9 @@ fn check(
     match check_lane_with(alloc, plan, table, case, bit, shown) {
         Ok(_halves) => Ok(()),
         Err(LaneFault::Wire { wire, fault }) => {
-            Err(Halt::Refused(BoardVerdict::Wire { lane, wire, fault }))
+            Err(Halt::Refused(Fault::Wire { lane, wire, fault }))
         }
-        Err(LaneFault::Row { row }) => Err(Halt::Refused(BoardVerdict::Row { lane, row })),
+        Err(LaneFault::Row { row }) => Err(Halt::Refused(Fault::Row { lane, row })),
         Err(LaneFault::NoMemory) => Err(Halt::NoMemory),
     }
 }
@@ -121,7 +125,7 @@ pub fn read_checked<S: Shelf>(
     lane: u32,
     bit: bool,
     reply: &mut Lines,
-) -> Result<Seq<Shown>, Halt>
+) -> Result<Seq<Shown>, Halt<Fault>>
     requires { Fits statement.now.plan case.now }
     ensures told { IfSome (S.held shelf.old) (λ files.
         Judges (λ shown. (shown, rest_of reply.new files)) result (reply_judged statement.now.plan case.now lane bit (rest_of reply.old files))) }
@@ -137,7 +141,7 @@ pub fn read_checked<S: Shelf>(
     Ok(shown)
 }
 
-/// Reads the lines of the lane on the board and in the reply, and checks them.
+/// Reads the lines of the lane in the file and in the reply, and checks them.
 #[tactic(auto, using(crate::proofs::Joined::lane_parts))]
 fn judge_lane<S: Shelf>(
     alloc: Global,
@@ -146,12 +150,12 @@ fn judge_lane<S: Shelf>(
     lane: u32,
     bit: bool,
     pair: &mut Pair,
-) -> Result<(), Halt>
+) -> Result<(), Halt<Fault>>
     requires first { 1 ≤ lane }
-    requires last { lane ≤ statement.now.front.head.lanes }
+    requires last { lane ≤ statement.now.lanes }
     ensures told { IfSome (S.held shelf.old) (λ files.
         Judges (λ _. (rest_of pair.new.board files, rest_of pair.new.reply files)) result
-        (lane_judged statement.now.front statement.now.plan lane bit (rest_of pair.old.board files) (rest_of pair.old.reply files))) }
+        (lane_judged statement.now lane bit (rest_of pair.old.board files) (rest_of pair.old.reply files))) }
     ensures shelf { OnlyReads S.held S.Shelf.faults Halt.Failed result shelf.old shelf.new }
 {
     let case = read_case(alloc, shelf, statement, lane, &mut pair.board)?;
@@ -167,15 +171,15 @@ pub fn judge_lanes<S: Shelf>(
     judged: u32,
     bits: &[bool],
     pair: &mut Pair,
-) -> Result<(), Halt>
-    requires bits { length bits.now ≡ statement.now.front.head.lanes }
-    requires within { judged ≤ statement.now.front.head.lanes }
+) -> Result<(), Halt<Fault>>
+    requires bits { length bits.now ≡ statement.now.lanes }
+    requires within { judged ≤ statement.now.lanes }
     ensures told { IfSome (S.held shelf.old) (λ files.
         Judges (λ _. (rest_of pair.new.board files, rest_of pair.new.reply files)) result
-        (lanes_judged statement.now.front statement.now.plan (judged + 1) (drop judged bits.now) (rest_of pair.old.board files) (rest_of pair.old.reply files))) }
+        (lanes_judged statement.now (judged + 1) (drop judged bits.now) (rest_of pair.old.board files) (rest_of pair.old.reply files))) }
     ensures shelf { OnlyReads S.held S.Shelf.faults Halt.Failed result shelf.old shelf.new }
 {
-    let lanes = statement.front().head.lanes;
+    let lanes = statement.lanes();
     for index in judged..lanes {
         let bit = bits[index as usize];
         judge_lane(alloc, shelf, statement, index + 1, bit, pair)?;

@@ -1,5 +1,5 @@
-// How far two replies to a board were read.
-use crate::answers::BoardVerdict;
+// How far two replies were read behind a front.
+use crate::answers::{BoardVerdict, Fault};
 use crate::statement::Statement;
 use vk_lines::Lines;
 use vk_row::LaneCase;
@@ -16,26 +16,29 @@ pub struct TwoLane {
     pub second: Seq<Shown>,
 }
 
-/// What two replies to a board come to.
+/// What two replies come to.
 #[derive(Clone, Copy, Debug, PartialEq, Eq)]
-pub enum TwoVerdict {
-    /// The verdict on the first reply, where that isn't accepted, else the verdict on the second, which
-    /// isn't. The second's names the second challenge or the second reply in place of a first one.
-    Refused { second: bool, verdict: BoardVerdict },
+pub enum Finding<V> {
+    /// Why the first reply is refused, where it is, else why the second is. What is said of the second names the
+    /// second challenge or the second reply in place of a first one.
+    Refused { second: bool, verdict: V },
     /// Both replies are accepted, and the challenges' bits are the same.
     Same,
     /// Both replies are accepted, and the challenges differ in a bit.
     Ready,
 }
 
-/// A board and a reply, each from where it is to be read on.
+/// What two replies to a board come to.
+pub type TwoVerdict = Finding<BoardVerdict>;
+
+/// A file and a reply, each from where it is to be read on.
 #[derive(Drop)]
 pub struct Pair {
     pub board: Lines,
     pub reply: Lines,
 }
 
-/// What was read before the first lane: the board's statement, and the bits of both challenges.
+/// What was read before the first lane: the statement of the front, and the bits of both challenges.
 #[derive(Drop)]
 pub struct Base {
     pub statement: Statement,
@@ -43,7 +46,7 @@ pub struct Base {
     pub second_bits: Seq<bool>,
 }
 
-/// The board with the first reply, and the second reply, each from where it is to be read on.
+/// The file with the first reply, and the second reply, each from where it is to be read on.
 #[derive(Drop)]
 pub struct TwoReaders {
     pub pair: Pair,
@@ -56,13 +59,13 @@ pub struct Course {
     pub base: Base,
     pub readers: TwoReaders,
     pub given: u32,
-    pub finding: Option<TwoVerdict>,
+    pub finding: Option<Finding<Fault>>,
 }
 
-/// How far two replies to a board were read.
+/// How far two replies were read.
 #[derive(Drop)]
 pub enum Stage {
     /// There is a fault before the first lane.
-    Before(TwoVerdict),
+    Before(Finding<Fault>),
     Running(Course),
 }

@@ -1,21 +1,21 @@
-// What the lanes of a board are to show.
+// What is to be shown lane by lane.
 ghost use Rattle.std.specs.Prelude.{◌≡◌, IfOk};
-ghost use Rattle.vk_board.specs.Fronts.{IsFront};
-ghost use Rattle.vk_verifier.specs.Verdicts.{plan_of};
-ghost use Rattle.vk_verifier.specs.Statement.{IsStatement, statement_of};
+ghost use Rattle.vk_verifier.specs.Statement.{IsStatement, StatementValue};
 
 use std::alloc::Global;
 use std::marker::Model;
-use vk_board::Front;
-use vk_plan::{Circuit, Plan, RowTable};
+use vk_board::SealLines;
+use vk_plan::{Plan, RowTable};
 use vk_residue::NoMemory;
-use vk_vickrey::{VickreyOutcome, VickreyPlan};
+use vk_seq::Seq;
 
-/// What stands on a board before its first lane, and the circuit of its lanes, its rows also as a table,
-/// which is made once for all lanes.
+/// What is to be shown lane by lane: of which auction, in how many lanes, of which seals, by which circuit. Its rows
+/// are also a table, which is made once for all lanes.
 #[derive(Debug, Drop)]
 pub struct Statement {
-    front: Front,
+    auction: [u8; 16],
+    lanes: u32,
+    seals: Seq<SealLines>,
     plan: Plan,
     table: RowTable,
 }
@@ -26,41 +26,62 @@ impl Model for Statement {
 
     ghost Value = { StatementValue };
 
-    ghost view = { λ s. record { front = s.front; plan = s.plan } };
+    ghost view = { λ s. record { auction = s.auction; lanes = s.lanes; seals = s.seals; plan = s.plan } };
 
-    ghost invariant = { λ s. IsStatement (record { front = s.front; plan = s.plan }) × (s.table ≡ s.plan.rows) };
+    ghost invariant = { λ s. IsStatement (record { auction = s.auction; lanes = s.lanes; seals = s.seals; plan = s.plan }) × (s.table ≡ s.plan.rows) };
 }
 
 impl Statement {
-    /// The front with its circuit.
-    pub fn of(alloc: Global, front: Front) -> Result<Statement, NoMemory>
-        requires { IsFront front }
-        ensures { IfOk result (λ statement. statement ≡ statement_of front) }
+    /// Of the auction with this id, in 1 to 64 lanes: these seals are the inputs of this circuit.
+    pub fn of(
+        alloc: Global,
+        auction: [u8; 16],
+        lanes: u32,
+        seals: Seq<SealLines>,
+        plan: Plan,
+    ) -> Result<Statement, NoMemory>
+        requires { IsStatement (record { auction = auction; lanes = lanes; seals = seals; plan = plan }) }
+        ensures { IfOk result (λ statement. statement ≡ record { auction = auction; lanes = lanes; seals = seals; plan = plan }) }
     {
-        let plan = plan_of(alloc, &front)?;
         let table = RowTable::of(alloc, &plan)?;
-        Ok(Statement { front, plan, table })
+        Ok(Statement {
+            auction,
+            lanes,
+            seals,
+            plan,
+            table,
+        })
     }
 
-    /// What stands on the board before its first lane.
-    pub fn front(&self) -> &Front
-        ensures value { result.now ≡ self.now.front }
+    /// The auction's id.
+    pub fn auction(&self) -> [u8; 16]
+        ensures { result ≡ self.now.auction }
+    {
+        self.auction
+    }
+
+    /// How many lanes there are, 1 to 64.
+    pub fn lanes(&self) -> u32
+        ensures value { result ≡ self.now.lanes }
         ensures right { IsStatement self.now }
     {
-        &self.front
+        self.lanes
     }
 
-    /// What stands on the board before its first lane, without its circuit.
-    pub fn into_front(self) -> Front
-        ensures value { result ≡ self.front }
-        ensures right { IsFront result }
+    /// The seals, in order.
+    pub fn seals(&self) -> &[SealLines]
+        ensures value { result.now ≡ self.now.seals }
+        ensures right { IsStatement self.now }
     {
-        let Statement {
-            front,
-            plan: _plan,
-            table: _table,
-        } = self;
-        front
+        self.seals.as_slice()
+    }
+
+    /// The seals, without the rest.
+    pub fn into_seals(self) -> Seq<SealLines>
+        ensures { result ≡ self.seals }
+    {
+        let Statement { seals, .. } = self;
+        seals
     }
 
     /// The circuit of the lanes.
@@ -76,24 +97,5 @@ impl Statement {
         ensures { result.now ≡ self.now.plan.rows }
     {
         &self.table
-    }
-}
-
-/// The circuit that the board's lanes are held to.
-#[tactic(auto, using(crate::proofs::Fronts::front_case))]
-fn plan_of(alloc: Global, front: &Front) -> Result<Plan, NoMemory>
-    requires { IsFront front.now }
-    ensures { IfOk result (λ plan. plan ≡ plan_of front.now) }
-{
-    let outcome = VickreyOutcome {
-        position: front.position,
-        price: front.head.price,
-    };
-    match VickreyPlan::new(front.head.seals, front.head.width, outcome) {
-        None => unreachable!(),
-        Some(circuit) => {
-            let plan = circuit.plan(alloc)?;
-            Ok(plan)
-        }
     }
 }

@@ -1,21 +1,20 @@
 // What two replies show of a lane, side by side.
 ghost use Rattle.std.specs.Prelude.{◌≡◌, ◌⊎◌, ◌≤◌, ◌<◌, ◌+◌, length, drop, Err, IsTrue, IsFalse, IsOk, OnOk, IfSome, IfOk, IfErr};
 ghost use Rattle.vk_lines.specs.Lines.{OnlyReads, rest_of, end_at};
-ghost use Rattle.vk_board.specs.Fronts.{IsFront};
 ghost use Rattle.vk_row.specs.Lanes.{IsAccepted};
-ghost use Rattle.vk_verifier.specs.Verdicts.{Judges, in_part};
+ghost use Rattle.vk_verifier.specs.Statement.{IsStatement};
+ghost use Rattle.vk_verifier.specs.Behind.{Judges, in_part};
 ghost use Rattle.vk_verifier.specs.Parts.{reply_judged, attempt_at, rest_judged, Fits};
-ghost use Rattle.vk_verifier.specs.Two.{Finds, IsFound, GivesLane, Refuses, of_second, two_lane_at, base_at, second_begun, ends_found, accepted_of, ahead_on, rests_of, IsBase, IsTwoLane};
+ghost use Rattle.vk_verifier.specs.Two.{IsFound, GivesLane, Refuses, of_second, two_lane_at, base_behind, second_begun, ends_found, accepted_of, ahead_on, rests_of, IsBase, IsTwoLane};
 
-use crate::answers::Part;
-use crate::halt::{Halt, in_front, in_part};
+use crate::answers::{Fault, Part};
+use crate::halt::{Halt, in_part};
 use crate::judging::{judge_rest, read_attempt, read_ends};
 use crate::lane::{read_case, read_checked};
 use crate::stage::{Base, Pair, TwoLane, TwoReaders};
 use crate::statement::Statement;
 use crate::two_halt::{TwoHalt, accepted_of, found_by, is_refused, of_first, of_second};
 use std::alloc::Global;
-use vk_board::{Front, read_front};
 use vk_io::Shelf;
 use vk_lines::Lines;
 use vk_row::LaneCase;
@@ -31,11 +30,11 @@ pub fn judge_on<S: Shelf>(
     judged: u32,
     bits: &[bool],
     pair: &mut Pair,
-) -> Result<(), Halt>
-    requires bits { length bits.now ≡ statement.now.front.head.lanes }
-    requires within { judged ≤ statement.now.front.head.lanes }
+) -> Result<(), Halt<Fault>>
+    requires bits { length bits.now ≡ statement.now.lanes }
+    requires within { judged ≤ statement.now.lanes }
     ensures told { IfSome (S.held shelf.old) (λ files. IsTrue asked → Judges (λ done. done) result
-        (rest_judged statement.now.front statement.now.plan (judged + 1) (drop judged bits.now) (rest_of pair.old.board files) (rest_of pair.old.reply files))) }
+        (rest_judged statement.now (judged + 1) (drop judged bits.now) (rest_of pair.old.board files) (rest_of pair.old.reply files))) }
     ensures kept { IsFalse asked → pair.new ≡ pair.old }
     ensures idle { IsFalse asked → IsOk result }
     ensures shelf { OnlyReads S.held S.Shelf.faults Halt.Failed result shelf.old shelf.new }
@@ -47,8 +46,8 @@ pub fn judge_on<S: Shelf>(
     Ok(())
 }
 
-/// Reads what the second reply shows of the lane for its bit, and checks it. Where there is a fault of it, the
-/// first reply is judged on.
+/// Reads what the second reply shows of the lane for its bit, and checks it. Where there is a fault
+/// of it, the first reply is judged on.
 fn read_second<S: Shelf>(
     alloc: Global,
     shelf: &mut S,
@@ -60,14 +59,14 @@ fn read_second<S: Shelf>(
 ) -> Result<Seq<Shown>, TwoHalt>
     requires base { IsBase base.now }
     requires fits { Fits base.now.statement.plan case.now }
-    requires within { lane ≤ base.now.statement.front.head.lanes }
-    ensures told { IfSome (S.held shelf.old) (λ files. Finds (λ shown. (shown, rest_of readers.new.second files)) result
-        (of_second (rest_judged base.now.statement.front base.now.statement.plan (lane + 1) (drop lane base.now.first_bits) (rest_of readers.old.pair.board files) (rest_of readers.old.pair.reply files))
+    requires within { lane ≤ base.now.statement.lanes }
+    ensures told { IfSome (S.held shelf.old) (λ files. Judges (λ shown. (shown, rest_of readers.new.second files)) result
+        (of_second (rest_judged base.now.statement (lane + 1) (drop lane base.now.first_bits) (rest_of readers.old.pair.board files) (rest_of readers.old.pair.reply files))
         (reply_judged base.now.statement.plan case.now lane bit (rest_of readers.old.second files)))) }
     ensures pair { OnOk result (readers.new.pair ≡ readers.old.pair) }
     ensures accepted { IfOk result (IsAccepted base.now.statement.plan case.now bit) }
     ensures refuses { IfErr result Refuses }
-    ensures shelf { OnlyReads S.held S.Shelf.faults TwoHalt.Failed result shelf.old shelf.new }
+    ensures shelf { OnlyReads S.held S.Shelf.faults Halt.Failed result shelf.old shelf.new }
 {
     let judged = read_checked(
         alloc,
@@ -99,12 +98,12 @@ fn read_two<S: Shelf>(
 ) -> Result<TwoLane, TwoHalt>
     requires base { IsBase base.now }
     requires first { 1 ≤ lane }
-    requires last { lane ≤ base.now.statement.front.head.lanes }
-    ensures told { IfSome (S.held shelf.old) (λ files. Finds (λ two. (two, rests_of readers.new files)) result
-        (two_lane_at base.now.statement.front base.now.statement.plan lane first_bit second_bit (drop lane base.now.first_bits) (rests_of readers.old files))) }
-    ensures right { IfOk result (IsTwoLane base.now.statement.front base.now.statement.plan lane) }
+    requires last { lane ≤ base.now.statement.lanes }
+    ensures told { IfSome (S.held shelf.old) (λ files. Judges (λ two. (two, rests_of readers.new files)) result
+        (two_lane_at base.now.statement lane first_bit second_bit (drop lane base.now.first_bits) (rests_of readers.old files))) }
+    ensures right { IfOk result (IsTwoLane base.now.statement lane) }
     ensures refuses { IfErr result Refuses }
-    ensures shelf { OnlyReads S.held S.Shelf.faults TwoHalt.Failed result shelf.old shelf.new }
+    ensures shelf { OnlyReads S.held S.Shelf.faults Halt.Failed result shelf.old shelf.new }
 {
     let statement = &base.statement;
     let case = of_first(read_case(alloc, shelf, statement, lane, &mut readers.pair.board))?;
@@ -128,7 +127,11 @@ fn read_two<S: Shelf>(
 }
 
 /// Reads the end of the second reply, where the ends of the board and the first reply stand.
-fn read_second_end<S: Shelf>(shelf: &mut S, standing: bool, second: &mut Lines) -> Result<(), Halt>
+fn read_second_end<S: Shelf>(
+    shelf: &mut S,
+    standing: bool,
+    second: &mut Lines,
+) -> Result<(), Halt<Fault>>
     ensures told { IfSome (S.held shelf.old) (λ files. IsTrue standing
         → Judges (λ done. (done, rest_of second.new files)) result (in_part Part.Reply (end_at (rest_of second.old files)))) }
     ensures idle { IsFalse standing → IsOk result }
@@ -146,7 +149,7 @@ fn read_second_end<S: Shelf>(shelf: &mut S, standing: bool, second: &mut Lines) 
 fn read_finding<S: Shelf>(shelf: &mut S, base: &Base, readers: &mut TwoReaders) -> TwoHalt
     ensures told { IfSome (S.held shelf.old) (λ files.
         IsFound result (ends_found (accepted_of base.now.first_bits base.now.second_bits) (rests_of readers.old files))) }
-    ensures shelf { OnlyReads {T = Unit {0}} S.held S.Shelf.faults TwoHalt.Failed (Err result) shelf.old shelf.new }
+    ensures shelf { OnlyReads {T = Unit {0}} S.held S.Shelf.faults Halt.Failed (Err result) shelf.old shelf.new }
 {
     let accepted = accepted_of(base.first_bits.as_slice(), base.second_bits.as_slice());
     let first = read_ends(shelf, &mut readers.pair);
@@ -164,15 +167,15 @@ pub fn next_step<S: Shelf>(
     readers: &mut TwoReaders,
 ) -> Result<TwoLane, TwoHalt>
     requires base { IsBase base.now }
-    requires within { given ≤ base.now.statement.front.head.lanes }
+    requires within { given ≤ base.now.statement.lanes }
     ensures told { IfSome (S.held shelf.old) (λ files.
         GivesLane (ahead_on base.now given (rests_of readers.old files)) result (ahead_on base.now (given + 1) (rests_of readers.new files))) }
-    ensures right { IfOk result (IsTwoLane base.now.statement.front base.now.statement.plan (given + 1)) }
-    ensures more { OnOk result (given < base.now.statement.front.head.lanes) }
-    ensures all { IfErr result (λ halt. Refuses halt ⊎ (given ≡ base.now.statement.front.head.lanes)) }
-    ensures shelf { OnlyReads S.held S.Shelf.faults TwoHalt.Failed result shelf.old shelf.new }
+    ensures right { IfOk result (IsTwoLane base.now.statement (given + 1)) }
+    ensures more { OnOk result (given < base.now.statement.lanes) }
+    ensures all { IfErr result (λ halt. Refuses halt ⊎ (given ≡ base.now.statement.lanes)) }
+    ensures shelf { OnlyReads S.held S.Shelf.faults Halt.Failed result shelf.old shelf.new }
 {
-    if given == base.statement.front().head.lanes {
+    if given == base.statement.lanes() {
         let found = read_finding(shelf, base, readers);
         return Err(found);
     }
@@ -190,8 +193,8 @@ pub fn next_step<S: Shelf>(
     lane
 }
 
-/// Reads the second challenge and the head of the second reply. Where there is a fault of them, the first reply is
-/// judged to its end.
+/// Reads the second challenge and the head of the second reply. Where there is a fault of them, the
+/// first reply is judged to its end.
 fn begin_second<S: Shelf>(
     alloc: Global,
     shelf: &mut S,
@@ -200,17 +203,17 @@ fn begin_second<S: Shelf>(
     challenge: &mut Lines,
     readers: &mut TwoReaders,
 ) -> Result<Seq<bool>, TwoHalt>
-    requires { length first_bits.now ≡ statement.now.front.head.lanes }
-    ensures told { IfSome (S.held shelf.old) (λ files. Finds (λ bits. (bits, rest_of readers.new.second files)) result
-        (of_second (rest_judged statement.now.front statement.now.plan 1 first_bits.now (rest_of readers.old.pair.board files) (rest_of readers.old.pair.reply files))
-        (attempt_at statement.now.front.head (rest_of challenge.old files) (rest_of readers.old.second files)))) }
+    requires { length first_bits.now ≡ statement.now.lanes }
+    ensures told { IfSome (S.held shelf.old) (λ files. Judges (λ bits. (bits, rest_of readers.new.second files)) result
+        (of_second (rest_judged statement.now 1 first_bits.now (rest_of readers.old.pair.board files) (rest_of readers.old.pair.reply files))
+        (attempt_at statement.now.lanes (rest_of challenge.old files) (rest_of readers.old.second files)))) }
     ensures pair { OnOk result (readers.new.pair ≡ readers.old.pair) }
-    ensures bits { IfOk result (λ bits. length bits ≡ statement.now.front.head.lanes) }
+    ensures bits { IfOk result (λ bits. length bits ≡ statement.now.lanes) }
     ensures refuses { IfErr result Refuses }
-    ensures shelf { OnlyReads S.held S.Shelf.faults TwoHalt.Failed result shelf.old shelf.new }
+    ensures shelf { OnlyReads S.held S.Shelf.faults Halt.Failed result shelf.old shelf.new }
 {
-    let head = &statement.front().head;
-    let attempt = read_attempt(alloc, shelf, head, challenge, &mut readers.second);
+    let lanes = statement.lanes();
+    let attempt = read_attempt(alloc, shelf, lanes, challenge, &mut readers.second);
     let asked = is_refused(&attempt);
     let pair = &mut readers.pair;
     let first = judge_on(alloc, shelf, statement, asked, 0, first_bits, pair);
@@ -218,24 +221,27 @@ fn begin_second<S: Shelf>(
     second
 }
 
-/// Makes the board's statement, and reads the second challenge and the head of the second reply.
-fn begin_base<S: Shelf>(
+/// Reads both challenges and the heads of both replies, behind a front of which this is the
+/// statement.
+#[tactic(auto, unfolding(crate::specs::Two::base_behind))]
+pub fn begin_lanes<S: Shelf>(
     alloc: Global,
     shelf: &mut S,
-    front: Front,
-    first_bits: Seq<bool>,
+    statement: Statement,
+    first: &mut Lines,
     second: &mut Lines,
     readers: &mut TwoReaders,
 ) -> Result<Base, TwoHalt>
-    requires front { IsFront front }
-    requires bits { length first_bits ≡ front.head.lanes }
-    ensures told { IfSome (S.held shelf.old) (λ files. Finds (λ base. (base, rests_of readers.new files)) result
-        (second_begun (rest_of second.old files) (rest_of readers.old.second files) (front, rest_of readers.old.pair.board files) (first_bits, rest_of readers.old.pair.reply files))) }
+    ensures told { IfSome (S.held shelf.old) (λ files. Judges (λ base. (base, rests_of readers.new files)) result
+        (base_behind statement (rest_of readers.old.pair.board files) (rest_of first.old files) (rest_of readers.old.pair.reply files) (rest_of second.old files) (rest_of readers.old.second files))) }
     ensures right { IfOk result IsBase }
+    ensures statement { IfOk result (λ base. base.statement ≡ statement) }
     ensures refuses { IfErr result Refuses }
-    ensures shelf { OnlyReads S.held S.Shelf.faults TwoHalt.Failed result shelf.old shelf.new }
+    ensures shelf { OnlyReads S.held S.Shelf.faults Halt.Failed result shelf.old shelf.new }
 {
-    let statement = Statement::of(alloc, front)?;
+    let lanes = statement.lanes();
+    let reply = &mut readers.pair.reply;
+    let first_bits = of_first(read_attempt(alloc, shelf, lanes, first, reply))?;
     let bits = first_bits.as_slice();
     let second_bits = begin_second(alloc, shelf, &statement, bits, second, readers)?;
     Ok(Base {
@@ -243,27 +249,4 @@ fn begin_base<S: Shelf>(
         first_bits,
         second_bits,
     })
-}
-
-/// Reads the board before its first lane, both challenges, and the heads of both replies.
-#[tactic(auto, unfolding(crate::specs::Two::base_at))]
-pub fn begin_lanes<S: Shelf>(
-    alloc: Global,
-    shelf: &mut S,
-    first: &mut Lines,
-    second: &mut Lines,
-    readers: &mut TwoReaders,
-) -> Result<Base, TwoHalt>
-    ensures told { IfSome (S.held shelf.old) (λ files. Finds (λ base. (base, rests_of readers.new files)) result
-        (base_at (rest_of readers.old.pair.board files) (rest_of first.old files) (rest_of readers.old.pair.reply files) (rest_of second.old files) (rest_of readers.old.second files))) }
-    ensures right { IfOk result IsBase }
-    ensures refuses { IfErr result Refuses }
-    ensures shelf { OnlyReads S.held S.Shelf.faults TwoHalt.Failed result shelf.old shelf.new }
-{
-    let pair = &mut readers.pair;
-    let front = of_first(in_front(read_front(alloc, shelf, &mut pair.board)))?;
-    let head = &front.head;
-    let first_bits = of_first(read_attempt(alloc, shelf, head, first, &mut pair.reply))?;
-    let base = begin_base(alloc, shelf, front, first_bits, second, readers)?;
-    Ok(base)
 }

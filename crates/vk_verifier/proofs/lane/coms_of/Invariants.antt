@@ -1,5 +1,5 @@
 use Rattle.std.proofs.Common.{◌≡◌, take}
-use Rattle.vk_verifier.specs.Verdicts.{input_coms}
+use Rattle.vk_verifier.specs.Behind.{input_coms}
 use Rattle.vk_verifier.proofs.lane.coms_of.Given as goal
 
 abbrev pub invariant-loop-seal : goal.invariant-loop-seal

@@ -1,5 +1,5 @@
 use Rattle.std.proofs.Common.{◌∙◌, ap, sym, if◌then◌else◌}
-use Rattle.vk_verifier.specs.declared.stage.TwoVerdict.TheVariants.{Same, Ready}
+use Rattle.vk_verifier.specs.declared.stage.Finding.TheVariants.{Same, Ready}
 use Rattle.vk_verifier.proofs.Bits.{same_bits_are}
 use Rattle.vk_verifier.proofs.two_halt.accepted_of.Goals as goal
 

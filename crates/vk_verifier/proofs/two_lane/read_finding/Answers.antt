@@ -1,7 +1,7 @@
 use Rattle.std.proofs.Common.{rules}
 use Rattle.vk_lines.specs.Lines.{rest_of, end_at}
 use Rattle.vk_verifier.specs.declared.answers.Part.TheVariants as part
-use Rattle.vk_verifier.specs.Verdicts.{in_part, ends_judged}
+use Rattle.vk_verifier.specs.Behind.{in_part, ends_judged}
 use Rattle.vk_verifier.specs.Two.{accepted_of, ends_found}
 use Rattle.vk_verifier.proofs.TwoFound.{ends_are}
 use Rattle.vk_verifier.proofs.two_lane.read_finding.Goals as goal

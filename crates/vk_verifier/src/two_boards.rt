@@ -1,0 +1,295 @@
+// Two replies to a board, side by side.
+ghost use Rattle.std.specs.Prelude.{◌≡◌, ℕ, Some, None, Result, Ok, Err, IsSomeAnd, IfSome, IfOk};
+ghost use Rattle.vk_io.specs.Faults.{Causes};
+ghost use Rattle.vk_lines.specs.Lines.{OnlyReads, Rest, rest_of};
+ghost use Rattle.vk_board.specs.declared.front.Front.{Front};
+ghost use Rattle.vk_board.specs.Fronts.{IsFront};
+ghost use Rattle.vk_verifier.specs.declared.answers.BoardVerdict.{BoardVerdict};
+ghost use Rattle.vk_verifier.specs.declared.two_boards.BoardStage.TheVariants.{Behind};
+ghost use Rattle.vk_verifier.specs.Behind.{Judges};
+ghost use Rattle.vk_verifier.specs.Verdicts.{Gives, plan_of};
+ghost use Rattle.vk_verifier.specs.Two.{AreAccepted, IsNextLane, IsOver, given_of};
+ghost use Rattle.vk_verifier.specs.TwoBoards.{BoardGoesOn, HasFrontRead, IsBoardCourse, IsBoardOver, IsNextOfBoard, ahead_at, ahead_past, as_two, base_at, base_on, base_past, board_ahead, board_base, board_finding, board_given, course_or, two_on};
+
+use crate::answers::{BoardVerdict, Fault, Part, VErr};
+use crate::boards::{begin, in_front, statement_of};
+use crate::halt::{Halt, known};
+use crate::stage::{Finding, Pair, TwoLane, TwoReaders, TwoVerdict};
+use crate::two::LaneChecker;
+use std::alloc::Global;
+use std::marker::Model;
+use vk_board::{Front, Head, read_front};
+use vk_io::{OutsideErr, Shelf};
+use vk_lines::Lines;
+use vk_plan::Plan;
+
+/// A board whose lanes are read beside two replies: its head, the place of the winner's seal, from
+/// 1, and how far the lanes were read.
+#[derive(Drop)]
+pub struct BoardCourse {
+    pub head: Head,
+    pub position: u32,
+    pub lanes: LaneChecker,
+}
+
+/// How far two replies to a board were read.
+#[derive(Drop)]
+pub enum BoardStage {
+    /// There is a fault before the first lane of the board.
+    Refused(BoardVerdict),
+    Behind(BoardCourse),
+}
+
+/// Reads a board, a challenge and the reply to it, and another challenge and the reply to that,
+/// lane by lane. A lane is given where both replies are accepted so far. Once no lane is given any
+/// more, it tells what the replies come to.
+#[derive(Drop)]
+pub struct TwoChecker {
+    stage: BoardStage,
+}
+
+impl Model for TwoChecker {
+    ghost use Rattle.vk_verifier.specs.declared.two_boards.BoardStage.{BoardStage};
+    ghost use Rattle.vk_verifier.specs.TwoBoards.{IsBoardStage};
+
+    ghost Value = { BoardStage };
+
+    ghost view = { λ c. c.stage };
+
+    ghost invariant = { λ c. IsBoardStage c.stage };
+}
+
+impl TwoChecker {
+    /// Begins the files, and reads the board before its first lane, both challenges and the heads
+    /// of both replies. Errs where a file is missing or longer than 2^30 bytes, and names the first
+    /// that is, in the order of the names; where the shelf fails; and for want of memory.
+    #[tactic(auto, unfolding(crate::specs::TwoBoards::two_on, crate::specs::TwoBoards::base_on))]
+    pub fn start<S: Shelf>(
+        alloc: Global,
+        shelf: &mut S,
+        board: &str,
+        challenge1: &str,
+        reply1: &str,
+        challenge2: &str,
+        reply2: &str,
+    ) -> Result<TwoChecker, VErr>
+        ensures told { IfSome (S.held shelf.old) (λ files. Gives (λ checker. board_ahead checker files) result
+            (two_on files board.now challenge1.now reply1.now challenge2.now reply2.now)) }
+        ensures base { IfSome (S.held shelf.old) (λ files. Gives (λ checker. board_base checker) result
+            (base_on files board.now challenge1.now reply1.now challenge2.now reply2.now)) }
+        ensures none_given { IfOk result (λ checker. board_given checker ≡ 0) }
+        ensures shelf { OnlyReads S.held S.Shelf.faults VErr.Failed result shelf.old shelf.new }
+    {
+        let board = begin(alloc, shelf, board, Part::Board)?;
+        let first_challenge = begin(alloc, shelf, challenge1, Part::Challenge)?;
+        let first = begin(alloc, shelf, reply1, Part::Reply)?;
+        let second_challenge = begin(alloc, shelf, challenge2, Part::SecondChallenge)?;
+        let second = begin(alloc, shelf, reply2, Part::SecondReply)?;
+        let pair = Pair {
+            board,
+            reply: first,
+        };
+        let readers = TwoReaders { pair, second };
+        let checker = begin_checker(alloc, shelf, first_challenge, second_challenge, readers)?;
+        Ok(checker)
+    }
+
+    /// Gives the next lane, where both replies are accepted so far, and none where every lane was
+    /// given or one of the replies has its fault in the lane or before it. What they come to is
+    /// known then.
+    pub fn next_lane<S: Shelf>(
+        self,
+        alloc: Global,
+        shelf: &mut S,
+    ) -> Result<(TwoChecker, Option<TwoLane>), OutsideErr>
+        ensures told { IfSome (S.held shelf.old) (λ files. IfOk result (λ next. BoardGoesOn (board_ahead self files) next.1 next.0 files)) }
+        ensures lane { IfOk result (λ next. IfSome next.1 (IsNextOfBoard self next.0)) }
+        ensures none { IfOk result (λ next. next.1 ≡ None → IsBoardOver next.0 × (board_given next.0 ≡ board_given self)) }
+        ensures base { IfOk result (λ next. board_base next.0 ≡ board_base self) }
+        ensures shelf { OnlyReads S.held S.Shelf.faults OutsideErr.Failed result shelf.old shelf.new }
+    {
+        let TwoChecker { stage } = self;
+        match stage {
+            BoardStage::Refused(verdict) => Ok((
+                TwoChecker {
+                    stage: BoardStage::Refused(verdict),
+                },
+                None,
+            )),
+            BoardStage::Behind(course) => {
+                let (course, lane) = next_in(alloc, shelf, course)?;
+                Ok((
+                    TwoChecker {
+                        stage: BoardStage::Behind(course),
+                    },
+                    lane,
+                ))
+            }
+        }
+    }
+
+    /// What both replies come to. Both are accepted only where every lane was given.
+    pub fn finding(&self) -> TwoVerdict
+        requires { IsBoardOver self.now }
+        ensures value { board_finding self.now ≡ Some result }
+        ensures all { AreAccepted result → IsSomeAnd (board_base self.now) (λ base. board_given self.now ≡ base.front.head.lanes) }
+    {
+        match &self.stage {
+            BoardStage::Refused(verdict) => Finding::Refused {
+                second: false,
+                verdict: *verdict,
+            },
+            BoardStage::Behind(course) => as_two(course.lanes.finding()),
+        }
+    }
+
+    /// The circuit of the board, to which its lanes are held.
+    pub fn plan(&self) -> &Plan
+        requires { HasFrontRead self.now }
+        ensures { IfSome (board_base self.now) (λ base. plan_of base.front ≡ result.now) }
+    {
+        match &self.stage {
+            BoardStage::Refused(_) => unreachable!(),
+            BoardStage::Behind(course) => course.lanes.statement().plan(),
+        }
+    }
+
+    /// The head of the board.
+    pub fn head(&self) -> Head
+        requires { HasFrontRead self.now }
+        ensures { IfSome (board_base self.now) (λ base. base.front.head ≡ result) }
+    {
+        match &self.stage {
+            BoardStage::Refused(_) => unreachable!(),
+            BoardStage::Behind(course) => course.head,
+        }
+    }
+
+    /// The board's head and how far its lanes were read; or the verdict on it, where there is a
+    /// fault before them.
+    pub fn into_course(self) -> Result<BoardCourse, BoardVerdict>
+        ensures value { self ≡ course_or result }
+        ensures right { IfOk result IsBoardCourse }
+    {
+        let TwoChecker { stage } = self;
+        match stage {
+            BoardStage::Refused(verdict) => Err(verdict),
+            BoardStage::Behind(course) => Ok(course),
+        }
+    }
+}
+
+/// Reads the board before its first lane, both challenges and the heads of both replies.
+fn begin_checker<S: Shelf>(
+    alloc: Global,
+    shelf: &mut S,
+    first_challenge: Lines,
+    second_challenge: Lines,
+    readers: TwoReaders,
+) -> Result<TwoChecker, OutsideErr>
+    ensures told { IfSome (S.held shelf.old) (λ files. IfOk result (λ checker. board_ahead checker files ≡
+        ahead_at (rest_of readers.pair.board files) (rest_of first_challenge files) (rest_of readers.pair.reply files) (rest_of second_challenge files) (rest_of readers.second files))) }
+    ensures base { IfSome (S.held shelf.old) (λ files. IfOk result (λ checker. board_base checker ≡
+        base_at (rest_of readers.pair.board files) (rest_of first_challenge files) (rest_of readers.pair.reply files) (rest_of second_challenge files) (rest_of readers.second files))) }
+    ensures none_given { IfOk result (λ checker. board_given checker ≡ 0) }
+    ensures shelf { OnlyReads S.held S.Shelf.faults OutsideErr.Failed result shelf.old shelf.new }
+{
+    let mut readers = readers;
+    let read = in_front(read_front(alloc, shelf, &mut readers.pair.board));
+    match known(read)? {
+        Err(verdict) => Ok(TwoChecker {
+            stage: BoardStage::Refused(verdict),
+        }),
+        Ok(front) => {
+            let checker = begin_behind(
+                alloc,
+                shelf,
+                front,
+                first_challenge,
+                second_challenge,
+                readers,
+            )?;
+            Ok(checker)
+        }
+    }
+}
+
+/// Reads both challenges and the heads of both replies, behind this front of the board.
+fn begin_behind<S: Shelf>(
+    alloc: Global,
+    shelf: &mut S,
+    front: Front,
+    first_challenge: Lines,
+    second_challenge: Lines,
+    readers: TwoReaders,
+) -> Result<TwoChecker, OutsideErr>
+    requires { IsFront front }
+    ensures told { IfSome (S.held shelf.old) (λ files. IfOk result (λ checker. board_ahead checker files ≡
+        ahead_past (Ok (front, rest_of readers.pair.board files)) (rest_of first_challenge files) (rest_of readers.pair.reply files) (rest_of second_challenge files) (rest_of readers.second files))) }
+    ensures base { IfSome (S.held shelf.old) (λ files. IfOk result (λ checker. board_base checker ≡
+        base_past (Ok (front, rest_of readers.pair.board files)) (rest_of first_challenge files) (rest_of readers.pair.reply files) (rest_of second_challenge files) (rest_of readers.second files))) }
+    ensures none_given { IfOk result (λ checker. board_given checker ≡ 0) }
+    ensures shelf { OnlyReads S.held S.Shelf.faults OutsideErr.Failed result shelf.old shelf.new }
+{
+    let head = front.head;
+    let position = front.position;
+    let statement = statement_of(alloc, front)?;
+    let lanes = LaneChecker::begin(
+        alloc,
+        shelf,
+        statement,
+        first_challenge,
+        second_challenge,
+        readers,
+    )?;
+    let course = BoardCourse {
+        head,
+        position,
+        lanes,
+    };
+    Ok(TwoChecker {
+        stage: BoardStage::Behind(course),
+    })
+}
+
+/// The next lane of the board, if there is one.
+fn next_in<S: Shelf>(
+    alloc: Global,
+    shelf: &mut S,
+    course: BoardCourse,
+) -> Result<(BoardCourse, Option<TwoLane>), OutsideErr>
+    requires { IsBoardCourse course }
+    ensures told { IfSome (S.held shelf.old) (λ files. IfOk result (λ next. BoardGoesOn (board_ahead (Behind course) files) next.1 (Behind next.0) files)) }
+    ensures right { IfOk result (λ next. IsBoardCourse next.0) }
+    ensures lane { IfOk result (λ next. IfSome next.1 (IsNextLane course.lanes next.0.lanes)) }
+    ensures none { IfOk result (λ next. next.1 ≡ None → IsOver next.0.lanes × (given_of next.0.lanes ≡ given_of course.lanes)) }
+    ensures base { IfOk result (λ next. board_base (Behind next.0) ≡ board_base (Behind course)) }
+    ensures shelf { OnlyReads S.held S.Shelf.faults OutsideErr.Failed result shelf.old shelf.new }
+{
+    let BoardCourse {
+        head,
+        position,
+        lanes,
+    } = course;
+    let (lanes, lane) = lanes.next_lane(alloc, shelf)?;
+    let course = BoardCourse {
+        head,
+        position,
+        lanes,
+    };
+    Ok((course, lane))
+}
+
+/// What is found behind the front, as it is told of a board.
+pub fn as_two(finding: Finding<Fault>) -> TwoVerdict
+    ensures { result ≡ as_two finding }
+{
+    match finding {
+        Finding::Refused { second, verdict } => Finding::Refused {
+            second,
+            verdict: BoardVerdict::from(verdict),
+        },
+        Finding::Same => Finding::Same,
+        Finding::Ready => Finding::Ready,
+    }
+}
