@@ -9,7 +9,7 @@ use Rattle.vk_verifier.specs.declared.answers.Part.{Part}
 use Rattle.vk_verifier.specs.declared.answers.Part.TheVariants as part
 use Rattle.vk_verifier.specs.declared.answers.VErr.{VErr}
 use Rattle.vk_verifier.specs.declared.answers.VErr.TheVariants.{TooLong}
-use Rattle.vk_verifier.specs.Two.{of_files}
+use Rattle.vk_verifier.specs.TwoBoards.{of_files}
 use Rattle.vk_verifier.specs.Verdicts.{begun, from_start}
 use Rattle.vk_bids.specs.Headline.{HeldAttempt, HeldFiles, IsHeld}
 

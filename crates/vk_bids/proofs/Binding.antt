@@ -273,7 +273,7 @@ module _ (board first_challenge first_reply second_challenge second_reply : List
       let P : Front → Type 0 = λ front. All (LaneShows front) found.lanes in
       let A : Front → Type 0 = λ front. AreSeals front.head front.seals in
       let S : Front → Type 0 = λ front. IsSealOf front secret index in
-      inr (found, is, sealed secret found is_secret (subst P (sym is.front) is.outcomes) index (subst A (sym is.front) two.first.board_is.1.seals) (subst S (sym is.front) seal))
+      inr (found, is, sealed secret found is_secret (subst P (sym is.front) is.outcomes) index (subst A (sym is.front) two.first.right.seals) (subst S (sym is.front) seal))
 
   of_other : (line : ℕ) (extraction : Extraction) → IsOf two extraction
       → ClashOr two (λ found. confrontation_of extraction (Err line) ≡ malformed.Malformed line) (confrontation_of extraction (Err line))

@@ -1,6 +1,7 @@
 pub mod Agreeing
 pub mod Begun
 pub mod Binding
+pub mod Boards
 pub mod Confronted
 pub mod ConfrontedFiles
 pub mod ConfrontNamed

@@ -1,29 +1,26 @@
 -- The extraction of named files is that of their bytes.
-use Rattle.std.proofs.Common.{◌≡◌, ℕ, List, Option, Result, Ok, sym, ap, ◌∙◌}
+use Rattle.std.proofs.Common.{◌≡◌, ℕ, List, Result, Ok, sym, ap, ◌∙◌}
 use Rattle.vk_io.specs.Files.{Files}
 use Rattle.vk_lines.specs.Lines.{Rest}
 use Rattle.vk_row.specs.LaneTests.{◌>>=◌}
 use Rattle.vk_verifier.specs.declared.answers.VErr.{VErr}
-use Rattle.vk_verifier.specs.declared.stage.Base.{Base}
+use Rattle.vk_verifier.specs.declared.answers.BoardVerdict.{BoardVerdict}
 use Rattle.vk_verifier.specs.Verdicts.{from_start}
-use Rattle.vk_verifier.specs.Two.{Ahead, ahead_at, base_at, base_in, base_on, of_files, two_on}
+use Rattle.vk_verifier.specs.Two.{Ahead}
+use Rattle.vk_verifier.specs.TwoBoards.{ahead_at, base_at, base_on, of_files, two_on}
 use Rattle.vk_verifier.proofs.Steps.{bind_found, bind_ok, value_same}
 use Rattle.vk_bids.specs.declared.extraction.Extraction.{Extraction}
 use Rattle.vk_bids.specs.Extraction.{extraction_of, extraction_on}
 use Rattle.vk_bids.specs.Headline.{ComesOf, FilesAreExtracted, HeldFiles, extraction_of_held}
 use Rattle.vk_bids.proofs.Begun.{files_found, files_shown}
 
--- what is read before the first lane
-abbrev base_from : Rest → Rest → Rest → Rest → Rest → Option Base
-base_from board first_challenge first_reply second_challenge second_reply = base_in (base_at board first_challenge first_reply second_challenge second_reply)
-
 module _ (files : Files) (board first_challenge first_reply second_challenge second_reply : List ℕ) where
   -- what comes of these files
   abbrev of_these : {X : Type 0} → (Rest → Rest → Rest → Rest → Rest → X) → Result X VErr
   of_these whole = of_files whole files board first_challenge first_reply second_challenge second_reply
 
-  abbrev base_then : Ahead → Result Extraction VErr
-  base_then ahead = of_these base_from >>= λ base. Ok (extraction_of base ahead)
+  abbrev base_then : Ahead BoardVerdict → Result Extraction VErr
+  base_then ahead = of_these base_at >>= λ base. Ok (extraction_of base ahead)
 
   held_extracted : (held : HeldFiles files board first_challenge first_reply second_challenge second_reply)
       → extraction_on files board first_challenge first_reply second_challenge second_reply ≡ Ok (extraction_of_held held)
@@ -35,8 +32,8 @@ module _ (files : Files) (board first_challenge first_reply second_challenge sec
       let d = from_start held.second.challenge_bytes in
       let s = from_start held.second.reply_bytes in
       bind_found (of_these ahead_at) base_then (ahead_at b c r d s) (files_found ahead_at files board first_challenge first_reply second_challenge second_reply held)
-      ∙ bind_found (of_these base_from) (λ base. Ok (extraction_of base (ahead_at b c r d s))) (base_from b c r d s)
-      (files_found base_from files board first_challenge first_reply second_challenge second_reply held)
+      ∙ bind_found (of_these base_at) (λ base. Ok (extraction_of base (ahead_at b c r d s))) (base_at b c r d s)
+      (files_found base_at files board first_challenge first_reply second_challenge second_reply held)
 
   named_comes : (extraction : Extraction) → extraction_on files board first_challenge first_reply second_challenge second_reply ≡ Ok extraction
       → ComesOf files board first_challenge first_reply second_challenge second_reply extraction

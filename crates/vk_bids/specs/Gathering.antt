@@ -9,33 +9,35 @@ use Rattle.vk_board.specs.Reading.{seats_of}
 use Rattle.vk_extractor.specs.Clash.{clash_of_lane}
 use Rattle.vk_extractor.specs.declared.lane.LaneErr.{LaneErr}
 use Rattle.vk_extractor.specs.declared.lane.LaneErr.TheVariants.{Clash, NoMemory}
-use Rattle.vk_board.specs.declared.front.Front.{Front}
 use Rattle.vk_verifier.specs.declared.stage.TwoLane.{TwoLane}
 use Rattle.vk_verifier.specs.declared.stage.Base.{Base}
 use Rattle.vk_verifier.specs.declared.stage.Stage.{Stage}
+use Rattle.vk_verifier.specs.Statement.{StatementValue}
 use Rattle.vk_verifier.specs.Two.{IsTwoLane, base_of, given_of}
 use Rattle.vk_bids.specs.declared.bids.LaneBids.{LaneBids}
 use Rattle.vk_bids.specs.Bids.{opened_bids}
 
 -- the bids of the lane of that number, or its first clash
-abbrev pub bids_by : Front → ℕ → List Shown → List Shown → Option TwoOpeningsSeen → Result (Option LaneBids) TwoOpeningsSeen
-bids_by front number zero one (Some two) = Err two
-bids_by front number zero one None = Ok (Some (record { number = number; bids = opened_bids (seats_of front.seals) zero one }))
+abbrev pub bids_by : StatementValue → ℕ → List Shown → List Shown → Option TwoOpeningsSeen
+    → Result (Option LaneBids) TwoOpeningsSeen
+bids_by s number zero one (Some two) = Err two
+bids_by s number zero one None = Ok (Some (record { number = number; bids = opened_bids (seats_of s.seals) zero one }))
 
 -- what is shown for bit 0 comes first
-abbrev pub bids_of : Front → ℕ → LaneCase → List Shown → List Shown → Result (Option LaneBids) TwoOpeningsSeen
-bids_of front number case zero one = bids_by front number zero one (clash_of_lane case zero one)
+abbrev pub bids_of : StatementValue → ℕ → LaneCase → List Shown → List Shown → Result (Option LaneBids) TwoOpeningsSeen
+bids_of s number case zero one = bids_by s number zero one (clash_of_lane case zero one)
 
 -- of a lane whose bits are these: nothing where they are the same
-abbrev pub lane_by : Bool → Bool → Front → ℕ → LaneCase → List Shown → List Shown → Result (Option LaneBids) TwoOpeningsSeen
-lane_by false true front number case first second = bids_of front number case first second
-lane_by true false front number case first second = bids_of front number case second first
-lane_by false false front number case first second = Ok None
-lane_by true true front number case first second = Ok None
+abbrev pub lane_by : Bool → Bool → StatementValue → ℕ → LaneCase → List Shown → List Shown
+    → Result (Option LaneBids) TwoOpeningsSeen
+lane_by false true s number case first second = bids_of s number case first second
+lane_by true false s number case first second = bids_of s number case second first
+lane_by false false s number case first second = Ok None
+lane_by true true s number case first second = Ok None
 
 -- the lane of that number
-abbrev pub lane_found : Front → ℕ → TwoLane → Result (Option LaneBids) TwoOpeningsSeen
-lane_found front number lane = lane_by lane.first_bit lane.second_bit front number lane.case lane.first lane.second
+abbrev pub lane_found : StatementValue → ℕ → TwoLane → Result (Option LaneBids) TwoOpeningsSeen
+lane_found s number lane = lane_by lane.first_bit lane.second_bit s number lane.case lane.first lane.second
 
 -- what is shown for that bit, of a reply for the first bit and one for another
 abbrev pub shown_for : Bool → Bool → List Shown → List Shown → List Shown
@@ -49,16 +51,18 @@ abbrev pub lane_shown : Bool → TwoLane → List Shown
 lane_shown bit lane = shown_for bit lane.first_bit lane.first lane.second
 
 -- with what the lane of that number gives after what was gathered before it
-abbrev pub added : Front → ℕ → TwoLane → Result (List LaneBids) TwoOpeningsSeen → Result (List LaneBids) TwoOpeningsSeen
-added front number lane state = do
+abbrev pub added : StatementValue → ℕ → TwoLane → Result (List LaneBids) TwoOpeningsSeen
+    → Result (List LaneBids) TwoOpeningsSeen
+added s number lane state = do
   before ← state
-  found ← lane_found front number lane
+  found ← lane_found s number lane
   Ok (before ++ option_to_list found)
 
 -- lanes one after another, the first of them with that number, after what was gathered before them
-unfoldable pub gathered_from : Front → Result (List LaneBids) TwoOpeningsSeen → ℕ → List TwoLane → Result (List LaneBids) TwoOpeningsSeen
-gathered_from front state number [] = state
-gathered_from front state number (lane ∷ lanes) = gathered_from front (added front number lane state) (number + 1) lanes
+unfoldable pub gathered_from : StatementValue → Result (List LaneBids) TwoOpeningsSeen → ℕ → List TwoLane
+    → Result (List LaneBids) TwoOpeningsSeen
+gathered_from s state number [] = state
+gathered_from s state number (lane ∷ lanes) = gathered_from s (added s number lane state) (number + 1) lanes
 
 -- a clash that is answered is what is given; want of memory says nothing
 abbrev pub IsClashOf : {X : Type 0} → LaneErr → Result X TwoOpeningsSeen → Type 0
@@ -70,5 +74,5 @@ pub record IsLastLane (stage : Stage) (lane : TwoLane) : Type 0 where
   pub base : Base
   pub is : base_of stage ≡ Some base
   pub some : 1 ≤ given_of stage
-  pub within : given_of stage ≤ base.statement.front.head.lanes
-  pub checked : IsTwoLane base.statement.front base.statement.plan (given_of stage) lane
+  pub within : given_of stage ≤ base.statement.lanes
+  pub checked : IsTwoLane base.statement (given_of stage) lane

@@ -1,7 +1,9 @@
 pub mod Bids
+pub mod Opening
 pub mod Outcome
 pub mod Texts
 pub mod Gathering
+pub mod LaneExtraction
 pub mod Extraction
 pub mod Headline
 pub mod Laws

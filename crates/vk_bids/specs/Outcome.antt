@@ -1,65 +1,22 @@
 -- What the bids of a lane show of the published outcome.
-use Rattle.std.specs.Prelude.{◌≡◌, ℕ, ◌-◌, ◌^◌, ◌<◌, ◌≤◌, All, List, map, slice_get, slice_index_or, Some}
-use Rattle.vk_residue.specs.Residue.{sum}
-use Rattle.vk_commit.specs.Commitment.{Opens}
-use Rattle.vk_commit.specs.declared.place.Place.{Place}
-use Rattle.vk_plan.specs.Plans.{PlanValue}
-use Rattle.vk_wire.specs.declared.wire.WireCom.{WireCom}
-use Rattle.vk_wire.specs.declared.wire.Shown.{Shown}
-use Rattle.vk_wire.specs.declared.wire.Shown.TheVariants.{Half}
-use Rattle.vk_row.specs.declared.case.LaneCase.{LaneCase}
-use Rattle.vk_row.specs.Lanes.{nothing_shown}
-use Rattle.vk_board.specs.declared.board.SealLines.{SealLines}
-use Rattle.vk_board.specs.declared.board.LaneLines.{LaneLines}
+use Rattle.std.specs.Prelude.{◌≡◌, ℕ, ◌^◌, ◌<◌, All, List, map, slice_get, Some}
+use Rattle.vk_board.specs.declared.front.Front.{Front}
 use Rattle.vk_board.specs.Reading.{seats_of}
 use Rattle.vk_vickrey.specs.Outcomes.{IsVickreyOutcome}
-use Rattle.vk_extractor.specs.Laws.{AreOfLane}
-use Rattle.vk_extractor.specs.declared.lane.LaneErr.{LaneErr}
-use Rattle.vk_extractor.specs.declared.lane.LaneErr.TheVariants.{Clash, NoMemory}
-use Rattle.vk_board.specs.declared.front.Front.{Front}
-use Rattle.vk_verifier.specs.Verdicts.{case_of}
+use Rattle.vk_verifier.specs.Verdicts.{statement_of}
 use Rattle.vk_bids.specs.declared.bids.LaneBids.{LaneBids}
 use Rattle.vk_bids.specs.declared.bids.OpenedBid.{OpenedBid}
-
--- all that is public of the lane of that number, from 1, with some lines on the board
-abbrev pub IsCaseOf : Front → ℕ → LaneCase → Type 0
-IsCaseOf front number case = (lines : LaneLines) × (case ≡ case_of front number lines)
-
--- where a commitment of a seal stands: its first at slot 0, its second at slot 1
-abbrev pub seal_place : Front → ℕ → ℕ → ℕ → Place
-seal_place front seat number slot = record { auction = front.head.auction; seat = seat; lane = number; slot = slot }
-
--- the bid is the sum of two halves that open, in the lane of that number from 1, the seal at that index from 0
-pub record OpensSeal (front : Front) (number index : ℕ) (bid : OpenedBid) : Type 0 where
-  pub numbered : 1 ≤ number
-  pub seal : SealLines
-  pub digests : WireCom
-  pub on_board : slice_get front.seals index ≡ Some seal
-  pub in_lane : slice_get seal.coms (number - 1) ≡ Some digests
-  pub seat : bid.seat ≡ seal.seat
-  pub first_opens : Opens (seal_place front seal.seat number 0) digests.first bid.first
-  pub second_opens : Opens (seal_place front seal.seat number 1) digests.second bid.second
-  pub is_sum : bid.bid ≡ sum bid.first.value bid.second.value
-
--- the openings of the bids, in the order of the seals, are those that are shown for bit 0 and for bit 1
-abbrev pub AreShownIn : List Shown → List Shown → List OpenedBid → Type 0
-AreShownIn zero one bids =
-    (index : ℕ) (bid : OpenedBid) → slice_get bids index ≡ Some bid
-    → (slice_index_or zero index nothing_shown ≡ Half bid.first) × (slice_index_or one index nothing_shown ≡ Half bid.second)
+use Rattle.vk_bids.specs.Opening.{OpensSeal}
 
 -- there is one bid for each seal, it opens the seal in the lane of that number, and is below 2^width; and
 -- the outcome of the bids is the published one
 pub record ShowsOutcome (front : Front) (number : ℕ) (bids : List OpenedBid) : Type 0 where
   pub one_each : map (λ bid. bid.seat) bids ≡ seats_of front.seals
-  pub opened : (index : ℕ) (bid : OpenedBid) → slice_get bids index ≡ Some bid → OpensSeal front number index bid
+  pub opened : (index : ℕ) (bid : OpenedBid) → slice_get bids index ≡ Some bid
+      → OpensSeal (statement_of front) number index bid
   pub within_width : All (λ bid. bid < 2 ^ front.head.width) (map (λ bid. bid.bid) bids)
   pub outcome : IsVickreyOutcome (map (λ bid. bid.bid) bids) front.position front.head.price
 
 -- the bids of the lane do
 abbrev pub LaneShows : Front → LaneBids → Type 0
 LaneShows front lane = ShowsOutcome front lane.number lane.bids
-
--- a clash is two openings of one entry of the lane, with different values; want of memory says nothing
-abbrev pub OpensTwice : LaneErr → PlanValue → LaneCase → Type 0
-OpensTwice (Clash two) plan case = AreOfLane plan case two
-OpensTwice NoMemory plan case = Unit {0}

@@ -6,7 +6,7 @@ ghost use Rattle.vk_extractor.specs.Clash.{clash_of_lane};
 ghost use Rattle.vk_extractor.specs.Refused.{IsRefusalOf};
 ghost use Rattle.vk_extractor.specs.declared.lane.LaneErr.TheVariants.{Clash};
 ghost use Rattle.vk_bids.specs.Bids.{opened_bid, opened_bids};
-ghost use Rattle.vk_bids.specs.Outcome.{IsCaseOf, OpensTwice, ShowsOutcome};
+ghost use Rattle.vk_bids.specs.Opening.{IsCaseOf, OpensTwice, OpensValues};
 
 use crate::bids::{LaneBids, OpenedBid};
 use std::alloc::Global;
@@ -18,11 +18,12 @@ use vk_seq::Seq;
 use vk_verifier::Statement;
 use vk_wire::Shown;
 
-/// The bids of the lane, counted from 1, from what was accepted for bit 0 and what was accepted for bit 1.
-/// They are below 2^width, open the lane's seals, and their outcome is the published one.
+/// The values of the seals in the lane, counted from 1, from what was accepted for bit 0 and what
+/// was accepted for bit 1. They open the lane's seals, and are inputs for which the statement's
+/// circuit holds.
 ///
-/// Where an entry was opened with two values the answer is the first such entry's two openings, that of
-/// bit 0 first.
+/// Where an entry was opened with two values the answer is the first such entry's two openings,
+/// that of bit 0 first.
 pub fn extract_bids(
     alloc: Global,
     statement: &Statement,
@@ -32,22 +33,22 @@ pub fn extract_bids(
     one: &[Shown],
 ) -> Result<LaneBids, LaneErr>
     requires first { 1 ≤ lane }
-    requires last { lane ≤ statement.now.front.head.lanes }
-    requires case { IsCaseOf statement.now.front lane case.now }
+    requires last { lane ≤ statement.now.lanes }
+    requires case { IsCaseOf statement.now lane case.now }
     requires zero { IsAccepted statement.now.plan case.now false zero.now }
     requires one { IsAccepted statement.now.plan case.now true one.now }
     ensures number { IfOk result (λ found. found.number ≡ lane) }
     ensures bids { IfOk result
-        (λ found. found.bids ≡ opened_bids (seats_of statement.now.front.seals) zero.now one.now) }
-    ensures outcome { IfOk result (λ found. ShowsOutcome statement.now.front lane found.bids) }
+        (λ found. found.bids ≡ opened_bids (seats_of statement.now.seals) zero.now one.now) }
+    ensures opens { IfOk result (λ found. OpensValues statement.now lane found.bids) }
     ensures agree { OnOk result (clash_of_lane case.now zero.now one.now ≡ None) }
     ensures clash { IfSome (clash_of_lane case.now zero.now one.now) (λ two. result ≡ Err (Clash two)) }
     ensures refused { IfErr result (λ refused. IsRefusalOf refused case.now zero.now one.now) }
     ensures opened_twice { IfErr result (λ refused. OpensTwice refused statement.now.plan case.now) }
 {
-    // That the values of all wires hold for the plan shows the outcome.
+    // The values of all wires hold for the circuit, and those of the seals are its inputs'.
     let _values = extract_lane(alloc, statement.plan(), case, zero, one)?;
-    let bids = bids_of(alloc, statement.front().seals.as_slice(), zero, one)?;
+    let bids = bids_of(alloc, statement.seals(), zero, one)?;
     Ok(LaneBids { number: lane, bids })
 }
 

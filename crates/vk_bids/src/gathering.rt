@@ -4,7 +4,7 @@ ghost use Rattle.std.specs.Option.{option_to_list};
 ghost use Rattle.vk_row.specs.Lanes.{IsAccepted};
 ghost use Rattle.vk_verifier.specs.Two.{IsTwoLane, base_of, given_of};
 ghost use Rattle.vk_bids.specs.Gathering.{IsClashOf, IsLastLane, added, bids_of, lane_found};
-ghost use Rattle.vk_bids.specs.Outcome.{IsCaseOf, LaneShows};
+ghost use Rattle.vk_bids.specs.Opening.{IsCaseOf, LaneOpens};
 
 use crate::bids::LaneBids;
 use crate::extracting::extract_bids;
@@ -14,7 +14,7 @@ use vk_extractor::LaneErr;
 use vk_residue::NoMemory;
 use vk_row::LaneCase;
 use vk_seq::Seq;
-use vk_verifier::{Statement, TwoChecker, TwoLane};
+use vk_verifier::{LaneChecker, Statement, TwoLane};
 use vk_wire::Shown;
 
 /// The bids of the lanes so far, or the first clash.
@@ -22,21 +22,21 @@ pub type Gathered = Result<Seq<LaneBids>, TwoOpenings>;
 
 /// With what the lane gives, which is the last that was given. After a clash nothing is gathered.
 ///
-/// A clash, of this lane or of one before it, is answered whatever memory there is. Errs for want of memory,
-/// where there is none.
+/// A clash, of this lane or of one before it, is answered whatever memory there is. Errs for want
+/// of memory, where there is none.
 pub fn with_lane(
     alloc: Global,
-    checker: &TwoChecker,
+    checker: &LaneChecker,
     lane: &TwoLane,
     before: Gathered,
 ) -> Result<Gathered, NoMemory>
     requires { IsLastLane checker.now lane.now }
     ensures added { IfSome (base_of checker.now) (λ base. IfOk result (λ after.
-        added base.statement.front (given_of checker.now) lane.now before ≡ after)) }
+        added base.statement (given_of checker.now) lane.now before ≡ after)) }
     ensures clash { IfSome (base_of checker.now) (λ base.
-        IfErr (added base.statement.front (given_of checker.now) lane.now before) (λ two. result ≡ Ok (Err two))) }
-    ensures shows { IfSome (base_of checker.now) (λ base. IfOk before (All (LaneShows base.statement.front))
-        → IfOk result (λ after. IfOk after (All (LaneShows base.statement.front)))) }
+        IfErr (added base.statement (given_of checker.now) lane.now before) (λ two. result ≡ Ok (Err two))) }
+    ensures opens { IfSome (base_of checker.now) (λ base. IfOk before (All (LaneOpens base.statement))
+        → IfOk result (λ after. IfOk after (All (LaneOpens base.statement)))) }
 {
     match before {
         Ok(bids) => {
@@ -50,17 +50,17 @@ pub fn with_lane(
 /// With the bids of the lane, or its first clash, which is answered whatever memory there is.
 fn with_more(
     alloc: Global,
-    checker: &TwoChecker,
+    checker: &LaneChecker,
     lane: &TwoLane,
     before: Seq<LaneBids>,
 ) -> Result<Gathered, NoMemory>
     requires { IsLastLane checker.now lane.now }
     ensures added { IfSome (base_of checker.now) (λ base. IfOk result (λ after.
-        added base.statement.front (given_of checker.now) lane.now (Ok before) ≡ after)) }
+        added base.statement (given_of checker.now) lane.now (Ok before) ≡ after)) }
     ensures clash { IfSome (base_of checker.now) (λ base.
-        IfErr (lane_found base.statement.front (given_of checker.now) lane.now) (λ two. result ≡ Ok (Err two))) }
-    ensures shows { IfSome (base_of checker.now) (λ base. All (LaneShows base.statement.front) before
-        → IfOk result (λ after. IfOk after (All (LaneShows base.statement.front)))) }
+        IfErr (lane_found base.statement (given_of checker.now) lane.now) (λ two. result ≡ Ok (Err two))) }
+    ensures opens { IfSome (base_of checker.now) (λ base. All (LaneOpens base.statement) before
+        → IfOk result (λ after. IfOk after (All (LaneOpens base.statement)))) }
 {
     let mut bids = before;
     let number = u32::from(lane.case.lane);
@@ -73,11 +73,11 @@ fn with_more(
     }
 }
 
-/// Appends the bids of the lane, counted from 1, where its two bits differ. Nothing is appended where they
-/// are the same.
+/// Appends the bids of the lane, counted from 1, where its two bits differ. Nothing is appended
+/// where they are the same.
 ///
-/// Errs, with the bids as before, where a commitment of the lane was opened with two values, and then answers
-/// the first such one's two openings; and for want of memory.
+/// Errs, with the bids as before, where a commitment of the lane was opened with two values, and
+/// then answers the first such one's two openings; and for want of memory.
 pub fn add_lane(
     alloc: Global,
     statement: &Statement,
@@ -86,12 +86,12 @@ pub fn add_lane(
     bids: &mut Seq<LaneBids>,
 ) -> Result<(), LaneErr>
     requires first { 1 ≤ number }
-    requires last { number ≤ statement.now.front.head.lanes }
-    requires lane { IsTwoLane statement.now.front statement.now.plan number lane.now }
-    ensures added { OnOk result (added statement.now.front number lane.now (Ok bids.old) ≡ Ok bids.new) }
-    ensures shows { OnOk result (All (LaneShows statement.now.front) bids.old → All (LaneShows statement.now.front) bids.new) }
-    ensures clash { IfErr (lane_found statement.now.front number lane.now) (λ two. result ≡ Err (LaneErr.Clash two)) }
-    ensures refused { IfErr result (λ refused. IsClashOf refused (lane_found statement.now.front number lane.now)) }
+    requires last { number ≤ statement.now.lanes }
+    requires lane { IsTwoLane statement.now number lane.now }
+    ensures added { OnOk result (added statement.now number lane.now (Ok bids.old) ≡ Ok bids.new) }
+    ensures opens { OnOk result (All (LaneOpens statement.now) bids.old → All (LaneOpens statement.now) bids.new) }
+    ensures clash { IfErr (lane_found statement.now number lane.now) (λ two. result ≡ Err (LaneErr.Clash two)) }
+    ensures refused { IfErr result (λ refused. IsClashOf refused (lane_found statement.now number lane.now)) }
     ensures as_before { OnErr result (bids.new ≡ bids.old) }
 {
     let found = bids_in(alloc, statement, number, lane)?;
@@ -121,12 +121,12 @@ fn bids_in(
     lane: &TwoLane,
 ) -> Result<Option<LaneBids>, LaneErr>
     requires first { 1 ≤ number }
-    requires last { number ≤ statement.now.front.head.lanes }
-    requires lane { IsTwoLane statement.now.front statement.now.plan number lane.now }
-    ensures found { IfOk result (λ found. lane_found statement.now.front number lane.now ≡ Ok found) }
-    ensures shows { IfOk result (λ found. IfSome found (LaneShows statement.now.front)) }
-    ensures clash { IfErr (lane_found statement.now.front number lane.now) (λ two. result ≡ Err (LaneErr.Clash two)) }
-    ensures refused { IfErr result (λ refused. IsClashOf refused (lane_found statement.now.front number lane.now)) }
+    requires last { number ≤ statement.now.lanes }
+    requires lane { IsTwoLane statement.now number lane.now }
+    ensures found { IfOk result (λ found. lane_found statement.now number lane.now ≡ Ok found) }
+    ensures opens { IfOk result (λ found. IfSome found (LaneOpens statement.now)) }
+    ensures clash { IfErr (lane_found statement.now number lane.now) (λ two. result ≡ Err (LaneErr.Clash two)) }
+    ensures refused { IfErr result (λ refused. IsClashOf refused (lane_found statement.now number lane.now)) }
 {
     let first = lane.first.as_slice();
     let second = lane.second.as_slice();
@@ -147,14 +147,14 @@ fn bids_of(
     one: &[Shown],
 ) -> Result<Option<LaneBids>, LaneErr>
     requires first { 1 ≤ number }
-    requires last { number ≤ statement.now.front.head.lanes }
-    requires case { IsCaseOf statement.now.front number case.now }
+    requires last { number ≤ statement.now.lanes }
+    requires case { IsCaseOf statement.now number case.now }
     requires zero { IsAccepted statement.now.plan case.now false zero.now }
     requires one { IsAccepted statement.now.plan case.now true one.now }
-    ensures found { IfOk result (λ found. bids_of statement.now.front number case.now zero.now one.now ≡ Ok found) }
-    ensures shows { IfOk result (λ found. IfSome found (LaneShows statement.now.front)) }
-    ensures clash { IfErr (bids_of statement.now.front number case.now zero.now one.now) (λ two. result ≡ Err (LaneErr.Clash two)) }
-    ensures refused { IfErr result (λ refused. IsClashOf refused (bids_of statement.now.front number case.now zero.now one.now)) }
+    ensures found { IfOk result (λ found. bids_of statement.now number case.now zero.now one.now ≡ Ok found) }
+    ensures opens { IfOk result (λ found. IfSome found (LaneOpens statement.now)) }
+    ensures clash { IfErr (bids_of statement.now number case.now zero.now one.now) (λ two. result ≡ Err (LaneErr.Clash two)) }
+    ensures refused { IfErr result (λ refused. IsClashOf refused (bids_of statement.now number case.now zero.now one.now)) }
 {
     let bids = extract_bids(alloc, statement, number, case, zero, one)?;
     Ok(Some(bids))

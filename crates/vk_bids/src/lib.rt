@@ -1,6 +1,7 @@
-//! What two replies to a board come to. Where both are accepted and the challenges differ, they open the bids
-//! of the lanes whose bits differ, and the published outcome is theirs; or there are two openings of one
-//! commitment. And what a bidder's secret comes to against them.
+//! What two replies come to: where both are accepted and the challenges differ, they open the
+//! values of the lanes whose bits differ, for which the circuit holds; or there are two openings of
+//! one commitment. On a board the values are bids, and the published outcome is theirs. And what a
+//! bidder's secret comes to against them.
 #![tactic(auto)]
 
 mod bids;
@@ -10,6 +11,7 @@ mod confrontation;
 mod extracting;
 mod extraction;
 mod gathering;
+mod lane_extraction;
 mod laws;
 mod printing;
 
@@ -20,8 +22,10 @@ pub use confrontation::{ConfrontErr, ConfrontNames, Confrontation, confront};
 pub use extracting::extract_bids;
 pub use extraction::{Extracted, Extraction, TwoReplies, extract};
 pub use gathering::add_lane;
+pub use lane_extraction::{LaneExtraction, OpenedLanes, extract_lanes};
 pub use laws::{
-    a_secret_is_bound_by_accepted_replies, accepted_lanes_show_the_outcome,
-    accepted_replies_give_bids_or_a_clash,
+    a_secret_is_bound_by_accepted_replies, accepted_lanes_open_values,
+    accepted_lanes_show_the_outcome, accepted_replies_give_bids_or_a_clash,
+    accepted_replies_open_values_or_clash,
 };
 pub use printing::{extraction_lines, has_one_bid};

@@ -2,7 +2,7 @@ use Rattle.std.proofs.Common.{◌≡◌, ◌∙◌, ap, IfSome, Ok}
 use Rattle.std.specs.FinMap.{get}
 use Rattle.std.proofs.lemmas.Option.{IfSome_then}
 use Rattle.vk_lines.specs.Lines.{rest_of}
-use Rattle.vk_verifier.specs.Two.{ahead_of, base_of}
+use Rattle.vk_verifier.specs.TwoBoards.{board_ahead, board_base}
 use Rattle.vk_bids.specs.Confrontation.{secret_begun}
 use Rattle.vk_bids.specs.Extraction.{extraction_named, extraction_of}
 use Rattle.vk_bids.proofs.ConfrontedFiles.{confronted, refused_first, refused_second}
@@ -14,7 +14,7 @@ returns-in_err-checker-clause-told g c =
     let names = c.args.names.now in
     let replies = names.replies in
     IfSome_then (g.S.Shelf.held c.args.shelf.now) c.in_err-checker.ensures.told
-    (λ files gives. refused_first (λ checker. extraction_of (base_of checker) (ahead_of checker files)) files replies.board.now replies.challenge1.now replies.reply1.now replies.challenge2.now replies.reply2.now
+    (λ files gives. refused_first (λ checker. extraction_of (board_base checker) (board_ahead checker files)) files replies.board.now replies.challenge1.now replies.reply1.now replies.challenge2.now replies.reply2.now
     names.secret.now c.in_err-checker.field-0.0 c.from_residual.result c.from_residual.ensures.1 gives)
 
 pub returns-in_err-lines-clause-told : goal.returns-in_err-lines-clause-told
@@ -24,7 +24,7 @@ returns-in_err-lines-clause-told g c =
     let start = c.in_ok-checker.checker in
     both_held (g.S.Shelf.held c.args.shelf.now) (g.S.Shelf.held c.begin.new.shelf) c.in_ok-checker.ensures.shelf.held
     (λ files given begun. refused_second (λ lines. rest_of lines files) files replies.board.now replies.challenge1.now replies.reply1.now replies.challenge2.now replies.reply2.now names.secret.now
-    (extraction_of (base_of start) (ahead_of start files)) c.in_err-lines.field-0.0 c.from_residual-in_err-lines.result c.from_residual-in_err-lines.ensures.1 given begun)
+    (extraction_of (board_base start) (board_ahead start files)) c.in_err-lines.field-0.0 c.from_residual-in_err-lines.result c.from_residual-in_err-lines.ensures.1 given begun)
     c.in_ok-checker.ensures.told c.in_err-lines.ensures.told
 
 pub returns-clause-told : goal.returns-clause-told

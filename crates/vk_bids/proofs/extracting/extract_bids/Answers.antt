@@ -1,24 +1,23 @@
 use Rattle.std.proofs.Common.{rules, ◌≡◌, List, sym, ap, subst, ◌∙◌}
 use Rattle.std.proofs.lemmas.Result.{IfErr-weaker}
 use Rattle.vk_board.specs.declared.board.SealLines.{SealLines}
-use Rattle.vk_board.specs.declared.front.Front.{Front}
 use Rattle.vk_board.specs.Reading.{seats_of}
 use Rattle.vk_extractor.specs.Refused.{IsRefusalOf}
 use Rattle.vk_bids.specs.declared.bids.OpenedBid.{OpenedBid}
 use Rattle.vk_bids.specs.Bids.{opened_bids}
-use Rattle.vk_bids.specs.Outcome.{OpensTwice, ShowsOutcome}
-use Rattle.vk_bids.proofs.Showing.{case_shows, refusal_opens}
+use Rattle.vk_bids.specs.Opening.{OpensTwice, OpensValues}
+use Rattle.vk_bids.proofs.Showing.{case_opens, refusal_opens}
 use Rattle.vk_bids.proofs.extracting.extract_bids.Goals as goal
 
-pub returns-clause-outcome : goal.returns-clause-outcome
-returns-clause-outcome c =
-    let front = c.args.statement.now.front in
-    let bids : c.in_ok-bids.bids ≡ opened_bids (seats_of front.seals) c.args.zero.now c.args.one.now =
-    c.in_ok-bids.ensures ∙ ap (λ (seals : List SealLines). opened_bids (seats_of seals) c.args.zero.now c.args.one.now) (c.as_slice.ensures ∙ ap (λ (front : Front). front.seals) c.front.ensures.value) in
-    let P : List OpenedBid → Type 0 = λ bids. ShowsOutcome front c.args.lane bids in
+pub returns-clause-opens : goal.returns-clause-opens
+returns-clause-opens c =
+    let s = c.args.statement.now in
+    let bids : c.in_ok-bids.bids ≡ opened_bids (seats_of s.seals) c.args.zero.now c.args.one.now =
+    c.in_ok-bids.ensures ∙ ap (λ (seals : List SealLines). opened_bids (seats_of seals) c.args.zero.now c.args.one.now) c.seals.ensures.value in
+    let P : List OpenedBid → Type 0 = λ bids. OpensValues s c.args.lane bids in
     subst P (sym bids)
-    (case_shows front c.args.statement.now.plan c.args.lane c.args.case.now c.args.zero.now c.args.one.now
-    c.front.ensures.right.front c.front.ensures.right.plan c.requires.first c.requires.last c.requires.case c.requires.zero c.requires.one c.in_ok-_values.ensures.agree)
+    (case_opens s c.args.lane c.args.case.now c.args.zero.now c.args.one.now
+    c.seals.ensures.right c.requires.first c.requires.last c.requires.case c.requires.zero c.requires.one c.in_ok-_values.ensures.agree)
 
 pub returns-in_err-_values-clause-opened_twice : goal.returns-in_err-_values-clause-opened_twice
 returns-in_err-_values-clause-opened_twice c =

@@ -3,9 +3,9 @@ use Rattle.vk_verifier.specs.declared.stage.Base.{Base}
 use Rattle.vk_verifier.specs.declared.stage.TwoLane.{TwoLane}
 use Rattle.vk_verifier.specs.Two.{GoesOn, IsNextLane, ahead_of, base_of, given_of}
 use Rattle.vk_bids.specs.Gathering.{added}
-use Rattle.vk_bids.specs.Outcome.{LaneShows}
+use Rattle.vk_bids.specs.Opening.{LaneOpens}
 use Rattle.vk_bids.proofs.Leading.{both_held, both_told, leads_last, leads_on}
-use Rattle.vk_bids.proofs.extraction.gather.Goals as goal
+use Rattle.vk_bids.proofs.lane_extraction.gather.Goals as goal
 
 pub returns-in-None-clause-told : goal.returns-in-None-clause-told
 returns-in-None-clause-told g c =
@@ -24,12 +24,12 @@ lanes-preserved g c =
     let same : base_of new ≡ base_of c.args.checker = c.in_ok-next.ensures.base ∙ c.lanes.invariant.base in
     let L : Option TwoLane → Type 0 = λ lane. IfSome lane (IsNextLane old new) in
     let next : IsNextLane old new lane = subst L c.in-Some.is c.in_ok-next.ensures.lane in
-    let A : Option Base → Type 0 = λ base. IfSome base (λ base. added base.statement.front (given_of new) lane c.lanes.gathered ≡ c.in_ok-gathered-in-Some.gathered) in
-    let H : Option Base → Type 0 = λ base. IfSome base (λ base. IfOk c.lanes.gathered (All (LaneShows base.statement.front))) in
+    let A : Option Base → Type 0 = λ base. IfSome base (λ base. added base.statement (given_of new) lane c.lanes.gathered ≡ c.in_ok-gathered-in-Some.gathered) in
+    let H : Option Base → Type 0 = λ base. IfSome base (λ base. IfOk c.lanes.gathered (All (LaneOpens base.statement))) in
     let adds = subst A same c.in_ok-gathered-in-Some.ensures.added in
     record {
-      shows = both_told {R = λ base. IfOk c.in_ok-gathered-in-Some.gathered (All (LaneShows base.statement.front))} (base_of new) (λ base before after. after before) (subst H (sym c.in_ok-next.ensures.base) c.lanes.invariant.shows)
-          c.in_ok-gathered-in-Some.ensures.shows;
+      opens = both_told {R = λ base. IfOk c.in_ok-gathered-in-Some.gathered (All (LaneOpens base.statement))} (base_of new) (λ base before after. after before) (subst H (sym c.in_ok-next.ensures.base) c.lanes.invariant.opens)
+          c.in_ok-gathered-in-Some.ensures.opens;
       told = both_held (g.S.Shelf.held c.args.shelf.now) (g.S.Shelf.held c.lanes.shelf) c.lanes.invariant.held
           (λ files leads goes. let P : Option TwoLane → Type 0 = λ lane. GoesOn (ahead_of old files) lane new files in
           leads_on (base_of c.args.checker) (ahead_of c.args.checker files) (ahead_of old files) (given_of old) (given_of new) lane new files

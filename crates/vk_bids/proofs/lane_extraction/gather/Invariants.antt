@@ -1,14 +1,14 @@
 use Rattle.std.proofs.Common.{◌≡◌, ◌-◌, IfSome}
 use Rattle.std.specs.Prelude.{All, IfOk}
 use Rattle.vk_verifier.specs.Two.{ahead_of, base_of, given_of}
-use Rattle.vk_bids.specs.Outcome.{LaneShows}
+use Rattle.vk_bids.specs.Opening.{LaneOpens}
 use Rattle.vk_bids.proofs.Leading.{Leads}
-use Rattle.vk_bids.proofs.extraction.gather.Given as goal
+use Rattle.vk_bids.proofs.lane_extraction.gather.Given as goal
 
 -- what was gathered, and what is ahead, give what was ahead
 abbrev pub invariant-lanes : goal.invariant-lanes
 invariant-lanes g l = record {
-  shows : IfSome (base_of l.checker) (λ base. IfOk l.gathered (All (LaneShows base.statement.front)));
+  opens : IfSome (base_of l.checker) (λ base. IfOk l.gathered (All (LaneOpens base.statement)));
   told : IfSome (g.S.Shelf.held l.fn.shelf) (λ files. Leads (base_of l.fn.checker) (ahead_of l.fn.checker files) (given_of l.checker) l.gathered (ahead_of l.checker files));
   base : base_of l.checker ≡ base_of l.fn.checker;
   held : g.S.Shelf.held l.shelf ≡ g.S.Shelf.held l.fn.shelf;
