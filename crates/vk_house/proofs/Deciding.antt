@@ -13,7 +13,8 @@ use Rattle.vk_keeper.specs.declared.auction.Phase.TheVariants.{Taking, Proved, A
 use Rattle.vk_keeper.specs.declared.auction.SealRow.{SealRow}
 use Rattle.vk_keeper.specs.Auctions.{challenge_of}
 use Rattle.vk_keeper.specs.Joining.{first_of}
-use Rattle.vk_job.specs.Jobs.{dry_or, dry_from, dry_in, tape_of, plan_of, seed_in, outcome_in}
+use Rattle.vk_job.specs.Proofs.{dry_or, drawn_in, first_dry_from}
+use Rattle.vk_job.specs.Jobs.{dry_from, dry_in, tape_of, plan_of, seed_in, outcome_in}
 use Rattle.vk_house.specs.declared.errors.HouseErr.{HouseErr}
 use Rattle.vk_house.specs.declared.errors.HouseErr.TheVariants.{OtherSeed, OtherChallenge}
 use Rattle.vk_house.specs.Commands.{HouseCommand, Prove, Answer}
@@ -26,7 +27,7 @@ use Rattle.vk_house.specs.Deciding.{phased, worked, work_step}
 
 -- a phase has no part in which wires are dry
 dry_from_phase : (auction : Auction) (phase : Phase) (seed : List ℕ) (lane count : ℕ) → dry_from (in_phase auction phase) seed lane count ≡ dry_from auction seed lane count
-unfolding dry_from tape_of plan_of
+unfolding first_dry_from drawn_in plan_of
 dry_from_phase auction phase seed lane zero = refl
 dry_from_phase auction phase seed lane (suc count) =
     ap (dry_or (tape_of auction seed lane) lane) (dry_from_phase auction phase seed (lane + 1) count)

@@ -9,7 +9,8 @@ use Rattle.vk_keeper.specs.declared.auction.Phase.TheVariants.{Taking, Proved, A
 use Rattle.vk_keeper.specs.declared.auction.SealRow.{SealRow}
 use Rattle.vk_keeper.specs.Joining.{first_of}
 use Rattle.vk_keeper.specs.Ledgers.{Ledger}
-use Rattle.vk_job.specs.Jobs.{Dry, dry_in}
+use Rattle.vk_job.specs.Proofs.{Dry}
+use Rattle.vk_job.specs.Jobs.{dry_in}
 use Rattle.vk_house.specs.declared.errors.HouseErr.{HouseErr}
 use Rattle.vk_house.specs.declared.errors.HouseErr.TheVariants.{DrySeed, Length, OtherChallenge}
 use Rattle.vk_house.specs.Commands.{HouseCommand, Announce, Submit, Prove, Answer, Show, id_of}

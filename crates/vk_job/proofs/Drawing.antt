@@ -1,4 +1,4 @@
--- The tape of each lane of an auction that is proved is a tape for its plan.
+-- The tape of each lane of a proof is a tape for its plan.
 use Rattle.std.proofs.Common.{◌≡◌, ℕ, zero, suc, ◌+◌, ◌-◌, ◌<◌, ◌≤◌, All, List, [], ◌∷◌, ◌++◌, length, Option, Some, None, Result, Ok, refl, sym, ap, ◌∙◌, subst, arith, inl, inr}
 use Rattle.std.specs.Prelude.{slice_index, option_map}
 use Rattle.std.specs.Int.{w64, bytes_high_first, byte_at, to_be_bytes}
@@ -18,16 +18,13 @@ use Rattle.vk_seal.specs.Values.{IsXTape, wire_tape}
 use Rattle.vk_seal.proofs.SealsMatch.{match_exact}
 use Rattle.vk_seal.proofs.Tapes.{length-lane_coms}
 use Rattle.vk_extractor.specs.Confronting.{no_tape, tape_in}
-use Rattle.vk_vickrey.specs.VickreyPlans.{vickrey_plan}
 use Rattle.vk_prover.specs.Drawn.{drawn_tape, wires_after, drawn_wire, after_wire}
 use Rattle.vk_prover.specs.Laws.{IsTapeOf}
 use Rattle.vk_prover.proofs.Wires.{inputs_within}
-use Rattle.vk_keeper.specs.declared.auction.Auction.{Auction}
 use Rattle.vk_keeper.specs.declared.auction.SealRow.{SealRow}
-use Rattle.vk_keeper.specs.Auctions.{IsAuction, IsSealRow}
-use Rattle.vk_job.specs.Jobs.{plan_of, given_tapes, tape_of, seed_in, IsProvedAuction, tape_or_none, lane_tape}
+use Rattle.vk_keeper.specs.Auctions.{IsSealRow}
+use Rattle.vk_job.specs.Proofs.{ProofValue, source_of, given_in, drawn_in, tape_or_none, lane_tape_in, HasTapesFor, IsProof}
 use Rattle.vk_job.proofs.Dry.{tapes_of_none}
-use Rattle.vk_job.proofs.Held.{plan_is, has_seal}
 
 -- ---- what is drawn of words
 
@@ -103,41 +100,37 @@ tape_is before (suc count) ahead tape are is =
     let rest = tape_is (before ++ first.0 ∷ []) count (after_wire ahead) tape (All-push IsTape before first.0 are (wire_is ahead first.0 first.1)) first.2 in
     (rest.0 ∙ omega (arith, length_push before first.0), rest.1)
 
--- ---- the tapes of an auction
+-- ---- the tapes of a proof
 
 -- a secret has a tape for each lane of its seal
-pub lanes_of : (auction : Auction) (row : SealRow) → IsSealRow auction.id auction.width auction.lanes row → length row.secret.lanes ≡ auction.lanes
-lanes_of auction row is =
+pub lanes_of : (id : List ℕ) (width lanes : ℕ) (row : SealRow) → IsSealRow id width lanes row → length row.secret.lanes ≡ lanes
+lanes_of id width lanes row is =
     let made : row.seal ≡ seal_of row.secret = (match_exact row.secret row.seal).0 (rw is.matched refl) in
     sym (length-lane_coms row.secret.auction row.secret.seat row.secret.bid 1 row.secret.lanes) ∙ sym (ap (λ seal. length seal.lanes) made) ∙ is.count
 
-given_is : (auction : Auction) (lane : ℕ) (row : SealRow) → 1 ≤ lane → lane ≤ auction.lanes → IsSealRow auction.id auction.width auction.lanes row
-    → IsTape (wire_tape (tape_in row.secret lane))
-given_is auction lane row some last is =
-    let long = lanes_of auction row is in
-    let tape = All-from_recursion IsXTape row.secret.lanes is.secret.tapes (lane - 1) no_tape (omega arith) in
+given_is : (lanes lane : ℕ) (row : SealRow) → 1 ≤ lane → lane ≤ lanes → HasTapesFor lanes row → IsTape (wire_tape (tape_in row.secret lane))
+given_is lanes lane row some last has =
+    let tape = All-from_recursion IsXTape row.secret.lanes has.each (lane - 1) no_tape (omega (arith, has.count)) in
     record { mask = tape.0; first_key = tape.1; second_key = tape.2 }
 
-pub given_are : (auction : Auction) (lane : ℕ) → IsAuction auction → 1 ≤ lane → lane ≤ auction.lanes → All IsTape (given_tapes auction lane)
-given_are auction lane right some last =
-    All-map IsTape (λ row. wire_tape (tape_in row.secret lane)) auction.seals
-    (All-weaker (IsSealRow auction.id auction.width auction.lanes) (λ row. IsTape (wire_tape (tape_in row.secret lane))) (λ row is. given_is auction lane row some last is) auction.seals right.rows)
+given_are : (rows : List SealRow) (lanes lane : ℕ) → All (HasTapesFor lanes) rows → 1 ≤ lane → lane ≤ lanes → All IsTape (given_in rows lane)
+given_are rows lanes lane have some last =
+    All-map IsTape (λ row. wire_tape (tape_in row.secret lane)) rows
+    (All-weaker (HasTapesFor lanes) (λ row. IsTape (wire_tape (tape_in row.secret lane))) (λ row has. given_is lanes lane row some last has) rows have)
 
-pub one_given_each : (auction : Auction) (lane : ℕ) → length (given_tapes auction lane) ≡ (plan_of auction).inputs
-unfolding plan_of vickrey_plan
-one_given_each auction lane = length-map auction.seals (λ row. wire_tape (tape_in row.secret lane))
+pub one_given_each : (rows : List SealRow) (lane : ℕ) → length (given_in rows lane) ≡ length rows
+one_given_each rows lane = length-map rows (λ row. wire_tape (tape_in row.secret lane))
 
-pub drawn_is_tape : (auction : Auction) (seed : List ℕ) (lane : ℕ) (tape : List WireTape) → IsAuction auction → 1 ≤ length auction.seals → 1 ≤ lane → lane ≤ auction.lanes
-    → tape_of auction seed lane ≡ Ok tape → IsTapeOf (plan_of auction) tape
-unfolding tape_of
-drawn_is_tape auction seed lane tape right sealed some last drawn =
-    let count = length (plan_of auction).kinds - (plan_of auction).inputs in
-    let is = tape_is (given_tapes auction lane) count (word_at seed auction.id lane) tape (given_are auction lane right some last) drawn in
-    let few = inputs_within (plan_of auction) (plan_is auction right sealed) in
-    record { one_each = is.0 ∙ omega (arith, one_given_each auction lane, few); each = is.1 }
+drawn_is_tape : (proof : ProofValue) (lane : ℕ) (tape : List WireTape) → IsProof proof → 1 ≤ lane → lane ≤ proof.lanes
+    → drawn_in (source_of proof) lane ≡ Ok tape → IsTapeOf proof.plan tape
+unfolding drawn_in
+drawn_is_tape proof lane tape right some last drawn =
+    let further = length proof.plan.kinds - proof.plan.inputs in
+    let is = tape_is (given_in proof.rows lane) further (word_at proof.seed proof.id lane) tape (given_are proof.rows proof.lanes lane right.secrets some last) drawn in
+    let few = inputs_within proof.plan right.plan in
+    record { one_each = is.0 ∙ omega (arith, one_given_each proof.rows lane, right.one_input_each, few); each = is.1 }
 
-pub lane_tape_is : (auction : Auction) (lane : ℕ) → IsProvedAuction auction → 1 ≤ lane → lane ≤ auction.lanes → IsTapeOf (plan_of auction) (lane_tape auction lane)
-lane_tape_is auction lane proved some last =
-    let drawn = tapes_of_none auction (seed_in auction) proved.tapes lane some last in
-    subst (IsTapeOf (plan_of auction)) (sym (ap tape_or_none drawn.1))
-    (drawn_is_tape auction (seed_in auction) lane drawn.0 proved.right (has_seal auction proved) some last drawn.1)
+pub lane_tape_is : (proof : ProofValue) (lane : ℕ) → IsProof proof → 1 ≤ lane → lane ≤ proof.lanes → IsTapeOf proof.plan (lane_tape_in proof lane)
+lane_tape_is proof lane right some last =
+    let drawn = tapes_of_none (source_of proof) right.none_dry lane some last in
+    subst (IsTapeOf proof.plan) (sym (ap tape_or_none drawn.1)) (drawn_is_tape proof lane drawn.0 right some last drawn.1)

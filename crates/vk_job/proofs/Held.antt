@@ -1,5 +1,5 @@
--- The values of an auction hold for its plan.
-use Rattle.std.proofs.Common.{◌≡◌, ℕ, ◌-◌, ◌^◌, ◌<◌, ◌≤◌, All, List, length, Option, Some, None, IsSome, IfSome, arith, inl, inr}
+-- The values of an auction hold for its plan, and an auction that is proved gives a proof.
+use Rattle.std.proofs.Common.{◌≡◌, ℕ, ◌-◌, ◌^◌, ◌<◌, ◌≤◌, All, List, length, Option, Some, None, IsSome, IfSome, refl, arith, inl, inr}
 use Rattle.std.proofs.Math.Pow.{pow_mono}
 use Rattle.std.proofs.lemmas.Bool.{cases_lt}
 use Rattle.std.proofs.lemmas.List.{length-map}
@@ -8,12 +8,14 @@ use Rattle.vk_residue.specs.Residue.{IsResidue}
 use Rattle.vk_plan.specs.Plans.{IsPlan, Holds}
 use Rattle.vk_vickrey.specs.declared.outcomes.VickreyOutcome.{VickreyOutcome}
 use Rattle.vk_vickrey.specs.Outcomes.{IsVickreyOutcome}
-use Rattle.vk_vickrey.specs.VickreyPlans.{IsVickreyCase, IsVickreyClaim}
+use Rattle.vk_vickrey.specs.VickreyPlans.{IsVickreyCase, IsVickreyClaim, vickrey_plan, wire_count}
 use Rattle.vk_vickrey.specs.VickreyLaws.{vickrey_complete}
-use Rattle.vk_vickrey.specs.VickreySteps.{vickrey_is_plan}
+use Rattle.vk_vickrey.specs.VickreySteps.{vickrey_is_plan, vickrey_wires}
 use Rattle.vk_keeper.specs.declared.auction.Auction.{Auction}
 use Rattle.vk_keeper.specs.Auctions.{IsAuction, IsSealRow, seed_of}
-use Rattle.vk_job.specs.Jobs.{bids_of, outcome_in, plan_of, values_of, IsProvedAuction}
+use Rattle.vk_job.specs.Proofs.{HasTapesFor, IsProof, first_dry_in, source_of}
+use Rattle.vk_job.specs.Jobs.{bids_of, outcome_in, plan_of, values_of, proof_of, proof_with, seed_in, IsProvedAuction}
+use Rattle.vk_job.proofs.Drawing.{lanes_of}
 use Rattle.vk_job.proofs.Outcomes.{outcome_is_vickrey}
 
 -- an auction that is proved has a seal
@@ -97,3 +99,35 @@ pub winner_within : (auction : Auction) (outcome : VickreyOutcome) → 1 ≤ len
 winner_within auction outcome sealed is =
     let at = (outcome_is auction sealed).is_position in
     rw is (at.some, omega (arith, at.some, at.within, length_bids auction))
+
+-- ---- its proof
+
+inputs_are : (auction : Auction) → length auction.seals ≡ (plan_of auction).inputs
+unfolding plan_of vickrey_plan
+inputs_are auction = refl
+
+-- how many wires a lane has after the inputs
+pub further_wires_are : (auction : Auction) (seals count : ℕ) → seals ≡ length auction.seals → 1 ≤ length auction.seals → count ≡ wire_count seals auction.width
+    → count - seals ≡ length (plan_of auction).kinds - (plan_of auction).inputs
+unfolding plan_of
+further_wires_are auction seals count is some wires =
+    let all = vickrey_wires (length auction.seals) auction.width (outcome_in auction).position (outcome_in auction).price some in
+    rw (← inputs_are auction, all, wires, is) refl
+
+-- with any seed that leaves no wire dry
+pub proof_where : (auction : Auction) (seed : List ℕ) → IsAuction auction → 1 ≤ length auction.seals → first_dry_in (source_of (proof_with auction seed)) ≡ None
+    → IsProof (proof_with auction seed)
+proof_where auction seed right sealed none =
+    record {
+      plan = plan_is auction right sealed;
+      one_input_each = inputs_are auction;
+      values = values_hold auction right sealed;
+      some_lane = right.some_lane;
+      few_lanes = right.few_lanes;
+      secrets = All-weaker (IsSealRow auction.id auction.width auction.lanes) (HasTapesFor auction.lanes)
+          (λ row is. record { count = lanes_of auction.id auction.width auction.lanes row is; each = is.secret.tapes }) auction.seals right.rows;
+      none_dry = none;
+    }
+
+pub proof_is : (auction : Auction) → IsProvedAuction auction → IsProof (proof_of auction)
+proof_is auction proved = proof_where auction (seed_in auction) proved.right (has_seal auction proved) proved.tapes

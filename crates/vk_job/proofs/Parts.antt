@@ -1,4 +1,4 @@
--- What is published of an auction that is proved may stand on a board, and what is shown of it in a reply.
+-- What is published of an auction that is proved may stand on a board, and what is shown of any proof in a reply.
 use Rattle.std.proofs.Common.{◌≡◌, ◌≢◌, ℕ, zero, suc, ◌+◌, ◌-◌, ◌<◌, ◌≤◌, Bool, false, All, List, [], ◌∷◌, ◌++◌, length, map, get_or, refl, sym, ap, ◌∙◌, subst, arith}
 use Rattle.std.specs.Prelude.{slice_index_or}
 use Rattle.std.specs.List.{AllByRecursion, AllPairs}
@@ -17,9 +17,10 @@ use Rattle.vk_prover.proofs.Forms.{lines_are, shown_are}
 use Rattle.vk_keeper.specs.declared.auction.SealRow.{SealRow}
 use Rattle.vk_keeper.specs.declared.auction.Auction.{Auction}
 use Rattle.vk_keeper.specs.Auctions.{IsAuction, IsSealRow}
-use Rattle.vk_job.specs.Jobs.{IsProvedAuction, outcome_in, winner_of, plan_of, values_of, lane_tape}
-use Rattle.vk_job.specs.Published.{no_row, head_of, seal_lines_of, lane_of, published, shown_in, shown_from}
-use Rattle.vk_job.proofs.Held.{has_seal, length_bids, outcome_is, case_is, values_hold}
+use Rattle.vk_job.specs.Proofs.{ProofValue, IsProof, no_row, seal_lines_of, lane_tape_in, lane_in, lanes_in, lane_shown_in, lanes_shown_from}
+use Rattle.vk_job.specs.Jobs.{outcome_in, winner_of}
+use Rattle.vk_job.specs.Published.{head_of}
+use Rattle.vk_job.proofs.Held.{length_bids, outcome_is, case_is}
 use Rattle.vk_job.proofs.Drawing.{lane_tape_is}
 
 -- ---- the head
@@ -86,53 +87,53 @@ seals_are auction right = record {
   each = rows_after auction.id auction.width auction.lanes [] auction.seals right.rows right.seats (λ k d within. All-nil (λ earlier. earlier.seat ≢ (slice_index_or auction.seals k d).seal.seat));
 }
 
--- ---- the lanes
+-- ---- the lanes of any proof
 
-pub lane_is : (auction : Auction) (lane : ℕ) → IsProvedAuction auction → 1 ≤ lane → lane ≤ auction.lanes
-    → IsLaneLines (length (plan_of auction).kinds - (plan_of auction).inputs) (length (plan_of auction).rows) (lane_of auction lane)
-unfolding lane_of
-lane_is auction lane proved some last =
-    lines_are (plan_of auction) auction.id lane (values_of auction) (lane_tape auction lane) (values_hold auction proved.right (has_seal auction proved)) (lane_tape_is auction lane proved some last)
+pub lane_is : (proof : ProofValue) (lane : ℕ) → IsProof proof → 1 ≤ lane → lane ≤ proof.lanes
+    → IsLaneLines (length proof.plan.kinds - proof.plan.inputs) (length proof.plan.rows) (lane_in proof lane)
+unfolding lane_in
+lane_is proof lane right some last =
+    lines_are proof.plan proof.id lane proof.values (lane_tape_in proof lane) right.values (lane_tape_is proof lane right some last)
 
-pub lanes_are : (auction : Auction) → IsProvedAuction auction
-    → AllByRecursion (IsLaneLines (length (plan_of auction).kinds - (plan_of auction).inputs) (length (plan_of auction).rows)) (published auction).lanes
-lanes_are auction proved =
-    let IsLane = IsLaneLines (length (plan_of auction).kinds - (plan_of auction).inputs) (length (plan_of auction).rows) in
-    recursion_from_All IsLane (published auction).lanes
-    (All-listed IsLane (λ index. lane_of auction (index + 1)) auction.lanes (λ index within. lane_is auction (index + 1) proved (omega arith) (omega arith)))
+pub lanes_are : (proof : ProofValue) → IsProof proof
+    → AllByRecursion (IsLaneLines (length proof.plan.kinds - proof.plan.inputs) (length proof.plan.rows)) (lanes_in proof)
+lanes_are proof right =
+    let IsLane = IsLaneLines (length proof.plan.kinds - proof.plan.inputs) (length proof.plan.rows) in
+    recursion_from_All IsLane (lanes_in proof)
+    (All-listed IsLane (λ index. lane_in proof (index + 1)) proof.lanes (λ index within. lane_is proof (index + 1) right (omega arith) (omega arith)))
 
-pub shown_is : (auction : Auction) (lane : ℕ) (bit : Bool) → IsProvedAuction auction → 1 ≤ lane → lane ≤ auction.lanes → AreShown (plan_of auction).kinds bit (shown_in auction lane bit)
-unfolding shown_in
-shown_is auction lane bit proved some last =
-    shown_are (plan_of auction) (values_of auction) (lane_tape auction lane) bit (values_hold auction proved.right (has_seal auction proved)) (lane_tape_is auction lane proved some last)
+pub shown_is : (proof : ProofValue) (lane : ℕ) (bit : Bool) → IsProof proof → 1 ≤ lane → lane ≤ proof.lanes → AreShown proof.plan.kinds bit (lane_shown_in proof lane bit)
+unfolding lane_shown_in
+shown_is proof lane bit right some last =
+    shown_are proof.plan proof.values (lane_tape_in proof lane) bit right.values (lane_tape_is proof lane right some last)
 
 -- ---- the reply
 
-pub length_shown : (auction : Auction) (lane : ℕ) (bits : List Bool) → length (shown_from auction lane bits) ≡ length bits
-length_shown auction lane [] = refl
-length_shown auction lane (bit ∷ bits) = ap suc (length_shown auction (lane + 1) bits)
+pub length_shown : (proof : ProofValue) (lane : ℕ) (bits : List Bool) → length (lanes_shown_from proof lane bits) ≡ length bits
+length_shown proof lane [] = refl
+length_shown proof lane (bit ∷ bits) = ap suc (length_shown proof (lane + 1) bits)
 
-pub shown_at : (auction : Auction) (lane : ℕ) (bits : List Bool) (index : ℕ) (d : List Shown) → index < length bits
-    → get_or (shown_from auction lane bits) index d ≡ shown_in auction (lane + index) (slice_index_or bits index false)
-shown_at auction lane [] index d within = absurd (omega arith)
-shown_at auction lane (bit ∷ bits) zero d within = let here : lane ≡ lane + 0 = omega arith in ap (λ l. shown_in auction l bit) here
-shown_at auction lane (bit ∷ bits) (suc index) d within =
+pub shown_at : (proof : ProofValue) (lane : ℕ) (bits : List Bool) (index : ℕ) (d : List Shown) → index < length bits
+    → get_or (lanes_shown_from proof lane bits) index d ≡ lane_shown_in proof (lane + index) (slice_index_or bits index false)
+shown_at proof lane [] index d within = absurd (omega arith)
+shown_at proof lane (bit ∷ bits) zero d within = let here : lane ≡ lane + 0 = omega arith in ap (λ l. lane_shown_in proof l bit) here
+shown_at proof lane (bit ∷ bits) (suc index) d within =
     let number : lane + 1 + index ≡ lane + suc index = omega arith in
-    shown_at auction (lane + 1) bits index d (omega arith) ∙ ap (λ l. shown_in auction l (slice_index_or bits index false)) number
+    shown_at proof (lane + 1) bits index d (omega arith) ∙ ap (λ l. lane_shown_in proof l (slice_index_or bits index false)) number
 
-pub reply_is : (auction : Auction) (challenge : Challenge) → IsProvedAuction auction → IsChallenge challenge → length challenge.bits ≡ auction.lanes
-    → IsReply (plan_of auction).kinds (λ lane. slice_index_or challenge.bits (lane - 1) false) (shown_from auction 1 challenge.bits)
-reply_is auction challenge proved right count =
-    let long = length_shown auction 1 challenge.bits in
+pub reply_is : (proof : ProofValue) (challenge : Challenge) → IsProof proof → IsChallenge challenge → length challenge.bits ≡ proof.lanes
+    → IsReply proof.plan.kinds (λ lane. slice_index_or challenge.bits (lane - 1) false) (lanes_shown_from proof 1 challenge.bits)
+reply_is proof challenge is right count =
+    let long = length_shown proof 1 challenge.bits in
     record {
       some_lane = omega (arith, right.some_bit);
       few_lanes = omega (arith, right.few_bits);
-      each = λ index shown is.
-          let within : index < length challenge.bits = omega (arith, slice_get_within (shown_from auction 1 challenge.bits) index shown is) in
-          let same : shown_in auction (1 + index) (slice_index_or challenge.bits index false) ≡ shown =
-          sym (shown_at auction 1 challenge.bits index [] within) ∙ get_or_from_slice_get (shown_from auction 1 challenge.bits) index shown [] is in
+      each = λ index shown found.
+          let within : index < length challenge.bits = omega (arith, slice_get_within (lanes_shown_from proof 1 challenge.bits) index shown found) in
+          let same : lane_shown_in proof (1 + index) (slice_index_or challenge.bits index false) ≡ shown =
+          sym (shown_at proof 1 challenge.bits index [] within) ∙ get_or_from_slice_get (lanes_shown_from proof 1 challenge.bits) index shown [] found in
           let back : index ≡ index + 1 - 1 = omega arith in
-          let right_here = shown_is auction (1 + index) (slice_index_or challenge.bits index false) proved (omega arith) (omega arith) in
-          subst (λ n. AreShown (plan_of auction).kinds (slice_index_or challenge.bits n false) shown) back
-          (subst (AreShown (plan_of auction).kinds (slice_index_or challenge.bits index false)) same right_here);
+          let right_here = shown_is proof (1 + index) (slice_index_or challenge.bits index false) is (omega arith) (omega arith) in
+          subst (λ n. AreShown proof.plan.kinds (slice_index_or challenge.bits n false) shown) back
+          (subst (AreShown proof.plan.kinds (slice_index_or challenge.bits index false)) same right_here);
     }

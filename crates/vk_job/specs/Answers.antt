@@ -1,7 +1,8 @@
 -- What making a job answers.
 use Rattle.std.specs.Prelude.{◌≡◌, Option, Some, None, Result, Ok, Err}
 use Rattle.vk_keeper.specs.declared.auction.Auction.{Auction}
-use Rattle.vk_job.specs.Jobs.{Dry, IsProvedAuction, dry_in, outcome_in, seed_in}
+use Rattle.vk_job.specs.Proofs.{Dry}
+use Rattle.vk_job.specs.Jobs.{IsProvedAuction, dry_in, outcome_in, seed_in}
 use Rattle.vk_job.specs.JobValues.{JobValue}
 use Rattle.vk_job.specs.declared.errors.JobErr.{JobErr}
 use Rattle.vk_job.specs.declared.errors.JobErr.TheVariants.{DrySeed, NoMemory}

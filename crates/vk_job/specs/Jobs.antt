@@ -1,16 +1,13 @@
 -- An auction whose seals are taken: its outcome, and what its seed gives. Lanes count from 1.
-use Rattle.std.specs.Prelude.{◌≡◌, ℕ, zero, suc, ◌+◌, ◌-◌, ◌<◌, ◌≤◌, List, [], length, map, slice_index, Option, Some, None, Result, Ok, Err, unwrap_or, IsSome}
-use Rattle.vk_dice.specs.Stream.{word_at}
+use Rattle.std.specs.Prelude.{◌≡◌, ℕ, ◌-◌, List, [], length, map, slice_index, Option, None, Result, unwrap_or, IsSome}
 use Rattle.vk_plan.specs.Plans.{PlanValue}
 use Rattle.vk_wire.specs.declared.wire.WireTape.{WireTape}
-use Rattle.vk_seal.specs.Values.{wire_tape}
-use Rattle.vk_extractor.specs.Confronting.{tape_in}
 use Rattle.vk_vickrey.specs.declared.outcomes.VickreyOutcome.{VickreyOutcome}
 use Rattle.vk_vickrey.specs.VickreyPlans.{vickrey_plan, honest_values}
-use Rattle.vk_prover.specs.Drawn.{drawn_tape}
 use Rattle.vk_keeper.specs.declared.auction.Auction.{Auction}
 use Rattle.vk_keeper.specs.Auctions.{IsAuction, seed_of}
 use Rattle.vk_job.specs.Outcome.{outcome_of}
+use Rattle.vk_job.specs.Proofs.{ProofValue, Dry, source_of, given_in, drawn_in, first_dry_from, first_dry_in, lane_tape_in, IsDrawnIn, IsFirstDryIn}
 
 -- ---- the outcome
 
@@ -36,53 +33,53 @@ plan_of auction = vickrey_plan (length auction.seals) auction.width (outcome_in 
 unfoldable pub values_of : Auction → List ℕ
 values_of auction = honest_values (length auction.seals) auction.width (outcome_in auction).position (outcome_in auction).price (bids_of auction)
 
--- ---- tapes
+-- ---- the proof
 
--- the tapes of the inputs in a lane: those of the bidders' secrets, which never swap
+-- what the auction's proof is made from with that seed
+abbrev pub proof_with : Auction → List ℕ → ProofValue
+proof_with auction seed = record {
+  id = auction.id;
+  rows = auction.seals;
+  lanes = auction.lanes;
+  seed = seed;
+  plan = plan_of auction;
+  values = values_of auction;
+}
+
+-- with the seed that is kept
+abbrev pub seed_in : Auction → List ℕ
+seed_in auction = unwrap_or (seed_of auction.phase) []
+
+abbrev pub proof_of : Auction → ProofValue
+proof_of auction = proof_with auction (seed_in auction)
+
+-- ---- its tapes
+
+-- the tapes of the inputs in a lane
 abbrev pub given_tapes : Auction → ℕ → List WireTape
-given_tapes auction lane = map (λ row. wire_tape (tape_in row.secret lane)) auction.seals
+given_tapes auction lane = given_in auction.seals lane
 
--- the tape of a lane: those, and for each further wire what is drawn from the seed's words in the stream of the
--- lane; or the first wire whose tape can't be drawn
-unfoldable pub tape_of : Auction → List ℕ → ℕ → Result (List WireTape) ℕ
-tape_of auction seed lane =
-    drawn_tape (given_tapes auction lane) (length (plan_of auction).kinds - (plan_of auction).inputs) (word_at seed auction.id lane)
+-- the tape of a lane, or the first wire whose tape can't be drawn
+abbrev pub tape_of : Auction → List ℕ → ℕ → Result (List WireTape) ℕ
+tape_of auction seed lane = drawn_in (source_of (proof_with auction seed)) lane
 
--- a wire of a lane that is dry: its tape can't be drawn from the seed's words. Wires count from 0
-pub record Dry : Type 0 where
-  pub lane : ℕ
-  pub wire : ℕ
+-- the first wire that is dry, in the first such lane of so many from that one on
+abbrev pub dry_from : Auction → List ℕ → ℕ → ℕ → Option Dry
+dry_from auction seed lane count = first_dry_from (source_of (proof_with auction seed)) lane count
 
--- a lane's first such wire; where it has none, what comes of the lanes after it
-abbrev pub dry_or : Result (List WireTape) ℕ → ℕ → Option Dry → Option Dry
-dry_or (Ok tape) lane later = later
-dry_or (Err wire) lane later = Some (record { lane = lane; wire = wire })
-
--- the first such wire, in the first such lane of so many from that one on
-unfoldable pub dry_from : Auction → List ℕ → ℕ → ℕ → Option Dry
-dry_from auction seed lane zero = None
-dry_from auction seed lane (suc more) = dry_or (tape_of auction seed lane) lane (dry_from auction seed (lane + 1) more)
-
--- the first wire that is dry in the auction, if there is one
+-- the first in the auction, if there is one
 abbrev pub dry_in : Auction → List ℕ → Option Dry
-dry_in auction seed = dry_from auction seed 1 auction.lanes
+dry_in auction seed = first_dry_in (source_of (proof_with auction seed))
 
 -- the lane has a tape
 abbrev pub HasTape : Auction → List ℕ → ℕ → Type 0
-HasTape auction seed lane = (tape : List WireTape) × (tape_of auction seed lane ≡ Ok tape)
+HasTape auction seed lane = IsDrawnIn (source_of (proof_with auction seed)) lane
 
--- in the words of lanes: this one is dry at that wire, and those before it have tapes
-pub record IsFirstDry (auction : Auction) (seed : List ℕ) (dry : Dry) : Type 0 where
-  pub some_lane : 1 ≤ dry.lane
-  pub last_lane : dry.lane ≤ auction.lanes
-  pub here : tape_of auction seed dry.lane ≡ Err dry.wire
-  pub before : (lane : ℕ) → 1 ≤ lane → lane < dry.lane → HasTape auction seed lane
+-- this lane is dry at that wire, and those before it have tapes
+abbrev pub IsFirstDry : Auction → List ℕ → Dry → Type 0
+IsFirstDry auction seed dry = IsFirstDryIn (source_of (proof_with auction seed)) dry
 
 -- ---- auctions that are proved
-
--- the seed that is kept
-abbrev pub seed_in : Auction → List ℕ
-seed_in auction = unwrap_or (seed_of auction.phase) []
 
 -- an auction in a phase that has a seed, and the seed gives a tape for every lane
 pub record IsProvedAuction (auction : Auction) : Type 0 where
@@ -91,9 +88,5 @@ pub record IsProvedAuction (auction : Auction) : Type 0 where
   pub tapes : dry_in auction (seed_in auction) ≡ None
 
 -- its tape of a lane
-abbrev pub tape_or_none : Result (List WireTape) ℕ → List WireTape
-tape_or_none (Ok tape) = tape
-tape_or_none (Err wire) = []
-
 abbrev pub lane_tape : Auction → ℕ → List WireTape
-lane_tape auction lane = tape_or_none (tape_of auction (seed_in auction) lane)
+lane_tape auction lane = lane_tape_in (proof_of auction) lane

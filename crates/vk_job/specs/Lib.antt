@@ -1,4 +1,5 @@
 pub mod Outcome
+pub mod Proofs
 pub mod Jobs
 pub mod Published
 pub mod Laws

@@ -3,7 +3,7 @@ ghost use Rattle.vk_job.specs.declared.errors.JobErr.TheVariants.{NoMemory as Me
 
 use vk_residue::NoMemory;
 
-/// Why there is no job of an auction.
+/// Why an honest proof can't be made, and so no job of an auction.
 #[derive(Clone, Copy, Debug, PartialEq, Eq)]
 pub enum JobErr {
     /// The tape of that wire can't be drawn from the seed: the first such wire, in the first such lane.

@@ -1,21 +1,22 @@
-ghost use Rattle.std.specs.Prelude.{◌≡◌, ◌-◌, ◌<◌, ◌≤◌, ◌∷◌, [], Bool, length, slice_index_or, IfOk, IsSome};
+ghost use Rattle.std.specs.Prelude.{◌≡◌, ◌-◌, ◌<◌, ◌≤◌, [], length, slice_index_or, IfOk, IsSome};
 ghost use Rattle.vk_board.specs.Values.{IsHead};
 ghost use Rattle.vk_keeper.specs.Auctions.{IsAuction, challenge_of, seed_of};
-ghost use Rattle.vk_prover.specs.Laws.{IsTapeOf};
 ghost use Rattle.vk_job.specs.Answers.{JobAnswer};
-ghost use Rattle.vk_job.specs.Jobs.{IsProvedAuction, lane_tape, outcome_in, plan_of};
-ghost use Rattle.vk_job.specs.Published.{head_of, kept_bit, lane_of, no_row, seal_lines_of, shown_in};
+ghost use Rattle.vk_job.specs.Jobs.{IsProvedAuction, outcome_in, proof_of};
+ghost use Rattle.vk_job.specs.Proofs.{no_row, seal_lines_of};
+ghost use Rattle.vk_job.specs.Published.{board_pieces, head_of, kept_bit, lane_of, reply_pieces, shown_in};
 
 use crate::errors::JobErr;
 use crate::kept::{bit_in, seed_in};
-use crate::outcome::{bids_of, outcome_in, plan_of, values_of, winner_of};
-use crate::tapes::{check_tapes, tape_of};
+use crate::outcome::{bids_of, further_wires, outcome_in, plan_of, values_of, winner_of};
+use crate::proof::HonestProof;
+use crate::tapes::check_tapes;
 use std::alloc::Global;
 use std::marker::Model;
-use vk_board::{Head, LaneLines, SealLines};
+use vk_board::{Head, LaneLines, SealLines, head_text};
 use vk_keeper::Auction;
 use vk_plan::Plan;
-use vk_prover::{DrawErr, LaneTape, answer_lane, make_lane};
+use vk_reply::Challenge;
 use vk_residue::{NoMemory, Residue};
 use vk_seq::Seq;
 use vk_vickrey::VickreyOutcome;
@@ -51,7 +52,13 @@ impl Job {
         requires seeded { IsSome (seed_of auction.phase) }
         ensures { JobAnswer result auction }
     {
-        check_tapes(&auction, &seed_in(&auction.phase))?;
+        check_tapes(
+            &auction.id,
+            auction.seals.as_slice(),
+            auction.lanes,
+            &seed_in(&auction.phase),
+            further_wires(&auction),
+        )?;
         let bids = bids_of(alloc, auction.seals.as_slice())?;
         let outcome = outcome_in(&auction, bids.as_slice());
         let plan = plan_of(alloc, &auction, outcome)?;
@@ -101,43 +108,27 @@ impl Job {
         ensures { IfOk result
             (λ lines. lines ≡ seal_lines_of (slice_index_or self.now.auction.seals (position - 1) no_row)) }
     {
-        let row = &self.auction.seals.as_slice()[position as usize - 1];
-        let coms = Vec::from_slice(alloc, row.seal.lanes.as_slice())?;
-        Ok(SealLines {
-            seat: row.seal.seat,
-            coms: Seq::from_vec(coms),
-        })
+        let lines = self.proof().seal(alloc, position)?;
+        Ok(lines)
     }
 
     /// What is published of the lane, counted from 1.
-    #[tactic(auto, unfolding(crate::specs::Published::lane_of))]
     pub fn lane(&self, alloc: Global, lane: u32) -> Result<LaneLines, NoMemory>
         requires some { 1 ≤ lane }
         requires last { lane ≤ self.now.auction.lanes }
         ensures { IfOk result (λ lines. lines ≡ lane_of self.now.auction lane) }
     {
-        let tape = self.tape(alloc, lane)?;
-        let id = &self.auction.id;
-        let lines = make_lane(
-            alloc,
-            &self.plan,
-            id,
-            lane as u16,
-            self.values.as_slice(),
-            &tape,
-        )?;
+        let lines = self.proof().lane(alloc, lane)?;
         Ok(lines)
     }
 
     /// What is shown of the lane, counted from 1, for that bit.
-    #[tactic(auto, unfolding(crate::specs::Published::shown_in))]
     pub fn shown(&self, alloc: Global, lane: u32, bit: bool) -> Result<Seq<Shown>, NoMemory>
         requires some { 1 ≤ lane }
         requires last { lane ≤ self.now.auction.lanes }
         ensures { IfOk result (λ shown. shown ≡ shown_in self.now.auction lane bit) }
     {
-        let tape = self.tape(alloc, lane)?;
-        let shown = answer_lane(alloc, &self.plan, self.values.as_slice(), &tape, bit)?;
+        let shown = self.proof().shown(alloc, lane, bit)?;
         Ok(shown)
     }
 
@@ -154,18 +145,59 @@ impl Job {
         Ok(shown)
     }
 
-    /// The tape of the lane.
-    fn tape(&self, alloc: Global, lane: u32) -> Result<LaneTape, NoMemory>
-        requires some { 1 ≤ lane }
-        requires last { lane ≤ self.now.auction.lanes }
-        ensures tape { IfOk result (λ tape. tape.wires ≡ lane_tape self.now.auction lane) }
-        ensures of_plan { IfOk result (λ tape. IsTapeOf (plan_of self.now.auction) tape.wires) }
+    /// How many pieces the board's file is written in: its head, each seal, each lane, and its end.
+    pub fn board_pieces(&self) -> usize
+        ensures { result ≡ length (board_pieces self.now.auction) }
     {
-        let seed = seed_in(&self.auction.phase);
-        match tape_of(alloc, &self.auction, &self.plan, &seed, lane) {
-            Ok(tape) => Ok(tape),
-            Err(DrawErr::NoMemory) => Err(NoMemory),
-            Err(DrawErr::DrySeed { .. }) => unreachable!(),
-        }
+        self.proof().file_pieces()
+    }
+
+    /// A piece of the board's file, counted from 0.
+    pub fn board_piece(&self, alloc: Global, index: usize) -> Result<Vec<u8>, NoMemory>
+        requires { index < length (board_pieces self.now.auction) }
+        ensures { IfOk result (λ piece. piece.items ≡ slice_index_or (board_pieces self.now.auction) index []) }
+    {
+        let head = head_text(alloc, &self.head())?;
+        let piece = self.proof().file_piece(alloc, head.as_slice(), index)?;
+        Ok(piece)
+    }
+
+    /// How many pieces the file of the reply to a challenge is written in: its head, each lane, and its
+    /// end. The challenge has a bit for each lane.
+    pub fn reply_pieces(&self, challenge: &Challenge) -> usize
+        requires { length challenge.now.bits ≡ self.now.auction.lanes }
+        ensures { result ≡ length (reply_pieces self.now.auction challenge.now) }
+    {
+        self.proof().reply_pieces(challenge)
+    }
+
+    /// A piece of that file, counted from 0.
+    pub fn reply_piece(
+        &self,
+        alloc: Global,
+        challenge: &Challenge,
+        index: usize,
+    ) -> Result<Vec<u8>, NoMemory>
+        requires bits { length challenge.now.bits ≡ self.now.auction.lanes }
+        requires index { index < length (reply_pieces self.now.auction challenge.now) }
+        ensures { IfOk result
+            (λ piece. piece.items ≡ slice_index_or (reply_pieces self.now.auction challenge.now) index []) }
+    {
+        let piece = self.proof().reply_piece(alloc, challenge, index)?;
+        Ok(piece)
+    }
+
+    /// Its proof, which borrows what it is made from.
+    fn proof(&self) -> HonestProof<'_>
+        ensures { result ≡ proof_of self.now.auction }
+    {
+        HonestProof::of(
+            &self.auction.id,
+            self.auction.seals.as_slice(),
+            self.auction.lanes,
+            seed_in(&self.auction.phase),
+            &self.plan,
+            self.values.as_slice(),
+        )
     }
 }

@@ -1,4 +1,4 @@
-// What holds of every auction, and of every one that is proved.
+// What holds of every proof, of every auction, and of every one that is proved.
 ghost use Rattle.std.specs.Prelude.{◌≡◌, ◌≤◌, ◌↔◌, ℕ, List, Some, None, length};
 ghost use Rattle.std.specs.List.{concat};
 ghost use Rattle.vk_plan.specs.Plans.{IsPlan, Holds};
@@ -7,9 +7,10 @@ ghost use Rattle.vk_reply.specs.declared.challenge.Challenge.{Challenge};
 ghost use Rattle.vk_vickrey.specs.Outcomes.{IsVickreyOutcome};
 ghost use Rattle.vk_keeper.specs.declared.auction.Auction.{Auction};
 ghost use Rattle.vk_job.specs.Outcome.{outcome_of};
-ghost use Rattle.vk_job.specs.Jobs.{Dry, IsFirstDry, bids_of, dry_in, outcome_in, plan_of, values_of};
+ghost use Rattle.vk_job.specs.Proofs.{Dry, IsFirstDryIn, IsProof, ProofValue, TapeSource, file_of, file_pieces, first_dry_in, reply_in, reply_pieces_in};
+ghost use Rattle.vk_job.specs.Jobs.{IsFirstDry, bids_of, dry_in, outcome_in, plan_of, proof_of, values_of};
 ghost use Rattle.vk_job.specs.Published.{board_of, board_pieces, head_of, published, reply_of, reply_pieces};
-ghost use Rattle.vk_job.specs.Laws.{HasLaneLines, HasReplies, HasShown, HasTapes, HasTapesOfPlan, WhereProved};
+ghost use Rattle.vk_job.specs.Laws.{HasLaneLines, HasReplies, HasShown, HasTapes, HasTapesOfPlan, OfProofs, WhereProved};
 
 /// Of any bids, of which there is one at least: their outcome is the one by maxima, and there is no other.
 pub fn outcomes_are_by_maxima()
@@ -19,35 +20,45 @@ pub fn outcomes_are_by_maxima()
         → (winner ≡ (outcome_of bids).position) × (price ≡ (outcome_of bids).price) }
 {}
 
-/// Of any auction and seed: the wire that is told to be dry is the first, and none is told exactly where
-/// every lane has a tape.
+/// Whatever the tapes come from, so of any auction and seed too: the wire that is told to be dry is the
+/// first, and none is told exactly where every lane has a tape.
 pub fn dry_wires_are_first()
-    ensures first { (auction : Auction) (seed : List ℕ) (dry : Dry) → (dry_in auction seed ≡ Some dry) ↔ IsFirstDry auction seed dry }
-    ensures none { (auction : Auction) (seed : List ℕ) → (dry_in auction seed ≡ None) ↔ HasTapes auction seed }
+    ensures first { (source : TapeSource) (dry : Dry) → (first_dry_in source ≡ Some dry) ↔ IsFirstDryIn source dry }
+    ensures none { (source : TapeSource) → (first_dry_in source ≡ None) ↔ HasTapes source }
+    ensures in_auction { (auction : Auction) (seed : List ℕ) (dry : Dry) → (dry_in auction seed ≡ Some dry) ↔ IsFirstDry auction seed dry }
 {}
 
-/// Of any auction that is proved: the tape of each lane is one for the plan, which shows the outcome of the
-/// bids, and the values hold for it.
+/// Of any auction that is proved: its plan shows the outcome of the bids, the values hold for it, and it
+/// gives a proof. The tape of each lane of any proof is one for the plan.
 pub fn proved_auctions_hold()
     ensures outcome { WhereProved (λ auction. IsVickreyOutcome (bids_of auction) (outcome_in auction).position (outcome_in auction).price) }
     ensures plan { WhereProved (λ auction. IsPlan (plan_of auction)) }
     ensures values { WhereProved (λ auction. Holds (plan_of auction) (values_of auction)) }
-    ensures tapes { WhereProved HasTapesOfPlan }
+    ensures proof { WhereProved (λ auction. IsProof (proof_of auction)) }
+    ensures tapes { OfProofs HasTapesOfPlan }
+    ensures auction_tapes { WhereProved (λ auction. HasTapesOfPlan (proof_of auction)) }
 {}
 
-/// Of any auction that is proved: what is published of it is a board, whose lanes have the plan's wires
-/// and rows, and what is shown of it is a reply.
+/// Of any auction that is proved: what is published of it is a board. Of any proof, so of that of such an
+/// auction too: what is published of its lanes has the plan's wires and rows, and what is shown is a reply.
 pub fn published_boards_are_of_their_form()
     ensures head { WhereProved (λ auction. IsHead (head_of auction)) }
     ensures seals { WhereProved (λ auction. AreSeals (head_of auction) (published auction).seals) }
     ensures count { (auction : Auction) → length (published auction).lanes ≡ auction.lanes }
-    ensures lanes { WhereProved HasLaneLines }
-    ensures shown { WhereProved HasShown }
-    ensures replies { WhereProved HasReplies }
+    ensures lanes { OfProofs HasLaneLines }
+    ensures shown { OfProofs HasShown }
+    ensures replies { OfProofs HasReplies }
+    ensures auction_lanes { WhereProved (λ auction. HasLaneLines (proof_of auction)) }
+    ensures auction_shown { WhereProved (λ auction. HasShown (proof_of auction)) }
+    ensures auction_replies { WhereProved (λ auction. HasReplies (proof_of auction)) }
 {}
 
-/// Of any auction: the pieces of its board, and of its reply to a challenge, are one after another the text.
+/// Of any proof and text of a head, and of any auction: the pieces of its file, and of its reply to a
+/// challenge, are one after another the text.
 pub fn pieces_are_texts()
+    ensures file { (head : List ℕ) (proof : ProofValue) → concat (file_pieces head proof) ≡ file_of head proof }
+    ensures shown { (proof : ProofValue) (challenge : Challenge)
+        → concat (reply_pieces_in proof challenge.bits) ≡ reply_in proof challenge.bits }
     ensures board { (auction : Auction) → concat (board_pieces auction) ≡ board_of auction }
     ensures reply { (auction : Auction) (challenge : Challenge)
         → concat (reply_pieces auction challenge) ≡ reply_of auction challenge }

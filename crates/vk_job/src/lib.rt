@@ -1,4 +1,5 @@
-//! What an honest auctioneer makes of an auction whose seals are taken: its outcome, its board, and its replies.
+//! What an honest auctioneer makes: a proof over sealed inputs, with its file and its replies; and the job of an
+//! auction whose seals are taken, with its outcome and its board.
 #![tactic(auto)]
 
 mod errors;
@@ -7,6 +8,7 @@ mod kept;
 mod laws;
 mod outcome;
 mod pieces;
+mod proof;
 mod tapes;
 
 pub use errors::JobErr;
@@ -15,3 +17,5 @@ pub use laws::{
     dry_wires_are_first, outcomes_are_by_maxima, pieces_are_texts, proved_auctions_hold,
     published_boards_are_of_their_form,
 };
+pub use proof::HonestProof;
+pub use tapes::check_tapes;

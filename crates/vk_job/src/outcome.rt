@@ -1,5 +1,5 @@
-// The outcome of an auction's bids, its plan, and the values that hold for it.
-ghost use Rattle.std.specs.Prelude.{◌≡◌, ◌≤◌, All, length, map, IfOk};
+// The outcome of an auction's bids, its plan and how large that is, and the values that hold for it.
+ghost use Rattle.std.specs.Prelude.{◌≡◌, ◌-◌, ◌≤◌, All, length, map, IfOk};
 ghost use Rattle.vk_residue.specs.Residue.{IsResidue};
 ghost use Rattle.vk_keeper.specs.Auctions.{IsAuction};
 ghost use Rattle.vk_job.specs.Jobs.{bids_of, outcome_in, plan_of, values_of, winner_of};
@@ -8,7 +8,7 @@ use std::alloc::Global;
 use vk_keeper::{Auction, SealRow};
 use vk_plan::{Circuit, Plan};
 use vk_residue::{NoMemory, Residue};
-use vk_vickrey::{VickreyOutcome, VickreyPlan, outcome};
+use vk_vickrey::{VickreyOutcome, VickreyPlan, outcome, wire_count};
 
 /// The bids in the order in which the seals were handed in.
 pub fn bids_of(alloc: Global, rows: &[SealRow]) -> Result<Vec<u64>, NoMemory>
@@ -16,6 +16,17 @@ pub fn bids_of(alloc: Global, rows: &[SealRow]) -> Result<Vec<u64>, NoMemory>
 {
     let bids = rows.iter().map(|row| row.secret.bid).collect(alloc)?;
     Ok(bids)
+}
+
+/// How many wires each lane has after the inputs.
+pub fn further_wires(auction: &Auction) -> u32
+    requires right { IsAuction auction.now }
+    requires sealed { 1 ≤ length auction.now.seals }
+    ensures wires { result ≡ length (plan_of auction.now).kinds - (plan_of auction.now).inputs }
+    ensures few { result ≤ 10311 }
+{
+    let seals = auction.seals.len() as u32;
+    wire_count(seals, auction.width) - seals
 }
 
 /// The outcome of the bids.

@@ -1,35 +1,34 @@
-// The files of a board and of a reply, piece by piece.
-ghost use Rattle.std.specs.Prelude.{◌≡◌, ◌-◌, ◌<◌, ◌≤◌, [], codes, false, length, slice_index_or, IfOk};
+// The files of a proof, piece by piece: what is published behind a head's text, and a reply.
+ghost use Rattle.std.specs.Prelude.{◌≡◌, ◌-◌, ◌<◌, ◌≤◌, ℕ, List, [], codes, length, slice_index_or, IfOk};
 ghost use Rattle.vk_lines.specs.Forms.{line};
 ghost use Rattle.vk_board.specs.Texts.{lane_text, seal_lines_text};
 ghost use Rattle.vk_reply.specs.Texts.{reply_lane_text};
-ghost use Rattle.vk_job.specs.Published.{board_pieces, lane_of, no_row, reply_pieces, seal_lines_of, shown_in};
+ghost use Rattle.vk_job.specs.Proofs.{file_pieces, lane_in, lane_shown_in, no_row, reply_pieces_in, seal_lines_of};
 
-use crate::job::Job;
+use crate::proof::HonestProof;
 use std::alloc::Global;
-use vk_board::{head_text, lane_text, seal_lines_text};
+use vk_board::{lane_text, seal_lines_text};
 use vk_lines::push_line;
 use vk_reply::{Challenge, reply_head_text, reply_lane_text};
 use vk_residue::NoMemory;
 
-impl Job {
-    /// How many pieces the board's file is written in: its head, each seal, each lane, and its end.
-    pub fn board_pieces(&self) -> usize
-        ensures { result ≡ length (board_pieces self.now.auction) }
+impl<'a> HonestProof<'a> {
+    /// How many pieces its file is written in: the head's text, each seal, each lane, and its end.
+    pub fn file_pieces(&self) -> usize
+        ensures { (head : List ℕ) → result ≡ length (file_pieces head self.now) }
     {
-        let auction = self.auction();
-        auction.seals.len() + auction.lanes as usize + 2
+        self.seals() + self.lanes() as usize + 2
     }
 
-    /// A piece of the board's file, counted from 0.
-    pub fn board_piece(&self, alloc: Global, index: usize) -> Result<Vec<u8>, NoMemory>
-        requires { index < length (board_pieces self.now.auction) }
-        ensures { IfOk result (λ piece. piece.items ≡ slice_index_or (board_pieces self.now.auction) index []) }
+    /// A piece of its file behind that text of a head, counted from 0, which is that text.
+    pub fn file_piece(&self, alloc: Global, head: &[u8], index: usize) -> Result<Vec<u8>, NoMemory>
+        requires { index < length (file_pieces head.now self.now) }
+        ensures { IfOk result (λ piece. piece.items ≡ slice_index_or (file_pieces head.now self.now) index []) }
     {
-        let seals = self.auction().seals.len();
-        let lanes = self.auction().lanes as usize;
+        let seals = self.seals();
+        let lanes = self.lanes() as usize;
         if index == 0 {
-            let piece = head_text(alloc, &self.head())?;
+            let piece = Vec::from_slice(alloc, head)?;
             return Ok(piece);
         }
         if index <= seals {
@@ -47,9 +46,9 @@ impl Job {
     /// The piece of the seal at that position, counted from 1.
     fn seal_piece(&self, alloc: Global, position: u32) -> Result<Vec<u8>, NoMemory>
         requires some { 1 ≤ position }
-        requires last { position ≤ length self.now.auction.seals }
+        requires last { position ≤ length self.now.rows }
         ensures { IfOk result (λ piece.
-            piece.items ≡ seal_lines_text (seal_lines_of (slice_index_or self.now.auction.seals (position - 1) no_row))) }
+            piece.items ≡ seal_lines_text (seal_lines_of (slice_index_or self.now.rows (position - 1) no_row))) }
     {
         let lines = self.seal(alloc, position)?;
         let piece = seal_lines_text(alloc, &lines)?;
@@ -59,8 +58,8 @@ impl Job {
     /// The piece of the lane, counted from 1.
     fn lane_piece(&self, alloc: Global, lane: u32) -> Result<Vec<u8>, NoMemory>
         requires some { 1 ≤ lane }
-        requires last { lane ≤ self.now.auction.lanes }
-        ensures { IfOk result (λ piece. piece.items ≡ lane_text lane (lane_of self.now.auction lane)) }
+        requires last { lane ≤ self.now.lanes }
+        ensures { IfOk result (λ piece. piece.items ≡ lane_text lane (lane_in self.now lane)) }
     {
         let lines = self.lane(alloc, lane)?;
         let piece = lane_text(alloc, lane, &lines)?;
@@ -70,10 +69,10 @@ impl Job {
     /// How many pieces the file of the reply to a challenge is written in: its head, each lane, and its
     /// end. The challenge has a bit for each lane.
     pub fn reply_pieces(&self, challenge: &Challenge) -> usize
-        requires { length challenge.now.bits ≡ self.now.auction.lanes }
-        ensures { result ≡ length (reply_pieces self.now.auction challenge.now) }
+        requires { length challenge.now.bits ≡ self.now.lanes }
+        ensures { result ≡ length (reply_pieces_in self.now challenge.now.bits) }
     {
-        self.auction().lanes as usize + 2
+        self.lanes() as usize + 2
     }
 
     /// A piece of that file, counted from 0.
@@ -83,12 +82,12 @@ impl Job {
         challenge: &Challenge,
         index: usize,
     ) -> Result<Vec<u8>, NoMemory>
-        requires bits { length challenge.now.bits ≡ self.now.auction.lanes }
-        requires index { index < length (reply_pieces self.now.auction challenge.now) }
+        requires bits { length challenge.now.bits ≡ self.now.lanes }
+        requires index { index < length (reply_pieces_in self.now challenge.now.bits) }
         ensures { IfOk result
-            (λ piece. piece.items ≡ slice_index_or (reply_pieces self.now.auction challenge.now) index []) }
+            (λ piece. piece.items ≡ slice_index_or (reply_pieces_in self.now challenge.now.bits) index []) }
     {
-        let lanes = self.auction().lanes;
+        let lanes = self.lanes();
         if index == 0 {
             let piece = reply_head_text(alloc, lanes)?;
             return Ok(piece);
@@ -105,8 +104,8 @@ impl Job {
     /// The piece of what is shown of the lane, counted from 1, for that bit.
     fn shown_piece(&self, alloc: Global, lane: u32, bit: bool) -> Result<Vec<u8>, NoMemory>
         requires some { 1 ≤ lane }
-        requires last { lane ≤ self.now.auction.lanes }
-        ensures { IfOk result (λ piece. piece.items ≡ reply_lane_text lane (shown_in self.now.auction lane bit)) }
+        requires last { lane ≤ self.now.lanes }
+        ensures { IfOk result (λ piece. piece.items ≡ reply_lane_text lane (lane_shown_in self.now lane bit)) }
     {
         let shown = self.shown(alloc, lane, bit)?;
         let piece = reply_lane_text(alloc, lane, shown.as_slice())?;

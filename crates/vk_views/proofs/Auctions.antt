@@ -9,10 +9,11 @@ use Rattle.vk_reply.specs.Texts.{reply_text}
 use Rattle.vk_vickrey.specs.VickreyPlans.{IsVickreyClaim}
 use Rattle.vk_vickrey.specs.VickreyLaws.{vickrey_complete}
 use Rattle.vk_keeper.specs.declared.auction.Auction.{Auction}
-use Rattle.vk_job.specs.Jobs.{IsProvedAuction, plan_of, values_of, lane_tape, outcome_in}
+use Rattle.vk_job.specs.Proofs.{lane_in, lane_shown_in}
+use Rattle.vk_job.specs.Jobs.{IsProvedAuction, plan_of, values_of, proof_of, lane_tape, outcome_in}
 use Rattle.vk_job.specs.Published.{lane_of, shown_in, shown_from}
 use Rattle.vk_job.proofs.Drawing.{lane_tape_is}
-use Rattle.vk_job.proofs.Held.{has_seal, case_is, plan_is, values_hold}
+use Rattle.vk_job.proofs.Held.{has_seal, case_is, plan_is, proof_is, values_hold}
 use Rattle.vk_views.specs.Views.{views_of}
 use Rattle.vk_views.specs.Auctions.{RepliesAreTextsOfViews, PostedAreThoseOfViews, OtherBidsGiveTheViews, tapes_of, values_for}
 use Rattle.vk_views.proofs.Counts.{views_of_lanes}
@@ -21,7 +22,7 @@ use Rattle.vk_views.proofs.Counts.{views_of_lanes}
 shown_of_views : (auction : Auction) (before : ℕ) (bits : List Bool)
     → shown_from auction (before + 1) bits
     ≡ map (λ view. view.shown) (views_of (plan_of auction) (values_of auction) (map (λ index. lane_tape auction (index + 1)) (range_with_len before (length bits))) bits)
-unfolding shown_in
+unfolding lane_shown_in
 shown_of_views auction before [] = refl
 shown_of_views auction before (bit ∷ bits) = ap (λ rest. shown_in auction (before + 1) bit ∷ rest) (shown_of_views auction (before + 1) bits)
 
@@ -29,7 +30,7 @@ shown_of_views auction before (bit ∷ bits) = ap (λ rest. shown_in auction (be
 posted_of_views : (auction : Auction) (before : ℕ) (bits : List Bool)
     → map (λ lane. lane.posted) (map (λ index. lane_of auction (index + 1)) (range_with_len before (length bits)))
     ≡ map (λ view. view.posted) (views_of (plan_of auction) (values_of auction) (map (λ index. lane_tape auction (index + 1)) (range_with_len before (length bits))) bits)
-unfolding lane_of
+unfolding lane_in
 posted_of_views auction before [] = refl
 posted_of_views auction before (bit ∷ bits) = ap (λ rest. (lane_of auction (before + 1)).posted ∷ rest) (posted_of_views auction (before + 1) bits)
 
@@ -45,7 +46,7 @@ tapes_are : (auction : Auction) → IsProvedAuction auction → AllByRecursion (
 tapes_are auction proved =
     let P = IsTapeOf (plan_of auction) in
     recursion_from_All P (tapes_of auction)
-    (All-listed P (λ index. lane_tape auction (index + 1)) auction.lanes (λ index lt. lane_tape_is auction (index + 1) proved (omega arith) (omega arith)))
+    (All-listed P (λ index. lane_tape auction (index + 1)) auction.lanes (λ index lt. lane_tape_is (proof_of auction) (index + 1) (proof_is auction proved) (omega arith) (omega arith)))
 
 -- the values for other bids hold for the plan
 others_hold : (auction : Auction) (others : List ℕ) → IsProvedAuction auction

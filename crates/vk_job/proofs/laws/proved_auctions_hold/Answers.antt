@@ -1,4 +1,5 @@
-use Rattle.vk_job.proofs.Held.{has_seal, outcome_is, plan_is, values_hold}
+use Rattle.vk_job.specs.Jobs.{proof_of}
+use Rattle.vk_job.proofs.Held.{has_seal, outcome_is, proof_is}
 use Rattle.vk_job.proofs.Drawing.{lane_tape_is}
 use Rattle.vk_job.proofs.laws.proved_auctions_hold.Goals as goal
 
@@ -6,10 +7,16 @@ pub returns-clause-outcome : goal.returns-clause-outcome
 returns-clause-outcome c auction proved = outcome_is auction (has_seal auction proved)
 
 pub returns-clause-plan : goal.returns-clause-plan
-returns-clause-plan c auction proved = plan_is auction proved.right (has_seal auction proved)
+returns-clause-plan c auction proved = (proof_is auction proved).plan
 
 pub returns-clause-values : goal.returns-clause-values
-returns-clause-values c auction proved = values_hold auction proved.right (has_seal auction proved)
+returns-clause-values c auction proved = (proof_is auction proved).values
+
+pub returns-clause-proof : goal.returns-clause-proof
+returns-clause-proof c = proof_is
 
 pub returns-clause-tapes : goal.returns-clause-tapes
-returns-clause-tapes c auction proved lane some last = lane_tape_is auction lane proved some last
+returns-clause-tapes c proof right lane some last = lane_tape_is proof lane right some last
+
+pub returns-clause-auction_tapes : goal.returns-clause-auction_tapes
+returns-clause-auction_tapes c auction proved lane some last = lane_tape_is (proof_of auction) lane (proof_is auction proved) some last

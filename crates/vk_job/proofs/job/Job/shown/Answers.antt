@@ -1,7 +1,0 @@
-use Rattle.vk_job.proofs.Held.{has_seal, values_hold}
-use Rattle.vk_job.proofs.job.Job.shown.Goals as goal
-
-pub answer_lane-requires-clause-holds : goal.answer_lane-requires-clause-holds
-answer_lane-requires-clause-holds c =
-    let proved = c.self.invariant.proved in
-    rw (c.as_slice.ensures, c.self.invariant.plan_is, c.self.invariant.values_are) (values_hold c.self.inside.auction proved.right (has_seal c.self.inside.auction proved))
