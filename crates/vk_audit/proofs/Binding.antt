@@ -36,7 +36,7 @@ use Rattle.vk_audit.specs.Verdicts.{answer_said, name_of}
 use Rattle.vk_audit.proofs.Extracting.{all_held, parts, put_told, refused_never}
 use Rattle.vk_audit.proofs.Extracting as extracting
 use Rattle.vk_audit.proofs.Findings.{confrontation_holds, settled_found}
-use Rattle.vk_audit.proofs.Inputs.{all_read, fault_of, first_unread, one_or_last, unread_found, unread_shown, with_more}
+use Rattle.vk_audit.proofs.Inputs.{Why, all_read, fault_of, first_unread, one_or_last, unread_found, unread_shown, with_more}
 use Rattle.vk_audit.proofs.Telling.{tells}
 use Rattle.vk_audit.proofs.Verifying.{status_accepted}
 
@@ -128,23 +128,27 @@ module _ (files : Files) (names : ConfrontWords) where
   abbrev said_of : Result Confrontation ConfrontErr → SaidValue
   said_of answered = answer_said (confrontation_said names) (unconfronted_said names) answered
 
-  -- the first that can't be read is a file of the replies, or the secret's
-  missing_found : (name : List ℕ) → IsFirstUnread files (confront_inputs names) name IsUnheld → said_of answer ≡ missing_said name
-  missing_found name is = elim (one_or_last files IsUnheld (extract_inputs replies) names.secret name is) [
-    | inl first ↦
-        let found = unread_found files (name_of replies) (parts files replies) name false first in
-        ap said_of (answer_unread (found.0, false) found.1) ∙ ap missing_said found.2
-    | inr last ↦
-        ap said_of (secret_unheld (all_held files replies last.0) (subst (IsUnheld files) last.2 last.1)) ∙ ap missing_said (sym last.2)
-  ]
+  -- what is said of a file that can't be read, by whether it is too long
+  abbrev cause_said : Bool → List ℕ → SaidValue
+  cause_said true = too_long_said
+  cause_said false = missing_said
 
-  too_long_found : (name : List ℕ) → IsFirstUnread files (confront_inputs names) name IsLong → said_of answer ≡ too_long_said name
-  too_long_found name is = elim (one_or_last files IsLong (extract_inputs replies) names.secret name is) [
+  part_said : (part : Part) (long : Bool) → said_of (Err (Unread (fault_of (part, long)))) ≡ cause_said long (name_of replies part)
+  part_said part true = refl
+  part_said part false = refl
+
+  secret_said : (held : HoldsFiles files replies) (long : Bool) → Why long files names.secret → said_of answer ≡ cause_said long names.secret
+  secret_said held true why = ap said_of (secret_long held why)
+  secret_said held false why = ap said_of (secret_unheld held why)
+
+  -- the first that can't be read is a file of the replies, or the secret's
+  cause_found : (name : List ℕ) (long : Bool) → IsFirstUnread files (confront_inputs names) name (Why long) → said_of answer ≡ cause_said long name
+  cause_found name long is = elim (one_or_last files (Why long) (extract_inputs replies) names.secret name is) [
     | inl first ↦
-        let found = unread_found files (name_of replies) (parts files replies) name true first in
-        ap said_of (answer_unread (found.0, true) found.1) ∙ ap too_long_said found.2
+        let found = unread_found files (name_of replies) (parts files replies) name long first in
+        ap said_of (answer_unread (found.0, long) found.1) ∙ part_said found.0 long ∙ ap (cause_said long) found.2
     | inr last ↦
-        ap said_of (secret_long (all_held files replies last.0) (subst (IsLong files) last.2 last.1)) ∙ ap too_long_said (sym last.2)
+        secret_said (all_held files replies last.0) long (subst (Why long files) last.2 last.1) ∙ ap (cause_said long) (sym last.2)
   ]
 
   answer_settled : (other : Result Confrontation ConfrontErr) → SettlesConfront other → ConfrontHolds files names other → said_of answer ≡ said_of other
@@ -152,12 +156,12 @@ module _ (files : Files) (names : ConfrontWords) where
       let held = holds.held in
       ap said_of (answer_read held holds.file holds.file_is ∙ ap (λ c. Ok c)
       (settled_found held.board_bytes held.first.challenge_bytes held.first.reply_bytes held.second.challenge_bytes held.second.reply_bytes holds.file confrontation settles holds.holds))
-  answer_settled (Err (Unread (Missing part))) settles holds = missing_found (name_of replies part) holds
-  answer_settled (Err (Unread (TooLong part))) settles holds = too_long_found (name_of replies part) holds
+  answer_settled (Err (Unread (Missing part))) settles holds = cause_found (name_of replies part) false holds
+  answer_settled (Err (Unread (TooLong part))) settles holds = cause_found (name_of replies part) true holds
   answer_settled (Err (Unread Failed)) settles holds = absurd holds
   answer_settled (Err (Unread NoMemory)) settles holds = absurd holds
-  answer_settled (Err MissingSecret) settles holds = missing_found names.secret holds
-  answer_settled (Err TooLongSecret) settles holds = too_long_found names.secret holds
+  answer_settled (Err MissingSecret) settles holds = cause_found names.secret false holds
+  answer_settled (Err TooLongSecret) settles holds = cause_found names.secret true holds
 
   -- the replies clash
   module _ (held : HoldsFiles files replies) (file : List ℕ) (taken : Option (List ℕ))

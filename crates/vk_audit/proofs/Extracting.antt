@@ -13,7 +13,8 @@ use Rattle.vk_verifier.specs.declared.answers.BoardVerdict.TheVariants as verdic
 use Rattle.vk_verifier.specs.declared.answers.VErr.{VErr}
 use Rattle.vk_verifier.specs.declared.answers.VErr.TheVariants.{Missing, TooLong, Failed, NoMemory}
 use Rattle.vk_verifier.specs.Verdicts.{begun}
-use Rattle.vk_verifier.specs.Two.{Ahead, ahead_at, as_second, base_on, two_on}
+use Rattle.vk_verifier.specs.Two.{Ahead}
+use Rattle.vk_verifier.specs.TwoBoards.{ahead_at, as_second, base_on, two_on}
 use Rattle.vk_bids.specs.declared.extraction.Extraction.{Extraction}
 use Rattle.vk_bids.specs.declared.extraction.Extraction.TheVariants.{Refused, Same, Clash, Bids}
 use Rattle.vk_bids.specs.Extraction.{extraction_of, extraction_on}
@@ -44,16 +45,16 @@ module _ (files : Files) (names : ExtractWords) where
   abbrev pub answer : Result Extraction VErr
   answer = extraction_on files names.board names.first.challenge names.first.reply names.second.challenge names.second.reply
 
-  abbrev last_then : Rest → Rest → Rest → Rest → Result Ahead VErr
+  abbrev last_then : Rest → Rest → Rest → Rest → Result (Ahead BoardVerdict) VErr
   last_then board challenge reply other = begun part.SecondReply (get files names.second.reply) >>= λ second. Ok (ahead_at board challenge reply other second)
 
-  abbrev other_then : Rest → Rest → Rest → Result Ahead VErr
+  abbrev other_then : Rest → Rest → Rest → Result (Ahead BoardVerdict) VErr
   other_then board challenge reply = begun part.SecondChallenge (get files names.second.challenge) >>= last_then board challenge reply
 
-  abbrev reply_then : Rest → Rest → Result Ahead VErr
+  abbrev reply_then : Rest → Rest → Result (Ahead BoardVerdict) VErr
   reply_then board challenge = begun part.Reply (get files names.first.reply) >>= other_then board challenge
 
-  abbrev challenge_then : Rest → Result Ahead VErr
+  abbrev challenge_then : Rest → Result (Ahead BoardVerdict) VErr
   challenge_then board = begun part.Challenge (get files names.first.challenge) >>= reply_then board
 
   two_unread : (unread : Part × Bool) → first_unread files (name_of names) parts ≡ Some unread

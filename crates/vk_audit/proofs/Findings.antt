@@ -9,17 +9,16 @@ use Rattle.vk_board.specs.declared.front.Front.{Front}
 use Rattle.vk_board.specs.Values.{AreSeals}
 use Rattle.vk_verifier.specs.declared.answers.BoardVerdict.{BoardVerdict}
 use Rattle.vk_verifier.specs.declared.answers.BoardVerdict.TheVariants as verdict
-use Rattle.vk_verifier.specs.declared.stage.Base.{Base}
-use Rattle.vk_verifier.specs.declared.stage.TwoVerdict.{TwoVerdict}
-use Rattle.vk_verifier.specs.declared.stage.TwoVerdict.TheVariants as two
+use Rattle.vk_verifier.specs.declared.stage.Finding.{Finding}
+use Rattle.vk_verifier.specs.declared.stage.Finding.TheVariants as two
 use Rattle.vk_verifier.specs.Acceptance.{Accepts}
 use Rattle.vk_verifier.specs.Refusals.{VerdictHolds}
 use Rattle.vk_verifier.specs.Verdicts.{from_start, verdict_of}
-use Rattle.vk_verifier.specs.Two.{accepted_of, as_second, is_accepted, same_bits, two_verdict}
+use Rattle.vk_verifier.specs.Two.{accepted_of, same_bits}
+use Rattle.vk_verifier.specs.TwoBoards.{BoardBase, as_second, is_accepted, two_verdict}
 use Rattle.vk_verifier.specs.TwoLaw.{ahead_in, bits_in}
 use Rattle.vk_verifier.specs.TwoValues.{begun_in}
-use Rattle.vk_verifier.proofs.Exact.{verdicts_exact}
-use Rattle.vk_verifier.proofs.Reasons.{verdict_holds}
+use Rattle.vk_verifier.proofs.Verdicts.{verdict_holds, verdicts_exact}
 use Rattle.vk_verifier.proofs.TwoLaw.{found_in}
 use Rattle.vk_commit.specs.Commitment.{TwoOpeningsSeen}
 use Rattle.vk_bids.specs.declared.bids.LaneBids.{LaneBids}
@@ -57,11 +56,11 @@ by_test : (answered : BoardVerdict) (test : Bool) → is_accepted answered ≡ t
 by_test answered true is other = absurd (other (accepted_is answered is))
 by_test answered false is other = is
 
-no_refusal : (same second : Bool) (answered : BoardVerdict) → ◌≡◌ {A = TwoVerdict} (if same then two.Same else two.Ready) (two.Refused second answered) → ⊥
+no_refusal : (same second : Bool) (answered : BoardVerdict) → ◌≡◌ {A = Finding BoardVerdict} (if same then two.Same else two.Ready) (two.Refused second answered) → ⊥
 no_refusal true second answered is = cc
 no_refusal false second answered is = cc
 
-refused_finding : (base : Option Base) (finding : TwoVerdict) (gathered : Result (List LaneBids) TwoOpeningsSeen) (second : Bool) (refused : BoardVerdict)
+refused_finding : (base : Option BoardBase) (finding : Finding BoardVerdict) (gathered : Result (List LaneBids) TwoOpeningsSeen) (second : Bool) (refused : BoardVerdict)
     → extraction_by base finding gathered ≡ Refused second refused → finding ≡ two.Refused second refused
 refused_finding base (two.Refused other fault) gathered second refused is = cc
 refused_finding base two.Same gathered second refused is = cc
@@ -84,12 +83,12 @@ module _ (board first_challenge first_reply second_challenge second_reply : List
   abbrev other : BoardVerdict
   other = verdict_of board second_challenge second_reply
 
-  abbrev by_finding : TwoVerdict → Extraction
+  abbrev by_finding : Finding BoardVerdict → Extraction
   by_finding finding =
       let base = begun_in board first_challenge first_reply second_challenge second_reply in
       extraction_by base finding (gathered_after base (ahead_in board first_challenge first_reply second_challenge second_reply).lanes)
 
-  abbrev by_tests : BoardVerdict → BoardVerdict → Bool → Bool → TwoVerdict
+  abbrev by_tests : BoardVerdict → BoardVerdict → Bool → Bool → Finding BoardVerdict
   by_tests one another accepted also =
       if accepted then (if also then accepted_of (bits_in first_challenge) (bits_in second_challenge) else two.Refused true
       (as_second another)) else two.Refused false one
@@ -241,7 +240,7 @@ module _ (board first_challenge first_reply second_challenge second_reply : List
         of_seal (comes.Mismatch mismatch) holds (λ found same is.
         let P : Front → Type 0 = λ front. HasMismatch front holds.secret mismatch in
         let A : Front → Type 0 = λ front. AreSeals front.head front.seals in
-        mismatch_alone holds.secret found mismatch comes_to (subst A (sym (same ∙ holds.bids.front)) holds.two.first.board_is.1.seals) (subst P
+        mismatch_alone holds.secret found mismatch comes_to (subst A (sym (same ∙ holds.bids.front)) holds.two.first.right.seals) (subst P
         (sym same) holds.comes) is)
     settled_found (comes.Clash clash) settles holds = absurd settles
     settled_found (comes.Held seat) settles holds = absurd settles

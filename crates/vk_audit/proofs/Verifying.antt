@@ -11,8 +11,7 @@ use Rattle.vk_verifier.specs.declared.answers.BoardVerdict.TheVariants as verdic
 use Rattle.vk_verifier.specs.declared.answers.VErr.{VErr}
 use Rattle.vk_verifier.specs.declared.answers.VErr.TheVariants.{Missing, TooLong, Failed, NoMemory}
 use Rattle.vk_verifier.specs.Verdicts.{begun, from_start, judged, verdict_by, verdict_of, verdict_on}
-use Rattle.vk_verifier.proofs.Exact.{verdicts_exact}
-use Rattle.vk_verifier.proofs.Reasons.{verdict_holds}
+use Rattle.vk_verifier.proofs.Verdicts.{verdict_holds, verdicts_exact}
 use Rattle.vk_bids.specs.Headline.{HeldAttempt, IsHeld}
 use Rattle.vk_bids.proofs.Begun.{attempt_found, begun_found}
 use Rattle.vk_words.specs.Names.{ExtractWords, VerifyWords}

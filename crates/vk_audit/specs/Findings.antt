@@ -9,7 +9,7 @@ use Rattle.vk_verifier.specs.declared.answers.BoardVerdict.{BoardVerdict}
 use Rattle.vk_verifier.specs.declared.answers.BoardVerdict.TheVariants.{Accepted}
 use Rattle.vk_verifier.specs.Acceptance.{Accepts}
 use Rattle.vk_verifier.specs.Refusals.{VerdictHolds}
-use Rattle.vk_verifier.specs.Two.{as_second}
+use Rattle.vk_verifier.specs.TwoBoards.{as_second}
 use Rattle.vk_bids.specs.declared.extraction.Extracted.{Extracted}
 use Rattle.vk_bids.specs.declared.extraction.Extraction.{Extraction}
 use Rattle.vk_bids.specs.declared.extraction.Extraction.TheVariants.{Refused, Same, Clash, Bids}

@@ -22,7 +22,8 @@ use Rattle.vk_bids.specs.declared.extraction.Extraction.{Extraction}
 use Rattle.vk_bids.specs.declared.extraction.Extraction.TheVariants.{Bids, Clash, Refused, Same}
 use Rattle.vk_bids.specs.Gathering.{shown_for}
 use Rattle.vk_bids.specs.Headline.{IsExtraction, IsOf, LaneAgrees, TwoAccepted, differing, shown_of}
-use Rattle.vk_bids.specs.Outcome.{AreShownIn, ShowsOutcome}
+use Rattle.vk_bids.specs.Opening.{AreShownIn}
+use Rattle.vk_bids.specs.Outcome.{ShowsOutcome}
 use Rattle.vk_bids.specs.Texts.{bid_in, bid_or_zero, has_one_bid}
 use Rattle.vk_bids.proofs.Agreeing.{no_clash}
 use Rattle.vk_bids.proofs.Halves.{halves_sum}
@@ -30,14 +31,15 @@ use Rattle.vk_bids.proofs.Headlines.{accepted_are_extracted}
 use Rattle.vk_keeper.specs.Auctions.{IsSealRow}
 use Rattle.vk_keeper.specs.declared.auction.Auction.{Auction}
 use Rattle.vk_keeper.specs.declared.auction.SealRow.{SealRow}
-use Rattle.vk_job.specs.Jobs.{IsProvedAuction}
-use Rattle.vk_job.specs.Published.{IsChallengeTo, board_of, no_row, reply_of, shown_from, shown_in}
+use Rattle.vk_job.specs.Jobs.{IsProvedAuction, proof_of}
+use Rattle.vk_job.specs.Proofs.{no_row}
+use Rattle.vk_job.specs.Published.{IsChallengeTo, board_of, reply_of, shown_from, shown_in}
 use Rattle.vk_job.proofs.Drawing.{lanes_of}
 use Rattle.vk_honest.specs.Answers.{front_of}
 use Rattle.vk_honest.specs.Extracted.{BidsAreEqual, RepliesGiveBids, TurnedOpenAll, bid_in_lane, bids_in_lane, sealed_bids}
 use Rattle.vk_honest.proofs.Accepted.{accepts, shown_at}
 use Rattle.vk_honest.proofs.Differing.{DiffersIn, all_differ, length-differing_turned, turned_differ}
-use Rattle.vk_honest.proofs.Fronts.{seats_on_board}
+use Rattle.vk_honest.proofs.Fronts.{seats_on_board, sealed}
 use Rattle.vk_honest.proofs.Opened.{half_shown, shown_agree, shown_either}
 
 no_opening : Opening
@@ -77,7 +79,7 @@ module _ (auction : Auction) (proved : IsProvedAuction auction) (lane : ℕ) (so
       let halves = shown index bid here in
       let first : bid.first ≡ secret_opening row.secret lane false = same_half _ _ (sym halves.0 ∙ half_shown auction proved lane some within false index inside) in
       let second : bid.second ≡ secret_opening row.secret lane true = same_half _ _ (sym halves.1 ∙ half_shown auction proved lane some within true index inside) in
-      let last : lane ≤ length row.secret.lanes = omega (arith, lanes_of auction row right) in
+      let last : lane ≤ length row.secret.lanes = omega (arith, lanes_of auction.id auction.width auction.lanes row right) in
       same_bid bid (bid_in_lane lane row)
       (sym (get_or-map (λ (b : OpenedBid). b.seat) bids index no_bid 0 lt)
       ∙ (ap (λ seats. slice_index seats index) seats_same ∙ get_or-map (λ (r : SealRow). r.seal.seat) auction.seals index no_row 0 inside))
@@ -133,9 +135,9 @@ module _ (auction : Auction) (proved : IsProvedAuction auction) (first second : 
       let some : 1 ≤ lane = is.from in
       let within : lane ≤ auction.lanes = omega (arith, is.until, is_first.one_bit_each) in
       let of_first : slice_index_or (shown_from auction 1 first.bits) (lane - 1) [] ≡ shown_in auction lane (bit_of first lane) =
-      shown_at auction proved first is_first (lane - 1) (omega (arith, is_first.one_bit_each)) ∙ ap (λ n. shown_in auction n (bit_of first n)) number in
+      shown_at auction.width (proof_of auction) (sealed auction proved) first is_first.right is_first.one_bit_each (lane - 1) (omega (arith, is_first.one_bit_each)) ∙ ap (λ n. shown_in auction n (bit_of first n)) number in
       let of_second : slice_index_or (shown_from auction 1 second.bits) (lane - 1) [] ≡ shown_in auction lane (bit_of second lane) =
-      shown_at auction proved second is_second (lane - 1) (omega (arith, is_second.one_bit_each)) ∙ ap (λ n. shown_in auction n (bit_of second n)) number in
+      shown_at auction.width (proof_of auction) (sealed auction proved) second is_second.right is_second.one_bit_each (lane - 1) (omega (arith, is_second.one_bit_each)) ∙ ap (λ n. shown_in auction n (bit_of second n)) number in
       record {
         some = some;
         within = within;

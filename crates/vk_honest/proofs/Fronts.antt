@@ -1,33 +1,54 @@
--- What stands on the board of a proved auction before its first lane: the price and the winner may stand.
-use Rattle.std.proofs.Common.{◌≡◌, ◌-◌, List, [], ◌∷◌, map, refl, ap}
+-- What stands on the board of a proved auction before its first lane: the price and the winner may stand. Its statement is
+-- that of the auction's proof, whose rows are sealed.
+use Rattle.std.proofs.Common.{◌≡◌, ◌-◌, ◌++◌, codes, length, map, take, refl, ap, append_assoc, sym}
 use Rattle.std.specs.Prelude.{slice_index}
-use Rattle.vk_board.specs.Fronts.{HasWinner, IsFront, PriceStands}
+use Rattle.std.specs.List.{flat_map}
+use Rattle.std.proofs.lemmas.List.{length-map}
+use Rattle.vk_lines.specs.Forms.{line}
+use Rattle.vk_board.specs.Fronts.{HasWinner, IsFront, PriceStands, front_text}
 use Rattle.vk_board.specs.Reading as board
-use Rattle.vk_verifier.specs.Verdicts as verifier
+use Rattle.vk_board.specs.Texts.{board_text, head_text, lanes_text, seal_lines_text}
+use Rattle.vk_vickrey.specs.VickreyPlans.{vickrey_plan}
+use Rattle.vk_vickrey.specs.VickreySteps.{honest_begins}
+use Rattle.vk_verifier.specs.Acceptance.{file_text}
+use Rattle.vk_verifier.specs.Verdicts.{statement_of}
 use Rattle.vk_keeper.specs.declared.auction.Auction.{Auction}
-use Rattle.vk_keeper.specs.declared.auction.SealRow.{SealRow}
-use Rattle.vk_job.specs.Jobs.{IsProvedAuction, outcome_in, plan_of, seats_of}
-use Rattle.vk_job.specs.Published.{head_of, seal_lines_of}
-use Rattle.vk_job.proofs.Held.{case_is, has_seal}
+use Rattle.vk_job.specs.Jobs.{IsProvedAuction, bids_of, outcome_in, plan_of, proof_of, seats_of, values_of}
+use Rattle.vk_job.specs.Proofs.{lanes_in, seal_lines_of}
+use Rattle.vk_job.specs.Published.{board_of, head_of}
+use Rattle.vk_job.proofs.Held.{case_is, has_seal, proof_is}
 use Rattle.vk_job.proofs.Parts.{head_is, seals_are}
-use Rattle.vk_honest.specs.Answers.{front_of}
-
--- the seats on the board are those of the seals
-seats_are : (rows : List SealRow) → board.seats_of (map seal_lines_of rows) ≡ map (λ row. row.seal.seat) rows
-seats_are [] = refl
-seats_are (row ∷ rows) = ap (λ seats. row.seal.seat ∷ seats) (seats_are rows)
+use Rattle.vk_honest.specs.Answers.{IsSealedProof, front_of, statement_in}
+use Rattle.vk_honest.proofs.Cases.{seats_are}
 
 pub seats_on_board : (auction : Auction) → board.seats_of (map seal_lines_of auction.seals) ≡ seats_of auction
 seats_on_board auction = seats_are auction.seals
 
--- the board's circuit is the auction's
-pub same_plan : (auction : Auction) → verifier.plan_of (front_of auction) ≡ plan_of auction
+-- what the board is to show is what the proof does
+pub same_statement : (auction : Auction) → statement_of (front_of auction) ≡ statement_in (proof_of auction)
 unfolding plan_of head_of
-same_plan auction = refl
+same_statement auction = refl
 
 pub same_lanes : (auction : Auction) → (head_of auction).lanes ≡ auction.lanes
 unfolding head_of
 same_lanes auction = refl
+
+pub inputs_are : (auction : Auction) → (plan_of auction).inputs ≡ length auction.seals
+unfolding plan_of vickrey_plan
+inputs_are auction = refl
+
+-- the first values are the bids
+begins_with_bids : (auction : Auction) → take (length auction.seals) (values_of auction) ≡ bids_of auction
+unfolding values_of
+begins_with_bids auction =
+    honest_begins (length auction.seals) auction.width (outcome_in auction).position (outcome_in auction).price (bids_of auction) (length-map auction.seals (λ row. row.secret.bid))
+
+-- the board is its front, the lanes and the end
+pub board_is_file : (auction : Auction) → board_of auction ≡ file_text (front_text (front_of auction)) (lanes_in (proof_of auction))
+unfolding board_text
+board_is_file auction =
+    sym (append_assoc (head_text (head_of auction)) (flat_map seal_lines_text (map seal_lines_of auction.seals))
+    (lanes_text 1 (lanes_in (proof_of auction)) ++ line (codes "end")))
 
 module _ (auction : Auction) (proved : IsProvedAuction auction) where
   price_stands : PriceStands (head_of auction)
@@ -44,3 +65,6 @@ module _ (auction : Auction) (proved : IsProvedAuction auction) where
 
   pub front_is : IsFront (front_of auction)
   front_is = record { head = head_is auction proved.right (has_seal auction proved); seals = seals_are auction proved.right; price = price_stands; winner = has_winner }
+
+  pub sealed : IsSealedProof auction.width (proof_of auction)
+  sealed = record { right = proof_is auction proved; rows = proved.right.rows; inputs = begins_with_bids auction }

@@ -21,9 +21,11 @@ use Rattle.vk_prover.proofs.Accepted.{IsHonest}
 use Rattle.vk_prover.proofs.Wires.{get_or-each_wire, inputs_within, length-each_wire}
 use Rattle.vk_bids.specs.Gathering.{shown_for}
 use Rattle.vk_keeper.specs.declared.auction.Auction.{Auction}
-use Rattle.vk_job.specs.Jobs.{IsProvedAuction, lane_tape, plan_of, seats_of, values_of}
-use Rattle.vk_job.specs.Published.{no_row, shown_in}
-use Rattle.vk_honest.proofs.Cases.{auction_plan, bid_at, inputs_are, is_honest, tape_at}
+use Rattle.vk_job.specs.Jobs.{IsProvedAuction, lane_tape, plan_of, proof_of, seats_of, values_of}
+use Rattle.vk_job.specs.Proofs.{lane_shown_in, no_row}
+use Rattle.vk_job.specs.Published.{shown_in}
+use Rattle.vk_honest.proofs.Cases.{bid_at, is_honest, tape_at}
+use Rattle.vk_honest.proofs.Fronts.{inputs_are, sealed}
 
 -- ---- one wire
 
@@ -51,18 +53,18 @@ half_is secret lane false = refl
 
 module _ (auction : Auction) (proved : IsProvedAuction auction) (lane : ℕ) (some : 1 ≤ lane) (within : lane ≤ auction.lanes) where
   abbrev honest : IsHonest (plan_of auction) (seats_of auction) (values_of auction) (lane_tape auction lane)
-  honest = is_honest auction proved lane some within
+  honest = is_honest auction.width (proof_of auction) (sealed auction proved) lane some within
 
   -- what is shown of a wire
   wire_shown : (bit : Bool) (wire : ℕ) → wire < length (plan_of auction).kinds
       → slice_index_or (shown_in auction lane bit) wire nothing_shown
       ≡ shown_wire (slice_index_or (plan_of auction).kinds wire Split) (slice_index (values_of auction) wire) (slice_index_or (lane_tape auction lane) wire no_tape) bit
-  unfolding shown_in
+  unfolding lane_shown_in
   wire_shown bit wire lt =
       get_or-each_wire (shown_of bit) 0 (plan_of auction).kinds (values_of auction) (lane_tape auction lane) wire nothing_shown lt honest.values_hold.one_each honest.tape_is.one_each
 
   shown_count : (bit : Bool) → length (shown_in auction lane bit) ≡ length (plan_of auction).kinds
-  unfolding shown_in
+  unfolding lane_shown_in
   shown_count bit = length-each_wire (shown_of bit) 0 (plan_of auction).kinds (values_of auction) (lane_tape auction lane) honest.values_hold.one_each honest.tape_is.one_each
 
   -- of a seal: the half that its secret has
@@ -70,16 +72,16 @@ module _ (auction : Auction) (proved : IsProvedAuction auction) (lane : ℕ) (so
       → slice_index_or (shown_in auction lane bit) input nothing_shown ≡ Half (secret_opening (get_or auction.seals input no_row).secret lane bit)
   half_shown bit input lt =
       let plan = plan_of auction in
-      let few : plan.inputs ≤ length plan.kinds = inputs_within plan (auction_plan auction proved) in
+      let few : plan.inputs ≤ length plan.kinds = inputs_within plan (sealed auction proved).right.plan in
       let inside : input < plan.inputs = omega (arith, inputs_are auction) in
-      let split : slice_index_or plan.kinds input Split ≡ Split = get_or_from_slice_get plan.kinds input Split Split ((auction_plan auction proved).inputs_are_split input inside) in
+      let split : slice_index_or plan.kinds input Split ≡ Split = get_or_from_slice_get plan.kinds input Split Split ((sealed auction proved).right.plan.inputs_are_split input inside) in
       let value = slice_index (values_of auction) input in
       let tape = slice_index_or (lane_tape auction lane) input no_tape in
       let secret = (get_or auction.seals input no_row).secret in
       wire_shown bit input (omega arith)
       ∙ (ap (λ kind. shown_wire kind value tape bit) split
-      ∙ (ap (λ bid. shown_wire Split bid tape bit) (bid_at auction proved lane some within input lt)
-      ∙ (ap (λ t. shown_wire Split secret.bid t bit) (tape_at auction proved lane some within input lt) ∙ half_is secret lane bit)))
+      ∙ (ap (λ bid. shown_wire Split bid tape bit) (bid_at auction.width (proof_of auction) (sealed auction proved) lane some within input lt)
+      ∙ (ap (λ t. shown_wire Split secret.bid t bit) (tape_at auction.width (proof_of auction) (sealed auction proved) lane some within input lt) ∙ half_is secret lane bit)))
 
   -- what is shown for both bits agrees
   pub shown_agree : (wire : ℕ) → WireAgrees (shown_in auction lane false) (shown_in auction lane true) wire

@@ -30,10 +30,10 @@ use Rattle.vk_vickrey.specs.VickreyPlans.{row_count, wire_count}
 use Rattle.vk_vickrey.specs.VickreySteps.{vickrey_wires}
 use Rattle.vk_verifier.specs.Acceptance.{shape_of}
 use Rattle.vk_keeper.specs.declared.auction.Auction.{Auction}
-use Rattle.vk_job.specs.Jobs.{IsProvedAuction, outcome_in, plan_of}
+use Rattle.vk_job.specs.Jobs.{IsProvedAuction, outcome_in, plan_of, proof_of}
 use Rattle.vk_job.specs.Laws.{WhereProved}
 use Rattle.vk_job.specs.Published.{IsChallengeTo, board_of, head_of, published, reply_of, shown_from}
-use Rattle.vk_job.proofs.Held.{has_seal}
+use Rattle.vk_job.proofs.Held.{has_seal, proof_is}
 use Rattle.vk_job.proofs.Parts.{length_shown, reply_is}
 use Rattle.vk_honest.specs.Answers.{WhereChallenged}
 use Rattle.vk_honest.specs.Sizes.{IsShort, board_lines, line_count, reply_lines}
@@ -155,10 +155,10 @@ module _ (auction : Auction) (proved : IsProvedAuction auction) where
   reply_lines_are : (challenge : Challenge) → IsChallengeTo auction challenge → HasLines (reply_lines (length auction.seals) auction.width auction.lanes) (reply_of auction challenge)
   reply_lines_are challenge is =
       let shown = shown_from auction 1 challenge.bits in
-      let count : length shown ≡ auction.lanes = length_shown auction 1 challenge.bits ∙ is.one_bit_each in
+      let count : length shown ≡ auction.lanes = length_shown (proof_of auction) 1 challenge.bits ∙ is.one_bit_each in
       let of : ℕ → ℕ → ℕ = λ lanes wires. 2 + lanes * (1 + wires) + 1 in
       lines_as (of (length shown) (length (plan_of auction).kinds)) (reply_lines (length auction.seals) auction.width auction.lanes) _
-      (reply_has (plan_of auction).kinds _ shown (reply_is auction challenge proved is.right is.one_bit_each))
+      (reply_has (plan_of auction).kinds _ shown (reply_is (proof_of auction) challenge (proof_is auction proved) is.right is.one_bit_each))
       (ap (λ lanes. of lanes (length (plan_of auction).kinds)) count ∙ ap (of auction.lanes) wires_are)
 
 pub boards_have_lines : WhereProved (λ auction. line_count (board_of auction) ≡ board_lines (length auction.seals) auction.width auction.lanes)

@@ -1,4 +1,4 @@
--- The tape of a lane of a proved auction begins with those of its secrets.
+-- The tape of a lane of a proof begins with those of its secrets.
 use Rattle.std.proofs.Common.{◌≡◌, ℕ, zero, suc, ◌-◌, ◌≤◌, List, [], ◌∷◌, ◌++◌, length, take, Option, Some, None, Result, Ok, refl, sym, ap, ◌∙◌, arith}
 use Rattle.std.proofs.lemmas.List.{length-map, length_push, take-take, take_all, take_at}
 use Rattle.vk_dice.specs.Stream.{word_at}
@@ -6,8 +6,7 @@ use Rattle.vk_wire.specs.declared.wire.WireTape.{WireTape}
 use Rattle.vk_seal.specs.Values.{wire_tape}
 use Rattle.vk_extractor.specs.Confronting.{tape_in}
 use Rattle.vk_prover.specs.Drawn.{after_wire, drawn_tape, drawn_wire, wires_after}
-use Rattle.vk_keeper.specs.declared.auction.Auction.{Auction}
-use Rattle.vk_job.specs.Jobs.{IsProvedAuction, given_tapes, lane_tape, plan_of, seed_in, tape_of, tape_or_none}
+use Rattle.vk_job.specs.Proofs.{ProofValue, IsProof, drawn_in, given_in, lane_tape_in, source_of, tape_or_none}
 use Rattle.vk_job.proofs.Dry.{tapes_of_none}
 
 Begins : List WireTape → List WireTape → Type 0
@@ -33,11 +32,11 @@ drawn_begins before (suc count) ahead tape is =
     where_drawn (length before) (λ one. drawn_tape (before ++ one ∷ []) count (after_wire ahead)) (drawn_wire ahead) before tape is
     (λ one drawn. drawn_begins (before ++ one ∷ []) count (after_wire ahead) tape drawn)
 
-pub tape_begins : (auction : Auction) → IsProvedAuction auction → (lane : ℕ) → 1 ≤ lane → lane ≤ auction.lanes
-    → take (length auction.seals) (lane_tape auction lane) ≡ given_tapes auction lane
-unfolding tape_of Begins
-tape_begins auction proved lane some within =
-    let has = tapes_of_none auction (seed_in auction) proved.tapes lane some within in
-    let count = length-map auction.seals (λ row. wire_tape (tape_in row.secret lane)) in
-    let begins = drawn_begins (given_tapes auction lane) (length (plan_of auction).kinds - (plan_of auction).inputs) (word_at (seed_in auction) auction.id lane) has.0 has.1 in
-    ap (λ found. take (length auction.seals) (tape_or_none found)) has.1 ∙ (ap (λ n. take n has.0) (sym count) ∙ begins)
+pub tape_begins : (proof : ProofValue) → IsProof proof → (lane : ℕ) → 1 ≤ lane → lane ≤ proof.lanes
+    → take (length proof.rows) (lane_tape_in proof lane) ≡ given_in proof.rows lane
+unfolding drawn_in Begins
+tape_begins proof right lane some within =
+    let has = tapes_of_none (source_of proof) right.none_dry lane some within in
+    let count = length-map proof.rows (λ row. wire_tape (tape_in row.secret lane)) in
+    let begins = drawn_begins (given_in proof.rows lane) (length proof.plan.kinds - proof.plan.inputs) (word_at proof.seed proof.id lane) has.0 has.1 in
+    ap (λ found. take (length proof.rows) (tape_or_none found)) has.1 ∙ (ap (λ n. take n has.0) (sym count) ∙ begins)

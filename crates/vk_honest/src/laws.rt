@@ -1,4 +1,4 @@
-//! What holds of the board and the replies of every auction that is proved.
+//! What holds of every honest proof, and of the board and the replies of every auction that is proved.
 
 ghost use Rattle.std.specs.Prelude.{◌≡◌, ◌+◌, ◌==◌, ℕ, List, length};
 ghost use Rattle.std.specs.List.{slice_split};
@@ -7,9 +7,15 @@ ghost use Rattle.vk_reply.specs.Values.{IsChallenge};
 ghost use Rattle.vk_reply.specs.Texts.{challenge_text};
 ghost use Rattle.vk_job.specs.Laws.{WhereProved};
 ghost use Rattle.vk_job.specs.Published.{board_of, reply_of};
-ghost use Rattle.vk_honest.specs.Answers.{AnswersAreAccepted, WhereChallenged};
+ghost use Rattle.vk_honest.specs.Answers.{AnswersAreAccepted, ProofsAreAccepted, WhereChallenged};
 ghost use Rattle.vk_honest.specs.Extracted.{BidsAreEqual, RepliesGiveBids, TurnedOpenAll};
 ghost use Rattle.vk_honest.specs.Sizes.{IsShort, board_lines, line_count, reply_lines};
+
+/// A law: of every honest proof whose rows are sealed, for any circuit, the reply to any challenge with a bit for each of
+/// its lanes is accepted behind any front, of which its statement is.
+pub fn an_honest_proof_is_accepted()
+    ensures { ProofsAreAccepted }
+{}
 
 /// A law: of every auction that is proved, the reply to any challenge with a bit for each of its lanes is accepted
 /// with its board. So there is no challenge that an honest auctioneer can't answer.

@@ -5,6 +5,6 @@
 mod laws;
 
 pub use laws::{
-    an_honest_answer_is_accepted, honest_files_are_short, honest_files_have_so_many_lines,
-    honest_replies_give_the_bids,
+    an_honest_answer_is_accepted, an_honest_proof_is_accepted, honest_files_are_short,
+    honest_files_have_so_many_lines, honest_replies_give_the_bids,
 };

@@ -7,7 +7,8 @@ use Rattle.vk_verifier.proofs.Steps.{bind_ok}
 use Rattle.vk_keeper.specs.declared.auction.Auction.{Auction}
 use Rattle.vk_keeper.specs.declared.auction.SealRow.{SealRow}
 use Rattle.vk_keeper.specs.Auctions.{IsAuction, IsSealRow}
-use Rattle.vk_job.specs.Jobs.{Dry, dry_in}
+use Rattle.vk_job.specs.Proofs.{Dry}
+use Rattle.vk_job.specs.Jobs.{dry_in}
 use Rattle.vk_report.specs.declared.sample.SampleCase.{SampleCase}
 use Rattle.vk_report.specs.Samples.{IsSampleCase, lanes, seals, width}
 use Rattle.vk_sample.specs.Auctions.{auction_by, auction_of, auction_with, rows_onto, sealed, secret_at, unless_dry}

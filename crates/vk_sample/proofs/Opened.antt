@@ -15,7 +15,8 @@ use Rattle.vk_bids.specs.Headline.{HeldAttempt, HeldFiles}
 use Rattle.vk_bids.specs.Texts.{has_one_bid}
 use Rattle.vk_bids.proofs.Named.{files_are_extracted}
 use Rattle.vk_keeper.specs.declared.auction.Auction.{Auction}
-use Rattle.vk_job.specs.Published.{IsChallengeTo, board_of, reply_of, seal_lines_of}
+use Rattle.vk_job.specs.Proofs.{seal_lines_of}
+use Rattle.vk_job.specs.Published.{IsChallengeTo, board_of, reply_of}
 use Rattle.vk_honest.specs.Sizes.{board_lines, reply_lines}
 use Rattle.vk_honest.proofs.Accepted.{answers_are_accepted}
 use Rattle.vk_honest.proofs.Extracted.{bids_are_equal, replies_give_bids, turned_open_all}

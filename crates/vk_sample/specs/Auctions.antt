@@ -9,7 +9,8 @@ use Rattle.vk_keeper.specs.declared.auction.SealRow.{SealRow}
 use Rattle.vk_keeper.specs.declared.auction.Auction.{Auction}
 use Rattle.vk_job.specs.declared.errors.JobErr.{JobErr}
 use Rattle.vk_job.specs.declared.errors.JobErr.TheVariants as job
-use Rattle.vk_job.specs.Jobs.{Dry, dry_in}
+use Rattle.vk_job.specs.Proofs.{Dry}
+use Rattle.vk_job.specs.Jobs.{dry_in}
 use Rattle.vk_report.specs.declared.sample.SampleCase.{SampleCase}
 use Rattle.vk_report.specs.Samples.{lanes, seals, width}
 use Rattle.vk_sample.specs.declared.errors.SampleErr.{SampleErr}

@@ -13,15 +13,15 @@ use vk_audit::extracted;
 use vk_bids::{Extracted, Extraction, has_one_bid};
 use vk_board::Head;
 use vk_effect::Said;
-use vk_report::{row_count, wire_count};
 use vk_residue::NoMemory;
+use vk_vickrey::{row_count, wire_count};
 
 /// How many lines the board has.
 fn board_lines(head: &Head) -> u32
     requires { IsHead head.now }
     ensures { result ≡ board_lines head.now.seals head.now.width head.now.lanes }
 {
-    let lane = 1 + (wire_count(head) - head.seals) + row_count(head);
+    let lane = 1 + (wire_count(head.seals, head.width) - head.seals) + row_count(head.seals);
     7 + head.seals * (1 + head.lanes) + head.lanes * lane + 1
 }
 
@@ -30,7 +30,7 @@ fn reply_lines(head: &Head) -> u32
     requires { IsHead head.now }
     ensures { result ≡ reply_lines head.now.seals head.now.width head.now.lanes }
 {
-    2 + head.lanes * (1 + wire_count(head)) + 1
+    2 + head.lanes * (1 + wire_count(head.seals, head.width)) + 1
 }
 
 /// One line more.
