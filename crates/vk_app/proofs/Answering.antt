@@ -2,6 +2,7 @@
 use Rattle.std.proofs.Common.{◌≡◌, ℕ, zero, suc, List, [], ◌∷◌, Option, Some, None, IfSome, IsSomeAnd, refl, sym, ap, subst, ◌∙◌, arith}
 use Rattle.std.specs.Prelude.{Contains}
 use Rattle.std.specs.FinMap.{get}
+use Rattle.std.proofs.lemmas.Option.{same_Some}
 use Rattle.vk_io.proofs.Finite.{get_own}
 use Rattle.vk_reply.specs.declared.challenge.Challenge.{Challenge}
 use Rattle.vk_reply.specs.Texts.{challenge_text}
@@ -12,28 +13,26 @@ use Rattle.vk_keeper.specs.declared.auction.Phase.TheVariants.{Taking, Proved, A
 use Rattle.vk_keeper.specs.declared.auction.SealRow.{SealRow}
 use Rattle.vk_keeper.specs.Auctions.{challenge_of, seed_of}
 use Rattle.vk_keeper.specs.Ledgers.{Ledger, IsLedger}
-use Rattle.vk_job.specs.Jobs.{plan_of, tape_of, values_of}
-use Rattle.vk_job.specs.Published.{board_of, head_of, lane_of, reply_of}
+use Rattle.vk_job.specs.Proofs.{drawn_in, lane_in}
+use Rattle.vk_job.specs.Jobs.{plan_of, values_of}
+use Rattle.vk_job.specs.Published.{board_of, head_of, reply_of}
 use Rattle.vk_house.specs.Once.{KeepsAnswer, KeepsAnswers, KeepsSeed}
 use Rattle.vk_house.proofs.Fields.{auction_with}
 use Rattle.vk_house.proofs.Once.{keeps_on, keeps_same}
+use Rattle.vk_words.specs.Commands.{command_words}
 use Rattle.vk_ceremony.specs.Acts.{HouseAct}
 use Rattle.vk_app.specs.Auctions.{Answers, AreRuns, IsActOf, IsRun, Proves, PublishesBoard, PublishesReply, Run, orders_of}
-use Rattle.vk_words.specs.Commands.{command_words}
 use Rattle.vk_app.proofs.Served.{served_found, served_keeps}
-
-some_same : {X : Type 0} (x y : X) → ◌≡◌ {A = Option X} (Some x) (Some y) → x ≡ y
-some_same x y is = cc
 
 -- ---- the board of an auction
 
 -- it is that of its seed: no challenge is in it
 board_by : (id : List ℕ) (width lanes : ℕ) (phase : Phase) (seals : List SealRow) (seed : List ℕ) → seed_of phase ≡ Some seed
     → board_of (auction_with id width lanes phase seals) ≡ board_of (auction_with id width lanes (Proved seed) seals)
-unfolding head_of lane_of plan_of values_of tape_of
+unfolding head_of lane_in plan_of values_of drawn_in
 board_by id width lanes Taking seals seed is = cc
-board_by id width lanes (Proved kept) seals seed is = ap (λ s. board_of (auction_with id width lanes (Proved s) seals)) (some_same kept seed is)
-board_by id width lanes (Answered kept challenge) seals seed is = ap (λ s. board_of (auction_with id width lanes (Proved s) seals)) (some_same kept seed is)
+board_by id width lanes (Proved kept) seals seed is = ap (λ s. board_of (auction_with id width lanes (Proved s) seals)) (same_Some kept seed is)
+board_by id width lanes (Answered kept challenge) seals seed is = ap (λ s. board_of (auction_with id width lanes (Proved s) seals)) (same_Some kept seed is)
 
 board_kept : (auction : Auction) (seed : List ℕ) (later : Auction) → seed_of auction.phase ≡ Some seed → KeepsSeed auction seed later → board_of later ≡ board_of auction
 board_kept auction seed later is keeps =
@@ -92,7 +91,7 @@ proved_lasts : (act : HouseAct) (last : Ledger) (id published : List ℕ) → La
 proved_lasts act last id published lasts proves =
     let left = lasts.boards id proves.seed proves.board proves.order_is proves.done in
     published_by last id published left.auction (get last id) refl
-    (some_same published (board_of left.auction) (sym proves.published_is ∙ ap (λ files. get files proves.board) left.written ∙ get_own act.files proves.board (board_of left.auction)))
+    (same_Some published (board_of left.auction) (sym proves.published_is ∙ ap (λ files. get files proves.board) left.written ∙ get_own act.files proves.board (board_of left.auction)))
     (board_stays left.auction proves.seed left.auction.phase (get last id) left.seed_is left.seed_is (keeps_at act.kept last id left.auction lasts.keeps left.stands))
 
 answered_lasts : (act : HouseAct) (last : Ledger) (id given shown : List ℕ) → Lasts act last → Answers act id given shown → Replied last id given shown
@@ -103,8 +102,8 @@ answered_lasts act last id given shown lasts answers =
       answered = left.answered;
       stands = reply_stays left.auction left.answered left.auction.phase (get last id) left.answered_is (keeps_at act.kept last id left.auction lasts.keeps left.stands);
       answered_is = left.answered_is;
-      given_is = some_same given (challenge_text left.answered) (sym answers.given_is ∙ left.read);
-      shown_is = some_same shown (reply_of left.auction left.answered)
+      given_is = same_Some given (challenge_text left.answered) (sym answers.given_is ∙ left.read);
+      shown_is = same_Some shown (reply_of left.auction left.answered)
           (sym answers.shown_is ∙ ap (λ files. get files answers.reply) left.written ∙ get_own act.files answers.reply (reply_of left.auction left.answered));
       accepted = left.accepted;
     }
@@ -142,7 +141,7 @@ act_lasts runs old new act right are of = lasts runs old new of.0 act right are 
 -- ---- the laws
 
 same_auction : (last : Ledger) (id : List ℕ) (one other : Auction) → get last id ≡ Some one → get last id ≡ Some other → one ≡ other
-same_auction last id one other here there = some_same one other (sym here ∙ there)
+same_auction last id one other here there = same_Some one other (sym here ∙ there)
 
 pub boards_are_one : (runs : List Run) (old new : Ledger) (one other : HouseAct) (id published shown : List ℕ) → IsLedger old → AreRuns runs old new → IsActOf runs one → IsActOf runs other
     → Proves one id published → Proves other id shown → published ≡ shown
@@ -158,7 +157,7 @@ answers_are_one runs old new one other id given shown next_given next_shown righ
     let there = answered_lasts other new id next_given next_shown (act_lasts runs old new other right are second) next in
     let auction = same_auction new id here.auction there.auction here.stands there.stands in
     let challenges : here.answered ≡ there.answered =
-    some_same here.answered there.answered (sym here.answered_is ∙ ap (λ (a : Auction). challenge_of a.phase) auction ∙ there.answered_is) in (
+    same_Some here.answered there.answered (sym here.answered_is ∙ ap (λ (a : Auction). challenge_of a.phase) auction ∙ there.answered_is) in (
       here.given_is ∙ ap challenge_text challenges ∙ sym there.given_is,
       here.shown_is ∙ ap (λ (a : Auction). reply_of a here.answered) auction ∙ ap (reply_of there.auction) challenges ∙ sym there.shown_is,
     )

@@ -1,21 +1,14 @@
 -- How a whole command line ends, from how its parts do.
-use Rattle.std.proofs.Common.{◌≡◌, ℕ, List, Option, Some, None, Ok, Err, Result, refl, ap, subst}
+use Rattle.std.proofs.Common.{◌≡◌, ℕ, List, Option, Some, None, Ok, Err, Result, subst}
 use Rattle.std.specs.Prelude.{IfSome, option_map}
 use Rattle.vk_io.specs.Files.{Files, Told}
 use Rattle.vk_io.specs.Writing.{WritesAll, written}
 use Rattle.vk_io.specs.declared.errors.OutsideErr.{OutsideErr}
-use Rattle.vk_keeper.specs.Ledgers.{Ledger}
-use Rattle.vk_house.specs.Once.{KeepsAnswers}
-use Rattle.vk_house.proofs.Once.{keeps_same}
 use Rattle.vk_words.specs.Commands.{AsksNoKeeper, CommandWords, Seal, House, Verify, Extract, Confront, Report, Sample, Ceremony}
 use Rattle.vk_effect.specs.Effects.{Effect, Outside}
 use Rattle.vk_effect.specs.Ends.{Ends}
+use Rattle.vk_effect.proofs.Acting.{told_map}
 use Rattle.vk_app.specs.Commands.{Work, Command, Script, EndsWork, StopsWork, script_in}
-
--- a keeper that wasn't asked keeps all
-pub told_same : (ledger : Option Ledger) → Told KeepsAnswers ledger ledger
-told_same None = refl
-told_same (Some kept) = keeps_same kept
 
 -- a command that is no ceremony
 pub ends_command : (result : Result ℕ OutsideErr) (found : Option Effect) (old new : Outside) → IfSome found (λ effect. Ends result effect old new) → IfSome (option_map Command found) (λ work. EndsWork result work old new)
@@ -44,10 +37,5 @@ no_script (Some (Sample number)) script is = cc
 no_script (Some (Ceremony name)) script is = λ asks. asks
 
 -- files that are told hold the texts that were written
-told_written : (E : Type 0) (texts : List (List ℕ × List ℕ)) (old new : Option Files) → Told (WritesAll {E = E} texts (Ok tt)) old new → new ≡ option_map (written texts) old
-told_written E texts None new told = told
-told_written E texts (Some files) None told = absurd told
-told_written E texts (Some files) (Some left) told = ap Some told
-
 pub files_written : (E : Type 0) (texts writes : List (List ℕ × List ℕ)) (old new : Option Files) → texts ≡ writes → Told (WritesAll {E = E} texts (Ok tt)) old new → new ≡ option_map (written writes) old
-files_written E texts writes old new same told = subst (λ t. new ≡ option_map (written t) old) same (told_written E texts old new told)
+files_written E texts writes old new same told = subst (λ t. new ≡ option_map (written t) old) same (told_map (written texts) old new told)

@@ -1,16 +1,30 @@
 -- What a whole run keeps of its promises on the house, on a ceremony, on a seal, and on words of no form.
 use Rattle.std.proofs.Common.{ap, sym, ◌∙◌, ◌≡◌, ◌≢◌, ℕ, List, Option, Some, None, IfSome, IsSomeAnd, Result, Ok, Err, refl, subst, inl, inr, ◌^◌, ◌<◌, length, if◌then◌else◌, Bool, true, false, [], ◌∷◌, ◌≤◌}
-use Rattle.std.specs.Prelude.{◌⊎◌, option_map, ◌||◌, option_and_then}
-use Rattle.vk_io.specs.Files.{Files}
+use Rattle.std.specs.Prelude.{◌⊎◌, option_map}
+use Rattle.std.specs.FinMap.{get}
+use Rattle.std.proofs.lemmas.Option.{same_Some}
 use Rattle.vk_io.specs.declared.errors.OutsideErr.{OutsideErr}
+use Rattle.vk_io.specs.Files.{Files}
+use Rattle.vk_lines.specs.Forms.{fault_line}
+use Rattle.vk_lines.specs.Gives.{◌>>=◌}
+use Rattle.vk_lines.specs.Lines.{Rest, line_by}
+use Rattle.vk_lines.specs.Tokens.{word_of}
 use Rattle.vk_keeper.specs.Ledgers.{Ledger}
 use Rattle.vk_words.specs.Commands.{CommandWords, Seal, command_words}
 use Rattle.vk_words.specs.Orders.{SealWords, HouseWords}
 use Rattle.vk_effect.specs.Effects.{Outside, outside, says, stores, SaidValue, IsSaid, Effect, Stores, after}
 use Rattle.vk_effect.specs.Ends.{Done}
-use Rattle.vk_ceremony.specs.Ceremonies.{Ceremony, EndsAll, ceremony_on, ceremony_behind, closed, after_command, ceremony_from, closing_said, ended_by, goes_on, is_refusal, with_command}
+use Rattle.vk_effect.specs.NamedFiles.{missing_said, too_long_said}
+use Rattle.vk_effect.specs.Reading.{begun_in, from_first}
+use Rattle.vk_effect.proofs.NamedFiles.{begun_long, begun_short, same_Err}
+use Rattle.vk_auctioneer.specs.Effects.{house_effect}
 use Rattle.vk_ceremony.specs.Acts.{PerformsAll}
+use Rattle.vk_ceremony.specs.Ceremonies.{Ceremony, EndsAll, ceremony_behind, ceremony_from, ceremony_on, closed, closing_said, ended_by}
+use Rattle.vk_ceremony.specs.Forms.{fault_by, script_table}
 use Rattle.vk_ceremony.specs.Runs.{orders_in}
+use Rattle.vk_ceremony.specs.Scripts.{behind_heading, heading, script_begun, script_at}
+use Rattle.vk_ceremony.proofs.Agreeing.{script_fault}
+use Rattle.vk_ceremony.proofs.Each.{from_each}
 use Rattle.vk_ceremony.proofs.Performing.{ceremony_performs_all}
 use Rattle.vk_app.specs.Commands.{EndsWork, Script, usage_said, work_of, work_on}
 use Rattle.vk_app.specs.Promises.{CeremonyIsDone, HoldsCeremony, KeepsHouse, TellsUsage}
@@ -18,31 +32,10 @@ use Rattle.vk_app.specs.Sealing.{Seals, seal_effect, seal_on}
 use Rattle.vk_app.proofs.Sealing.{seals}
 use Rattle.vk_app.proofs.Served.{command_done, serves}
 use Rattle.vk_app.proofs.Statuses.{no_command}
-use Rattle.std.specs.FinMap.{get}
-use Rattle.std.proofs.lemmas.Bool.{lt-ltb, le-ltb}
-use Rattle.vk_lines.specs.Gives.{◌>>=◌}
-use Rattle.vk_lines.specs.Lines.{Rest, line_by}
-use Rattle.vk_lines.specs.Tokens.{word_of}
-use Rattle.vk_effect.specs.NamedFiles.{missing_said, too_long_said}
-use Rattle.vk_auctioneer.specs.Inputs.{begun_in}
-use Rattle.vk_ceremony.specs.Scripts.{behind_heading, heading, script_begun, script_at}
-use Rattle.vk_lines.specs.Forms.{fault_line}
-use Rattle.vk_auctioneer.specs.Effects.{house_effect}
-use Rattle.vk_ceremony.specs.Forms.{fault_by, script_table}
-use Rattle.vk_ceremony.proofs.Agreeing.{script_fault}
 
 neither : (P : Type 0) (status : ℕ) → (status ≡ 6) ⊎ (status ≡ 9) → status ≢ 6 → status ≢ 9 → P
 neither P status (inl failed) no_fault no_want = absurd (no_fault failed)
 neither P status (inr wanting) no_fault no_want = absurd (no_want wanting)
-
-some_same : {X : Type 0} (x y : X) → ◌≡◌ {A = Option X} (Some x) (Some y) → x ≡ y
-some_same x y is = cc
-
-err_same : (x y : SaidValue) → ◌≡◌ {A = Result Rest SaidValue} (Err x) (Err y) → x ≡ y
-err_same x y is = cc
-
-long_begun : (script file : List ℕ) → 2 ^ 30 < length file → begun_in script (Some file) ≡ Err (too_long_said script)
-long_begun script file long = ap (λ b. if b then Err (too_long_said script) else Ok (record { taken = 0; left = file })) (lt-ltb (2 ^ 30) (length file) long)
 
 -- ---- what a ceremony says for its script
 
@@ -50,32 +43,27 @@ long_begun script file long = ap (λ b. if b then Err (too_long_said script) els
 abbrev Closes : (Bool → SaidValue) → Ceremony → Type 0
 Closes closing whole = ((refused : Bool) × (whole.closing ≡ closing refused)) ⊎ (whole.closing.text ≡ [])
 
-goes_closing : (closing : Bool → SaidValue) (effect : Effect) (going : Bool) (later : Option Ceremony) → IfSome later (Closes closing) → IfSome (if going then option_map (with_command effect) later else Some (ended_by effect)) (Closes closing)
-goes_closing closing effect true None is = tt
-goes_closing closing effect true (Some later) is = is
-goes_closing closing effect false later is = inr refl
-
-then_closing : (closing : Bool → SaidValue) (found : Option Effect) (later : Effect → Option Ceremony) → ((effect : Effect) → IfSome (later effect) (Closes closing)) → IfSome (option_and_then (λ effect. after_command effect (later effect)) found) (Closes closing)
-then_closing closing None later each = tt
-then_closing closing (Some effect) later each = goes_closing closing effect (goes_on effect.status) (later effect) (each effect)
+each_some : {X : Type 0} (P : X → Type 0) → ((x : X) → P x) → (found : Option X) → IfSome found P
+each_some P each None = tt
+each_some P each (Some x) = each x
 
 closes_from : (closing : Bool → SaidValue) (refused : Bool) (orders : List HouseWords) (old : Stores) → IfSome (ceremony_from closing refused orders old) (Closes closing)
-closes_from closing refused [] old = inl (refused, refl)
-closes_from closing refused (order ∷ orders) old =
-    then_closing closing (house_effect old.files old.ledger order) (λ effect. ceremony_from closing (refused || is_refusal effect.status) orders (after effect old))
-    (λ effect. closes_from closing (refused || is_refusal effect.status) orders (after effect old))
+closes_from closing =
+    from_each (Closes closing) (λ effect later is. is) closing (λ refused. inl (refused, refl))
+    (λ order old. each_some (λ effect. Closes closing (ended_by effect)) (λ effect. inr refl) (house_effect old.files old.ledger order))
 
 -- by what the first line is, and the fault line that follows from it
 closes_by : (script : List ℕ) (old : Stores) (read : Result (Unit × Rest) ℕ) → IfSome (ceremony_behind script old (behind_heading script read)) (Closes (closing_said script (fault_by script read)))
 closes_by script old (Ok read) = closes_from (closing_said script (script_at script read.1).fault) false (script_at script read.1).orders old
 closes_by script old (Err number) = inl (false, refl)
 
-short_begun : (script file : List ℕ) → length file ≤ 2 ^ 30 → begun_in script (Some file) ≡ Ok (record { taken = 0; left = file })
-short_begun script file short = ap (λ b. if b then Err (too_long_said script) else Ok (record { taken = 0; left = file })) (le-ltb (2 ^ 30) (length file) short)
-
-held_script : (files : Files) (script file : List ℕ) → get files script ≡ Some file → length file ≤ 2 ^ 30 → script_begun files script ≡ behind_heading script (line_by (word_of heading) (record { taken = 0; left = file }))
+-- a script by what its file is
+begun_script : (files : Files) (script : List ℕ) (begun : Result Rest SaidValue) → begun_in script (get files script) ≡ begun → script_begun files script ≡ (begun >>= λ rest. behind_heading script (line_by (word_of heading) rest))
 unfolding script_begun
-held_script files script file is short = ap (λ begun. begun >>= λ rest. behind_heading script (line_by (word_of heading) rest)) (ap (begun_in script) is ∙ short_begun script file short)
+begun_script files script begun is = ap (λ b. b >>= λ rest. behind_heading script (line_by (word_of heading) rest)) is
+
+held_script : (files : Files) (script file : List ℕ) → get files script ≡ Some file → length file ≤ 2 ^ 30 → script_begun files script ≡ behind_heading script (line_by (word_of heading) (from_first file))
+held_script files script file is short = begun_script files script (Ok (from_first file)) (ap (begun_in script) is ∙ begun_short script file short)
 
 of_some : {X : Type 0} (P : X → Type 0) (found : Option X) (x : X) → found ≡ Some x → IfSome found P → P x
 of_some P found x is each = subst (λ f. IfSome f P) is each
@@ -83,7 +71,7 @@ of_some P found x is each = subst (λ f. IfSome f P) is each
 closes_so : (files : Files) (old : Stores) (script file : List ℕ) (whole : Ceremony) → get files script ≡ Some file → length file ≤ 2 ^ 30 → ceremony_behind script old (script_begun files script) ≡ Some whole
     → Closes (closing_said script (fault_line (script_table script) file)) whole
 closes_so files old script file whole is short at =
-    let read = line_by (word_of heading) (record { taken = 0; left = file }) in
+    let read = line_by (word_of heading) (from_first file) in
     subst (λ fault. Closes (closing_said script fault) whole) (sym (script_fault script file))
     (of_some (Closes (closing_said script (fault_by script read))) (ceremony_behind script old (behind_heading script read)) whole (ap (ceremony_behind script old) (sym (held_script files script file is short)) ∙ at) (closes_by script old read))
 
@@ -104,13 +92,12 @@ module _ (files : Files) (ledger : Ledger) (words : List (List ℕ)) (status : �
       → EndsAll (Ok status) whole (outside (stores (Some files) (Some ledger)) old) new → IsSaid said status old new.taken
   closed_by script said (Ok rest) whole is at ends = cc
   closed_by script said (Err other) whole is at ends =
-      let here : closed said ≡ whole = ap closed (sym (err_same other said is)) ∙ some_same (closed other) whole at in
+      let here : closed said ≡ whole = ap closed (sym (same_Err {T = Rest} other said is)) ∙ same_Some (closed other) whole at in
       let end : EndsAll (Ok status) (closed said) (outside (stores (Some files) (Some ledger)) old) new = subst (λ w. EndsAll (Ok status) w (outside (stores (Some files) (Some ledger)) old) new) (sym here) ends in
       (end.0, ap (λ (left : Outside). left.taken) end.1)
 
   unread_script : (script : List ℕ) (said : SaidValue) (file : Option (List ℕ)) → get files script ≡ file → begun_in script file ≡ Err said → script_begun files script ≡ Err said
-  unfolding script_begun
-  unread_script script said file is unread = ap (λ begun. begun >>= λ rest. behind_heading script (line_by (word_of heading) rest)) (ap (begun_in script) is ∙ unread)
+  unread_script script said file is unread = begun_script files script (Err said) (ap (begun_in script) is ∙ unread)
 
   held_by : (script : List ℕ) (found : Option Ceremony) → ceremony_on (Some files) (Some ledger) script ≡ found → IfSome (option_map Script found) (λ work. EndsWork (Ok status) work (outside (stores (Some files) (Some ledger)) old) new)
       → IsSomeAnd found (λ whole. EndsAll (Ok status) whole (outside (stores (Some files) (Some ledger)) old) new → PerformsAll (orders_in files script) files ledger whole.closing.text old new)
@@ -122,7 +109,7 @@ module _ (files : Files) (ledger : Ledger) (words : List (List ℕ)) (status : �
     status_is = ends.0;
     acts = performs ends;
     missing = λ none. closed_by script (missing_said script) (script_begun files script) whole (unread_script script (missing_said script) None none refl) is ends;
-    too_long = λ file held long. closed_by script (too_long_said script) (script_begun files script) whole (unread_script script (too_long_said script) (Some file) held (long_begun script file long)) is ends;
+    too_long = λ file held long. closed_by script (too_long_said script) (script_begun files script) whole (unread_script script (too_long_said script) (Some file) held (begun_long script file long)) is ends;
     closing = λ file held short. closes_so files (stores (Some files) (Some ledger)) script file whole held short is;
   }
 

@@ -1,15 +1,22 @@
 -- What a run does at the house, from how it ends.
 use Rattle.std.proofs.Common.{◌≡◌, ℕ, zero, suc, List, [], ◌∷◌, Option, Some, None, IfSome, IsSomeAnd, Result, Ok, Err, refl, sym, ap, subst, ◌∙◌, arith, inl, inr}
 use Rattle.std.specs.Prelude.{◌++◌, Contains, map, option_map}
-use Rattle.std.specs.List.{AllByRecursion}
 use Rattle.std.specs.FinMap.{get, insert}
+use Rattle.std.specs.List.{AllByRecursion}
+use Rattle.std.specs.Result.{result_err, result_ok}
+use Rattle.std.proofs.lemmas.Option.{same_Some}
+use Rattle.vk_io.specs.declared.errors.OutsideErr.{OutsideErr}
 use Rattle.vk_io.specs.Files.{Files}
 use Rattle.vk_io.specs.Writing.{written}
-use Rattle.vk_io.specs.declared.errors.OutsideErr.{OutsideErr}
+use Rattle.vk_report.specs.Samples.{sample_of}
 use Rattle.vk_keeper.specs.declared.auction.Auction.{Auction}
+use Rattle.vk_keeper.specs.declared.auction.SealRow.{SealRow}
 use Rattle.vk_keeper.specs.Ledgers.{Ledger, IsLedger}
 use Rattle.vk_job.specs.Published.{board_of, reply_of}
+use Rattle.vk_house.specs.Commands.{HouseCommand}
+use Rattle.vk_house.specs.Commands as house
 use Rattle.vk_house.specs.Once.{KeepsAnswers}
+use Rattle.vk_house.specs.Replies.{HouseReply}
 use Rattle.vk_house.proofs.Once.{keeps_on, keeps_same}
 use Rattle.vk_honest.proofs.Accepted.{answers_are_accepted}
 use Rattle.vk_words.specs.Commands.{CommandWords, Seal, House, Verify, Extract, Confront, Report, Sample, command_words}
@@ -18,31 +25,22 @@ use Rattle.vk_words.specs.Orders.{HouseWords, SealWords, Answer, Prove, Announce
 use Rattle.vk_effect.specs.Effects.{Effect, Outside, SaidValue, outside, said_of, stores, says}
 use Rattle.vk_effect.specs.Ends.{Ends}
 use Rattle.vk_auctioneer.specs.Effects.{answer_effect, house_effect, prove_effect, Writes, asked, if_read, no_file, reply_file}
+use Rattle.vk_auctioneer.specs.Inputs.{challenge_in, row_in}
 use Rattle.vk_auctioneer.specs.Laws.{AreHouseWords, LeavesAuction}
+use Rattle.vk_auctioneer.proofs.Reading.{reads_challenge, reads_row}
 use Rattle.vk_auctioneer.proofs.Words.{house_bytes}
 use Rattle.vk_auctioneer.proofs.Written.{boards_are_written, replies_are_written}
 use Rattle.vk_ceremony.specs.Acts.{HouseAct, IsAct, Performs, PerformsSome}
+use Rattle.vk_ceremony.specs.Ceremonies.{Ceremony, EndsAll, ceremony_on}
 use Rattle.vk_ceremony.specs.Runs.{asked_in, orders_in}
 use Rattle.vk_ceremony.proofs.Following.{ledger_by, ledger_left, order_told}
 use Rattle.vk_ceremony.proofs.Performing.{ceremony_performs, command_performs}
 use Rattle.vk_ceremony.proofs.Standing.{act_same, act_steps, is_act_within, keeps_within, orders_are, performs_keeps, performs_right, right_within}
 use Rattle.vk_sample.specs.Auctions.{DrySeed, auction_of}
 use Rattle.vk_sample.specs.Samples.{effect_by, sample_on}
-use Rattle.vk_report.specs.Samples.{sample_of}
 use Rattle.vk_app.specs.Auctions.{CommandIsDone, KeepsToSteps, PerformsAt, PublishesBoard, PublishesReply, Serves, ServesHouse, orders_of, input_fault}
-use Rattle.vk_ceremony.specs.Ceremonies.{Ceremony, EndsAll, ceremony_on}
 use Rattle.vk_app.specs.Commands.{Command, EndsWork, Script, Work, command_effect, work_of, work_on}
 use Rattle.vk_app.specs.Sealing.{seal_on}
-use Rattle.std.specs.Result.{result_err, result_ok}
-use Rattle.vk_house.specs.Commands.{HouseCommand}
-use Rattle.vk_house.specs.Commands as house
-use Rattle.vk_house.specs.Replies.{HouseReply}
-use Rattle.vk_keeper.specs.declared.auction.SealRow.{SealRow}
-use Rattle.vk_auctioneer.specs.Inputs.{challenge_in, row_in}
-use Rattle.vk_auctioneer.proofs.Reading.{reads_challenge, reads_row}
-
-some_same : {X : Type 0} (x y : X) → ◌≡◌ {A = Option X} (Some x) (Some y) → x ≡ y
-some_same x y is = cc
 
 -- ---- one act
 
@@ -57,7 +55,7 @@ pub record Found (act : HouseAct) (last : Ledger) : Type 0 where
 read_fault : {X : Type 0} (ledger : Ledger) (read : Result X SaidValue) (writes : X → HouseReply → Writes) (command : X → HouseCommand) (effect : Effect)
     → Some (if_read ledger (λ x. asked (writes x) ledger (command x)) read) ≡ Some effect → option_map command (result_ok read) ≡ None → Some (said_of effect) ≡ result_err read
 read_fault ledger (Ok x) writes command effect is none = cc
-read_fault ledger (Err said) writes command effect is none = ap (λ (e : Effect). Some (said_of e)) (sym (some_same (says (Some ledger) said) effect is))
+read_fault ledger (Err said) writes command effect is none = ap (λ (e : Effect). Some (said_of e)) (sym (same_Some (says (Some ledger) said) effect is))
 
 fault_said : (files : Files) (ledger : Ledger) (order : HouseWords) (effect : Effect) → house_effect (Some files) (Some ledger) order ≡ Some effect → asked_in files order ≡ None → Some (said_of effect) ≡ input_fault files order
 fault_said files ledger (Announce id width lanes) effect is none = cc
@@ -78,7 +76,7 @@ keeps_to_steps act is = record {
 -- its effect, by its order
 effect_is : (act : HouseAct) (is : IsAct act) (order : HouseWords) (effect : Effect) → act.order ≡ order → house_effect (Some act.files) (Some act.ledger) order ≡ Some effect → is.effect ≡ effect
 effect_is act is order effect same told =
-    some_same is.effect effect (sym is.effect_is ∙ ap (house_effect (Some act.files) (Some act.ledger)) same ∙ told)
+    same_Some is.effect effect (sym is.effect_is ∙ ap (house_effect (Some act.files) (Some act.ledger)) same ∙ told)
 
 status_is : (act : HouseAct) (is : IsAct act) (effect : Effect) → is.effect ≡ effect → act.said.status ≡ 0 → effect.status ≡ 0
 status_is act is effect same done = ap (λ (e : Effect). e.status) (sym same) ∙ ap (λ (said : SaidValue). said.status) (sym is.said_is) ∙ done
@@ -156,8 +154,8 @@ meant_words files words orders is = by_command (command_words words) refl where
   by_command : (command : Option CommandWords) → command_words words ≡ command → AllByRecursion AreHouseWords orders
   by_command None at = (let no : orders_of files None ≡ Some orders = ap (orders_of files) (sym at) ∙ is in cc)
   by_command (Some (House order)) at =
-      subst (AllByRecursion AreHouseWords) (some_same (order ∷ []) orders (ap (orders_of files) (sym at) ∙ is)) (house_bytes words order at, tt)
-  by_command (Some (commands.Ceremony script)) at = subst (AllByRecursion AreHouseWords) (some_same (orders_in files script) orders (ap (orders_of files) (sym at) ∙ is)) (orders_are files script)
+      subst (AllByRecursion AreHouseWords) (same_Some (order ∷ []) orders (ap (orders_of files) (sym at) ∙ is)) (house_bytes words order at, tt)
+  by_command (Some (commands.Ceremony script)) at = subst (AllByRecursion AreHouseWords) (same_Some (orders_in files script) orders (ap (orders_of files) (sym at) ∙ is)) (orders_are files script)
   by_command (Some (Seal order)) at = (let no : orders_of files (Some (Seal order)) ≡ Some orders = ap (orders_of files) (sym at) ∙ is in cc)
   by_command (Some (Verify names)) at = (let no : orders_of files (Some (Verify names)) ≡ Some orders = ap (orders_of files) (sym at) ∙ is in cc)
   by_command (Some (Extract names)) at = (let no : orders_of files (Some (Extract names)) ≡ Some orders = ap (orders_of files) (sym at) ∙ is in cc)
@@ -167,9 +165,9 @@ meant_words files words orders is = by_command (command_words words) refl where
 
 -- what is kept after a run of which all that is kept is kept until the last ledger
 pub served_keeps : (meant : Option (List HouseWords)) (files : Files) (ledger : Ledger) (acts : List HouseAct) (held : Option Files) (kept : Ledger) → PerformsAt meant files ledger acts held (Some kept) → KeepsAnswers ledger kept
-served_keeps None files ledger acts held kept performs = subst (KeepsAnswers ledger) (some_same ledger kept (sym performs.1)) (keeps_same ledger)
+served_keeps None files ledger acts held kept performs = subst (KeepsAnswers ledger) (same_Some ledger kept (sym performs.1)) (keeps_same ledger)
 served_keeps (Some orders) files ledger acts held kept to =
-    subst (KeepsAnswers ledger) (some_same to.last kept (sym to.kept_is)) (performs_keeps orders files ledger acts to.left to.last to.performs)
+    subst (KeepsAnswers ledger) (same_Some to.last kept (sym to.kept_is)) (performs_keeps orders files ledger acts to.left to.last to.performs)
 
 no_act : (act : HouseAct) → Contains [] act → ⊥
 no_act act (k, below, at) = omega arith
@@ -188,7 +186,7 @@ act_found : (meant : Option (List HouseWords)) (files : Files) (ledger : Ledger)
     → ((orders : List HouseWords) → meant ≡ Some orders → AllByRecursion AreHouseWords orders) → PerformsAt meant files ledger acts held kept → kept ≡ Some last → IsLedger ledger → Contains acts act → Found act last
 act_found None files ledger acts held kept last act words performs is right among = absurd (no_act act (subst (λ (l : List HouseAct). Contains l act) performs.0 among))
 act_found (Some orders) files ledger acts held kept last act words to is right among =
-    subst (Found act) (some_same to.last last (sym to.kept_is ∙ is)) (found_in orders files ledger acts to.left to.last act (words orders refl) to.performs right among)
+    subst (Found act) (same_Some to.last last (sym to.kept_is ∙ is)) (found_in orders files ledger acts to.left to.last act (words orders refl) to.performs right among)
 
 pub served_found : (words : List (List ℕ)) (files : Files) (ledger : Ledger) (acts : List HouseAct) (held : Option Files) (kept : Option Ledger) (last : Ledger) (act : HouseAct)
     → PerformsAt (orders_of files (command_words words)) files ledger acts held kept → kept ≡ Some last → IsLedger ledger → Contains acts act → Found act last

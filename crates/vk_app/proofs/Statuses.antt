@@ -1,22 +1,26 @@
 -- No command but words of no form ends with status 2.
-use Rattle.std.proofs.Common.{◌≡◌, ℕ, Bool, true, false, List, [], ◌∷◌, length, Option, Some, None, IfSome, Result, Ok, Err, refl, sym, subst}
-use Rattle.std.specs.Prelude.{IsSomeAnd, ◌==◌, ◌^◌, ◌||◌, nat_lt, if◌then◌else◌, option_map, option_and_then, IfErr}
+use Rattle.std.proofs.Common.{◌≡◌, ℕ, Bool, true, false, List, Option, Some, None, IfSome, Result, Ok, Err, refl, sym, subst}
+use Rattle.std.specs.Prelude.{IsSomeAnd, ◌==◌, option_map, IfErr}
 use Rattle.std.specs.FinMap.{get}
 use Rattle.vk_io.specs.Files.{Files}
 use Rattle.vk_lines.specs.Gives.{◌>>=◌}
 use Rattle.vk_lines.specs.Lines.{Rest, line_by}
 use Rattle.vk_lines.specs.Tokens.{word_of}
 use Rattle.vk_reply.specs.Reading.{challenge_at}
+use Rattle.vk_seal.specs.declared.making.SealErr.{SealErr}
+use Rattle.vk_seal.specs.declared.making.SealErr.TheVariants as unmade
+use Rattle.vk_seal.specs.declared.secret.Seal.{Seal as MadeSeal}
+use Rattle.vk_seal.specs.declared.secret.Secret.{Secret}
 use Rattle.vk_seal.specs.Reading.{seal_at, secret_at}
 use Rattle.vk_verifier.specs.declared.answers.BoardVerdict.{BoardVerdict}
 use Rattle.vk_verifier.specs.declared.answers.BoardVerdict.TheVariants as verdicts
 use Rattle.vk_verifier.specs.declared.answers.VErr.{VErr}
 use Rattle.vk_verifier.specs.declared.answers.VErr.TheVariants as unread
 use Rattle.vk_verifier.specs.Verdicts.{verdict_on}
-use Rattle.vk_bids.specs.declared.confrontation.Confrontation.{Confrontation}
-use Rattle.vk_bids.specs.declared.confrontation.Confrontation.TheVariants as confrontations
 use Rattle.vk_bids.specs.declared.confrontation.ConfrontErr.{ConfrontErr}
 use Rattle.vk_bids.specs.declared.confrontation.ConfrontErr.TheVariants as unconfronted
+use Rattle.vk_bids.specs.declared.confrontation.Confrontation.{Confrontation}
+use Rattle.vk_bids.specs.declared.confrontation.Confrontation.TheVariants as confrontations
 use Rattle.vk_bids.specs.declared.extraction.Extraction.{Extraction}
 use Rattle.vk_bids.specs.declared.extraction.Extraction.TheVariants as extractions
 use Rattle.vk_bids.specs.Extraction.{extraction_on}
@@ -24,13 +28,9 @@ use Rattle.vk_report.specs.declared.report.ReportErr.{ReportErr}
 use Rattle.vk_report.specs.declared.report.ReportErr.TheVariants as unreported
 use Rattle.vk_report.specs.Reports.{report_on}
 use Rattle.vk_report.specs.Samples.{sample_of}
-use Rattle.vk_seal.specs.declared.making.SealErr.{SealErr}
-use Rattle.vk_seal.specs.declared.making.SealErr.TheVariants as unmade
-use Rattle.vk_seal.specs.declared.secret.Secret.{Secret}
-use Rattle.vk_seal.specs.declared.secret.Seal.{Seal as MadeSeal}
-use Rattle.vk_keeper.specs.Ledgers.{Ledger}
 use Rattle.vk_keeper.specs.declared.auction.Auction.{Auction}
 use Rattle.vk_keeper.specs.declared.auction.SealRow.{SealRow}
+use Rattle.vk_keeper.specs.Ledgers.{Ledger}
 use Rattle.vk_house.specs.Commands.{HouseCommand}
 use Rattle.vk_house.specs.Commands as house
 use Rattle.vk_house.specs.Replies.{HouseReply}
@@ -39,8 +39,10 @@ use Rattle.vk_house.specs.Steps.{house_step}
 use Rattle.vk_words.specs.Commands.{CommandWords, Seal, House, Verify, Extract, Confront, Report, Sample, Ceremony}
 use Rattle.vk_words.specs.Names.{ConfrontWords, ExtractWords}
 use Rattle.vk_words.specs.Orders.{HouseWords, SealWords, Announce, Submit, Prove, Answer, Show}
-use Rattle.vk_effect.specs.Effects.{Effect, Outside, SaidValue, Stores, after, outside, stores}
+use Rattle.vk_effect.specs.Effects.{Effect, Outside, SaidValue, Stores, outside, stores}
 use Rattle.vk_effect.specs.Ends.{Ends}
+use Rattle.vk_effect.specs.Reading.{begun_in, value_in}
+use Rattle.vk_effect.proofs.NamedFiles.{begun_says, then_says, value_says}
 use Rattle.vk_audit.specs.Audits.{AuditWords, audit_said}
 use Rattle.vk_audit.specs.Audits as audits
 use Rattle.vk_audit.specs.Confrontations.{confrontation_in, confrontation_said, unconfronted_said}
@@ -48,15 +50,15 @@ use Rattle.vk_audit.specs.Extractions.{extraction_said}
 use Rattle.vk_audit.specs.Reports.{unreported_said}
 use Rattle.vk_audit.specs.Verdicts.{answer_said, judged_said, unread_said, verified_words}
 use Rattle.vk_auctioneer.specs.Effects.{Writes, asked, board_file, house_effect, if_read, no_file, on_ledger, reply_file}
-use Rattle.vk_auctioneer.specs.Inputs.{begun_in, challenge_in, row_in, value_in}
+use Rattle.vk_auctioneer.specs.Inputs.{challenge_in, row_in}
 use Rattle.vk_auctioneer.specs.Lines.{reply_said}
+use Rattle.vk_ceremony.specs.Ceremonies.{EndsAll, ceremony_behind, ceremony_from, ceremony_on, closing_said}
 use Rattle.vk_ceremony.specs.Ceremonies as ceremonies
-use Rattle.vk_ceremony.specs.Ceremonies.{EndsAll, after_command, ceremony_behind, ceremony_from, ceremony_on, closing_said, ended_by, goes_on, is_refusal, with_command}
 use Rattle.vk_ceremony.specs.Scripts.{behind_heading, heading, script_at, script_begun}
+use Rattle.vk_ceremony.proofs.Each.{from_each}
 use Rattle.vk_ceremony.proofs.Following.{ceremony_follows, order_told}
 use Rattle.vk_sample.specs.Auctions.{DrySeed, auction_of}
 use Rattle.vk_sample.specs.Samples.{effect_by, sample_on}
-use Rattle.vk_effect.specs.NamedFiles.{too_long_said}
 use Rattle.vk_app.specs.Commands.{Command, EndsWork, Script, Work, audit_on, work_of}
 use Rattle.vk_app.specs.Sealing.{made_said, seal_made, seal_on}
 
@@ -133,35 +135,25 @@ replied command (replies.Work auction outcome) = refl
 replied command (replies.Stands standing) = refl
 replied command (replies.Refused refusal) = refl
 
-is_begun : (name : List ℕ) (file : Option (List ℕ)) → IfErr (begun_in name file) SaysOther
-is_begun name None = refl
-is_begun name (Some bytes) =
-    elim (nat_lt (2 ^ 30) (length bytes)) as (λ long. IfErr {T = Rest} (if long then Err (too_long_said name) else Ok (record { taken = 0; left = bytes })) SaysOther) [
-      | true ↦ refl
-      | false ↦ tt
-    ]
+is_begun : (files : Files) (name : List ℕ) → IfErr (begun_in name (get files name)) SaysOther
+is_begun files name = begun_says SaysOther name (get files name) refl refl
 
 is_value : {X : Type 0} (name : List ℕ) (read : Result (X × Rest) ℕ) → IfErr (value_in name read) SaysOther
-is_value name (Ok read) = tt
-is_value name (Err line) = refl
-
-then_said : {A B : Type 0} (found : Result A SaidValue) (f : A → Result B SaidValue) → IfErr found SaysOther → ((x : A) → IfErr (f x) SaysOther) → IfErr (found >>= f) SaysOther
-then_said (Ok x) f here later = later x
-then_said (Err said) f here later = here
+is_value name read = value_says SaysOther name read (λ line. refl)
 
 row_read : (files : Files) (seal secret : List ℕ) → IfErr (row_in files seal secret) SaysOther
 unfolding row_in
 row_read files seal secret =
-    then_said (begun_in seal (get files seal)) _ (is_begun seal (get files seal)) (λ seal_file.
-    then_said (begun_in secret (get files secret)) _ (is_begun secret (get files secret)) (λ secret_file.
-    then_said (value_in seal (seal_at seal_file)) _ (is_value seal (seal_at seal_file)) (λ made.
-    then_said (value_in secret (secret_at secret_file)) _ (is_value secret (secret_at secret_file)) (λ known. tt))))
+    then_says SaysOther (begun_in seal (get files seal)) _ (is_begun files seal) (λ seal_file.
+    then_says SaysOther (begun_in secret (get files secret)) _ (is_begun files secret) (λ secret_file.
+    then_says SaysOther (value_in seal (seal_at seal_file)) _ (is_value seal (seal_at seal_file)) (λ made.
+    then_says SaysOther (value_in secret (secret_at secret_file)) _ (is_value secret (secret_at secret_file)) (λ known. tt))))
 
 challenge_read : (files : Files) (name : List ℕ) → IfErr (challenge_in files name) SaysOther
 unfolding challenge_in
 challenge_read files name =
-    then_said (begun_in name (get files name)) _ (is_begun name (get files name)) (λ file.
-    then_said (value_in name (challenge_at file)) _ (is_value name (challenge_at file)) (λ challenge. tt))
+    then_says SaysOther (begun_in name (get files name)) _ (is_begun files name) (λ file.
+    then_says SaysOther (value_in name (challenge_at file)) _ (is_value name (challenge_at file)) (λ challenge. tt))
 
 abbrev EndsOther : Effect → Type 0
 EndsOther effect = IsOther effect.status
@@ -197,20 +189,8 @@ closes script None true = refl
 closes script None false = refl
 closes script (Some line) refused = refl
 
-goes : (effect : Effect) (going : Bool) (later : Option ceremonies.Ceremony) → EndsOther effect → IfSome later ClosesOther → IfSome (if going then option_map (with_command effect) later else Some (ended_by effect)) ClosesOther
-goes effect true None ends is = tt
-goes effect true (Some later) ends is = is
-goes effect false later ends is = ends
-
-then_reached : (found : Option Effect) (later : Effect → Option ceremonies.Ceremony) → IfSome found EndsOther → ((effect : Effect) → IfSome (later effect) ClosesOther) → IfSome (option_and_then (λ effect. after_command effect (later effect)) found) ClosesOther
-then_reached None later is each = tt
-then_reached (Some effect) later is each = goes effect (goes_on effect.status) (later effect) is (each effect)
-
 reached : (script : List ℕ) (fault : Option ℕ) (refused : Bool) (orders : List HouseWords) (old : Stores) → IfSome (ceremony_from (closing_said script fault) refused orders old) ClosesOther
-reached script fault refused [] old = closes script fault refused
-reached script fault refused (order ∷ orders) old =
-    then_reached (house_effect old.files old.ledger order) (λ effect. ceremony_from (closing_said script fault) (refused || is_refusal effect.status) orders (after effect old))
-    (served old.files old.ledger order) (λ effect. reached script fault (refused || is_refusal effect.status) orders (after effect old))
+reached script fault = from_each ClosesOther (λ effect later is. is) (closing_said script fault) (closes script fault) (λ order old. served old.files old.ledger order)
 
 behind : (script : List ℕ) (old : Stores) (rest : Result Rest SaidValue) → IfErr rest SaysOther → IfSome (ceremony_behind script old rest) ClosesOther
 behind script old (Ok rest) is = reached script (script_at script rest).fault false (script_at script rest).orders old
@@ -222,7 +202,7 @@ is_headed script (Err line) = refl
 
 script_read : (files : Files) (script : List ℕ) → IfErr (script_begun files script) SaysOther
 unfolding script_begun
-script_read files script = then_said (begun_in script (get files script)) _ (is_begun script (get files script)) (λ file. is_headed script (line_by (word_of heading) file))
+script_read files script = then_says SaysOther (begun_in script (get files script)) _ (is_begun files script) (λ file. is_headed script (line_by (word_of heading) file))
 
 held : (files : Option Files) (kept : Option Ledger) (script : List ℕ) → IfSome (ceremony_on files kept script) ClosesOther
 held None kept script = tt

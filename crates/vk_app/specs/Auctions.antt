@@ -3,22 +3,22 @@ use Rattle.std.specs.Prelude.{◌≡◌, ◌≢◌, ◌⊎◌, ℕ, List, [], �
 use Rattle.std.specs.FinMap.{get, insert}
 use Rattle.vk_io.specs.Files.{Files}
 use Rattle.vk_reply.specs.declared.challenge.Challenge.{Challenge}
+use Rattle.vk_reply.specs.Tables.{challenge_table}
 use Rattle.vk_reply.specs.Texts.{challenge_text}
+use Rattle.vk_seal.specs.Tables.{seal_table, secret_table}
 use Rattle.vk_verifier.specs.Acceptance.{Accepts}
 use Rattle.vk_keeper.specs.declared.auction.Auction.{Auction}
 use Rattle.vk_keeper.specs.Auctions.{challenge_of, seed_of}
+use Rattle.vk_keeper.specs.Joining.{first_of}
 use Rattle.vk_keeper.specs.Ledgers.{Ledger, IsLedger}
 use Rattle.vk_job.specs.Jobs.{IsProvedAuction}
 use Rattle.vk_job.specs.Published.{board_of, reply_of}
 use Rattle.vk_house.specs.Commands.{HouseCommand}
 use Rattle.vk_house.specs.Steps.{house_step}
 use Rattle.vk_words.specs.Commands.{CommandWords, House, Ceremony, command_words}
-use Rattle.vk_reply.specs.Tables.{challenge_table}
-use Rattle.vk_seal.specs.Tables.{seal_table, secret_table}
-use Rattle.vk_keeper.specs.Joining.{first_of}
 use Rattle.vk_words.specs.Orders.{HouseWords, Submit, Prove, Answer}
 use Rattle.vk_effect.specs.Effects.{IsSaid, SaidValue}
-use Rattle.vk_auctioneer.specs.Laws.{faulty_said, unheld_said}
+use Rattle.vk_effect.specs.Reading.{faulty_said, unheld_said}
 use Rattle.vk_auctioneer.specs.Lines.{reply_said}
 use Rattle.vk_ceremony.specs.Acts.{HouseAct, IsAct, Performs}
 use Rattle.vk_ceremony.specs.Runs.{asked_in, orders_in}

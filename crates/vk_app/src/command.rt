@@ -38,7 +38,7 @@ fn read<S: Shelf>(alloc: Global, shelf: &mut S, order: &AuditOrder<'_>) -> Resul
 }
 
 /// Does the command, but for printing.
-#[tactic(auto, using(crate::proofs::Ending::told_same))]
+#[tactic(auto, using(vk_ceremony::proofs::Leading::keeps_told))]
 fn act<S: Shelf, K: Keeper + Drop>(
     alloc: Global,
     shelf: &mut S,

@@ -1,10 +1,10 @@
 -- What a command of the house comes to, from what it read and what the house replied.
 use Rattle.std.proofs.Common.{◌≡◌, ℕ, List, [], ◌∷◌, Option, Some, None, Result, Ok, Err, refl, sym, ap, subst, ◌∙◌, inl, inr}
-use Rattle.std.specs.Prelude.{option_map, IfSome}
+use Rattle.std.specs.Prelude.{IfSome}
 use Rattle.std.specs.List.{concat}
+use Rattle.vk_io.specs.declared.errors.OutsideErr.{OutsideErr}
 use Rattle.vk_io.specs.Files.{Files, Told}
 use Rattle.vk_io.specs.Writing.{written, WritesAll}
-use Rattle.vk_io.specs.declared.errors.OutsideErr.{OutsideErr}
 use Rattle.vk_lines.specs.Gives.{Gives}
 use Rattle.vk_keeper.specs.Ledgers.{Ledger}
 use Rattle.vk_house.specs.declared.errors.HouseErr.{HouseErr}
@@ -15,20 +15,16 @@ use Rattle.vk_house.specs.Once.{KeepsAnswers}
 use Rattle.vk_house.specs.Replies.{HouseReply, Refused}
 use Rattle.vk_house.specs.Steps.{HouseCall}
 use Rattle.vk_house.proofs.Once.{call_keeps}
+use Rattle.vk_effect.specs.declared.reading.Unread.{Unread}
+use Rattle.vk_effect.specs.declared.reading.Unread.TheVariants as unread
 use Rattle.vk_effect.specs.Effects.{Effect, SaidValue, stores}
 use Rattle.vk_effect.specs.Ends.{Acts}
-use Rattle.vk_auctioneer.specs.declared.inputs.Unread.{Unread}
-use Rattle.vk_auctioneer.specs.declared.inputs.Unread.TheVariants as unread
-use Rattle.vk_auctioneer.specs.Answers.{Leaves, Says, said_or_stopped}
+use Rattle.vk_effect.specs.Reading.{said_of_unread, said_or_stopped}
+use Rattle.vk_effect.proofs.Acting.{told_map}
+use Rattle.vk_auctioneer.specs.Answers.{Leaves, Says}
 use Rattle.vk_auctioneer.specs.Effects.{Writes, asked, effect_by, if_read, on_both, on_ledger}
-use Rattle.vk_auctioneer.specs.Inputs.{said_of}
 
 -- ---- files
-
-files_left : {T : Type 0} (writes : Writes) (done : T) (held now : Option Files) → Told (Leaves writes (Ok done)) held now → now ≡ option_map (written writes) held
-files_left writes done None now left = left
-files_left writes done (Some files) None left = absurd left
-files_left writes done (Some files) (Some later) left = ap Some left
 
 no_files_left : (T : Type 0) (stop : OutsideErr) (held now : Option Files) → Told (Leaves {T = T} [] (Err stop)) held now → now ≡ held
 no_files_left T stop None now left = left
@@ -55,7 +51,7 @@ leaves_same (Err stop) (Some files) = refl
 acts_here : (files_of : HouseReply → Writes) (command : HouseCommand) (reply : HouseReply) (new : Ledger) (held now : Option Files) (old : Option Ledger) (answer : Result SaidValue OutsideErr) → Says command reply answer → Told (Leaves (files_of reply) answer) held now
     → Acts answer (effect_by files_of command (reply, new)) (stores held old) (stores now (Some new))
 acts_here files_of command reply new held now old (Ok said) says left =
-    (says.1, ap (λ files. stores files (Some new)) (files_left (files_of reply) said held now left))
+    (says.1, ap (λ files. stores files (Some new)) (told_map (written (files_of reply)) held now left))
 acts_here files_of command reply new held now old (Err stop) says left = inr (refl, left)
 
 -- a call that changed nothing
@@ -94,14 +90,14 @@ calls_keep command reply (Some old) (Some new) calls = call_keeps old new comman
 -- ---- what was read before
 
 -- a file that the command is given was not read
-unread_here : {X : Type 0} (effect : X → Effect) (ledger : Ledger) (files : Files) (refusal : Unread) (read : Result X SaidValue) → Gives {T = X} said_of (λ x. x) (Err refusal) read
+unread_here : {X : Type 0} (effect : X → Effect) (ledger : Ledger) (files : Files) (refusal : Unread) (read : Result X SaidValue) → Gives {T = X} said_of_unread (λ x. x) (Err refusal) read
     → Acts (said_or_stopped refusal) (if_read ledger effect read) (stores (Some files) (Some ledger)) (stores (Some files) (Some ledger))
 unread_here effect ledger files (unread.Said said) read is =
     subst (λ r. Acts (Ok said) (if_read ledger effect r) (stores (Some files) (Some ledger)) (stores (Some files) (Some ledger))) (sym is) (refl, refl)
 unread_here effect ledger files unread.Failed read is = inl refl
 unread_here effect ledger files unread.NoMemory read is = inl refl
 
-pub unread_acts : {X : Type 0} (effect : Ledger → X → Effect) (read : Files → Result X SaidValue) (refusal : Unread) (held now : Option Files) (ledger : Option Ledger) → now ≡ held → IfSome held (λ files. Gives {T = X} said_of (λ x. x) (Err refusal) (read files))
+pub unread_acts : {X : Type 0} (effect : Ledger → X → Effect) (read : Files → Result X SaidValue) (refusal : Unread) (held now : Option Files) (ledger : Option Ledger) → now ≡ held → IfSome held (λ files. Gives {T = X} said_of_unread (λ x. x) (Err refusal) (read files))
     → IfSome (on_both (λ files kept. if_read kept (effect kept) (read files)) held ledger) (λ whole. Acts (said_or_stopped refusal) whole (stores held ledger) (stores now ledger))
 unread_acts effect read refusal None now ledger same is = tt
 unread_acts effect read refusal (Some files) now None same is = tt
@@ -110,7 +106,7 @@ unread_acts effect read refusal (Some files) now (Some ledger) same is =
     (unread_here (effect ledger) ledger files refusal (read files) is)
 
 -- it was read, which changed nothing, and the command went on by what it says
-pub read_acts : {X : Type 0} (effect : Ledger → X → Effect) (read : Files → Result X SaidValue) (x : X) (held between now : Option Files) (old new : Option Ledger) (answer : Result SaidValue OutsideErr) → between ≡ held → IfSome held (λ files. Gives said_of (λ x. x) (Ok x) (read files)) → IfSome (on_ledger (λ kept. effect kept x) old) (λ whole. Acts answer whole (stores between old) (stores now new))
+pub read_acts : {X : Type 0} (effect : Ledger → X → Effect) (read : Files → Result X SaidValue) (x : X) (held between now : Option Files) (old new : Option Ledger) (answer : Result SaidValue OutsideErr) → between ≡ held → IfSome held (λ files. Gives said_of_unread (λ x. x) (Ok x) (read files)) → IfSome (on_ledger (λ kept. effect kept x) old) (λ whole. Acts answer whole (stores between old) (stores now new))
     → IfSome (on_both (λ files kept. if_read kept (effect kept) (read files)) held old) (λ whole. Acts answer whole (stores held old) (stores now new))
 read_acts effect read x None between now old new answer same is acts = tt
 read_acts effect read x (Some files) between now None new answer same is acts = tt

@@ -1,10 +1,9 @@
 -- What the files that a command names were read as.
-use Rattle.std.proofs.Common.{◌≡◌, ◌≢◌, ℕ, ◌^◌, ◌≤◌, nat_lt, Bool, true, false, if◌then◌else◌, List, [], ◌∷◌, length, Option, Some, None, option_map, Result, Ok, Err, refl, sym, ap, subst, ◌∙◌, arith}
-use Rattle.std.specs.Result.{result_err}
+use Rattle.std.proofs.Common.{◌≡◌, ◌≢◌, ℕ, List, [], ◌∷◌, Option, Result, Ok, Err, refl, sym, ap, subst, ◌∙◌, arith}
+use Rattle.std.specs.Prelude.{IfErr}
 use Rattle.std.specs.FinMap.{get}
-use Rattle.std.proofs.lemmas.Bool.Decides.{nat_tests}
+use Rattle.std.specs.Result.{result_err}
 use Rattle.vk_io.specs.Files.{Files}
-use Rattle.vk_lines.specs.Forms.{IsWhole, Table, fault_line, whole}
 use Rattle.vk_lines.specs.Gives.{◌>>=◌}
 use Rattle.vk_lines.specs.Lines.{Rest}
 use Rattle.vk_reply.specs.declared.challenge.Challenge.{Challenge}
@@ -23,86 +22,10 @@ use Rattle.vk_seal.proofs.Forms.{seal_fault, seal_is_whole, secret_fault, secret
 use Rattle.vk_keeper.specs.declared.auction.SealRow.{SealRow}
 use Rattle.vk_keeper.specs.Joining.{first_of}
 use Rattle.vk_effect.specs.Effects.{SaidValue}
-use Rattle.vk_effect.specs.NamedFiles.{malformed_said, too_long_said}
-use Rattle.vk_auctioneer.specs.Inputs.{begun_in, challenge_in, row_in, value_in}
-use Rattle.vk_auctioneer.specs.Laws.{AreTexts, IsFile, IsText, ReadsChallenge, ReadsRow, faulty_said, unheld_said}
-
--- a file from its first line on
-abbrev from_first : List ℕ → Rest
-from_first bytes = record { taken = 0; left = bytes }
-
--- ---- one file
-
--- the status that is said, 0 where none is
-abbrev status_of : {X : Type 0} → Result X SaidValue → ℕ
-status_of (Ok x) = 0
-status_of (Err said) = said.status
-
--- the refusal of one reading as that of another
-is_refused : {A B : Type 0} (one other : SaidValue) → ◌≡◌ {A = Result A SaidValue} (Err one) (Err other) → ◌≡◌ {A = Result B SaidValue} (Err one) (Err other)
-is_refused one other is = let same : one ≡ other = cc in ap (λ s. Err s) same
-
--- a file that was begun is held, and is not too long
-record Begun (file : Option (List ℕ)) (rest : Rest) : Type 0 where
-  bytes : List ℕ
-  held : file ≡ Some bytes
-  short : length bytes ≤ 2 ^ 30
-  first : rest ≡ from_first bytes
-
-begun_by : (name bytes : List ℕ) (rest : Rest) (long : Bool) → nat_lt (2 ^ 30) (length bytes) ≡ long → ◌≡◌ {A = Result Rest SaidValue} (if long then Err (too_long_said name) else Ok (from_first bytes)) (Ok rest) → Begun (Some bytes) rest
-begun_by name bytes rest true test is = cc
-begun_by name bytes rest false test is = record { bytes = bytes; held = refl; short = grind (arith, nat_tests, test); first = cc }
-
-begun_ok : (name : List ℕ) (file : Option (List ℕ)) (rest : Rest) → begun_in name file ≡ Ok rest → Begun file rest
-begun_ok name None rest is = cc
-begun_ok name (Some bytes) rest is = begun_by name bytes rest (nat_lt (2 ^ 30) (length bytes)) refl is
-
-begun_found : (name : List ℕ) (file : Option (List ℕ)) (bytes : List ℕ) → file ≡ Some bytes → length bytes ≤ 2 ^ 30 → begun_in name file ≡ Ok (from_first bytes)
-begun_found name file bytes held short =
-    let small : nat_lt (2 ^ 30) (length bytes) ≡ false = grind (arith, nat_tests, short) in
-    ap (begun_in name) held ∙ ap (λ (long : Bool). if long then Err (too_long_said name) else Ok (from_first bytes)) small
-
-begun_said_by : (name bytes : List ℕ) (long : Bool) → result_err {T = Rest} (if long then Err (too_long_said name) else Ok (from_first bytes)) ≡ (if long then Some (too_long_said name) else None)
-begun_said_by name bytes true = refl
-begun_said_by name bytes false = refl
-
-begun_said : (name : List ℕ) (file : Option (List ℕ)) → result_err (begun_in name file) ≡ unheld_said name file
-begun_said name None = refl
-begun_said name (Some bytes) = begun_said_by name bytes (nat_lt (2 ^ 30) (length bytes))
-
--- the value that was read, where its text is the bytes
-whole_by : {X : Type 0} (IsValue : X → Type 0) (text : X → List ℕ) (read : Rest → Result (X × Rest) ℕ) → IsWhole IsValue text read → (name bytes : List ℕ) (x : X) (answer : Result (X × Rest) ℕ) → read (from_first bytes) ≡ answer → value_in name answer ≡ Ok x → IsValue x × (bytes ≡ text x)
-whole_by IsValue text read form name bytes x (Ok found) is given =
-    let same : found.0 ≡ x = cc in
-    let shown = form.shown (from_first bytes) found.0 found.1 is in
-    (subst IsValue same shown.0, shown.1 ∙ ap text same)
-whole_by IsValue text read form name bytes x (Err number) is given = cc
-
--- the file was read whole as that value
-file_read : {X : Type 0} (IsValue : X → Type 0) (text : X → List ℕ) (read : Rest → Result (X × Rest) ℕ) → IsWhole IsValue text read → (files : Files) (name : List ℕ) (rest : Rest) (x : X) → begun_in name (get files name) ≡ Ok rest → value_in name (read rest) ≡ Ok x → IsValue x × IsFile files name (text x)
-file_read IsValue text read form files name rest x began given =
-    let begun = begun_ok name (get files name) rest began in
-    let is = whole_by IsValue text read form name begun.bytes x (read (from_first begun.bytes)) refl (subst (λ r. value_in name (read r) ≡ Ok x) begun.first given) in
-    (is.0, record { held = begun.held ∙ ap Some is.1; short = subst (λ bytes. length bytes ≤ 2 ^ 30) is.1 begun.short })
-
--- the text of a value is read as that value
-file_begun : (files : Files) (name text : List ℕ) → IsFile files name text → begun_in name (get files name) ≡ Ok (from_first text)
-file_begun files name text file = begun_found name (get files name) text file.held file.short
-
-whole_found : {X : Type 0} (IsValue : X → Type 0) (text : X → List ℕ) (read : Rest → Result (X × Rest) ℕ) → IsWhole IsValue text read → (name : List ℕ) (x : X) → IsValue x → value_in name (read (from_first (text x))) ≡ Ok x
-whole_found IsValue text read form name x right =
-    let found = form.found (from_first (text x)) x right refl in ap (value_in name) found.1
-
--- what is said of a file that was begun is what its fault line says
-value_said : {X : Type 0} (name : List ℕ) (answer : Result (X × Rest) ℕ) → result_err (value_in name answer) ≡ option_map (malformed_said name) (result_err answer)
-value_said name (Ok read) = refl
-value_said name (Err number) = refl
-
-file_said : {Place X : Type 0} (table : Table Place) (read : Rest → Result (X × Rest) ℕ) → ((bytes : List ℕ) → fault_line table bytes ≡ result_err (whole read bytes)) → (name : List ℕ) (file : Option (List ℕ)) (rest : Rest) → begun_in name file ≡ Ok rest → faulty_said table name file ≡ result_err (value_in name (read rest))
-file_said table read faults name file rest began =
-    let begun = begun_ok name file rest began in
-    ap (faulty_said table name) begun.held ∙ ap (option_map (malformed_said name)) (faults begun.bytes) ∙ sym (value_said name (read (from_first begun.bytes)))
-    ∙ ap (λ r. result_err (value_in name (read r))) (sym begun.first)
+use Rattle.vk_effect.specs.Reading.{begun_in, faulty_said, from_first, unheld_said, value_in}
+use Rattle.vk_effect.proofs.NamedFiles.{begun_says, file_begun, file_read, file_said, then_says, value_says, whole_found}
+use Rattle.vk_auctioneer.specs.Inputs.{challenge_in, row_in}
+use Rattle.vk_auctioneer.specs.Laws.{AreTexts, IsText, ReadsChallenge, ReadsRow}
 
 -- ---- a seal and a secret
 
@@ -168,8 +91,6 @@ row_said files seal_name secret_name =
     ap result_err (row_is files seal_name secret_name)
     ∙ both_said (begun_in seal_name seal_file) (begun_in secret_name secret_file) (λ rest. value_in seal_name (seal_at rest)) (λ rest. value_in secret_name (secret_at rest)) (faulty_said seal_table seal_name seal_file) (faulty_said secret_table secret_name secret_file)
     (file_said seal_table seal_at seal_fault seal_name seal_file) (file_said secret_table secret_at secret_fault secret_name secret_file)
-    ∙ ap (λ f. first_of (f ∷ result_err (begun_in secret_name secret_file) ∷ faulty_said seal_table seal_name seal_file ∷ faulty_said secret_table secret_name secret_file ∷ [])) (begun_said seal_name seal_file)
-    ∙ ap (λ f. first_of (unheld_said seal_name seal_file ∷ f ∷ faulty_said seal_table seal_name seal_file ∷ faulty_said secret_table secret_name secret_file ∷ [])) (begun_said secret_name secret_file)
 
 pub reads_row : (files : Files) (seal_name secret_name : List ℕ) → ReadsRow files seal_name secret_name
 reads_row files seal_name secret_name = record {
@@ -214,31 +135,19 @@ challenge_said : (files : Files) (name : List ℕ) → result_err (challenge_in 
 challenge_said files name =
     ap result_err (challenge_is files name)
     ∙ one_said (begun_in name (get files name)) (λ rest. value_in name (challenge_at rest)) (faulty_said challenge_table name (get files name)) (file_said challenge_table challenge_at challenge_fault name (get files name))
-    ∙ ap (λ f. first_of (f ∷ faulty_said challenge_table name (get files name) ∷ [])) (begun_said name (get files name))
 
 -- what is said of the file has no status 0
-begun_refused_by : (name bytes : List ℕ) (said : SaidValue) (long : Bool) → ◌≡◌ {A = Result Rest SaidValue} (if long then Err (too_long_said name) else Ok (from_first bytes)) (Err said) → said.status ≢ 0
-begun_refused_by name bytes said true is zero = let four : 4 ≡ said.status = ap (λ (r : Result Rest SaidValue). status_of r) is in absurd (omega (arith, four, zero))
-begun_refused_by name bytes said false is zero = cc
+abbrev Refuses : SaidValue → Type 0
+Refuses said = said.status ≢ 0
 
-begun_refused : (name : List ℕ) (file : Option (List ℕ)) (said : SaidValue) → begun_in name file ≡ Err said → said.status ≢ 0
-begun_refused name None said is zero = let five : 5 ≡ said.status = ap (λ (r : Result Rest SaidValue). status_of r) is in absurd (omega (arith, five, zero))
-begun_refused name (Some bytes) said is zero = begun_refused_by name bytes said (nat_lt (2 ^ 30) (length bytes)) is zero
-
-value_refused : (name : List ℕ) (answer : Result (Challenge × Rest) ℕ) (said : SaidValue) → value_in name answer ≡ Err said → said.status ≢ 0
-value_refused name (Ok read) said is zero = cc
-value_refused name (Err number) said is zero = let four : 4 ≡ said.status = ap (λ (r : Result Challenge SaidValue). status_of r) is in absurd (omega (arith, four, zero))
-
-one_refused_last : (challenge : Result Challenge SaidValue) (said : SaidValue) → ◌≡◌ {A = Result Challenge SaidValue} (challenge >>= λ c. Ok c) (Err said) → challenge ≡ Err said
-one_refused_last (Ok challenge) said is = cc
-one_refused_last (Err other) said is = is
-
-one_refused : (name : List ℕ) (file : Option (List ℕ)) (begun : Result Rest SaidValue) (said : SaidValue) → begun_in name file ≡ begun → one_read begun (λ rest. value_in name (challenge_at rest)) ≡ Err said → said.status ≢ 0
-one_refused name file (Err other) said began is = begun_refused name file said (began ∙ is_refused other said is)
-one_refused name file (Ok rest) said began is = value_refused name (challenge_at rest) said (one_refused_last (value_in name (challenge_at rest)) said is)
+challenge_says : (files : Files) (name : List ℕ) → IfErr (challenge_in files name) Refuses
+unfolding challenge_in
+challenge_says files name =
+    then_says Refuses (begun_in name (get files name)) _ (begun_says Refuses name (get files name) (λ zero. omega (arith, zero)) (λ zero. omega (arith, zero)))
+    (λ rest. then_says Refuses (value_in name (challenge_at rest)) _ (value_says Refuses name (challenge_at rest) (λ line zero. omega (arith, zero))) (λ challenge. tt))
 
 pub challenge_refused : (files : Files) (name : List ℕ) (said : SaidValue) → challenge_in files name ≡ Err said → said.status ≢ 0
-challenge_refused files name said is = one_refused name (get files name) (begun_in name (get files name)) said refl (sym (challenge_is files name) ∙ is)
+challenge_refused files name said is = subst (λ read. IfErr read Refuses) is (challenge_says files name)
 
 pub reads_challenge : (files : Files) (name : List ℕ) → ReadsChallenge files name
 reads_challenge files name = record {

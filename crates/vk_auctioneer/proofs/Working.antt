@@ -1,10 +1,11 @@
 -- The auction that `prove` and `answer` are done on: it stands under the id afterwards, and is proved.
 use Rattle.std.proofs.Common.{◌≡◌, ℕ, ◌==◌, true, not, List, [], length, Option, Some, None, IfSome, IsSome, unwrap_or, refl, sym, ap, subst, ◌∙◌, arith}
 use Rattle.std.specs.Bool.{then_some}
+use Rattle.std.specs.FinMap.{get}
 use Rattle.std.specs.Option.{option_or}
 use Rattle.std.specs.Str.{bytes_eq}
-use Rattle.std.specs.FinMap.{get}
 use Rattle.std.proofs.lemmas.Bool.Decides.{Decides-eqb}
+use Rattle.std.proofs.lemmas.Option.{same_Some}
 use Rattle.std.proofs.lemmas.Slice.Eq.{bytes_eq-Decides}
 use Rattle.vk_reply.specs.declared.challenge.Challenge.{Challenge}
 use Rattle.vk_keeper.specs.declared.auction.Auction.{Auction}
@@ -18,8 +19,8 @@ use Rattle.vk_job.specs.Jobs.{IsProvedAuction, dry_in, outcome_in}
 use Rattle.vk_house.specs.declared.errors.HouseErr.{HouseErr}
 use Rattle.vk_house.specs.declared.errors.HouseErr.TheVariants.{OtherSeed}
 use Rattle.vk_house.specs.Commands.{HouseCommand, Prove, Answer, id_of, IsHouseCommand}
-use Rattle.vk_house.specs.Replies.{HouseReply, Work, reply_to}
 use Rattle.vk_house.specs.Refusals.{refusal_of, refusals_of}
+use Rattle.vk_house.specs.Replies.{HouseReply, Work, reply_to}
 use Rattle.vk_house.specs.Steps.{step_by, step_at, kept_by, in_phase, house_step}
 use Rattle.vk_house.proofs.Deciding.{challenge_with, dry_in_phase, kept_same}
 use Rattle.vk_house.proofs.Fields.{auction_with}
@@ -89,9 +90,6 @@ proved_from auction seed right seeded tapes = record {
   tapes = ap (λ (s : Option (List ℕ)). dry_in auction (unwrap_or s [])) seeded ∙ tapes;
 }
 
-some_same : {X : Type 0} (x y : X) → ◌≡◌ {A = Option X} (Some x) (Some y) → x ≡ y
-some_same x y is = cc
-
 -- ---- `prove`
 
 -- the auction has the seed, which gives a tape for every lane
@@ -107,17 +105,17 @@ unfolding first_of
 prove_by asked seed id width lanes Taking seals later passes is =
     let auction = auction_with id width lanes Taking seals in
     let tests = none_holds (refusals_of (Prove asked seed) (Some auction)) passes in
-    subst (λ a. Seeded a seed) (some_same (in_phase auction (Proved seed)) later is)
+    subst (λ a. Seeded a seed) (same_Some (in_phase auction (Proved seed)) later is)
     (record { seed_is = refl; tapes = dry_in_phase auction (Proved seed) seed ∙ nothing_there _ (dry_in auction seed) tests.1.1.1.0 })
 prove_by asked seed id width lanes (Proved kept) seals later passes is =
     let auction = auction_with id width lanes (Proved kept) seals in
     let tests = none_holds (refusals_of (Prove asked seed) (Some auction)) passes in
-    subst (λ a. Seeded a seed) (some_same auction later is)
+    subst (λ a. Seeded a seed) (same_Some auction later is)
     (record { seed_is = ap Some (kept_seed kept seed tests.1.1.0); tapes = nothing_there _ (dry_in auction seed) tests.1.1.1.0 })
 prove_by asked seed id width lanes (Answered kept challenge) seals later passes is =
     let auction = auction_with id width lanes (Answered kept challenge) seals in
     let tests = none_holds (refusals_of (Prove asked seed) (Some auction)) passes in
-    subst (λ a. Seeded a seed) (some_same auction later is)
+    subst (λ a. Seeded a seed) (same_Some auction later is)
     (record { seed_is = ap Some (kept_seed kept seed tests.1.1.0); tapes = nothing_there _ (dry_in auction seed) tests.1.1.1.0 })
 
 pub prove_seeds : (asked seed : List ℕ) (found : Option Auction) (later : Auction) → refusal_of (Prove asked seed) found ≡ None → option_or (kept_by (Prove asked seed) found) found ≡ Some later → Seeded later seed
@@ -141,13 +139,13 @@ answer_by asked challenge id width lanes (Proved seed) seals later passes is =
     let auction = auction_with id width lanes (Proved seed) seals in
     let tests = none_holds (refusals_of (Answer asked challenge) (Some auction)) passes in
     let tapes = dry_in_phase auction (Answered seed challenge) seed ∙ nothing_there _ (dry_in auction seed) tests.1.1.1.1.0 in
-    subst (λ a. Challenged a challenge) (some_same (in_phase auction (Answered seed challenge)) later is)
+    subst (λ a. Challenged a challenge) (same_Some (in_phase auction (Answered seed challenge)) later is)
     (record { seed = seed; seeded = record { seed_is = refl; tapes = tapes }; challenge_is = refl })
 answer_by asked challenge id width lanes (Answered seed kept) seals later passes is =
     let auction = auction_with id width lanes (Answered seed kept) seals in
     let tests = none_holds (refusals_of (Answer asked challenge) (Some auction)) passes in
     let same : Some kept ≡ Some challenge = ap (λ bits. Some (challenge_with bits)) (kept_same challenge.bits kept.bits (nothing_there _ _ tests.1.1.1.0)) in
-    subst (λ a. Challenged a challenge) (some_same auction later is)
+    subst (λ a. Challenged a challenge) (same_Some auction later is)
     (record { seed = seed; seeded = record { seed_is = refl; tapes = nothing_there _ (dry_in auction seed) tests.1.1.1.1.0 }; challenge_is = same })
 
 pub answer_challenges : (asked : List ℕ) (challenge : Challenge) (found : Option Auction) (later : Auction) → refusal_of (Answer asked challenge) found ≡ None → option_or (kept_by (Answer asked challenge) found) found ≡ Some later → Challenged later challenge

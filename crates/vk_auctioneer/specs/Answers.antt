@@ -1,24 +1,15 @@
 -- What the parts of a command of the house answer.
 use Rattle.std.specs.Prelude.{◌≡◌, Result, Ok, Err, ◌⊎◌}
+use Rattle.vk_io.specs.declared.errors.OutsideErr.{OutsideErr}
 use Rattle.vk_io.specs.Files.{Files}
 use Rattle.vk_io.specs.Writing.{WritesAll}
-use Rattle.vk_io.specs.declared.errors.OutsideErr.{OutsideErr}
-use Rattle.vk_io.specs.declared.errors.OutsideErr.TheVariants as outside
 use Rattle.vk_keeper.specs.Turns.{GetsOnce, Turns}
 use Rattle.vk_house.specs.declared.errors.HouseErr.TheVariants.{KeeperFailed, NoMemory}
 use Rattle.vk_house.specs.Commands.{HouseCommand}
 use Rattle.vk_house.specs.Replies.{HouseReply, Refused}
 use Rattle.vk_effect.specs.Effects.{SaidValue}
-use Rattle.vk_auctioneer.specs.declared.inputs.Unread.{Unread}
-use Rattle.vk_auctioneer.specs.declared.inputs.Unread.TheVariants as unread
 use Rattle.vk_auctioneer.specs.Effects.{Writes}
 use Rattle.vk_auctioneer.specs.Lines.{reply_said}
-
--- what a file that wasn't read comes to: something is said, or the command is stopped
-abbrev pub said_or_stopped : Unread → Result SaidValue OutsideErr
-said_or_stopped (unread.Said said) = Ok said
-said_or_stopped unread.Failed = Err outside.Failed
-said_or_stopped unread.NoMemory = Err outside.NoMemory
 
 -- a reply of the house, and not the failure of its keeper or want of memory
 abbrev pub IsReply : HouseReply → Type 0

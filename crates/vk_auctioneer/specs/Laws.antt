@@ -1,10 +1,9 @@
 -- The laws of the auctioneer's commands.
-use Rattle.std.specs.Prelude.{◌≡◌, ◌↔◌, ℕ, ◌^◌, ◌≤◌, nat_lt, if◌then◌else◌, List, [], ◌∷◌, length, Option, Some, None, option_map, Ok, IsSomeAnd}
-use Rattle.std.specs.Result.{result_err}
+use Rattle.std.specs.Prelude.{◌≡◌, ◌↔◌, ℕ, List, [], ◌∷◌, Some, Ok, IsSomeAnd}
 use Rattle.std.specs.FinMap.{get}
+use Rattle.std.specs.Result.{result_err}
 use Rattle.vk_commit.specs.Values.{AreBytes}
 use Rattle.vk_io.specs.Files.{Files}
-use Rattle.vk_lines.specs.Forms.{Table, fault_line}
 use Rattle.vk_reply.specs.declared.challenge.Challenge.{Challenge}
 use Rattle.vk_reply.specs.Tables.{challenge_table}
 use Rattle.vk_reply.specs.Texts.{challenge_text}
@@ -20,10 +19,10 @@ use Rattle.vk_keeper.specs.Ledgers.{Ledger, IsLedger}
 use Rattle.vk_job.specs.Jobs.{IsProvedAuction}
 use Rattle.vk_job.specs.Published.{IsChallengeTo, board_of, reply_of}
 use Rattle.vk_house.specs.Commands.{IsRoom}
-use Rattle.vk_effect.specs.Effects.{Effect, SaidValue}
 use Rattle.vk_words.specs.Orders.{HouseWords, Announce, Submit, Prove, Answer, Show}
+use Rattle.vk_effect.specs.Effects.{Effect}
+use Rattle.vk_effect.specs.Reading.{IsFile, faulty_said, unheld_said}
 use Rattle.vk_auctioneer.specs.Effects.{answer_effect, prove_effect}
-use Rattle.vk_effect.specs.NamedFiles.{malformed_said, missing_said, too_long_said}
 use Rattle.vk_auctioneer.specs.Inputs.{challenge_in, row_in}
 
 -- ---- what the words ask
@@ -37,21 +36,6 @@ AreHouseWords (Answer id challenge reply) = AreBytes 16 id
 AreHouseWords (Show id) = AreBytes 16 id
 
 -- ---- what is read, by the texts and the tables of the forms
-
--- the file of that name holds this text, which is not too long
-pub record IsFile (files : Files) (name text : List ℕ) : Type 0 where
-  pub held : get files name ≡ Some text
-  pub short : length text ≤ 2 ^ 30
-
--- what is said of a file that isn't held or is too long
-abbrev pub unheld_said : List ℕ → Option (List ℕ) → Option SaidValue
-unheld_said name None = Some (missing_said name)
-unheld_said name (Some bytes) = if nat_lt (2 ^ 30) (length bytes) then Some (too_long_said name) else None
-
--- what is said of one that is held, and isn't of the form of that table
-abbrev pub faulty_said : {Place : Type 0} → Table Place → List ℕ → Option (List ℕ) → Option SaidValue
-faulty_said table name None = None
-faulty_said table name (Some bytes) = option_map (malformed_said name) (fault_line table bytes)
 
 -- the files of those names hold the texts of the seal and the secret
 pub record AreTexts (files : Files) (seal_name secret_name : List ℕ) (row : SealRow) : Type 0 where

@@ -1,160 +1,76 @@
-//! The files that a command is given by name.
+//! The forms of the files that a command is given by name.
 
-ghost use Rattle.std.specs.Prelude.{◌≡◌, ℕ, Err, IfOk, IfSome, List, Ok, Result};
-ghost use Rattle.std.specs.FinMap as map;
-ghost use Rattle.vk_lines.specs.Lines.{IsBefore, Reads, Rest, Starts, rest_of};
 ghost use Rattle.vk_reply.specs.Reading.{challenge_at};
 ghost use Rattle.vk_reply.specs.Values.{IsChallenge};
 ghost use Rattle.vk_seal.specs.Reading.{seal_at, secret_at};
 ghost use Rattle.vk_seal.specs.Values.{IsSeal, IsSecret};
-ghost use Rattle.vk_effect.specs.Effects.{SaidValue};
-ghost use Rattle.vk_auctioneer.specs.Answers.{said_or_stopped};
-ghost use Rattle.vk_auctioneer.specs.Common.{Causes, Files, Gives, OnlyReads};
-ghost use Rattle.vk_auctioneer.specs.Inputs.{begun_in, said_of, value_in};
 
 use std::alloc::Global;
-use vk_effect::{Said, malformed, missing, too_long};
-use vk_io::{OutsideErr, Shelf};
-use vk_lines::{Lines, ReadErr, StartErr};
+use vk_effect::FileForm;
+use vk_io::Shelf;
+use vk_lines::{Lines, ReadErr};
 use vk_reply::{Challenge, read_challenge};
-use vk_residue::NoMemory;
 use vk_seal::{Seal, Secret, read_seal, read_secret};
 
-/// Why a file was not read.
-#[derive(Drop)]
-pub enum Unread {
-    /// It isn't held, is too long or isn't of its form, and this is said of it.
-    Said(Said),
-    /// The outside failed. The shelf's count of faults rose in this call.
-    Failed,
-    /// Want of memory.
-    NoMemory,
-}
+/// A bidder's seal.
+pub struct SealForm;
 
-impl From<NoMemory> for Unread {
-    ghost use Rattle.std.specs.Prelude.{◌≡◌};
-    ghost use Rattle.vk_auctioneer.specs.declared.inputs.Unread.TheVariants.{NoMemory as OutOfMemory};
+impl FileForm for SealForm {
+    type Value = Seal;
 
-    ghost from_gives = { λ _ e. e ≡ OutOfMemory };
+    ghost value_at = { λ _. seal_at };
 
-    fn from(_refused: NoMemory) -> Unread {
-        Unread::NoMemory
+    ghost is_value = { λ _. IsSeal };
+
+    fn read<S: Shelf>(
+        &self,
+        alloc: Global,
+        shelf: &mut S,
+        lines: &mut Lines,
+    ) -> Result<Seal, ReadErr> {
+        let seal = read_seal(alloc, shelf, lines);
+        seal
     }
 }
 
-impl Unread {
-    /// What the command then says, or why it is stopped.
-    pub fn said_or_stopped(self) -> Result<Said, OutsideErr>
-        ensures { result ≡ said_or_stopped self }
-    {
-        match self {
-            Unread::Said(said) => Ok(said),
-            Unread::Failed => Err(OutsideErr::Failed),
-            Unread::NoMemory => Err(OutsideErr::NoMemory),
-        }
+/// A bidder's secret.
+pub struct SecretForm;
+
+impl FileForm for SecretForm {
+    type Value = Secret;
+
+    ghost value_at = { λ _. secret_at };
+
+    ghost is_value = { λ _. IsSecret };
+
+    fn read<S: Shelf>(
+        &self,
+        alloc: Global,
+        shelf: &mut S,
+        lines: &mut Lines,
+    ) -> Result<Secret, ReadErr> {
+        let secret = read_secret(alloc, shelf, lines);
+        secret
     }
 }
 
-/// Begins to read the named file.
-pub fn begin<S: Shelf>(alloc: Global, shelf: &mut S, name: &str) -> Result<Lines, Unread>
-    ensures told { IfSome (S.held shelf.old) (λ files.
-        Gives said_of (λ lines. rest_of lines files) result (begun_in name.now (map.get files name.now))) }
-    ensures before { IfOk result (IsBefore name.now) }
-    ensures shelf { OnlyReads S.held S.Shelf.faults Unread.Failed result shelf.old shelf.new }
-{
-    let started = Lines::start(alloc, shelf, name);
-    let lines = begun(alloc, name, started);
-    lines
-}
+/// A challenge.
+pub struct ChallengeForm;
 
-/// The named file from its first line on, or why it was not begun.
-fn begun(alloc: Global, name: &str, started: Result<Lines, StartErr>) -> Result<Lines, Unread>
-    requires { IfOk started (IsBefore name.now) }
-    ensures told { (files : Files) → Starts files name.now started
-        → Gives said_of (λ lines. rest_of lines files) result (begun_in name.now (map.get files name.now)) }
-    ensures before { IfOk result (IsBefore name.now) }
-    ensures causes { (before after : ℕ) → Causes StartErr.Failed started before after → Causes Unread.Failed result before after }
-{
-    match started {
-        Ok(lines) => Ok(lines),
-        Err(StartErr::Missing) => {
-            let said = missing(alloc, name)?;
-            Err(Unread::Said(said))
-        }
-        Err(StartErr::TooLong) => {
-            let said = too_long(alloc, name)?;
-            Err(Unread::Said(said))
-        }
-        Err(StartErr::Failed) => Err(Unread::Failed),
-        Err(StartErr::NoMemory) => Err(Unread::NoMemory),
+impl FileForm for ChallengeForm {
+    type Value = Challenge;
+
+    ghost value_at = { λ _. challenge_at };
+
+    ghost is_value = { λ _. IsChallenge };
+
+    fn read<S: Shelf>(
+        &self,
+        alloc: Global,
+        shelf: &mut S,
+        lines: &mut Lines,
+    ) -> Result<Challenge, ReadErr> {
+        let challenge = read_challenge(alloc, shelf, lines);
+        challenge
     }
-}
-
-/// What the named file was read as, or why it was not read.
-pub fn value<X>(alloc: Global, name: &str, read: Result<X, ReadErr>) -> Result<X, Unread>
-    ensures told { (rest : Rest) (expected : Result (X × Rest) ℕ) → Reads (λ x. x) read rest expected
-        → Gives said_of (λ x. x) result (value_in name.now expected) }
-    ensures same { IfOk result (λ value. read ≡ Ok value) }
-    ensures causes { (before after : ℕ) → Causes ReadErr.Failed read before after → Causes Unread.Failed result before after }
-{
-    match read {
-        Ok(value) => Ok(value),
-        Err(ReadErr::Malformed { line }) => {
-            let said = malformed(alloc, name, line)?;
-            Err(Unread::Said(said))
-        }
-        Err(ReadErr::Failed) => Err(Unread::Failed),
-        Err(ReadErr::NoMemory) => Err(Unread::NoMemory),
-    }
-}
-
-/// Reads the named file whole as a seal.
-pub fn seal<S: Shelf>(
-    alloc: Global,
-    shelf: &mut S,
-    name: &str,
-    lines: &mut Lines,
-) -> Result<Seal, Unread>
-    ensures told { IfSome (S.held shelf.old) (λ files.
-        Gives said_of (λ seal. seal) result (value_in name.now (seal_at (rest_of lines.old files)))) }
-    ensures right { IfOk result IsSeal }
-    ensures shelf { OnlyReads S.held S.Shelf.faults Unread.Failed result shelf.old shelf.new }
-{
-    let read = read_seal(alloc, shelf, lines);
-    let seal = value(alloc, name, read);
-    seal
-}
-
-/// Reads the named file whole as a secret.
-pub fn secret<S: Shelf>(
-    alloc: Global,
-    shelf: &mut S,
-    name: &str,
-    lines: &mut Lines,
-) -> Result<Secret, Unread>
-    ensures told { IfSome (S.held shelf.old) (λ files.
-        Gives said_of (λ secret. secret) result (value_in name.now (secret_at (rest_of lines.old files)))) }
-    ensures right { IfOk result IsSecret }
-    ensures shelf { OnlyReads S.held S.Shelf.faults Unread.Failed result shelf.old shelf.new }
-{
-    let read = read_secret(alloc, shelf, lines);
-    let secret = value(alloc, name, read);
-    secret
-}
-
-/// Reads the named file whole as a challenge.
-pub fn challenge<S: Shelf>(
-    alloc: Global,
-    shelf: &mut S,
-    name: &str,
-    lines: &mut Lines,
-) -> Result<Challenge, Unread>
-    ensures told { IfSome (S.held shelf.old) (λ files.
-        Gives said_of (λ challenge. challenge) result (value_in name.now (challenge_at (rest_of lines.old files)))) }
-    ensures right { IfOk result IsChallenge }
-    ensures shelf { OnlyReads S.held S.Shelf.faults Unread.Failed result shelf.old shelf.new }
-{
-    let read = read_challenge(alloc, shelf, lines);
-    let challenge = value(alloc, name, read);
-    challenge
 }

@@ -10,5 +10,4 @@ mod standing;
 mod submitting;
 
 pub use command::house_command;
-pub use inputs::{Unread, begin, value};
 pub use laws::{what_is_read_is_what_the_files_are, what_is_written_is_of_the_ledger};

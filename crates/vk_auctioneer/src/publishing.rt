@@ -1,21 +1,22 @@
 //! `prove` and `answer`, each of which writes a file of the auction: its board, and the reply to a challenge.
 
 ghost use Rattle.std.specs.Prelude.{◌≡◌, ◌∷◌, [], ℕ, IfErr, IfOk, IfSome, IsOk, List, Some, length};
+ghost use Rattle.vk_reply.specs.Values.{IsChallenge};
+ghost use Rattle.vk_keeper.specs.Auctions.{challenge_of};
 ghost use Rattle.vk_job.specs.Jobs.{winner_of};
 ghost use Rattle.vk_job.specs.Published.{board_of, reply_of};
 ghost use Rattle.vk_house.specs.Commands.{Prove, Answer};
+ghost use Rattle.vk_effect.specs.Reading.{said_of_unread};
 ghost use Rattle.vk_auctioneer.specs.Answers.{Leaves, Says, AsksOnce};
 ghost use Rattle.vk_auctioneer.specs.Common.{Acts, Causes, CausesTwo, GetsOnce, KeepsAnswers, Told, as_reply, stores, work_of, Gives, OnlyReads};
 ghost use Rattle.vk_auctioneer.specs.Effects.{board_file, on_ledger, prove_effect, answer_effect, asked, on_both, reply_file};
+ghost use Rattle.vk_auctioneer.specs.Inputs.{challenge_in};
 ghost use Rattle.vk_auctioneer.specs.Lines.{TakesNoMemory, done_said, proved_line, answered_line};
-ghost use Rattle.vk_reply.specs.Values.{IsChallenge};
-ghost use Rattle.vk_keeper.specs.Auctions.{challenge_of};
-ghost use Rattle.vk_auctioneer.specs.Inputs.{challenge_in, said_of};
 
-use crate::inputs::{Unread, begin, challenge};
+use crate::inputs::ChallengeForm;
 use crate::refusals::refused;
 use std::alloc::Global;
-use vk_effect::Said;
+use vk_effect::{Said, Unread, begin_named, read_named};
 use vk_house::{House, HouseErr};
 use vk_io::{OutsideErr, Shelf, WrittenFiles, write_files};
 use vk_job::Job;
@@ -154,12 +155,12 @@ pub fn answer<S: Shelf, K: Keeper + Drop>(
 /// Reads the named challenge.
 #[tactic(auto, unfolding(crate::specs::Inputs::challenge_in))]
 fn asked_challenge<S: Shelf>(alloc: Global, shelf: &mut S, name: &str) -> Result<Challenge, Unread>
-    ensures told { IfSome (S.held shelf.old) (λ files. Gives said_of (λ challenge. challenge) result (challenge_in files name.now)) }
+    ensures told { IfSome (S.held shelf.old) (λ files. Gives said_of_unread (λ challenge. challenge) result (challenge_in files name.now)) }
     ensures right { IfOk result IsChallenge }
     ensures shelf { OnlyReads S.held S.Shelf.faults Unread.Failed result shelf.old shelf.new }
 {
-    let mut lines = begin(alloc, shelf, name)?;
-    let challenge = challenge(alloc, shelf, name, &mut lines)?;
+    let mut lines = begin_named(alloc, shelf, name)?;
+    let challenge = read_named(alloc, shelf, name, &mut lines, &ChallengeForm)?;
     Ok(challenge)
 }
 

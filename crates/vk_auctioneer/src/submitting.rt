@@ -1,21 +1,22 @@
 //! `submit`.
 
 ghost use Rattle.std.specs.Prelude.{◌≡◌, ℕ, IfErr, IfOk, IfSome, IsOk, List, Option};
-ghost use Rattle.vk_seal.specs.Values.{IsSeal, IsSecret};
 ghost use Rattle.vk_seal.specs.declared.secret.Seal.{Seal};
 ghost use Rattle.vk_seal.specs.declared.secret.Secret.{Secret};
+ghost use Rattle.vk_seal.specs.Values.{IsSeal, IsSecret};
 ghost use Rattle.vk_house.specs.Commands.{Submit};
 ghost use Rattle.vk_house.specs.Replies.{Position};
+ghost use Rattle.vk_effect.specs.Reading.{said_of_unread};
 ghost use Rattle.vk_auctioneer.specs.Answers.{AsksOnce, Says};
 ghost use Rattle.vk_auctioneer.specs.Common.{Acts, Causes, CausesTwo, Files, GetsOnce, Gives, KeepsAnswers, OnlyReads, Told, as_reply, stores};
 ghost use Rattle.vk_auctioneer.specs.Effects.{asked, no_file, on_both, on_ledger, submit_effect};
-ghost use Rattle.vk_auctioneer.specs.Inputs.{row_in, said_of};
+ghost use Rattle.vk_auctioneer.specs.Inputs.{row_in};
 ghost use Rattle.vk_auctioneer.specs.Lines.{TakesNoMemory, done_said, taken_line};
 
-use crate::inputs::{Unread, begin, seal, secret};
+use crate::inputs::{SealForm, SecretForm};
 use crate::refusals::refused;
 use std::alloc::Global;
-use vk_effect::Said;
+use vk_effect::{Said, Unread, begin_named, read_named};
 use vk_house::{House, HouseErr};
 use vk_io::{OutsideErr, Shelf};
 use vk_keeper::{Keeper, SealRow};
@@ -54,15 +55,15 @@ fn row<S: Shelf>(
     seal_name: &str,
     secret_name: &str,
 ) -> Result<SealRow, Unread>
-    ensures told { IfSome (S.held shelf.old) (λ files. Gives said_of (λ row. row) result (row_in files seal_name.now secret_name.now)) }
+    ensures told { IfSome (S.held shelf.old) (λ files. Gives said_of_unread (λ row. row) result (row_in files seal_name.now secret_name.now)) }
     ensures seal { IfOk result (λ row. IsSeal row.seal) }
     ensures secret { IfOk result (λ row. IsSecret row.secret) }
     ensures shelf { OnlyReads S.held S.Shelf.faults Unread.Failed result shelf.old shelf.new }
 {
-    let mut seal_lines = begin(alloc, shelf, seal_name)?;
-    let mut secret_lines = begin(alloc, shelf, secret_name)?;
-    let seal = seal(alloc, shelf, seal_name, &mut seal_lines)?;
-    let secret = secret(alloc, shelf, secret_name, &mut secret_lines)?;
+    let mut seal_lines = begin_named(alloc, shelf, seal_name)?;
+    let mut secret_lines = begin_named(alloc, shelf, secret_name)?;
+    let seal = read_named(alloc, shelf, seal_name, &mut seal_lines, &SealForm)?;
+    let secret = read_named(alloc, shelf, secret_name, &mut secret_lines, &SecretForm)?;
     Ok(SealRow { seal, secret })
 }
 

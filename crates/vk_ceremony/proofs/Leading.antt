@@ -1,24 +1,24 @@
 -- From the beginning of a ceremony to its end, turn by turn.
 use Rattle.std.proofs.Common.{◌≡◌, ℕ, Bool, false, List, Option, Some, None, IfSome, Result, Ok, Err, refl, sym, ap, ◌∙◌, subst, inr}
 use Rattle.std.specs.Prelude.{IsSomeAnd}
-use Rattle.vk_io.specs.Files.{Files, Told}
 use Rattle.vk_io.specs.declared.errors.OutsideErr.{OutsideErr}
 use Rattle.vk_io.specs.declared.errors.OutsideErr.TheVariants as outside_err
+use Rattle.vk_io.specs.Files.{Files, Told}
 use Rattle.vk_lines.specs.Gives.{Gives}
 use Rattle.vk_lines.specs.Lines.{LinesValue, rest_of}
 use Rattle.vk_keeper.specs.Ledgers.{Ledger}
 use Rattle.vk_house.specs.Once.{KeepsAnswers}
 use Rattle.vk_house.proofs.Once.{keeps_same, keeps_on}
+use Rattle.vk_effect.specs.declared.reading.Unread.{Unread}
+use Rattle.vk_effect.specs.declared.reading.Unread.TheVariants.{Said, Failed, NoMemory}
 use Rattle.vk_effect.specs.Counts.{CausesThree}
 use Rattle.vk_effect.specs.Effects.{Effect, Outside, SaidValue, Stores, done, outside, stores}
-use Rattle.vk_auctioneer.specs.declared.inputs.Unread.{Unread}
-use Rattle.vk_auctioneer.specs.declared.inputs.Unread.TheVariants.{Said, Failed, NoMemory}
-use Rattle.vk_auctioneer.specs.Answers.{said_or_stopped}
-use Rattle.vk_auctioneer.specs.Inputs.{said_of}
+use Rattle.vk_effect.specs.Reading.{said_of_unread, said_or_stopped}
+use Rattle.vk_effect.proofs.NamedFiles.{same_Ok}
 use Rattle.vk_ceremony.specs.declared.holding.Turn.{Turn}
 use Rattle.vk_ceremony.specs.declared.holding.Turn.TheVariants.{Next, Ended}
-use Rattle.vk_ceremony.specs.Scripts.{script_begun}
 use Rattle.vk_ceremony.specs.Ceremonies.{Ceremony, EndsAll, ceremony_behind, ceremony_on, closed, with_command}
+use Rattle.vk_ceremony.specs.Scripts.{script_begun}
 use Rattle.vk_ceremony.specs.Turns.{Turns, left_of, stores_of}
 
 -- ---- the turns
@@ -67,7 +67,7 @@ leads_to_end script lines turn status whole old now new left is leads turns =
 
 -- the script was begun
 pub begun_ceremony : (script : List ℕ) (lines : LinesValue) (held now : Option Files) (ledger : Option Ledger) (taken : Option (List ℕ)) (answer : Result ℕ OutsideErr) (new : Outside) → now ≡ held
-    → IfSome held (λ files. Gives {T = LinesValue} said_of (λ l. rest_of l files) (Ok lines) (script_begun files script))
+    → IfSome held (λ files. Gives {T = LinesValue} said_of_unread (λ l. rest_of l files) (Ok lines) (script_begun files script))
     → IfSome (left_of script false lines (stores now ledger)) (λ whole. EndsAll answer whole (outside (stores now ledger) taken) new)
     → IfSome (ceremony_on held ledger script) (λ whole. EndsAll answer whole (outside (stores held ledger) taken) new)
 begun_ceremony script lines None now ledger taken answer new same is ends = tt
@@ -76,17 +76,14 @@ begun_ceremony script lines (Some files) now ledger taken answer new same is end
     subst (λ left. IfSome (left_of script false lines (stores left ledger)) (λ whole. EndsAll answer whole (outside (stores left ledger) taken) new)) same ends in
     subst (λ r. IfSome (ceremony_behind script (stores (Some files) ledger) r) (λ whole. EndsAll answer whole (outside (stores (Some files) ledger) taken) new)) (sym is) here
 
-ok_same : {X E : Type 0} (x y : X) → ◌≡◌ {A = Result X E} (Ok x) (Ok y) → x ≡ y
-ok_same x y same = cc
-
 -- it wasn't, and this was said of it
-unread_said : (script : List ℕ) (unread : Unread) (said : SaidValue) (files : Files) → Ok said ≡ said_or_stopped unread → Gives {T = LinesValue} said_of (λ l. rest_of l files) (Err unread) (script_begun files script) → script_begun files script ≡ Err said
-unread_said script (Said other) said files is gives = gives ∙ ap Err (ok_same {E = OutsideErr} other said (sym is))
+unread_said : (script : List ℕ) (unread : Unread) (said : SaidValue) (files : Files) → Ok said ≡ said_or_stopped unread → Gives {T = LinesValue} said_of_unread (λ l. rest_of l files) (Err unread) (script_begun files script) → script_begun files script ≡ Err said
+unread_said script (Said other) said files is gives = gives ∙ ap Err (same_Ok {E = OutsideErr} other said (sym is))
 unread_said script Failed said files is gives = cc
 unread_said script NoMemory said files is gives = cc
 
 pub unread_ceremony : (script : List ℕ) (unread : Unread) (said : SaidValue) (held now : Option Files) (ledger : Option Ledger) (taken then_ : Option (List ℕ)) (answer : Result ℕ OutsideErr) → now ≡ held → Ok said ≡ said_or_stopped unread
-    → IfSome held (λ files. Gives {T = LinesValue} said_of (λ l. rest_of l files) (Err unread) (script_begun files script))
+    → IfSome held (λ files. Gives {T = LinesValue} said_of_unread (λ l. rest_of l files) (Err unread) (script_begun files script))
     → ((old : Stores) → EndsAll answer (closed said) (outside old taken) (outside old then_))
     → IfSome (ceremony_on held ledger script) (λ whole. EndsAll answer whole (outside (stores held ledger) taken) (outside (stores now ledger) then_))
 unread_ceremony script unread said None now ledger taken then_ answer same is gives ends = tt

@@ -1,8 +1,9 @@
 mod Taking
 mod Writing
 mod Turning
-mod Leading
+pub mod Leading
 pub mod Agreeing
+pub mod Each
 pub mod Following
 mod Running
 pub mod Whole

@@ -1,28 +1,29 @@
 -- What a script says is what its next line says, and what is left behind it.
 use Rattle.std.proofs.Common.{◌≡◌, ℕ, ◌+◌, ◌<◌, ◌≤◌, ◌==◌, nat_lt, true, false, List, [], ◌∷◌, length, take, drop, codes, Option, Some, None, IfSome, option_map, Result, Ok, Err, refl, ap, sym, ◌∙◌, arith, inl, inr, subst}
 use Rattle.std.specs.Prelude.{◌≢◌, ◌⊎◌}
-use Rattle.std.proofs.lemmas.Bool.{cases_lt}
-use Rattle.std.proofs.lemmas.Bool.Decides.{nat_tests}
-use Rattle.std.proofs.lemmas.List.{length-take-le, nil_from_length}
-use Rattle.std.specs.Str.{bytes_eq}
 use Rattle.std.specs.FinMap.{get}
+use Rattle.std.specs.Str.{bytes_eq}
+use Rattle.std.proofs.lemmas.Bool.Decides.{nat_tests}
+use Rattle.std.proofs.lemmas.Bool.{cases_lt}
+use Rattle.std.proofs.lemmas.List.{length-take-le, nil_from_length}
 use Rattle.vk_io.specs.Files.{Files}
+use Rattle.vk_lines.specs.declared.errors.ReadErr.{ReadErr}
 use Rattle.vk_lines.specs.declared.step.Step.{Step}
 use Rattle.vk_lines.specs.declared.step.Step.TheVariants.{Text, End, Long, Cut}
-use Rattle.vk_lines.specs.declared.errors.ReadErr.{ReadErr}
-use Rattle.vk_lines.specs.Gives as result
 use Rattle.vk_lines.specs.Gives.{Refuses}
+use Rattle.vk_lines.specs.Gives as result
 use Rattle.vk_lines.specs.Lines.{IsNext, LinesValue, Reads, ReadsPart, Rest, line_by, feed_at, rest_in, rest_of, step_of, text_at, text_by}
 use Rattle.vk_lines.specs.Tokens.{◌>>=◌, word_of}
 use Rattle.vk_lines.proofs.Parts.{ok_same}
 use Rattle.vk_lines.proofs.Pieces.{other_pieces, pieces_feed, pieces_none, text_tells}
 use Rattle.vk_lines.proofs.Words.{split_some}
-use Rattle.vk_effect.specs.Effects.{SaidValue}
-use Rattle.vk_auctioneer.specs.declared.inputs.Unread.{Unread}
-use Rattle.vk_effect.specs.NamedFiles.{malformed_said}
-use Rattle.vk_auctioneer.specs.Inputs.{begun_in, said_of, value_in}
 use Rattle.vk_words.specs.Orders.{HouseWords}
 use Rattle.vk_words.specs.Scripts.{line_words, script_words}
+use Rattle.vk_effect.specs.declared.reading.Unread.{Unread}
+use Rattle.vk_effect.specs.Effects.{SaidValue}
+use Rattle.vk_effect.specs.NamedFiles.{malformed_said}
+use Rattle.vk_effect.specs.Reading.{begun_in, said_of_unread, value_in}
+use Rattle.vk_effect.proofs.NamedFiles.{same_Err}
 use Rattle.vk_ceremony.specs.Scripts.{Order, behind_heading, closes, heading, line_then, order_line, over_at, over_from, pieces, script_at, script_begun, script_from, script_line}
 use Rattle.vk_ceremony.specs.Turns.{order_then, over_by}
 
@@ -177,24 +178,21 @@ over_told (Some files) old new step number fault count is next = over_stands fil
 
 -- ---- the first line
 
-err_same : {X E : Type 0} (x y : E) → ◌≡◌ {A = Result X E} (Err x) (Err y) → x ≡ y
-err_same x y same = cc
-
 -- where it isn't the heading, that is said of the script
 no_heading : (script : List ℕ) (said : Option SaidValue) (read : Result (Unit × Rest) ℕ) → Refuses said (value_in script read) → Refuses said (behind_heading script read)
 no_heading script None read is = tt
 no_heading script (Some said) (Ok read) is = cc
-no_heading script (Some said) (Err number) is = ap Err (err_same {X = Unit {0}} (malformed_said script number) said is)
+no_heading script (Some said) (Err number) is = ap Err (same_Err {T = Unit {0}} (malformed_said script number) said is)
 
 pub heading_refused : (script : List ℕ) (held now : Option Files) (before after : LinesValue) (read : Result Unit ReadErr) (refusal : Unread) → now ≡ held
     → IfSome held (λ files. begun_in script (get files script) ≡ Ok (rest_of before files))
     → ReadsPart (line_by (word_of heading)) now before after read
-    → ((rest : Rest) (expected : Result (Unit × Rest) ℕ) → Reads (λ x. x) read rest expected → Refuses (said_of refusal) (value_in script expected))
-    → IfSome held (λ files. Refuses (said_of refusal) (script_begun files script))
+    → ((rest : Rest) (expected : Result (Unit × Rest) ℕ) → Reads (λ x. x) read rest expected → Refuses (said_of_unread refusal) (value_in script expected))
+    → IfSome held (λ files. Refuses (said_of_unread refusal) (script_begun files script))
 unfolding script_begun
 heading_refused script None now before after read refusal same begun reads refuses = tt
 heading_refused script (Some files) now before after read refusal same begun reads refuses =
     let here : Reads (λ x. x) read (rest_of after files) (line_by (word_of heading) (rest_of before files)) =
     subst (λ left. ReadsPart (line_by (word_of heading)) left before after read) same reads in
-    let said = no_heading script (said_of refusal) (line_by (word_of heading) (rest_of before files)) (refuses (rest_of after files) (line_by (word_of heading) (rest_of before files)) here) in
-    subst (λ r. Refuses (said_of refusal) (result.◌>>=◌ r (λ file. behind_heading script (line_by (word_of heading) file)))) (sym begun) said
+    let said = no_heading script (said_of_unread refusal) (line_by (word_of heading) (rest_of before files)) (refuses (rest_of after files) (line_by (word_of heading) (rest_of before files)) here) in
+    subst (λ r. Refuses (said_of_unread refusal) (result.◌>>=◌ r (λ file. behind_heading script (line_by (word_of heading) file)))) (sym begun) said

@@ -1,9 +1,10 @@
 -- No command of a script writes the script.
 use Rattle.std.proofs.Common.{◌≡◌, ℕ, Bool, true, false, cond, not, if◌then◌else◌, List, [], ◌∷◌, Option, Some, None, IfSome, Result, Ok, Err, refl, sym, ap, subst, ◌∙◌}
 use Rattle.std.specs.Prelude.{unwrap_or}
-use Rattle.std.specs.Option.{option_map_or}
 use Rattle.std.specs.FinMap.{get, insert}
+use Rattle.std.specs.Option.{option_map_or}
 use Rattle.std.specs.Str.{bytes_eq}
+use Rattle.std.proofs.lemmas.Option.{same_Some}
 use Rattle.std.proofs.lemmas.Slice.Eq.{bytes_eq-Decides}
 use Rattle.vk_io.specs.Files.{Files, bytes_of}
 use Rattle.vk_io.specs.Writing.{written}
@@ -12,12 +13,12 @@ use Rattle.vk_lines.specs.Tokens.{◌>>=◌, meets}
 use Rattle.vk_reply.specs.declared.challenge.Challenge.{Challenge}
 use Rattle.vk_keeper.specs.Ledgers.{Ledger}
 use Rattle.vk_house.specs.Commands as house
-use Rattle.vk_house.specs.Steps.{house_step}
 use Rattle.vk_house.specs.Replies.{HouseReply, Done, Position, Work, Stands, Refused}
-use Rattle.vk_effect.specs.Effects.{Effect, SaidValue}
+use Rattle.vk_house.specs.Steps.{house_step}
 use Rattle.vk_words.specs.Commands.{house_words}
 use Rattle.vk_words.specs.Orders.{HouseWords, Announce, Submit, Prove, Answer, Show}
 use Rattle.vk_words.specs.Scripts.{leaves_name, script_words, written_name_of}
+use Rattle.vk_effect.specs.Effects.{Effect, SaidValue}
 use Rattle.vk_auctioneer.specs.Effects.{Writes, asked, board_file, house_effect, if_read, no_file, reply_file}
 use Rattle.vk_auctioneer.specs.Inputs.{challenge_in, row_in}
 
@@ -86,9 +87,6 @@ writes_leave files name only (file ∷ writes) all other =
 
 -- ---- a command of a script
 
-some_same : {X : Type 0} (x y : X) → Some x ≡ Some y → x ≡ y
-some_same x y same = cc
-
 not_true : (test : Bool) → not test ≡ true → test ≡ false
 not_true true is = cc
 not_true false is = refl
@@ -98,7 +96,7 @@ leaves_other name order None is leaves = tt
 leaves_other name order (Some other) is leaves = not_true (bytes_eq other name) leaves
 
 met_shows : (name : List ℕ) (other order : HouseWords) (test : Bool) → leaves_name name other ≡ test → (if test then Some other else None) ≡ Some order → leaves_name name order ≡ true
-met_shows name other order true is same = ap (leaves_name name) (sym (some_same other order same)) ∙ is
+met_shows name other order true is same = ap (leaves_name name) (sym (same_Some other order same)) ∙ is
 met_shows name other order false is same = cc
 
 meets_shows : (name : List ℕ) (found : Option HouseWords) (order : HouseWords) → (found >>= meets (leaves_name name)) ≡ Some order → leaves_name name order ≡ true

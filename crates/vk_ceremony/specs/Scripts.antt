@@ -7,11 +7,11 @@ use Rattle.vk_io.specs.Files.{Files}
 use Rattle.vk_lines.specs.Gives as result
 use Rattle.vk_lines.specs.Lines.{Rest, line_by}
 use Rattle.vk_lines.specs.Tokens.{◌>>=◌, word_of}
-use Rattle.vk_effect.specs.Effects.{SaidValue}
 use Rattle.vk_words.specs.Orders.{HouseWords}
 use Rattle.vk_words.specs.Scripts.{line_words, script_words}
+use Rattle.vk_effect.specs.Effects.{SaidValue}
 use Rattle.vk_effect.specs.NamedFiles.{malformed_said}
-use Rattle.vk_auctioneer.specs.Inputs.{begun_in}
+use Rattle.vk_effect.specs.Reading.{begun_in}
 
 -- the first line of a script
 abbrev pub heading : List ℕ

@@ -4,12 +4,12 @@ ghost use Rattle.std.specs.Prelude.{◌≡◌, ◌≤◌, ◌+◌, ◌^◌, ℕ,
 ghost use Rattle.vk_io.specs.Files.{Files};
 ghost use Rattle.vk_lines.specs.Gives.{Gives};
 ghost use Rattle.vk_lines.specs.Lines.{IsNext, KeepsFile, LinesValue, OnlyReads, Rest, rest_of, text_at};
-ghost use Rattle.vk_auctioneer.specs.Inputs.{said_of};
+ghost use Rattle.vk_effect.specs.Reading.{said_of_unread};
 ghost use Rattle.vk_ceremony.specs.Scripts.{over_at, script_begun};
 ghost use Rattle.vk_ceremony.specs.Turns.{IsWords, Stands, over_by};
 
 use std::alloc::Global;
-use vk_auctioneer::{Unread, begin, value};
+use vk_effect::{Unread, begin_named, named_value};
 use vk_io::{OutsideErr, Shelf};
 use vk_lines::{Lines, Step};
 use vk_residue::NoMemory;
@@ -29,13 +29,13 @@ pub enum Line {
 /// Begins the script of that name, and reads its first line.
 #[tactic(auto, unfolding(crate::specs::Scripts::script_begun))]
 pub fn begin_script<S: Shelf>(alloc: Global, shelf: &mut S, script: &str) -> Result<Lines, Unread>
-    ensures told { IfSome (S.held shelf.old) (λ files. Gives said_of (λ lines. rest_of lines files) result (script_begun files script.now)) }
+    ensures told { IfSome (S.held shelf.old) (λ files. Gives said_of_unread (λ lines. rest_of lines files) result (script_begun files script.now)) }
     ensures name { IfOk result (λ lines. lines.name ≡ script.now) }
     ensures shelf { OnlyReads S.held S.Shelf.faults Unread.Failed result shelf.old shelf.new }
 {
-    let mut lines = begin(alloc, shelf, script)?;
+    let mut lines = begin_named(alloc, shelf, script)?;
     let heading = lines.read_fixed(shelf, b"vickrey-script 1");
-    value(alloc, script, heading)?;
+    named_value(alloc, script, heading)?;
     Ok(lines)
 }
 

@@ -1,11 +1,19 @@
 -- How a command ends, from what its parts did.
-use Rattle.std.proofs.Common.{◌≡◌, ℕ, List, Option, Some, None, Result, Ok, Err, refl, ap, subst, ◌∙◌, inl, inr}
+use Rattle.std.proofs.Common.{◌≡◌, ℕ, List, ◌++◌, Option, Some, None, Result, Ok, Err, refl, ap, subst, ◌∙◌, inl, inr}
 use Rattle.std.specs.Prelude.{option_map, IfSome, IfOk}
 use Rattle.vk_io.specs.Files.{Files, Told, Takes}
 use Rattle.vk_io.specs.declared.errors.OutsideErr.{OutsideErr}
 use Rattle.vk_keeper.specs.Ledgers.{Ledger}
-use Rattle.vk_effect.specs.Effects.{Effect, SaidValue, Stores, outside, puts, says, stores}
+use Rattle.vk_effect.specs.Effects.{Effect, SaidValue, Stores, outside, says, stores}
 use Rattle.vk_effect.specs.Ends.{Acts, Ends, TakesPrefix}
+
+-- ---- what is told
+
+-- where it is told before and after, what is left is what the change makes of it
+pub told_map : {X : Type 0} (f : X → X) (old new : Option X) → Told (λ before after. after ≡ f before) old new → new ≡ option_map f old
+told_map f None new told = told
+told_map f (Some before) None told = absurd told
+told_map f (Some before) (Some after) told = ap Some told
 
 -- ---- all but the printing
 
@@ -40,11 +48,6 @@ stopped_printing effect old new taken now said text refusal stop text_is acts to
       }),
     )
 
-taken_told : (E : Type 0) (text : List ℕ) (taken now : Option (List ℕ)) → Told (Takes {E = E} text (Ok tt)) taken now → now ≡ puts text taken
-taken_told E text None now told = told
-taken_told E text (Some before) None told = absurd told
-taken_told E text (Some before) (Some taken) told = ap Some told
-
 -- it came to its end
 pub done_at_end : (E : Type 0) (effect : Effect) (old new : Stores) (taken now : Option (List ℕ)) (said : SaidValue) (text : List ℕ) (status : ℕ) → text ≡ said.text → status ≡ said.status → Acts (Ok said) effect old new → Told (Takes {E = E} text (Ok tt)) taken now
     → Ends (Ok status) effect (outside old taken) (outside new now)
@@ -52,7 +55,7 @@ done_at_end E effect old new taken now said text status text_is status_is acts t
   status_is = status_is ∙ ap (λ (s : SaidValue). s.status) acts.0;
   files_are = ap (λ (left : Stores). left.files) acts.1;
   ledger_is = ap (λ (left : Stores). left.ledger) acts.1;
-  taken_is = taken_told E effect.text taken now (subst (λ t. Told (Takes {E = E} t (Ok tt)) taken now) (text_is ∙ ap (λ (s : SaidValue). s.text) acts.0) told);
+  taken_is = told_map (λ before. before ++ effect.text) taken now (subst (λ t. Told (Takes {E = E} t (Ok tt)) taken now) (text_is ∙ ap (λ (s : SaidValue). s.text) acts.0) told);
 }
 
 -- ---- effects that are told

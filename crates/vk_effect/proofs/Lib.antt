@@ -1,3 +1,4 @@
 pub mod PrintingLemmas
 pub mod Acting
 pub mod Sequences
+pub mod NamedFiles

@@ -1,6 +1,7 @@
 pub mod Texts
 pub mod Effects
 pub mod NamedFiles
+pub mod Reading
 pub mod Dry
 pub mod Ends
 pub mod Sequences

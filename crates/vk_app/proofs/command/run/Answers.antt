@@ -1,45 +1,40 @@
-use Rattle.std.proofs.Common.{map, refl, string_bytes, inl, inr}
+use Rattle.std.proofs.Common.{ℕ, List, Option, IfSome, map, refl, string_bytes, inl, inr}
+use Rattle.vk_io.specs.Files.{Files}
 use Rattle.vk_io.specs.declared.errors.OutsideErr.TheVariants.{Failed, NoMemory}
+use Rattle.vk_keeper.specs.Ledgers.{Ledger}
 use Rattle.vk_effect.specs.Effects.{Outside, outside, stores}
+use Rattle.vk_app.specs.Commands.{DoesWork, work_on}
 use Rattle.vk_app.proofs.Audited.{told_audits, told_headline}
 use Rattle.vk_app.proofs.Kept.{told_ceremony, told_house, told_seal, told_usage, unended_house}
 use Rattle.vk_app.proofs.command.run.Given.{Over}
 use Rattle.vk_app.proofs.command.run.Goals.{In-Ok}
 use Rattle.vk_app.proofs.command.run.Goals as goal
 
--- what is outside afterwards
-abbrev after : (g : Over) (c : In-Ok g) → Outside
-after g c = outside (stores (g.S.Shelf.held c.perform.new.shelf) (g.K.Keeper.ledger c.perform.new.keeper)) (g.W.Sink.taken c.perform.new.out)
+-- what follows from how the work ended
+by_end : {P : Option Files → Option Ledger → List (List ℕ) → ℕ → Option (List ℕ) → Outside → Type 0} (g : Over) (c : In-Ok g)
+    → ((held : Option Files) (ledger : Option Ledger) (words : List (List ℕ)) (status : ℕ) (old : Option (List ℕ)) (new : Outside)
+    → IfSome (work_on held ledger words) (λ work. DoesWork status work (outside (stores held ledger) old) new) → P held ledger words status old new)
+    → P (g.S.Shelf.held c.args.shelf.now) (g.K.Keeper.ledger c.args.keeper.now) (map string_bytes c.args.words.now) c.in-Ok.status (g.W.Sink.taken c.args.out.now)
+    (outside (stores (g.S.Shelf.held c.perform.new.shelf) (g.K.Keeper.ledger c.perform.new.keeper)) (g.W.Sink.taken c.perform.new.out))
+by_end g c follows = follows _ _ _ _ _ _ c.in-Ok.ensures.ends
 
 pub returns-in-Ok-clause-headline : goal.returns-in-Ok-clause-headline
-returns-in-Ok-clause-headline g c =
-    told_headline (g.S.Shelf.held c.args.shelf.now) (g.K.Keeper.ledger c.args.keeper.now) (map string_bytes c.args.words.now) c.in-Ok.status (g.W.Sink.taken c.args.out.now)
-    (after g (goal.at.returns-in-Ok-clause-headline g c).In-Ok) c.in-Ok.ensures.ends
+returns-in-Ok-clause-headline g c = by_end g (goal.at.returns-in-Ok-clause-headline g c).In-Ok told_headline
 
 pub returns-in-Ok-clause-audits : goal.returns-in-Ok-clause-audits
-returns-in-Ok-clause-audits g c =
-    told_audits (g.S.Shelf.held c.args.shelf.now) (g.K.Keeper.ledger c.args.keeper.now) (map string_bytes c.args.words.now) c.in-Ok.status (g.W.Sink.taken c.args.out.now)
-    (after g (goal.at.returns-in-Ok-clause-audits g c).In-Ok) c.in-Ok.ensures.ends
+returns-in-Ok-clause-audits g c = by_end g (goal.at.returns-in-Ok-clause-audits g c).In-Ok told_audits
 
 pub returns-in-Ok-clause-seals : goal.returns-in-Ok-clause-seals
-returns-in-Ok-clause-seals g c =
-    told_seal (g.S.Shelf.held c.args.shelf.now) (g.K.Keeper.ledger c.args.keeper.now) (map string_bytes c.args.words.now) c.in-Ok.status (g.W.Sink.taken c.args.out.now)
-    (after g (goal.at.returns-in-Ok-clause-seals g c).In-Ok) c.in-Ok.ensures.ends
+returns-in-Ok-clause-seals g c = by_end g (goal.at.returns-in-Ok-clause-seals g c).In-Ok told_seal
 
 pub returns-in-Ok-clause-house : goal.returns-in-Ok-clause-house
-returns-in-Ok-clause-house g c =
-    told_house (g.S.Shelf.held c.args.shelf.now) (g.K.Keeper.ledger c.args.keeper.now) (map string_bytes c.args.words.now) c.in-Ok.status (g.W.Sink.taken c.args.out.now)
-    (after g (goal.at.returns-in-Ok-clause-house g c).In-Ok) c.in-Ok.ensures.ends
+returns-in-Ok-clause-house g c = by_end g (goal.at.returns-in-Ok-clause-house g c).In-Ok told_house
 
 pub returns-in-Ok-clause-ceremony : goal.returns-in-Ok-clause-ceremony
-returns-in-Ok-clause-ceremony g c =
-    told_ceremony (g.S.Shelf.held c.args.shelf.now) (g.K.Keeper.ledger c.args.keeper.now) (map string_bytes c.args.words.now) c.in-Ok.status (g.W.Sink.taken c.args.out.now)
-    (after g (goal.at.returns-in-Ok-clause-ceremony g c).In-Ok) c.in-Ok.ensures.ends
+returns-in-Ok-clause-ceremony g c = by_end g (goal.at.returns-in-Ok-clause-ceremony g c).In-Ok told_ceremony
 
 pub returns-in-Ok-clause-usage : goal.returns-in-Ok-clause-usage
-returns-in-Ok-clause-usage g c =
-    told_usage (g.S.Shelf.held c.args.shelf.now) (g.K.Keeper.ledger c.args.keeper.now) (map string_bytes c.args.words.now) c.in-Ok.status (g.W.Sink.taken c.args.out.now)
-    (after g (goal.at.returns-in-Ok-clause-usage g c).In-Ok) c.in-Ok.ensures.ends
+returns-in-Ok-clause-usage g c = by_end g (goal.at.returns-in-Ok-clause-usage g c).In-Ok told_usage
 
 pub returns-in-Err-Failed-clause-house : goal.returns-in-Err-Failed-clause-house
 returns-in-Err-Failed-clause-house g c =

@@ -1,0 +1,151 @@
+//! The files that a command is given by name.
+
+ghost use Rattle.std.specs.Prelude.{◌≡◌, ℕ, Err, IfOk, IfSome, Ok, Result};
+ghost use Rattle.std.specs.FinMap as map;
+ghost use Rattle.vk_io.specs.Faults.{Causes};
+ghost use Rattle.vk_io.specs.Files.{Files};
+ghost use Rattle.vk_io.specs.Reads.{OnlyReads};
+ghost use Rattle.vk_lines.specs.Gives.{Gives};
+ghost use Rattle.vk_lines.specs.Lines.{IsBefore, Reads, Rest, Starts, rest_of};
+ghost use Rattle.vk_effect.specs.Effects.{SaidValue};
+ghost use Rattle.vk_effect.specs.Reading.{begun_in, said_of_unread, said_or_stopped, value_in};
+
+use crate::named::{malformed, missing, too_long};
+use crate::said::Said;
+use std::alloc::Global;
+use vk_io::{OutsideErr, Shelf};
+use vk_lines::{Lines, ReadErr, StartErr};
+use vk_residue::NoMemory;
+
+/// Why a file was not read.
+#[derive(Drop)]
+pub enum Unread {
+    /// It isn't held, is too long or isn't of its form, and this is said of it.
+    Said(Said),
+    /// The outside failed. The shelf's count of faults rose in this call.
+    Failed,
+    /// Want of memory.
+    NoMemory,
+}
+
+impl From<NoMemory> for Unread {
+    ghost use Rattle.std.specs.Prelude.{◌≡◌};
+    ghost use Rattle.vk_effect.specs.declared.reading.Unread.TheVariants.{NoMemory as OutOfMemory};
+
+    ghost from_gives = { λ _ e. e ≡ OutOfMemory };
+
+    fn from(_refused: NoMemory) -> Unread {
+        Unread::NoMemory
+    }
+}
+
+impl Unread {
+    /// What the command then says, or why it is stopped.
+    pub fn said_or_stopped(self) -> Result<Said, OutsideErr>
+        ensures { result ≡ said_or_stopped self }
+    {
+        match self {
+            Unread::Said(said) => Ok(said),
+            Unread::Failed => Err(OutsideErr::Failed),
+            Unread::NoMemory => Err(OutsideErr::NoMemory),
+        }
+    }
+}
+
+/// Begins to read the named file.
+pub fn begin_named<S: Shelf>(alloc: Global, shelf: &mut S, name: &str) -> Result<Lines, Unread>
+    ensures told { IfSome (S.held shelf.old) (λ files.
+        Gives said_of_unread (λ lines. rest_of lines files) result (begun_in name.now (map.get files name.now))) }
+    ensures before { IfOk result (IsBefore name.now) }
+    ensures shelf { OnlyReads S.held S.Shelf.faults Unread.Failed result shelf.old shelf.new }
+{
+    let started = Lines::start(alloc, shelf, name);
+    let lines = begun(alloc, name, started);
+    lines
+}
+
+/// The named file from its first line on, or why it was not begun.
+fn begun(alloc: Global, name: &str, started: Result<Lines, StartErr>) -> Result<Lines, Unread>
+    requires { IfOk started (IsBefore name.now) }
+    ensures told { (files : Files) → Starts files name.now started
+        → Gives said_of_unread (λ lines. rest_of lines files) result (begun_in name.now (map.get files name.now)) }
+    ensures before { IfOk result (IsBefore name.now) }
+    ensures causes { (before after : ℕ) → Causes StartErr.Failed started before after → Causes Unread.Failed result before after }
+{
+    match started {
+        Ok(lines) => Ok(lines),
+        Err(StartErr::Missing) => {
+            let said = missing(alloc, name)?;
+            Err(Unread::Said(said))
+        }
+        Err(StartErr::TooLong) => {
+            let said = too_long(alloc, name)?;
+            Err(Unread::Said(said))
+        }
+        Err(StartErr::Failed) => Err(Unread::Failed),
+        Err(StartErr::NoMemory) => Err(Unread::NoMemory),
+    }
+}
+
+/// What the named file was read as, or why it was not read.
+pub fn named_value<X>(alloc: Global, name: &str, read: Result<X, ReadErr>) -> Result<X, Unread>
+    ensures told { (rest : Rest) (expected : Result (X × Rest) ℕ) → Reads (λ x. x) read rest expected
+        → Gives said_of_unread (λ x. x) result (value_in name.now expected) }
+    ensures same { IfOk result (λ value. read ≡ Ok value) }
+    ensures causes { (before after : ℕ) → Causes ReadErr.Failed read before after → Causes Unread.Failed result before after }
+{
+    match read {
+        Ok(value) => Ok(value),
+        Err(ReadErr::Malformed { line }) => {
+            let said = malformed(alloc, name, line)?;
+            Err(Unread::Said(said))
+        }
+        Err(ReadErr::Failed) => Err(Unread::Failed),
+        Err(ReadErr::NoMemory) => Err(Unread::NoMemory),
+    }
+}
+
+/// A form of file that is read whole.
+pub trait FileForm {
+    ghost use Rattle.std.specs.Prelude.{ℕ, IfOk, Result};
+    ghost use Rattle.vk_io.specs.Reads.{OnlyReads};
+    ghost use Rattle.vk_lines.specs.Lines.{ReadsPart, Rest};
+
+    /// What such a file says.
+    type Value: Drop;
+
+    /// The value that what is left of a file is read as, with what is left behind it; or the fault line.
+    ghost value_at: { Self → Rest → Result (Self.Value × Rest) ℕ };
+
+    /// What is true of all that is read.
+    ghost is_value: { Self → Self.Value → Type 0 };
+
+    /// Reads a file whole. Malformed carries the number of the first line that isn't what its place demands.
+    fn read<S: Shelf>(
+        &self,
+        alloc: Global,
+        shelf: &mut S,
+        lines: &mut Lines,
+    ) -> Result<Self::Value, ReadErr>
+        ensures told { ReadsPart (value_at self.now) (S.held shelf.old) lines.old lines.new result }
+        ensures right { IfOk result (is_value self.now) }
+        ensures shelf { OnlyReads S.held S.Shelf.faults ReadErr.Failed result shelf.old shelf.new };
+}
+
+/// Reads the named file, which was begun, whole in that form.
+pub fn read_named<S: Shelf, F: FileForm>(
+    alloc: Global,
+    shelf: &mut S,
+    name: &str,
+    lines: &mut Lines,
+    form: &F,
+) -> Result<F::Value, Unread>
+    ensures told { IfSome (S.held shelf.old) (λ files.
+        Gives said_of_unread (λ x. x) result (value_in name.now (F.value_at form.now (rest_of lines.old files)))) }
+    ensures right { IfOk result (F.is_value form.now) }
+    ensures shelf { OnlyReads S.held S.Shelf.faults Unread.Failed result shelf.old shelf.new }
+{
+    let read = form.read(alloc, shelf, lines);
+    let value = named_value(alloc, name, read);
+    value
+}
