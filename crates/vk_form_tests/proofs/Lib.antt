@@ -1,0 +1,4 @@
+pub mod Totals
+pub mod Forms
+pub mod Faults
+pub mod Opening

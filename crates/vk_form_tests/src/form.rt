@@ -1,0 +1,44 @@
+// The head of a sum file.
+ghost use Rattle.std.specs.Prelude.{◌≡◌, IfOk};
+ghost use Rattle.vk_lines.specs.Lines.{KeepsFile, OnlyReads, ReadsPart};
+ghost use Rattle.vk_form_tests.specs.Forms.{IsSumHead, sum_head_at, sum_head_text};
+
+use std::alloc::Global;
+use vk_io::Shelf;
+use vk_lines::{Lines, ReadErr, push_hex_line, push_line, push_number_line};
+use vk_residue::NoMemory;
+
+/// What a sum file says before its first seal.
+#[derive(Clone, Copy, Debug, PartialEq, Eq)]
+pub struct SumHead {
+    pub auction: [u8; 16],
+    /// What the three sealed numbers come to, at most 21.
+    pub total: u64,
+}
+
+/// Reads the head of a sum file, its first three lines. Malformed carries the number of the first line
+/// that isn't what its place demands.
+#[tactic(auto, unfolding(crate::specs::Forms::sum_head_at))]
+pub fn read_head<S: Shelf>(shelf: &mut S, lines: &mut Lines) -> Result<SumHead, ReadErr>
+    ensures told { ReadsPart sum_head_at (S.held shelf.old) lines.old lines.new result }
+    ensures right { IfOk result IsSumHead }
+    ensures file { KeepsFile lines.old lines.new }
+    ensures shelf { OnlyReads S.held S.Shelf.faults ReadErr.Failed result shelf.old shelf.new }
+{
+    lines.read_fixed(shelf, b"sum-file 1")?;
+    let auction = lines.read_id(shelf, b"auction")?;
+    let total = lines.read_number(shelf, b"sum", 0, 21)?;
+    Ok(SumHead { auction, total })
+}
+
+/// The text of a sum file's head.
+#[tactic(auto, unfolding(crate::specs::Forms::sum_head_text))]
+pub fn head_text(alloc: Global, head: &SumHead) -> Result<Vec<u8>, NoMemory>
+    ensures { IfOk result (λ text. text.items ≡ sum_head_text head.now) }
+{
+    let mut text = Vec::new(alloc);
+    push_line(&mut text, b"sum-file 1")?;
+    push_hex_line(&mut text, b"auction", &head.auction)?;
+    push_number_line(&mut text, b"sum", head.total)?;
+    Ok(text)
+}
