@@ -1,5 +1,5 @@
 #!/usr/bin/env python3
-"""figures.py PROGRAM [--check]: draws the figures of docs/METHOD.md from one worked auction, and that of docs/ARCHITECTURE.md.
+"""figures.py PROGRAM [--check]: draws the figures of docs/METHOD.md from one worked auction, and those of docs/ARCHITECTURE.md.
 
 The program makes the auction's files and the replies to the two challenges 01 and 10, accepts both, and extracts the bids;
 every number in the figures of the method comes from these files. With --check nothing is written, and it is an error if a figure that
@@ -259,7 +259,7 @@ def crates(_auction):
         "words": (20, 80, 230, 44, "words and effects", "vk_words, vk_effect"),
         "forms": (20, 250, 230, 62, "forms of files", "vk_board, vk_reply,|vk_seal"),
         "lines": (20, 345, 230, 44, "lines and tokens", "vk_lines"),
-        "files": (20, 420, 230, 44, "files and output", "vk_io"),
+        "files": (20, 420, 230, 44, "files and output", "vk_io, vk_files"),
         "bids": (270, 160, 240, 62, "two replies; reports", "vk_bids, vk_extractor,|vk_report"),
         "verdict": (270, 255, 240, 44, "verdict", "vk_verifier"),
         "lane": (270, 330, 115, 44, "lane", "vk_row"),
@@ -281,8 +281,34 @@ def crates(_auction):
         middle = min(max(lower[0] + lower[2] / 2, upper[0] + 10), upper[0] + upper[2] - 10)
         figure.arrow((middle, upper[1] + upper[3]), (middle, lower[1]))
     figure.arrow((270, 277), (250, 277))
-    figure.arrow((545, 314), (545, 360), (510, 360))
+    figure.arrow((270, 102), (250, 102))
+    figure.arrow((20, 102), (10, 102), (10, 367), (20, 367))
+    figure.arrow((545, 314), (545, 400), (520, 400), (520, 442), (510, 442))
     figure.arrow((270, 518), (250, 518))
+    return figure
+
+
+def machine(_auction):
+    """What is judged behind a front, for every form of file. It has no number of the auction."""
+    figure = Figure("One machine for whatever is sealed in lanes", 780, 400)
+    figure.text(20, 30, "each form of file has its own", "s")
+    figure.text(300, 30, "the same for all", "s")
+    figure.text(560, 30, "what comes of it", "s")
+    figure.box(20, 44, 220, 62, [("a board’s front", "b"), "head, price, winner", ("vk_board", "n")])
+    figure.box(20, 126, 220, 44, [("another form’s front", "s"), ("its head, its circuit", "s")], "shut")
+    figure.box(300, 44, 220, 80, [("a statement", "b"), "auction, lanes,", "seals, circuit", ("Statement", "n")], "open")
+    figure.box(300, 152, 220, 62, [("lanes, one at a time", "b"), "a challenge and a reply", ("judge_behind", "n")], "open")
+    figure.box(300, 234, 220, 62, [("two replies side by side", "b"), "each lane once for each", ("LaneChecker", "n")], "open")
+    figure.box(300, 316, 220, 62, [("what two replies open", "b"), "of lanes whose bits differ", ("extract_lanes", "n")], "open")
+    figure.box(560, 152, 200, 62, [("accepted, or a fault", "b"), "a board’s verdict", ("verdict", "n")])
+    figure.box(560, 234, 200, 62, [("both, or whose fault", "b"), "a board’s finding", ("TwoChecker", "n")])
+    figure.box(560, 316, 200, 62, [("values, or a clash", "b"), "a board’s outcome", ("extract", "n")])
+    figure.arrow((240, 75), (300, 75))
+    figure.arrow((240, 148), (270, 148), (270, 105), (300, 105))
+    for top, low in ((124, 152), (214, 234), (296, 316)):
+        figure.arrow((410, top), (410, low))
+    for y in (183, 265, 347):
+        figure.arrow((520, y), (560, y))
     return figure
 
 
@@ -291,7 +317,7 @@ def main(words):
         sys.exit(__doc__)
     with tempfile.TemporaryDirectory() as top:
         auction = Auction(os.path.abspath(words[0]), top)
-    for draw in (halves, lane, pair, circuit, two_replies, crates):
+    for draw in (halves, lane, pair, circuit, two_replies, crates, machine):
         path = os.path.join(HERE, draw.__name__.replace("_", "-") + ".svg")
         drawn = draw(auction).svg()
         assert len(drawn) < 20000
