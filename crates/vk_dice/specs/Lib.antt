@@ -1,3 +1,4 @@
 pub mod Words
 pub mod Draws
 pub mod Stream
+pub mod Many

@@ -67,7 +67,7 @@ pub fn extract_lane(
     match first_clash(plan, case, zero, one) {
         Some(two) => Err(LaneErr::Clash(two)),
         None => {
-            let values = values_of(alloc, plan, case, zero, one)?;
+            let values = values_of(alloc, plan, zero, one)?;
             Ok(values)
         }
     }

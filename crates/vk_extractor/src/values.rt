@@ -1,29 +1,28 @@
 // The values of the wires of a lane.
-ghost use Rattle.std.specs.Prelude.{◌≡◌, ◌<◌, IfOk, false, true, length, slice_index_or};
+ghost use Rattle.std.specs.Prelude.{◌≡◌, ◌<◌, IfOk, length, slice_index_or};
 ghost use Rattle.vk_plan.specs.Plans.{IsPlan};
 ghost use Rattle.vk_plan.specs.declared.wire.WireKind.TheVariants.{Split};
-ghost use Rattle.vk_row.specs.Lanes.{IsAccepted, nothing_shown};
+ghost use Rattle.vk_row.specs.declared.case.LaneCase.{LaneCase};
+ghost use Rattle.vk_row.specs.Lanes.{nothing_shown};
 ghost use Rattle.vk_extractor.specs.Sums.{AreSums};
 ghost use Rattle.vk_extractor.specs.Values.{wire_value};
 
 use std::alloc::Global;
 use vk_plan::{Plan, WireKind};
 use vk_residue::{NoMemory, Residue};
-use vk_row::LaneCase;
 use vk_wire::Shown;
 
-/// The sum of the two halves of each wire.
+/// The sum of the two halves of each wire, in whatever lane of the plan they were accepted.
 pub(crate) fn values_of(
     alloc: Global,
     plan: &Plan,
-    case: &LaneCase,
     zero: &[Shown],
     one: &[Shown],
 ) -> Result<Vec<Residue>, NoMemory>
-    requires zero { IsAccepted plan.now case.now false zero.now }
-    requires one { IsAccepted plan.now case.now true one.now }
+    requires zero { length zero.now ≡ length plan.now.kinds }
+    requires one { length one.now ≡ length plan.now.kinds }
     ensures plan { IsPlan plan.now }
-    ensures sums { IfOk result (λ values. AreSums plan.now case.now zero.now one.now values.items) }
+    ensures sums { IfOk result (λ values. (case : LaneCase) → AreSums plan.now case zero.now one.now values.items) }
 {
     let wires = plan.wires();
     let mut values = Vec::with_capacity(alloc, wires as usize)?;

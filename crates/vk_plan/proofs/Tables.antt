@@ -7,9 +7,10 @@ use Rattle.std.proofs.lemmas.List.Elements.{All-append, All-head, All-tail}
 use Rattle.vk_residue.specs.Residue.{sum, product}
 use Rattle.vk_plan.specs.declared.form.Term.{Term}
 use Rattle.vk_plan.specs.declared.form.Form.{Form}
+use Rattle.vk_plan.specs.declared.flat.Flat.{Flat}
 use Rattle.vk_plan.specs.Forms.{linear_part, NamesBelow, no_row}
 use Rattle.vk_plan.specs.FormLaws.{linear_part_more}
-use Rattle.vk_plan.specs.Tables.{terms_of, terms_between, rows_from, start_from, IsFlat}
+use Rattle.vk_plan.specs.Tables.{terms_of, terms_between, rows_from, start_from, IsFlat, AreFlat, flat_rows}
 
 -- a piece of the first list stays where another list follows
 piece_stays : (start end : ℕ) (xs ys : List ℕ) → start ≤ length xs → end ≤ length xs
@@ -136,6 +137,25 @@ rows_pushed wires factors start (e ∷ es) (c ∷ cs) row end same counts begin 
     rw (piece_stays start e wires (map (λ term. term.wire) row.terms) begin e_within)
     (rw (piece_stays start e factors (map (λ term. term.factor) row.terms) (omega (arith, begin, same)) (omega (arith, e_within, same)))
     (ap (λ more. record { terms = terms_between wires factors start e; constant = c } ∷ more) others))
+
+-- the same of a table to which the row's terms, its end and its constant were added in turn
+pub row_pushed : (old mid : Flat) (row : Form) (terms : List Term) (end : ℕ) (ends constants : List ℕ) → AreFlat old → terms ≡ row.terms
+    → mid.wires.items ≡ old.wires.items ++ map (λ term. term.wire) terms → mid.factors.items ≡ old.factors.items ++ map (λ term. term.factor) terms
+    → mid.ends ≡ old.ends → mid.constants ≡ old.constants → end ≡ length mid.wires.items → ends ≡ mid.ends.items ++ end ∷ [] → constants ≡ mid.constants.items ++ row.constant ∷ []
+    → IsFlat mid.wires.items mid.factors.items ends constants × (rows_from mid.wires.items mid.factors.items 0 ends constants ≡ flat_rows old ++ row ∷ [])
+row_pushed old mid row terms end ends constants flat whole wires factors same_ends same_constants at_end ends_are constants_are =
+    let wires_of = λ (terms : List Term). map (λ (term : Term). term.wire) terms in
+    let factors_of = λ (terms : List Term). map (λ (term : Term). term.factor) terms in
+    let counts = length-map row.terms (λ (term : Term). term.wire) in
+    let added : mid.wires.items ≡ old.wires.items ++ wires_of row.terms = wires ∙ ap (λ ts. old.wires.items ++ wires_of ts) whole in
+    let last : end ≡ length (old.wires.items ++ wires_of row.terms) = at_end ∙ ap length added in
+    let long : end ≡ length old.wires.items + length row.terms = omega (arith, last, counts, length-append old.wires.items (wires_of row.terms)) in
+    rw (ends_are, constants_are, added, factors, same_ends, same_constants, whole) (
+      flat_pushed old.wires.items old.factors.items old.ends.items old.constants.items (wires_of row.terms) (factors_of row.terms) end row.constant flat
+          (length-map row.terms (λ (term : Term). term.factor) ∙ sym counts) last,
+      rows_pushed old.wires.items old.factors.items 0 old.ends.items old.constants.items row end flat.one_factor_each flat.one_constant_each
+          (omega arith) flat.within flat.whole long,
+    )
 
 -- the terms between two places
 between_length : (wires factors : List ℕ) (start end : ℕ) → length factors ≡ length wires → end ≤ length wires

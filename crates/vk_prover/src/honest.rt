@@ -29,7 +29,14 @@ pub fn make_lane(
     ensures { IfOk result
         (λ lines. lines ≡ honest_lane plan.now auction.now lane values.now tape.now.wires) }
 {
-    let coms = commit_wires(alloc, plan, auction, lane, values, tape)?;
+    let wires = LaneWires {
+        plan,
+        auction,
+        lane,
+        values,
+        tape,
+    };
+    let coms = commit_wires(alloc, &wires)?;
     let firsts = first_halves(alloc, tape)?;
     let posted = post_rows(alloc, plan, firsts.as_slice())?;
     Ok(LaneLines { coms, posted })
@@ -55,63 +62,61 @@ pub fn answer_lane(
     Ok(shown)
 }
 
-/// The commitments to each wire after the inputs.
-fn commit_wires(
-    alloc: Global,
-    plan: &Plan,
-    auction: &[u8; 16],
+/// The wires of a lane, to be made: its plan, auction and number, and the values and secret choices of all
+/// its wires.
+#[derive(Clone, Copy)]
+struct LaneWires<'a> {
+    plan: &'a Plan,
+    auction: &'a [u8; 16],
     lane: u16,
-    values: &[Residue],
-    tape: &LaneTape,
-) -> Result<Seq<WireCom>, NoMemory>
-    requires holds { Holds plan.now values.now }
-    requires one_each { length tape.now.wires ≡ length plan.now.kinds }
+    values: &'a [Residue],
+    tape: &'a LaneTape,
+}
+
+/// The commitments to each wire after the inputs.
+fn commit_wires(alloc: Global, wires: &LaneWires) -> Result<Seq<WireCom>, NoMemory>
+    requires holds { Holds wires.now.plan.now wires.now.values.now }
+    requires one_each { length wires.now.tape.now.wires ≡ length wires.now.plan.now.kinds }
     ensures { IfOk result
-        (λ coms. coms ≡ each_wire (com_of auction.now lane []) plan.now.inputs (drop plan.now.inputs plan.now.kinds)
-        (drop plan.now.inputs values.now) (drop plan.now.inputs tape.now.wires)) }
+        (λ coms. coms ≡ each_wire (com_of wires.now.auction.now wires.now.lane []) wires.now.plan.now.inputs
+        (drop wires.now.plan.now.inputs wires.now.plan.now.kinds)
+        (drop wires.now.plan.now.inputs wires.now.values.now) (drop wires.now.plan.now.inputs wires.now.tape.now.wires)) }
 {
-    let inputs = plan.inputs();
-    let count = plan.wires() - inputs;
+    let inputs = wires.plan.inputs();
+    let count = wires.plan.wires() - inputs;
     let mut coms = Seq::new(alloc);
     for two in 0..count / 2 {
         let wire = inputs + 2 * two;
-        let first = honest_wire(plan, auction, lane, values, tape, wire);
-        let second = honest_wire(plan, auction, lane, values, tape, wire + 1);
+        let first = honest_wire(wires, wire);
+        let second = honest_wire(wires, wire + 1);
         let (first, second) = make_two(&first, &second);
         coms.push(first)?;
         coms.push(second)?;
     }
     if count % 2 == 1 {
-        let last = honest_wire(plan, auction, lane, values, tape, plan.wires() - 1);
+        let last = honest_wire(wires, wires.plan.wires() - 1);
         coms.push(make(last.kind, &last.place, last.value, &last.tape))?;
     }
     Ok(coms)
 }
 
 /// One wire after the inputs, to be made.
-fn honest_wire(
-    plan: &Plan,
-    auction: &[u8; 16],
-    lane: u16,
-    values: &[Residue],
-    tape: &LaneTape,
-    wire: u32,
-) -> HonestWire
-    requires holds { Holds plan.now values.now }
-    requires one_each { length tape.now.wires ≡ length plan.now.kinds }
-    requires wire { wire < length plan.now.kinds }
-    requires few { length plan.now.kinds ≤ 16777216 }
+fn honest_wire(wires: &LaneWires, wire: u32) -> HonestWire
+    requires holds { Holds wires.now.plan.now wires.now.values.now }
+    requires one_each { length wires.now.tape.now.wires ≡ length wires.now.plan.now.kinds }
+    requires wire { wire < length wires.now.plan.now.kinds }
+    requires few { length wires.now.plan.now.kinds ≤ 16777216 }
     ensures can { CanBeMade result }
     ensures coms { made_com result.kind result.place result.value result.tape
-        ≡ com_of auction.now lane [] wire (slice_index_or plan.now.kinds wire Split)
-        (slice_index values.now wire) (slice_index_or tape.now.wires wire no_tape) }
+        ≡ com_of wires.now.auction.now wires.now.lane [] wire (slice_index_or wires.now.plan.now.kinds wire Split)
+        (slice_index wires.now.values.now wire) (slice_index_or wires.now.tape.now.wires wire no_tape) }
 {
     let at = wire as usize;
     HonestWire {
-        kind: plan.kind(wire),
-        place: wire_place(auction, lane, &[], wire),
-        value: values[at],
-        tape: tape.wires.as_slice()[at],
+        kind: wires.plan.kind(wire),
+        place: wire_place(wires.auction, wires.lane, &[], wire),
+        value: wires.values[at],
+        tape: wires.tape.wires.as_slice()[at],
     }
 }
 

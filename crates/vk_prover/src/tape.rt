@@ -1,13 +1,12 @@
 // The tape of a lane, and how it is drawn.
 ghost use Rattle.std.specs.Prelude.{◌≡◌, ◌+◌, ◌-◌, ◌^◌, ◌<◌, ◌≤◌, All, length, vec_capacity, IfOk, IfSome, IsErrOf};
-ghost use Rattle.vk_dice.specs.Draws.{after_residue};
 ghost use Rattle.vk_wire.specs.Values.{IsTape};
-ghost use Rattle.vk_prover.specs.Drawn.{TapeAnswer, TapeWords, drawn_tape, drawn_wire, dry_wire, after_wire, after_wires, words_after};
+ghost use Rattle.vk_prover.specs.Drawn.{TapeAnswer, TapeWords, drawn_tape, dry_wire, after_wires};
 ghost use Rattle.vk_prover.specs.Laws.{IsTapeOf};
-ghost use Rattle.vk_prover.specs.declared.tape.DrawErr.TheVariants.{NoMemory as MemoryRefused};
+ghost use Rattle.vk_prover.specs.declared.tape.DrawErr.TheVariants.{DrySeed as Dry, NoMemory as MemoryRefused};
 
-use std::alloc::{AllocFailed, Global};
-use vk_dice::{Words, draw_bit, draw_key, draw_residue};
+use std::alloc::Global;
+use vk_dice::{Draw, DryDraw, Words, draw_bit, draw_key, draw_onto, draw_residue};
 use vk_plan::Plan;
 use vk_residue::NoMemory;
 use vk_seq::Seq;
@@ -36,11 +35,11 @@ impl From<NoMemory> for DrawErr {
     }
 }
 
-impl<T: Drop> From<AllocFailed<T>> for DrawErr {
-    ghost from_gives = { λ _ e. e ≡ MemoryRefused };
+impl From<DryDraw> for DrawErr {
+    ghost from_gives = { λ dry e. e ≡ Dry dry.number };
 
-    fn from(_refused: AllocFailed<T>) -> DrawErr {
-        DrawErr::NoMemory
+    fn from(dry: DryDraw) -> DrawErr {
+        DrawErr::DrySeed { wire: dry.number }
     }
 }
 
@@ -59,11 +58,8 @@ pub fn draw_tape<W: Words>(
     ensures tape { IfOk result (λ tape. IsTapeOf plan.now tape.wires) }
     ensures memory { IsErrOf result DrawErr.NoMemory → W.ahead words.new ≡ W.ahead words.old }
 {
-    let mut wires = copied(alloc, given, plan.wires())?;
-    for wire in plan.inputs()..plan.wires() {
-        let tape = draw_wire(words).ok_or(DrawErr::DrySeed { wire })?;
-        wires.push(tape)?;
-    }
+    let wires = copied(alloc, given, plan.wires())?;
+    let wires = draw_onto(wires, plan.wires() - plan.inputs(), &WireDraw, words)?;
     Ok(LaneTape {
         wires: Seq::from_vec(wires),
     })
@@ -76,29 +72,38 @@ pub fn first_dry<W: Words>(before: u32, count: u32, words: &mut W) -> Option<u32
     ensures { result ≡ dry_wire before count (W.ahead words.old) }
 {
     for wire in before..before + count {
-        let Some(_tape) = draw_wire(words) else {
+        let Some(_tape) = WireDraw.draw(words) else {
             return Some(wire);
         };
     }
     None
 }
 
-/// Draws the tape of one wire. None where its residue can't be drawn, and then no further word is taken.
-fn draw_wire<W: Words>(words: &mut W) -> Option<WireTape>
-    ensures drawn { result ≡ drawn_wire (W.ahead words.old) }
-    ensures tape { IfSome result IsTape }
-    ensures after { W.ahead words.new ≡ words_after (after_residue (W.ahead words.old)) (after_wire (W.ahead words.old)) result }
-{
-    let mask = draw_residue(words).ok()?;
-    let swap = draw_bit(words);
-    let first_key = draw_key(words);
-    let second_key = draw_key(words);
-    Some(WireTape {
-        mask,
-        swap,
-        first_key,
-        second_key,
-    })
+/// The draw of the tape of one wire. Where its residue can't be drawn, no further word is taken.
+struct WireDraw;
+
+impl Draw for WireDraw {
+    ghost use Rattle.vk_prover.specs.Drawn.{wire_drawing};
+    ghost use Rattle.vk_wire.specs.Values.{IsTape};
+
+    type Item = WireTape;
+
+    ghost drawing = { λ _. wire_drawing };
+
+    ghost is_item = { λ _. IsTape };
+
+    fn draw<W: Words>(&self, words: &mut W) -> Option<WireTape> {
+        let mask = draw_residue(words).ok()?;
+        let swap = draw_bit(words);
+        let first_key = draw_key(words);
+        let second_key = draw_key(words);
+        Some(WireTape {
+            mask,
+            swap,
+            first_key,
+            second_key,
+        })
+    }
 }
 
 /// The tapes, with room for so many wires.

@@ -2,6 +2,7 @@
 use Rattle.std.proofs.Common.{◌≡◌, ℕ, zero, suc, ◌+◌, ◌<◌, ◌⊎◌, Bool, List, [], ◌∷◌, ◌++◌, length, slice_index, slice_index_or, All, Result, Ok, Err, refl, ap, ◌∙◌, arith, inl, inr, add-zero, append_assoc}
 use Rattle.std.proofs.lemmas.List.{append-nil, length_push, nil_from_length}
 use Rattle.std.proofs.lemmas.List.Elements.{All-head, All-tail}
+use Rattle.vk_residue.specs.Steps.{◌>>=◌}
 use Rattle.vk_plan.specs.Plans.{HasWeight}
 use Rattle.vk_plan.specs.declared.wire.WireKind.{WireKind}
 use Rattle.vk_plan.specs.declared.wire.WireKind.TheVariants.{Split}
@@ -14,7 +15,7 @@ use Rattle.vk_row.specs.declared.case.LaneCase.{LaneCase}
 use Rattle.vk_row.specs.declared.case.LaneFault.{LaneFault}
 use Rattle.vk_row.specs.declared.case.LaneFault.TheVariants.{Wire}
 use Rattle.vk_row.specs.Lanes.{place_in, no_digests, nothing_shown}
-use Rattle.vk_row.specs.LaneTests.{◌>>=◌, at_wire, halves_from}
+use Rattle.vk_row.specs.LaneTests.{at_wire, halves_from}
 
 -- the wires of the lists give these halves, where the first of them has that number
 pub record Give (case : LaneCase) (bit : Bool) (start : ℕ) (kinds : List WireKind) (coms : List WireCom) (shown : List Shown) (back : List ℕ) : Type 0 where

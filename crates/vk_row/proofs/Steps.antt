@@ -3,6 +3,7 @@ use Rattle.std.proofs.Common.{◌≡◌, ℕ, ◌+◌, ◌-◌, ◌<◌, ◌≤�
 use Rattle.std.proofs.lemmas.List.{get_or_default, length_push}
 use Rattle.std.proofs.Math.Seq.{drop-cons}
 use Rattle.std.specs.Prelude.{if◌then◌else◌}
+use Rattle.vk_residue.specs.Steps.{◌>>=◌}
 use Rattle.vk_commit.specs.declared.place.Place.{Place}
 use Rattle.vk_plan.specs.Plans.{PlanValue}
 use Rattle.vk_plan.specs.declared.form.Form.{Form}
@@ -19,7 +20,7 @@ use Rattle.vk_row.specs.declared.case.LaneFault.{LaneFault}
 use Rattle.vk_row.specs.Rows.{has_side}
 use Rattle.vk_row.specs.Lanes.{HasCounts, place_in, no_digests, nothing_opened, nothing_shown}
 use Rattle.vk_plan.specs.Forms.{no_row}
-use Rattle.vk_row.specs.LaneTests.{◌>>=◌, AreHashed, at_wire, halves_after, halves_from, first_false_row}
+use Rattle.vk_row.specs.LaneTests.{AreHashed, at_wire, halves_after, halves_from, first_false_row}
 
 -- the wire that comes next
 pub halves_from_step : (case : LaneCase) (bit : Bool) (halves : List ℕ) (kinds : List WireKind) (coms : List WireCom) (shown : List Shown) (w : ℕ)

@@ -1,5 +1,6 @@
 -- What is computed of a lane is whether it is accepted, and its first fault.
 use Rattle.std.proofs.Common.{◌≡◌, ℕ, zero, ◌+◌, ◌⊎◌, Bool, List, [], Option, Some, None, Result, Ok, Err, refl, sym, ap, subst, ◌∙◌, arith, inl, inr, zero-add}
+use Rattle.vk_residue.specs.Steps.{◌>>=◌}
 use Rattle.vk_plan.specs.Plans.{PlanValue, IsPlan}
 use Rattle.vk_wire.specs.declared.wire.Shown.{Shown}
 use Rattle.vk_wire.specs.declared.wire.WireFault.{WireFault}
@@ -7,7 +8,7 @@ use Rattle.vk_row.specs.declared.case.LaneCase.{LaneCase}
 use Rattle.vk_row.specs.declared.case.LaneFault.{LaneFault}
 use Rattle.vk_row.specs.declared.case.LaneFault.TheVariants.{Wire, Row, NoMemory}
 use Rattle.vk_row.specs.Lanes.{HasCounts, AreHalves, IsAcceptedLane, IsFirstWire, HasLaneFault}
-use Rattle.vk_row.specs.LaneTests.{◌>>=◌, halves_from, first_false_row, judged, checked_lane}
+use Rattle.vk_row.specs.LaneTests.{halves_from, first_false_row, judged, checked_lane}
 use Rattle.vk_row.proofs.Halves.{Give, Fails, halves_given, halves_computed, fault_found, fault_computed}
 use Rattle.vk_row.proofs.RowsMet.{rows_met, none_unmet, row_broken, broken_found}
 

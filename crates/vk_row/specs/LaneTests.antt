@@ -1,5 +1,6 @@
 -- What definitions compute of a lane: its halves, or its first fault.
 use Rattle.std.specs.Prelude.{◌≡◌, ℕ, ◌+◌, ◌<◌, Bool, List, [], ◌∷◌, ◌++◌, length, drop, slice_index_or, Option, Some, None, Result, Ok, Err, if◌then◌else◌}
+use Rattle.vk_residue.specs.Steps.{◌>>=◌}
 use Rattle.vk_plan.specs.Plans.{PlanValue}
 use Rattle.vk_plan.specs.declared.form.Form.{Form}
 use Rattle.vk_plan.specs.declared.wire.WireKind.{WireKind}
@@ -14,11 +15,6 @@ use Rattle.vk_row.specs.declared.case.LaneFault.{LaneFault}
 use Rattle.vk_row.specs.declared.case.LaneFault.TheVariants.{Wire, Row}
 use Rattle.vk_row.specs.Rows.{has_side}
 use Rattle.vk_row.specs.Lanes.{place_in, nothing_opened, nothing_shown}
-
-infixl 10 ◌>>=◌
-abbrev pub ◌>>=◌ : {A B E : Type 0} → Result A E → (A → Result B E) → Result B E
-(Ok x) >>= f = f x
-(Err e) >>= f = Err e
 
 -- a fault is that of the wire
 abbrev pub at_wire : ℕ → Result ℕ WireFault → Result ℕ LaneFault

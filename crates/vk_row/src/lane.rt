@@ -7,7 +7,7 @@ ghost use Rattle.vk_row.specs.LaneTests.{first_false_row, checked_lane};
 ghost use Rattle.vk_row.specs.declared.case.LaneFault.TheVariants.{NoMemory as OutOfMemory};
 
 use crate::case::{LaneCase, LaneFault};
-use crate::wires::read_wires;
+use crate::wires::{ShownLane, read_wires};
 use std::alloc::Global;
 use vk_plan::{Plan, RowTable};
 use vk_residue::Residue;
@@ -59,7 +59,7 @@ pub fn check_lane_with(
     ensures fault { IfErr result
         (λ fault. (fault ≡ OutOfMemory) ⊎ (checked_lane plan.now case.now bit shown.now ≡ Err fault)) }
 {
-    let halves = read_wires(alloc, plan, case, bit, shown)?;
+    let halves = read_wires(alloc, plan, &ShownLane { case, bit, shown })?;
     match first_unmet_row(plan, table, case, bit, halves.as_slice()) {
         Some(row) => Err(LaneFault::Row { row }),
         None => Ok(halves),

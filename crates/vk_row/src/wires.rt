@@ -12,29 +12,35 @@ use vk_plan::Plan;
 use vk_residue::{NoMemory, Residue};
 use vk_wire::{Opened, Shown, WireFault, hash_four, read_opened, wire_place};
 
+/// What is shown of a lane for a bit.
+#[derive(Clone, Copy)]
+pub(crate) struct ShownLane<'a> {
+    pub(crate) case: &'a LaneCase,
+    pub(crate) bit: bool,
+    pub(crate) shown: &'a [Shown],
+}
+
 /// The halves of all wires, or the first wire that reads nothing.
 #[tactic(auto, unfolding(crate::specs::LaneTests::halves_from))]
 pub(crate) fn read_wires(
     alloc: Global,
     plan: &Plan,
-    case: &LaneCase,
-    bit: bool,
-    shown: &[Shown],
+    lane: &ShownLane,
 ) -> Result<Vec<Residue>, LaneFault>
-    requires { HasCounts plan.now case.now shown.now }
+    requires { HasCounts plan.now lane.now.case.now lane.now.shown.now }
     ensures plan { IsPlan plan.now }
     ensures one_each { IfOk result (λ halves. length halves.items ≡ length plan.now.kinds) }
     ensures halves { IfOk result
-        (λ halves. halves_from case.now bit [] plan.now.kinds case.now.coms shown.now
+        (λ halves. halves_from lane.now.case.now lane.now.bit [] plan.now.kinds lane.now.case.now.coms lane.now.shown.now
         ≡ Ok halves.items) }
     ensures fault { IfErr result
         (λ fault. (fault ≡ OutOfMemory)
-        ⊎ (halves_from case.now bit [] plan.now.kinds case.now.coms shown.now ≡ Err fault)) }
+        ⊎ (halves_from lane.now.case.now lane.now.bit [] plan.now.kinds lane.now.case.now.coms lane.now.shown.now ≡ Err fault)) }
 {
     let wires = plan.wires();
     let mut halves = room_for(alloc, wires)?;
     for _group in 0..(wires + 3) / 4 {
-        read_group(plan, case, bit, shown, &mut halves)?;
+        read_group(plan, lane, &mut halves)?;
     }
     Ok(halves)
 }
@@ -48,31 +54,26 @@ fn room_for(alloc: Global, wires: u32) -> Result<Vec<Residue>, NoMemory>
 }
 
 /// Reads the wires after those that have halves, four or as many as are left, in order.
-fn read_group(
-    plan: &Plan,
-    case: &LaneCase,
-    bit: bool,
-    shown: &[Shown],
-    halves: &mut Vec<Residue>,
-) -> Result<(), LaneFault>
-    requires counts { HasCounts plan.now case.now shown.now }
+fn read_group(plan: &Plan, lane: &ShownLane, halves: &mut Vec<Residue>) -> Result<(), LaneFault>
+    requires counts { HasCounts plan.now lane.now.case.now lane.now.shown.now }
     requires more { length halves.old.items < length plan.now.kinds }
     ensures count { OnOk result
         (length halves.new.items ≡ min (length halves.old.items + 4) (length plan.now.kinds)) }
     ensures read { OnOk result
-        (halves_after plan.now case.now bit shown.now halves.new.items
-        ≡ halves_after plan.now case.now bit shown.now halves.old.items) }
+        (halves_after plan.now lane.now.case.now lane.now.bit lane.now.shown.now halves.new.items
+        ≡ halves_after plan.now lane.now.case.now lane.now.bit lane.now.shown.now halves.old.items) }
     ensures fault { IfErr result (λ fault. (fault ≡ OutOfMemory)
-        ⊎ (halves_after plan.now case.now bit shown.now halves.old.items ≡ Err fault)) }
+        ⊎ (halves_after plan.now lane.now.case.now lane.now.bit lane.now.shown.now halves.old.items ≡ Err fault)) }
 {
     let wires = plan.wires();
     let from = halves.len();
-    let opened = hash_group(case, bit, shown, from);
+    let shown = lane.shown;
+    let opened = hash_group(lane, from);
     for wire in from as u32..wires.min(from as u32 + 4) {
         let at = wire as usize;
-        let digests = &case.coms.as_slice()[at];
+        let digests = &lane.case.coms.as_slice()[at];
         let made = &opened[at - from];
-        let read = read_opened(plan.kind(wire), digests, &shown[at], bit, made);
+        let read = read_opened(plan.kind(wire), digests, &shown[at], lane.bit, made);
         let half = at_wire(wire, read)?;
         keep(halves, half)?;
     }
@@ -97,11 +98,13 @@ fn keep(halves: &mut Vec<Residue>, half: Residue) -> Result<(), NoMemory>
 }
 
 /// The digests of what four wires from that one on open. Past the last wire they are again those of it.
-fn hash_group(case: &LaneCase, bit: bool, shown: &[Shown], from: usize) -> [Opened; 4]
-    requires from { from < length shown.now }
-    requires few { length shown.now ≤ 2 ^ 24 }
-    ensures { AreHashed case.now bit shown.now from result }
+fn hash_group(lane: &ShownLane, from: usize) -> [Opened; 4]
+    requires from { from < length lane.now.shown.now }
+    requires few { length lane.now.shown.now ≤ 2 ^ 24 }
+    ensures { AreHashed lane.now.case.now lane.now.bit lane.now.shown.now from result }
 {
+    let case = lane.case;
+    let shown = lane.shown;
     let last = shown.len() - 1;
     let second = last.min(from + 1);
     let third = last.min(from + 2);
@@ -115,7 +118,7 @@ fn hash_group(case: &LaneCase, bit: bool, shown: &[Shown], from: usize) -> [Open
     hash_four(
         &places,
         &[shown[from], shown[second], shown[third], shown[fourth]],
-        bit,
+        lane.bit,
     )
 }
 

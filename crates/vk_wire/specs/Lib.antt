@@ -1,3 +1,4 @@
+pub mod Coms
 pub mod Places
 pub mod Values
 pub mod Made

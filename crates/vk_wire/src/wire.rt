@@ -1,6 +1,7 @@
 // The parts of a wire.
 
 use vk_commit::{Opening, Place};
+use vk_digests::TwoDigests;
 use vk_plan::WireKind;
 use vk_residue::Residue;
 
@@ -9,6 +10,28 @@ use vk_residue::Residue;
 pub struct WireCom {
     pub first: [u8; 32],
     pub second: [u8; 32],
+}
+
+impl TwoDigests for WireCom {
+    ghost use Rattle.vk_wire.specs.Coms.{com_by};
+
+    ghost made = { com_by };
+
+    ghost first_of = { λ digests. digests.first };
+
+    ghost second_of = { λ digests. digests.second };
+
+    fn of_two(first: [u8; 32], second: [u8; 32]) -> WireCom {
+        WireCom { first, second }
+    }
+
+    fn first(&self) -> &[u8; 32] {
+        &self.first
+    }
+
+    fn second(&self) -> &[u8; 32] {
+        &self.second
+    }
 }
 
 /// The secret choices behind a wire: its mask, whether the entries of a pair are exchanged, and the

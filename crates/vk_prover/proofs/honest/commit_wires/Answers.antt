@@ -6,31 +6,31 @@ use Rattle.vk_prover.proofs.honest.commit_wires.Goals.{then-count-eq1+in_ok-push
 
 pub loop-two-preserved : goal.loop-two-preserved
 loop-two-preserved c =
-    let plan = c.args.plan.now in
-    let values = c.args.values.now in
-    let made = com_of c.args.auction.now c.args.lane [] in
+    let plan = c.args.wires.now.plan.now in
+    let values = c.args.wires.now.values.now in
+    let made = com_of c.args.wires.now.auction.now c.args.wires.now.lane [] in
     let w = c.inputs-inputs.result + 2 * c.loop-two.two in
     let few : plan.inputs ≤ length plan.kinds = inputs_within plan c.inputs-inputs.ensures.plan in
-    let one = each_wire_turn made plan.kinds values c.args.tape.now.wires w c.loop-two.coms c.push.new.self c.make_two.result.0 _
+    let one = each_wire_turn made plan.kinds values c.args.wires.now.tape.now.wires w c.loop-two.coms c.push.new.self c.make_two.result.0 _
     (omega arith) c.requires.holds.one_each c.requires.one_each c.in_ok-push.ensures.pushed (c.make_two.ensures.first ∙ c.honest_wire-first.ensures.coms) c.loop-two.invariant in
-    let two = each_wire_turn made plan.kinds values c.args.tape.now.wires (w + 1) c.push.new.self c.push-in-loop-two.new.self c.make_two.result.1 _
+    let two = each_wire_turn made plan.kinds values c.args.wires.now.tape.now.wires (w + 1) c.push.new.self c.push-in-loop-two.new.self c.make_two.result.1 _
     (omega arith) c.requires.holds.one_each c.requires.one_each c.in_ok-push-2.ensures.pushed (c.make_two.ensures.second ∙ c.honest_wire-second.ensures.coms) one in
     let next : w + 1 + 1 ≡ c.inputs-inputs.result + 2 * (c.loop-two.two + 1) = omega arith in
     rw next at two
 
 pub returns : goal.returns
 returns c =
-    let plan = c.args.plan.now in
-    let values = c.args.values.now in
-    let made = com_of c.args.auction.now c.args.lane [] in
+    let plan = c.args.wires.now.plan.now in
+    let values = c.args.wires.now.values.now in
+    let made = com_of c.args.wires.now.auction.now c.args.wires.now.lane [] in
     let w = c.inputs-inputs.result + 2 * c.loop-two.two in
     let few : plan.inputs ≤ length plan.kinds = inputs_within plan c.inputs-inputs.ensures.plan in
     elim c.if-count-eq1.branch [
       | then-count-eq1+in_ok-push-3 b ↦
           let at : b.wires-then-count-eq1.result - 1 ≡ w = omega arith in
-          let last = each_wire_turn made plan.kinds values c.args.tape.now.wires w c.loop-two.coms b.push-then-count-eq1.new.self b.make.result _
+          let last = each_wire_turn made plan.kinds values c.args.wires.now.tape.now.wires w c.loop-two.coms b.push-then-count-eq1.new.self b.make.result _
           (omega arith) c.requires.holds.one_each c.requires.one_each b.in_ok-push-3.ensures.pushed (b.make.ensures ∙ rw at at b.honest_wire-last.ensures.coms) c.loop-two.invariant in
-          b.coms-is ∙ each_wire_done made plan.kinds values c.args.tape.now.wires (w + 1) b.push-then-count-eq1.new.self _ (omega arith) last
+          b.coms-is ∙ each_wire_done made plan.kinds values c.args.wires.now.tape.now.wires (w + 1) b.push-then-count-eq1.new.self _ (omega arith) last
       | else-count-eq1 b ↦
-          b.coms-is ∙ each_wire_done made plan.kinds values c.args.tape.now.wires w c.loop-two.coms _ (omega arith) c.loop-two.invariant
+          b.coms-is ∙ each_wire_done made plan.kinds values c.args.wires.now.tape.now.wires w c.loop-two.coms _ (omega arith) c.loop-two.invariant
     ]

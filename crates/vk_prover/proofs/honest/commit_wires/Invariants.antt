@@ -6,5 +6,5 @@ use Rattle.vk_prover.proofs.honest.commit_wires.Given as goal
 abbrev pub invariant-loop-two : goal.invariant-loop-two
 invariant-loop-two l =
     let wire = l.inputs + 2 * l.two in
-    l.coms ++ each_wire (com_of l.auction l.lane []) wire (drop wire l.plan.kinds) (drop wire l.values) (drop wire l.tape.wires)
-    ≡ each_wire (com_of l.auction l.lane []) l.plan.inputs (drop l.plan.inputs l.plan.kinds) (drop l.plan.inputs l.values) (drop l.plan.inputs l.tape.wires)
+    l.coms ++ each_wire (com_of l.wires.auction.now l.wires.lane []) wire (drop wire l.wires.plan.now.kinds) (drop wire l.wires.values.now) (drop wire l.wires.tape.now.wires)
+    ≡ each_wire (com_of l.wires.auction.now l.wires.lane []) l.wires.plan.now.inputs (drop l.wires.plan.now.inputs l.wires.plan.now.kinds) (drop l.wires.plan.now.inputs l.wires.values.now) (drop l.wires.plan.now.inputs l.wires.tape.now.wires)
