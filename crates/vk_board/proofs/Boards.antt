@@ -2,7 +2,8 @@
 -- `behind_is_whole`, as `board_is_whole` does here.
 use Rattle.std.proofs.Common.{◌≡◌, ℕ, ◌≤◌, List, ◌++◌, length, codes, Result, Ok, refl, ap, ◌∙◌}
 use Rattle.std.specs.List.{AllByRecursion}
-use Rattle.vk_lines.specs.Lines.{Rest, ◌>>=◌, end_at}
+use Rattle.vk_residue.specs.Steps.{◌>>=◌}
+use Rattle.vk_lines.specs.Lines.{Rest, end_at}
 use Rattle.vk_lines.specs.Forms.{line, IsPart, IsWhole}
 use Rattle.vk_lines.proofs.Parts.{whole_then, whole_end, whole_same}
 use Rattle.vk_lines.proofs.Numbered.{numbered_all}
@@ -75,7 +76,7 @@ board_is_whole shape =
     whole_then {IsZ = λ head board. HeadOf shape head board} {text_z = λ head board. behind_text board.seals board.lanes}
     (λ board. board.head) head_is_part
     (λ head right. behind_is_whole (frame_of shape head) (board_with head) (λ b. b.seals) (λ b. b.lanes)
-    right.few_lanes (λ seals lanes. refl) (λ seals lanes. refl))
+    right.size.lanes.most (λ seals lanes. refl) (λ seals lanes. refl))
     (λ head board is. ap (λ b. b.head) is.1.1)
     )
     (λ board is. record { head = is.0; seals = is.1.0; count = is.1.1.0.0; lanes = is.1.1.0.1 })

@@ -3,7 +3,8 @@
 -- as `head_follows` does here, and takes all that stands behind it from `behind_ends`.
 use Rattle.std.proofs.Common.{◌≡◌, ℕ, ◌+◌, List, [], ◌∷◌, ◌++◌, length, codes, Option, option_map, Result, Ok, refl, arith, length-append, subst}
 use Rattle.std.specs.Result.{result_err}
-use Rattle.vk_lines.specs.Lines.{Rest, ◌>>=◌, line_by}
+use Rattle.vk_residue.specs.Steps.{◌>>=◌}
+use Rattle.vk_lines.specs.Lines.{Rest, line_by}
 use Rattle.vk_lines.specs.Forms.{Table, Follows, Ends, fault_line, many_at, whole}
 use Rattle.vk_lines.proofs.Faults.{line_follows, many_follows, follows_then, follows_done, ends_then, end_ends, ends_done, fault_line_is}
 use Rattle.vk_board.specs.declared.board.Head.{Head}

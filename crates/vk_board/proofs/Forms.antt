@@ -1,12 +1,13 @@
 -- The head, the seals and a lane of a board are read from their texts alone.
 use Rattle.std.proofs.Common.{◌≡◌, ℕ, ◌-◌, ◌^◌, ◌≤◌, List, [], ◌∷◌, ◌++◌, length, codes, decimal, flat_map, Result, Ok, refl, ap, arith}
 use Rattle.hex.specs.Hex.{IsBytes}
-use Rattle.vk_lines.specs.Lines.{Rest, ◌>>=◌, line_by}
+use Rattle.vk_lines.specs.Lines.{Rest, line_by}
 use Rattle.vk_lines.specs.Forms.{line, spaced, IsLine, IsPart, EachAfter, many_at}
 use Rattle.vk_lines.specs.Tokens.{hex_text, id_line, number_line}
-use Rattle.vk_lines.proofs.Words.{fixed_line, number_line_is, id_line_is, from_test, to_test, InRange, below_from, below_to}
-use Rattle.vk_lines.proofs.Parts.{line_part, many_part, part_then, part_last, part_same, each_from_all, all_from_each}
+use Rattle.vk_lines.proofs.Words.{number_line_is, id_line_is, from_test, to_test, InRange, below_from, below_to}
+use Rattle.vk_lines.proofs.Parts.{line_part, many_part, part_headed, part_then, part_last, part_same, each_from_all, all_from_each}
 use Rattle.vk_residue.specs.Residue.{modulus}
+use Rattle.vk_residue.specs.Steps.{◌>>=◌}
 use Rattle.vk_wire.specs.declared.wire.WireCom.{WireCom}
 use Rattle.vk_wire.specs.Values.{IsCom}
 use Rattle.vk_board.specs.declared.board.Head.{Head}
@@ -111,36 +112,30 @@ id_part =
 pub head_is_part : IsPart IsHead head_text head_at
 unfolding head_text head_at
 head_is_part =
-    part_same (
-    part_then {X = Unit {0}} {IsZ = λ _ head. IdOf head} {text_z = λ _ head. id_text head} (λ head. tt)
-    (line_part (fixed_line (codes "vickrey-board 1") refl (omega arith))) (λ heading _. id_part) (λ heading head is. refl)
-    )
+    part_same (part_headed (codes "vickrey-board 1") refl (omega arith) id_part)
     (λ head is. record {
-      id = is.1.0;
-      some_width = from_test 1 head.width is.1.1.0.1;
-      last_width = is.1.1.0.0;
-      some_lane = from_test 1 head.lanes is.1.1.1.0.1;
-      few_lanes = is.1.1.1.0.0;
-      some_seal = from_test 1 head.seals is.1.1.1.1.0.1;
-      few_seals = is.1.1.1.1.0.0;
-      some_winner = from_test 1 head.winner is.1.1.1.1.1.0.1;
-      last_winner = is.1.1.1.1.1.0.0;
-      price = below_from (2 ^ 64) head.price (omega arith) is.1.1.1.1.1.1.0.0;
+      id = is.0;
+      size = record {
+        width = record { least = from_test 1 head.width is.1.0.1; most = is.1.0.0 };
+        lanes = record { least = from_test 1 head.lanes is.1.1.0.1; most = is.1.1.0.0 };
+      };
+      some_seal = from_test 1 head.seals is.1.1.1.0.1;
+      few_seals = is.1.1.1.0.0;
+      some_winner = from_test 1 head.winner is.1.1.1.1.0.1;
+      last_winner = is.1.1.1.1.0.0;
+      price = below_from (2 ^ 64) head.price (omega arith) is.1.1.1.1.1.0.0;
     })
     (λ head is. (
-      tt,
+      is.id,
       (
-        is.id,
+        (is.size.width.most, to_test 1 head.width is.size.width.least),
         (
-          (is.last_width, to_test 1 head.width is.some_width),
+          (is.size.lanes.most, to_test 1 head.lanes is.size.lanes.least),
           (
-            (is.few_lanes, to_test 1 head.lanes is.some_lane),
+            (is.few_seals, to_test 1 head.seals is.some_seal),
             (
-              (is.few_seals, to_test 1 head.seals is.some_seal),
-              (
-                (is.last_winner, to_test 1 head.winner is.some_winner),
-                ((below_to (2 ^ 64) head.price is.price, to_test 0 head.price (omega arith)), refl),
-              ),
+              (is.last_winner, to_test 1 head.winner is.some_winner),
+              ((below_to (2 ^ 64) head.price is.price, to_test 0 head.price (omega arith)), refl),
             ),
           ),
         ),

@@ -2,6 +2,7 @@
 use Rattle.std.proofs.Common.{◌≡◌, ℕ, Bool, true, false, if◌then◌else◌, List, ◌++◌, Option, Some, None, Result, Ok, Err, refl, ap, sym, ◌∙◌, append_assoc}
 use Rattle.std.specs.List.{flat_map}
 use Rattle.std.proofs.lemmas.Option.{same_Some}
+use Rattle.vk_residue.specs.Steps.{◌>>=◌}
 use Rattle.vk_lines.specs.Lines.{Rest}
 use Rattle.vk_lines.specs.Forms.{fault_line}
 use Rattle.vk_board.specs.declared.board.Head.{Head}
@@ -12,7 +13,6 @@ use Rattle.vk_board.specs.Texts.{head_text, seal_lines_text}
 use Rattle.vk_board.specs.Tables.{head_table, board_table}
 use Rattle.vk_board.specs.Reading.{head_at, seals_at}
 use Rattle.vk_board.specs.Published.{price_stands, position_of}
-use Rattle.vk_lines.specs.Gives.{◌>>=◌}
 use Rattle.vk_board.specs.Fronts.{PriceStands, FrontFault, Malformed, Price, Winner, front_placed, front_of, front_at, FrontsAreRead, Begins, PriceFails, WinnerFails, LineFails, FrontsAreRefused}
 use Rattle.vk_board.proofs.Forms.{head_is_part, seals_are_part}
 use Rattle.vk_board.proofs.Faults.{head_follows, seals_follow}

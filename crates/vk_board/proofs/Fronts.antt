@@ -1,5 +1,6 @@
 -- What stands on a board before its first lane, where its price and its winner may stand.
 use Rattle.std.proofs.Common.{◌≡◌, ℕ, Bool, true, false, if◌then◌else◌, List, Option, Some, None, Result, Ok, Err, refl, ap, ◌∙◌, subst}
+use Rattle.vk_residue.specs.Steps.{◌>>=◌}
 use Rattle.vk_lines.specs.Lines.{Rest}
 use Rattle.vk_board.specs.declared.board.Head.{Head}
 use Rattle.vk_board.specs.declared.board.SealLines.{SealLines}
@@ -7,7 +8,6 @@ use Rattle.vk_board.specs.declared.front.Front.{Front}
 use Rattle.vk_board.specs.Values.{IsHead, AreSeals}
 use Rattle.vk_board.specs.Reading.{head_at, seals_at}
 use Rattle.vk_board.specs.Published.{price_stands, position_of}
-use Rattle.vk_lines.specs.Gives.{◌>>=◌}
 use Rattle.vk_board.specs.Fronts.{IsFront, FrontFault, Price, in_front, front_with, front_placed, front_of, front_at}
 use Rattle.vk_board.proofs.Prices.{price_shown, price_found}
 use Rattle.vk_board.proofs.Winners.{winner_shown, winner_found}

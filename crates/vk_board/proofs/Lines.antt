@@ -2,15 +2,16 @@
 use Rattle.std.proofs.Common.{◌≡◌, ℕ, ◌-◌, ◌≤◌, nat_le, true, List, [], ◌∷◌, length, codes, decimal, refl, arith}
 use Rattle.std.specs.List.{AllByRecursion}
 use Rattle.vk_lines.specs.Forms.{IsLine, is_word, spaced}
-use Rattle.vk_lines.proofs.Words.{decimal_token, hex_token, meeting_token, one_line, two_line}
+use Rattle.vk_lines.proofs.Words.{decimal_token, digests_line_is, meeting_token, one_line}
 use Rattle.vk_residue.specs.Residue.{modulus, IsResidue}
+use Rattle.vk_wire.specs.Coms.{com_by}
 use Rattle.vk_wire.specs.Values.{IsCom}
 use Rattle.vk_board.specs.Texts.{com_text, posted_text}
-use Rattle.vk_board.specs.Reading.{com_by, com_line, posted_line, is_new_seat, seat_line}
+use Rattle.vk_board.specs.Reading.{com_line, posted_line, is_new_seat, seat_line}
 
 pub com_line_is : (word : List ℕ) → is_word word ≡ true → length word ≤ 100 → IsLine IsCom (com_text word) (com_line word)
 com_line_is word is_a_word short =
-    two_line word is_a_word (hex_token 32) (hex_token 32) (omega arith) com_by (λ digests. digests.first) (λ digests. digests.second)
+    digests_line_is word is_a_word short com_by (λ digests. digests.first) (λ digests. digests.second)
     (λ x. refl) (λ a b. refl) (λ a b. refl)
 
 pub posted_line_is : IsLine (λ number. number ≤ modulus - 1) posted_text posted_line

@@ -1,6 +1,7 @@
 -- What stands on a board before its first lane: its head and its seals, with the place of the winner's seal.
 use Rattle.std.specs.Prelude.{◌≡◌, ◌↔◌, ℕ, ◌-◌, ◌^◌, ◌<◌, ◌≤◌, if◌then◌else◌, List, ◌++◌, slice_index, Contains, Option, Some, None, Result, Ok, Err}
 use Rattle.std.specs.List.{flat_map}
+use Rattle.vk_residue.specs.Steps.{◌>>=◌}
 use Rattle.vk_lines.specs.Lines.{Rest}
 use Rattle.vk_lines.specs.Forms.{fault_line}
 use Rattle.vk_lines.specs.declared.errors.ReadErr.TheVariants as unread
@@ -14,7 +15,6 @@ use Rattle.vk_board.specs.Texts.{head_text, seal_lines_text}
 use Rattle.vk_board.specs.Reading.{head_at, seals_at, seats_of}
 use Rattle.vk_board.specs.Tables.{board_table}
 use Rattle.vk_board.specs.Published.{price_stands, position_of}
-use Rattle.vk_lines.specs.Gives.{◌>>=◌}
 
 -- the price is below 2^width, and 0 where there is one seal
 pub record PriceStands (head : Head) : Type 0 where

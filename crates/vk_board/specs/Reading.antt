@@ -2,11 +2,12 @@
 -- line.
 use Rattle.std.specs.Prelude.{ℕ, ◌+◌, ◌^◌, ◌-◌, ◌==◌, not, Bool, List, length, map, codes, Option, Result, Ok}
 use Rattle.std.specs.List.{list_all}
-use Rattle.vk_lines.specs.Lines.{Rest, ◌>>=◌, line_by, end_at}
+use Rattle.vk_residue.specs.Steps.{◌>>=◌, ◌>>?◌}
+use Rattle.vk_lines.specs.Lines.{Rest, line_by, end_at}
 use Rattle.vk_lines.specs.Forms.{many_at}
-use Rattle.vk_lines.specs.Tokens.{residue_of, hex_of, word_of, number_token, number_line, id_line, one_field, two_fields, meets}
-use Rattle.vk_lines.specs.Tokens as tokens
+use Rattle.vk_lines.specs.Tokens.{residue_of, word_of, number_token, number_line, id_line, digests_line, one_field, meets}
 use Rattle.vk_wire.specs.declared.wire.WireCom.{WireCom}
+use Rattle.vk_wire.specs.Coms.{com_by}
 use Rattle.vk_board.specs.declared.board.Head.{Head}
 use Rattle.vk_board.specs.declared.board.SealLines.{SealLines}
 use Rattle.vk_board.specs.declared.board.LaneLines.{LaneLines}
@@ -14,11 +15,8 @@ use Rattle.vk_board.specs.Values.{Board, Shape, Frame, frame_of}
 
 -- ---- lines
 
-abbrev pub com_by : List ℕ → List ℕ → WireCom
-com_by first second = record { first = first; second = second }
-
 abbrev pub com_line : List ℕ → List ℕ → Option WireCom
-com_line word text = two_fields word (hex_of 32) (hex_of 32) com_by text
+com_line word text = digests_line com_by word text
 
 abbrev pub posted_line : List ℕ → Option ℕ
 posted_line text = one_field (codes "d") residue_of text
@@ -32,7 +30,7 @@ is_new_seat seats seat = list_all (λ earlier. not (earlier == seat)) seats
 
 -- a bidder's seat that is none of these
 abbrev pub seat_token : List ℕ → List ℕ → Option ℕ
-seat_token seats text = tokens.◌>>=◌ (number_token 1 65535 text) (meets (is_new_seat seats))
+seat_token seats text = ◌>>?◌ (number_token 1 65535 text) (meets (is_new_seat seats))
 
 abbrev pub seat_line : List ℕ → List ℕ → Option ℕ
 seat_line seats text = one_field (codes "seal") (seat_token seats) text

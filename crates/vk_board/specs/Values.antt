@@ -1,6 +1,7 @@
 -- Boards: what an auctioneer publishes of an auction.
 use Rattle.std.specs.Prelude.{◌≡◌, ◌≢◌, ℕ, ◌^◌, ◌<◌, ◌≤◌, List, [], length}
 use Rattle.std.specs.List.{AllByRecursion}
+use Rattle.vk_residue.specs.Limits.{IsSize}
 use Rattle.vk_residue.specs.Residue.{IsResidue}
 pub use Rattle.vk_commit.specs.Values.{AreBytes}
 pub use Rattle.vk_wire.specs.Values.{IsCom}
@@ -13,10 +14,7 @@ use Rattle.vk_board.specs.declared.board.LaneLines.{LaneLines}
 -- the seat that won, and the price
 pub record IsHead (head : Head) : Type 0 where
   pub id : AreBytes 16 head.auction
-  pub some_width : 1 ≤ head.width
-  pub last_width : head.width ≤ 40
-  pub some_lane : 1 ≤ head.lanes
-  pub few_lanes : head.lanes ≤ 64
+  pub size : IsSize head.width head.lanes
   pub some_seal : 1 ≤ head.seals
   pub few_seals : head.seals ≤ 64
   pub some_winner : 1 ≤ head.winner

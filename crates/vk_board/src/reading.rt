@@ -9,9 +9,10 @@ ghost use Rattle.vk_board.specs.Reading.{com_line, posted_line, seats_of, is_new
 
 use crate::board::{Head, LaneLines, SealLines};
 use std::alloc::Global;
+use std::marker::PhantomData;
 use vk_io::Shelf;
 use vk_lines::{
-    LineKind, Lines, ReadErr, behind_word, one_field, read_decimal, read_digests, read_many,
+    DigestsLine, LineKind, Lines, ReadErr, behind_word, one_field, read_decimal, read_many,
     read_residue,
 };
 use vk_residue::Residue;
@@ -231,42 +232,9 @@ fn read_coms<S: Shelf>(
     ensures file { KeepsFile lines.old lines.new }
     ensures shelf { OnlyReads S.held S.Shelf.faults ReadErr.Failed result shelf.old shelf.new }
 {
-    let coms = read_many(alloc, shelf, lines, &ComLine { word }, count)?;
+    let made = PhantomData;
+    let coms = read_many(alloc, shelf, lines, &DigestsLine { word, made }, count)?;
     Ok(coms)
-}
-
-/// A line of this word and two commitments.
-#[derive(Drop)]
-struct ComLine<'a> {
-    word: &'a [u8],
-}
-
-impl<'a> LineKind for ComLine<'a> {
-    ghost use Rattle.std.specs.Prelude.{◌^◌};
-    ghost use Rattle.vk_wire.specs.Values.{IsCom};
-    ghost use Rattle.vk_board.specs.Reading.{com_line};
-
-    type Item = WireCom;
-
-    ghost most = { λ _. 2 ^ 32 };
-
-    ghost item_of = { λ kind _ text. com_line kind.word.now text };
-
-    ghost is_item = { λ _ _ digests. IsCom digests };
-
-    fn read(&self, _number: u32, text: &[u8]) -> Option<WireCom> {
-        let digests = com_of(text, self.word);
-        digests
-    }
-}
-
-/// The commitments of a line of this word.
-fn com_of(text: &[u8], word: &[u8]) -> Option<WireCom>
-    ensures value { result ≡ com_line word.now text.now }
-    ensures digests { IfSome result IsCom }
-{
-    let (first, second) = read_digests(text, word)?;
-    Some(WireCom { first, second })
 }
 
 /// Reads the lines of so many rows.
@@ -291,13 +259,10 @@ fn read_posted<S: Shelf>(
 struct PostedLine;
 
 impl LineKind for PostedLine {
-    ghost use Rattle.std.specs.Prelude.{◌^◌};
     ghost use Rattle.vk_residue.specs.Residue.{IsResidue};
     ghost use Rattle.vk_board.specs.Reading.{posted_line};
 
     type Item = Residue;
-
-    ghost most = { λ _. 2 ^ 32 };
 
     ghost item_of = { λ _ _ text. posted_line text };
 

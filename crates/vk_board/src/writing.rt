@@ -1,13 +1,12 @@
 ghost use Rattle.std.specs.Prelude.{◌≡◌, ◌++◌, IfOk, OnOk};
 ghost use Rattle.std.specs.List.{flat_map};
 ghost use Rattle.vk_lines.specs.Forms.{line};
-ghost use Rattle.vk_board.specs.Texts.{com_text, posted_text, head_text, seal_lines_text, lane_text};
+ghost use Rattle.vk_board.specs.Texts.{posted_text, head_text, seal_lines_text, lane_text};
 
 use crate::board::{Head, LaneLines, SealLines};
 use std::alloc::Global;
-use vk_lines::{push_digests_line, push_hex_line, push_line, push_number_line};
+use vk_lines::{push_digests_lines, push_hex_line, push_line, push_number_line};
 use vk_residue::{NoMemory, Residue};
-use vk_wire::WireCom;
 
 /// The text of a board's head.
 #[tactic(auto, unfolding(crate::specs::Texts::head_text))]
@@ -32,7 +31,7 @@ pub fn seal_lines_text(alloc: Global, seal: &SealLines) -> Result<Vec<u8>, NoMem
 {
     let mut text = Vec::new(alloc);
     push_number_line(&mut text, b"seal", u64::from(seal.seat))?;
-    push_coms(&mut text, b"x", seal.coms.as_slice())?;
+    push_digests_lines(&mut text, b"x", seal.coms.as_slice())?;
     Ok(text)
 }
 
@@ -43,19 +42,9 @@ pub fn lane_text(alloc: Global, lane: u32, lines: &LaneLines) -> Result<Vec<u8>,
 {
     let mut text = Vec::new(alloc);
     push_number_line(&mut text, b"lane", u64::from(lane))?;
-    push_coms(&mut text, b"w", lines.coms.as_slice())?;
+    push_digests_lines(&mut text, b"w", lines.coms.as_slice())?;
     push_posted(&mut text, lines.posted.as_slice())?;
     Ok(text)
-}
-
-/// Appends a line of this word for each two commitments.
-fn push_coms(out: &mut Vec<u8>, word: &[u8], coms: &[WireCom]) -> Result<(), NoMemory>
-    ensures { OnOk result (out.new.items ≡ out.old.items ++ flat_map (λ digests. line (com_text word.now digests)) coms.now) }
-{
-    for com in coms {
-        push_digests_line(out, word, &com.first, &com.second)?;
-    }
-    Ok(())
 }
 
 /// Appends the line of each row's number.

@@ -4,11 +4,12 @@ use Rattle.std.proofs.lemmas.Bool.{eqb-true}
 use Rattle.std.specs.Result.{result_err}
 use Rattle.std.proofs.lemmas.Bool.Decides.{nat_tests}
 use Rattle.std.proofs.lemmas.List.{length-take-le, nil_from_length}
+use Rattle.vk_residue.specs.Steps.{◌>>=◌}
 use Rattle.vk_lines.specs.declared.errors.ReadErr.{ReadErr}
 use Rattle.vk_lines.specs.declared.errors.ReadErr.TheVariants.{Malformed, Failed, NoMemory}
 use Rattle.vk_lines.specs.declared.step.Step.{Step}
 use Rattle.vk_lines.specs.declared.step.Step.TheVariants.{Text, End, Long, Cut}
-use Rattle.vk_lines.specs.Lines.{Rest, ◌>>=◌, feed_at, step_of, text_at, text_by, line_by, value_at, none_left, end_at, Reads}
+use Rattle.vk_lines.specs.Lines.{Rest, feed_at, step_of, text_at, text_by, line_by, value_at, none_left, end_at, Reads}
 use Rattle.vk_lines.specs.Forms.{Table, Follows, Ends, fault_after, fault_at, fault_from, fault_line, many_onto, whole, IsWhole, FaultsAllButTexts, Answers}
 use Rattle.vk_lines.specs.Tokens.{word_of}
 use Rattle.vk_lines.proofs.Parts.{bind_ok, ok_same}

@@ -1,10 +1,11 @@
 -- A loop that reads so many values over a shelf: its turns and its exits, for any told content.
 use Rattle.std.proofs.Common.{◌≡◌, ℕ, ◌+◌, ◌-◌, ◌<◌, List, [], ◌∷◌, ◌++◌, length, Option, Some, None, Result, Ok, Err, refl, ap, sym, ◌∙◌, arith, subst}
 use Rattle.std.specs.Option.{IfSome}
+use Rattle.vk_residue.specs.Steps.{◌>>=◌}
 use Rattle.vk_io.specs.Files.{Files}
 use Rattle.vk_lines.specs.declared.errors.ReadErr.{ReadErr}
 use Rattle.vk_lines.specs.declared.errors.ReadErr.TheVariants.{Malformed, Failed, NoMemory}
-use Rattle.vk_lines.specs.Lines.{Reads, Rest, ◌>>=◌}
+use Rattle.vk_lines.specs.Lines.{Reads, Rest}
 use Rattle.vk_lines.specs.Forms.{many_onto}
 use Rattle.vk_lines.proofs.Parts.{many_more, many_none}
 

@@ -1,6 +1,7 @@
 -- So many parts one after another, each with its number in its text.
 use Rattle.std.proofs.Common.{◌≡◌, ℕ, zero, suc, ◌+◌, ◌≤◌, List, [], ◌∷◌, ◌++◌, length, Result, Ok, refl, ap, sym, ◌∙◌, arith, append_assoc, append-nil, length-append}
-use Rattle.vk_lines.specs.Lines.{Rest, ◌>>=◌}
+use Rattle.vk_residue.specs.Steps.{◌>>=◌}
+use Rattle.vk_lines.specs.Lines.{Rest}
 use Rattle.std.specs.List.{AllByRecursion}
 use Rattle.vk_lines.specs.Forms.{IsPart, EachAfter, many_onto, many_at, numbered_text}
 use Rattle.vk_lines.proofs.Parts.{bind_ok, ok_same, part_same, each_from_all, all_from_each}

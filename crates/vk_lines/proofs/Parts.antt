@@ -6,9 +6,10 @@ use Rattle.std.proofs.lemmas.Bool.Decides.{nat_tests}
 use Rattle.std.proofs.lemmas.List.{take-append-drop, take_at, drop_more, nil_from_length}
 use Rattle.std.proofs.lemmas.List.Sums.{prefix_len_stops}
 use Rattle.std.proofs.Math.Seq.{drop-append-add}
+use Rattle.vk_residue.specs.Steps.{◌>>=◌}
 use Rattle.vk_lines.specs.declared.step.Step.{Step}
 use Rattle.vk_lines.specs.declared.step.Step.TheVariants.{Text, End, Long, Cut}
-use Rattle.vk_lines.specs.Lines.{Rest, ◌>>=◌, feed_at, step_of, step_by, text_at, text_by, line_by, value_at, none_left, end_at}
+use Rattle.vk_lines.specs.Lines.{Rest, feed_at, step_of, step_by, text_at, text_by, line_by, value_at, none_left, end_at}
 use Rattle.vk_lines.specs.Forms.{IsLine, IsPart, IsWhole, is_plain, EachAfter, line, many_onto, many_at}
 use Rattle.vk_lines.specs.Tokens.{word_of}
 use Rattle.vk_lines.proofs.Words.{fixed_line}
@@ -255,6 +256,16 @@ part_same form to from same = record {
   found = λ rest x more is left. form.found rest x more (from x is) (left ∙ ap (λ t. t ++ more) (sym (same x)));
   shown = λ rest x after some. let shown = form.shown rest x after some in (to x shown.0, shown.1 ∙ ap (λ t. t ++ after.left) (same x));
 }
+
+-- a part behind a line that is this text
+pub part_headed : {X : Type 0} {IsValue : X → Type 0} {text : X → List ℕ} {read : Rest → Result (X × Rest) ℕ} (heading : List ℕ) → is_plain heading ≡ true → length heading ≤ 255
+    → IsPart IsValue text read → IsPart IsValue (λ x. line heading ++ text x) (λ rest. line_by (word_of heading) rest >>= λ first. read first.1)
+part_headed {IsValue = IsValue} {text = text} {read = read} heading plain short part =
+    part_same (
+    part_then {X = Unit {0}} {IsZ = λ _ x. IsValue x} {text_z = λ _ x. text x} {read_z = λ _ rest. read rest} (λ x. tt)
+    (line_part (fixed_line heading plain short)) (λ first _. part) (λ first x is. refl)
+    )
+    (λ x is. is.1) (λ x is. (tt, is)) (λ x. refl)
 
 -- the last part of a value, which is made of it
 pub part_last : {X Z : Type 0} {IsX : X → Type 0} {text_x : X → List ℕ} {read_x : Rest → Result (X × Rest) ℕ} → (show : Z → X) (make : X → Z) → ((x : X) → show (make x) ≡ x) → IsPart IsX text_x read_x

@@ -12,8 +12,9 @@ use Rattle.std.proofs.lemmas.List.Sums.{position_or_len_is}
 use Rattle.std.proofs.lemmas.Slice.Eq.{bytes_eq-Decides}
 use Rattle.hex.specs.Hex.{IsBytes}
 use Rattle.memchr.specs.Find.{IsFirstByte, is_byte}
-use Rattle.vk_lines.specs.Tokens.{number_line, id_line, digests_line, decimal_of, fields_of, hex_of, hex_text, is_lower_digit, meets, behind_word, one_of, two_of, three_of, four_of, one_by, one_field, two_by, two_fields, three_by, three_fields, four_by, four_fields, word_of, ◌>>=◌}
-use Rattle.vk_lines.specs.Forms.{IsLine, IsToken, is_plain, is_word, spaced}
+use Rattle.vk_residue.specs.Steps.{◌>>?◌}
+use Rattle.vk_lines.specs.Tokens.{number_line, id_line, digests_line, HasDigests, decimal_of, fields_of, hex_of, hex_text, is_lower_digit, meets, behind_word, one_of, two_of, three_of, four_of, one_by, one_field, two_by, two_fields, three_by, three_fields, four_by, four_fields, word_of}
+use Rattle.vk_lines.specs.Forms.{IsLine, IsToken, digests_text, is_plain, is_word, spaced}
 use Rattle.vk_lines.proofs.Decimals.{own, decimal_of-some, decimal_of-decimal}
 use Rattle.vk_lines.proofs.Feeds.{not_passed}
 use Rattle.vk_lines.proofs.Hexadecimal.{hex_text-lower, hex_of-some, hex_of-hex_text, length-hex_text}
@@ -114,7 +115,7 @@ hex_token count = record {
 }
 
 -- what a step shows where the steps together gave a value
-bind_some : {A B : Type 0} (o : Option A) (f : A → Option B) (y : B) → (o >>= f) ≡ Some y → (x : A) × (o ≡ Some x) × (f x ≡ Some y)
+bind_some : {A B : Type 0} (o : Option A) (f : A → Option B) (y : B) → (o >>? f) ≡ Some y → (x : A) × (o ≡ Some x) × (f x ≡ Some y)
 bind_some (Some x) f y h = (x, refl, h)
 bind_some None f y h = cc
 
@@ -128,9 +129,9 @@ some_same x y same = cc
 
 -- a token whose value meets a test
 pub meeting_token : {X : Type 0} {most : ℕ} {IsValue : X → Type 0} {text : X → List ℕ} {parse : List ℕ → Option X}
-    → (test : X → Bool) → IsToken most IsValue text parse → IsToken most (λ x. IsValue x × (test x ≡ true)) text (λ word. parse word >>= meets test)
+    → (test : X → Bool) → IsToken most IsValue text parse → IsToken most (λ x. IsValue x × (test x ≡ true)) text (λ word. parse word >>? meets test)
 meeting_token {parse = parse} test token = record {
-  found = λ x is. ap (λ o. o >>= meets test) (token.found x is.0) ∙ rw is.1 refl;
+  found = λ x is. ap (λ o. o >>? meets test) (token.found x is.0) ∙ rw is.1 refl;
   shown = λ word x some.
       let step = bind_some (parse word) (meets test) x some in
       let met = if_some (test step.0) (Some step.0) x step.2 in
@@ -174,7 +175,7 @@ split_some mark (b ∷ text) =
           (b ∷ rest.0, rest.1, rw (other, rest.2) refl)
     ]
 
-pub behind_word_more : (word tag text : List ℕ) → behind_word word (tag ∷ fields_of text) ≡ (word_of word tag >>= λ _. Some (fields_of text))
+pub behind_word_more : (word tag text : List ℕ) → behind_word word (tag ∷ fields_of text) ≡ (word_of word tag >>? λ _. Some (fields_of text))
 behind_word_more word tag text = let some = split_some 32 text in rw some.2 refl
 
 pub one_of_more : (field text : List ℕ) → one_of (field ∷ fields_of text) ≡ None
@@ -237,7 +238,7 @@ four_of_shown [] p some = cc
 -- the fields behind a word, so many of them
 behind_of : {F : Type 0} (word : List ℕ) (fields : List (List ℕ)) (some_of : List (List ℕ) → Option F) (shows : F → List (List ℕ)) (f : F)
     → ((rest : List (List ℕ)) (g : F) → some_of rest ≡ Some g → rest ≡ shows g)
-    → (behind_word word fields >>= some_of) ≡ Some f → fields ≡ word ∷ shows f
+    → (behind_word word fields >>? some_of) ≡ Some f → fields ≡ word ∷ shows f
 behind_of word fields some_of shows f shown some =
     let step = bind_some (behind_word word fields) some_of f some in
     behind_shown word fields step.0 step.1 ∙ ap (λ fs. word ∷ fs) (shown step.0 f step.2)
@@ -252,7 +253,7 @@ one_found word parse f x some = rw (same_word word) some
 one_shown : {X : Type 0} (word : List ℕ) (parse : List ℕ → Option X) (fields : List (List ℕ)) (x : X) → one_by word parse fields ≡ Some x
     → (f : List ℕ) × (fields ≡ word ∷ f ∷ []) × (parse f ≡ Some x)
 one_shown word parse fields x some =
-    let read = bind_some (behind_word word fields >>= one_of) parse x some in
+    let read = bind_some (behind_word word fields >>? one_of) parse x some in
     (read.0, behind_of word fields one_of (λ f. f ∷ []) read.0 one_of_shown read.1, read.2)
 
 pub one_line : {X : Type 0} {most : ℕ} {IsValue : X → Type 0} {text : X → List ℕ} {parse : List ℕ → Option X}
@@ -278,8 +279,8 @@ two_shown : {A B X : Type 0} (word : List ℕ) (first : List ℕ → Option A) (
     → two_by word first second make fields ≡ Some x
     → (f g : List ℕ) × (v : A) × (w : B) × (fields ≡ word ∷ f ∷ g ∷ []) × (first f ≡ Some v) × (second g ≡ Some w) × (make v w ≡ x)
 two_shown word first second make fields x some =
-    let read = bind_some (behind_word word fields >>= two_of) (λ fields. first fields.0 >>= λ a. second fields.1 >>= λ b. Some (make a b)) x some in
-    let v = bind_some (first read.0.0) (λ a. second read.0.1 >>= λ b. Some (make a b)) x read.2 in
+    let read = bind_some (behind_word word fields >>? two_of) (λ fields. first fields.0 >>? λ a. second fields.1 >>? λ b. Some (make a b)) x some in
+    let v = bind_some (first read.0.0) (λ a. second read.0.1 >>? λ b. Some (make a b)) x read.2 in
     let w = bind_some (second read.0.1) (λ b. Some (make v.0 b)) x v.2 in
     (read.0.0, read.0.1, v.0, w.0, behind_of word fields two_of (λ f. f.0 ∷ f.1 ∷ []) read.0 two_of_shown read.1, v.1, w.1, some_same (make v.0 w.0) x w.2)
 
@@ -317,9 +318,9 @@ three_shown : {A B C X : Type 0} (word : List ℕ) (first : List ℕ → Option 
     → three_by word first second third make fields ≡ Some x
     → (f g h : List ℕ) × (v : A) × (w : B) × (y : C) × (fields ≡ word ∷ f ∷ g ∷ h ∷ []) × (first f ≡ Some v) × (second g ≡ Some w) × (third h ≡ Some y) × (make v w y ≡ x)
 three_shown word first second third make fields x some =
-    let read = bind_some (behind_word word fields >>= three_of) (λ fields. first fields.0 >>= λ a. second fields.1 >>= λ b. third fields.2 >>= λ c. Some (make a b c)) x some in
-    let v = bind_some (first read.0.0) (λ a. second read.0.1 >>= λ b. third read.0.2 >>= λ c. Some (make a b c)) x read.2 in
-    let w = bind_some (second read.0.1) (λ b. third read.0.2 >>= λ c. Some (make v.0 b c)) x v.2 in
+    let read = bind_some (behind_word word fields >>? three_of) (λ fields. first fields.0 >>? λ a. second fields.1 >>? λ b. third fields.2 >>? λ c. Some (make a b c)) x some in
+    let v = bind_some (first read.0.0) (λ a. second read.0.1 >>? λ b. third read.0.2 >>? λ c. Some (make a b c)) x read.2 in
+    let w = bind_some (second read.0.1) (λ b. third read.0.2 >>? λ c. Some (make v.0 b c)) x v.2 in
     let y = bind_some (third read.0.2) (λ c. Some (make v.0 w.0 c)) x w.2 in
     (read.0.0, read.0.1, read.0.2, v.0, w.0, y.0, behind_of word fields three_of (λ f. f.0 ∷ f.1 ∷ f.2 ∷ []) read.0 three_of_shown read.1, v.1, w.1, y.1, some_same (make v.0 w.0 y.0) x y.2)
 
@@ -363,10 +364,10 @@ four_shown : {A B C D X : Type 0} (word : List ℕ) (first : List ℕ → Option
     → four_by word first second third fourth make fields ≡ Some x
     → (f g h i : List ℕ) × (v : A) × (w : B) × (y : C) × (z : D) × (fields ≡ word ∷ f ∷ g ∷ h ∷ i ∷ []) × (first f ≡ Some v) × (second g ≡ Some w) × (third h ≡ Some y) × (fourth i ≡ Some z) × (make v w y z ≡ x)
 four_shown word first second third fourth make fields x some =
-    let read = bind_some (behind_word word fields >>= four_of) (λ fields. first fields.0 >>= λ a. second fields.1 >>= λ b. third fields.2 >>= λ c. fourth fields.3 >>= λ d. Some (make a b c d)) x some in
-    let v = bind_some (first read.0.0) (λ a. second read.0.1 >>= λ b. third read.0.2 >>= λ c. fourth read.0.3 >>= λ d. Some (make a b c d)) x read.2 in
-    let w = bind_some (second read.0.1) (λ b. third read.0.2 >>= λ c. fourth read.0.3 >>= λ d. Some (make v.0 b c d)) x v.2 in
-    let y = bind_some (third read.0.2) (λ c. fourth read.0.3 >>= λ d. Some (make v.0 w.0 c d)) x w.2 in
+    let read = bind_some (behind_word word fields >>? four_of) (λ fields. first fields.0 >>? λ a. second fields.1 >>? λ b. third fields.2 >>? λ c. fourth fields.3 >>? λ d. Some (make a b c d)) x some in
+    let v = bind_some (first read.0.0) (λ a. second read.0.1 >>? λ b. third read.0.2 >>? λ c. fourth read.0.3 >>? λ d. Some (make a b c d)) x read.2 in
+    let w = bind_some (second read.0.1) (λ b. third read.0.2 >>? λ c. fourth read.0.3 >>? λ d. Some (make v.0 b c d)) x v.2 in
+    let y = bind_some (third read.0.2) (λ c. fourth read.0.3 >>? λ d. Some (make v.0 w.0 c d)) x w.2 in
     let z = bind_some (fourth read.0.3) (λ d. Some (make v.0 w.0 y.0 d)) x y.2 in
     (read.0.0, read.0.1, read.0.2, read.0.3, v.0, w.0, y.0, z.0, behind_of word fields four_of (λ f. f.0 ∷ f.1 ∷ f.2 ∷ f.3 ∷ []) read.0 four_of_shown read.1, v.1, w.1, y.1, z.1, some_same (make v.0 w.0 y.0 z.0) x z.2)
 
@@ -418,10 +419,11 @@ pub id_line_is : (word : List ℕ) → is_word word ≡ true → length word ≤
     → IsLine (λ id. (length id ≡ 16) × IsBytes id) (λ id. spaced (word ∷ hex_text id ∷ [])) (id_line word)
 id_line_is word is_a_word short = one_line word is_a_word (hex_token 16) (omega arith)
 
-pub digests_line_is : (word : List ℕ) → is_word word ≡ true → length word ≤ 100
-    → IsLine {X = List ℕ × List ℕ} (λ two. ((length two.0 ≡ 32) × IsBytes two.0) × ((length two.1 ≡ 32) × IsBytes two.1)) (λ two. spaced (word ∷ hex_text two.0 ∷ hex_text two.1 ∷ [])) (digests_line word)
-digests_line_is word is_a_word short =
-    two_line word is_a_word (hex_token 32) (hex_token 32) (omega arith) (λ a b. (a, b)) (λ two. two.0) (λ two. two.1) (λ two. refl) (λ a b. refl) (λ a b. refl)
+pub digests_line_is : {X : Type 0} (word : List ℕ) → is_word word ≡ true → length word ≤ 100 → (make : List ℕ → List ℕ → X) (first second : X → List ℕ)
+    → ((x : X) → make (first x) (second x) ≡ x) → ((a b : List ℕ) → first (make a b) ≡ a) → ((a b : List ℕ) → second (make a b) ≡ b)
+    → IsLine (λ x. HasDigests (first x) (second x)) (λ x. digests_text word (first x) (second x)) (digests_line make word)
+digests_line_is word is_a_word short make first second whole is_first is_second =
+    two_line word is_a_word (hex_token 32) (hex_token 32) (omega arith) make first second whole is_first is_second
 
 -- the same line, where its values are said in other words
 pub line_same : {X : Type 0} {IsValue Is : X → Type 0} {text : X → List ℕ} {parse : List ℕ → Option X} → IsLine IsValue text parse

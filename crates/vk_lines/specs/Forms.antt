@@ -2,10 +2,11 @@
 -- that isn't as its place demands.
 use Rattle.std.specs.Prelude.{◌≡◌, ◌↔◌, ℕ, ◌+◌, ◌≤◌, ◌==◌, ◌&&◌, ◌<◌, slice_index_or, nat_lt, zero, suc, Bool, true, if◌then◌else◌, List, [], ◌∷◌, ◌++◌, length, Option, Some, None, Result, Ok, Err, IfSome}
 use Rattle.std.specs.List.{list_all, slice_split, join_with_byte}
+use Rattle.vk_residue.specs.Steps.{◌>>=◌}
 use Rattle.vk_io.specs.Files.{Files}
 use Rattle.vk_lines.specs.declared.errors.ReadErr.{ReadErr}
 use Rattle.vk_lines.specs.declared.errors.ReadErr.TheVariants.{Malformed, Failed, NoMemory}
-use Rattle.vk_lines.specs.Lines.{Rest, LinesValue, rest_of, ◌>>=◌}
+use Rattle.vk_lines.specs.Lines.{Rest, LinesValue, rest_of}
 use Rattle.vk_lines.specs.Tokens.{hex_text}
 
 -- ---- the text of a value, and what is read

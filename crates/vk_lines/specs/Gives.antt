@@ -11,9 +11,3 @@ Refuses None expected = Unit {0}
 abbrev pub Gives : {T E X F : Type 0} → (E → Option F) → (T → X) → Result T E → Result X F → Type 0
 Gives fault_of value (Ok x) expected = expected ≡ Ok (value x)
 Gives fault_of value (Err refusal) expected = Refuses (fault_of refusal) expected
-
--- one step after another: the first fault is the fault
-infixl 10 ◌>>=◌
-abbrev pub ◌>>=◌ : {A B F : Type 0} → Result A F → (A → Result B F) → Result B F
-Ok x >>= f = f x
-Err fault >>= f = Err fault

@@ -2,6 +2,7 @@
 use Rattle.std.specs.Prelude.{◌≡◌, ◌≢◌, ℕ, ◌+◌, ◌-◌, ◌^◌, ◌==◌, ◌<◌, ◌≤◌, nat_lt, min, Bool, true, false, if◌then◌else◌, List, [], length, unwrap_or, take, drop, Option, Some, None, Result, Ok, Err, codes, IsSome, IfSome, ◌++◌}
 use Rattle.std.specs.List.{position_or_len}
 use Rattle.std.specs.FinMap.{get}
+use Rattle.vk_residue.specs.Steps.{◌>>=◌}
 use Rattle.vk_io.specs.declared.errors.OutsideErr.{OutsideErr}
 use Rattle.vk_io.specs.Faults.{told_as}
 use Rattle.vk_io.specs.Files.{Files, bytes_of, part_of}
@@ -15,7 +16,6 @@ use Rattle.vk_lines.specs.declared.step.Step.TheVariants.{Text, End, Long, Cut}
 use Rattle.vk_lines.specs.Tokens.{word_of}
 use Rattle.vk_lines.specs.Gives.{Gives}
 pub use Rattle.vk_io.specs.Reads.{OnlyReads}
-pub use Rattle.vk_lines.specs.Gives.{◌>>=◌}
 
 -- what is left of a file: how many lines of it were taken, and the bytes after them
 pub record Rest : Type 0 where

@@ -6,6 +6,7 @@ use Rattle.std.specs.Char.{is_ascii_digit}
 use Rattle.std.specs.Str.Parse.{digits_value}
 use Rattle.std.specs.Result.{result_ok}
 use Rattle.vk_residue.specs.Residue.{modulus}
+use Rattle.vk_residue.specs.Steps.{◌>>?◌}
 use Rattle.hex.specs.Hex.{IsBytes, encode_lower, decode_sized}
 
 -- the fields of a line: its pieces between single spaces, of which some may be empty
@@ -58,12 +59,6 @@ ReadsHex count text result = (bytes : List ℕ) → (result ≡ Some bytes) ↔ 
 
 -- ---- lines of fields
 
--- a value that a text may not have: the first that it hasn't ends it
-infixl 10 ◌>>=◌
-abbrev pub ◌>>=◌ : {A B : Type 0} → Option A → (A → Option B) → Option B
-None >>= f = None
-Some x >>= f = f x
-
 -- whether a text is this word
 abbrev pub word_of : List ℕ → List ℕ → Option Unit
 word_of word text = if bytes_eq text word then Some tt else None
@@ -79,7 +74,7 @@ with_fields field (Some text) = field ∷ fields_of text
 
 -- the fields behind the first, where that is this word and there are more
 abbrev pub behind_word : List ℕ → List (List ℕ) → Option (List (List ℕ))
-behind_word word (tag ∷ field ∷ more) = word_of word tag >>= λ _. Some (field ∷ more)
+behind_word word (tag ∷ field ∷ more) = word_of word tag >>? λ _. Some (field ∷ more)
 behind_word word fields = None
 
 -- the fields where there is one, where there are two, and so on
@@ -88,29 +83,29 @@ one_of (a ∷ []) = Some a
 one_of fields = None
 
 abbrev pub two_of : List (List ℕ) → Option (List ℕ × List ℕ)
-two_of (a ∷ rest) = one_of rest >>= λ b. Some (a, b)
+two_of (a ∷ rest) = one_of rest >>? λ b. Some (a, b)
 two_of [] = None
 
 abbrev pub three_of : List (List ℕ) → Option (List ℕ × List ℕ × List ℕ)
-three_of (a ∷ rest) = two_of rest >>= λ fields. Some (a, fields.0, fields.1)
+three_of (a ∷ rest) = two_of rest >>? λ fields. Some (a, fields.0, fields.1)
 three_of [] = None
 
 abbrev pub four_of : List (List ℕ) → Option (List ℕ × List ℕ × List ℕ × List ℕ)
-four_of (a ∷ rest) = three_of rest >>= λ fields. Some (a, fields.0, fields.1, fields.2)
+four_of (a ∷ rest) = three_of rest >>? λ fields. Some (a, fields.0, fields.1, fields.2)
 four_of [] = None
 
 -- a line of a word and one field, a word and two, and so on, each field read by itself
 abbrev pub one_by : {X : Type 0} → List ℕ → (List ℕ → Option X) → List (List ℕ) → Option X
-one_by word parse fields = behind_word word fields >>= one_of >>= parse
+one_by word parse fields = behind_word word fields >>? one_of >>? parse
 
 abbrev pub one_field : {X : Type 0} → List ℕ → (List ℕ → Option X) → List ℕ → Option X
 one_field word parse text = one_by word parse (fields_of text)
 
 abbrev pub two_by : {A B X : Type 0} → List ℕ → (List ℕ → Option A) → (List ℕ → Option B) → (A → B → X) → List (List ℕ) → Option X
 two_by word first second make fields =
-    behind_word word fields >>= two_of >>= λ fields.
-    first fields.0 >>= λ a.
-    second fields.1 >>= λ b.
+    behind_word word fields >>? two_of >>? λ fields.
+    first fields.0 >>? λ a.
+    second fields.1 >>? λ b.
     Some (make a b)
 
 abbrev pub two_fields : {A B X : Type 0} → List ℕ → (List ℕ → Option A) → (List ℕ → Option B) → (A → B → X) → List ℕ → Option X
@@ -118,10 +113,10 @@ two_fields word first second make text = two_by word first second make (fields_o
 
 abbrev pub three_by : {A B C X : Type 0} → List ℕ → (List ℕ → Option A) → (List ℕ → Option B) → (List ℕ → Option C) → (A → B → C → X) → List (List ℕ) → Option X
 three_by word first second third make fields =
-    behind_word word fields >>= three_of >>= λ fields.
-    first fields.0 >>= λ a.
-    second fields.1 >>= λ b.
-    third fields.2 >>= λ c.
+    behind_word word fields >>? three_of >>? λ fields.
+    first fields.0 >>? λ a.
+    second fields.1 >>? λ b.
+    third fields.2 >>? λ c.
     Some (make a b c)
 
 abbrev pub three_fields : {A B C X : Type 0} → List ℕ → (List ℕ → Option A) → (List ℕ → Option B) → (List ℕ → Option C) → (A → B → C → X) → List ℕ → Option X
@@ -129,11 +124,11 @@ three_fields word first second third make text = three_by word first second thir
 
 abbrev pub four_by : {A B C D X : Type 0} → List ℕ → (List ℕ → Option A) → (List ℕ → Option B) → (List ℕ → Option C) → (List ℕ → Option D) → (A → B → C → D → X) → List (List ℕ) → Option X
 four_by word first second third fourth make fields =
-    behind_word word fields >>= four_of >>= λ fields.
-    first fields.0 >>= λ a.
-    second fields.1 >>= λ b.
-    third fields.2 >>= λ c.
-    fourth fields.3 >>= λ d.
+    behind_word word fields >>? four_of >>? λ fields.
+    first fields.0 >>? λ a.
+    second fields.1 >>? λ b.
+    third fields.2 >>? λ c.
+    fourth fields.3 >>? λ d.
     Some (make a b c d)
 
 abbrev pub four_fields : {A B C D X : Type 0} → List ℕ → (List ℕ → Option A) → (List ℕ → Option B) → (List ℕ → Option C) → (List ℕ → Option D) → (A → B → C → D → X) → List ℕ → Option X
@@ -143,7 +138,7 @@ four_fields word first second third fourth make text = four_by word first second
 
 -- a line of a word and a number from `least` to `most`
 abbrev pub number_token : ℕ → ℕ → List ℕ → Option ℕ
-number_token least most text = decimal_of most text >>= meets (λ number. nat_le least number)
+number_token least most text = decimal_of most text >>? meets (λ number. nat_le least number)
 
 abbrev pub number_line : List ℕ → ℕ → ℕ → List ℕ → Option ℕ
 number_line word least most text = one_field word (number_token least most) text
@@ -152,6 +147,10 @@ number_line word least most text = one_field word (number_token least most) text
 abbrev pub id_line : List ℕ → List ℕ → Option (List ℕ)
 id_line word text = one_field word (hex_of 16) text
 
--- a line of a word and two digests of 32 bytes
-abbrev pub digests_line : List ℕ → List ℕ → Option (List ℕ × List ℕ)
-digests_line word text = two_fields word (hex_of 32) (hex_of 32) (λ first second. (first, second)) text
+-- two digests
+abbrev pub HasDigests : List ℕ → List ℕ → Type 0
+HasDigests first second = ((length first ≡ 32) × IsBytes first) × ((length second ≡ 32) × IsBytes second)
+
+-- a line of a word and two digests of 32 bytes, as what they make
+abbrev pub digests_line : {X : Type 0} → (List ℕ → List ℕ → X) → List ℕ → List ℕ → Option X
+digests_line make word text = two_fields word (hex_of 32) (hex_of 32) make text

@@ -3,6 +3,7 @@
 
 mod buffer;
 mod cutting;
+mod digests;
 mod digits;
 mod errors;
 mod lines;
@@ -14,6 +15,7 @@ mod writing;
 pub use cutting::{
     behind_word, field, fields, four_fields, one_field, read_word, three_fields, two_fields,
 };
+pub use digests::{DigestsLine, push_digests_lines};
 pub use digits::{push_hex, read_hex16, read_hex32};
 pub use errors::{ReadErr, StartErr};
 pub use lines::Lines;

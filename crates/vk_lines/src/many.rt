@@ -14,13 +14,13 @@ use vk_seq::Seq;
 
 /// A kind of line, of which several stand one after another, numbered from 0.
 pub trait LineKind {
-    ghost use Rattle.std.specs.Prelude.{◌≡◌, ◌<◌, ℕ, List, Option, IfSome};
+    ghost use Rattle.std.specs.Prelude.{◌≡◌, ◌<◌, ◌^◌, ℕ, List, Option, IfSome};
 
     /// What such a line says.
     type Item: Drop;
 
     /// How many such lines there may be.
-    ghost most: { Self → ℕ };
+    ghost most: { Self → ℕ } = { λ _. 2 ^ 32 };
 
     /// What the line of that number says, where it is such a line.
     ghost item_of: { Self → ℕ → List ℕ → Option Self.Item };

@@ -3,10 +3,11 @@
 ghost use Rattle.std.specs.Prelude.{◌≡◌, ◌++◌, decimal, length, drop, IfSome, OnErr, OnOk, ◌≤◌};
 ghost use Rattle.hex.specs.Hex.{IsBytes};
 ghost use Rattle.vk_residue.specs.Residue.{IsResidue};
-ghost use Rattle.vk_lines.specs.Tokens.{number_line, id_line, digests_line, decimal_of, residue_of, ReadsDecimal, next_number, starts_canonical};
+ghost use Rattle.vk_lines.specs.Tokens.{number_line, id_line, digests_line, HasDigests, decimal_of, residue_of, ReadsDecimal, next_number, starts_canonical};
 
 use crate::cutting::{behind_word, one_field, two_fields};
 use crate::digits::{read_hex16, read_hex32};
+use vk_digests::TwoDigests;
 use vk_residue::{MODULUS, NoMemory, Residue};
 
 /// The number whose canonical decimal the text is: digits alone, and no zero before others.
@@ -84,14 +85,15 @@ pub fn read_id(text: &[u8], word: &[u8]) -> Option<[u8; 16]>
     id
 }
 
-/// The digests of a line of this word and twice 32 bytes in hexadecimal.
-pub fn read_digests(text: &[u8], word: &[u8]) -> Option<([u8; 32], [u8; 32])>
-    ensures { result ≡ digests_line word.now text.now }
+/// What the digests make of a line of this word and twice 32 bytes in hexadecimal.
+pub fn read_digests<C: TwoDigests + Drop>(text: &[u8], word: &[u8]) -> Option<C>
+    ensures value { result ≡ digests_line C.made word.now text.now }
+    ensures bytes { IfSome result (λ item. HasDigests (C.first_of item) (C.second_of item)) }
 {
     let (first, second) = two_fields(behind_word(text, word)?)?;
     let first = read_hex32(first)?;
     let second = read_hex32(second)?;
-    Some((first, second))
+    Some(C::of_two(first, second))
 }
 
 /// Appends the canonical decimal of a number. After `NoMemory`, `out` is as before.

@@ -1,7 +1,8 @@
 -- A challenge is read from its text alone, and reading stops at the fault line.
 use Rattle.std.proofs.Common.{◌≡◌, ℕ, ◌≤◌, Bool, List, [], ◌∷◌, ◌++◌, length, codes, Result, Ok, refl, ap, arith}
 use Rattle.std.specs.Result.{result_err}
-use Rattle.vk_lines.specs.Lines.{Rest, ◌>>=◌, line_by, end_at}
+use Rattle.vk_residue.specs.Steps.{◌>>=◌}
+use Rattle.vk_lines.specs.Lines.{Rest, line_by, end_at}
 use Rattle.vk_lines.specs.Forms.{line, spaced, IsWhole, Ends, fault_line, whole}
 use Rattle.vk_lines.proofs.Words.{fixed_line}
 use Rattle.vk_lines.proofs.Parts.{line_part, whole_then, whole_end, whole_same}

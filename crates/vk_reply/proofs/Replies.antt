@@ -2,10 +2,11 @@
 use Rattle.std.proofs.Common.{◌≡◌, ℕ, zero, suc, ◌+◌, ◌^◌, ◌<◌, ◌≤◌, nat_le, true, Bool, List, [], ◌∷◌, ◌++◌, length, drop, codes, decimal, flat_map, get_or, slice_get, slice_index_or, Some, option_map, Result, Ok, refl, ap, sym, ◌∙◌, arith, subst, length-append}
 use Rattle.std.proofs.lemmas.Bool.{le-leb, leb-true}
 use Rattle.std.specs.Result.{result_err}
-use Rattle.vk_lines.specs.Lines.{Rest, ◌>>=◌, end_at}
+use Rattle.vk_residue.specs.Steps.{◌>>=◌}
+use Rattle.vk_lines.specs.Lines.{Rest, end_at}
 use Rattle.vk_lines.specs.Forms.{line, spaced, numbered_text, EachAfter, IsPart, IsWhole, Follows, Ends, Table, fault_at, fault_line, many_onto, whole}
-use Rattle.vk_lines.proofs.Words.{fixed_line, number_line_is}
-use Rattle.vk_lines.proofs.Parts.{line_part, many_part, part_then, part_same, whole_then, whole_end, whole_same}
+use Rattle.vk_lines.proofs.Words.{number_line_is}
+use Rattle.vk_lines.proofs.Parts.{line_part, many_part, part_headed, part_then, part_same, whole_then, whole_end, whole_same}
 use Rattle.vk_lines.proofs.Each.{at_from_each, each_from_at}
 use Rattle.vk_lines.proofs.Numbered.{numbered_part}
 use Rattle.vk_lines.proofs.Faults.{line_follows, follows_then, follows_done, many_follows, ends_then, end_ends, ends_done, fault_line_is}
@@ -24,20 +25,19 @@ use Rattle.vk_reply.proofs.Wires.{AreWires, from_shown, to_shown}
 abbrev IsCount : ℕ → Type 0
 IsCount lanes = (1 ≤ lanes) × (lanes ≤ 64)
 
-head_part : IsPart (λ lanes. Unit {0} × ((lanes ≤ 64) × (nat_le 1 lanes ≡ true)))
+head_part : IsPart (λ lanes. (lanes ≤ 64) × (nat_le 1 lanes ≡ true))
     (λ lanes. line (codes "vickrey-reply 1") ++ line (spaced (codes "lanes" ∷ decimal lanes ∷ []))) reply_head_at
 unfolding reply_head_at
 head_part =
-    part_then {X = Unit {0}} {IsZ = λ _ lanes. (lanes ≤ 64) × (nat_le 1 lanes ≡ true)} {text_z = λ _ lanes. line (spaced (codes "lanes" ∷ decimal lanes ∷ []))} (λ lanes. tt)
-    (line_part (fixed_line (codes "vickrey-reply 1") refl (omega arith)))
-    (λ heading _. line_part (number_line_is (codes "lanes") 1 64 refl (omega arith) (omega arith))) (λ heading lanes is. refl)
+    part_headed (codes "vickrey-reply 1") refl (omega arith)
+    (line_part (number_line_is (codes "lanes") 1 64 refl (omega arith) (omega arith)))
 
 pub head_is_part : IsPart IsCount reply_head_text reply_head_at
 unfolding reply_head_text
 head_is_part =
     part_same head_part
-    (λ lanes is. (leb-true 1 lanes is.1.1, is.1.0))
-    (λ lanes is. (tt, (is.1, le-leb 1 lanes is.0)))
+    (λ lanes is. (leb-true 1 lanes is.1, is.0))
+    (λ lanes is. (is.1, le-leb 1 lanes is.0))
     (λ lanes. refl)
 
 -- ---- a lane
@@ -122,8 +122,8 @@ pub reply_is_whole : (kinds : List WireKind) (bit_of : ℕ → Bool) → IsWhole
 unfolding reply_text
 reply_is_whole kinds bit_of =
     whole_same (reply_whole kinds bit_of)
-    (λ lanes is. record { some_lane = is.0.0; few_lanes = is.0.1; each = to_lanes kinds bit_of lanes is.1.0.1 })
-    (λ lanes is. ((is.some_lane, is.few_lanes), ((refl, from_lanes kinds bit_of lanes is.each), refl)))
+    (λ lanes is. record { count = record { least = is.0.0; most = is.0.1 }; each = to_lanes kinds bit_of lanes is.1.0.1 })
+    (λ lanes is. ((is.count.least, is.count.most), ((refl, from_lanes kinds bit_of lanes is.each), refl)))
     (λ lanes. refl)
 
 -- ---- the fault line

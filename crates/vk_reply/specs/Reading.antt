@@ -1,8 +1,9 @@
 -- How a challenge and a reply are read, line by line. The laws say that this is exactly their texts, and
 -- stops at the fault line.
 use Rattle.std.specs.Prelude.{ℕ, ◌+◌, Bool, true, false, List, length, codes, slice_index_or, Option, option_map, Result, Ok}
+use Rattle.vk_residue.specs.Steps.{◌>>=◌}
 use Rattle.vk_commit.specs.declared.place.Opening.{Opening}
-use Rattle.vk_lines.specs.Lines.{Rest, ◌>>=◌, line_by, end_at}
+use Rattle.vk_lines.specs.Lines.{Rest, line_by, end_at}
 use Rattle.vk_lines.specs.Forms.{many_at}
 use Rattle.vk_lines.specs.Tokens.{hex_of, word_of, number_line, two_fields, three_fields, four_fields}
 use Rattle.vk_plan.specs.declared.wire.WireKind.{WireKind}

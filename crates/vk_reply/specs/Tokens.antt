@@ -2,8 +2,9 @@
 use Rattle.std.specs.Prelude.{ℕ, ◌==◌, ◌&&◌, ◌||◌, nat_le, Bool, true, false, if◌then◌else◌, List, length, map, codes, Option, Some, None}
 use Rattle.std.specs.List.{list_all}
 use Rattle.std.specs.Str.{bytes_eq}
+use Rattle.vk_residue.specs.Steps.{◌>>?◌}
 use Rattle.vk_commit.specs.declared.place.Opening.{Opening}
-use Rattle.vk_lines.specs.Tokens.{◌>>=◌, residue_of, hex_of, one_field}
+use Rattle.vk_lines.specs.Tokens.{residue_of, hex_of, one_field}
 
 -- ---- bits
 
@@ -33,6 +34,6 @@ opening_by key value = record { key = key; value = value }
 
 abbrev pub opening_of : List ℕ → List ℕ → Option Opening
 opening_of key value =
-    hex_of 32 key >>= λ bytes.
-    residue_of value >>= λ number.
+    hex_of 32 key >>? λ bytes.
+    residue_of value >>? λ number.
     Some (opening_by bytes number)

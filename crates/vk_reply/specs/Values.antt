@@ -1,5 +1,6 @@
 -- Challenges and replies: which there are.
 use Rattle.std.specs.Prelude.{◌≡◌, ℕ, ◌+◌, ◌≤◌, Bool, true, List, length, Some, slice_get}
+use Rattle.vk_residue.specs.Limits.{IsLaneCount}
 use Rattle.vk_commit.specs.Values.{IsOpening}
 use Rattle.vk_plan.specs.declared.wire.WireKind.{WireKind}
 use Rattle.vk_wire.specs.declared.wire.Shown.{Shown}
@@ -30,6 +31,5 @@ pub record AreShown (kinds : List WireKind) (bit : Bool) (shown : List Shown) : 
 
 -- a reply: what is shown of each of up to 64 lanes, of which the first is lane 1, each for its bit
 pub record IsReply (kinds : List WireKind) (bit_of : ℕ → Bool) (lanes : List (List Shown)) : Type 0 where
-  pub some_lane : 1 ≤ length lanes
-  pub few_lanes : length lanes ≤ 64
+  pub count : IsLaneCount (length lanes)
   pub each : (index : ℕ) (shown : List Shown) → slice_get lanes index ≡ Some shown → AreShown kinds (bit_of (index + 1)) shown

@@ -2,9 +2,9 @@
 use Rattle.std.proofs.Common.{◌≡◌, ℕ, ◌^◌, ◌≤◌, nat_lt, Bool, true, false, if◌then◌else◌, List, length, Option, Some, None, Result, Ok, Err, refl, ap, sym, ◌∙◌, arith, subst}
 use Rattle.std.specs.FinMap.{get}
 use Rattle.std.proofs.lemmas.Bool.Decides.{nat_tests}
+use Rattle.vk_residue.specs.Steps.{◌>>=◌}
 use Rattle.vk_io.specs.Files.{Files}
 use Rattle.vk_lines.specs.Lines.{Rest, end_at, started}
-use Rattle.vk_lines.specs.Lines as lines
 use Rattle.vk_lines.proofs.Parts.{bind_ok, ok_same}
 use Rattle.vk_board.specs.declared.board.Head.{Head}
 use Rattle.vk_board.specs.declared.board.SealLines.{SealLines}
@@ -15,7 +15,6 @@ use Rattle.vk_board.specs.declared.front.Front.{Front}
 use Rattle.vk_board.specs.Fronts.{FrontFault, front_with, front_at}
 use Rattle.vk_board.specs.Fronts as fronts
 use Rattle.vk_board.specs.Published.{price_stands, position_of}
-use Rattle.vk_lines.specs.Gives.{◌>>=◌}
 use Rattle.vk_board.proofs.Boards.{board_is_whole, board_with}
 use Rattle.vk_board.proofs.Prices.{price_found}
 use Rattle.vk_board.proofs.Fronts.{FrontRead, front_right, front_at_shown, front_at_found}
@@ -74,9 +73,9 @@ parts_of rest over last head seals lanes board are same =
 board_parts : (rest : Rest) (board : Board) (over : Rest) → board_at auction_shape rest ≡ Ok (board, over) → AreParts rest board.head board.seals board.lanes over
 unfolding board_at
 board_parts rest board over some =
-    let head = bind_ok (head_at rest) (λ head. lines.◌>>=◌ (seals_at head.0 head.1) (λ seals. lines.◌>>=◌ (lanes_at auction_shape head.0 seals.1) (λ lanes. lines.◌>>=◌ (end_at lanes.1) (λ last. Ok (board_with head.0 seals.0 lanes.0, last.1))))) (board, over) some in
-    let seals = bind_ok (seals_at head.0.0 head.0.1) (λ seals. lines.◌>>=◌ (lanes_at auction_shape head.0.0 seals.1) (λ lanes. lines.◌>>=◌ (end_at lanes.1) (λ last. Ok (board_with head.0.0 seals.0 lanes.0, last.1)))) (board, over) head.2 in
-    let lanes = bind_ok (lanes_at auction_shape head.0.0 seals.0.1) (λ lanes. lines.◌>>=◌ (end_at lanes.1) (λ last. Ok (board_with head.0.0 seals.0.0 lanes.0, last.1))) (board, over) seals.2 in
+    let head = bind_ok (head_at rest) (λ head. ◌>>=◌ (seals_at head.0 head.1) (λ seals. ◌>>=◌ (lanes_at auction_shape head.0 seals.1) (λ lanes. ◌>>=◌ (end_at lanes.1) (λ last. Ok (board_with head.0 seals.0 lanes.0, last.1))))) (board, over) some in
+    let seals = bind_ok (seals_at head.0.0 head.0.1) (λ seals. ◌>>=◌ (lanes_at auction_shape head.0.0 seals.1) (λ lanes. ◌>>=◌ (end_at lanes.1) (λ last. Ok (board_with head.0.0 seals.0 lanes.0, last.1)))) (board, over) head.2 in
+    let lanes = bind_ok (lanes_at auction_shape head.0.0 seals.0.1) (λ lanes. ◌>>=◌ (end_at lanes.1) (λ last. Ok (board_with head.0.0 seals.0.0 lanes.0, last.1))) (board, over) seals.2 in
     let last = bind_ok (end_at lanes.0.1) (λ last. Ok (board_with head.0.0 seals.0.0 lanes.0.0, last.1)) (board, over) lanes.2 in
     parts_of rest over last.0.1 head.0.0 seals.0.0 lanes.0.0 board (record {
       after_head = head.0.1;
@@ -163,7 +162,7 @@ reported files name report some =
       file = held.0;
       held = held.1;
       short = held.2;
-      publishes = record {
+      holds = record {
         board = board;
         text = whole.1;
         is_board = whole.0;
@@ -176,7 +175,7 @@ reported files name report some =
 pub is_reported : (files : Files) (name : List ℕ) (report : Report) → IsReportOn files name report → report_on files name ≡ Ok report
 unfolding report_on
 is_reported files name report is =
-    let publishes = is.publishes in
+    let publishes = is.holds in
     let board : Board = publishes.board in
     let rest : Rest = record { taken = 0; left = is.file } in
     let read = (board_is_whole auction_shape).found rest board publishes.is_board publishes.text in

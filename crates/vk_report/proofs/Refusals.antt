@@ -3,10 +3,9 @@ use Rattle.std.proofs.Common.{◌≡◌, ℕ, ◌^◌, nat_lt, Bool, true, false
 use Rattle.std.specs.FinMap.{get}
 use Rattle.std.specs.Result.{result_err}
 use Rattle.std.proofs.lemmas.Bool.Decides.{nat_tests}
+use Rattle.vk_residue.specs.Steps.{◌>>=◌}
 use Rattle.vk_io.specs.Files.{Files}
 use Rattle.vk_lines.specs.Lines.{Rest, end_at, started}
-use Rattle.vk_lines.specs.Lines as lines
-use Rattle.vk_lines.specs.Gives.{◌>>=◌}
 use Rattle.vk_lines.specs.declared.errors.StartErr.TheVariants as start
 use Rattle.vk_board.specs.declared.board.LaneLines.{LaneLines}
 use Rattle.vk_board.specs.declared.front.Front.{Front}
@@ -39,13 +38,13 @@ report_or_line front (Ok board) = Ok (report_with front)
 report_or_line front (Err line) = Err (Malformed line)
 
 by_end : (front : Front) (lanes : List LaneLines) (over : Result (Unit {0} × Rest) ℕ)
-    → (in_board over >>= λ over. Ok (report_with front)) ≡ report_or_line front (lines.◌>>=◌ over (λ over. Ok (board_with front.head front.seals lanes, over.1)))
+    → (in_board over >>= λ over. Ok (report_with front)) ≡ report_or_line front (◌>>=◌ over (λ over. Ok (board_with front.head front.seals lanes, over.1)))
 by_end front lanes (Ok over) = refl
 by_end front lanes (Err line) = refl
 
 by_lanes : (front : Front) (lanes : Result (List LaneLines × Rest) ℕ)
     → (in_board (passed lanes) >>= λ passed. in_board (end_at passed.1) >>= λ over. Ok (report_with front))
-    ≡ report_or_line front (lines.◌>>=◌ lanes (λ lanes. lines.◌>>=◌ (end_at lanes.1) (λ over. Ok (board_with front.head front.seals lanes.0, over.1))))
+    ≡ report_or_line front (◌>>=◌ lanes (λ lanes. ◌>>=◌ (end_at lanes.1) (λ over. Ok (board_with front.head front.seals lanes.0, over.1))))
 by_lanes front (Ok lanes) = by_end front lanes.0 (end_at lanes.1)
 by_lanes front (Err line) = refl
 
@@ -132,8 +131,8 @@ by_length file long = in_start (if long then Err start.TooLong else Ok (from_sta
 
 module _ (files : Files) (name : List ℕ) where
   of_bytes : (refusal : ReportErr) → FailsIn files name refusal → IsUnreported files name refusal
-  of_bytes Missing fails = absurd fails.fails
-  of_bytes TooLong fails = absurd fails.fails
+  of_bytes Missing fails = absurd fails.holds
+  of_bytes TooLong fails = absurd fails.holds
   of_bytes (Malformed line) fails = fails
   of_bytes Price fails = fails
   of_bytes Winner fails = fails
@@ -145,7 +144,7 @@ module _ (files : Files) (name : List ℕ) where
       → IsUnreported files name refusal
   when_held file true refusal is test stop = subst (IsUnreported files name) (refusal_same TooLong refusal stop) (file, is, grind (arith, nat_tests, test))
   when_held file false refusal is test stop =
-      of_bytes refusal (record { file = file; held = is; short = grind (arith, nat_tests, test); fails = refused_holds file refusal stop })
+      of_bytes refusal (record { file = file; held = is; short = grind (arith, nat_tests, test); holds = refused_holds file refusal stop })
 
   when_told : (told : Option (List ℕ)) (refusal : ReportErr) → get files name ≡ told → from_told told ≡ Err refusal → IsUnreported files name refusal
   when_told None refusal is stop = subst (IsUnreported files name) (refusal_same Missing refusal stop) is
@@ -153,7 +152,7 @@ module _ (files : Files) (name : List ℕ) where
 
   bytes_refused : (refusal : ReportErr) → FailsIn files name refusal → from_told (get files name) ≡ Err refusal
   bytes_refused refusal fails =
-      ap from_told fails.held ∙ (ap (λ begins. begins >>= report_at) (started_found fails.file fails.short) ∙ holds_refused refusal fails.file fails.fails)
+      ap from_told fails.held ∙ (ap (λ begins. begins >>= report_at) (started_found fails.file fails.short) ∙ holds_refused refusal fails.file fails.holds)
 
   is_refused : (refusal : ReportErr) → IsUnreported files name refusal → from_told (get files name) ≡ Err refusal
   is_refused Missing is = ap from_told is

@@ -35,12 +35,16 @@ pub record Publishes (file : List ℕ) (report : Report) : Type 0 where
     rows = row_count board.head.seals;
   }
 
--- a file of that name is held, has at most 2^30 bytes, and publishes what the report says
-pub record IsReportOn (files : Files) (name : List ℕ) (report : Report) : Type 0 where
+-- a file of that name is held, has at most 2^30 bytes, and this holds of them
+pub record HoldsOfNamed (files : Files) (name : List ℕ) (Holds : List ℕ → Type 0) : Type 0 where
   pub file : List ℕ
   pub held : get files name ≡ Some file
   pub short : length file ≤ 2 ^ 30
-  pub publishes : Publishes file report
+  pub holds : Holds file
+
+-- the named file publishes what the report says
+abbrev pub IsReportOn : Files → List ℕ → Report → Type 0
+IsReportOn files name report = HoldsOfNamed files name (λ file. Publishes file report)
 
 abbrev pub ReportedExactly : Type 0
 ReportedExactly = (files : Files) (name : List ℕ) (report : Report) → (report_on files name ≡ Ok report) ↔ IsReportOn files name report
@@ -70,12 +74,9 @@ ReportFails TooLong file = ⊥
 ReportFails Failed file = ⊥
 ReportFails NoMemory file = ⊥
 
--- a file of that name is held, has at most 2^30 bytes, and the refusal holds of them
-pub record FailsIn (files : Files) (name : List ℕ) (refusal : ReportErr) : Type 0 where
-  pub file : List ℕ
-  pub held : get files name ≡ Some file
-  pub short : length file ≤ 2 ^ 30
-  pub fails : ReportFails refusal file
+-- the refusal holds of the named file
+abbrev pub FailsIn : Files → List ℕ → ReportErr → Type 0
+FailsIn files name refusal = HoldsOfNamed files name (ReportFails refusal)
 
 -- the named file isn't reported on: none is held, it has more than 2^30 bytes, or the refusal holds of its bytes
 abbrev pub IsUnreported : Files → List ℕ → ReportErr → Type 0

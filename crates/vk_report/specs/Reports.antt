@@ -2,6 +2,7 @@
 use Rattle.std.specs.Prelude.{◌≡◌, ℕ, ◌-◌, ◌*◌, List, [], ◌∷◌, ◌++◌, length, Contains, codes, decimal, Option, Some, None, Result, Ok, Err}
 use Rattle.std.specs.List.{flat_map}
 use Rattle.std.specs.FinMap.{get}
+use Rattle.vk_residue.specs.Steps.{◌>>=◌}
 use Rattle.vk_io.specs.Files.{Files}
 use Rattle.vk_lines.specs.Forms.{line, spaced}
 use Rattle.vk_lines.specs.declared.errors.StartErr.{StartErr}
@@ -13,7 +14,6 @@ use Rattle.vk_board.specs.Values.{IsHead, Shape}
 use Rattle.vk_board.specs.Reading.{lanes_at, seats_of}
 use Rattle.vk_board.specs.Fronts.{FrontFault, PriceStands, front_at}
 use Rattle.vk_board.specs.Fronts as fronts
-use Rattle.vk_lines.specs.Gives.{◌>>=◌}
 use Rattle.vk_vickrey.specs.VickreyPlans.{wire_count, row_count}
 use Rattle.vk_report.specs.Causes.{of_start}
 use Rattle.vk_report.specs.declared.report.Report.{Report}

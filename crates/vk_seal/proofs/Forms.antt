@@ -4,26 +4,27 @@ use Rattle.std.specs.Result.{result_err}
 use Rattle.std.specs.List.{AllByRecursion}
 use Rattle.hex.specs.Hex.{IsBytes}
 use Rattle.vk_residue.specs.Residue.{modulus}
-use Rattle.vk_lines.specs.Lines.{Rest, ◌>>=◌, line_by}
+use Rattle.vk_residue.specs.Steps.{◌>>=◌}
+use Rattle.vk_lines.specs.Lines.{Rest, line_by}
 use Rattle.vk_lines.specs.Forms.{line, spaced, is_plain, IsLine, IsPart, IsWhole, EachAfter, Follows, Ends, fault_line, whole}
 use Rattle.vk_lines.specs.Tokens.{hex_text, id_line, number_line, word_of}
-use Rattle.vk_lines.proofs.Words.{decimal_token, hex_token, fixed_line, number_line_is, id_line_is, two_line, three_line, line_same, from_test, to_test, InRange, below_from, below_to}
-use Rattle.vk_lines.proofs.Parts.{line_part, many_part, part_then, part_last, part_same, whole_then, whole_last, whole_end, whole_same, each_from_all, all_from_each}
+use Rattle.vk_lines.proofs.Words.{decimal_token, hex_token, number_line_is, id_line_is, digests_line_is, three_line, line_same, from_test, to_test, InRange, below_from, below_to}
+use Rattle.vk_lines.proofs.Parts.{line_part, many_part, part_headed, part_then, part_last, part_same, whole_then, whole_last, whole_end, whole_same, each_from_all, all_from_each}
 use Rattle.vk_lines.proofs.Faults.{line_follows, many_follows, follows_then, follows_done, ends_then, ends_made, end_ends, ends_done, fault_line_is}
+use Rattle.vk_wire.specs.Coms.{com_by}
 use Rattle.vk_wire.specs.Values.{IsCom}
 use Rattle.vk_seal.specs.declared.secret.Secret.{Secret}
 use Rattle.vk_seal.specs.declared.secret.Seal.{Seal}
 use Rattle.vk_seal.specs.Values.{IsSeal, IsSecret, IsXTape}
 use Rattle.vk_seal.specs.Texts.{com_text, tape_text, seat_text, lanes_text, seal_text, secret_text}
-use Rattle.vk_seal.specs.Reading.{com_by, com_line, com_at, tape_by, tape_line, tape_at, seat_at, lanes_at, seal_with, seal_at, secret_with, secret_at}
+use Rattle.vk_seal.specs.Reading.{com_line, com_at, tape_by, tape_line, tape_at, seat_at, lanes_at, seal_with, seal_at, secret_with, secret_at}
 use Rattle.vk_seal.specs.Tables.{Place, Heading, Auction, Seat, Bid, Count, Lanes, Over, table_by, seal_table, secret_table}
 
 -- ---- lines
 
 com_line_is : (lane : ℕ) → IsLine IsCom com_text (com_at lane)
-unfolding com_at
 com_line_is lane =
-    two_line (codes "x") refl (hex_token 32) (hex_token 32) (omega arith) com_by (λ digests. digests.first) (λ digests. digests.second)
+    digests_line_is (codes "x") refl (omega arith) com_by (λ digests. digests.first) (λ digests. digests.second)
     (λ x. refl) (λ a b. refl) (λ a b. refl)
 
 -- a mask that is at most the greatest residue is a residue
@@ -72,12 +73,9 @@ id_part =
 place_is_part : (heading : List ℕ) → is_plain heading ≡ true → length heading ≤ 255 → IsPart IsPlace (λ place. seat_text heading place.0 place.1) (seat_at heading)
 unfolding seat_at seat_text
 place_is_part heading plain short =
-    part_same (
-    part_then {X = Unit {0}} {IsZ = λ _ place. IdOf place} {text_z = λ _ place. id_text place} (λ place. tt)
-    (line_part (fixed_line heading plain short)) (λ first _. id_part) (λ first place is. refl)
-    )
-    (λ place is. (is.1.0, (from_test 1 place.1 is.1.1.0.1, is.1.1.0.0)))
-    (λ place is. (tt, (is.0, ((is.1.1, to_test 1 place.1 is.1.0), refl))))
+    part_same (part_headed heading plain short id_part)
+    (λ place is. (is.0, (from_test 1 place.1 is.1.0.1, is.1.0.0)))
+    (λ place is. (is.0, ((is.1.1, to_test 1 place.1 is.1.0), refl)))
     (λ place. refl)
 
 -- ---- the lanes and the end
@@ -125,11 +123,10 @@ seal_is_whole =
       id = is.0.0;
       some_seat = is.0.1.0;
       last_seat = is.0.1.1;
-      some_lane = is.1.0.0;
-      few_lanes = is.1.0.1;
+      count = record { least = is.1.0.0; most = is.1.0.1 };
       coms = is.1.0.2;
     })
-    (λ seal is. ((is.id, (is.some_seat, is.last_seat)), ((is.some_lane, is.few_lanes, is.coms), refl)))
+    (λ seal is. ((is.id, (is.some_seat, is.last_seat)), ((is.count.least, is.count.most, is.coms), refl)))
     (λ seal. refl)
 
 abbrev TapesOf : List ℕ × ℕ → ℕ → Secret → Type 0
@@ -162,13 +159,12 @@ secret_is_whole =
       some_seat = is.0.1.0;
       last_seat = is.0.1.1;
       small_bid = below_from (2 ^ 40) secret.bid (omega arith) is.1.0.0;
-      some_lane = is.1.1.0.0;
-      few_lanes = is.1.1.0.1;
+      count = record { least = is.1.1.0.0; most = is.1.1.0.1 };
       tapes = is.1.1.0.2;
     })
     (λ secret is. (
       (is.id, (is.some_seat, is.last_seat)),
-      ((below_to (2 ^ 40) secret.bid is.small_bid, to_test 0 secret.bid (omega arith)), ((is.some_lane, is.few_lanes, is.tapes), refl)),
+      ((below_to (2 ^ 40) secret.bid is.small_bid, to_test 0 secret.bid (omega arith)), ((is.count.least, is.count.most, is.tapes), refl)),
     ))
     (λ secret. refl)
 
@@ -195,7 +191,7 @@ lanes_end heading behind parse read same =
     (λ lanes. ends_done table (Lanes zero) lanes (end_ends table (Lanes zero) Over (λ text. refl) refl (λ text. refl) refl)))
 
 pub seal_ends : Ends seal_table Heading seal_at
-unfolding seal_at com_at
+unfolding seal_at
 seal_ends =
     ends_then seal_table Heading (place_follows (codes "vickrey-seal 1") Count com_line)
     (λ place. ends_made seal_table Count (seal_with place) (lanes_end (codes "vickrey-seal 1") Count com_line com_at (λ lane text. refl)))

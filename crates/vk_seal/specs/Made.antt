@@ -1,8 +1,9 @@
 -- A secret as it is drawn from words, and the seal of a secret.
-use Rattle.std.specs.Prelude.{◌≡◌, ℕ, zero, suc, ◌+◌, ◌^◌, nat_lt, if◌then◌else◌, List, [], ◌∷◌, ◌++◌, length, Option, Some, None, Result, Ok, Err, option_map}
+use Rattle.std.specs.Prelude.{◌≡◌, ℕ, ◌+◌, ◌^◌, nat_lt, if◌then◌else◌, List, [], ◌∷◌, Option, Result, Ok, Err}
 use Rattle.vk_commit.specs.declared.place.Place.{Place}
 use Rattle.vk_dice.specs.Words.{later}
-use Rattle.vk_dice.specs.Draws.{drawn_residue, after_residue, drawn_key}
+use Rattle.vk_dice.specs.Draws.{after_residue, drawn_key}
+use Rattle.vk_dice.specs.Many.{Drawing, with_residue, drawn_onto, after_draws}
 use Rattle.vk_plan.specs.declared.wire.WireKind.TheVariants.{Split}
 use Rattle.vk_wire.specs.Made.{made_com}
 use Rattle.vk_wire.specs.declared.wire.WireCom.{WireCom}
@@ -13,45 +14,30 @@ use Rattle.vk_seal.specs.declared.secret.Secret.{Secret}
 use Rattle.vk_seal.specs.declared.secret.Seal.{Seal}
 use Rattle.vk_seal.specs.Values.{wire_tape}
 
--- the tape of a lane: a residue and two keys, drawn in this order; none where no residue can be drawn
+-- the tape of a lane with that mask: two keys are drawn
+abbrev pub tape_with : ℕ → (ℕ → ℕ) → XTape
+tape_with mask ahead = record { mask = mask; first_key = drawn_key ahead; second_key = drawn_key (later 4 ahead) }
+
+-- the tape of a lane: a residue is drawn, and the keys after it; none where no residue can be drawn
 abbrev pub drawn_tape : (ℕ → ℕ) → Option XTape
-drawn_tape ahead =
-    option_map (λ mask. record {
-      mask = mask;
-      first_key = drawn_key (after_residue ahead);
-      second_key = drawn_key (later 4 (after_residue ahead));
-    }) (drawn_residue ahead)
+drawn_tape ahead = with_residue tape_with ahead
 
 -- the words ahead after that draw
 abbrev pub after_tape : (ℕ → ℕ) → ℕ → ℕ
 after_tape ahead = later 4 (later 4 (after_residue ahead))
 
--- the same where the tape may be none: then the words after the residue that can't be drawn
-abbrev pub after_drawn : Option XTape → (ℕ → ℕ) → ℕ → ℕ
-after_drawn None ahead = after_residue ahead
-after_drawn (Some tape) ahead = after_tape ahead
+-- the draw of a lane's tape; where no residue can be drawn, only the words looked at for it are taken
+abbrev pub tape_drawing : Drawing XTape
+tape_drawing = record { drawn = drawn_tape; after = after_tape; dry = after_residue }
 
--- what comes of the tapes after this one, where it could be drawn
-abbrev pub tapes_after : {A : Type 0} → ℕ → (XTape → Result A ℕ) → Option XTape → Result A ℕ
-tapes_after lane rest None = Err lane
-tapes_after lane rest (Some tape) = rest tape
+-- lanes count from 1
+abbrev pub by_lane : Result (List XTape) ℕ → Result (List XTape) ℕ
+by_lane (Ok tapes) = Ok tapes
+by_lane (Err before) = Err (before + 1)
 
--- so many tapes, one lane after another, after those before; or the number of the first lane whose tape
--- can't be drawn
-unfoldable pub tapes_onto : List XTape → ℕ → (ℕ → ℕ) → Result (List XTape) ℕ
-tapes_onto before zero ahead = Ok before
-tapes_onto before (suc count) ahead = tapes_after (length before + 1) (λ tape. tapes_onto (before ++ tape ∷ []) count (after_tape ahead)) (drawn_tape ahead)
-
--- the words ahead after the tape that is drawn first, where `rest` takes the others, or after a residue that
--- can't be drawn
-abbrev pub left_after : Option XTape → (ℕ → ℕ) → (ℕ → ℕ) → ℕ → ℕ
-left_after None ahead rest = after_residue ahead
-left_after (Some tape) ahead rest = rest
-
--- the words ahead after so many tapes, or after the first that can't be drawn
-unfoldable pub after_tapes : ℕ → (ℕ → ℕ) → ℕ → ℕ
-after_tapes zero ahead = ahead
-after_tapes (suc count) ahead = left_after (drawn_tape ahead) ahead (after_tapes count (after_tape ahead))
+-- so many tapes, one lane after another; or the number of the first lane whose tape can't be drawn
+abbrev pub tapes_of : ℕ → (ℕ → ℕ) → Result (List XTape) ℕ
+tapes_of lanes ahead = by_lane (drawn_onto tape_drawing [] lanes ahead)
 
 -- the secret of a bid with these tapes
 abbrev pub secret_with : List ℕ → ℕ → ℕ → Result (List XTape) ℕ → Result Secret ℕ
@@ -60,7 +46,7 @@ secret_with auction seat bid (Err lane) = Err lane
 
 -- the secret of a bid at a seat of an auction, drawn from the words ahead for so many lanes
 abbrev pub secret_of : ℕ → ℕ → List ℕ → ℕ → (ℕ → ℕ) → Result Secret ℕ
-secret_of bid seat auction lanes ahead = secret_with auction seat bid (tapes_onto [] lanes ahead)
+secret_of bid seat auction lanes ahead = secret_with auction seat bid (tapes_of lanes ahead)
 
 -- the commitments of a lane: those of a split wire at the bidder's seat
 abbrev pub lane_com : List ℕ → ℕ → ℕ → ℕ → XTape → WireCom
@@ -97,7 +83,7 @@ made_seal bid seat auction width lanes ahead =
 
 -- the words ahead after that: for a bid that is too large none is taken
 abbrev pub after_seal : ℕ → ℕ → ℕ → (ℕ → ℕ) → ℕ → ℕ
-after_seal bid width lanes ahead = if nat_lt bid (2 ^ width) then after_tapes lanes ahead else ahead
+after_seal bid width lanes ahead = if nat_lt bid (2 ^ width) then after_draws tape_drawing lanes ahead else ahead
 
 -- these words are left ahead, unless it is want of memory
 abbrev pub Leaves : {T : Type 0} → Result T SealErr → (ℕ → ℕ) → (ℕ → ℕ) → Type 0

@@ -1,19 +1,19 @@
 -- How a seal and a secret are read, line by line. The laws say that this is exactly their texts, and
 -- stops at the fault line.
 use Rattle.std.specs.Prelude.{ℕ, ◌^◌, ◌-◌, List, length, codes, Option, Result, Ok}
-use Rattle.vk_lines.specs.Lines.{Rest, ◌>>=◌, line_by, end_at}
+use Rattle.vk_residue.specs.Steps.{◌>>=◌}
+use Rattle.vk_lines.specs.Lines.{Rest, line_by, end_at}
 use Rattle.vk_lines.specs.Forms.{many_at}
-use Rattle.vk_lines.specs.Tokens.{residue_of, hex_of, word_of, number_line, id_line, two_fields, three_fields}
+use Rattle.vk_lines.specs.Tokens.{residue_of, hex_of, word_of, number_line, id_line, digests_line, three_fields}
 use Rattle.vk_wire.specs.declared.wire.WireCom.{WireCom}
+use Rattle.vk_wire.specs.Coms.{com_by}
 use Rattle.vk_seal.specs.declared.secret.XTape.{XTape}
 use Rattle.vk_seal.specs.declared.secret.Secret.{Secret}
 use Rattle.vk_seal.specs.declared.secret.Seal.{Seal}
-
-abbrev pub com_by : List ℕ → List ℕ → WireCom
-com_by first second = record { first = first; second = second }
+pub use Rattle.vk_seal.specs.Values.{IsXTape}
 
 abbrev pub com_line : List ℕ → Option WireCom
-com_line text = two_fields (codes "x") (hex_of 32) (hex_of 32) com_by text
+com_line text = digests_line com_by (codes "x") text
 
 abbrev pub tape_by : ℕ → List ℕ → List ℕ → XTape
 tape_by mask first second = record { mask = mask; first_key = first; second_key = second }
@@ -22,7 +22,7 @@ abbrev pub tape_line : List ℕ → Option XTape
 tape_line text = three_fields (codes "x") residue_of (hex_of 32) (hex_of 32) tape_by text
 
 -- the lines of lanes, of which none shows the lane's number
-unfoldable pub com_at : ℕ → List ℕ → Option WireCom
+abbrev pub com_at : ℕ → List ℕ → Option WireCom
 com_at lane text = com_line text
 
 unfoldable pub tape_at : ℕ → List ℕ → Option XTape

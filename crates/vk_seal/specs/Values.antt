@@ -1,6 +1,7 @@
 -- Secrets and seals: what a bidder keeps and what a bidder hands in.
 use Rattle.std.specs.Prelude.{◌^◌, ◌<◌, ◌≤◌, length, false}
 use Rattle.std.specs.List.{AllByRecursion}
+use Rattle.vk_residue.specs.Limits.{IsLaneCount}
 use Rattle.vk_residue.specs.Residue.{IsResidue}
 use Rattle.vk_commit.specs.Values.{AreBytes}
 use Rattle.vk_wire.specs.Values.{IsCom}
@@ -19,8 +20,7 @@ pub record IsSecret (secret : Secret) : Type 0 where
   pub some_seat : 1 ≤ secret.seat
   pub last_seat : secret.seat ≤ 65535
   pub small_bid : secret.bid < 2 ^ 40
-  pub some_lane : 1 ≤ length secret.lanes
-  pub few_lanes : length secret.lanes ≤ 64
+  pub count : IsLaneCount (length secret.lanes)
   pub tapes : AllByRecursion IsXTape secret.lanes
 
 -- a seal: the id of an auction, a bidder's seat, and the two commitments of each of up to 64 lanes
@@ -28,8 +28,7 @@ pub record IsSeal (seal : Seal) : Type 0 where
   pub id : AreBytes 16 seal.auction
   pub some_seat : 1 ≤ seal.seat
   pub last_seat : seal.seat ≤ 65535
-  pub some_lane : 1 ≤ length seal.lanes
-  pub few_lanes : length seal.lanes ≤ 64
+  pub count : IsLaneCount (length seal.lanes)
   pub coms : AllByRecursion IsCom seal.lanes
 
 -- the tape of a wire that is split: it never swaps

@@ -1,6 +1,7 @@
-ghost use Rattle.std.specs.Prelude.{◌≡◌, ◌<◌, ◌≤◌, ◌^◌, [], length, vec_capacity, Ok, Err, IfOk, IfSome, IsErrOf};
+ghost use Rattle.std.specs.Prelude.{◌≡◌, ◌<◌, ◌≤◌, ◌^◌, [], length, vec_capacity, Ok, Err, IfOk, IsErrOf};
 ghost use Rattle.std.specs.List.{All};
-ghost use Rattle.vk_seal.specs.Made.{IsExpected, Leaves, TapesAnswer, made_seal, sealed_tapes, tapes_onto, drawn_tape, after_drawn, after_tapes, after_seal, lane_com, lane_coms};
+ghost use Rattle.vk_dice.specs.Many.{after_draws};
+ghost use Rattle.vk_seal.specs.Made.{IsExpected, Leaves, TapesAnswer, made_seal, sealed_tapes, tape_drawing, tapes_of, after_seal, lane_com, lane_coms};
 ghost use Rattle.vk_seal.specs.Match.{match_of};
 ghost use Rattle.vk_wire.specs.Values.{IsCom};
 ghost use Rattle.vk_seal.specs.Values.{IsSeal, IsSecret, IsXTape};
@@ -8,7 +9,7 @@ ghost use Rattle.vk_seal.specs.Values.{IsSeal, IsSecret, IsXTape};
 use crate::secret::{Seal, Secret, XTape};
 use std::alloc::{AllocError, Global};
 use vk_commit::Place;
-use vk_dice::{Words, draw_key, draw_residue};
+use vk_dice::{Draw, Words, draw_key, draw_onto, draw_residue};
 use vk_plan::WireKind;
 use vk_residue::Residue;
 use vk_seq::Seq;
@@ -108,40 +109,47 @@ fn seal_tapes(
 }
 
 /// Draws the tapes of so many lanes into that room.
-fn draw_tapes<W: Words>(
-    mut tapes: Vec<XTape>,
-    lanes: u32,
-    words: &mut W,
-) -> Result<Seq<XTape>, SealErr>
+fn draw_tapes<W: Words>(tapes: Vec<XTape>, lanes: u32, words: &mut W) -> Result<Seq<XTape>, SealErr>
     requires few_lanes { lanes ≤ 64 }
     requires no_tapes { tapes.items ≡ [] }
     requires room { lanes ≤ vec_capacity tapes }
-    ensures drawn { TapesAnswer result (tapes_onto [] lanes (W.ahead words.old)) }
-    ensures left { Leaves result (after_tapes lanes (W.ahead words.old)) (W.ahead words.new) }
+    ensures drawn { TapesAnswer result (tapes_of lanes (W.ahead words.old)) }
+    ensures left { W.ahead words.new ≡ after_draws tape_drawing lanes (W.ahead words.old) }
     ensures tapes { IfOk result (λ tapes. All IsXTape tapes) }
     ensures count { IfOk result (λ tapes. length tapes ≡ lanes) }
 {
-    for lane in 0..lanes {
-        let tape = draw_tape(words).ok_or(SealErr::DrySeed { lane: lane + 1 })?;
-        tapes.push(tape).unwrap();
+    match draw_onto(tapes, lanes, &TapeDraw, words) {
+        Ok(tapes) => Ok(Seq::from_vec(tapes)),
+        Err(dry) => {
+            let lane = dry.number + 1;
+            Err(SealErr::DrySeed { lane })
+        }
     }
-    Ok(Seq::from_vec(tapes))
 }
 
-/// Draws the tape of one lane.
-fn draw_tape<W: Words>(words: &mut W) -> Option<XTape>
-    ensures drawn { result ≡ drawn_tape (W.ahead words.old) }
-    ensures after { W.ahead words.new ≡ after_drawn result (W.ahead words.old) }
-    ensures tape { IfSome result IsXTape }
-{
-    let mask = draw_residue(words).ok()?;
-    let first_key = draw_key(words);
-    let second_key = draw_key(words);
-    Some(XTape {
-        mask,
-        first_key,
-        second_key,
-    })
+/// The draw of the tape of one lane.
+struct TapeDraw;
+
+impl Draw for TapeDraw {
+    ghost use Rattle.vk_seal.specs.Made.{tape_drawing};
+    ghost use Rattle.vk_seal.specs.Values.{IsXTape};
+
+    type Item = XTape;
+
+    ghost drawing = { λ _. tape_drawing };
+
+    ghost is_item = { λ _. IsXTape };
+
+    fn draw<W: Words>(&self, words: &mut W) -> Option<XTape> {
+        let mask = draw_residue(words).ok()?;
+        let first_key = draw_key(words);
+        let second_key = draw_key(words);
+        Some(XTape {
+            mask,
+            first_key,
+            second_key,
+        })
+    }
 }
 
 /// The commitments of each lane, put into that room.

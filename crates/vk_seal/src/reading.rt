@@ -8,13 +8,14 @@ ghost use Rattle.vk_lines.specs.Lines.{KeepsFile, OnlyReads, ReadsPart};
 ghost use Rattle.vk_lines.specs.declared.errors.ReadErr.TheVariants.{Failed};
 ghost use Rattle.vk_seal.specs.Texts.{seal_text, secret_text};
 ghost use Rattle.vk_seal.specs.Tables.{seal_table, secret_table};
-ghost use Rattle.vk_seal.specs.Reading.{seat_at, lanes_at, seal_at, secret_at};
+ghost use Rattle.vk_seal.specs.Reading.{com_at, seat_at, lanes_at, seal_at, secret_at};
 
 use crate::secret::{Seal, Secret, XTape};
 use std::alloc::Global;
+use std::marker::PhantomData;
 use vk_io::Shelf;
 use vk_lines::{
-    LineKind, Lines, ReadErr, behind_word, read_digests, read_hex32, read_many, read_residue,
+    DigestsLine, LineKind, Lines, ReadErr, behind_word, read_hex32, read_many, read_residue,
     three_fields,
 };
 use vk_seq::Seq;
@@ -45,8 +46,27 @@ fn seal_read<S: Shelf>(alloc: Global, shelf: &mut S, lines: &mut Lines) -> Resul
     ensures shelf { OnlyReads S.held S.Shelf.faults ReadErr.Failed result shelf.old shelf.new }
 {
     let (auction, seat) = read_seat(shelf, lines, b"vickrey-seal 1")?;
-    let lanes = read_lanes(alloc, shelf, lines, &ComLine)?;
+    let lanes = read_coms(alloc, shelf, lines)?;
     Ok(seal_from(&auction, seat, lanes))
+}
+
+/// Reads how many lanes a seal has, the line of each, and the end.
+fn read_coms<S: Shelf>(
+    alloc: Global,
+    shelf: &mut S,
+    lines: &mut Lines,
+) -> Result<Seq<WireCom>, ReadErr>
+    ensures told { ReadsPart (lanes_at com_at) (S.held shelf.old) lines.old lines.new result }
+    ensures some { IfOk result (λ lanes. 1 ≤ length lanes) }
+    ensures few { IfOk result (λ lanes. length lanes ≤ 64) }
+    ensures digests { IfOk result (All IsCom) }
+    ensures file { KeepsFile lines.old lines.new }
+    ensures shelf { OnlyReads S.held S.Shelf.faults ReadErr.Failed result shelf.old shelf.new }
+{
+    let word = b"x";
+    let made = PhantomData;
+    let lanes = read_lanes(alloc, shelf, lines, &DigestsLine { word, made })?;
+    Ok(lanes)
 }
 
 /// A seal of what was read.
@@ -108,30 +128,6 @@ fn read_lanes<S: Shelf, K: LineKind>(
     Ok(lanes)
 }
 
-/// The line of one lane of a seal.
-#[derive(Drop)]
-struct ComLine;
-
-impl LineKind for ComLine {
-    ghost use Rattle.std.specs.Prelude.{◌^◌};
-    ghost use Rattle.vk_wire.specs.Values.{IsCom};
-    ghost use Rattle.vk_seal.specs.Reading.{com_at};
-
-    type Item = WireCom;
-
-    ghost most = { λ _. 2 ^ 32 };
-
-    ghost item_of = { λ _. com_at };
-
-    ghost is_item = { λ _ _ digests. IsCom digests };
-
-    #[tactic(auto, unfolding(crate::specs::Reading::com_at))]
-    fn read(&self, _lane: u32, text: &[u8]) -> Option<WireCom> {
-        let (first, second) = read_digests(text, b"x")?;
-        Some(WireCom { first, second })
-    }
-}
-
 /// Reads a secret's file whole. Malformed carries the number of the first line that isn't what its
 /// place demands.
 pub fn read_secret<S: Shelf>(
@@ -188,13 +184,9 @@ fn secret_from(auction: &[u8; 16], seat: u16, bid: u64, lanes: Seq<XTape>) -> Se
 struct TapeLine;
 
 impl LineKind for TapeLine {
-    ghost use Rattle.std.specs.Prelude.{◌^◌};
-    ghost use Rattle.vk_seal.specs.Values.{IsXTape};
-    ghost use Rattle.vk_seal.specs.Reading.{tape_at};
+    ghost use Rattle.vk_seal.specs.Reading.{IsXTape, tape_at};
 
     type Item = XTape;
-
-    ghost most = { λ _. 2 ^ 32 };
 
     ghost item_of = { λ _. tape_at };
 

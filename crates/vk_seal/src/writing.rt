@@ -1,16 +1,15 @@
 ghost use Rattle.std.specs.Prelude.{◌≡◌, ◌++◌, IfOk, OnOk};
 ghost use Rattle.std.specs.List.{flat_map};
 ghost use Rattle.vk_lines.specs.Forms.{line};
-ghost use Rattle.vk_seal.specs.Texts.{com_text, tape_text, seat_text, seal_text, secret_text};
+ghost use Rattle.vk_seal.specs.Texts.{tape_text, seat_text, seal_text, secret_text};
 
 use crate::secret::{Seal, Secret, XTape};
 use std::alloc::Global;
 use vk_lines::{
-    end_line, push_decimal, push_digests_line, push_hex, push_hex_line, push_line,
+    end_line, push_decimal, push_digests_lines, push_hex, push_hex_line, push_line,
     push_number_line, push_space,
 };
 use vk_residue::NoMemory;
-use vk_wire::WireCom;
 
 /// The text of a seal's file.
 #[tactic(auto, unfolding(crate::specs::Texts::seal_text, crate::specs::Texts::lanes_text))]
@@ -20,7 +19,7 @@ pub fn seal_text(alloc: Global, seal: &Seal) -> Result<Vec<u8>, NoMemory>
     let mut text = Vec::new(alloc);
     push_seat(&mut text, b"vickrey-seal 1", &seal.auction, seal.seat)?;
     push_number_line(&mut text, b"lanes", seal.lanes.len() as u64)?;
-    push_coms(&mut text, seal.lanes.as_slice())?;
+    push_digests_lines(&mut text, b"x", seal.lanes.as_slice())?;
     push_line(&mut text, b"end")?;
     Ok(text)
 }
@@ -38,16 +37,6 @@ fn push_seat(
     push_line(out, heading)?;
     push_hex_line(out, b"auction", auction)?;
     push_number_line(out, b"seat", u64::from(seat))?;
-    Ok(())
-}
-
-/// Appends the line of each lane of a seal.
-fn push_coms(out: &mut Vec<u8>, coms: &[WireCom]) -> Result<(), NoMemory>
-    ensures { OnOk result (out.new.items ≡ out.old.items ++ flat_map (λ digests. line (com_text digests)) coms.now) }
-{
-    for com in coms {
-        push_digests_line(out, b"x", &com.first, &com.second)?;
-    }
     Ok(())
 }
 

@@ -8,6 +8,7 @@ use vk_lines::{
     push_decimal, push_hex, read_decimal, read_digests, read_hex16, read_hex32, read_many,
     read_number,
 };
+use vk_wire::WireCom;
 
 fn check_decimal(rt: &impl Abort, text: &[u8], number: Option<u64>) {
     assert!(rt; read_decimal(text, u64::MAX) == number);
@@ -59,7 +60,8 @@ fn a_line_is_a_word_and_its_fields(rt: HostRuntime) -> Result<(), Fail> {
     assert!(rt; read_number(b"lanes 4", b"lanes", 4, 4) == Some(4));
     assert!(rt; read_number(b"lanes 4 ", b"lanes", 4, 4) == None);
     assert!(rt; read_number(b"lanes 4", b"lanes", 5, 9) == None);
-    assert!(rt; read_digests(b"x 00 00", b"x").is_none());
+    let digests: Option<WireCom> = read_digests(b"x 00 00", b"x");
+    assert!(rt; digests.is_none());
     Ok(())
 }
 

@@ -13,8 +13,7 @@ returns-clause-secret c = record {
   some_seat = c.requires.some_seat;
   last_seat = omega arith;
   small_bid = c.requires.small_bid;
-  some_lane = c.requires.some_lane;
-  few_lanes = c.requires.few_lanes;
+  count = record { least = c.requires.some_lane; most = c.requires.few_lanes };
   tapes = recursion_from_All IsXTape c.args.tapes c.requires.tapes;
 }
 
@@ -26,8 +25,7 @@ returns-clause-seal c =
       id = (c.told-auction, λ k. omega (arith, c.fits-auction k));
       some_seat = c.requires.some_seat;
       last_seat = omega arith;
-      some_lane = omega arith;
-      few_lanes = omega arith;
+      count = record { least = omega arith; most = omega arith };
       coms = recursion_from_All IsCom c.commit_lanes-lanes.result c.commit_lanes-lanes.ensures.digests;
     }
 

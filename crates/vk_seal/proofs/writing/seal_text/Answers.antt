@@ -7,7 +7,7 @@ unfolding seal_text lanes_text
 returns c =
     rw (
       c.in_ok-push_line.ensures,
-      c.in_ok-push_coms.ensures,
+      c.in_ok-push_digests_lines.ensures,
       c.as_slice.ensures,
       c.in_ok-push_number_line.ensures,
       c.len.ensures,
