@@ -1,4 +1,5 @@
 mod numbers;
 mod plan;
 mod range;
+mod reserve;
 mod vickrey;

@@ -1,5 +1,6 @@
 -- The forms that the relations put into rows.
 use Rattle.std.specs.Prelude.{List, ℕ, ◌-◌, ◌≤◌, Bool, if◌then◌else◌, [], ◌∷◌, length}
+use Rattle.vk_residue.specs.Limits.{IsWidth}
 use Rattle.vk_residue.specs.Residue.{modulus}
 use Rattle.vk_plan.specs.declared.wire.WireKind.{WireKind}
 use Rattle.vk_plan.specs.declared.wire.WireKind.TheVariants.{Split}
@@ -23,5 +24,4 @@ difference_form left right strict = record { terms = plus left ∷ minus right �
 -- a form over the wires of the plan, and a width from 1 to 40
 pub record IsRange (form : Form) (width : ℕ) (plan : PlanValue) : Type 0 where
   pub names : NamesBelow (length plan.kinds) form.terms
-  pub some : 1 ≤ width
-  pub most : width ≤ 40
+  pub wide : IsWidth width

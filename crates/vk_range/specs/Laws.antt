@@ -54,14 +54,14 @@ in_range_sound plan form width values fits holds =
     let here = FitKinds-appended plan (test_set width) (row ∷ []) values holds i (omega (arith, length_listed Pair width)) in
     rw (at_listed Pair width i Split h, get_or-drop start values i 0) at here in
     subst (IsOfWidth width) (sym (form_value-take form start values enough fits.names))
-    (set_row_sound form start width values (omega (arith, fits.most)) fit (one_row plan (test_set width) row values holds))
+    (set_row_sound form start width values (omega (arith, fits.wide.most)) fit (one_row plan (test_set width) row values holds))
 
 pub in_range_complete : (plan : PlanValue) (form : Form) (width : ℕ) (values : List ℕ) → NamesOwnWires plan → IsRange form width plan
     → Holds plan values → IsOfWidth width (form_value form values)
     → Holds (extended plan (test_set width) (set_row form (length plan.kinds) width ∷ [])) (values ++ bit_parts (form_value form values) width)
 in_range_complete plan form width values own fits holds below =
     let number = form_value form values in
-    let small : width ≤ 60 = omega (arith, fits.most) in
+    let small : width ≤ 60 = omega (arith, fits.wide.most) in
     let names = subst (λ n. NamesBelow n form.terms) (sym holds.one_each) fits.names in
     let filled = set_row_filled form width values small names below in
     Holds-extended plan (test_set width) (set_row form (length plan.kinds) width ∷ []) values (bit_parts number width) own holds
@@ -140,7 +140,7 @@ pub at_least_sound : (plan : PlanValue) (left right : ℕ) (strict : Bool) (widt
     → IsOfWidth width (form_value (difference_form left right strict) (take (length plan.kinds) values))
 at_least_sound plan left right strict width values l r some most holds =
     in_range_sound plan (difference_form left right strict) width values
-    (record { names = difference_names (length plan.kinds) left right strict l r; some = some; most = most }) holds
+    (record { names = difference_names (length plan.kinds) left right strict l r; wide = record { least = some; most = most } }) holds
 
 pub at_least_complete : (plan : PlanValue) (left right : ℕ) (strict : Bool) (width : ℕ) (values : List ℕ) → NamesOwnWires plan
     → left < length plan.kinds → right < length plan.kinds → 1 ≤ width → width ≤ 40
@@ -149,4 +149,4 @@ pub at_least_complete : (plan : PlanValue) (left right : ℕ) (strict : Bool) (w
     (values ++ bit_parts (form_value (difference_form left right strict) values) width)
 at_least_complete plan left right strict width values own l r some most holds below =
     in_range_complete plan (difference_form left right strict) width values own
-    (record { names = difference_names (length plan.kinds) left right strict l r; some = some; most = most }) holds below
+    (record { names = difference_names (length plan.kinds) left right strict l r; wide = record { least = some; most = most } }) holds below

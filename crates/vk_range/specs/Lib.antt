@@ -10,3 +10,5 @@ pub mod Ranges
 pub mod RangesLaws
 pub mod Copies
 pub mod Others
+pub mod Ranged
+pub mod RangedLaws

@@ -1,5 +1,6 @@
 -- Several forms, each in the range of one width.
 use Rattle.std.specs.Prelude.{ℕ, ◌≤◌, List, [], All, length, slice_index_or}
+use Rattle.vk_residue.specs.Limits.{IsWidth}
 use Rattle.vk_plan.specs.declared.wire.WireKind.{WireKind}
 use Rattle.vk_plan.specs.declared.form.Form.{Form}
 use Rattle.vk_plan.specs.Forms.{form_value, NamesBelow}
@@ -17,8 +18,7 @@ form_at forms i = slice_index_or forms i no_form
 -- forms over the first so many wires, and a width from 1 to 40
 pub record AreRanges (relation : Ranges) (wires : ℕ) : Type 0 where
   pub names : All (λ form. NamesBelow wires form.terms) relation.forms
-  pub some : 1 ≤ relation.width
-  pub most : relation.width ≤ 40
+  pub wide : IsWidth relation.width
 
 -- a test set for each form
 abbrev pub ranges_wires : Ranges → List WireKind

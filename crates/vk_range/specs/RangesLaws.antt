@@ -26,8 +26,7 @@ pub ranges_series : (relation : Ranges) (plan : PlanValue) → AreRanges relatio
 ranges_series relation plan fits = record {
   names = λ i h. fits.names i no_form h;
   base_within = omega arith;
-  some = fits.some;
-  most = fits.most;
+  wide = fits.wide;
 }
 
 pub ranges_sound : (relation : Ranges) (plan : PlanValue) (values : List ℕ) → NamesOwnWires plan
@@ -111,8 +110,7 @@ pub listed_fits : (plan : PlanValue) (form : ℕ → Form) (width base count wir
 listed_fits plan form width base count wires is_series enough = record {
   names = All-listed (λ f. NamesBelow wires f.terms) form count
       (λ i h. NamesBelow-more base wires (form i).terms enough (is_series.names i h));
-  some = is_series.some;
-  most = is_series.most;
+  wide = is_series.wide;
 }
 
 pub listed_of_width : (form : ℕ → Form) (width count : ℕ) (values : List ℕ)

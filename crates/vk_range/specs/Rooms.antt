@@ -51,7 +51,7 @@ pub in_range_room : (plan : PlanValue) (form : Form) (width : ℕ) → IsPlan pl
     → IsPlan (extended plan (test_set width) (set_row form (length plan.kinds) width ∷ []))
 in_range_room plan form width is_plan fits wires rows =
     let set = length_listed Pair width in
-    row_room plan (test_set width) (set_row form (length plan.kinds) width) is_plan (test_set_weights width (omega (arith, fits.most)))
+    row_room plan (test_set width) (set_row form (length plan.kinds) width) is_plan (test_set_weights width (omega (arith, fits.wide.most)))
     (NamesBelow-more (length plan.kinds + width) (length plan.kinds + length (test_set width)) (set_row form (length plan.kinds) width).terms (omega arith)
     (set_row_names form (length plan.kinds) width fits.names))
     (omega arith) rows
@@ -62,7 +62,7 @@ pub at_least_room : (plan : PlanValue) (left right : ℕ) (strict : Bool) (width
     → IsPlan (extended plan (test_set width) (set_row (difference_form left right strict) (length plan.kinds) width ∷ []))
 at_least_room plan left right strict width is_plan l r some most wires rows =
     in_range_room plan (difference_form left right strict) width is_plan
-    (record { names = difference_names (length plan.kinds) left right strict l r; some = some; most = most }) wires rows
+    (record { names = difference_names (length plan.kinds) left right strict l r; wide = record { least = some; most = most } }) wires rows
 
 pub ranges_room : (plan : PlanValue) (relation : Ranges) → IsPlan plan → AreRanges relation (length plan.kinds)
     → length plan.kinds + length relation.forms * relation.width ≤ 16777216 → length plan.rows + length relation.forms ≤ 16777216

@@ -2,6 +2,7 @@
 -- at most it by less than 2 ^ width.
 use Rattle.std.specs.Prelude.{ℕ, ◌+◌, ◌-◌, ◌*◌, ◌^◌, ◌<◌, ◌≤◌, ◌≢◌, ◌==◌, Bool, true, false, if◌then◌else◌, nat_lt, List, [], ◌∷◌, ◌++◌, All, length, slice_index}
 use Rattle.std.specs.List.{list_all, position_or_len, range_with_len}
+use Rattle.vk_residue.specs.Limits.{IsWidth}
 use Rattle.vk_residue.specs.Residue.{modulus, sum, difference, negative}
 use Rattle.vk_plan.specs.declared.wire.WireKind.{WireKind}
 use Rattle.vk_plan.specs.declared.wire.WireKind.TheVariants.{Pair}
@@ -18,8 +19,7 @@ pub record IsSelection (relation : SelectedIs) (wires : ℕ) : Type 0 where
   pub names : All (λ wire. wire < wires) relation.wires
   pub one : 1 ≤ length relation.wires
   pub most : length relation.wires ≤ 63
-  pub some_width : 1 ≤ relation.width
-  pub most_width : relation.width ≤ 40
+  pub wide : IsWidth relation.width
 
 -- (2 ^ width - 1) * (1 - selector) - value + wire, the selectors beginning at a wire
 abbrev pub place_form : SelectedIs → ℕ → ℕ → Form

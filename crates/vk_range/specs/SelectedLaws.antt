@@ -194,7 +194,7 @@ stage_sound relation plan (suc count) values own fits few holds =
     let front = take-take base m values (omega arith) in
     let own_form = place_names relation plan count fits (omega arith) in
     let range : IsRange form width before_plan =
-    record { names = NamesBelow-more base m form.terms (omega arith) own_form; some = fits.some_width; most = fits.most_width } in
+    record { names = NamesBelow-more base m form.terms (omega arith) own_form; wide = fits.wide } in
     let here = in_range_sound before_plan form width values range holds' in
     let same = form_value-take form base (take m values) (omega (arith, before.one_each)) own_form in
     let here' : IsOfWidth width (form_value form (take base values)) =
@@ -263,7 +263,7 @@ selected_sound relation plan values own fits holds =
       one.0,
       record {
         is_place = one.1;
-        here = subst (IsOfWidth width) (place_selected relation start one.0 front fits.most_width one.2 ∙ number one.0 true one.1) (whole.1 one.0 one.1);
+        here = subst (IsOfWidth width) (place_selected relation start one.0 front fits.wide.most one.2 ∙ number one.0 true one.1) (whole.1 one.0 one.1);
         others = λ other h ne.
             subst (IsOfWidth width) (place_other relation start other front (one.3 other h ne) ∙ number other false h) (whole.1 other h);
       },
@@ -366,14 +366,13 @@ stage_complete relation plan values place (suc count) own fits holds selected fe
     subst (λ at. slice_index before_values (at + count) ≡ f count) holds.one_each
     (get_or-append-add values (chosen ++ parts) count 0
     ∙ (get_or_append_left chosen parts 0 count (omega (arith, length_listed f n)) ∙ at_listed f n count 0 inside)) in
-    let value = place_value relation start count before_values (count == place) fits.most_width chooses
+    let value = place_value relation start count before_values (count == place) fits.wide.most chooses
     ∙ place_number-append relation count values (chosen ++ parts) (count == place) (omega (arith, holds.one_each)) in
     let names = names_stage relation plan count own fits (omega arith) in
     let range : IsRange form width before_plan =
     record {
       names = NamesBelow-more (start + n) (length before_plan.kinds) form.terms (omega (arith, length_stage relation plan count)) (place_names relation plan count fits inside);
-      some = fits.some_width;
-      most = fits.most_width;
+      wide = fits.wide;
     } in
     let below = subst (IsOfWidth width) (sym value) (place_in_range relation values place count selected inside) in
     let longer = in_range_complete before_plan form width before_values names range before below in
@@ -498,7 +497,7 @@ stage_room relation plan count is_plan fits few wires rows =
     IsPlan-extended plan (stage_kinds relation count) (stage_rows relation (length plan.kinds) count) is_plan
     (All-append HasWeight (listed (λ _. Pair 0) (length relation.wires)) (joined (λ _. test_set width) count)
     (All-listed HasWeight (λ _. Pair 0) (length relation.wires) (λ i h. omega arith))
-    (All-joined HasWeight (λ _. test_set width) count (λ i h. test_set_weights width (omega (arith, fits.most_width)))))
+    (All-joined HasWeight (λ _. test_set width) count (λ i h. test_set_weights width (omega (arith, fits.wide.most)))))
     (stage_names relation plan count fits few) wires rows
 
 -- and where there is room for all
@@ -547,8 +546,7 @@ IsSelection-longer relation few many le fits = record {
   names = λ k d h. omega (arith, fits.names k d h);
   one = fits.one;
   most = fits.most;
-  some_width = fits.some_width;
-  most_width = fits.most_width;
+  wide = fits.wide;
 }
 
 -- the parts of the next place, after the values so far

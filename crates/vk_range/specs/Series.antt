@@ -3,6 +3,7 @@ use Rattle.std.specs.Prelude.{ℕ, ◌+◌, ◌*◌, ◌<◌, ◌≤◌, ◌≡�
 use Rattle.std.proofs.Common.{sym, ap, ◌∙◌, subst, arith, inl, inr, zero, suc, add-one, length-append, append_assoc, mul-le-mul_right, suc-mul}
 use Rattle.std.proofs.lemmas.List.{append-nil, take_all, take-take}
 use Rattle.std.proofs.lemmas.Bool.{cases_lt}
+use Rattle.vk_residue.specs.Limits.{IsWidth}
 use Rattle.vk_plan.specs.declared.wire.WireKind.{WireKind}
 use Rattle.vk_plan.specs.declared.wire.WireKind.TheVariants.{Pair}
 use Rattle.vk_plan.specs.declared.form.Form.{Form}
@@ -33,8 +34,7 @@ series_values values form width count = joined (λ i. bit_parts (form_value (for
 pub record IsSeries (plan : PlanValue) (form : ℕ → Form) (width base count : ℕ) : Type 0 where
   pub names : (i : ℕ) → i < count → NamesBelow base (form i).terms
   pub base_within : base ≤ length plan.kinds
-  pub some : 1 ≤ width
-  pub most : width ≤ 40
+  pub wide : IsWidth width
 
 pub same_plan : (inputs : ℕ) (kinds kinds' : List WireKind) (rows rows' : List Form) → kinds ≡ kinds' → rows ≡ rows'
     → ◌≡◌ {A = PlanValue} (record { inputs = inputs; kinds = kinds; rows = rows }) (record { inputs = inputs; kinds = kinds'; rows = rows' })
@@ -84,14 +84,14 @@ pub series_room : (plan : PlanValue) (form : ℕ → Form) (width base count : �
     → length plan.kinds + count * width ≤ 16777216 → length plan.rows + count ≤ 16777216 → IsPlan (series plan form width count)
 series_room plan form width base count is_plan is_series wires rows =
     IsPlan-extended plan (series_kinds width count) (series_rows form (length plan.kinds) width count) is_plan
-    (All-joined HasWeight (λ _. test_set width) count (λ i h. test_set_weights width (omega (arith, is_series.most))))
+    (All-joined HasWeight (λ _. test_set width) count (λ i h. test_set_weights width (omega (arith, is_series.wide.most))))
     (series_names plan form width base count is_series)
     (omega (arith, length_kinds width count))
     (omega (arith, length_listed (λ i. set_row (form i) (length plan.kinds + i * width) width) count))
 
 IsSeries-fewer : (plan : PlanValue) (form : ℕ → Form) (width base few many : ℕ) → few ≤ many → IsSeries plan form width base many → IsSeries plan form width base few
 IsSeries-fewer plan form width base few many le is_series =
-    record { names = λ i h. is_series.names i (omega arith); base_within = is_series.base_within; some = is_series.some; most = is_series.most }
+    record { names = λ i h. is_series.names i (omega arith); base_within = is_series.base_within; wide = is_series.wide }
 
 -- where there is room for all the sets, there is for the first of them
 pub series_shorter : (plan : PlanValue) (form : ℕ → Form) (width base few many : ℕ) → IsPlan plan → IsSeries plan form width base many
@@ -116,8 +116,7 @@ pub next_range : (plan : PlanValue) (form : ℕ → Form) (width base count next
 next_range plan form width base count next h is_series = record {
   names = NamesBelow-more base (length (series plan form width next).kinds) (form next).terms
       (omega (arith, length_series plan form width next, is_series.base_within)) (is_series.names next h);
-  some = is_series.some;
-  most = is_series.most;
+  wide = is_series.wide;
 }
 
 -- what holds for the longer plan: the values before hold, and each form is of the width

@@ -5,7 +5,7 @@ ghost use Rattle.vk_range.specs.Sets.{listed, test_set, set_row, plus};
 ghost use Rattle.vk_range.specs.Selected.{IsSelection, IsSelected, place_form, place_number, may_stand as MayStand, serves as Serves, first_place as FirstPlace, selector, selectors, selector_row, selected_wires, selected_rows, selected_values};
 ghost use Rattle.vk_range.specs.SelectedLaws.{stage, selected_sound, selected_complete};
 
-use crate::sets::{add_set, all_ones, plus_wire, push_parts};
+use crate::sets::{add_set, all_ones, plus_wire, push_or_cut, push_parts};
 use std::alloc::Global;
 use vk_plan::{Form, Plan, Relation, Term, WireKind};
 use vk_residue::{NoMemory, Residue};
@@ -214,10 +214,7 @@ fn push_selectors(values: &mut Vec<Residue>, count: u32, selected: u32) -> Resul
 {
     let before = values.len();
     for place in 0..count {
-        if let Err(_refused) = values.push(selector_of(selected, place)) {
-            values.truncate(before);
-            return Err(NoMemory);
-        }
+        push_or_cut(values, before, selector_of(selected, place))?;
     }
     Ok(())
 }

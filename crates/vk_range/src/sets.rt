@@ -1,4 +1,4 @@
-ghost use Rattle.std.specs.Prelude.{◌≡◌, ◌+◌, ◌<◌, ◌≤◌, ◌++◌, [], ◌∷◌, length, IfOk, OnOk, OnErr};
+ghost use Rattle.std.specs.Prelude.{◌≡◌, ◌+◌, ◌<◌, ◌≤◌, ◌++◌, [], ◌∷◌, length, take, IfOk, OnOk, OnErr};
 ghost use Rattle.vk_plan.specs.Plans.{IsPlan, extended};
 ghost use Rattle.vk_range.specs.Sets.{test_set, minus_set, set_row, bit_part, bit_parts, plus, minus};
 ghost use Rattle.vk_range.specs.Forms.{difference_form, less_one};
@@ -148,10 +148,24 @@ pub(crate) fn push_parts(
 {
     let before = values.len();
     for i in 0..width {
-        if let Err(_refused) = values.push(part(number, i)) {
-            values.truncate(before);
-            return Err(NoMemory);
-        }
+        push_or_cut(values, before, part(number, i))?;
+    }
+    Ok(())
+}
+
+/// Appends one value. After a refusal the first so many values are left.
+pub(crate) fn push_or_cut(
+    values: &mut Vec<Residue>,
+    count: usize,
+    value: Residue,
+) -> Result<(), NoMemory>
+    requires { count ≤ length values.old.items }
+    ensures pushed { OnOk result (values.new.items ≡ values.old.items ++ value ∷ []) }
+    ensures cut { OnErr result (values.new.items ≡ take count values.old.items) }
+{
+    if let Err(_refused) = values.push(value) {
+        values.truncate(count);
+        return Err(NoMemory);
     }
     Ok(())
 }

@@ -1,7 +1,13 @@
 pub mod Outcomes
+pub mod Sales
+pub mod SaleLaws
 pub mod OutcomeLaws
 pub mod VickreyPlans
 pub mod VickreyLaws
 pub mod VickreySteps
 pub mod VickreySelectors
 pub mod VickreyRanges
+pub mod ReservePlans
+pub mod ReserveLaws
+pub mod BoardPlans
+pub mod BoardLaws

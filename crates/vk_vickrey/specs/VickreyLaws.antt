@@ -1,5 +1,5 @@
 -- The plan of a second-price auction shows its outcome, and every outcome can be shown.
-use Rattle.std.specs.Prelude.{ℕ, ◌+◌, ◌-◌, ◌*◌, ◌%◌, ◌^◌, ◌<◌, ◌≤◌, ◌≡◌, ◌≢◌, ◌==◌, Bool, true, false, if◌then◌else◌, nat_lt, List, [], ◌++◌, All, length, take, slice_index}
+use Rattle.std.specs.Prelude.{ℕ, ◌+◌, ◌-◌, ◌*◌, ◌%◌, ◌^◌, ◌<◌, ◌≤◌, ◌≡◌, ◌≢◌, ◌==◌, Bool, true, false, if◌then◌else◌, nat_lt, List, [], ◌∷◌, ◌++◌, All, length, take, slice_index}
 use Rattle.std.proofs.Common.{refl, sym, ap, ◌∙◌, subst, arith, inl, inr, length-append, get_or-take}
 use Rattle.std.proofs.lemmas.List.{append-nil, get_or_default, length-take-le, take_all}
 use Rattle.std.proofs.lemmas.Bool.{cases_lt, cases_eq, lt-ltb, le-ltb}
@@ -20,6 +20,7 @@ use Rattle.vk_range.specs.Series.{same_plan, series, series_rows, series_values,
 use Rattle.vk_range.specs.Selected.{IsSelection, IsSelected, selected_wires, selected_rows, selected_values}
 use Rattle.vk_range.specs.SelectedLaws.{selected_sound, selected_complete}
 use Rattle.vk_vickrey.specs.Outcomes.{bid_at, IsPosition}
+use Rattle.vk_vickrey.specs.Sales.{IsFirstOfGreatest}
 use Rattle.vk_vickrey.specs.VickreyPlans.{IsVickreyCase, IsVickreyClaim, bid_form, win_form, price_form, price_selection, vickrey_plan, after_bids, after_wins, after_prices, after_selection, honest_values}
 
 -- the plans on the way
@@ -52,8 +53,7 @@ pub bids_series : (seals width : ℕ) → 1 ≤ width → width ≤ 40 → IsSer
 bids_series seals width some most = record {
   names = λ j h. one_name (seals + seals) (plus (seals + j)) (omega arith);
   base_within = omega (arith, length_copies seals seals);
-  some = some;
-  most = most;
+  wide = record { least = some; most = most };
 }
 
 pub wins_series : (seals width winner : ℕ) → winner < seals → 1 ≤ width → width ≤ 40
@@ -61,8 +61,7 @@ pub wins_series : (seals width winner : ℕ) → winner < seals → 1 ≤ width 
 wins_series seals width winner w some most = record {
   names = λ k h. difference_names (seals + seals) (seals + winner) (seals + other winner k) (nat_lt k winner) (omega arith) (omega (arith, other_within seals winner k w h));
   base_within = omega (arith, length_bids seals width);
-  some = some;
-  most = most;
+  wide = record { least = some; most = most };
 }
 
 pub prices_series : (seals width winner price : ℕ) → winner < seals → 1 ≤ width → width ≤ 40
@@ -70,8 +69,7 @@ pub prices_series : (seals width winner price : ℕ) → winner < seals → 1 �
 prices_series seals width winner price w some most = record {
   names = λ k h. one_name (seals + seals) (minus (seals + other winner k)) (omega (arith, other_within seals winner k w h));
   base_within = omega (arith, length_wins seals width winner);
-  some = some;
-  most = most;
+  wide = record { least = some; most = most };
 }
 
 pub selection : (seals width winner price : ℕ) → 2 ≤ seals → seals ≤ 64 → winner < seals → 1 ≤ width → width ≤ 40
@@ -83,8 +81,7 @@ selection seals width winner price many few w some most =
           (λ k h. omega (arith, other_within seals winner k w h, length_prices seals width winner price));
       one = omega arith;
       most = omega arith;
-      some_width = some;
-      most_width = most;
+      wide = record { least = some; most = most };
     }
 
 names_bids : (seals width : ℕ) → 1 ≤ width → width ≤ 40 → NamesOwnWires (with_bids seals width)
@@ -101,14 +98,18 @@ names_prices seals width winner price w some most =
     (prices_series seals width winner price w some most)
 
 -- what the forms come to, in whole numbers
-bid_value : (seals j : ℕ) (values : List ℕ) → slice_index values (seals + j) < modulus → form_value (bid_form seals j) values ≡ slice_index values (seals + j)
+pub bid_value : (seals j : ℕ) (values : List ℕ) → slice_index values (seals + j) < modulus → form_value (bid_form seals j) values ≡ slice_index values (seals + j)
 unfolding form_value linear_part
 bid_value seals j values small = omega arith
 
-price_value : (seals winner price k : ℕ) (values : List ℕ)
-    → form_value (price_form seals winner price k) values ≡ ((modulus - 1) * slice_index values (seals + other winner k) + price) % modulus
+pub less_value : (limit wire : ℕ) (values : List ℕ)
+    → form_value (record { terms = minus wire ∷ []; constant = limit }) values ≡ ((modulus - 1) * slice_index values wire + limit) % modulus
 unfolding form_value linear_part
-price_value seals winner price k values = omega arith
+less_value limit wire values = omega arith
+
+pub price_value : (seals winner price k : ℕ) (values : List ℕ)
+    → form_value (price_form seals winner price k) values ≡ ((modulus - 1) * slice_index values (seals + other winner k) + price) % modulus
+price_value seals winner price k values = less_value price (seals + other winner k) values
 
 -- below 2 ^ 40, a difference in the range is a difference of whole numbers
 at_least_means : (a b bound : ℕ) → a < bound → b < bound → bound ≤ 1099511627776 → (a + (modulus - 1) * b + 0) % modulus < bound → b ≤ a
@@ -117,7 +118,7 @@ at_least_means a b bound ha hb small h = omega arith
 above_means : (a b bound : ℕ) → a < bound → b < bound → bound ≤ 1099511627776 → (a + (modulus - 1) * b + (modulus - 1)) % modulus < bound → b < a
 above_means a b bound ha hb small h = omega arith
 
-within_means : (b price bound : ℕ) → b < bound → price < bound → bound ≤ 1099511627776 → ((modulus - 1) * b + price) % modulus < bound → b ≤ price
+pub within_means : (b price bound : ℕ) → b < bound → price < bound → bound ≤ 1099511627776 → ((modulus - 1) * b + price) % modulus < bound → b ≤ price
 within_means b price bound hb hp small h = omega arith
 
 pub reaches_means : (b price bound : ℕ) → b ≤ price → price < bound → bound ≤ 1099511627776 → difference b price < bound → b ≡ price
@@ -129,7 +130,7 @@ at_least_fits a b bound ha small h = omega arith
 above_fits : (a b bound : ℕ) → a < bound → bound ≤ 1099511627776 → b < a → (a + (modulus - 1) * b + (modulus - 1)) % modulus < bound
 above_fits a b bound ha small h = omega arith
 
-within_fits : (b price bound : ℕ) → price < bound → bound ≤ 1099511627776 → b ≤ price → ((modulus - 1) * b + price) % modulus < bound
+pub within_fits : (b price bound : ℕ) → price < bound → bound ≤ 1099511627776 → b ≤ price → ((modulus - 1) * b + price) % modulus < bound
 within_fits b price bound hp small h = omega arith
 
 pub equal_fits : (b price bound : ℕ) → b ≡ price → price < bound → bound ≤ 1099511627776 → difference b price < bound
@@ -195,11 +196,11 @@ plan_many seals width position price many =
     refl (ap (λ start. plan.rows ++ selected_rows relation start) (sym (length_prices seals width (position - 1) price)))
 
 -- what holds for the plan before the selection, in whole numbers
-record IsShown (seals width winner price : ℕ) (values : List ℕ) : Type 0 where
-  copied : (j : ℕ) → j < seals → slice_index values j ≡ slice_index values (seals + j)
-  bids : (j : ℕ) → j < seals → slice_index values (seals + j) < 2 ^ width
-  wins : (k : ℕ) → k < seals - 1 → IsOfWidth width (form_value (win_form seals winner k) values)
-  prices : (k : ℕ) → k < seals - 1 → IsOfWidth width (form_value (price_form seals winner price k) values)
+pub record IsShown (seals width winner price : ℕ) (values : List ℕ) : Type 0 where
+  pub copied : (j : ℕ) → j < seals → slice_index values j ≡ slice_index values (seals + j)
+  pub bids : (j : ℕ) → j < seals → slice_index values (seals + j) < 2 ^ width
+  pub wins : (k : ℕ) → k < seals - 1 → IsOfWidth width (form_value (win_form seals winner k) values)
+  pub prices : (k : ℕ) → k < seals - 1 → IsOfWidth width (form_value (price_form seals winner price k) values)
 
 prices_shown : (seals width winner price : ℕ) (values : List ℕ) → winner < seals → 1 ≤ width → width ≤ 40 → All IsResidue values
     → length (with_prices seals width winner price).kinds ≤ length values
@@ -262,22 +263,33 @@ record IsHeld (seals winner price : ℕ) (values : List ℕ) : Type 0 where
   inside : place < seals - 1
   holds : slice_index values (seals + other winner place) ≡ price
 
-claim_shown : (seals width position price : ℕ) (values : List ℕ) → IsVickreyCase seals width position price → seals ≤ length values
-    → IsShown seals width (position - 1) price values → (2 ≤ seals → IsHeld seals (position - 1) price values)
-    → IsVickreyClaim seals width position price (take seals values)
-claim_shown seals width position price values case enough shown held =
+-- the bids that are shown: the winner is the first of the greatest, and no other's is above the price
+pub record IsWinShown (seals width position price : ℕ) (bids : List ℕ) : Type 0 where
+  pub one_each : length bids ≡ seals
+  pub within_width : All (λ bid. bid < 2 ^ width) bids
+  pub wins : IsFirstOfGreatest bids position
+  pub others_within_price : (other : ℕ) → IsPosition bids other → other ≢ position → bid_at bids other ≤ price
+
+-- the bids behind the copies
+pub bid_shown : (seals width winner price : ℕ) (values : List ℕ) → IsShown seals width winner price values
+    → (j : ℕ) → j < seals → slice_index (take seals values) j ≡ slice_index values (seals + j)
+bid_shown seals width winner price values shown j h = get_or-take seals values j 0 h ∙ shown.copied j h
+
+pub win_shown : (seals width position price : ℕ) (values : List ℕ) → 1 ≤ position → position ≤ seals → width ≤ 40 → price < 2 ^ width
+    → seals ≤ length values → IsShown seals width (position - 1) price values → IsWinShown seals width position price (take seals values)
+win_shown seals width position price values some_position within_seals most below enough shown =
     let winner = position - 1 in
-    let w : winner < seals = omega (arith, case.some_position, case.within_seals) in
+    let w : winner < seals = omega (arith, some_position, within_seals) in
     let bids = take seals values in
     let long = length-take-le seals values enough in
-    let bid : (j : ℕ) → j < seals → slice_index bids j ≡ slice_index values (seals + j) = λ j h. get_or-take seals values j 0 h ∙ shown.copied j h in
+    let bid = bid_shown seals width winner price values shown in
     let winning = bid winner w in
     let one_other : (place : ℕ) → place < seals → place ≢ winner
     → (slice_index bids place ≤ slice_index bids winner) × (place < winner → slice_index bids place < slice_index bids winner) × (slice_index bids place ≤ price) =
     λ place h ne.
     let k = other_of seals winner place h w ne in
-    let above = not_above seals width winner price k.0 values case.most_width w k.1 shown in
-    let within = not_above_price seals width winner price k.0 values case.most_width w k.1 case.within_width shown in
+    let above = not_above seals width winner price k.0 values most w k.1 shown in
+    let within = not_above_price seals width winner price k.0 values most w k.1 below shown in
     let here : slice_index bids place ≡ slice_index values (seals + other winner k.0) = bid place h ∙ ap (λ p. slice_index values (seals + p)) (sym k.2) in
     (omega (arith, above.0), (λ before. omega (arith, above.1 (other_index winner k.0 place k.2 before))), omega arith) in
     record {
@@ -286,17 +298,37 @@ claim_shown seals width position price values case enough shown held =
           let inside : j < seals = omega arith in
           let small = shown.bids j inside in
           rw (get_or_default bids j d 0 h, bid j inside) small;
-      outcome = record {
-        is_position = record { some = case.some_position; within = omega (arith, case.within_seals) };
+      wins = record {
+        is_position = record { some = some_position; within = omega (arith, within_seals) };
         none_bids_more = λ j at. elim (cases_eq (j - 1) winner) [
           | inl e ↦ omega (arith, ap (slice_index bids) e)
           | inr ne ↦ (one_other (j - 1) (omega (arith, at.some, at.within)) ne).0
         ];
         first_of_the_greatest = λ j at before.
             (one_other (j - 1) (omega (arith, at.some, at.within)) (λ e. omega (arith, at.some))).1 (omega (arith, at.some));
+      };
+      others_within_price = λ j at ne.
+          (one_other (j - 1) (omega (arith, at.some, at.within)) (λ e. ne (omega (arith, at.some, some_position)))).2;
+    }
+
+claim_shown : (seals width position price : ℕ) (values : List ℕ) → IsVickreyCase seals width position price → seals ≤ length values
+    → IsShown seals width (position - 1) price values → (2 ≤ seals → IsHeld seals (position - 1) price values)
+    → IsVickreyClaim seals width position price (take seals values)
+claim_shown seals width position price values case enough shown held =
+    let winner = position - 1 in
+    let w : winner < seals = omega (arith, case.some_position, case.within_seals) in
+    let bids = take seals values in
+    let win = win_shown seals width position price values case.some_position case.within_seals case.wide.most case.within_width enough shown in
+    let long = win.one_each in
+    record {
+      one_each = long;
+      within_width = win.within_width;
+      outcome = record {
+        is_position = win.wins.is_position;
+        none_bids_more = win.wins.none_bids_more;
+        first_of_the_greatest = win.wins.first_of_the_greatest;
         alone_pays_0 = λ one. case.alone (sym long ∙ one);
-        others_within_price = λ many j at ne.
-            (one_other (j - 1) (omega (arith, at.some, at.within)) (λ e. ne (omega (arith, at.some, case.some_position)))).2;
+        others_within_price = λ many. win.others_within_price;
         price_is_bid = λ many.
             let found = held (omega arith) in
             let place = other winner found.place in
@@ -306,7 +338,7 @@ claim_shown seals width position price values case enough shown held =
               holder = place + 1;
               is_position = record { some = omega arith; within = omega arith };
               is_other = λ e. other_not winner found.place (omega arith);
-              bids_price = ap (slice_index bids) back ∙ (bid place inside ∙ found.holds);
+              bids_price = ap (slice_index bids) back ∙ (bid_shown seals width winner price values shown place inside ∙ found.holds);
             };
       };
     }
@@ -343,26 +375,26 @@ vickrey_sound seals width position price values case holds =
       | inl one ↦
           (let holds' = subst (λ p. Holds p values) (plan_alone seals width position price one.0) holds in
           let all = sym (take_all start values (omega (arith, holds'.one_each))) in
-          let shown = prices_shown seals width winner price values w case.some_width case.most_width holds'.residues (omega (arith, holds'.one_each)) (subst (Holds plan) all holds') in
+          let shown = prices_shown seals width winner price values w case.wide.least case.wide.most holds'.residues (omega (arith, holds'.one_each)) (subst (Holds plan) all holds') in
           claim_shown seals width position price values case (omega (arith, holds'.one_each)) shown (λ many. absurd (omega (arith, one.1))))
       | inr many ↦
           (let holds' = subst (λ p. Holds p values) (plan_many seals width position price many.0) holds in
           let relation = price_selection seals width winner price in
-          let own = names_prices seals width winner price w case.some_width case.most_width in
-          let fits = selection seals width winner price (omega (arith, case.some_seals, many.1)) case.most_seals w case.some_width case.most_width in
+          let own = names_prices seals width winner price w case.wide.least case.wide.most in
+          let fits = selection seals width winner price (omega (arith, case.some_seals, many.1)) case.most_seals w case.wide.least case.wide.most in
           let selected = selected_sound relation plan values own fits holds' in
           let before = Holds-before plan (selected_wires relation) (selected_rows relation start) values own holds' in
           let enough : start ≤ length values = omega (arith, holds'.one_each, length-append plan.kinds (selected_wires relation)) in
-          let shown = prices_shown seals width winner price values w case.some_width case.most_width holds'.residues enough before in
+          let shown = prices_shown seals width winner price values w case.wide.least case.wide.most holds'.residues enough before in
           claim_shown seals width position price values case (omega arith) shown
-          (λ _. selection_held seals width winner price values selected.0 case.most_width w case.within_width enough shown selected.1))
+          (λ _. selection_held seals width winner price values selected.0 case.wide.most w case.within_width enough shown selected.1))
     ]
 
 -- a place below the number of seals is a position, one higher
-position_of : (bids : List ℕ) (place : ℕ) → place < length bids → IsPosition bids (place + 1)
+pub position_of : (bids : List ℕ) (place : ℕ) → place < length bids → IsPosition bids (place + 1)
 position_of bids place h = record { some = omega arith; within = omega arith }
 
-bid_at_place : (bids : List ℕ) (place : ℕ) → bid_at bids (place + 1) ≡ slice_index bids place
+pub bid_at_place : (bids : List ℕ) (place : ℕ) → bid_at bids (place + 1) ≡ slice_index bids place
 bid_at_place bids place = let back : place + 1 - 1 ≡ place = omega arith in ap (slice_index bids) back
 
 module _ (seals width position price : ℕ) (bids values : List ℕ) (case : IsVickreyCase seals width position price)
@@ -376,7 +408,7 @@ module _ (seals width position price : ℕ) (bids values : List ℕ) (case : IsV
   pub bids_fit : (j : ℕ) → j < seals → IsOfWidth width (form_value (bid_form seals j) values)
   bids_fit j h =
       let small = subst (λ b. b < 2 ^ width) (sym (bid_of j h)) (bid_small j h) in
-      subst (IsOfWidth width) (sym (bid_value seals j values (omega (arith, width_small width case.most_width)))) small
+      subst (IsOfWidth width) (sym (bid_value seals j values (omega (arith, width_small width case.wide.most)))) small
 
   pub wins_fit : (k : ℕ) → k < seals - 1 → IsOfWidth width (form_value (win_form seals (position - 1) k) values)
   wins_fit k h =
@@ -386,7 +418,7 @@ module _ (seals width position price : ℕ) (bids values : List ℕ) (case : IsV
       let inside = other_within seals winner k w h in
       let winning = slice_index values (seals + winner) in
       let losing = slice_index values (seals + place) in
-      let small = width_small width case.most_width in
+      let small = width_small width case.wide.most in
       let top = subst (λ b. b < 2 ^ width) (sym (bid_of winner w)) (bid_small winner w) in
       let at = position_of bids place (omega (arith, claim.one_each)) in
       let above : losing ≤ winning = omega (arith, claim.outcome.none_bids_more (place + 1) at, bid_at_place bids place, bid_of place inside, bid_of winner w) in
@@ -411,7 +443,7 @@ module _ (seals width position price : ℕ) (bids values : List ℕ) (case : IsV
   pub prices_fit : (k : ℕ) → k < seals - 1 → IsOfWidth width (form_value (price_form seals (position - 1) price k) values)
   prices_fit k h =
       subst (IsOfWidth width) (sym (price_value seals (position - 1) price k values))
-      (within_fits (slice_index values (seals + other (position - 1) k)) price (2 ^ width) case.within_width (width_small width case.most_width) (within_price k h))
+      (within_fits (slice_index values (seals + other (position - 1) k)) price (2 ^ width) case.within_width (width_small width case.wide.most) (within_price k h))
 
   -- a place of another that holds the price may be selected
   pub may_be_selected : 2 ≤ seals → (p : ℕ) × IsSelected (price_selection seals width (position - 1) price) values p
@@ -419,7 +451,7 @@ module _ (seals width position price : ℕ) (bids values : List ℕ) (case : IsV
       let winner = position - 1 in
       let w : winner < seals = omega (arith, case.some_position, case.within_seals) in
       let relation = price_selection seals width winner price in
-      let small = width_small width case.most_width in
+      let small = width_small width case.wide.most in
       let f : ℕ → ℕ = λ k. seals + other winner k in
       let long = length_listed f (seals - 1) in
       let held = claim.outcome.price_is_bid (omega (arith, claim.one_each)) in
@@ -438,7 +470,7 @@ module _ (seals width position price : ℕ) (bids values : List ℕ) (case : IsV
         },
       )
 
-claim_residues : (seals width position price : ℕ) (bids : List ℕ) → width ≤ 40 → IsVickreyClaim seals width position price bids → All IsResidue bids
+pub claim_residues : (seals width position price : ℕ) (bids : List ℕ) → width ≤ 40 → IsVickreyClaim seals width position price bids → All IsResidue bids
 claim_residues seals width position price bids most claim j d h = omega (arith, claim.within_width j d h, width_small width most)
 
 -- the values before the selection begin with the bids and hold for the plan before it
@@ -459,8 +491,8 @@ pub before_selection : (seals width position price : ℕ) (bids : List ℕ) → 
 before_selection seals width position price bids case claim =
     let winner = position - 1 in
     let w : winner < seals = omega (arith, case.some_position, case.within_seals) in
-    let some = case.some_width in
-    let most = case.most_width in
+    let some = case.wide.least in
+    let most = case.wide.most in
     let v0 = bids ++ bids in
     let v1 = after_bids seals width v0 in
     let v2 = after_wins seals width winner v1 in
@@ -491,8 +523,8 @@ vickrey_complete seals width position price bids case claim =
       | inr many ↦
           (let two : 2 ≤ seals = omega (arith, case.some_seals, many.1) in
           let chosen = may_be_selected seals width position price bids v3 case claim (begins_prices seals width winner price bids) two in
-          let h4 = selected_complete relation (with_prices seals width winner price) v3 chosen.0 (names_prices seals width winner price w case.some_width case.most_width)
-          (selection seals width winner price two case.most_seals w case.some_width case.most_width) h3 chosen.1 in
+          let h4 = selected_complete relation (with_prices seals width winner price) v3 chosen.0 (names_prices seals width winner price w case.wide.least case.wide.most)
+          (selection seals width winner price two case.most_seals w case.wide.least case.wide.most) h3 chosen.1 in
           subst (λ p. Holds p (after_selection seals width winner price v3)) (sym (plan_many seals width position price many.0))
           (subst (λ b. Holds (with_selection seals width winner price) (if b then v3 else v3 ++ selected_values relation v3)) (sym many.0) h4))
     ]

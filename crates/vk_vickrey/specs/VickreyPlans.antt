@@ -1,6 +1,7 @@
 -- The plan that shows a second-price outcome, and the values that hold for it. Wires, rows and the
 -- places below count from 0; the published position counts from 1.
 use Rattle.std.specs.Prelude.{ℕ, ◌+◌, ◌-◌, ◌*◌, ◌^◌, ◌<◌, ◌≤◌, ◌≡◌, ◌==◌, if◌then◌else◌, nat_lt, List, [], ◌∷◌, ◌++◌, All, length, replicate}
+use Rattle.vk_residue.specs.Limits.{IsWidth}
 use Rattle.vk_plan.specs.declared.wire.WireKind.TheVariants.{Split}
 use Rattle.vk_plan.specs.declared.form.Form.{Form}
 use Rattle.vk_plan.specs.Plans.{PlanValue}
@@ -17,8 +18,7 @@ use Rattle.vk_vickrey.specs.Outcomes.{IsVickreyOutcome}
 pub record IsVickreyCase (seals width position price : ℕ) : Type 0 where
   pub some_seals : 1 ≤ seals
   pub most_seals : seals ≤ 64
-  pub some_width : 1 ≤ width
-  pub most_width : width ≤ 40
+  pub wide : IsWidth width
   pub some_position : 1 ≤ position
   pub within_seals : position ≤ seals
   pub within_width : price < 2 ^ width
@@ -41,6 +41,11 @@ win_form seals winner k = difference_form (seals + winner) (seals + other winner
 -- the price less another's Y
 abbrev pub price_form : ℕ → ℕ → ℕ → ℕ → Form
 price_form seals winner price k = record { terms = minus (seals + other winner k) ∷ []; constant = price }
+
+-- what is of the width, in order: each copy, the winner's less each other's, and the price less each other's
+abbrev pub vickrey_forms : ℕ → ℕ → ℕ → List Form
+vickrey_forms seals winner price =
+    listed (bid_form seals) seals ++ listed (win_form seals winner) (seals - 1) ++ listed (price_form seals winner price) (seals - 1)
 
 -- one of the others' Y is the price
 abbrev pub price_selection : ℕ → ℕ → ℕ → ℕ → SelectedIs

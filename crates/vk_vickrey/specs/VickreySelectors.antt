@@ -55,7 +55,7 @@ serves_holder : (seals width position price place : ℕ) (bids values : List ℕ
 serves_holder seals width position price place bids values case claim begins h holds =
     let relation = price_selection seals width (position - 1) price in
     let long = length_listed (λ k. seals + other (position - 1) k) (seals - 1) in
-    let small = width_small width case.most_width in
+    let small = width_small width case.wide.most in
     serves_all relation values place (λ k l.
     let inside : k < seals - 1 = omega arith in
     let read = copy_read seals width position price k bids values case claim begins inside in
@@ -80,7 +80,7 @@ serves_no_other seals width position price place bids values case claim begins h
     let here = (selected_from relation values place (omega arith) test).here in
     let read = copy_read seals width position price place bids values case claim begins h in
     other_bid (reaches_means (slice_index bids (other (position - 1) place)) price (2 ^ width)
-    (other_within_price seals width position price place bids values case claim begins h) case.within_width (width_small width case.most_width)
+    (other_within_price seals width position price place bids values case claim begins h) case.within_width (width_small width case.wide.most)
     (subst (λ b. difference b price < 2 ^ width) read here)))
 
 holder_is_first : (seals width position price place : ℕ) (bids values : List ℕ) → IsVickreyCase seals width position price → IsVickreyClaim seals width position price bids

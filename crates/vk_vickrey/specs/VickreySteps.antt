@@ -1,71 +1,35 @@
 -- What the code meets on its way: plans that are plans, and room for the next set.
-use Rattle.std.specs.Prelude.{Option, Some, None, IsNone, IfSome, unwrap_or, ℕ, ◌+◌, ◌-◌, ◌*◌, ◌^◌, ◌<◌, ◌≤◌, ◌≡◌, ◌≢◌, false, if◌then◌else◌, List, ◌++◌, length, take, replicate}
-use Rattle.std.proofs.Common.{suc, suc-mul, refl, sym, ap, ◌∙◌, subst, arith, inl, inr, length-append, mul-le-mul_left, mul-le-mul_right, lit≤}
+use Rattle.std.specs.Prelude.{Option, Some, None, IsNone, IfSome, unwrap_or, ℕ, ◌+◌, ◌-◌, ◌*◌, ◌^◌, ◌<◌, ◌≤◌, ◌≡◌, ◌≢◌, if◌then◌else◌, List, ◌++◌, length, take, replicate}
+use Rattle.std.proofs.Common.{suc, suc-mul, refl, sym, ap, ◌∙◌, subst, arith, inl, inr, length-append, mul-le-mul_left, mul-le-mul_right}
 use Rattle.std.proofs.lemmas.List.{length-replicate, take-append-le, take_at}
 use Rattle.std.proofs.lemmas.Bool.{eq-eqb, ne_eqb}
 use Rattle.std.proofs.lemmas.Bool.Decides.{eqb_tells}
 use Rattle.std.proofs.Math.Pow.{pow_mono}
 use Rattle.vk_residue.specs.Residue.{modulus}
 use Rattle.vk_plan.specs.declared.wire.WireKind.TheVariants.{Split}
-use Rattle.vk_plan.specs.declared.form.Form.{Form}
 use Rattle.vk_plan.specs.Plans.{PlanValue, IsPlan, Holds, plan_of_inputs, extended}
 use Rattle.vk_range.specs.declared.selected.SelectedIs.{SelectedIs}
 use Rattle.vk_range.specs.Others.{other, other_within}
-use Rattle.vk_range.specs.Copies.{copies, copies_rows, length_copies, IsPlan-copies}
-use Rattle.vk_range.specs.Sets.{listed, set_row}
-use Rattle.vk_range.specs.Forms.{difference_form}
 use Rattle.vk_range.specs.SetLaws.{length_listed, All-listed}
-use Rattle.vk_range.specs.Series.{series, series_rows, series_values, IsSeries, length_series, series_room}
+use Rattle.vk_range.specs.Series.{series_values}
 use Rattle.vk_range.specs.Selected.{IsSelection, selected_wires, selected_rows, selected_values}
 use Rattle.vk_range.specs.Rooms.{selected_room}
 use Rattle.vk_range.specs.Selected.{place_row}
 use Rattle.vk_range.specs.SelectedLaws.{length_kinds}
-use Rattle.vk_vickrey.specs.VickreyPlans.{IsVickreyCase, IsVickreyClaim, bid_form, win_form, price_form, price_selection, vickrey_plan, wire_count, row_count, after_bids, after_wins, after_prices, after_selection, honest_values}
-use Rattle.vk_vickrey.specs.VickreyLaws.{length_prices, plan_alone, plan_many, with_bids, with_wins, with_prices, selection, vickrey_sound, bids_series, wins_series, prices_series}
+use Rattle.vk_range.specs.Ranged.{ranges_of}
+use Rattle.vk_range.specs.RangedLaws.{ranged_rows, ranged_is_plan}
+use Rattle.vk_vickrey.specs.VickreyPlans.{IsVickreyCase, IsVickreyClaim, bid_form, win_form, price_form, price_selection, vickrey_forms, vickrey_plan, wire_count, row_count, after_bids, after_wins, after_prices, after_selection, honest_values}
+use Rattle.vk_vickrey.specs.VickreyLaws.{length_prices, plan_alone, plan_many, with_prices, selection, vickrey_sound}
+use Rattle.vk_vickrey.specs.VickreyRanges.{length_forms, prices_ranged, vickrey_ranged}
 
 products : (count width : ℕ) → count ≤ 64 → width ≤ 40 → count * width ≤ 2560
 products count width few small = omega (arith, mul-le-mul_right width few, mul-le-mul_left 64 small)
 
--- a plan that is small, with sets at its end
-pub record IsSmall (plan : PlanValue) (wires rows : ℕ) : Type 0 where
-  pub is_plan : IsPlan plan
-  wires_within : length plan.kinds ≤ wires
-  rows_within : length plan.rows ≤ rows
-
-small_series : (plan : PlanValue) (form : ℕ → Form) (width base most count wires rows : ℕ) → IsSmall plan wires rows → IsSeries plan form width base most
-    → count ≤ most → most ≤ 64 → wires ≤ 16000000 → rows ≤ 16000000 → IsSmall (series plan form width count) (wires + 2560) (rows + 64)
-small_series plan form width base most count wires rows small is_series few many room_wires room_rows =
-    let product = products count width (omega arith) is_series.most in
-    let fewer : IsSeries plan form width base count = record { names = λ i h. is_series.names i (omega arith); base_within = is_series.base_within; some = is_series.some; most = is_series.most } in
-    let rows' = length_listed (λ i. set_row (form i) (length plan.kinds + i * width) width) count in
-    record {
-      is_plan = series_room plan form width base count small.is_plan fewer (omega (arith, small.wires_within)) (omega (arith, small.rows_within));
-      wires_within = omega (arith, length_series plan form width count, small.wires_within);
-      rows_within = omega (arith, length-append plan.rows (listed (λ i. set_row (form i) (length plan.kinds + i * width) width) count), small.rows_within);
-    }
-
-small_copies : (seals : ℕ) → seals ≤ 64 → IsSmall (copies seals seals) 128 64
-small_copies seals few = record {
-  is_plan = IsPlan-copies seals seals (omega arith) (omega arith);
-  wires_within = omega (arith, length_copies seals seals);
-  rows_within = omega (arith, length_listed (λ j. difference_form j (seals + j) false) seals);
-}
-
-pub small_bids : (seals width count : ℕ) → seals ≤ 64 → 1 ≤ width → width ≤ 40 → count ≤ seals → IsSmall (series (copies seals seals) (bid_form seals) width count) 2688 128
-small_bids seals width count few some most le =
-    small_series (copies seals seals) (bid_form seals) width (seals + seals) seals count 128 64 (small_copies seals few) (bids_series seals width some most) le few (lit≤ tt) (lit≤ tt)
-
-pub small_wins : (seals width winner count : ℕ) → seals ≤ 64 → winner < seals → 1 ≤ width → width ≤ 40 → count ≤ seals - 1
-    → IsSmall (series (with_bids seals width) (win_form seals winner) width count) 5248 192
-small_wins seals width winner count few w some most le =
-    small_series (with_bids seals width) (win_form seals winner) width (seals + seals) (seals - 1) count 2688 128 (small_bids seals width seals few some most (omega arith))
-    (wins_series seals width winner w some most) le (omega arith) (lit≤ tt) (lit≤ tt)
-
-pub small_prices : (seals width winner price count : ℕ) → seals ≤ 64 → winner < seals → 1 ≤ width → width ≤ 40 → count ≤ seals - 1
-    → IsSmall (series (with_wins seals width winner) (price_form seals winner price) width count) 7808 256
-small_prices seals width winner price count few w some most le =
-    small_series (with_wins seals width winner) (price_form seals winner price) width (seals + seals) (seals - 1) count 5248 192
-    (small_wins seals width winner (seals - 1) few w some most (omega arith)) (prices_series seals width winner price w some most) le (omega arith) (lit≤ tt) (lit≤ tt)
+-- how many rows there are before the selection
+rows_before : (seals width winner price : ℕ) → length (with_prices seals width winner price).rows ≡ seals + seals + (seals - 1) + (seals - 1)
+rows_before seals width winner price =
+    ap (λ (p : PlanValue). length p.rows) (prices_ranged seals width winner price)
+    ∙ ranged_rows seals (ranges_of (vickrey_forms seals winner price) width) ∙ omega (arith, length_forms seals winner price)
 
 module _ (seals width position price : ℕ) (case : IsVickreyCase seals width position price) where
   pub is_winner : position - 1 < seals
@@ -109,22 +73,27 @@ circuit_sound seals width position price values case holds = vickrey_sound seals
 module _ (seals width position price : ℕ) (case : IsVickreyCase seals width position price) where
   -- the selection
   pub prices_plan : IsPlan (with_prices seals width (position - 1) price)
-  prices_plan = (small_prices seals width (position - 1) price (seals - 1) case.most_seals (is_winner seals width position price case) case.some_width case.most_width (omega arith)).is_plan
+  prices_plan =
+      let winner = position - 1 in
+      subst IsPlan (sym (prices_ranged seals width winner price))
+      (ranged_is_plan seals (ranges_of (vickrey_forms seals winner price) width) (vickrey_ranged seals width position price case))
 
   pub selection_fits : seals ≢ 1 → IsSelection (price_selection seals width (position - 1) price) (length (with_prices seals width (position - 1) price).kinds)
   selection_fits many =
-      selection seals width (position - 1) price (omega (arith, case.some_seals, many)) case.most_seals (is_winner seals width position price case) case.some_width case.most_width
+      selection seals width (position - 1) price (omega (arith, case.some_seals, many)) case.most_seals (is_winner seals width position price case) case.wide.least case.wide.most
 
   pub selection_room : seals ≢ 1
       → IsPlan (extended (with_prices seals width (position - 1) price) (selected_wires (price_selection seals width (position - 1) price))
       (selected_rows (price_selection seals width (position - 1) price) (length (with_prices seals width (position - 1) price).kinds)))
   selection_room many =
       let relation = price_selection seals width (position - 1) price in
-      let small = small_prices seals width (position - 1) price (seals - 1) case.most_seals (is_winner seals width position price case) case.some_width case.most_width (omega arith) in
+      let wires = length_prices seals width (position - 1) price in
+      let sets = products seals width case.most_seals case.wide.most in
+      let fewer = products (seals - 1) width (omega (arith, case.most_seals)) case.wide.most in
       let long = length_listed (λ k. seals + other (position - 1) k) (seals - 1) in
       let few : length relation.wires ≤ 64 = omega (arith, case.most_seals) in
       selected_room (with_prices seals width (position - 1) price) relation prices_plan (selection_fits many)
-      (omega (arith, products (length relation.wires) width few case.most_width, small.wires_within)) (omega (arith, small.rows_within))
+      (omega (arith, products (length relation.wires) width few case.wide.most, case.most_seals)) (omega (arith, rows_before seals width (position - 1) price, case.most_seals))
 
   -- the values before the selection, and at the end
   pub honest_alone : (bids before : List ℕ) → seals ≡ 1
@@ -156,8 +125,7 @@ module _ (seals width position price : ℕ) (case : IsVickreyCase seals width po
                 (λ k h. omega (arith, other_within seals (position - 1) k w h));
             one = omega (arith, case.some_seals, many);
             most = omega (arith, case.most_seals);
-            some_width = case.some_width;
-            most_width = case.most_width;
+            wide = case.wide;
           },
           same,
         ),
@@ -198,22 +166,6 @@ wires_many seals width position price some many =
     let sets = ap (λ n. n * width) long in
     ap (λ p. length p.kinds) (plan_many seals width position price (ne_eqb seals 1 many))
     ∙ (length-append plan.kinds (selected_wires relation) ∙ omega (arith, selected_count relation, prices_count seals width (position - 1) price some))
-
-rows_before : (seals width winner price : ℕ) → length (with_prices seals width winner price).rows ≡ seals + seals + (seals - 1) + (seals - 1)
-rows_before seals width winner price =
-    let a = copies_rows seals seals in
-    let b = series_rows (bid_form seals) (length (copies seals seals).kinds) width seals in
-    let c = series_rows (win_form seals winner) (length (with_bids seals width).kinds) width (seals - 1) in
-    let d = series_rows (price_form seals winner price) (length (with_wins seals width winner).kinds) width (seals - 1) in
-    length-append (a ++ b ++ c) d ∙ omega (
-      arith,
-      length-append (a ++ b) c,
-      length-append a b,
-      length_listed (λ j. difference_form j (seals + j) false) seals,
-      length_listed (λ i. set_row (bid_form seals i) (length (copies seals seals).kinds + i * width) width) seals,
-      length_listed (λ i. set_row (win_form seals winner i) (length (with_bids seals width).kinds + i * width) width) (seals - 1),
-      length_listed (λ i. set_row (price_form seals winner price i) (length (with_wins seals width winner).kinds + i * width) width) (seals - 1),
-    )
 
 pub rows_alone : (seals width position price : ℕ) → seals ≡ 1 → length (vickrey_plan seals width position price).rows ≡ row_count seals
 rows_alone seals width position price one =

@@ -1,19 +1,18 @@
 ghost use Rattle.std.specs.Prelude.{◌≡◌, ◌+◌, ◌-◌, ◌*◌, ◌<◌, ◌≤◌, ◌↔◌, ◌++◌, ◌∷◌, [], List, ℕ, length, take, IsSome, IfSome, IfOk, OnOk, nat_lt};
 ghost use Rattle.vk_plan.specs.Plans.{PlanValue, Holds, IsPlan, extended};
 ghost use Rattle.vk_range.specs.Others.{other as OtherPlace};
-ghost use Rattle.vk_range.specs.Sets.{IsOfWidth, bit_parts, set_row, test_set};
-ghost use Rattle.vk_range.specs.Series.{series, series_values};
-ghost use Rattle.vk_plan.specs.Forms.{form_value};
-ghost use Rattle.vk_vickrey.specs.VickreyPlans.{IsVickreyCase, IsVickreyClaim, vickrey_plan, wire_count, row_count, honest_values, bid_form, price_form, price_selection};
+ghost use Rattle.vk_range.specs.Ranged.{ranges_of};
+ghost use Rattle.vk_vickrey.specs.VickreyPlans.{IsVickreyCase, IsVickreyClaim, vickrey_plan, wire_count, row_count, honest_values, price_selection, vickrey_forms};
 ghost use Rattle.vk_vickrey.specs.VickreyLaws.{vickrey_complete, with_prices};
-ghost use Rattle.vk_vickrey.specs.VickreyRanges.{bid_ranges, win_ranges, price_ranges, values_before};
+ghost use Rattle.vk_vickrey.specs.VickreyRanges.{values_before};
 ghost use Rattle.vk_vickrey.specs.VickreySelectors.{IsFirstHolder, SelectsAt, selectors_start};
 ghost use Rattle.vk_vickrey.specs.VickreySteps.{circuit_begins, circuit_sound, vickrey_is_plan};
 
+use crate::forms::{of_width, other_copy, residue_of, vickrey_forms};
 use crate::outcomes::VickreyOutcome;
 use std::alloc::Global;
-use vk_plan::{Circuit, Form, Plan, Relation};
-use vk_range::{Ranges, SelectedIs, add_copies, difference, one_term, other, with_copies};
+use vk_plan::{Circuit, Plan, Relation};
+use vk_range::{Ranges, SelectedIs, ranged_plan, ranged_values};
 use vk_residue::{NoMemory, Residue};
 use vk_seq::Seq;
 
@@ -123,73 +122,20 @@ impl VickreyPlan {
         self.position - 1
     }
 
-    /// The copy of the bid at the k-th place other than the winner's.
-    #[tactic(auto, using(vk_range::specs::Others::other_within))]
-    fn other_copy(&self, k: u32) -> u32
-        requires { k < self.now.seals - 1 }
-        ensures { result ≡ self.now.seals + OtherPlace (self.now.position - 1) k }
-    {
-        self.seals + other(self.winner(), k)
-    }
-
     fn price_residue(&self) -> Residue
         ensures { result ≡ self.now.price }
     {
-        Residue::new(self.price).unwrap_or(Residue::ZERO)
+        residue_of(self.price, self.width)
     }
 
-    /// The copy of each bid.
-    fn bids(&self, alloc: Global) -> Result<Ranges, NoMemory>
-        ensures { IfOk result (λ ranges. ranges ≡ bid_ranges self.now.seals self.now.width) }
+    /// That the bids are of the width, that the winner's is above the others, and that none of the others is above
+    /// the price.
+    fn ranges(&self, alloc: Global) -> Result<Ranges, NoMemory>
+        ensures { IfOk result (λ relation.
+            relation ≡ ranges_of (vickrey_forms self.now.seals (self.now.position - 1) self.now.price) self.now.width) }
     {
-        let mut forms = Vec::new(alloc);
-        for j in 0..self.seals {
-            let form = one_term(alloc, self.seals + j, Residue::ONE, Residue::ZERO)?;
-            forms.push(form)?;
-        }
-        Ok(self.ranges(forms))
-    }
-
-    /// The winner's copy less each other, less 1 where the other stands before.
-    fn wins(&self, alloc: Global) -> Result<Ranges, NoMemory>
-        ensures { IfOk result (λ ranges. ranges ≡ win_ranges self.now.seals self.now.width (self.now.position - 1)) }
-    {
-        let mut forms = Vec::new(alloc);
-        for k in 0..self.seals - 1 {
-            let strict = k < self.winner();
-            let form = difference(
-                alloc,
-                self.seals + self.winner(),
-                self.other_copy(k),
-                strict,
-            )?;
-            forms.push(form)?;
-        }
-        Ok(self.ranges(forms))
-    }
-
-    /// The price less each other copy.
-    fn prices(&self, alloc: Global) -> Result<Ranges, NoMemory>
-        ensures { IfOk result (λ ranges.
-            ranges ≡ price_ranges self.now.seals self.now.width (self.now.position - 1) self.now.price) }
-    {
-        let mut forms = Vec::new(alloc);
-        for k in 0..self.seals - 1 {
-            let minus = Residue::ONE.neg();
-            let form = one_term(alloc, self.other_copy(k), minus, self.price_residue())?;
-            forms.push(form)?;
-        }
-        Ok(self.ranges(forms))
-    }
-
-    /// Each form is of the plan's width.
-    fn ranges(&self, forms: Vec<Form>) -> Ranges
-        ensures { result ≡ record { forms = forms.items; width = self.now.width } }
-    {
-        Ranges {
-            forms: Seq::from_vec(forms),
-            width: self.width,
-        }
+        let forms = vickrey_forms(alloc, self.seals, self.winner(), self.price_residue())?;
+        Ok(of_width(forms, self.width))
     }
 
     /// One of the others' copies is the price.
@@ -199,7 +145,7 @@ impl VickreyPlan {
     {
         let mut wires = Vec::new(alloc);
         for k in 0..self.seals - 1 {
-            wires.push(self.other_copy(k))?;
+            wires.push(other_copy(self.seals, self.winner(), k))?;
         }
         Ok(SelectedIs {
             wires: Seq::from_vec(wires),
@@ -213,14 +159,8 @@ impl VickreyPlan {
         ensures { IfOk result (λ plan.
             plan ≡ with_prices self.now.seals self.now.width (self.now.position - 1) self.now.price) }
     {
-        let mut plan = Plan::new(alloc, self.seals)?;
-        add_copies(alloc, self.seals, &mut plan)?;
-        let bids = self.bids(alloc)?;
-        bids.add(alloc, &mut plan)?;
-        let wins = self.wins(alloc)?;
-        wins.add(alloc, &mut plan)?;
-        let prices = self.prices(alloc)?;
-        prices.add(alloc, &mut plan)?;
+        let relation = self.ranges(alloc)?;
+        let plan = ranged_plan(alloc, self.seals, &relation)?;
         Ok(plan)
     }
 
@@ -234,13 +174,8 @@ impl VickreyPlan {
         ensures { IfOk result (λ values.
             values.items ≡ values_before self.now.seals self.now.width (self.now.position - 1) self.now.price bids.now) }
     {
-        let mut values = with_copies(alloc, bids)?;
-        let copies = self.bids(alloc)?;
-        copies.fill(&mut values)?;
-        let wins = self.wins(alloc)?;
-        wins.fill(&mut values)?;
-        let prices = self.prices(alloc)?;
-        prices.fill(&mut values)?;
+        let relation = self.ranges(alloc)?;
+        let values = ranged_values(alloc, bids, &relation)?;
         Ok(values)
     }
 }

@@ -2,6 +2,7 @@
 ghost use Rattle.std.specs.Prelude.{◌≡◌, ◌<◌, ◌≤◌, ◌^◌, All, IfOk, IfSome, length};
 
 use std::alloc::Global;
+use std::test::Fail;
 use vk_plan::Plan;
 use vk_residue::{NoMemory, Residue};
 
@@ -49,4 +50,15 @@ pub fn rows_are_zero(plan: &Plan, values: &[Residue]) -> bool
         }
     }
     true
+}
+
+/// How many wires and rows the plan has, where the values are one for each wire and each row is 0 on them.
+pub fn counts_where_zero(plan: &Plan, values: &[Residue]) -> Result<(u32, u32), Fail> {
+    if values.len() != plan.wires() as usize {
+        return Err("not one value for each wire".into());
+    }
+    if !rows_are_zero(plan, values) {
+        return Err("a row is not 0".into());
+    }
+    Ok((plan.wires(), plan.rows()))
 }

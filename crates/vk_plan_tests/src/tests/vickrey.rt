@@ -1,7 +1,7 @@
 // Outcomes of many lists of bids are replayed by the program `vectors`.
 ghost use Rattle.std.specs.Prelude.{◌≤◌, ◌<◌, length};
 
-use super::numbers::{are, inputs_of, rows_are_zero};
+use super::numbers::{are, counts_where_zero, inputs_of};
 use std::alloc::Global;
 use std::test::Fail;
 use vk_plan::Circuit;
@@ -96,13 +96,7 @@ fn filled_counts(alloc: Global, bids: &[u64], width: u32) -> Result<(u32, u32), 
         "within the limits",
     )?;
     let plan = circuit.plan(alloc)?;
-    if values.len() != plan.wires() as usize {
-        return Err("not one value for each wire".into());
-    }
-    if !rows_are_zero(&plan, values.as_slice()) {
-        return Err("a row is not 0".into());
-    }
-    Ok((plan.wires(), plan.rows()))
+    counts_where_zero(&plan, values.as_slice())
 }
 
 #[test]

@@ -26,8 +26,7 @@ fits relation wires same five =
       names = All-cons Named (wire 0) (wire 1 ∷ last ∷ []) (one_name 5 (plus 0) (lit< tt))
           (All-cons Named (wire 1) (last ∷ []) (one_name 5 (plus 1) (lit< tt))
           (All-cons Named last [] (difference_names 5 2 3 false (lit< tt) (lit< tt)) (All-nil Named)));
-      some = lit≤ tt;
-      most = lit≤ tt;
+      wide = record { least = lit≤ tt; most = lit≤ tt };
     }))
 
 pub add_and_fill-requires-clause-room : goal.add_and_fill-requires-clause-room

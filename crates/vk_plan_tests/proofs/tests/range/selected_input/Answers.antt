@@ -16,8 +16,7 @@ five wires value same =
           (All-cons Below 2 (3 ∷ 4 ∷ []) (lit< tt) (All-cons Below 3 (4 ∷ []) (lit< tt) (All-cons Below 4 [] (lit< tt) (All-nil Below)))));
       one = lit≤ tt;
       most = lit≤ tt;
-      some_width = lit≤ tt;
-      most_width = lit≤ tt;
+      wide = record { least = lit≤ tt; most = lit≤ tt };
     })
 
 pub add_and_fill-requires-clause-room : goal.add_and_fill-requires-clause-room

@@ -13,8 +13,7 @@ three wires value same =
       names = All-cons Below 0 (1 ∷ 2 ∷ []) (lit< tt) (All-cons Below 1 (2 ∷ []) (lit< tt) (All-cons Below 2 [] (lit< tt) (All-nil Below)));
       one = lit≤ tt;
       most = lit≤ tt;
-      some_width = lit≤ tt;
-      most_width = lit≤ tt;
+      wide = record { least = lit≤ tt; most = lit≤ tt };
     })
 
 pub fill-requires-clause-fits : goal.fill-requires-clause-fits

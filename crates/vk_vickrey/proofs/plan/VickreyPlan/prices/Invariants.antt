@@ -1,7 +1,0 @@
-use Rattle.std.proofs.Common.{◌≡◌, ◌-◌}
-use Rattle.vk_range.specs.Sets.{listed}
-use Rattle.vk_vickrey.specs.VickreyPlans.{price_form}
-use Rattle.vk_vickrey.proofs.plan.VickreyPlan.prices.Given as goal
-
-abbrev pub invariant-loop-k : goal.invariant-loop-k
-invariant-loop-k l = l.forms.items ≡ listed (price_form l.self.seals (l.self.position - 1) l.self.price) l.k
