@@ -33,11 +33,10 @@ use Rattle.vk_bids.specs.declared.bids.LaneBids.{LaneBids}
 use Rattle.vk_bids.specs.declared.bids.OpenedBid.{OpenedBid}
 use Rattle.vk_bids.specs.declared.confrontation.Confrontation.TheVariants as malformed
 use Rattle.vk_bids.specs.declared.extraction.Extracted.{Extracted}
-use Rattle.vk_bids.specs.declared.extraction.Extraction.{Extraction}
 use Rattle.vk_bids.specs.declared.extraction.Extraction.TheVariants.{Refused, Same, Clash, Bids}
 use Rattle.vk_bids.specs.Binding.{ClashOr, HeldOrClash, HoldsIn, IsConfrontationOf, IsOfTwo, IsSealAt, IsSealOf, OnlyAcceptedAreConfronted, OthersAreMalformed, SealedAreHeldOrClash, SecretsAreBound, seal_with}
 use Rattle.vk_bids.specs.Confrontation.{board_seal, confronted_bid, confronted_found, confronted_lane, confronted_lanes, confrontation_of, held_by, index_of_seat, matched_by, no_seal, sealed_by, secret_in}
-use Rattle.vk_bids.specs.Extraction.{extraction_in}
+use Rattle.vk_bids.specs.Extraction.{Extraction, extraction_in}
 use Rattle.vk_bids.specs.Headline.{IsFound, IsOf, TwoAccepted}
 use Rattle.vk_bids.specs.Outcome.{LaneShows}
 use Rattle.vk_bids.proofs.Halves.{halves_clash, halves_held, halves_sum, none_else, some_else}

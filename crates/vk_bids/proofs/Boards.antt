@@ -2,9 +2,10 @@
 use Rattle.std.proofs.Common.{◌≡◌, ℕ, All, List, [], Option, Some, None, IfSome, Result, Ok, Err, refl, sym, ap, subst, ◌∙◌}
 use Rattle.std.specs.Prelude.{option_map}
 use Rattle.std.proofs.lemmas.List.Elements.{All-weaker}
+use Rattle.vk_residue.specs.Steps.{◌>>=◌}
 use Rattle.vk_io.specs.Files.{Files}
+use Rattle.vk_lines.specs.Gives.{Gives}
 use Rattle.vk_commit.specs.Commitment.{TwoOpeningsSeen}
-use Rattle.vk_row.specs.LaneTests.{◌>>=◌}
 use Rattle.vk_board.specs.declared.front.Front.{Front}
 use Rattle.vk_board.specs.Fronts.{IsFront}
 use Rattle.vk_verifier.specs.declared.answers.BoardVerdict.{BoardVerdict}
@@ -16,18 +17,17 @@ use Rattle.vk_verifier.specs.declared.stage.Finding.{Finding}
 use Rattle.vk_verifier.specs.declared.stage.Finding.TheVariants as ends
 use Rattle.vk_verifier.specs.declared.stage.TwoLane.{TwoLane}
 use Rattle.vk_verifier.specs.Statement.{StatementValue}
-use Rattle.vk_verifier.specs.Verdicts.{Gives, statement_of}
+use Rattle.vk_verifier.specs.Verdicts.{statement_of, unread_file}
 use Rattle.vk_verifier.specs.Two.{Ahead}
 use Rattle.vk_verifier.specs.TwoBoards.{BoardBase, as_ahead, as_two, base_on, two_on, with_front}
 use Rattle.vk_verifier.proofs.Steps.{bind_found}
 use Rattle.vk_bids.specs.declared.bids.LaneBids.{LaneBids}
-use Rattle.vk_bids.specs.declared.extraction.Extraction.{Extraction}
-use Rattle.vk_bids.specs.declared.lane_extraction.LaneExtraction.{LaneExtraction}
-use Rattle.vk_bids.specs.declared.lane_extraction.LaneExtraction.TheVariants.{Refused, Same, Clash, Lanes}
+use Rattle.vk_bids.specs.declared.extraction.Extraction.TheVariants.{Refused, Same, Clash, Bids}
 use Rattle.vk_bids.specs.declared.lane_extraction.OpenedLanes.{OpenedLanes}
-use Rattle.vk_bids.specs.Extraction.{AreOfFront, extraction_by, extraction_of, extraction_on, extraction_with, gathered_after, shown_by}
+use Rattle.vk_bids.specs.Extraction.{AreOfFront, Extraction, extraction_of, extraction_on, extraction_with, shown_on}
+use Rattle.vk_bids.specs.Extractions.{found_by, gathered_after, given_by}
 use Rattle.vk_bids.specs.Gathering.{gathered_from}
-use Rattle.vk_bids.specs.LaneExtraction.{AreOfBase, OpensLanes, gathered_behind, lane_extraction, lane_extraction_by, opened_by}
+use Rattle.vk_bids.specs.LaneExtraction.{AreOfBase, LaneExtraction, OpensLanes, lane_extraction, opened_of}
 use Rattle.vk_bids.specs.Opening.{LaneOpens}
 use Rattle.vk_bids.specs.Outcome.{LaneShows}
 use Rattle.vk_bids.proofs.Showing.{opens_shows}
@@ -39,19 +39,19 @@ abbrev with_its_front : (StatementValue → Front) → Option Base → Option Bo
 with_its_front front base = option_map (λ base. with_front (front base.statement) base) base
 
 opened_shown : (front : StatementValue → Front) (s : StatementValue) (gathered : Result (List LaneBids) TwoOpeningsSeen)
-    → shown_by (front s) gathered ≡ extraction_with front (opened_by s gathered)
+    → given_by (shown_on (front s)) gathered ≡ extraction_with front (given_by (opened_of s) gathered)
 opened_shown front s (Ok lanes) = refl
 opened_shown front s (Err two) = refl
 
 by_finding : (front : StatementValue → Front) (base : Option Base) (lanes : List TwoLane) (finding : Finding Fault)
     → IfSome base (λ base. base.statement ≡ statement_of (front base.statement))
-    → extraction_by (with_its_front front base) (as_two finding) (gathered_after (with_its_front front base) lanes)
-    ≡ extraction_with front (lane_extraction_by base finding (gathered_behind base lanes))
+    → found_by (λ (base : BoardBase). shown_on base.front) (with_its_front front base) (as_two finding) (gathered_after (λ (base : BoardBase). statement_of base.front) (with_its_front front base) lanes)
+    ≡ extraction_with front (found_by (λ (base : Base). opened_of base.statement) base finding (gathered_after (λ (base : Base). base.statement) base lanes))
 by_finding front base lanes (ends.Refused second fault) is = refl
 by_finding front base lanes ends.Same is = refl
 by_finding front None lanes ends.Ready is = refl
 by_finding front (Some base) lanes ends.Ready is =
-    ap (λ s. shown_by (front base.statement) (gathered_from s (Ok []) 1 lanes)) (sym is)
+    ap (λ s. given_by (shown_on (front base.statement)) (gathered_from s (Ok []) 1 lanes)) (sym is)
     ∙ opened_shown front base.statement (gathered_from base.statement (Ok []) 1 lanes)
 
 -- where the statement is that of the front, the extraction of the board is what the replies come to behind it
@@ -71,8 +71,8 @@ pub of_front : (front : StatementValue → Front) (base : Option Base) (found : 
 of_front front base (Refused second fault) stands are = tt
 of_front front base Same stands are = tt
 of_front front base (Clash two) stands are = tt
-of_front front None (Lanes opened) stands are = absurd are
-of_front front (Some base) (Lanes opened) stands are =
+of_front front None (Bids opened) stands are = absurd are
+of_front front (Some base) (Bids opened) stands are =
     let P : StatementValue → Type 0 = λ s. IsFront (front s) × (s ≡ statement_of (front s)) in subst P are stands
 
 pub same_statement : (front : StatementValue → Front) (base : Option Base) → StandsBefore front base
@@ -90,7 +90,7 @@ lanes_show front s lanes is same opens =
     (subst P same opens)
 
 pub opened_show : (front : StatementValue → Front) (made : Front) (found : LaneExtraction) (opened : OpenedLanes)
-    → found ≡ Lanes opened
+    → found ≡ Bids opened
     → made ≡ front opened.statement → OpensLanes found → AreOfFront front found
     → IsFront made × All (LaneShows made) opened.lanes
 opened_show front made found opened is same opens are =
@@ -124,9 +124,9 @@ not_extracted files board first_challenge first_reply second_challenge second_re
 
 -- a checker that was begun, or a file of it that is missing or too long
 pub begun : {T : Type 0} (base : T → Option BoardBase) (ahead : T → Ahead BoardVerdict) (files : Files) (board first_challenge first_reply second_challenge second_reply : List ℕ) (answer : Result T VErr)
-    → Gives ahead answer (two_on files board first_challenge first_reply second_challenge second_reply)
-    → Gives base answer (base_on files board first_challenge first_reply second_challenge second_reply)
-    → Gives (λ checker. extraction_of (base checker) (ahead checker)) answer (extraction_on files board first_challenge first_reply second_challenge second_reply)
+    → Gives unread_file ahead answer (two_on files board first_challenge first_reply second_challenge second_reply)
+    → Gives unread_file base answer (base_on files board first_challenge first_reply second_challenge second_reply)
+    → Gives unread_file (λ checker. extraction_of (base checker) (ahead checker)) answer (extraction_on files board first_challenge first_reply second_challenge second_reply)
 begun base ahead files board first_challenge first_reply second_challenge second_reply (Ok checker) ahead_is base_is =
     extracted files board first_challenge first_reply second_challenge second_reply (base checker) (ahead checker) (extraction_of (base checker) (ahead checker)) ahead_is base_is refl
 begun base ahead files board first_challenge first_reply second_challenge second_reply (Err (Missing file)) ahead_is base_is =

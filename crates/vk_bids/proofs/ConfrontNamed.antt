@@ -1,9 +1,9 @@
 -- The confrontation of named files is that of their bytes.
 use Rattle.std.proofs.Common.{◌≡◌, ℕ, ◌^◌, nat_lt, Bool, if◌then◌else◌, List, length, Option, None, Some, Result, Ok, Err, refl, sym, ap, ◌∙◌}
 use Rattle.std.specs.FinMap.{get}
+use Rattle.vk_residue.specs.Steps.{◌>>=◌}
 use Rattle.vk_io.specs.Files.{Files}
 use Rattle.vk_lines.specs.Lines.{Rest}
-use Rattle.vk_row.specs.LaneTests.{◌>>=◌}
 use Rattle.vk_seal.specs.Reading.{secret_at}
 use Rattle.vk_verifier.specs.declared.answers.VErr.{VErr}
 use Rattle.vk_verifier.specs.Verdicts.{from_start}
@@ -11,10 +11,9 @@ use Rattle.vk_verifier.proofs.Steps.{bind_ok, value_same}
 use Rattle.vk_bids.specs.declared.confrontation.ConfrontErr.{ConfrontErr}
 use Rattle.vk_bids.specs.declared.confrontation.ConfrontErr.TheVariants.{TooLongSecret}
 use Rattle.vk_bids.specs.declared.confrontation.Confrontation.{Confrontation}
-use Rattle.vk_bids.specs.declared.extraction.Extraction.{Extraction}
 use Rattle.vk_bids.specs.Binding.{ConfrontationOf, FilesAreConfronted, confrontation_of_held}
 use Rattle.vk_bids.specs.Confrontation.{confrontation_of, confrontation_on, of_extraction, secret_begun, secret_in}
-use Rattle.vk_bids.specs.Extraction.{extraction_on}
+use Rattle.vk_bids.specs.Extraction.{Extraction, extraction_on}
 use Rattle.vk_bids.specs.Headline.{HeldFiles, IsHeld, extraction_of_held}
 use Rattle.vk_bids.proofs.Begun.{BegunThen, begun_test, not_long}
 use Rattle.vk_bids.proofs.ConfrontedFiles.{confronted}

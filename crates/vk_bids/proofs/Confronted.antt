@@ -66,7 +66,7 @@ pub few_kept : (front : Front) (index : ℕ) (seal : Seal) → IsFront front →
 few_kept front index seal is within same =
     let count : length (slice_index_or front.seals index no_seal).coms ≡ front.head.lanes = each_count front.head.lanes index [] front.seals is.seals.each within in
     let lanes : length seal.lanes ≡ length (slice_index_or front.seals index no_seal).coms = ap (λ (s : Seal). length s.lanes) same in
-    omega (arith, count, lanes, is.head.few_lanes)
+    omega (arith, count, lanes, is.head.size.lanes.most)
 
 -- ---- the bids of that seal
 

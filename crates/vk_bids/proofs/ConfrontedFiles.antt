@@ -2,21 +2,20 @@
 use Rattle.std.proofs.Common.{◌≡◌, ℕ, List, Option, Some, None, Result, Ok, Err, sym, ap, subst, ◌∙◌}
 use Rattle.std.specs.FinMap.{get}
 use Rattle.std.specs.Result.{IsErrAnd}
+use Rattle.vk_residue.specs.Steps.{◌>>=◌}
 use Rattle.vk_io.specs.Files.{Files}
-use Rattle.vk_lines.specs.Gives.{Refuses, Gives as Answers}
+use Rattle.vk_lines.specs.Gives.{Refuses, Gives}
 use Rattle.vk_lines.specs.Lines.{Rest}
-use Rattle.vk_row.specs.LaneTests.{◌>>=◌}
 use Rattle.vk_seal.specs.Reading.{secret_at}
 use Rattle.vk_seal.specs.declared.secret.Secret.{Secret}
 use Rattle.vk_verifier.specs.declared.answers.VErr.{VErr}
 use Rattle.vk_verifier.specs.declared.answers.VErr.TheVariants as verr
-use Rattle.vk_verifier.specs.Verdicts.{Gives}
+use Rattle.vk_verifier.specs.Verdicts.{unread_file}
 use Rattle.vk_bids.specs.declared.confrontation.ConfrontErr.{ConfrontErr}
 use Rattle.vk_bids.specs.declared.confrontation.ConfrontErr.TheVariants.{Unread}
 use Rattle.vk_bids.specs.declared.confrontation.Confrontation.{Confrontation}
-use Rattle.vk_bids.specs.declared.extraction.Extraction.{Extraction}
 use Rattle.vk_bids.specs.Confrontation.{confrontation_of, confrontation_on, fault_of, of_extraction, secret_begun, secret_in}
-use Rattle.vk_bids.specs.Extraction.{extraction_on}
+use Rattle.vk_bids.specs.Extraction.{Extraction, extraction_on}
 
 -- an answer that is refused for this cause
 same_refusal : (answer : Result Confrontation ConfrontErr) (refusal : ConfrontErr) → IsErrAnd answer (λ r. r ≡ refusal) → answer ≡ Err refusal
@@ -40,7 +39,7 @@ not_confronted files board first_challenge first_reply second_challenge second_r
     on_extraction files board first_challenge first_reply second_challenge second_reply secret (Err refusal) is
 
 refused_by : {T : Type 0} (value : T → Extraction) (files : Files) (board first_challenge first_reply second_challenge second_reply secret : List ℕ) (refusal : VErr)
-    → Gives value (Err refusal) (extraction_on files board first_challenge first_reply second_challenge second_reply)
+    → Gives unread_file value (Err refusal) (extraction_on files board first_challenge first_reply second_challenge second_reply)
     → Refuses (fault_of (Unread refusal)) (confrontation_on files board first_challenge first_reply second_challenge second_reply secret)
 refused_by value files board first_challenge first_reply second_challenge second_reply secret (verr.Missing file) is =
     not_confronted files board first_challenge first_reply second_challenge second_reply secret (verr.Missing file) is
@@ -51,11 +50,11 @@ refused_by value files board first_challenge first_reply second_challenge second
 
 -- a file of the extraction is missing or too long
 pub refused_first : {T : Type 0} (value : T → Extraction) (files : Files) (board first_challenge first_reply second_challenge second_reply secret : List ℕ) (refusal : VErr) (answer : Result Confrontation ConfrontErr)
-    → IsErrAnd answer (λ r. r ≡ Unread refusal) → Gives value (Err refusal) (extraction_on files board first_challenge first_reply second_challenge second_reply)
-    → Answers {T = Confrontation} fault_of (λ c. c) answer (confrontation_on files board first_challenge first_reply second_challenge second_reply secret)
+    → IsErrAnd answer (λ r. r ≡ Unread refusal) → Gives unread_file value (Err refusal) (extraction_on files board first_challenge first_reply second_challenge second_reply)
+    → Gives {T = Confrontation} fault_of (λ c. c) answer (confrontation_on files board first_challenge first_reply second_challenge second_reply secret)
 refused_first value files board first_challenge first_reply second_challenge second_reply secret refusal answer err is =
     let P : Result Confrontation ConfrontErr → Type 0 = λ a.
-    Answers {T = Confrontation} fault_of (λ c. c) a (confrontation_on files board first_challenge first_reply second_challenge second_reply secret) in
+    Gives {T = Confrontation} fault_of (λ c. c) a (confrontation_on files board first_challenge first_reply second_challenge second_reply secret) in
     subst P (sym (same_refusal answer (Unread refusal) err)) (refused_by value files board first_challenge first_reply second_challenge second_reply secret refusal is)
 
 no_secret : (files : Files) (board first_challenge first_reply second_challenge second_reply secret : List ℕ) (extraction : Extraction) (refusal : ConfrontErr)
@@ -76,11 +75,11 @@ secret_refused files board first_challenge first_reply second_challenge second_r
 -- the secret's file is missing or too long
 pub refused_second : {T : Type 0} (value : T → Rest) (files : Files) (board first_challenge first_reply second_challenge second_reply secret : List ℕ) (extraction : Extraction) (refusal : ConfrontErr)
     (answer : Result Confrontation ConfrontErr) → IsErrAnd answer (λ r. r ≡ refusal)
-    → extraction_on files board first_challenge first_reply second_challenge second_reply ≡ Ok extraction → Answers fault_of value (Err refusal) (secret_begun (get files secret))
-    → Answers {T = Confrontation} fault_of (λ c. c) answer (confrontation_on files board first_challenge first_reply second_challenge second_reply secret)
+    → extraction_on files board first_challenge first_reply second_challenge second_reply ≡ Ok extraction → Gives fault_of value (Err refusal) (secret_begun (get files secret))
+    → Gives {T = Confrontation} fault_of (λ c. c) answer (confrontation_on files board first_challenge first_reply second_challenge second_reply secret)
 refused_second value files board first_challenge first_reply second_challenge second_reply secret extraction refusal answer err extracted is =
     let P : Result Confrontation ConfrontErr → Type 0 = λ a.
-    Answers {T = Confrontation} fault_of (λ c. c) a (confrontation_on files board first_challenge first_reply second_challenge second_reply secret) in
+    Gives {T = Confrontation} fault_of (λ c. c) a (confrontation_on files board first_challenge first_reply second_challenge second_reply secret) in
     subst P (sym (same_refusal answer refusal err)) (secret_refused files board first_challenge first_reply second_challenge second_reply secret extraction (fault_of refusal) extracted is)
 
 -- all six are begun

@@ -29,12 +29,12 @@ use Rattle.vk_verifier.specs.TwoValues.{AreOfOneBoard, base_with, begun_in, bits
 use Rattle.vk_verifier.proofs.Plans.{statement_right}
 use Rattle.vk_verifier.proofs.TwoValues.{accepted_behind_give, accepted_give, only_accepted_behind, only_accepted_give}
 use Rattle.vk_bids.specs.declared.bids.LaneBids.{LaneBids}
-use Rattle.vk_bids.specs.declared.extraction.Extraction.{Extraction}
 use Rattle.vk_bids.specs.declared.extraction.Extraction.TheVariants.{Same}
-use Rattle.vk_bids.specs.Extraction.{extraction_by, extraction_in, gathered_after, shown_by}
+use Rattle.vk_bids.specs.Extraction.{Extraction, extraction_in, shown_on}
+use Rattle.vk_bids.specs.Extractions.{found_by, gathered_after, given_by}
 use Rattle.vk_bids.specs.Gathering.{gathered_from, lane_shown}
-use Rattle.vk_bids.specs.Headline.{AcceptedAreExtracted, AcceptedBehindOpen, AgreesAt, IsExtraction, IsFirstClashOf, IsFound, IsFoundBehind, IsOf, IsOfBehind, IsOpened, OnlyAcceptedAreExtracted, OnlyAcceptedOpen, SameIsFound, TwoAccepted, TwoAcceptedBehind, differing, differing_behind, differing_in, lane_of}
-use Rattle.vk_bids.specs.LaneExtraction.{gathered_behind, lane_extraction_by, opened_by}
+use Rattle.vk_bids.specs.Headline.{AcceptedAreExtracted, AcceptedBehindOpen, AgreesAt, IsExtraction, IsFirstClashOf, IsFound, IsOf, IsOfBehind, IsOpened, OnlyAcceptedAreExtracted, OnlyAcceptedOpen, SameIsFound, TwoAccepted, TwoAcceptedBehind, differing, differing_behind, differing_in, lane_of}
+use Rattle.vk_bids.specs.LaneExtraction.{opened_of}
 use Rattle.vk_bids.proofs.Boards.{lanes_show}
 use Rattle.vk_bids.proofs.Gathered.{AddsLanes, Agrees, AreGiven, ClashesIn, IsLane, gathered_adds}
 
@@ -170,7 +170,7 @@ module _ {s : StatementValue} {front file first_challenge first_reply second_cha
       }
 
   opened_is : (all : Result (List LaneBids) TwoOpeningsSeen) → AddsLanes s (lane_of two) [] (differing_behind two) all
-      → IsOfBehind two (opened_by s all)
+      → IsOfBehind two (given_by (opened_of s) all)
   opened_is (Ok found) adds =
       let P : List LaneBids → Type 0 = λ found. IsOpened two (record { statement = s; lanes = found }) in
       subst P (sym adds.are) (record {
@@ -198,12 +198,12 @@ accepted_behind_open s is front file first_challenge first_reply second_challeng
       right = lane_behind two give.0;
     })) in
     let ready : ahead.finding ≡ ends.Ready = give.2.finding ∙ accepted_differ {V = Fault} two.first.challenge.bits two.second.challenge.bits two.differ in
-    let P : Finding Fault → Type 0 = λ finding. IsOfBehind two (lane_extraction_by (Some base) finding (gathered_behind (Some base) ahead.lanes)) in
-    let Q : Option Base → Type 0 = λ base. IsOfBehind two (lane_extraction_by base ahead.finding (gathered_behind base ahead.lanes)) in
+    let P : Finding Fault → Type 0 = λ finding. IsOfBehind two (found_by (λ (base : Base). opened_of base.statement) (Some base) finding (gathered_after (λ (base : Base). base.statement) (Some base) ahead.lanes)) in
+    let Q : Option Base → Type 0 = λ base. IsOfBehind two (found_by (λ (base : Base). opened_of base.statement) base ahead.finding (gathered_after (λ (base : Base). base.statement) base ahead.lanes)) in
     subst Q (sym give.1) (subst P (sym ready) opened)
 
 ready_behind : (base : Option Base) (finding : Finding Fault) (gathered : Result (List LaneBids) TwoOpeningsSeen)
-    → IsFoundBehind (lane_extraction_by base finding gathered) → finding ≡ ends.Ready
+    → IsFound (found_by (λ (base : Base). opened_of base.statement) base finding gathered) → finding ≡ ends.Ready
 ready_behind base (ends.Refused second fault) gathered found = absurd found
 ready_behind base ends.Same gathered found = absurd found
 ready_behind base ends.Ready gathered found = refl
@@ -212,7 +212,7 @@ pub only_accepted_open : OnlyAcceptedOpen
 only_accepted_open s is front file first_challenge first_reply second_challenge second_reply rest same found =
     let ahead = ahead_behind s rest (from_start first_challenge) (from_start first_reply) (from_start second_challenge) (from_start second_reply) in
     let base = base_in (base_behind s rest (from_start first_challenge) (from_start first_reply) (from_start second_challenge) (from_start second_reply)) in
-    let ready : ahead.finding ≡ ends.Ready = ready_behind base ahead.finding (gathered_behind base ahead.lanes) found in
+    let ready : ahead.finding ≡ ends.Ready = ready_behind base ahead.finding (gathered_after (λ (base : Base). base.statement) base ahead.lanes) found in
     let A : Finding Fault → Type 0 = λ finding. AreAccepted finding in
     let both = only_accepted_behind s is front file first_challenge first_reply second_challenge second_reply rest same (subst A (sym ready) tt) in
     let give = accepted_behind_give s is front file first_challenge first_reply second_challenge second_reply rest same both.0 both.1 in
@@ -239,7 +239,7 @@ lane_in first second one number some last =
 
 shown_is : {board first_challenge first_reply second_challenge second_reply : List ℕ} (two : TwoAccepted board first_challenge first_reply second_challenge second_reply)
     (all : Result (List LaneBids) TwoOpeningsSeen) → AddsLanes (statement_of two.first.front) (two_lane_in two.first two.second) [] (differing_in two) all
-    → IsOf two (shown_by two.first.front all)
+    → IsOf two (given_by (shown_on two.first.front) all)
 shown_is two (Ok found) adds =
     let at = two_lane_in two.first two.second in
     let front = front_in two.first in
@@ -271,20 +271,20 @@ accepted_are_extracted board first_challenge first_reply second_challenge second
       right = lane_in two.first two.second give.0;
     })) in
     let ready : ahead.finding ≡ ends.Ready = give.2.finding ∙ accepted_differ {V = BoardVerdict} (bits_of two.first) (bits_of two.second) two.differ in
-    let P : Finding BoardVerdict → Type 0 = λ finding. IsOf two (extraction_by (Some base) finding (gathered_after (Some base) ahead.lanes)) in
-    let Q : Option BoardBase → Type 0 = λ base. IsOf two (extraction_by base ahead.finding (gathered_after base ahead.lanes)) in
+    let P : Finding BoardVerdict → Type 0 = λ finding. IsOf two (found_by (λ (base : BoardBase). shown_on base.front) (Some base) finding (gathered_after (λ (base : BoardBase). statement_of base.front) (Some base) ahead.lanes)) in
+    let Q : Option BoardBase → Type 0 = λ base. IsOf two (found_by (λ (base : BoardBase). shown_on base.front) base ahead.finding (gathered_after (λ (base : BoardBase). statement_of base.front) base ahead.lanes)) in
     subst Q (sym give.1) (subst P (sym ready) shown)
 
 -- ---- only accepted replies
 
 found_ready : (base : Option BoardBase) (finding : Finding BoardVerdict) (gathered : Result (List LaneBids) TwoOpeningsSeen)
-    → IsFound (extraction_by base finding gathered) → finding ≡ ends.Ready
+    → IsFound (found_by (λ (base : BoardBase). shown_on base.front) base finding gathered) → finding ≡ ends.Ready
 found_ready base (ends.Refused second verdict) gathered found = absurd found
 found_ready base ends.Same gathered found = absurd found
 found_ready base ends.Ready gathered found = refl
 
 same_accepted : (base : Option BoardBase) (finding : Finding BoardVerdict) (gathered : Result (List LaneBids) TwoOpeningsSeen)
-    → extraction_by base finding gathered ≡ Same → AreAccepted finding
+    → found_by (λ (base : BoardBase). shown_on base.front) base finding gathered ≡ Same → AreAccepted finding
 same_accepted base (ends.Refused second verdict) gathered same = absurd (cc)
 same_accepted base ends.Same gathered same = tt
 same_accepted base ends.Ready gathered same = tt
@@ -293,7 +293,7 @@ pub only_accepted_are_extracted : OnlyAcceptedAreExtracted
 only_accepted_are_extracted board first_challenge first_reply second_challenge second_reply found =
     let ahead = ahead_in board first_challenge first_reply second_challenge second_reply in
     let base = begun_in board first_challenge first_reply second_challenge second_reply in
-    let ready : ahead.finding ≡ ends.Ready = found_ready base ahead.finding (gathered_after base ahead.lanes) found in
+    let ready : ahead.finding ≡ ends.Ready = found_ready base ahead.finding (gathered_after (λ (base : BoardBase). statement_of base.front) base ahead.lanes) found in
     let A : Finding BoardVerdict → Type 0 = λ finding. AreAccepted finding in
     let both = only_accepted_give board first_challenge first_reply second_challenge second_reply (subst A (sym ready) tt) in
     let give = accepted_give board first_challenge first_reply second_challenge second_reply both.0 both.1 in
@@ -319,9 +319,9 @@ pub same_is_found : SameIsFound
 same_is_found board first_challenge first_reply second_challenge second_reply =
     let ahead = ahead_in board first_challenge first_reply second_challenge second_reply in
     let base = begun_in board first_challenge first_reply second_challenge second_reply in (
-      λ same. let both = only_accepted_give board first_challenge first_reply second_challenge second_reply (same_accepted base ahead.finding (gathered_after base ahead.lanes) same) in
+      λ same. let both = only_accepted_give board first_challenge first_reply second_challenge second_reply (same_accepted base ahead.finding (gathered_after (λ (base : BoardBase). statement_of base.front) base ahead.lanes) same) in
           record { first = both.0; second = both.1; same = by_bits both.0 both.1 (same_bits (bits_of both.0) (bits_of both.1)) refl same },
       λ both. let give = accepted_give board first_challenge first_reply second_challenge second_reply both.first both.second in
-          ap (λ finding. extraction_by base finding (gathered_after base ahead.lanes))
+          ap (λ finding. found_by (λ (base : BoardBase). shown_on base.front) base finding (gathered_after (λ (base : BoardBase). statement_of base.front) base ahead.lanes))
           (give.2.finding ∙ accepted_same {V = BoardVerdict} (bits_of both.first) (bits_of both.second) both.same),
     )

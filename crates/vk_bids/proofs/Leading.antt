@@ -10,9 +10,9 @@ use Rattle.vk_verifier.specs.declared.stage.Stage.{Stage}
 use Rattle.vk_verifier.specs.declared.stage.TwoLane.{TwoLane}
 use Rattle.vk_verifier.specs.Two.{Ahead, GoesOn, ahead_of, finding_of}
 use Rattle.vk_bids.specs.declared.bids.LaneBids.{LaneBids}
-use Rattle.vk_bids.specs.declared.lane_extraction.LaneExtraction.{LaneExtraction}
 use Rattle.vk_bids.specs.Gathering.{added, gathered_from}
-use Rattle.vk_bids.specs.LaneExtraction.{ComesTo, gathered_behind, lane_extraction, lane_extraction_by}
+use Rattle.vk_bids.specs.Extractions.{found_by, gathered_after}
+use Rattle.vk_bids.specs.LaneExtraction.{ComesTo, LaneExtraction, lane_extraction, opened_of}
 
 -- after so many lanes, what was gathered and what is ahead give what was ahead at the start
 pub record Leads (base : Option Base) (start : Ahead Fault) (given : ℕ) (gathered : Result (List LaneBids) TwoOpeningsSeen) (ahead : Ahead Fault) : Type 0 where
@@ -68,8 +68,8 @@ both_held {A} {P} {Q} {R} held other same step first second =
 -- what was gathered after no base says nothing
 same_gathered : (base : Option Base) (finding : Finding Fault) (lanes : List TwoLane) (gathered : Result (List LaneBids) TwoOpeningsSeen)
     → IfSome base (λ base. gathered_from base.statement (Ok []) 1 lanes ≡ gathered)
-    → lane_extraction_by base finding (gathered_behind base lanes) ≡ lane_extraction_by base finding gathered
-same_gathered (Some base) finding lanes gathered same = ap (λ g. lane_extraction_by (Some base) finding g) same
+    → found_by (λ (base : Base). opened_of base.statement) base finding (gathered_after (λ (base : Base). base.statement) base lanes) ≡ found_by (λ (base : Base). opened_of base.statement) base finding gathered
+same_gathered (Some base) finding lanes gathered same = ap (λ g. found_by (λ (base : Base). opened_of base.statement) (Some base) finding g) same
 same_gathered None (ends.Refused second fault) lanes gathered same = refl
 same_gathered None ends.Same lanes gathered same = refl
 same_gathered None ends.Ready lanes gathered same = refl
@@ -77,9 +77,9 @@ same_gathered None ends.Ready lanes gathered same = refl
 -- what is concluded is what was ahead
 pub concluded : (base ending : Option Base) (ahead : Ahead Fault) (finding : Option (Finding Fault)) (gathered : Result (List LaneBids) TwoOpeningsSeen) (found : LaneExtraction)
     → ending ≡ base → ComesTo base ahead finding gathered
-    → IfSome finding (λ finding. found ≡ lane_extraction_by ending finding gathered)
+    → IfSome finding (λ finding. found ≡ found_by (λ (base : Base). opened_of base.statement) ending finding gathered)
     → lane_extraction base ahead ≡ found
 concluded base ending ahead finding gathered found same comes is =
-    let P : Option (Finding Fault) → Type 0 = λ finding. IfSome finding (λ finding. found ≡ lane_extraction_by ending finding gathered) in
-    let by : found ≡ lane_extraction_by ending ahead.finding gathered = subst P comes.finding is in
-    same_gathered base ahead.finding ahead.lanes gathered comes.gathers ∙ sym (by ∙ ap (λ base. lane_extraction_by base ahead.finding gathered) same)
+    let P : Option (Finding Fault) → Type 0 = λ finding. IfSome finding (λ finding. found ≡ found_by (λ (base : Base). opened_of base.statement) ending finding gathered) in
+    let by : found ≡ found_by (λ (base : Base). opened_of base.statement) ending ahead.finding gathered = subst P comes.finding is in
+    same_gathered base ahead.finding ahead.lanes gathered comes.gathers ∙ sym (by ∙ ap (λ base. found_by (λ (base : Base). opened_of base.statement) base ahead.finding gathered) same)

@@ -12,14 +12,19 @@ use Rattle.vk_row.specs.Rows.{sums}
 use Rattle.vk_bids.specs.declared.bids.OpenedBid.{OpenedBid}
 use Rattle.vk_bids.specs.Bids.{opened_bid, opened_bids}
 
--- the wire shows a half for both bits, and their values are those halves
-pub record ShowsHalves (zeros ones : List Shown) (firsts seconds : List ℕ) (index : ℕ) : Type 0 where
+-- what is shown for both bits is a half, and these are their values
+pub record AreHalves (zero_shown one_shown : Shown) (first_half second_half : ℕ) : Type 0 where
   pub first : Opening
   pub second : Opening
-  pub zero_is : slice_index_or zeros index nothing_shown ≡ Half first
-  pub one_is : slice_index_or ones index nothing_shown ≡ Half second
-  pub first_value : first.value ≡ slice_index firsts index
-  pub second_value : second.value ≡ slice_index seconds index
+  pub zero_is : zero_shown ≡ Half first
+  pub one_is : one_shown ≡ Half second
+  pub first_value : first.value ≡ first_half
+  pub second_value : second.value ≡ second_half
+
+-- the wire at the index shows a half for both bits, and their values are those halves
+abbrev pub ShowsHalves : List Shown → List Shown → List ℕ → List ℕ → ℕ → Type 0
+ShowsHalves zeros ones firsts seconds index =
+    AreHalves (slice_index_or zeros index nothing_shown) (slice_index_or ones index nothing_shown) (slice_index firsts index) (slice_index seconds index)
 
 -- each bid is that of the seal at its index
 abbrev pub AreAtSeats : List ℕ → List Shown → List Shown → List OpenedBid → Type 0
@@ -59,17 +64,6 @@ at_seats_next : (seat : ℕ) (seats : List ℕ) (z o : Shown) (zeros ones : List
 at_seats_next seat seats z o zeros ones bid bids here later zero found get = here ∙ get
 at_seats_next seat seats z o zeros ones bid bids here later (suc index) found get = later index found get
 
-next_halves : (z o : Shown) (zeros ones : List Shown) (u v : ℕ) (firsts seconds : List ℕ) (index : ℕ)
-    → ShowsHalves (z ∷ zeros) (o ∷ ones) (u ∷ firsts) (v ∷ seconds) (suc index) → ShowsHalves zeros ones firsts seconds index
-next_halves z o zeros ones u v firsts seconds index halves = record {
-  first = halves.first;
-  second = halves.second;
-  zero_is = halves.zero_is;
-  one_is = halves.one_is;
-  first_value = halves.first_value;
-  second_value = halves.second_value;
-}
-
 -- one bid more
 opened_next : (seat : ℕ) (seats : List ℕ) (z o : Shown) (zeros ones : List Shown) (u v : ℕ) (firsts seconds : List ℕ) (bids : List OpenedBid)
     → ShowsHalves (z ∷ zeros) (o ∷ ones) (u ∷ firsts) (v ∷ seconds) zero → AreOpened seats zeros ones firsts seconds bids
@@ -99,4 +93,4 @@ opened_are (seat ∷ seats) (z ∷ zeros) (o ∷ ones) (u ∷ firsts) [] zs os u
 opened_are (seat ∷ seats) (z ∷ zeros) (o ∷ ones) (u ∷ firsts) (v ∷ seconds) zs os us vs halves =
     opened_next seat seats z o zeros ones u v firsts seconds (opened_bids seats zeros ones) (halves zero (omega arith))
     (opened_are seats zeros ones firsts seconds (omega arith) (omega arith) (omega arith) (omega arith)
-    (λ index lt. next_halves z o zeros ones u v firsts seconds index (halves (suc index) (omega arith))))
+    (λ index lt. halves (suc index) (omega arith)))

@@ -1,15 +1,15 @@
 -- What a bidder's secret comes to against two replies to a board.
 use Rattle.std.specs.Prelude.{ℕ, ◌^◌, ◌≤◌, ◌==◌, nat_lt, if◌then◌else◌, false, true, List, [], ◌∷◌, length, position, slice_get, slice_index_or, Option, Some, None, IfSome, Result, Ok, Err}
 use Rattle.std.specs.FinMap.{get}
+use Rattle.vk_residue.specs.Steps.{◌>>=◌}
 use Rattle.vk_commit.specs.Commitment.{TwoOpeningsSeen}
 use Rattle.vk_io.specs.Files.{Files}
 use Rattle.vk_lines.specs.Lines.{Rest}
-use Rattle.vk_row.specs.LaneTests.{◌>>=◌}
 use Rattle.vk_seal.specs.declared.matching.Mismatch.{Mismatch}
 use Rattle.vk_seal.specs.declared.secret.Seal.{Seal}
-use Rattle.vk_seal.specs.declared.secret.Secret.{Secret}
-use Rattle.vk_seal.specs.Match.{match_of}
-use Rattle.vk_seal.specs.Reading.{secret_at}
+pub use Rattle.vk_seal.specs.declared.secret.Secret.{Secret}
+pub use Rattle.vk_seal.specs.Match.{match_of}
+pub use Rattle.vk_seal.specs.Reading.{secret_at}
 use Rattle.vk_board.specs.declared.board.Head.{Head}
 use Rattle.vk_board.specs.declared.board.SealLines.{SealLines}
 use Rattle.vk_extractor.specs.Clash.{or_else}
@@ -25,9 +25,8 @@ use Rattle.vk_bids.specs.declared.confrontation.ConfrontNames.{ConfrontNames}
 use Rattle.vk_bids.specs.declared.confrontation.Confrontation.{Confrontation}
 use Rattle.vk_bids.specs.declared.confrontation.Confrontation.TheVariants as comes
 use Rattle.vk_bids.specs.declared.extraction.Extracted.{Extracted}
-use Rattle.vk_bids.specs.declared.extraction.Extraction.{Extraction}
 use Rattle.vk_bids.specs.declared.extraction.Extraction.TheVariants.{Refused, Same, Clash, Bids}
-use Rattle.vk_bids.specs.Extraction.{extraction_in, extraction_on}
+use Rattle.vk_bids.specs.Extraction.{Extraction, extraction_in, extraction_on}
 
 -- ---- the lanes
 

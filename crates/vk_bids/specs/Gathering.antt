@@ -1,10 +1,10 @@
 -- What is gathered of the lanes that two replies give: their bids, or the first two openings of one commitment.
 use Rattle.std.specs.Prelude.{◌≡◌, ℕ, ◌+◌, ◌≤◌, Bool, true, false, List, [], ◌∷◌, ◌++◌, Option, Some, None, Result, Ok, Err}
 use Rattle.std.specs.Option.{option_to_list}
+use Rattle.vk_residue.specs.Steps.{◌>>=◌}
 use Rattle.vk_commit.specs.Commitment.{TwoOpeningsSeen}
 use Rattle.vk_wire.specs.declared.wire.Shown.{Shown}
 use Rattle.vk_row.specs.declared.case.LaneCase.{LaneCase}
-use Rattle.vk_row.specs.LaneTests.{◌>>=◌}
 use Rattle.vk_board.specs.Reading.{seats_of}
 use Rattle.vk_extractor.specs.Clash.{clash_of_lane}
 use Rattle.vk_extractor.specs.declared.lane.LaneErr.{LaneErr}

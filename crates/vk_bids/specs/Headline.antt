@@ -14,14 +14,13 @@ use Rattle.vk_verifier.specs.Verdicts.{from_start}
 use Rattle.vk_verifier.specs.Acceptance.{Accepts, AcceptsBehind}
 use Rattle.vk_verifier.specs.TwoValues.{bits_of, front_in, two_lane_behind, two_lane_in}
 use Rattle.vk_bids.specs.declared.extraction.Extracted.{Extracted}
-use Rattle.vk_bids.specs.declared.extraction.Extraction.{Extraction}
-use Rattle.vk_bids.specs.declared.extraction.Extraction.TheVariants.{Refused, Same, Clash, Bids}
-use Rattle.vk_bids.specs.declared.lane_extraction.LaneExtraction.{LaneExtraction}
-use Rattle.vk_bids.specs.declared.lane_extraction.LaneExtraction.TheVariants as behind
+use Rattle.vk_bids.specs.declared.extraction.Extraction.TheVariants.{Same}
 use Rattle.vk_bids.specs.declared.lane_extraction.OpenedLanes.{OpenedLanes}
-use Rattle.vk_bids.specs.Extraction.{extraction_in, extraction_on}
+use Rattle.vk_bids.specs.Extraction.{Extraction, extraction_in, extraction_on}
 use Rattle.vk_bids.specs.Gathering.{lane_shown}
-use Rattle.vk_bids.specs.LaneExtraction.{lane_extraction_behind}
+pub use Rattle.vk_bids.specs.Extractions.{IsFound}
+use Rattle.vk_bids.specs.Extractions.{IsClashOr}
+use Rattle.vk_bids.specs.LaneExtraction.{LaneExtraction, lane_extraction_behind}
 use Rattle.vk_bids.specs.Opening.{AreShownIn, LaneOpens}
 use Rattle.vk_bids.specs.Outcome.{ShowsOutcome}
 
@@ -87,17 +86,7 @@ module _ {s : StatementValue} {front file first_challenge first_reply second_cha
 
   -- what the replies come to is their values, or a clash of them
   abbrev pub IsOfBehind : LaneExtraction → Type 0
-  IsOfBehind (behind.Refused second fault) = ⊥
-  IsOfBehind behind.Same = ⊥
-  IsOfBehind (behind.Clash clash) = IsClashBehind clash
-  IsOfBehind (behind.Lanes opened) = IsOpened opened
-
--- it is values, or a clash
-abbrev pub IsFoundBehind : LaneExtraction → Type 0
-IsFoundBehind (behind.Refused second fault) = ⊥
-IsFoundBehind behind.Same = ⊥
-IsFoundBehind (behind.Clash clash) = Unit {0}
-IsFoundBehind (behind.Lanes opened) = Unit {0}
+  IsOfBehind = IsClashOr IsClashBehind IsOpened
 
 -- of every statement and every front, where the lines of the file are read on behind it: two replies that are accepted
 -- for different challenges give values or a clash
@@ -114,7 +103,7 @@ abbrev pub OnlyAcceptedOpen : Type 0
 OnlyAcceptedOpen = (s : StatementValue) → IsStatement s
     → (front file first_challenge first_reply second_challenge second_reply : List ℕ) (rest : Rest)
     → file ≡ front ++ rest.left
-    → IsFoundBehind
+    → IsFound
     (lane_extraction_behind s rest (from_start first_challenge) (from_start first_reply) (from_start second_challenge) (from_start second_reply))
     → TwoAcceptedBehind s front file first_challenge first_reply second_challenge second_reply
 
@@ -167,17 +156,7 @@ IsExtractionClash two clash =
 -- the extraction is the bids of the replies, or a clash of them
 abbrev pub IsOf : {board first_challenge first_reply second_challenge second_reply : List ℕ}
     → TwoAccepted board first_challenge first_reply second_challenge second_reply → Extraction → Type 0
-IsOf two (Refused second verdict) = ⊥
-IsOf two Same = ⊥
-IsOf two (Clash clash) = IsExtractionClash two clash
-IsOf two (Bids found) = IsExtraction two found
-
--- it is bids, or a clash
-abbrev pub IsFound : Extraction → Type 0
-IsFound (Refused second verdict) = ⊥
-IsFound Same = ⊥
-IsFound (Clash clash) = Unit {0}
-IsFound (Bids found) = Unit {0}
+IsOf two = IsClashOr (IsExtractionClash two) (IsExtraction two)
 
 -- two replies that are accepted for different challenges give the bids or a clash
 abbrev pub AcceptedAreExtracted : Type 0

@@ -3,6 +3,7 @@ pub mod Opening
 pub mod Outcome
 pub mod Texts
 pub mod Gathering
+pub mod Extractions
 pub mod LaneExtraction
 pub mod Extraction
 pub mod Headline

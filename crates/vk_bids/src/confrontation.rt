@@ -5,25 +5,22 @@ ghost use Rattle.vk_io.specs.Faults.{Causes};
 ghost use Rattle.vk_io.specs.Files.{Files};
 ghost use Rattle.vk_lines.specs.Gives.{Gives};
 ghost use Rattle.vk_lines.specs.Lines.{OnlyReads, Reads, Rest, Starts, rest_of};
-ghost use Rattle.vk_seal.specs.declared.secret.Secret.{Secret};
 ghost use Rattle.vk_seal.specs.Made.{seal_of};
-ghost use Rattle.vk_seal.specs.Match.{match_of};
-ghost use Rattle.vk_seal.specs.Reading.{secret_at};
 ghost use Rattle.vk_seal.specs.Values.{IsSecret};
 ghost use Rattle.vk_board.specs.Fronts.{IsFront};
-ghost use Rattle.vk_bids.specs.Confrontation.{OpensSecretIn, board_seal, confrontation_named, confrontation_of, confronted_found, confronted_lane, confronted_lanes, fault_of, index_of_seat, matched_by, secret_begun, secret_in};
+ghost use Rattle.vk_bids.specs.Confrontation.{OpensSecretIn, Secret, board_seal, confrontation_named, confrontation_of, confronted_found, confronted_lane, confronted_lanes, fault_of, index_of_seat, match_of, matched_by, secret_at, secret_begun, secret_in};
 ghost use Rattle.vk_bids.specs.Extraction.{Shows};
 ghost use Rattle.vk_bids.specs.Outcome.{LaneShows};
 
 use crate::bids::LaneBids;
-use crate::extraction::{Extracted, Extraction, TwoReplies, begin, extract_rest};
+use crate::extraction::{Extracted, Extraction, begin, extract_rest};
 use std::alloc::Global;
 use vk_board::{Front, SealLines};
 use vk_commit::TwoOpenings;
 use vk_io::{OutsideErr, Shelf};
 use vk_lines::{Lines, ReadErr, StartErr};
 use vk_seal::{Mismatch, Seal, Secret, matches, read_secret};
-use vk_verifier::{BoardVerdict, VErr};
+use vk_verifier::{BoardVerdict, TwoReplies, VErr};
 
 /// The names of the files that a secret is confronted with, and its own.
 #[derive(Clone, Copy, Debug)]

@@ -1,8 +1,9 @@
 // The extraction over files.
 ghost use Rattle.std.specs.Prelude.{◌≡◌, IfOk, IfSome};
 ghost use Rattle.vk_io.specs.Reads.{OnlyReads};
+ghost use Rattle.vk_lines.specs.Gives.{Gives};
 ghost use Rattle.vk_board.specs.Fronts.{front_with};
-ghost use Rattle.vk_verifier.specs.Verdicts.{Gives};
+ghost use Rattle.vk_verifier.specs.Verdicts.{unread_file};
 ghost use Rattle.vk_verifier.specs.declared.two_boards.BoardStage.TheVariants.{Behind};
 ghost use Rattle.vk_verifier.specs.Two.{given_of};
 ghost use Rattle.vk_verifier.specs.TwoBoards.{IsBoardCourse, board_ahead, board_base, board_given};
@@ -16,17 +17,7 @@ use vk_board::{Front, Head};
 use vk_commit::TwoOpenings;
 use vk_io::{OutsideErr, Shelf};
 use vk_seq::Seq;
-use vk_verifier::{BoardCourse, BoardVerdict, TwoChecker, VErr};
-
-/// The names of the files of a board, and of two challenges with the replies to them.
-#[derive(Clone, Copy, Debug)]
-pub struct TwoReplies<'a> {
-    pub board: &'a str,
-    pub challenge1: &'a str,
-    pub reply1: &'a str,
-    pub challenge2: &'a str,
-    pub reply2: &'a str,
-}
+use vk_verifier::{BoardCourse, BoardVerdict, TwoChecker, TwoReplies, VErr};
 
 /// The bids that two accepted replies give, and what stands on the board before its first lane.
 #[derive(Debug, Drop)]
@@ -36,20 +27,20 @@ pub struct Extracted {
     pub lanes: Seq<LaneBids>,
 }
 
-/// What two replies to a board come to.
+/// What two replies come to: to a board, where nothing else is said.
 #[derive(Debug, Drop)]
-pub enum Extraction {
+pub enum Extraction<V = BoardVerdict, X = Extracted> {
     /// The verdict on the first reply, where that isn't accepted, else the verdict on the second,
     /// which isn't. The second's names the second challenge or the second reply in place of a first
     /// one.
-    Refused { second: bool, verdict: BoardVerdict },
+    Refused { second: bool, verdict: V },
     /// Both replies are accepted, and the challenges' bits are the same.
     Same,
     /// Both replies are accepted, and in a lane whose bits differ an entry was opened with two
     /// values: the first such entry of the first such lane.
     Clash(TwoOpenings),
     /// Both replies are accepted, and they give the bids of every lane whose bits differ.
-    Bids(Extracted),
+    Bids(X),
 }
 
 /// What the replies to two challenges come to: each file is read to its end or to its first fault,
@@ -62,7 +53,8 @@ pub fn extract<S: Shelf>(
     shelf: &mut S,
     names: &TwoReplies<'_>,
 ) -> Result<Extraction, VErr>
-    ensures told { IfSome (S.held shelf.old) (λ files. Gives (λ extraction. extraction) result (extraction_named files names.now)) }
+    ensures told { IfSome (S.held shelf.old) (λ files.
+        Gives unread_file (λ extraction. extraction) result (extraction_named files names.now)) }
     ensures shows { IfOk result Shows }
     ensures shelf { OnlyReads S.held S.Shelf.faults VErr.Failed result shelf.old shelf.new }
 {
@@ -77,7 +69,7 @@ pub(crate) fn begin<S: Shelf>(
     shelf: &mut S,
     names: &TwoReplies<'_>,
 ) -> Result<TwoChecker, VErr>
-    ensures told { IfSome (S.held shelf.old) (λ files. Gives (λ checker. extraction_of (board_base checker) (board_ahead checker files)) result (extraction_named files names.now)) }
+    ensures told { IfSome (S.held shelf.old) (λ files. Gives unread_file (λ checker. extraction_of (board_base checker) (board_ahead checker files)) result (extraction_named files names.now)) }
     ensures none_given { IfOk result (λ checker. board_given checker ≡ 0) }
     ensures shelf { OnlyReads S.held S.Shelf.faults VErr.Failed result shelf.old shelf.new }
 {
@@ -99,7 +91,7 @@ pub(crate) fn extract_rest<S: Shelf>(
     shelf: &mut S,
     checker: TwoChecker,
 ) -> Result<Extraction, OutsideErr>
-    requires { board_given checker ≡ 0 }
+    requires none_given { board_given checker ≡ 0 }
     ensures told { IfOk result (λ extraction. IfSome (S.held shelf.old) (λ files.
         extraction_of (board_base checker) (board_ahead checker files) ≡ extraction)) }
     ensures shows { IfOk result Shows }
@@ -111,14 +103,14 @@ pub(crate) fn extract_rest<S: Shelf>(
             verdict,
         }),
         Ok(course) => {
-            let extraction = extract_behind(alloc, shelf, course)?;
+            let extraction = extract_course(alloc, shelf, course)?;
             Ok(extraction)
         }
     }
 }
 
 /// What the replies come to, where there is no fault before the first lane of the board.
-fn extract_behind<S: Shelf>(
+fn extract_course<S: Shelf>(
     alloc: Global,
     shelf: &mut S,
     course: BoardCourse,
@@ -130,12 +122,9 @@ fn extract_behind<S: Shelf>(
     ensures shows { IfOk result Shows }
     ensures shelf { OnlyReads S.held S.Shelf.faults OutsideErr.Failed result shelf.old shelf.new }
 {
-    let BoardCourse {
-        head,
-        position,
-        lanes,
-    } = course;
-    let found = extract_lanes(alloc, shelf, lanes)?;
+    let head = course.head;
+    let position = course.position;
+    let found = extract_lanes(alloc, shelf, course.lanes)?;
     let extraction = with_front(head, position, found);
     Ok(extraction)
 }
@@ -149,13 +138,13 @@ fn with_front(head: Head, position: u32, found: LaneExtraction) -> Extraction
     ensures shows { Shows result }
 {
     match found {
-        LaneExtraction::Refused { second, fault } => Extraction::Refused {
+        Extraction::Refused { second, verdict } => Extraction::Refused {
             second,
-            verdict: BoardVerdict::from(fault),
+            verdict: BoardVerdict::from(verdict),
         },
-        LaneExtraction::Same => Extraction::Same,
-        LaneExtraction::Clash(two) => Extraction::Clash(two),
-        LaneExtraction::Lanes(opened) => {
+        Extraction::Same => Extraction::Same,
+        Extraction::Clash(two) => Extraction::Clash(two),
+        Extraction::Bids(opened) => {
             let OpenedLanes { statement, lanes } = opened;
             let seals = statement.into_seals();
             let front = Front {

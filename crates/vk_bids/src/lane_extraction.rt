@@ -2,17 +2,18 @@
 ghost use Rattle.std.specs.Prelude.{◌≡◌, All, IfOk, IfSome, IsSomeAnd};
 ghost use Rattle.vk_io.specs.Reads.{OnlyReads};
 ghost use Rattle.vk_verifier.specs.Statement.{IsStatement};
-ghost use Rattle.vk_verifier.specs.Two.{IsOver, ahead_of, base_of, finding_of, given_of};
-ghost use Rattle.vk_bids.specs.LaneExtraction.{AreOfBase, ComesTo, OpensLanes, lane_extraction, lane_extraction_by, opened_by};
+ghost use Rattle.vk_verifier.specs.Two.{IsOver, ahead_of, base_of, finding_of, given_of, of_two};
+ghost use Rattle.vk_bids.specs.LaneExtraction.{AreOf, AreOfBase, ComesTo, OpensLanes, lane_extraction, lane_extraction_behind, opened_of};
+ghost use Rattle.vk_bids.specs.Extractions.{found_by, given_by};
 ghost use Rattle.vk_bids.specs.Opening.{LaneOpens};
 
 use crate::bids::LaneBids;
+use crate::extraction::Extraction;
 use crate::gathering::{Gathered, with_lane};
 use std::alloc::Global;
-use vk_commit::TwoOpenings;
 use vk_io::{OutsideErr, Shelf};
 use vk_seq::Seq;
-use vk_verifier::{Fault, Finding, LaneChecker, Statement};
+use vk_verifier::{Fault, Finding, LaneChecker, Statement, TwoAttempts};
 
 /// What two accepted replies open behind a front.
 #[derive(Debug, Drop)]
@@ -23,18 +24,26 @@ pub struct OpenedLanes {
 }
 
 /// What two replies come to behind a front.
-#[derive(Debug, Drop)]
-pub enum LaneExtraction {
-    /// The fault of the first reply, where it has one, else that of the second. The second's names
-    /// the second challenge or the second reply in place of a first one.
-    Refused { second: bool, fault: Fault },
-    /// Both replies are accepted, and the challenges' bits are the same.
-    Same,
-    /// Both replies are accepted, and in a lane whose bits differ an entry was opened with two
-    /// values: the first such entry of the first such lane.
-    Clash(TwoOpenings),
-    /// Both replies are accepted, and they give the values of every lane whose bits differ.
-    Lanes(OpenedLanes),
+pub type LaneExtraction = Extraction<Fault, OpenedLanes>;
+
+/// What two replies come to behind a front of which this is the statement; the file is read up to its first lane.
+///
+/// Errs where the shelf fails, and for want of memory.
+pub fn extract_behind<S: Shelf>(
+    alloc: Global,
+    shelf: &mut S,
+    statement: Statement,
+    two: TwoAttempts,
+) -> Result<LaneExtraction, OutsideErr>
+    ensures told { IfOk result (λ found. IfSome (S.held shelf.old) (λ files.
+        of_two (lane_extraction_behind statement) two files ≡ found)) }
+    ensures opens { IfOk result OpensLanes }
+    ensures statement { IfOk result (AreOf statement) }
+    ensures shelf { OnlyReads S.held S.Shelf.faults OutsideErr.Failed result shelf.old shelf.new }
+{
+    let checker = LaneChecker::begin(alloc, shelf, statement, two)?;
+    let found = extract_lanes(alloc, shelf, checker)?;
+    Ok(found)
 }
 
 /// What the replies come to that a checker before its first lane reads: each file is read to its
@@ -88,16 +97,13 @@ fn gather<S: Shelf>(
 fn concluded(checker: LaneChecker, gathered: Gathered) -> LaneExtraction
     requires over { IsOver checker }
     requires opens { IfSome (base_of checker) (λ base. IfOk gathered (All (LaneOpens base.statement))) }
-    ensures value { IfSome (finding_of checker) (λ finding. result ≡ lane_extraction_by (base_of checker) finding gathered) }
+    ensures value { IfSome (finding_of checker) (λ finding. result ≡ found_by (λ base. opened_of base.statement) (base_of checker) finding gathered) }
     ensures opens { OpensLanes result }
     ensures statement { AreOfBase (base_of checker) result }
 {
     match checker.finding() {
-        Finding::Refused { second, verdict } => LaneExtraction::Refused {
-            second,
-            fault: verdict,
-        },
-        Finding::Same => LaneExtraction::Same,
+        Finding::Refused { second, verdict } => Extraction::Refused { second, verdict },
+        Finding::Same => Extraction::Same,
         Finding::Ready => opened(checker.into_statement(), gathered),
     }
 }
@@ -106,11 +112,11 @@ fn concluded(checker: LaneChecker, gathered: Gathered) -> LaneExtraction
 fn opened(statement: Statement, gathered: Gathered) -> LaneExtraction
     requires statement { IsStatement statement }
     requires opens { IfOk gathered (All (LaneOpens statement)) }
-    ensures value { result ≡ opened_by statement gathered }
+    ensures value { result ≡ given_by (opened_of statement) gathered }
     ensures opens { OpensLanes result }
 {
     match gathered {
-        Ok(lanes) => LaneExtraction::Lanes(OpenedLanes { statement, lanes }),
-        Err(two) => LaneExtraction::Clash(two),
+        Ok(lanes) => Extraction::Bids(OpenedLanes { statement, lanes }),
+        Err(two) => Extraction::Clash(two),
     }
 }

@@ -20,12 +20,13 @@ pub use clash_printing::{clash_line, openings_line};
 pub use confront_printing::confrontation_line;
 pub use confrontation::{ConfrontErr, ConfrontNames, Confrontation, confront};
 pub use extracting::extract_bids;
-pub use extraction::{Extracted, Extraction, TwoReplies, extract};
+pub use extraction::{Extracted, Extraction, extract};
 pub use gathering::add_lane;
-pub use lane_extraction::{LaneExtraction, OpenedLanes, extract_lanes};
+pub use lane_extraction::{LaneExtraction, OpenedLanes, extract_behind, extract_lanes};
 pub use laws::{
     a_secret_is_bound_by_accepted_replies, accepted_lanes_open_values,
     accepted_lanes_show_the_outcome, accepted_replies_give_bids_or_a_clash,
     accepted_replies_open_values_or_clash,
 };
 pub use printing::{extraction_lines, has_one_bid};
+pub use vk_verifier::TwoReplies;

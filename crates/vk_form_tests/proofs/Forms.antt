@@ -1,6 +1,7 @@
 -- Sum files are read from their texts alone.
 use Rattle.std.proofs.Common.{◌≡◌, ℕ, List, [], ◌∷◌, ◌++◌, codes, decimal, Result, Ok, refl, ap, arith}
-use Rattle.vk_lines.specs.Lines.{Rest, ◌>>=◌, line_by}
+use Rattle.vk_residue.specs.Steps.{◌>>=◌}
+use Rattle.vk_lines.specs.Lines.{Rest, line_by}
 use Rattle.vk_lines.specs.Forms.{line, spaced, IsPart, IsWhole}
 use Rattle.vk_lines.specs.Tokens.{hex_text, id_line, number_line}
 use Rattle.vk_lines.proofs.Words.{fixed_line, number_line_is, id_line_is, to_test, InRange}

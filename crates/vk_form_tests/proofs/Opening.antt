@@ -1,40 +1,40 @@
 -- The statement of a sum file; and what two replies to it open: numbers of which the circuit's law says what they
 -- come to.
 use Rattle.std.proofs.Common.{◌≡◌, ℕ, ◌^◌, nat_lt, Bool, true, false, if◌then◌else◌, List, length, arith, refl, IfOk, Option, Some, None, IfSome, Result, Ok, Err, take, slice_index_or, sym, ap, subst, ◌∙◌}
+use Rattle.vk_residue.specs.Steps.{◌>>=◌}
 use Rattle.vk_plan.specs.Plans.{Holds}
-use Rattle.vk_verifier.specs.declared.stage.Base.{Base}
+use Rattle.vk_io.specs.Files.{Files}
 use Rattle.vk_board.specs.declared.board.SealLines.{SealLines}
 use Rattle.vk_board.specs.Values.{AreSealsOf}
 use Rattle.vk_board.specs.Reading.{seal_lines_at}
 use Rattle.vk_lines.specs.Lines.{Rest}
-use Rattle.vk_row.specs.LaneTests.{◌>>=◌}
 use Rattle.vk_verifier.specs.declared.answers.Part.TheVariants as part
 use Rattle.vk_verifier.specs.declared.answers.Fault.{Fault}
 use Rattle.vk_verifier.specs.declared.answers.VErr.{VErr}
 use Rattle.vk_verifier.specs.declared.answers.VErr.TheVariants as verr
 use Rattle.vk_verifier.specs.declared.halt.Halt.{Halt}
 use Rattle.vk_verifier.specs.Behind.{Judges, in_part}
-use Rattle.vk_verifier.specs.Verdicts.{begun, from_start}
+use Rattle.vk_verifier.specs.Verdicts.{begun, from_start, of_attempt, three_rests}
+use Rattle.vk_verifier.proofs.Attempts.{attempt_begun, files_begun}
+use Rattle.vk_verifier.specs.TwoBoards.{five_rests, of_files}
 use Rattle.vk_verifier.specs.Statement.{StatementValue, IsStatement}
 use Rattle.vk_bids.specs.declared.bids.LaneBids.{LaneBids}
-use Rattle.vk_bids.specs.declared.lane_extraction.LaneExtraction.{LaneExtraction}
-use Rattle.vk_bids.specs.declared.lane_extraction.LaneExtraction.TheVariants.{Refused, Same, Clash, Lanes}
-use Rattle.vk_bids.specs.LaneExtraction.{AreOfBase, OpensLanes}
+use Rattle.vk_bids.specs.declared.extraction.Extraction.TheVariants.{Refused, Same, Clash, Bids}
+use Rattle.vk_bids.specs.LaneExtraction.{AreOf, LaneExtraction, OpensLanes}
 use Rattle.vk_bids.specs.Opening.{LaneOpens}
 use Rattle.vk_form_tests.specs.declared.form.SumHead.{SumHead}
 use Rattle.vk_form_tests.specs.Sums.{SumTo, sum_plan}
 use Rattle.vk_form_tests.specs.SumLaws.{sum_is_plan, sum_sound}
 use Rattle.vk_form_tests.specs.Forms.{IsSumHead, sum_head_at}
 use Rattle.vk_form_tests.proofs.Forms.{head_is_part}
-use Rattle.vk_form_tests.specs.Judging.{AreOf, Begins, IsOfHead, LaneSums, OpensSums, statement_at, sum_statement}
+use Rattle.vk_form_tests.specs.Judging.{Begins, IsOfHead, LaneSums, OpensSums, statement_at, sum_extraction, sum_extraction_on, sum_judged, sum_judged_on, sum_statement}
 
 pub statement_right : (head : SumHead) (seals : List SealLines) → IsSumHead head → AreSealsOf 3 2 seals
     → IsStatement (sum_statement head seals)
 unfolding sum_plan
 statement_right head seals right are = record {
   id = right.id;
-  some_lane = omega arith;
-  few_lanes = omega arith;
+  count = record { least = omega arith; most = omega arith };
   seals = are.each;
   inputs = sym are.count;
   plan = sum_is_plan head.total;
@@ -55,20 +55,12 @@ pub sums_opened : (IsSuch : SumHead → Type 0) (s : StatementValue) (found : La
 sums_opened IsSuch s (Refused second fault) right front are opens = tt
 sums_opened IsSuch s Same right front are opens = tt
 sums_opened IsSuch s (Clash two) right front are opens = tt
-sums_opened IsSuch s (Lanes opened) right front are opens =
+sums_opened IsSuch s (Bids opened) right front are opens =
     let here = subst (IsOfHead IsSuch) (sym are) front in
     record {
       front = here;
       lanes = λ k d h. lane_sums opened.statement here.head (slice_index_or opened.lanes k d) (right here.head here.such) here.is (opens.1 k d h);
     }
-
-pub are_of : (s : StatementValue) (base : Option Base) (found : LaneExtraction) → IfSome base (λ b. b.statement ≡ s) → AreOfBase base found
-    → AreOf s found
-are_of s base (Refused second fault) read of_base = tt
-are_of s base Same read of_base = tt
-are_of s base (Clash two) read of_base = tt
-are_of s None (Lanes opened) read of_base = absurd of_base
-are_of s (Some base) (Lanes opened) read of_base = sym of_base ∙ read
 
 -- ---- by the file
 
@@ -115,3 +107,16 @@ sums_of_begun None rest found is sums = tt
 sums_of_begun (Some bytes) rest found is sums =
     let same = short_file bytes (nat_lt (2 ^ 30) (length bytes)) rest (verr.TooLong part.Board) is in
     subst (λ r. OpensSums (Begins r.left) found) (sym same) sums
+
+-- three files that are begun, and then judged
+pub sum_begun : (files : Files) (file challenge reply : List ℕ)
+    → sum_judged_on files file challenge reply ≡ (of_attempt three_rests files file challenge reply >>= λ rests. Ok (sum_judged rests.0 rests.1 rests.2))
+unfolding sum_judged_on
+sum_begun files file challenge reply = attempt_begun sum_judged files file challenge reply
+
+-- five files that are begun, and then extracted
+pub sum_extraction_begun : (files : Files) (file first_challenge first_reply second_challenge second_reply : List ℕ)
+    → sum_extraction_on files file first_challenge first_reply second_challenge second_reply
+    ≡ (of_files five_rests files file first_challenge first_reply second_challenge second_reply >>= λ rests. Ok (sum_extraction rests.0 rests.1 rests.2 rests.3 rests.4))
+unfolding sum_extraction_on
+sum_extraction_begun = files_begun sum_extraction

@@ -2,7 +2,8 @@
 -- behind any head.
 use Rattle.std.specs.Prelude.{◌≡◌, ℕ, ◌≤◌, List, [], ◌∷◌, ◌++◌, codes, decimal, length, Option, option_map, Result, Ok}
 use Rattle.std.specs.List.{AllByRecursion}
-use Rattle.vk_lines.specs.Lines.{Rest, ◌>>=◌, line_by}
+use Rattle.vk_residue.specs.Steps.{◌>>=◌}
+use Rattle.vk_lines.specs.Lines.{Rest, line_by}
 use Rattle.vk_lines.specs.Forms.{Table, line, spaced}
 use Rattle.vk_lines.specs.Tokens.{hex_text, id_line, number_line, word_of}
 use Rattle.vk_board.specs.declared.board.SealLines.{SealLines}

@@ -1,9 +1,8 @@
 -- What is judged and extracted of a sum file: that of its statement, behind its front.
 use Rattle.std.specs.Prelude.{◌≡◌, ℕ, false, List, ◌++◌, All, map, Result, Ok, Err}
-use Rattle.std.specs.FinMap.{get}
+use Rattle.vk_residue.specs.Steps.{◌>>=◌}
 use Rattle.vk_io.specs.Files.{Files}
 use Rattle.vk_lines.specs.Lines.{Rest}
-use Rattle.vk_row.specs.LaneTests.{◌>>=◌}
 use Rattle.vk_board.specs.declared.board.SealLines.{SealLines}
 use Rattle.vk_board.specs.Reading.{seal_lines_at}
 use Rattle.vk_verifier.specs.declared.answers.Part.TheVariants as part
@@ -11,13 +10,13 @@ use Rattle.vk_verifier.specs.declared.answers.Fault.{Fault}
 use Rattle.vk_verifier.specs.declared.answers.VErr.{VErr}
 use Rattle.vk_verifier.specs.Statement.{StatementValue}
 use Rattle.vk_verifier.specs.Behind.{behind_judged, in_part}
-use Rattle.vk_verifier.specs.Verdicts.{begun}
+use Rattle.vk_verifier.specs.Verdicts.{of_attempt}
 use Rattle.vk_verifier.specs.TwoBoards.{of_files}
 use Rattle.vk_bids.specs.declared.bids.LaneBids.{LaneBids}
-use Rattle.vk_bids.specs.declared.lane_extraction.LaneExtraction.{LaneExtraction}
-use Rattle.vk_bids.specs.declared.lane_extraction.LaneExtraction.TheVariants.{Refused, Same, Clash, Lanes}
+use Rattle.vk_bids.specs.declared.extraction.Extraction.TheVariants.{Refused}
 use Rattle.vk_bids.specs.declared.lane_extraction.OpenedLanes.{OpenedLanes}
-use Rattle.vk_bids.specs.LaneExtraction.{lane_extraction_behind}
+use Rattle.vk_bids.specs.Extractions.{OfBids}
+use Rattle.vk_bids.specs.LaneExtraction.{LaneExtraction, lane_extraction_behind}
 use Rattle.vk_bids.specs.Opening.{LaneOpens}
 use Rattle.vk_form_tests.specs.declared.form.SumHead.{SumHead}
 use Rattle.vk_form_tests.specs.Sums.{SumTo, sum_plan}
@@ -56,13 +55,9 @@ sum_judged file challenge reply = do
   front ← statement_at file
   behind_judged front.0 front.1 challenge reply
 
--- of the named files; or the first of them that is missing or too long
+-- of the named files
 unfoldable pub sum_judged_on : Files → List ℕ → List ℕ → List ℕ → Result (Result Unit Fault) VErr
-sum_judged_on files file challenge reply = do
-  file ← begun part.Board (get files file)
-  challenge ← begun part.Challenge (get files challenge)
-  reply ← begun part.Reply (get files reply)
-  Ok (sum_judged file challenge reply)
+sum_judged_on = of_attempt sum_judged
 
 -- ---- extraction
 
@@ -91,14 +86,4 @@ pub record OpenSums (IsSuch : SumHead → Type 0) (opened : OpenedLanes) : Type 
   pub lanes : All (LaneSums opened.statement front.head.total) opened.lanes
 
 abbrev pub OpensSums : (SumHead → Type 0) → LaneExtraction → Type 0
-OpensSums IsSuch (Refused second fault) = Unit {0}
-OpensSums IsSuch Same = Unit {0}
-OpensSums IsSuch (Clash two) = Unit {0}
-OpensSums IsSuch (Lanes opened) = OpenSums IsSuch opened
-
--- the lanes are those of this statement
-abbrev pub AreOf : StatementValue → LaneExtraction → Type 0
-AreOf s (Refused second fault) = Unit {0}
-AreOf s Same = Unit {0}
-AreOf s (Clash two) = Unit {0}
-AreOf s (Lanes opened) = opened.statement ≡ s
+OpensSums IsSuch = OfBids (OpenSums IsSuch)

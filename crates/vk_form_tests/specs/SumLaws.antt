@@ -30,8 +30,7 @@ names_total total =
 pub ranges_fit : AreRanges input_ranges 3
 ranges_fit = record {
   names = All-listed (λ form. NamesBelow 3 form.terms) input_form 3 (λ i h. All-cons IsInput (plus i) [] h (All-nil IsInput));
-  some = omega arith;
-  most = omega arith;
+  wide = record { least = omega arith; most = omega arith };
 }
 
 pub total_is_plan : (total : ℕ) → IsPlan (total_plan total)

@@ -16,29 +16,31 @@ pub struct SumHead {
     pub total: u64,
 }
 
-/// Reads the head of a sum file, its first three lines. Malformed carries the number of the first line
-/// that isn't what its place demands.
-#[tactic(auto, unfolding(crate::specs::Forms::sum_head_at))]
-pub fn read_head<S: Shelf>(shelf: &mut S, lines: &mut Lines) -> Result<SumHead, ReadErr>
-    ensures told { ReadsPart sum_head_at (S.held shelf.old) lines.old lines.new result }
-    ensures right { IfOk result IsSumHead }
-    ensures file { KeepsFile lines.old lines.new }
-    ensures shelf { OnlyReads S.held S.Shelf.faults ReadErr.Failed result shelf.old shelf.new }
-{
-    lines.read_fixed(shelf, b"sum-file 1")?;
-    let auction = lines.read_id(shelf, b"auction")?;
-    let total = lines.read_number(shelf, b"sum", 0, 21)?;
-    Ok(SumHead { auction, total })
-}
+impl SumHead {
+    /// Reads the head of a sum file, its first three lines. Malformed carries the number of the first line
+    /// that isn't what its place demands.
+    #[tactic(auto, unfolding(crate::specs::Forms::sum_head_at))]
+    pub fn read<S: Shelf>(shelf: &mut S, lines: &mut Lines) -> Result<SumHead, ReadErr>
+        ensures told { ReadsPart sum_head_at (S.held shelf.old) lines.old lines.new result }
+        ensures right { IfOk result IsSumHead }
+        ensures file { KeepsFile lines.old lines.new }
+        ensures shelf { OnlyReads S.held S.Shelf.faults ReadErr.Failed result shelf.old shelf.new }
+    {
+        lines.read_fixed(shelf, b"sum-file 1")?;
+        let auction = lines.read_id(shelf, b"auction")?;
+        let total = lines.read_number(shelf, b"sum", 0, 21)?;
+        Ok(SumHead { auction, total })
+    }
 
-/// The text of a sum file's head.
-#[tactic(auto, unfolding(crate::specs::Forms::sum_head_text))]
-pub fn head_text(alloc: Global, head: &SumHead) -> Result<Vec<u8>, NoMemory>
-    ensures { IfOk result (λ text. text.items ≡ sum_head_text head.now) }
-{
-    let mut text = Vec::new(alloc);
-    push_line(&mut text, b"sum-file 1")?;
-    push_hex_line(&mut text, b"auction", &head.auction)?;
-    push_number_line(&mut text, b"sum", head.total)?;
-    Ok(text)
+    /// The head's text.
+    #[tactic(auto, unfolding(crate::specs::Forms::sum_head_text))]
+    pub fn text(&self, alloc: Global) -> Result<Vec<u8>, NoMemory>
+        ensures { IfOk result (λ text. text.items ≡ sum_head_text self.now) }
+    {
+        let mut text = Vec::new(alloc);
+        push_line(&mut text, b"sum-file 1")?;
+        push_hex_line(&mut text, b"auction", &self.auction)?;
+        push_number_line(&mut text, b"sum", self.total)?;
+        Ok(text)
+    }
 }

@@ -1,18 +1,19 @@
 // What is judged and extracted of sum files.
 ghost use Rattle.std.specs.Prelude.{◌≡◌, IfOk, IfSome};
 ghost use Rattle.std.specs.FinMap as map;
+ghost use Rattle.vk_lines.specs.Gives.{Gives};
 ghost use Rattle.vk_lines.specs.Lines.{OnlyReads, rest_of};
 ghost use Rattle.vk_board.specs.Values.{AreSealsOf};
 ghost use Rattle.vk_verifier.specs.Behind.{Judges};
-ghost use Rattle.vk_verifier.specs.Verdicts.{Gives};
-ghost use Rattle.vk_bids.specs.LaneExtraction.{OpensLanes, lane_extraction_behind};
+ghost use Rattle.vk_verifier.specs.Two.{of_two};
+ghost use Rattle.vk_verifier.specs.Verdicts.{of_begun, unread_file};
 ghost use Rattle.vk_form_tests.specs.Forms.{IsSumHead};
-ghost use Rattle.vk_form_tests.specs.Judging.{AreOf, Begins, IsOfHead, OpensSums, statement_at, sum_extraction, sum_extraction_on, sum_judged, sum_judged_on, sum_statement};
+ghost use Rattle.vk_form_tests.specs.Judging.{Begins, IsOfHead, OpensSums, statement_at, sum_extraction, sum_extraction_on, sum_judged, sum_judged_on, sum_statement};
 
 use crate::circuit::SumPlan;
-use crate::form::{SumHead, read_head};
+use crate::form::SumHead;
 use std::alloc::Global;
-use vk_bids::{LaneExtraction, TwoReplies, extract_lanes};
+use vk_bids::{Extraction, LaneExtraction, extract_behind};
 use vk_board::{SealLines, read_seal_lines};
 use vk_io::{OutsideErr, Shelf};
 use vk_lines::Lines;
@@ -20,8 +21,8 @@ use vk_plan::Circuit;
 use vk_residue::NoMemory;
 use vk_seq::Seq;
 use vk_verifier::{
-    Fault, Halt, LaneChecker, Pair, Part, Statement, TwoReaders, VErr, begin, in_part,
-    judge_behind, known,
+    Attempt, AttemptNames, Fault, Halt, Part, Statement, TwoAttempts, TwoReplies, VErr,
+    begin_attempt, begin_two, in_part, judge_behind, known,
 };
 
 /// Reads the head and the seals of a sum file: what its lanes are to show.
@@ -36,7 +37,7 @@ pub fn read_statement<S: Shelf>(
     ensures right { IfOk result (IsOfHead IsSumHead) }
     ensures shelf { OnlyReads S.held S.Shelf.faults Halt.Failed result shelf.old shelf.new }
 {
-    let head = in_part(Part::Board, read_head(shelf, lines))?;
+    let head = in_part(Part::Board, SumHead::read(shelf, lines))?;
     let seals = in_part(Part::Board, read_seal_lines(alloc, shelf, lines, 3, 2))?;
     let statement = statement_of(alloc, head, seals)?;
     Ok(statement)
@@ -60,23 +61,18 @@ fn statement_of(alloc: Global, head: SumHead, seals: Seq<SealLines>) -> Result<S
 ///
 /// Errs where a file is missing or longer than 2^30 bytes, and names the first that is; where the shelf
 /// fails; and for want of memory.
-#[tactic(auto, unfolding(crate::specs::Judging::sum_judged_on))]
+#[tactic(auto, using(crate::proofs::Opening::sum_begun))]
 pub fn judge<S: Shelf>(
     alloc: Global,
     shelf: &mut S,
-    file: &str,
-    challenge: &str,
-    reply: &str,
+    names: &AttemptNames<'_>,
 ) -> Result<Result<(), Fault>, VErr>
     ensures told { IfSome (S.held shelf.old) (λ files.
-        Gives (λ judged. judged) result (sum_judged_on files file.now challenge.now reply.now)) }
+        Gives unread_file (λ judged. judged) result (sum_judged_on files names.now.file.now names.now.challenge.now names.now.reply.now)) }
     ensures shelf { OnlyReads S.held S.Shelf.faults VErr.Failed result shelf.old shelf.new }
 {
-    let board = begin(alloc, shelf, file, Part::Board)?;
-    let mut challenge = begin(alloc, shelf, challenge, Part::Challenge)?;
-    let reply = begin(alloc, shelf, reply, Part::Reply)?;
-    let mut pair = Pair { board, reply };
-    let judged = judge_lines(alloc, shelf, &mut challenge, &mut pair);
+    let mut attempt = begin_attempt(alloc, shelf, names)?;
+    let judged = judge_lines(alloc, shelf, &mut attempt);
     let judged = known(judged)?;
     Ok(judged)
 }
@@ -86,15 +82,13 @@ pub fn judge<S: Shelf>(
 fn judge_lines<S: Shelf>(
     alloc: Global,
     shelf: &mut S,
-    challenge: &mut Lines,
-    pair: &mut Pair,
+    attempt: &mut Attempt,
 ) -> Result<(), Halt<Fault>>
-    ensures told { IfSome (S.held shelf.old) (λ files. Judges (λ done. done) result
-        (sum_judged (rest_of pair.old.board files) (rest_of challenge.old files) (rest_of pair.old.reply files))) }
+    ensures told { IfSome (S.held shelf.old) (λ files. Judges (λ done. done) result (of_begun sum_judged attempt.old files)) }
     ensures shelf { OnlyReads S.held S.Shelf.faults Halt.Failed result shelf.old shelf.new }
 {
-    let statement = read_statement(alloc, shelf, &mut pair.board)?;
-    judge_behind(alloc, shelf, &statement, challenge, pair)?;
+    let statement = read_statement(alloc, shelf, &mut attempt.pair.board)?;
+    judge_behind(alloc, shelf, &statement, attempt)?;
     Ok(())
 }
 
@@ -103,27 +97,21 @@ fn judge_lines<S: Shelf>(
 ///
 /// Errs where a file is missing or longer than 2^30 bytes, and names the first that is, in the order of the
 /// names; where the shelf fails; and for want of memory.
-#[tactic(auto, unfolding(crate::specs::Judging::sum_extraction_on))]
+#[tactic(auto, using(crate::proofs::Opening::sum_extraction_begun))]
 pub fn extract<S: Shelf>(
     alloc: Global,
     shelf: &mut S,
     names: &TwoReplies<'_>,
 ) -> Result<LaneExtraction, VErr>
-    ensures told { IfSome (S.held shelf.old) (λ files. Gives (λ found. found) result
+    ensures told { IfSome (S.held shelf.old) (λ files. Gives unread_file (λ found. found) result
         (sum_extraction_on files names.now.board.now names.now.challenge1.now names.now.reply1.now names.now.challenge2.now names.now.reply2.now)) }
     ensures opens { IfOk result (OpensSums IsSumHead) }
     ensures of_file { IfSome (S.held shelf.old) (λ files. IfSome (map.get files names.now.board.now) (λ file.
         IfOk result (OpensSums (Begins file)))) }
     ensures shelf { OnlyReads S.held S.Shelf.faults VErr.Failed result shelf.old shelf.new }
 {
-    let board = begin(alloc, shelf, names.board, Part::Board)?;
-    let challenge = begin(alloc, shelf, names.challenge1, Part::Challenge)?;
-    let reply = begin(alloc, shelf, names.reply1, Part::Reply)?;
-    let second_challenge = begin(alloc, shelf, names.challenge2, Part::SecondChallenge)?;
-    let second = begin(alloc, shelf, names.reply2, Part::SecondReply)?;
-    let pair = Pair { board, reply };
-    let readers = TwoReaders { pair, second };
-    let found = extract_lines(alloc, shelf, challenge, second_challenge, readers)?;
+    let two = begin_two(alloc, shelf, names)?;
+    let found = extract_lines(alloc, shelf, two)?;
     Ok(found)
 }
 
@@ -131,63 +119,24 @@ pub fn extract<S: Shelf>(
 fn extract_lines<S: Shelf>(
     alloc: Global,
     shelf: &mut S,
-    challenge: Lines,
-    second_challenge: Lines,
-    readers: TwoReaders,
+    two: TwoAttempts,
 ) -> Result<LaneExtraction, OutsideErr>
-    ensures told { IfSome (S.held shelf.old) (λ files. IfOk result (λ found.
-        sum_extraction (rest_of readers.pair.board files) (rest_of challenge files) (rest_of readers.pair.reply files) (rest_of second_challenge files) (rest_of readers.second files) ≡ found)) }
+    ensures told { IfSome (S.held shelf.old) (λ files. IfOk result (λ found. of_two sum_extraction two files ≡ found)) }
     ensures opens { IfOk result (OpensSums IsSumHead) }
     ensures of_file { IfSome (S.held shelf.old) (λ files.
-        IfOk result (OpensSums (Begins (rest_of readers.pair.board files).left))) }
+        IfOk result (OpensSums (Begins (rest_of two.readers.pair.board files).left))) }
     ensures shelf { OnlyReads S.held S.Shelf.faults OutsideErr.Failed result shelf.old shelf.new }
 {
-    let mut readers = readers;
-    let read = read_statement(alloc, shelf, &mut readers.pair.board);
+    let mut two = two;
+    let read = read_statement(alloc, shelf, &mut two.readers.pair.board);
     match known(read)? {
-        Err(fault) => Ok(LaneExtraction::Refused {
+        Err(verdict) => Ok(Extraction::Refused {
             second: false,
-            fault,
+            verdict,
         }),
         Ok(statement) => {
-            let found = extract_behind(
-                alloc,
-                shelf,
-                statement,
-                challenge,
-                second_challenge,
-                readers,
-            )?;
+            let found = extract_behind(alloc, shelf, statement, two)?;
             Ok(found)
         }
     }
-}
-
-/// What the replies come to behind a front of which this is the statement.
-fn extract_behind<S: Shelf>(
-    alloc: Global,
-    shelf: &mut S,
-    statement: Statement,
-    challenge: Lines,
-    second_challenge: Lines,
-    readers: TwoReaders,
-) -> Result<LaneExtraction, OutsideErr>
-    requires { IsOfHead IsSumHead statement }
-    ensures told { IfSome (S.held shelf.old) (λ files. IfOk result (λ found.
-        lane_extraction_behind statement (rest_of readers.pair.board files) (rest_of challenge files) (rest_of readers.pair.reply files) (rest_of second_challenge files) (rest_of readers.second files) ≡ found)) }
-    ensures opens { IfOk result (OpensSums IsSumHead) }
-    ensures lanes { IfOk result OpensLanes }
-    ensures statement { IfOk result (AreOf statement) }
-    ensures shelf { OnlyReads S.held S.Shelf.faults OutsideErr.Failed result shelf.old shelf.new }
-{
-    let checker = LaneChecker::begin(
-        alloc,
-        shelf,
-        statement,
-        challenge,
-        second_challenge,
-        readers,
-    )?;
-    let found = extract_lanes(alloc, shelf, checker)?;
-    Ok(found)
 }

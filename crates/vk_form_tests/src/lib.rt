@@ -10,7 +10,7 @@ mod laws;
 mod tests;
 
 pub use circuit::SumPlan;
-pub use form::{SumHead, head_text, read_head};
+pub use form::SumHead;
 pub use judging::{extract, judge, read_statement};
 pub use laws::{
     all_but_sum_files_have_a_fault_line, reading_a_sum_file_stops_at_the_fault_line,

@@ -30,8 +30,7 @@ all_accepted {s = s} p all ends =
       reply_is = (
         text,
         record {
-          some_lane = omega (arith, p.is.some_lane, all, pass.shown_to);
-          few_lanes = omega (arith, p.is.few_lanes, all, pass.shown_to);
+          count = record { least = omega (arith, p.is.count.least, all, pass.shown_to); most = omega (arith, p.is.count.most, all, pass.shown_to) };
           each = pass.shown;
         },
       );

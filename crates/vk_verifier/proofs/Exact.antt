@@ -3,13 +3,14 @@ use Rattle.std.proofs.Common.{◌≡◌, ℕ, ◌+◌, ◌<◌, ◌≤◌, ◌==
 use Rattle.std.specs.Result.{result_err}
 use Rattle.std.proofs.lemmas.Bool.{and_parts, eqb-true, cases_lt}
 use Rattle.std.proofs.lemmas.Option.{same_Some}
+use Rattle.vk_residue.specs.Steps.{◌>>=◌}
 use Rattle.vk_lines.specs.Lines.{Rest, end_at}
 use Rattle.vk_lines.specs.Forms.{fault_line}
 use Rattle.vk_wire.specs.declared.wire.Shown.{Shown}
 use Rattle.vk_row.specs.declared.case.LaneFault.{LaneFault}
 use Rattle.vk_row.specs.declared.case.LaneFault.TheVariants as faults
 use Rattle.vk_row.specs.Lanes.{HasLaneFault}
-use Rattle.vk_row.specs.LaneTests.{◌>>=◌, checked_lane}
+use Rattle.vk_row.specs.LaneTests.{checked_lane}
 use Rattle.vk_row.proofs.Whole.{faulty_err}
 use Rattle.vk_board.specs.declared.board.LaneLines.{LaneLines}
 use Rattle.vk_board.specs.Reading.{lane_at}
@@ -215,7 +216,7 @@ module _ (s : StatementValue) (is : IsStatement s) (front file challenge reply :
   lanes_given fails =
       let bits = challenge_is fails.challenge fails.is_challenge in
       let has = fails.has_count in
-      let count = replies.head_is_part.found (from_start reply) fails.replies has.begins.0 (has.some, has.few) has.begins.1 in
+      let count = replies.head_is_part.found (from_start reply) fails.replies has.begins.0 (has.count.least, has.count.most) has.begins.1 in
       let after : Rest = record { taken = count.0; left = has.begins.0 } in
       read_found part.Challenge (challenge_at (from_start challenge)) (bits_then s rest (from_start reply))
       (fails.challenge, bits.0) bits.1

@@ -1,8 +1,8 @@
 -- What stands behind a front where the tests are passed: what was read, part by part.
 use Rattle.std.proofs.Common.{◌≡◌, ℕ, ◌==◌, ◌&&◌, Bool, true, false, if◌then◌else◌, length, Result, Ok, Err, refl, ap, ◌∙◌}
 use Rattle.std.proofs.lemmas.Bool.{and_parts, and_from, eqb-true, eq-eqb}
+use Rattle.vk_residue.specs.Steps.{◌>>=◌}
 use Rattle.vk_lines.specs.Lines.{Rest, end_at}
-use Rattle.vk_row.specs.LaneTests.{◌>>=◌}
 use Rattle.vk_reply.specs.declared.challenge.Challenge.{Challenge}
 use Rattle.vk_reply.specs.Reading.{challenge_at, reply_head_at}
 use Rattle.vk_verifier.specs.declared.answers.Part.TheVariants as part

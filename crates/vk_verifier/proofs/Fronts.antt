@@ -7,8 +7,7 @@ pub front_case : (front : Front) → IsFront front → IsVickreyCase front.head.
 front_case front is = record {
   some_seals = is.head.some_seal;
   most_seals = is.head.few_seals;
-  some_width = is.head.some_width;
-  most_width = is.head.last_width;
+  wide = is.head.size.width;
   some_position = is.winner.some;
   within_seals = is.winner.within;
   within_width = is.price.within_width;

@@ -1,9 +1,10 @@
 -- What was judged whole is what is judged part by part.
 use Rattle.std.proofs.Common.{◌≡◌, ℕ, Bool, List, Result, Ok, Err, length, refl}
+use Rattle.vk_residue.specs.Steps.{◌>>=◌}
 use Rattle.vk_lines.specs.Lines.{Rest}
 use Rattle.vk_wire.specs.declared.wire.Shown.{Shown}
 use Rattle.vk_row.specs.declared.case.LaneCase.{LaneCase}
-use Rattle.vk_row.specs.LaneTests.{◌>>=◌, checked_lane}
+use Rattle.vk_row.specs.LaneTests.{checked_lane}
 use Rattle.vk_board.specs.declared.board.LaneLines.{LaneLines}
 use Rattle.vk_board.specs.Reading.{lane_at}
 use Rattle.vk_reply.specs.declared.challenge.Challenge.{Challenge}

@@ -2,9 +2,10 @@
 use Rattle.std.proofs.Common.{◌≡◌, ℕ, zero, suc, ◌+◌, ◌-◌, ◌<◌, Bool, false, List, [], ◌∷◌, length, take, Ok, Err, inl, inr, refl, ap, ◌∙◌, subst, arith}
 use Rattle.std.specs.Prelude.{slice_index_or}
 use Rattle.std.proofs.lemmas.List.{length-take-le}
+use Rattle.vk_residue.specs.Steps.{◌>>=◌}
 use Rattle.vk_lines.specs.Lines.{Rest}
 use Rattle.vk_wire.specs.declared.wire.Shown.{Shown}
-use Rattle.vk_row.specs.LaneTests.{◌>>=◌, checked_lane}
+use Rattle.vk_row.specs.LaneTests.{checked_lane}
 use Rattle.vk_board.specs.declared.board.LaneLines.{LaneLines}
 use Rattle.vk_board.specs.Reading.{lane_at}
 use Rattle.vk_reply.specs.declared.challenge.Challenge.{Challenge}

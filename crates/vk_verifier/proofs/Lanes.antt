@@ -1,5 +1,6 @@
 -- A lane that is judged: its lines are read, and what is shown of it is checked.
 use Rattle.std.proofs.Common.{◌≡◌, ◌≢◌, ℕ, Bool, List, [], ◌∷◌, ◌++◌, length, Option, Some, None, Result, Ok, Err, refl, ap, ◌∙◌}
+use Rattle.vk_residue.specs.Steps.{◌>>=◌}
 use Rattle.vk_lines.specs.Lines.{Rest}
 use Rattle.vk_plan.specs.Plans.{PlanValue}
 use Rattle.vk_plan.specs.declared.wire.WireKind.{WireKind}
@@ -11,7 +12,7 @@ use Rattle.vk_row.specs.declared.case.LaneCase.{LaneCase}
 use Rattle.vk_row.specs.declared.case.LaneFault.{LaneFault}
 use Rattle.vk_row.specs.declared.case.LaneFault.TheVariants.{Wire, Row, NoMemory}
 use Rattle.vk_row.specs.Lanes.{place_in}
-use Rattle.vk_row.specs.LaneTests.{◌>>=◌, at_wire, halves_from, first_false_row, judged, checked_lane}
+use Rattle.vk_row.specs.LaneTests.{at_wire, halves_from, first_false_row, judged, checked_lane}
 use Rattle.vk_board.specs.declared.board.LaneLines.{LaneLines}
 use Rattle.vk_board.specs.Reading.{lane_at}
 use Rattle.vk_reply.specs.Reading.{reply_lane_at}

@@ -15,6 +15,7 @@ pub mod Reasons
 pub mod Exact
 pub mod Verdicts
 pub mod Joined
+pub mod Attempts
 pub mod Bits
 pub mod TwoFound
 pub mod TwoLaw

@@ -2,7 +2,8 @@
 use Rattle.std.proofs.Common.{◌≡◌, ℕ, zero, suc, ◌<◌, List, [], ◌∷◌, ◌++◌, length, Result, Ok, Err, refl, sym, ap, ◌∙◌, append_assoc, append-nil, arith}
 use Rattle.std.specs.Prelude.{slice_index_or}
 use Rattle.std.proofs.lemmas.List.{get_or_at}
-use Rattle.vk_lines.specs.Lines.{Rest, ◌>>=◌, end_at}
+use Rattle.vk_residue.specs.Steps.{◌>>=◌}
+use Rattle.vk_lines.specs.Lines.{Rest, end_at}
 use Rattle.vk_lines.specs.Forms.{many_onto}
 use Rattle.vk_lines.proofs.Parts.{bind_ok, ok_same}
 

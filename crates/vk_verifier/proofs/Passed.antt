@@ -6,6 +6,7 @@ use Rattle.std.proofs.Math.ListN.{drop_of_length-le}
 use Rattle.std.proofs.lemmas.List.{append_cancel_left, length-take-le}
 use Rattle.std.proofs.lemmas.List.Elements.{All-from_recursion}
 use Rattle.std.proofs.lemmas.Option.{slice_get-get_or}
+use Rattle.vk_residue.specs.Steps.{◌>>=◌}
 use Rattle.vk_lines.specs.Lines.{Rest, end_at}
 use Rattle.vk_lines.specs.Forms.{IsPart, line, many_at, numbered_text}
 use Rattle.vk_lines.proofs.Each.{at_from_each, each_from_at}
@@ -14,7 +15,6 @@ use Rattle.vk_lines.proofs.Parts.{part_same, end_found, end_shown}
 use Rattle.vk_wire.specs.declared.wire.Shown.{Shown}
 use Rattle.vk_row.specs.declared.case.LaneCase.{LaneCase}
 use Rattle.vk_row.specs.Lanes.{HasCounts, IsAccepted}
-use Rattle.vk_row.specs.LaneTests.{◌>>=◌}
 use Rattle.vk_row.proofs.Whole.{ok_accepted, accepted_ok}
 use Rattle.vk_board.specs.declared.board.LaneLines.{LaneLines}
 use Rattle.vk_board.specs.Values.{IsLaneLines}
@@ -153,12 +153,12 @@ pub has_count : (reply : List ℕ) (count : ℕ) (after : Rest) → reply_head_a
     → HasCount reply count
 has_count reply count after read =
     let shown = replies.head_is_part.shown (from_start reply) count after read in
-    record { some = shown.0.0; few = shown.0.1; begins = (after.left, shown.1) }
+    record { count = record { least = shown.0.0; most = shown.0.1 }; begins = (after.left, shown.1) }
 
 module _ {s : StatementValue} {front file challenge reply : List ℕ} {rest : Rest}
     (p : Passed s front file challenge reply rest) where
   few : p.count ≤ 64
-  few = omega (arith, p.within, p.is.few_lanes)
+  few = omega (arith, p.within, p.is.count.most)
 
   pub lines_are : ((length p.read.lines ≡ p.count) × AreLanes s p.read.lines)
       × (rest.left ≡ lanes_text 1 p.read.lines ++ p.rests.0.left)
@@ -209,7 +209,7 @@ module _ {s : StatementValue} {front file challenge reply : List ℕ} {rest : Re
   shown_next = reply_lane_at (p.count + 1) s.plan.kinds next_bit p.rests.1
 
   next_few : p.count < s.lanes → p.count + 1 ≤ 64
-  next_few more = omega (arith, more, p.is.few_lanes)
+  next_few more = omega (arith, more, p.is.count.most)
 
   next_lines_part : p.count < s.lanes
       → IsPart (IsLaneLines (later_wires s.plan) (length s.plan.rows)) (lane_text (p.count + 1))
@@ -357,7 +357,7 @@ module _ {s : StatementValue} {front file challenge reply : List ℕ} {rest : Re
 module _ {s : StatementValue} {front file challenge reply : List ℕ} {lanes : ℕ} (is : IsStatement s) (rest : Rest)
     (at : file ≡ front ++ rest.left) (pass : LanesPass s front file challenge reply lanes) where
   pass_few : lanes ≤ 64
-  pass_few = omega (arith, pass.within, is.few_lanes)
+  pass_few = omega (arith, pass.within, is.count.most)
 
   pub bits_found : (after : Rest) × (challenge_at (from_start challenge) ≡ Ok (pass.challenge, after))
   bits_found = challenge_is_whole.found (from_start challenge) pass.challenge pass.is_challenge.right pass.is_challenge.text
@@ -367,7 +367,7 @@ module _ {s : StatementValue} {front file challenge reply : List ℕ} {lanes : �
 
   pub count_found : (taken : ℕ) × (reply_head_at (from_start reply) ≡ Ok (s.lanes, record { taken = taken; left = shown_left }))
   count_found =
-      replies.head_is_part.found (from_start reply) s.lanes shown_left (is.some_lane, is.few_lanes)
+      replies.head_is_part.found (from_start reply) s.lanes shown_left (is.count.least, is.count.most)
       (pass.reply_begins.1 ∙ append_assoc (reply_head_text s.lanes) (numbered_text reply_lane_text 1 pass.reply)
       pass.reply_begins.0)
 

@@ -37,8 +37,7 @@ inputs_are front = refl
 pub statement_right : (front : Front) → IsFront front → IsStatement (statement_of front)
 statement_right front is = record {
   id = is.head.id;
-  some_lane = is.head.some_lane;
-  few_lanes = is.head.few_lanes;
+  count = is.head.size.lanes;
   seals = is.seals.each;
   inputs = inputs_are front ∙ sym is.seals.count;
   plan = is_plan front is;

@@ -2,10 +2,11 @@
 use Rattle.std.proofs.Common.{◌≡◌, ℕ, ◌+◌, ◌<◌, ◌==◌, ◌⊎◌, Bool, true, false, if◌then◌else◌, List, [], ◌++◌, length, Result, Ok, Err, inl, inr, refl, ap, ◌∙◌, subst, arith}
 use Rattle.std.specs.Result.{result_err}
 use Rattle.std.proofs.lemmas.Bool.{and_from, eq-eqb}
+use Rattle.vk_residue.specs.Steps.{◌>>=◌}
 use Rattle.vk_lines.specs.Lines.{Rest, end_at}
 use Rattle.vk_row.specs.declared.case.LaneFault.{LaneFault}
 use Rattle.vk_row.specs.declared.case.LaneFault.TheVariants as faults
-use Rattle.vk_row.specs.LaneTests.{◌>>=◌, checked_lane}
+use Rattle.vk_row.specs.LaneTests.{checked_lane}
 use Rattle.vk_row.proofs.Whole.{err_faulty}
 use Rattle.vk_wire.specs.declared.wire.Shown.{Shown}
 use Rattle.vk_board.specs.declared.board.LaneLines.{LaneLines}
@@ -205,7 +206,7 @@ module _ (s : StatementValue) (is : IsStatement s) (front file challenge reply :
 
   no_count : (line : ℕ) → reply_head_at (from_start reply) ≡ Err line → (lanes : ℕ) → ¬ HasCount reply lanes
   no_count line stop lanes has =
-      let found = replies.head_is_part.found (from_start reply) lanes has.begins.0 (has.some, has.few) has.begins.1 in
+      let found = replies.head_is_part.found (from_start reply) lanes has.begins.0 (has.count.least, has.count.most) has.begins.1 in
       cc (found.1, stop)
 
   -- the numbers of lanes

@@ -1,6 +1,6 @@
 -- One test after another, for files: what each gave where all were passed.
 use Rattle.std.proofs.Common.{◌≡◌, ◌≢◌, ℕ, ◌⊎◌, inl, inr, Result, Ok, Err, refl, ap}
-use Rattle.vk_row.specs.LaneTests.{◌>>=◌}
+use Rattle.vk_residue.specs.Steps.{◌>>=◌}
 use Rattle.vk_verifier.specs.declared.answers.Part.{Part}
 use Rattle.vk_verifier.specs.declared.answers.Fault.{Fault}
 use Rattle.vk_verifier.specs.declared.answers.Fault.TheVariants.{Malformed}

@@ -1,12 +1,13 @@
 -- What two accepted replies give is what stands in their files: behind a front, and of a board.
 use Rattle.std.proofs.Common.{◌≡◌, ℕ, zero, suc, ◌+◌, ◌-◌, ◌<◌, Bool, List, [], ◌∷◌, ◌++◌, length, Some, Result, Ok, Err, refl, ap, sym, ◌∙◌, subst, arith, length-append, codes}
 use Rattle.std.specs.Prelude.{slice_index_or, slice_get, option_map}
+use Rattle.vk_residue.specs.Steps.{◌>>=◌}
 use Rattle.vk_lines.specs.Lines.{Rest, end_at}
 use Rattle.vk_lines.specs.Forms.{line, many_onto}
 use Rattle.vk_plan.specs.Plans.{PlanValue}
 use Rattle.vk_wire.specs.declared.wire.Shown.{Shown}
 use Rattle.vk_row.specs.declared.case.LaneCase.{LaneCase}
-use Rattle.vk_row.specs.LaneTests.{◌>>=◌, checked_lane}
+use Rattle.vk_row.specs.LaneTests.{checked_lane}
 use Rattle.vk_board.specs.declared.board.LaneLines.{LaneLines}
 use Rattle.vk_board.specs.declared.front.Front.{Front}
 use Rattle.vk_board.specs.Texts.{lanes_text}

@@ -1,9 +1,9 @@
 -- A verdict is given on a board exactly where it holds: its front is read, and what stands behind it is judged.
 use Rattle.std.proofs.Common.{◌≡◌, ℕ, ◌+◌, List, ◌++◌, length, Result, Ok, Err, inl, inr, refl, ap, sym, ◌∙◌, subst}
 use Rattle.std.specs.Result.{result_err}
-use Rattle.vk_lines.specs.Lines.{Rest, ◌>>=◌, end_at}
+use Rattle.vk_residue.specs.Steps.{◌>>=◌}
+use Rattle.vk_lines.specs.Lines.{Rest, end_at}
 use Rattle.vk_lines.specs.Forms.{many_at}
-use Rattle.vk_row.specs.LaneTests as row
 use Rattle.vk_board.specs.declared.board.Head.{Head}
 use Rattle.vk_board.specs.declared.board.SealLines.{SealLines}
 use Rattle.vk_board.specs.declared.board.LaneLines.{LaneLines}
@@ -135,7 +135,7 @@ module _ (board challenge reply : List ℕ) where
       })
 
   abbrev verdict_after : Result (Front × Rest) FrontFault → BoardVerdict
-  verdict_after r = verdict_by (row.◌>>=◌ (in_front r) (λ front. in_board (judged_behind front.0 front.1)))
+  verdict_after r = verdict_by (◌>>=◌ (in_front r) (λ front. in_board (judged_behind front.0 front.1)))
 
   verdict_why : (r : Result (Front × Rest) FrontFault) → front_at (from_start board) ≡ r → Why (verdict_after r)
   verdict_why (Ok front) is = behind_why front.0 front.1 is (judged_behind front.0 front.1) refl

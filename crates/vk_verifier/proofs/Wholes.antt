@@ -1,6 +1,7 @@
 -- A reply as a whole file, where its head is read.
 use Rattle.std.proofs.Common.{◌≡◌, ℕ, Bool, List, Result, Ok, Err, ap}
-use Rattle.vk_lines.specs.Lines.{Rest, ◌>>=◌, end_at}
+use Rattle.vk_residue.specs.Steps.{◌>>=◌}
+use Rattle.vk_lines.specs.Lines.{Rest, end_at}
 use Rattle.vk_plan.specs.declared.wire.WireKind.{WireKind}
 use Rattle.vk_wire.specs.declared.wire.Shown.{Shown}
 use Rattle.vk_reply.specs.Reading.{reply_head_at, reply_lanes_at, reply_at}

@@ -1,6 +1,7 @@
 -- What is judged behind a front, for any statement: the challenge, the reply's head, the lanes and the ends, up to the
 -- first test that fails.
 use Rattle.std.specs.Prelude.{◌≡◌, ℕ, ◌+◌, ◌-◌, ◌==◌, ◌&&◌, Bool, if◌then◌else◌, List, [], ◌∷◌, ◌++◌, length, map, slice_index_or, Result, Ok, Err}
+use Rattle.vk_residue.specs.Steps.{◌>>=◌}
 use Rattle.vk_lines.specs.Lines.{Rest, end_at}
 use Rattle.vk_plan.specs.Plans.{PlanValue}
 use Rattle.vk_wire.specs.declared.wire.WireCom.{WireCom}
@@ -8,7 +9,7 @@ use Rattle.vk_row.specs.declared.case.LaneCase.{LaneCase}
 use Rattle.vk_row.specs.declared.case.LaneFault.{LaneFault}
 use Rattle.vk_row.specs.declared.case.LaneFault.TheVariants as lane
 use Rattle.vk_row.specs.Lanes.{no_digests}
-use Rattle.vk_row.specs.LaneTests.{◌>>=◌, checked_lane}
+use Rattle.vk_row.specs.LaneTests.{checked_lane}
 use Rattle.vk_board.specs.declared.board.SealLines.{SealLines}
 use Rattle.vk_board.specs.declared.board.LaneLines.{LaneLines}
 use Rattle.vk_board.specs.Reading.{lane_at, seats_of}

@@ -1,17 +1,19 @@
 -- The parts of what is judged behind a front, each by itself, so that two replies can be judged side by side.
-use Rattle.std.specs.Prelude.{◌≡◌, ℕ, Bool, List, length, Result, Ok}
+use Rattle.std.specs.Prelude.{◌≡◌, ℕ, ◌+◌, ◌≤◌, Bool, List, length, drop, Result, Ok}
+use Rattle.vk_residue.specs.Steps.{◌>>=◌}
 use Rattle.vk_lines.specs.Lines.{Rest}
 use Rattle.vk_plan.specs.Plans.{PlanValue}
 use Rattle.vk_wire.specs.declared.wire.Shown.{Shown}
 use Rattle.vk_row.specs.declared.case.LaneCase.{LaneCase}
 use Rattle.vk_row.specs.Lanes.{HasCounts}
-use Rattle.vk_row.specs.LaneTests.{◌>>=◌, checked_lane}
+use Rattle.vk_row.specs.LaneTests.{checked_lane}
 use Rattle.vk_board.specs.declared.board.LaneLines.{LaneLines}
 use Rattle.vk_board.specs.Values.{IsLaneLines}
 use Rattle.vk_board.specs.Reading.{lane_at}
 use Rattle.vk_reply.specs.Reading.{challenge_at, reply_head_at, reply_lane_at}
 use Rattle.vk_verifier.specs.declared.answers.Part.TheVariants as part
 use Rattle.vk_verifier.specs.declared.answers.Fault.{Fault}
+use Rattle.vk_verifier.specs.declared.stage.LanesLeft.{LanesLeft}
 use Rattle.vk_verifier.specs.Statement.{StatementValue}
 use Rattle.vk_verifier.specs.Behind.{in_part, later_wires, case_of, lane_fault, lanes_judged, counted, ends_judged}
 
@@ -41,6 +43,14 @@ unfoldable pub rest_judged : StatementValue → ℕ → List Bool → Rest → R
 rest_judged s number bits board reply = do
   rests ← lanes_judged s number bits board reply
   ends_judged rests.0 rests.1
+
+-- the lanes that are left of the statement, with a bit of the challenge for each of its lanes
+pub record AreLeft (left : LanesLeft) : Type 0 where
+  pub bits : length left.bits.now ≡ left.statement.now.lanes
+  pub within : left.judged ≤ left.statement.now.lanes
+
+abbrev pub rest_left : LanesLeft → Rest → Rest → Result Unit Fault
+rest_left left = rest_judged left.statement.now (left.judged + 1) (drop left.judged left.bits.now)
 
 -- the tests in their order, part by part
 unfoldable pub behind_in_parts : StatementValue → Rest → Rest → Rest → Result Unit Fault

@@ -1,6 +1,8 @@
 -- Why files are refused, in the words of their texts and values: behind a front with some text, and of a board.
 use Rattle.std.specs.Prelude.{◌≡◌, ◌↔◌, ◌⊎◌, ℕ, ◌+◌, ◌<◌, ◌≤◌, List, ◌++◌, length, slice_get, Some, Result, Ok, Err}
-use Rattle.vk_lines.specs.Lines.{Rest, ◌>>=◌, end_at}
+use Rattle.vk_residue.specs.Limits.{IsLaneCount}
+use Rattle.vk_residue.specs.Steps.{◌>>=◌}
+use Rattle.vk_lines.specs.Lines.{Rest, end_at}
 use Rattle.vk_lines.specs.Forms.{fault_line, many_at, numbered_text}
 use Rattle.vk_wire.specs.declared.wire.Shown.{Shown}
 use Rattle.vk_row.specs.declared.case.LaneFault.{LaneFault}
@@ -39,8 +41,7 @@ pub record IsOfChallenge (challenge_file : List ℕ) (challenge : Challenge) : T
 
 -- the reply begins with the lines that say so many lanes
 pub record HasCount (reply_file : List ℕ) (lanes : ℕ) : Type 0 where
-  pub some : 1 ≤ lanes
-  pub few : lanes ≤ 64
+  pub count : IsLaneCount lanes
   pub begins : BeginsWith reply_file (reply_head_text lanes)
 
 -- ---- lanes that stand in both files, behind a front with this text

@@ -1,5 +1,6 @@
 -- What is to be shown lane by lane: of which auction, in how many lanes, of which seals, by which circuit.
-use Rattle.std.specs.Prelude.{◌≡◌, ℕ, ◌≤◌, List, [], length}
+use Rattle.std.specs.Prelude.{◌≡◌, ℕ, List, [], length}
+use Rattle.vk_residue.specs.Limits.{IsLaneCount}
 use Rattle.vk_lines.specs.Forms.{EachAfter}
 use Rattle.vk_plan.specs.Plans.{PlanValue, IsPlan}
 use Rattle.vk_board.specs.declared.board.SealLines.{SealLines}
@@ -16,8 +17,7 @@ pub record StatementValue : Type 0 where
 -- for each of them
 pub record IsStatement (s : StatementValue) : Type 0 where
   pub id : AreBytes 16 s.auction
-  pub some_lane : 1 ≤ s.lanes
-  pub few_lanes : s.lanes ≤ 64
+  pub count : IsLaneCount s.lanes
   pub seals : EachAfter (IsSealAfter s.lanes) [] s.seals
   pub inputs : s.plan.inputs ≡ length s.seals
   pub plan : IsPlan s.plan

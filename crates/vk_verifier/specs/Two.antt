@@ -1,11 +1,11 @@
 -- Two replies side by side, behind a front: what is given of each lane, and what is found.
 use Rattle.std.specs.Prelude.{◌≡◌, ◌⊎◌, ℕ, ◌+◌, ◌≤◌, ◌&&◌, Bool, true, false, not, if◌then◌else◌, List, [], ◌∷◌, length, drop, Option, Some, None, IsSome, IfSome, Result, Ok, Err}
+use Rattle.vk_residue.specs.Steps.{◌>>=◌}
 use Rattle.vk_io.specs.Files.{Files}
 use Rattle.vk_lines.specs.Lines.{Rest, rest_of, end_at}
 use Rattle.vk_wire.specs.declared.wire.Shown.{Shown}
 use Rattle.vk_row.specs.declared.case.LaneCase.{LaneCase}
 use Rattle.vk_row.specs.Lanes.{IsAccepted}
-use Rattle.vk_row.specs.LaneTests.{◌>>=◌}
 use Rattle.vk_verifier.specs.declared.answers.Part.{Part}
 use Rattle.vk_verifier.specs.declared.answers.Part.TheVariants as part
 use Rattle.vk_verifier.specs.declared.answers.Fault.{Fault}
@@ -17,6 +17,7 @@ use Rattle.vk_verifier.specs.declared.stage.Finding.{Finding}
 use Rattle.vk_verifier.specs.declared.stage.Finding.TheVariants.{Refused, Same, Ready}
 use Rattle.vk_verifier.specs.declared.stage.Base.{Base}
 use Rattle.vk_verifier.specs.declared.stage.TwoReaders.{TwoReaders}
+use Rattle.vk_verifier.specs.declared.stage.TwoAttempts.{TwoAttempts}
 use Rattle.vk_verifier.specs.declared.stage.Course.{Course}
 use Rattle.vk_verifier.specs.declared.stage.Stage.{Stage}
 use Rattle.vk_verifier.specs.declared.stage.Stage.TheVariants.{Before, Running}
@@ -209,6 +210,12 @@ is_refused (Err halt.NoMemory) = false
 -- the file and both replies for the readers
 abbrev pub rests_of : TwoReaders → Files → Rests
 rests_of readers files = record { board = rest_of readers.pair.board files; first = rest_of readers.pair.reply files; second = rest_of readers.second files }
+
+-- what five files come to for the readers of them
+abbrev pub of_two : {X : Type 0} → (Rest → Rest → Rest → Rest → Rest → X) → TwoAttempts → Files → X
+of_two whole two files =
+    whole (rest_of two.readers.pair.board files) (rest_of two.first_challenge files) (rest_of two.readers.pair.reply files)
+    (rest_of two.second_challenge files) (rest_of two.readers.second files)
 
 -- what was read before the first lane: a statement, and each challenge has a bit for each of its lanes
 pub record IsBase (base : Base) : Type 0 where

@@ -1,9 +1,9 @@
 -- Two replies to a board: its front, and then what stands behind it.
 use Rattle.std.specs.Prelude.{◌≡◌, ℕ, Bool, true, false, if◌then◌else◌, List, Option, Some, None, IsSome, IfSome, option_map, Result, Ok, Err}
 use Rattle.std.specs.FinMap.{get}
+use Rattle.vk_residue.specs.Steps.{◌>>=◌}
 use Rattle.vk_io.specs.Files.{Files}
 use Rattle.vk_lines.specs.Lines.{Rest}
-use Rattle.vk_row.specs.LaneTests.{◌>>=◌}
 use Rattle.vk_board.specs.declared.front.Front.{Front}
 use Rattle.vk_board.specs.Fronts.{IsFront}
 use Rattle.vk_verifier.specs.declared.answers.Part.TheVariants as part
@@ -11,6 +11,7 @@ use Rattle.vk_verifier.specs.declared.answers.Fault.{Fault}
 use Rattle.vk_verifier.specs.declared.answers.BoardVerdict.{BoardVerdict}
 use Rattle.vk_verifier.specs.declared.answers.BoardVerdict.TheVariants.{Accepted, Malformed, Price, Winner, Lanes, Wire, Row}
 use Rattle.vk_verifier.specs.declared.answers.VErr.{VErr}
+use Rattle.vk_verifier.specs.declared.named.TwoReplies.{TwoReplies}
 use Rattle.vk_verifier.specs.declared.stage.TwoLane.{TwoLane}
 use Rattle.vk_verifier.specs.declared.stage.Finding.{Finding}
 use Rattle.vk_verifier.specs.declared.stage.Finding.TheVariants as finding
@@ -100,6 +101,12 @@ of_files whole files board first_challenge first_reply second_challenge second_r
   second_challenge ← begun part.SecondChallenge (get files second_challenge)
   second_reply ← begun part.SecondReply (get files second_reply)
   Ok (whole board first_challenge first_reply second_challenge second_reply)
+
+abbrev pub five_rests : Rest → Rest → Rest → Rest → Rest → Rest × Rest × Rest × Rest × Rest
+five_rests board first_challenge first_reply second_challenge second_reply = (board, first_challenge, first_reply, second_challenge, second_reply)
+
+abbrev pub named_rests : Files → TwoReplies → Result (Rest × Rest × Rest × Rest × Rest) VErr
+named_rests files names = of_files five_rests files names.board.now names.challenge1.now names.reply1.now names.challenge2.now names.reply2.now
 
 -- what is given and found of the named files
 unfoldable pub two_on : Files → List ℕ → List ℕ → List ℕ → List ℕ → List ℕ → Result (Ahead BoardVerdict) VErr

@@ -1,10 +1,10 @@
 -- The verdict on a board, a challenge and a reply: the first test that fails.
-use Rattle.std.specs.Prelude.{◌≡◌, ℕ, ◌^◌, nat_lt, if◌then◌else◌, List, length, Option, Some, None, Result, Ok, Err}
+use Rattle.std.specs.Prelude.{ℕ, ◌^◌, nat_lt, if◌then◌else◌, List, length, Option, Some, None, Result, Ok, Err}
 use Rattle.std.specs.FinMap.{get}
+use Rattle.vk_residue.specs.Steps.{◌>>=◌}
 use Rattle.vk_io.specs.Files.{Files}
-use Rattle.vk_lines.specs.Lines.{Rest}
+use Rattle.vk_lines.specs.Lines.{Rest, rest_of}
 use Rattle.vk_plan.specs.Plans.{PlanValue}
-use Rattle.vk_row.specs.LaneTests.{◌>>=◌}
 use Rattle.vk_board.specs.declared.front.Front.{Front}
 use Rattle.vk_board.specs.Fronts.{FrontFault, front_at}
 use Rattle.vk_board.specs.Fronts as fronts
@@ -17,6 +17,7 @@ use Rattle.vk_verifier.specs.declared.answers.BoardVerdict.{BoardVerdict}
 use Rattle.vk_verifier.specs.declared.answers.BoardVerdict.TheVariants.{Accepted, Malformed, Price, Winner, Lanes, Wire, Row}
 use Rattle.vk_verifier.specs.declared.answers.VErr.{VErr}
 use Rattle.vk_verifier.specs.declared.answers.VErr.TheVariants as verr
+use Rattle.vk_verifier.specs.declared.stage.Attempt.{Attempt}
 use Rattle.vk_verifier.specs.Statement.{StatementValue}
 use Rattle.vk_verifier.specs.Behind.{behind_judged}
 
@@ -78,24 +79,34 @@ verdict_of board challenge reply = verdict_by (judged (from_start board) (from_s
 
 -- ---- files on a shelf
 
--- what is answered is what the definition gives: a value, or which file is missing or too long. After a
--- failure of the outside or want of memory nothing is said
-abbrev pub Gives : {T X : Type 0} → (T → X) → Result T VErr → Result X VErr → Type 0
-Gives value (Ok x) expected = expected ≡ Ok (value x)
-Gives value (Err (verr.Missing file)) expected = expected ≡ Err (verr.Missing file)
-Gives value (Err (verr.TooLong file)) expected = expected ≡ Err (verr.TooLong file)
-Gives value (Err verr.Failed) expected = Unit {0}
-Gives value (Err verr.NoMemory) expected = Unit {0}
+-- the fault that a refusal tells: which file is missing or too long
+abbrev pub unread_file : VErr → Option VErr
+unread_file (verr.Missing file) = Some (verr.Missing file)
+unread_file (verr.TooLong file) = Some (verr.TooLong file)
+unread_file verr.Failed = None
+unread_file verr.NoMemory = None
 
 -- a file from its first line on, where it is held and has at most 2^30 bytes
 abbrev pub begun : Part → Option (List ℕ) → Result Rest VErr
 begun file None = Err (verr.Missing file)
 begun file (Some bytes) = if nat_lt (2 ^ 30) (length bytes) then Err (verr.TooLong file) else Ok (from_start bytes)
 
--- the verdict on the named files; or the first of them, in this order, that is missing or too long
-unfoldable pub verdict_on : Files → List ℕ → List ℕ → List ℕ → Result BoardVerdict VErr
-verdict_on files board challenge reply = do
-  board ← begun part.Board (get files board)
+-- what three named files come to from their first lines on; or the first of them, in this order, that is missing or
+-- too long
+abbrev pub of_attempt : {X : Type 0} → (Rest → Rest → Rest → X) → Files → List ℕ → List ℕ → List ℕ → Result X VErr
+of_attempt whole files file challenge reply = do
+  file ← begun part.Board (get files file)
   challenge ← begun part.Challenge (get files challenge)
   reply ← begun part.Reply (get files reply)
-  Ok (verdict_by (judged board challenge reply))
+  Ok (whole file challenge reply)
+
+-- what they come to for the readers of them
+abbrev pub of_begun : {X : Type 0} → (Rest → Rest → Rest → X) → Attempt → Files → X
+of_begun whole attempt files = whole (rest_of attempt.pair.board files) (rest_of attempt.challenge files) (rest_of attempt.pair.reply files)
+
+abbrev pub three_rests : Rest → Rest → Rest → Rest × Rest × Rest
+three_rests file challenge reply = (file, challenge, reply)
+
+-- the verdict on the named files
+unfoldable pub verdict_on : Files → List ℕ → List ℕ → List ℕ → Result BoardVerdict VErr
+verdict_on = of_attempt (λ board challenge reply. verdict_by (judged board challenge reply))

@@ -1,27 +1,26 @@
 // The verdict on a board, a challenge and a reply, as whole files.
-ghost use Rattle.std.specs.Prelude.{◌≡◌, ℕ, List, Result, Ok, IfSome, IfOk};
-ghost use Rattle.std.specs.FinMap as map;
+ghost use Rattle.std.specs.Prelude.{◌≡◌, ℕ, Result, Ok, IfSome, IfOk};
 ghost use Rattle.vk_io.specs.Faults.{Causes};
-ghost use Rattle.vk_io.specs.Files.{Files};
-ghost use Rattle.vk_lines.specs.Lines.{OnlyReads, Rest, Starts, rest_of};
-ghost use Rattle.vk_lines.specs.Gives.{Gives as ReadGives};
+ghost use Rattle.vk_lines.specs.Lines.{OnlyReads, Rest};
+ghost use Rattle.vk_lines.specs.Gives.{Gives};
 ghost use Rattle.vk_board.specs.Fronts.{FrontFault, IsFront, fault_of};
 ghost use Rattle.vk_verifier.specs.declared.answers.Fault.{Fault};
 ghost use Rattle.vk_verifier.specs.declared.answers.BoardVerdict.{BoardVerdict};
 ghost use Rattle.vk_verifier.specs.Behind.{Judges};
 ghost use Rattle.vk_verifier.specs.Parts.{behind_in_parts};
-ghost use Rattle.vk_verifier.specs.Verdicts.{Gives, begun, in_board, in_front, judged, plan_of, statement_of, verdict_by, verdict_on};
-ghost use Rattle.vk_verifier.specs.Answers.{begun_answer, board_answer, front_answer, verdict_answer};
+ghost use Rattle.vk_verifier.specs.Verdicts.{in_board, in_front, judged, of_begun, plan_of, statement_of, unread_file, verdict_by, verdict_on};
+ghost use Rattle.vk_verifier.specs.Answers.{board_answer, front_answer, verdict_answer};
 
 use crate::answers::{BoardVerdict, Fault, Part, VErr};
 use crate::halt::Halt;
 use crate::judging::judge_behind;
-use crate::stage::Pair;
+use crate::named::{AttemptNames, begin_attempt};
+use crate::stage::Attempt;
 use crate::statement::Statement;
 use std::alloc::Global;
 use vk_board::{Front, FrontErr, read_front};
 use vk_io::Shelf;
-use vk_lines::{Lines, ReadErr, StartErr};
+use vk_lines::ReadErr;
 use vk_plan::{Circuit, Plan};
 use vk_residue::NoMemory;
 use vk_vickrey::{VickreyOutcome, VickreyPlan};
@@ -30,7 +29,7 @@ use vk_vickrey::{VickreyOutcome, VickreyPlan};
 pub fn in_front<X>(read: Result<X, FrontErr>) -> Result<X, Halt<BoardVerdict>>
     ensures exact { result ≡ front_answer read }
     ensures judged { (rest : Rest) (expected : Result (X × Rest) FrontFault)
-        → ReadGives fault_of (λ x. (x, rest)) read expected → Judges (λ x. (x, rest)) result (in_front expected) }
+        → Gives fault_of (λ x. (x, rest)) read expected → Judges (λ x. (x, rest)) result (in_front expected) }
     ensures value { IfOk result (λ x. read ≡ Ok x) }
     ensures causes { (before : ℕ) (after : ℕ) → Causes (FrontErr.Unread ReadErr.Failed) read before after → Causes Halt.Failed result before after }
 {
@@ -99,16 +98,15 @@ fn judge_lanes<S: Shelf>(
     alloc: Global,
     shelf: &mut S,
     front: Front,
-    challenge: &mut Lines,
-    pair: &mut Pair,
+    attempt: &mut Attempt,
 ) -> Result<(), Halt<Fault>>
     requires { IsFront front }
     ensures told { IfSome (S.held shelf.old) (λ files. Judges (λ done. done) result
-        (behind_in_parts (statement_of front) (rest_of pair.old.board files) (rest_of challenge.old files) (rest_of pair.old.reply files))) }
+        (of_begun (behind_in_parts (statement_of front)) attempt.old files)) }
     ensures shelf { OnlyReads S.held S.Shelf.faults Halt.Failed result shelf.old shelf.new }
 {
     let statement = statement_of(alloc, front)?;
-    judge_behind(alloc, shelf, &statement, challenge, pair)?;
+    judge_behind(alloc, shelf, &statement, attempt)?;
     Ok(())
 }
 
@@ -117,51 +115,22 @@ fn judge_lanes<S: Shelf>(
 fn judge<S: Shelf>(
     alloc: Global,
     shelf: &mut S,
-    challenge: &mut Lines,
-    pair: &mut Pair,
+    attempt: &mut Attempt,
 ) -> Result<(), Halt<BoardVerdict>>
-    ensures told { IfSome (S.held shelf.old) (λ files. Judges (λ done. done) result
-        (judged (rest_of pair.old.board files) (rest_of challenge.old files) (rest_of pair.old.reply files))) }
+    ensures told { IfSome (S.held shelf.old) (λ files. Judges (λ done. done) result (of_begun judged attempt.old files)) }
     ensures shelf { OnlyReads S.held S.Shelf.faults Halt.Failed result shelf.old shelf.new }
 {
-    let front = in_front(read_front(alloc, shelf, &mut pair.board))?;
-    let judged = judge_lanes(alloc, shelf, front, challenge, pair);
+    let front = in_front(read_front(alloc, shelf, &mut attempt.pair.board))?;
+    let judged = judge_lanes(alloc, shelf, front, attempt);
     let done = in_board(judged)?;
     Ok(done)
-}
-
-/// A file from its first line on, or why it was not begun.
-fn begun(part: Part, started: Result<Lines, StartErr>) -> Result<Lines, VErr>
-    ensures exact { result ≡ begun_answer part started }
-    ensures told { (files : Files) (name : List ℕ) → Starts files name started
-        → Gives (λ lines. rest_of lines files) result (begun part (map.get files name)) }
-    ensures causes { (before : ℕ) (after : ℕ) → Causes StartErr.Failed started before after → Causes VErr.Failed result before after }
-{
-    match started {
-        Ok(lines) => Ok(lines),
-        Err(StartErr::Missing) => Err(VErr::Missing(part)),
-        Err(StartErr::TooLong) => Err(VErr::TooLong(part)),
-        Err(StartErr::Failed) => Err(VErr::Failed),
-        Err(StartErr::NoMemory) => Err(VErr::NoMemory),
-    }
-}
-
-/// Begins to read the named file.
-pub fn begin<S: Shelf>(alloc: Global, shelf: &mut S, name: &str, part: Part) -> Result<Lines, VErr>
-    ensures told { IfSome (S.held shelf.old) (λ files.
-        Gives (λ lines. rest_of lines files) result (begun part (map.get files name.now))) }
-    ensures shelf { OnlyReads S.held S.Shelf.faults VErr.Failed result shelf.old shelf.new }
-{
-    let started = Lines::start(alloc, shelf, name);
-    let lines = begun(part, started);
-    lines
 }
 
 /// The verdict that judging came to.
 fn verdict_in(judged: Result<(), Halt<BoardVerdict>>) -> Result<BoardVerdict, VErr>
     ensures exact { result ≡ verdict_answer judged }
     ensures told { (expected : Result Unit BoardVerdict) → Judges (λ done. done) judged expected
-        → Gives (λ verdict. verdict) result (Ok (verdict_by expected)) }
+        → Gives unread_file (λ verdict. verdict) result (Ok (verdict_by expected)) }
     ensures causes { (before : ℕ) (after : ℕ) → Causes Halt.Failed judged before after → Causes VErr.Failed result before after }
 {
     match judged {
@@ -178,7 +147,7 @@ fn verdict_in(judged: Result<(), Halt<BoardVerdict>>) -> Result<BoardVerdict, VE
 ///
 /// Errs where a file is missing or longer than 2^30 bytes, and names the first that is; where the shelf
 /// fails; and for want of memory.
-#[tactic(auto, unfolding(crate::specs::Verdicts::verdict_on))]
+#[tactic(auto, using(crate::proofs::Attempts::verdict_begun))]
 pub fn verdict<S: Shelf>(
     alloc: Global,
     shelf: &mut S,
@@ -187,14 +156,16 @@ pub fn verdict<S: Shelf>(
     reply: &str,
 ) -> Result<BoardVerdict, VErr>
     ensures told { IfSome (S.held shelf.old) (λ files.
-        Gives (λ verdict. verdict) result (verdict_on files board.now challenge.now reply.now)) }
+        Gives unread_file (λ verdict. verdict) result (verdict_on files board.now challenge.now reply.now)) }
     ensures shelf { OnlyReads S.held S.Shelf.faults VErr.Failed result shelf.old shelf.new }
 {
-    let board = begin(alloc, shelf, board, Part::Board)?;
-    let mut challenge = begin(alloc, shelf, challenge, Part::Challenge)?;
-    let reply = begin(alloc, shelf, reply, Part::Reply)?;
-    let mut pair = Pair { board, reply };
-    let judged = judge(alloc, shelf, &mut challenge, &mut pair);
+    let names = AttemptNames {
+        file: board,
+        challenge,
+        reply,
+    };
+    let mut attempt = begin_attempt(alloc, shelf, &names)?;
+    let judged = judge(alloc, shelf, &mut attempt);
     let verdict = verdict_in(judged)?;
     Ok(verdict)
 }

@@ -1,14 +1,15 @@
 // What is judged behind a front.
-ghost use Rattle.std.specs.Prelude.{◌≡◌, ◌≤◌, ◌+◌, length, drop, OnOk, IfSome, IfOk, IfErr};
+ghost use Rattle.std.specs.Prelude.{◌≡◌, length, OnOk, IfSome, IfOk, IfErr};
 ghost use Rattle.vk_lines.specs.Lines.{OnlyReads, rest_of};
 ghost use Rattle.vk_verifier.specs.declared.answers.Fault.{Fault};
 ghost use Rattle.vk_verifier.specs.Behind.{Judges, counted, ends_judged};
-ghost use Rattle.vk_verifier.specs.Parts.{attempt_at, behind_in_parts, rest_judged};
+ghost use Rattle.vk_verifier.specs.Parts.{AreLeft, attempt_at, behind_in_parts, rest_left};
+ghost use Rattle.vk_verifier.specs.Verdicts.{of_begun};
 
 use crate::answers::{Fault, Part};
 use crate::halt::{Halt, in_part};
-use crate::lane::judge_lanes;
-use crate::stage::Pair;
+use crate::lane::judge_lane;
+use crate::stage::{Attempt, LanesLeft, Pair};
 use crate::statement::Statement;
 use std::alloc::Global;
 use vk_io::Shelf;
@@ -51,23 +52,28 @@ pub fn read_attempt<S: Shelf>(
     Ok(bits)
 }
 
-/// Judges the lanes that are left, after so many, and the ends of the file and the reply.
-#[tactic(auto, unfolding(crate::specs::Parts::rest_judged))]
+/// Judges each lane that is left for its bit of the challenge, and then the ends of the file and the reply.
 pub fn judge_rest<S: Shelf>(
     alloc: Global,
     shelf: &mut S,
-    statement: &Statement,
-    judged: u32,
-    bits: &[bool],
+    left: LanesLeft<'_>,
     pair: &mut Pair,
 ) -> Result<(), Halt<Fault>>
-    requires bits { length bits.now ≡ statement.now.lanes }
-    requires within { judged ≤ statement.now.lanes }
+    requires { AreLeft left }
     ensures told { IfSome (S.held shelf.old) (λ files. Judges (λ done. done) result
-        (rest_judged statement.now (judged + 1) (drop judged bits.now) (rest_of pair.old.board files) (rest_of pair.old.reply files))) }
+        (rest_left left.entry (rest_of pair.old.board files) (rest_of pair.old.reply files))) }
     ensures shelf { OnlyReads S.held S.Shelf.faults Halt.Failed result shelf.old shelf.new }
 {
-    judge_lanes(alloc, shelf, statement, judged, bits, pair)?;
+    let LanesLeft {
+        statement,
+        judged,
+        bits,
+    } = left;
+    let lanes = statement.lanes();
+    for index in judged..lanes {
+        let bit = bits[index as usize];
+        judge_lane(alloc, shelf, statement, index + 1, bit, pair)?;
+    }
     read_ends(shelf, pair)?;
     Ok(())
 }
@@ -78,16 +84,22 @@ pub fn judge_behind<S: Shelf>(
     alloc: Global,
     shelf: &mut S,
     statement: &Statement,
-    challenge: &mut Lines,
-    pair: &mut Pair,
+    attempt: &mut Attempt,
 ) -> Result<(), Halt<Fault>>
     ensures told { IfSome (S.held shelf.old) (λ files. Judges (λ done. done) result
-        (behind_in_parts statement.now (rest_of pair.old.board files) (rest_of challenge.old files) (rest_of pair.old.reply files))) }
+        (of_begun (behind_in_parts statement.now) attempt.old files)) }
     ensures shelf { OnlyReads S.held S.Shelf.faults Halt.Failed result shelf.old shelf.new }
 {
     let lanes = statement.lanes();
-    let bits = read_attempt(alloc, shelf, lanes, challenge, &mut pair.reply)?;
-    judge_rest(alloc, shelf, statement, 0, bits.as_slice(), pair)?;
+    let challenge = &mut attempt.challenge;
+    let reply = &mut attempt.pair.reply;
+    let bits = read_attempt(alloc, shelf, lanes, challenge, reply)?;
+    let left = LanesLeft {
+        statement,
+        judged: 0,
+        bits: bits.as_slice(),
+    };
+    judge_rest(alloc, shelf, left, &mut attempt.pair)?;
     Ok(())
 }
 

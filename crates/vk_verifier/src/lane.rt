@@ -1,10 +1,10 @@
 // What is judged of one lane.
-ghost use Rattle.std.specs.Prelude.{◌≡◌, ◌≤◌, ◌<◌, ◌+◌, ◌++◌, All, length, drop, IfSome, IfOk, OnOk, IsErrOf};
+ghost use Rattle.std.specs.Prelude.{◌≡◌, ◌≤◌, ◌<◌, ◌++◌, All, length, IfSome, IfOk, OnOk, IsErrOf};
 ghost use Rattle.vk_lines.specs.Lines.{OnlyReads, rest_of};
 ghost use Rattle.vk_row.specs.Lanes.{HasCounts, IsAccepted};
 ghost use Rattle.vk_row.specs.LaneTests.{checked_lane};
 ghost use Rattle.vk_verifier.specs.Statement.{IsStatement};
-ghost use Rattle.vk_verifier.specs.Behind.{Judges, case_of, input_coms, lane_fault, lane_judged, lanes_judged};
+ghost use Rattle.vk_verifier.specs.Behind.{Judges, case_of, input_coms, lane_fault, lane_judged};
 ghost use Rattle.vk_verifier.specs.Parts.{case_at, reply_judged, IsCase, Fits};
 
 use crate::answers::{Fault, Part};
@@ -143,7 +143,7 @@ pub fn read_checked<S: Shelf>(
 
 /// Reads the lines of the lane in the file and in the reply, and checks them.
 #[tactic(auto, using(crate::proofs::Joined::lane_parts))]
-fn judge_lane<S: Shelf>(
+pub fn judge_lane<S: Shelf>(
     alloc: Global,
     shelf: &mut S,
     statement: &Statement,
@@ -160,29 +160,5 @@ fn judge_lane<S: Shelf>(
 {
     let case = read_case(alloc, shelf, statement, lane, &mut pair.board)?;
     read_checked(alloc, shelf, statement, &case, lane, bit, &mut pair.reply)?;
-    Ok(())
-}
-
-/// Judges each lane that is left for its bit of the challenge, after so many.
-pub fn judge_lanes<S: Shelf>(
-    alloc: Global,
-    shelf: &mut S,
-    statement: &Statement,
-    judged: u32,
-    bits: &[bool],
-    pair: &mut Pair,
-) -> Result<(), Halt<Fault>>
-    requires bits { length bits.now ≡ statement.now.lanes }
-    requires within { judged ≤ statement.now.lanes }
-    ensures told { IfSome (S.held shelf.old) (λ files.
-        Judges (λ _. (rest_of pair.new.board files, rest_of pair.new.reply files)) result
-        (lanes_judged statement.now (judged + 1) (drop judged bits.now) (rest_of pair.old.board files) (rest_of pair.old.reply files))) }
-    ensures shelf { OnlyReads S.held S.Shelf.faults Halt.Failed result shelf.old shelf.new }
-{
-    let lanes = statement.lanes();
-    for index in judged..lanes {
-        let bit = bits[index as usize];
-        judge_lane(alloc, shelf, statement, index + 1, bit, pair)?;
-    }
     Ok(())
 }

@@ -8,6 +8,7 @@ mod halt;
 mod judging;
 mod lane;
 mod laws;
+mod named;
 mod stage;
 mod statement;
 mod two;
@@ -17,14 +18,17 @@ mod two_lane;
 mod two_laws;
 
 pub use answers::{BoardVerdict, Fault, Part, VErr};
-pub use boards::{begin, verdict};
+pub use boards::verdict;
 pub use halt::{Halt, in_part, known};
 pub use judging::judge_behind;
 pub use laws::{
     a_verdict_accepts_what_is_accepted, verdicts_are_given_exactly_where_they_hold,
     what_is_judged_behind_a_front_is_exact,
 };
-pub use stage::{Base, Finding, Pair, Stage, TwoLane, TwoReaders, TwoVerdict};
+pub use named::{AttemptNames, TwoReplies, begin_attempt, begin_two};
+pub use stage::{
+    Attempt, Base, Finding, Pair, Stage, TwoAttempts, TwoLane, TwoReaders, TwoVerdict,
+};
 pub use statement::Statement;
 pub use two::LaneChecker;
 pub use two_boards::{BoardCourse, TwoChecker, as_two};

@@ -38,6 +38,21 @@ pub struct Pair {
     pub reply: Lines,
 }
 
+/// The lanes that are left to judge: of which statement, after how many, and the challenge's bits of all its lanes.
+#[derive(Drop)]
+pub struct LanesLeft<'a> {
+    pub statement: &'a Statement,
+    pub judged: u32,
+    pub bits: &'a [bool],
+}
+
+/// A file, a challenge and the reply to it, each from where it is to be read on.
+#[derive(Drop)]
+pub struct Attempt {
+    pub challenge: Lines,
+    pub pair: Pair,
+}
+
 /// What was read before the first lane: the statement of the front, and the bits of both challenges.
 #[derive(Drop)]
 pub struct Base {
@@ -51,6 +66,15 @@ pub struct Base {
 pub struct TwoReaders {
     pub pair: Pair,
     pub second: Lines,
+}
+
+/// A file, a challenge and the reply to it, and another challenge and the reply to that, each from where it is to be
+/// read on.
+#[derive(Drop)]
+pub struct TwoAttempts {
+    pub first_challenge: Lines,
+    pub second_challenge: Lines,
+    pub readers: TwoReaders,
 }
 
 /// How many lanes were given, and what was found, where no lane is to be given any more.

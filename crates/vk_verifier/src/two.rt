@@ -2,7 +2,7 @@
 ghost use Rattle.std.specs.Prelude.{◌≡◌, ◌⊎◌, ◌≤◌, ◌<◌, ◌+◌, ℕ, Some, None, Result, Ok, IsSome, IsSomeAnd, IfSome, IfOk, IfErr, OnOk};
 ghost use Rattle.vk_io.specs.Faults.{Causes};
 ghost use Rattle.vk_io.specs.Files.{Files};
-ghost use Rattle.vk_lines.specs.Lines.{OnlyReads, rest_of};
+ghost use Rattle.vk_lines.specs.Lines.{OnlyReads};
 ghost use Rattle.vk_verifier.specs.declared.answers.Fault.{Fault};
 ghost use Rattle.vk_verifier.specs.declared.stage.Base.{Base};
 ghost use Rattle.vk_verifier.specs.declared.stage.Finding.{Finding};
@@ -10,18 +10,17 @@ ghost use Rattle.vk_verifier.specs.declared.stage.Stage.TheVariants.{Running};
 ghost use Rattle.vk_verifier.specs.Statement.{IsStatement};
 ghost use Rattle.vk_verifier.specs.Behind.{Judges};
 ghost use Rattle.vk_verifier.specs.Answers.{start_answer, step_answer};
-ghost use Rattle.vk_verifier.specs.Two.{GivesLane, GoesOn, Ahead, Rests, Refuses, AreAccepted, IsBase, IsTwoLane, IsCourse, IsRight, IsNextLane, IsOver, HasBase, ahead_on, ahead_by, ahead_behind, ahead_of, rests_of, finding_of, base_of, base_behind, base_in, given_of};
+ghost use Rattle.vk_verifier.specs.Two.{GivesLane, GoesOn, Ahead, Rests, Refuses, AreAccepted, IsBase, IsTwoLane, IsCourse, IsRight, IsNextLane, IsOver, HasBase, ahead_on, ahead_by, ahead_behind, ahead_of, of_two, rests_of, finding_of, base_of, base_behind, base_in, given_of};
 
 use crate::answers::Fault;
 use crate::halt::Halt;
-use crate::stage::{Base, Course, Finding, Stage, TwoLane, TwoReaders};
+use crate::stage::{Base, Course, Finding, Stage, TwoAttempts, TwoLane, TwoReaders};
 use crate::statement::Statement;
 use crate::two_halt::TwoHalt;
 use crate::two_lane::{begin_lanes, next_step};
 use std::alloc::Global;
 use std::marker::Model;
 use vk_io::{OutsideErr, Shelf};
-use vk_lines::Lines;
 
 /// Reads what stands behind a front, a challenge and the reply to it, and another challenge and the
 /// reply to that, lane by lane. A lane is given where both replies are accepted so far. Once no
@@ -49,27 +48,25 @@ impl LaneChecker {
         alloc: Global,
         shelf: &mut S,
         statement: Statement,
-        first_challenge: Lines,
-        second_challenge: Lines,
-        readers: TwoReaders,
+        two: TwoAttempts,
     ) -> Result<LaneChecker, OutsideErr>
-        ensures told { IfSome (S.held shelf.old) (λ files. IfOk result (λ checker. ahead_of checker files ≡
-            ahead_behind statement (rest_of readers.pair.board files) (rest_of first_challenge files) (rest_of readers.pair.reply files) (rest_of second_challenge files) (rest_of readers.second files))) }
-        ensures base { IfSome (S.held shelf.old) (λ files. IfOk result (λ checker. base_of checker ≡
-            base_in (base_behind statement (rest_of readers.pair.board files) (rest_of first_challenge files) (rest_of readers.pair.reply files) (rest_of second_challenge files) (rest_of readers.second files)))) }
+        ensures told { IfSome (S.held shelf.old) (λ files. IfOk result (λ checker. ahead_of checker files ≡ of_two (ahead_behind statement) two files)) }
+        ensures base { IfSome (S.held shelf.old) (λ files. IfOk result (λ checker. base_of checker ≡ base_in (of_two (base_behind statement) two files))) }
         ensures statement { IfOk result (λ checker. IfSome (base_of checker) (λ base. base.statement ≡ statement)) }
         ensures none_given { IfOk result (λ checker. given_of checker ≡ 0) }
         ensures shelf { OnlyReads S.held S.Shelf.faults OutsideErr.Failed result shelf.old shelf.new }
     {
-        let mut first = first_challenge;
-        let mut second = second_challenge;
-        let mut readers = readers;
+        let TwoAttempts {
+            mut first_challenge,
+            mut second_challenge,
+            mut readers,
+        } = two;
         let base = begin_lanes(
             alloc,
             shelf,
             statement,
-            &mut first,
-            &mut second,
+            &mut first_challenge,
+            &mut second_challenge,
             &mut readers,
         );
         let checker = checker_on(base, readers);

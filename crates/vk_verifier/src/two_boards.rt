@@ -1,26 +1,27 @@
 // Two replies to a board, side by side.
 ghost use Rattle.std.specs.Prelude.{◌≡◌, ℕ, Some, None, Result, Ok, Err, IsSomeAnd, IfSome, IfOk};
 ghost use Rattle.vk_io.specs.Faults.{Causes};
-ghost use Rattle.vk_lines.specs.Lines.{OnlyReads, Rest, rest_of};
+ghost use Rattle.vk_lines.specs.Lines.{OnlyReads, Rest};
+ghost use Rattle.vk_lines.specs.Gives.{Gives};
 ghost use Rattle.vk_board.specs.declared.front.Front.{Front};
 ghost use Rattle.vk_board.specs.Fronts.{IsFront};
 ghost use Rattle.vk_verifier.specs.declared.answers.BoardVerdict.{BoardVerdict};
 ghost use Rattle.vk_verifier.specs.declared.two_boards.BoardStage.TheVariants.{Behind};
 ghost use Rattle.vk_verifier.specs.Behind.{Judges};
-ghost use Rattle.vk_verifier.specs.Verdicts.{Gives, plan_of};
-ghost use Rattle.vk_verifier.specs.Two.{AreAccepted, IsNextLane, IsOver, given_of};
+ghost use Rattle.vk_verifier.specs.Verdicts.{plan_of, unread_file};
+ghost use Rattle.vk_verifier.specs.Two.{AreAccepted, IsNextLane, IsOver, given_of, of_two};
 ghost use Rattle.vk_verifier.specs.TwoBoards.{BoardGoesOn, HasFrontRead, IsBoardCourse, IsBoardOver, IsNextOfBoard, ahead_at, ahead_past, as_two, base_at, base_on, base_past, board_ahead, board_base, board_finding, board_given, course_or, two_on};
 
-use crate::answers::{BoardVerdict, Fault, Part, VErr};
-use crate::boards::{begin, in_front, statement_of};
+use crate::answers::{BoardVerdict, Fault, VErr};
+use crate::boards::{in_front, statement_of};
 use crate::halt::{Halt, known};
-use crate::stage::{Finding, Pair, TwoLane, TwoReaders, TwoVerdict};
+use crate::named::{TwoReplies, begin_two};
+use crate::stage::{Finding, TwoAttempts, TwoLane, TwoVerdict};
 use crate::two::LaneChecker;
 use std::alloc::Global;
 use std::marker::Model;
 use vk_board::{Front, Head, read_front};
 use vk_io::{OutsideErr, Shelf};
-use vk_lines::Lines;
 use vk_plan::Plan;
 
 /// A board whose lanes are read beside two replies: its head, the place of the winner's seal, from
@@ -63,7 +64,7 @@ impl TwoChecker {
     /// Begins the files, and reads the board before its first lane, both challenges and the heads
     /// of both replies. Errs where a file is missing or longer than 2^30 bytes, and names the first
     /// that is, in the order of the names; where the shelf fails; and for want of memory.
-    #[tactic(auto, unfolding(crate::specs::TwoBoards::two_on, crate::specs::TwoBoards::base_on))]
+    #[tactic(auto, using(crate::proofs::Attempts::two_on_begun, crate::proofs::Attempts::base_on_begun))]
     pub fn start<S: Shelf>(
         alloc: Global,
         shelf: &mut S,
@@ -73,24 +74,22 @@ impl TwoChecker {
         challenge2: &str,
         reply2: &str,
     ) -> Result<TwoChecker, VErr>
-        ensures told { IfSome (S.held shelf.old) (λ files. Gives (λ checker. board_ahead checker files) result
+        ensures told { IfSome (S.held shelf.old) (λ files. Gives unread_file (λ checker. board_ahead checker files) result
             (two_on files board.now challenge1.now reply1.now challenge2.now reply2.now)) }
-        ensures base { IfSome (S.held shelf.old) (λ files. Gives (λ checker. board_base checker) result
+        ensures base { IfSome (S.held shelf.old) (λ files. Gives unread_file (λ checker. board_base checker) result
             (base_on files board.now challenge1.now reply1.now challenge2.now reply2.now)) }
         ensures none_given { IfOk result (λ checker. board_given checker ≡ 0) }
         ensures shelf { OnlyReads S.held S.Shelf.faults VErr.Failed result shelf.old shelf.new }
     {
-        let board = begin(alloc, shelf, board, Part::Board)?;
-        let first_challenge = begin(alloc, shelf, challenge1, Part::Challenge)?;
-        let first = begin(alloc, shelf, reply1, Part::Reply)?;
-        let second_challenge = begin(alloc, shelf, challenge2, Part::SecondChallenge)?;
-        let second = begin(alloc, shelf, reply2, Part::SecondReply)?;
-        let pair = Pair {
+        let names = TwoReplies {
             board,
-            reply: first,
+            challenge1,
+            reply1,
+            challenge2,
+            reply2,
         };
-        let readers = TwoReaders { pair, second };
-        let checker = begin_checker(alloc, shelf, first_challenge, second_challenge, readers)?;
+        let two = begin_two(alloc, shelf, &names)?;
+        let checker = begin_checker(alloc, shelf, two)?;
         Ok(checker)
     }
 
@@ -183,32 +182,21 @@ impl TwoChecker {
 fn begin_checker<S: Shelf>(
     alloc: Global,
     shelf: &mut S,
-    first_challenge: Lines,
-    second_challenge: Lines,
-    readers: TwoReaders,
+    two: TwoAttempts,
 ) -> Result<TwoChecker, OutsideErr>
-    ensures told { IfSome (S.held shelf.old) (λ files. IfOk result (λ checker. board_ahead checker files ≡
-        ahead_at (rest_of readers.pair.board files) (rest_of first_challenge files) (rest_of readers.pair.reply files) (rest_of second_challenge files) (rest_of readers.second files))) }
-    ensures base { IfSome (S.held shelf.old) (λ files. IfOk result (λ checker. board_base checker ≡
-        base_at (rest_of readers.pair.board files) (rest_of first_challenge files) (rest_of readers.pair.reply files) (rest_of second_challenge files) (rest_of readers.second files))) }
+    ensures told { IfSome (S.held shelf.old) (λ files. IfOk result (λ checker. board_ahead checker files ≡ of_two ahead_at two files)) }
+    ensures base { IfSome (S.held shelf.old) (λ files. IfOk result (λ checker. board_base checker ≡ of_two base_at two files)) }
     ensures none_given { IfOk result (λ checker. board_given checker ≡ 0) }
     ensures shelf { OnlyReads S.held S.Shelf.faults OutsideErr.Failed result shelf.old shelf.new }
 {
-    let mut readers = readers;
-    let read = in_front(read_front(alloc, shelf, &mut readers.pair.board));
+    let mut two = two;
+    let read = in_front(read_front(alloc, shelf, &mut two.readers.pair.board));
     match known(read)? {
         Err(verdict) => Ok(TwoChecker {
             stage: BoardStage::Refused(verdict),
         }),
         Ok(front) => {
-            let checker = begin_behind(
-                alloc,
-                shelf,
-                front,
-                first_challenge,
-                second_challenge,
-                readers,
-            )?;
+            let checker = begin_behind(alloc, shelf, front, two)?;
             Ok(checker)
         }
     }
@@ -219,29 +207,18 @@ fn begin_behind<S: Shelf>(
     alloc: Global,
     shelf: &mut S,
     front: Front,
-    first_challenge: Lines,
-    second_challenge: Lines,
-    readers: TwoReaders,
+    two: TwoAttempts,
 ) -> Result<TwoChecker, OutsideErr>
     requires { IsFront front }
-    ensures told { IfSome (S.held shelf.old) (λ files. IfOk result (λ checker. board_ahead checker files ≡
-        ahead_past (Ok (front, rest_of readers.pair.board files)) (rest_of first_challenge files) (rest_of readers.pair.reply files) (rest_of second_challenge files) (rest_of readers.second files))) }
-    ensures base { IfSome (S.held shelf.old) (λ files. IfOk result (λ checker. board_base checker ≡
-        base_past (Ok (front, rest_of readers.pair.board files)) (rest_of first_challenge files) (rest_of readers.pair.reply files) (rest_of second_challenge files) (rest_of readers.second files))) }
+    ensures told { IfSome (S.held shelf.old) (λ files. IfOk result (λ checker. board_ahead checker files ≡ of_two (λ board. ahead_past (Ok (front, board))) two files)) }
+    ensures base { IfSome (S.held shelf.old) (λ files. IfOk result (λ checker. board_base checker ≡ of_two (λ board. base_past (Ok (front, board))) two files)) }
     ensures none_given { IfOk result (λ checker. board_given checker ≡ 0) }
     ensures shelf { OnlyReads S.held S.Shelf.faults OutsideErr.Failed result shelf.old shelf.new }
 {
     let head = front.head;
     let position = front.position;
     let statement = statement_of(alloc, front)?;
-    let lanes = LaneChecker::begin(
-        alloc,
-        shelf,
-        statement,
-        first_challenge,
-        second_challenge,
-        readers,
-    )?;
+    let lanes = LaneChecker::begin(alloc, shelf, statement, two)?;
     let course = BoardCourse {
         head,
         position,
@@ -266,12 +243,9 @@ fn next_in<S: Shelf>(
     ensures base { IfOk result (λ next. board_base (Behind next.0) ≡ board_base (Behind course)) }
     ensures shelf { OnlyReads S.held S.Shelf.faults OutsideErr.Failed result shelf.old shelf.new }
 {
-    let BoardCourse {
-        head,
-        position,
-        lanes,
-    } = course;
-    let (lanes, lane) = lanes.next_lane(alloc, shelf)?;
+    let head = course.head;
+    let position = course.position;
+    let (lanes, lane) = course.lanes.next_lane(alloc, shelf)?;
     let course = BoardCourse {
         head,
         position,

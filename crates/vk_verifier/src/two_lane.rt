@@ -4,14 +4,14 @@ ghost use Rattle.vk_lines.specs.Lines.{OnlyReads, rest_of, end_at};
 ghost use Rattle.vk_row.specs.Lanes.{IsAccepted};
 ghost use Rattle.vk_verifier.specs.Statement.{IsStatement};
 ghost use Rattle.vk_verifier.specs.Behind.{Judges, in_part};
-ghost use Rattle.vk_verifier.specs.Parts.{reply_judged, attempt_at, rest_judged, Fits};
+ghost use Rattle.vk_verifier.specs.Parts.{reply_judged, attempt_at, rest_judged, rest_left, AreLeft, Fits};
 ghost use Rattle.vk_verifier.specs.Two.{IsFound, GivesLane, Refuses, of_second, two_lane_at, base_behind, second_begun, ends_found, accepted_of, ahead_on, rests_of, IsBase, IsTwoLane};
 
 use crate::answers::{Fault, Part};
 use crate::halt::{Halt, in_part};
 use crate::judging::{judge_rest, read_attempt, read_ends};
 use crate::lane::{read_case, read_checked};
-use crate::stage::{Base, Pair, TwoLane, TwoReaders};
+use crate::stage::{Base, LanesLeft, Pair, TwoLane, TwoReaders};
 use crate::statement::Statement;
 use crate::two_halt::{TwoHalt, accepted_of, found_by, is_refused, of_first, of_second};
 use std::alloc::Global;
@@ -21,20 +21,17 @@ use vk_row::LaneCase;
 use vk_seq::Seq;
 use vk_wire::Shown;
 
-/// Judges the first reply to its end, after so many lanes, where that is asked for.
+/// Judges the lanes of the first reply that are left, to its end, where that is asked for.
 pub fn judge_on<S: Shelf>(
     alloc: Global,
     shelf: &mut S,
-    statement: &Statement,
     asked: bool,
-    judged: u32,
-    bits: &[bool],
+    left: LanesLeft<'_>,
     pair: &mut Pair,
 ) -> Result<(), Halt<Fault>>
-    requires bits { length bits.now ≡ statement.now.lanes }
-    requires within { judged ≤ statement.now.lanes }
+    requires { AreLeft left }
     ensures told { IfSome (S.held shelf.old) (λ files. IsTrue asked → Judges (λ done. done) result
-        (rest_judged statement.now (judged + 1) (drop judged bits.now) (rest_of pair.old.board files) (rest_of pair.old.reply files))) }
+        (rest_left left.entry (rest_of pair.old.board files) (rest_of pair.old.reply files))) }
     ensures kept { IsFalse asked → pair.new ≡ pair.old }
     ensures idle { IsFalse asked → IsOk result }
     ensures shelf { OnlyReads S.held S.Shelf.faults Halt.Failed result shelf.old shelf.new }
@@ -42,7 +39,7 @@ pub fn judge_on<S: Shelf>(
     if !asked {
         return Ok(());
     }
-    judge_rest(alloc, shelf, statement, judged, bits, pair)?;
+    judge_rest(alloc, shelf, left, pair)?;
     Ok(())
 }
 
@@ -78,9 +75,12 @@ fn read_second<S: Shelf>(
         &mut readers.second,
     );
     let asked = is_refused(&judged);
-    let bits = base.first_bits.as_slice();
-    let pair = &mut readers.pair;
-    let first = judge_on(alloc, shelf, &base.statement, asked, lane, bits, pair);
+    let left = LanesLeft {
+        statement: &base.statement,
+        judged: lane,
+        bits: base.first_bits.as_slice(),
+    };
+    let first = judge_on(alloc, shelf, asked, left, &mut readers.pair);
     let second = of_second(first, judged);
     second
 }
@@ -215,8 +215,12 @@ fn begin_second<S: Shelf>(
     let lanes = statement.lanes();
     let attempt = read_attempt(alloc, shelf, lanes, challenge, &mut readers.second);
     let asked = is_refused(&attempt);
-    let pair = &mut readers.pair;
-    let first = judge_on(alloc, shelf, statement, asked, 0, first_bits, pair);
+    let left = LanesLeft {
+        statement,
+        judged: 0,
+        bits: first_bits,
+    };
+    let first = judge_on(alloc, shelf, asked, left, &mut readers.pair);
     let second = of_second(first, attempt);
     second
 }

@@ -3,7 +3,7 @@ ghost use Rattle.std.specs.Prelude.{◌≡◌, ◌<◌, ◌≤◌, IfOk};
 ghost use Rattle.vk_plan.specs.Plans.{Holds};
 ghost use Rattle.vk_form_tests.specs.Sums.{SumTo};
 
-use crate::{SumHead, SumPlan, head_text};
+use crate::{SumHead, SumPlan};
 use std::alloc::Global;
 use std::test::Fail;
 use vk_board::{LaneLines, SealLines, lane_text, seal_lines_text};
@@ -78,7 +78,7 @@ fn put_front(alloc: Global, shelf: &mut MemShelf, total: u64) -> Result<Seq<Secr
         auction: AUCTION,
         total,
     };
-    shelf.append("file", head_text(alloc, &head)?.as_slice())?;
+    shelf.append("file", head.text(alloc)?.as_slice())?;
     let mut secrets = Seq::new(alloc);
     for (seat, number) in [(1, 7), (2, 0), (3, 5)] {
         let mut words = ChaChaWords::of(&[seat as u8; 32], &AUCTION, 0);

@@ -2,9 +2,9 @@
 use super::files::{NUMBERS, shelf_of_files};
 use crate::{extract, judge};
 use std::test::Fail;
-use vk_bids::{LaneBids, LaneExtraction, TwoReplies};
+use vk_bids::{Extraction, LaneBids};
 use vk_io::MemShelf;
-use vk_verifier::{Fault, Part};
+use vk_verifier::{AttemptNames, Fault, Part, TwoReplies};
 use vk_wire::WireFault;
 
 /// Whether the lane opens these numbers, in the order of the seals.
@@ -16,12 +16,21 @@ fn opens(lane: &LaneBids, numbers: &[u64]) -> bool {
         .eq(numbers.iter().copied())
 }
 
+/// The names of these files.
+fn named<'a>(file: &'a str, challenge: &'a str, reply: &'a str) -> AttemptNames<'a> {
+    AttemptNames {
+        file,
+        challenge,
+        reply,
+    }
+}
+
 #[test]
 fn accepted_replies_open_the_numbers_in_both_lanes(rt: HostRuntime) -> Result<(), Fail> {
     let alloc = rt.alloc();
     let mut shelf = shelf_of_files(alloc)?;
-    assert!(rt; judge(alloc, &mut shelf, "file", "01", "to 01")?.is_ok());
-    assert!(rt; judge(alloc, &mut shelf, "file", "10", "to 10")?.is_ok());
+    assert!(rt; judge(alloc, &mut shelf, &named("file", "01", "to 01"))?.is_ok());
+    assert!(rt; judge(alloc, &mut shelf, &named("file", "10", "to 10"))?.is_ok());
     let names = TwoReplies {
         board: "file",
         challenge1: "01",
@@ -30,7 +39,7 @@ fn accepted_replies_open_the_numbers_in_both_lanes(rt: HostRuntime) -> Result<()
         reply2: "to 10",
     };
     match extract(alloc, &mut shelf, &names)? {
-        LaneExtraction::Lanes(opened) => {
+        Extraction::Bids(opened) => {
             let lanes = opened.lanes.as_slice();
             assert!(rt; lanes.len() == 2);
             assert!(rt; opens(&lanes[0], &NUMBERS) && opens(&lanes[1], &NUMBERS));
@@ -48,7 +57,7 @@ fn a_wrong_opening_is_refused_at_its_wire(rt: HostRuntime) -> Result<(), Fail> {
         wire: 3,
         fault: WireFault::Digest { second: false },
     };
-    assert!(rt; judge(rt.alloc(), &mut shelf, "file", "01", "other")? == Err(fault));
+    assert!(rt; judge(rt.alloc(), &mut shelf, &named("file", "01", "other"))? == Err(fault));
     Ok(())
 }
 
@@ -63,6 +72,6 @@ fn a_total_above_21_is_the_fault_line(rt: HostRuntime) -> Result<(), Fail> {
         part: Part::Board,
         line: 3,
     };
-    assert!(rt; judge(rt.alloc(), &mut shelf, "file", "file", "file")? == Err(fault));
+    assert!(rt; judge(rt.alloc(), &mut shelf, &named("file", "file", "file"))? == Err(fault));
     Ok(())
 }

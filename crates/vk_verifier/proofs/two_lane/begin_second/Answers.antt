@@ -10,4 +10,4 @@ returns-clause-told g c =
     (λ files. rest_judged c.args.statement.now 1 c.args.first_bits.now (rest_of c.args.readers.now.pair.board files) (rest_of c.args.readers.now.pair.reply files))
     (λ files. attempt_at c.args.statement.now.lanes (rest_of c.args.challenge.now files) (rest_of c.args.readers.now.second files))
     (λ files. rest_of c.read_attempt-attempt.new.reply files)
-    c.read_attempt-attempt.ensures.shelf.held c.is_refused-asked.ensures c.of_second-second.ensures.found (search rules) (search rules)
+    c.read_attempt-attempt.ensures.shelf.held c.is_refused-asked.ensures c.of_second-second.ensures.found (search rules) c.judge_on-first.ensures.told

@@ -6,7 +6,7 @@ use Rattle.vk_verifier.specs.Statement.{StatementValue}
 use Rattle.vk_verifier.specs.Two.{ahead_of, base_of}
 use Rattle.vk_bids.specs.Extraction.{extraction_with}
 use Rattle.vk_bids.proofs.Boards.{board_extraction, of_front, same_statement}
-use Rattle.vk_bids.proofs.extraction.extract_behind.Goals as goal
+use Rattle.vk_bids.proofs.extraction.extract_course.Goals as goal
 
 pub with_front-extraction-requires-clause-front : goal.with_front-extraction-requires-clause-front
 with_front-extraction-requires-clause-front g c =

@@ -1,0 +1,104 @@
+// Files by their names, each from its first line on.
+ghost use Rattle.std.specs.Prelude.{◌≡◌, ℕ, List, IfSome};
+ghost use Rattle.std.specs.FinMap as map;
+ghost use Rattle.vk_io.specs.Faults.{Causes};
+ghost use Rattle.vk_io.specs.Files.{Files};
+ghost use Rattle.vk_lines.specs.Lines.{OnlyReads, Starts, rest_of};
+ghost use Rattle.vk_lines.specs.Gives.{Gives};
+ghost use Rattle.vk_verifier.specs.Verdicts.{begun, of_attempt, of_begun, three_rests, unread_file};
+ghost use Rattle.vk_verifier.specs.Two.{of_two};
+ghost use Rattle.vk_verifier.specs.TwoBoards.{five_rests, named_rests};
+ghost use Rattle.vk_verifier.specs.Answers.{begun_answer};
+
+use crate::answers::{Part, VErr};
+use crate::stage::{Attempt, Pair, TwoAttempts, TwoReaders};
+use std::alloc::Global;
+use vk_io::Shelf;
+use vk_lines::{Lines, StartErr};
+
+/// The names of a file, of a challenge and of the reply to it.
+#[derive(Clone, Copy, Debug)]
+pub struct AttemptNames<'a> {
+    pub file: &'a str,
+    pub challenge: &'a str,
+    pub reply: &'a str,
+}
+
+/// The names of the files of a board, and of two challenges with the replies to them.
+#[derive(Clone, Copy, Debug)]
+pub struct TwoReplies<'a> {
+    pub board: &'a str,
+    pub challenge1: &'a str,
+    pub reply1: &'a str,
+    pub challenge2: &'a str,
+    pub reply2: &'a str,
+}
+
+/// A file from its first line on, or why it was not begun.
+fn begun(part: Part, started: Result<Lines, StartErr>) -> Result<Lines, VErr>
+    ensures exact { result ≡ begun_answer part started }
+    ensures told { (files : Files) (name : List ℕ) → Starts files name started
+        → Gives unread_file (λ lines. rest_of lines files) result (begun part (map.get files name)) }
+    ensures causes { (before : ℕ) (after : ℕ) → Causes StartErr.Failed started before after → Causes VErr.Failed result before after }
+{
+    match started {
+        Ok(lines) => Ok(lines),
+        Err(StartErr::Missing) => Err(VErr::Missing(part)),
+        Err(StartErr::TooLong) => Err(VErr::TooLong(part)),
+        Err(StartErr::Failed) => Err(VErr::Failed),
+        Err(StartErr::NoMemory) => Err(VErr::NoMemory),
+    }
+}
+
+/// Begins to read the named file.
+fn begin<S: Shelf>(alloc: Global, shelf: &mut S, name: &str, part: Part) -> Result<Lines, VErr>
+    ensures told { IfSome (S.held shelf.old) (λ files.
+        Gives unread_file (λ lines. rest_of lines files) result (begun part (map.get files name.now))) }
+    ensures shelf { OnlyReads S.held S.Shelf.faults VErr.Failed result shelf.old shelf.new }
+{
+    let started = Lines::start(alloc, shelf, name);
+    let lines = begun(part, started);
+    lines
+}
+
+/// Begins to read a file, a challenge and the reply to it. Errs where one is missing or longer than 2^30 bytes, and
+/// names the first that is; where the shelf fails; and for want of memory.
+pub fn begin_attempt<S: Shelf>(
+    alloc: Global,
+    shelf: &mut S,
+    names: &AttemptNames<'_>,
+) -> Result<Attempt, VErr>
+    ensures told { IfSome (S.held shelf.old) (λ files. Gives unread_file (λ attempt. of_begun three_rests attempt files) result
+        (of_attempt three_rests files names.now.file.now names.now.challenge.now names.now.reply.now)) }
+    ensures shelf { OnlyReads S.held S.Shelf.faults VErr.Failed result shelf.old shelf.new }
+{
+    let board = begin(alloc, shelf, names.file, Part::Board)?;
+    let challenge = begin(alloc, shelf, names.challenge, Part::Challenge)?;
+    let reply = begin(alloc, shelf, names.reply, Part::Reply)?;
+    let pair = Pair { board, reply };
+    Ok(Attempt { challenge, pair })
+}
+
+/// Begins to read a file, a challenge and the reply to it, and another challenge and the reply to that. Errs as for one
+/// challenge.
+pub fn begin_two<S: Shelf>(
+    alloc: Global,
+    shelf: &mut S,
+    names: &TwoReplies<'_>,
+) -> Result<TwoAttempts, VErr>
+    ensures told { IfSome (S.held shelf.old) (λ files. Gives unread_file (λ two. of_two five_rests two files) result (named_rests files names.now)) }
+    ensures shelf { OnlyReads S.held S.Shelf.faults VErr.Failed result shelf.old shelf.new }
+{
+    let board = begin(alloc, shelf, names.board, Part::Board)?;
+    let first_challenge = begin(alloc, shelf, names.challenge1, Part::Challenge)?;
+    let reply = begin(alloc, shelf, names.reply1, Part::Reply)?;
+    let second_challenge = begin(alloc, shelf, names.challenge2, Part::SecondChallenge)?;
+    let second = begin(alloc, shelf, names.reply2, Part::SecondReply)?;
+    let pair = Pair { board, reply };
+    let readers = TwoReaders { pair, second };
+    Ok(TwoAttempts {
+        first_challenge,
+        second_challenge,
+        readers,
+    })
+}
