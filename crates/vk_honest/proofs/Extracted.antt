@@ -18,7 +18,7 @@ use Rattle.vk_verifier.specs.Acceptance.{bit_of}
 use Rattle.vk_bids.specs.declared.bids.LaneBids.{LaneBids}
 use Rattle.vk_bids.specs.declared.bids.OpenedBid.{OpenedBid}
 use Rattle.vk_bids.specs.declared.extraction.Extracted.{Extracted}
-use Rattle.vk_bids.specs.declared.extraction.Extraction.{Extraction}
+use Rattle.vk_bids.specs.Extraction.{Extraction}
 use Rattle.vk_bids.specs.declared.extraction.Extraction.TheVariants.{Bids, Clash, Refused, Same}
 use Rattle.vk_bids.specs.Gathering.{shown_for}
 use Rattle.vk_bids.specs.Headline.{IsExtraction, IsOf, LaneAgrees, TwoAccepted, differing, shown_of}

@@ -57,8 +57,8 @@ unfolding head_text
 head_has head is =
     both_have (line_has (fixed_line (codes "vickrey-board 1") refl (omega arith)) tt tt)
     (both_have (line_has (id_line_is (codes "auction") refl (omega arith)) head.auction is.id)
-    (both_have (number_has (codes "width") 1 40 head.width refl (omega arith) (omega arith) is.some_width is.last_width)
-    (both_have (number_has (codes "lanes") 1 64 head.lanes refl (omega arith) (omega arith) is.some_lane is.few_lanes)
+    (both_have (number_has (codes "width") 1 40 head.width refl (omega arith) (omega arith) is.size.width.least is.size.width.most)
+    (both_have (number_has (codes "lanes") 1 64 head.lanes refl (omega arith) (omega arith) is.size.lanes.least is.size.lanes.most)
     (both_have (number_has (codes "seals") 1 64 head.seals refl (omega arith) (omega arith) is.some_seal is.few_seals)
     (both_have (number_has (codes "winner") 1 65535 head.winner refl (omega arith) (omega arith) is.some_winner is.last_winner)
     (number_has (codes "price") 0 (2 ^ 64 - 1) head.price refl (omega arith) (omega arith) (omega arith) (omega (arith, is.price))))))))
@@ -99,7 +99,7 @@ board_has shape board is =
     (λ before seal after. seal_has head.lanes seal after.right) [] board.seals is.seals.each in
     let lanes = numbered_have {IsValue = λ before. IsLane} lane_text lane 64
     (λ before. lane_has (shape head).wires (shape head).rows (length before + 1)) [] board.lanes
-    (omega (arith, is.count, is.head.few_lanes)) (each_from_all IsLane [] board.lanes is.lanes) in
+    (omega (arith, is.count, is.head.size.lanes.most)) (each_from_all IsLane [] board.lanes is.lanes) in
     let seal_lines : length board.seals * (1 + head.lanes) ≡ head.seals * (1 + head.lanes) = ap (λ n. n * (1 + head.lanes)) is.seals.count in
     let lane_lines : length board.lanes * lane ≡ head.lanes * lane = ap (λ n. n * lane) is.count in
     lines_as (7 + (length board.seals * (1 + head.lanes) + (length board.lanes * lane + 1))) (7 + head.seals * (1 + head.lanes) + head.lanes * lane + 1) _
@@ -137,9 +137,9 @@ reply_has kinds bit_of lanes is =
     let P : ℕ → Type 0 = λ n. IsLane n shown in
     subst P same (is.each index shown at)) in
     let shown = numbered_have {IsValue = λ before. IsLane (length before)} reply_lane_text (1 + length kinds) 64
-    (λ before. shown_has kinds (bit_of (length before + 1)) (length before + 1)) [] lanes (omega (arith, is.few_lanes)) each in
+    (λ before. shown_has kinds (bit_of (length before + 1)) (length before + 1)) [] lanes (omega (arith, is.count.most)) each in
     lines_as (2 + (length lanes * (1 + length kinds) + 1)) (2 + length lanes * (1 + length kinds) + 1) _
-    (both_have (reply_head_has (length lanes) is.some_lane is.few_lanes) (both_have shown end_has)) (omega arith)
+    (both_have (reply_head_has (length lanes) is.count.least is.count.most) (both_have shown end_has)) (omega arith)
 
 -- ---- those of an auction
 
@@ -198,7 +198,7 @@ short_text count text has few = omega (arith, has.short)
 pub boards_are_short : WhereProved (λ auction. IsShort (board_of auction))
 boards_are_short auction proved =
     let right = proved.right in
-    short_text _ _ (board_lines_are auction proved) (few_board_lines (length auction.seals) auction.width auction.lanes right.few_seals right.last_width right.few_lanes)
+    short_text _ _ (board_lines_are auction proved) (few_board_lines (length auction.seals) auction.width auction.lanes right.few_seals right.size.width.most right.size.lanes.most)
 
 pub challenges_are_short : (challenge : Challenge) → IsChallenge challenge → IsShort (challenge_text challenge)
 challenges_are_short challenge is = short_text _ _ (challenge_has challenge is) (omega arith)
@@ -206,4 +206,4 @@ challenges_are_short challenge is = short_text _ _ (challenge_has challenge is) 
 pub replies_are_short : WhereChallenged (λ auction challenge. IsShort (reply_of auction challenge))
 replies_are_short auction challenge proved is =
     let right = proved.right in
-    short_text _ _ (reply_lines_are auction proved challenge is) (few_reply_lines (length auction.seals) auction.width auction.lanes right.few_seals right.last_width right.few_lanes)
+    short_text _ _ (reply_lines_are auction proved challenge is) (few_reply_lines (length auction.seals) auction.width auction.lanes right.few_seals right.size.width.most right.size.lanes.most)

@@ -6,6 +6,7 @@ use Rattle.std.specs.FinMap.{empty, get, get-empty}
 use Rattle.std.proofs.lemmas.Bool.Decides.{Decides-eqb, nat_tests}
 use Rattle.std.proofs.lemmas.Grind.{common_steps}
 use Rattle.std.proofs.lemmas.List.Elements.{All-nil}
+use Rattle.vk_residue.specs.Limits.{IsSize}
 use Rattle.vk_commit.specs.Values.{AreBytes}
 use Rattle.vk_keeper.specs.declared.auction.Auction.{Auction}
 use Rattle.vk_keeper.specs.declared.auction.Phase.{Phase}
@@ -18,7 +19,7 @@ use Rattle.vk_keeper.proofs.Joins.{may_join}
 use Rattle.vk_keeper.proofs.Rows.{in_phase as right_in_phase}
 use Rattle.vk_house.specs.declared.errors.HouseErr.{HouseErr}
 use Rattle.vk_house.specs.declared.errors.HouseErr.TheVariants.{NoSeals}
-use Rattle.vk_house.specs.Commands.{HouseCommand, Announce, Submit, Prove, Answer, Show, id_of, IsRoom, IsHouseCommand}
+use Rattle.vk_house.specs.Commands.{HouseCommand, Announce, Submit, Prove, Answer, Show, id_of, IsHouseCommand}
 use Rattle.vk_house.specs.Replies.{HouseReply}
 use Rattle.vk_house.specs.Refusals.{refusals_of, refusal_of, house_err_of}
 use Rattle.vk_house.specs.Steps.{step_by, step_at, kept_by, opened, HouseCall}
@@ -26,13 +27,10 @@ use Rattle.vk_house.proofs.Fields.{auction_with}
 use Rattle.vk_house.proofs.Passing.{none_holds, nothing_there, test_passed}
 use Rattle.vk_house.proofs.Stepping.{value_after, call_each}
 
-opened_right : (id : List ℕ) (width lanes : ℕ) → AreBytes 16 id → IsRoom width lanes → IsAuction (opened id width lanes)
+opened_right : (id : List ℕ) (width lanes : ℕ) → AreBytes 16 id → IsSize width lanes → IsAuction (opened id width lanes)
 opened_right id width lanes bytes room = record {
   id = bytes;
-  some_width = room.some_width;
-  last_width = room.last_width;
-  some_lane = room.some_lane;
-  few_lanes = room.few_lanes;
+  size = room;
   few_seals = omega arith;
   rows = All-nil (IsSealRow id width lanes);
   seats = search (rules, common_steps);

@@ -1,5 +1,6 @@
 -- What a house is asked.
 use Rattle.std.specs.Prelude.{ℕ, ◌≤◌, List}
+use Rattle.vk_residue.specs.Limits.{IsSize}
 use Rattle.vk_commit.specs.Values.{AreBytes}
 use Rattle.vk_reply.specs.declared.challenge.Challenge.{Challenge}
 use Rattle.vk_reply.specs.Values.{IsChallenge}
@@ -23,16 +24,9 @@ id_of (Prove id seed) = id
 id_of (Answer id challenge) = id
 id_of (Show id) = id
 
--- the width and the number of lanes that an auction may have
-pub record IsRoom (width lanes : ℕ) : Type 0 where
-  pub some_width : 1 ≤ width
-  pub last_width : width ≤ 40
-  pub some_lane : 1 ≤ lanes
-  pub few_lanes : lanes ≤ 64
-
 -- what a house may be asked: ids have 16 bytes and seeds 32, and seals, secrets and challenges are such
 abbrev pub IsHouseCommand : HouseCommand → Type 0
-IsHouseCommand (Announce id width lanes) = AreBytes 16 id × IsRoom width lanes
+IsHouseCommand (Announce id width lanes) = AreBytes 16 id × IsSize width lanes
 IsHouseCommand (Submit id seal secret) = AreBytes 16 id × IsSeal seal × IsSecret secret
 IsHouseCommand (Prove id seed) = AreBytes 16 id × AreBytes 32 seed
 IsHouseCommand (Answer id challenge) = AreBytes 16 id × IsChallenge challenge

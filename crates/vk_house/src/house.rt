@@ -1,13 +1,14 @@
 ghost use Rattle.std.specs.Prelude.{◌≡◌, IfOk, IfSome, OnErr, Some};
+ghost use Rattle.vk_residue.specs.Limits.{IsSize};
 ghost use Rattle.vk_io.specs.Faults.{Causes};
 ghost use Rattle.vk_io.specs.Files.{Told};
-ghost use Rattle.vk_keeper.specs.Auctions.{IsAuction, seed_of, challenge_of};
-ghost use Rattle.vk_keeper.specs.Turns.{GetsOnce};
 ghost use Rattle.vk_reply.specs.Values.{IsChallenge};
 ghost use Rattle.vk_seal.specs.Values.{IsSeal, IsSecret};
+ghost use Rattle.vk_keeper.specs.Auctions.{IsAuction, seed_of, challenge_of};
+ghost use Rattle.vk_keeper.specs.Turns.{GetsOnce};
 ghost use Rattle.vk_house.specs.Answers.{Calls, MayReply, as_reply, work_of};
+ghost use Rattle.vk_house.specs.Commands.{Announce, Submit, Prove, Answer, Show};
 ghost use Rattle.vk_house.specs.Deciding.{KeepsAnew, MayPut};
-ghost use Rattle.vk_house.specs.Commands.{IsRoom, Announce, Submit, Prove, Answer, Show};
 ghost use Rattle.vk_house.specs.Replies.{Done, Position, Stands};
 
 use crate::errors::HouseErr;
@@ -43,7 +44,7 @@ impl<'a, K: Keeper + Drop> House<'a, K> {
         width: u32,
         lanes: u32,
     ) -> Result<(), HouseErr>
-        requires { IsRoom width lanes }
+        requires { IsSize width lanes }
         ensures call { Calls (Announce id.now width lanes) (as_reply (λ _. Done) result) (K.ledger self.old.keeper.now) (K.ledger self.new.keeper.now) }
         ensures refused { OnErr result (K.ledger self.new.keeper.now ≡ K.ledger self.old.keeper.now) }
         ensures reply { MayReply (Announce id.now width lanes) (as_reply (λ _. Done) result) }

@@ -2,10 +2,11 @@
 
 ghost use Rattle.std.specs.Prelude.{◌≡◌, ◌+◌, ◌<◌, ◌≤◌, ◌^◌, ℕ, IfSome, IfOk, IsErrOf, List, Some, length, true, false};
 ghost use Rattle.std.specs.Result.{result_err};
-ghost use Rattle.vk_keeper.specs.Auctions.{IsAuction};
+ghost use Rattle.vk_residue.specs.Limits.{IsSize};
 ghost use Rattle.vk_seal.specs.Values.{IsSeal, IsSecret};
+ghost use Rattle.vk_keeper.specs.Auctions.{IsAuction};
 ghost use Rattle.vk_house.specs.Deciding.{Decides};
-ghost use Rattle.vk_house.specs.Commands.{Announce, Submit, IsRoom};
+ghost use Rattle.vk_house.specs.Commands.{Announce, Submit};
 ghost use Rattle.vk_house.specs.Replies.{Done, Position};
 ghost use Rattle.vk_house.specs.Refusals.{not_taking};
 ghost use Rattle.vk_house.specs.Steps.{step_at};
@@ -26,7 +27,7 @@ pub fn decide_announce(
     width: u32,
     lanes: u32,
 ) -> Result<Auction, HouseErr>
-    requires { IsRoom width lanes }
+    requires { IsSize width lanes }
     ensures decided { Decides (λ auction. record { reply = Done; kept = Some auction }) result (step_at (Announce id.now width lanes) found) }
     ensures right { IfOk result IsAuction }
     ensures id { IfOk result (λ auction. auction.id ≡ id.now) }

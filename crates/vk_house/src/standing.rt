@@ -2,8 +2,8 @@
 
 ghost use Rattle.std.specs.Prelude.{◌≡◌, ℕ, IfSome, IsErrOf, List};
 ghost use Rattle.vk_keeper.specs.Auctions.{IsAuction};
-ghost use Rattle.vk_house.specs.Deciding.{Decides};
 ghost use Rattle.vk_house.specs.Commands.{Show};
+ghost use Rattle.vk_house.specs.Deciding.{Decides};
 ghost use Rattle.vk_house.specs.Replies.{standing_of, phase_name, Stands};
 ghost use Rattle.vk_house.specs.Steps.{step_at};
 

@@ -2,11 +2,11 @@
 
 ghost use Rattle.std.specs.Prelude.{◌≡◌, ◌≤◌, ℕ, IfSome, IfOk, IsErrOf, IsSome, List, None, Some, length};
 ghost use Rattle.std.specs.Result.{result_err};
-ghost use Rattle.vk_keeper.specs.Auctions.{IsAuction, seed_of, challenge_of};
 ghost use Rattle.vk_reply.specs.Values.{IsChallenge};
+ghost use Rattle.vk_keeper.specs.Auctions.{IsAuction, seed_of, challenge_of};
 ghost use Rattle.vk_job.specs.Jobs.{seed_in};
-ghost use Rattle.vk_house.specs.Deciding.{Decides, IsDecisionOn, work_step, step_of, phased};
 ghost use Rattle.vk_house.specs.Commands.{Prove, Answer};
+ghost use Rattle.vk_house.specs.Deciding.{Decides, IsDecisionOn, work_step, step_of, phased};
 ghost use Rattle.vk_house.specs.Refusals.{dry_seed, no_seals, other_seed, still_taking, other_length, other_than};
 ghost use Rattle.vk_house.specs.Steps.{step_at, phase_proved, phase_answered};
 

@@ -1,16 +1,17 @@
 -- The tape of each lane of a proof is a tape for its plan.
-use Rattle.std.proofs.Common.{◌≡◌, ℕ, zero, suc, ◌+◌, ◌-◌, ◌<◌, ◌≤◌, All, List, [], ◌∷◌, ◌++◌, length, Option, Some, None, Result, Ok, refl, sym, ap, ◌∙◌, subst, arith, inl, inr}
+use Rattle.std.proofs.Common.{◌≡◌, ℕ, zero, suc, ◌-◌, ◌<◌, ◌≤◌, All, List, ◌++◌, length, Option, Some, None, Ok, refl, sym, ap, ◌∙◌, subst, arith, inl, inr}
 use Rattle.std.specs.Prelude.{slice_index, option_map}
 use Rattle.std.specs.Int.{w64, bytes_high_first, byte_at, to_be_bytes}
 use Rattle.std.proofs.lemmas.Bool.{cases_lt}
 use Rattle.std.proofs.lemmas.Bool.Decides.{nat_tests}
-use Rattle.std.proofs.lemmas.List.{get_or_past, length-map, length_push}
-use Rattle.std.proofs.lemmas.List.Elements.{All-nil, All-cons, All-append, All-push, All-map, All-weaker, All-from_recursion}
+use Rattle.std.proofs.lemmas.List.{get_or_past, length-map}
+use Rattle.std.proofs.lemmas.List.Elements.{All-nil, All-cons, All-append, All-map, All-weaker, All-from_recursion}
 use Rattle.vk_residue.specs.Residue.{IsResidue}
 use Rattle.vk_commit.specs.Values.{AreBytes}
 use Rattle.vk_dice.specs.Words.{later}
-use Rattle.vk_dice.specs.Draws.{drawn_by, first_of, residue_within, drawn_residue, after_residue, drawn_bit, drawn_key}
+use Rattle.vk_dice.specs.Draws.{drawn_by, first_of, residue_within, drawn_residue, after_residue, drawn_key}
 use Rattle.vk_dice.specs.Stream.{word_at}
+use Rattle.vk_dice.proofs.Drawing.{drawn_each}
 use Rattle.vk_wire.specs.Values.{IsTape}
 use Rattle.vk_wire.specs.declared.wire.WireTape.{WireTape}
 use Rattle.vk_seal.specs.Made.{seal_of}
@@ -18,7 +19,7 @@ use Rattle.vk_seal.specs.Values.{IsXTape, wire_tape}
 use Rattle.vk_seal.proofs.SealsMatch.{match_exact}
 use Rattle.vk_seal.proofs.Tapes.{length-lane_coms}
 use Rattle.vk_extractor.specs.Confronting.{no_tape, tape_in}
-use Rattle.vk_prover.specs.Drawn.{drawn_tape, wires_after, drawn_wire, after_wire}
+use Rattle.vk_prover.specs.Drawn.{drawn_wire, wire_drawing, wire_with}
 use Rattle.vk_prover.specs.Laws.{IsTapeOf}
 use Rattle.vk_prover.proofs.Wires.{inputs_within}
 use Rattle.vk_keeper.specs.declared.auction.SealRow.{SealRow}
@@ -70,35 +71,13 @@ of_some f (Some x) y is = (x, refl, cc)
 
 wire_is : (ahead : ℕ → ℕ) (tape : WireTape) → drawn_wire ahead ≡ Some tape → IsTape tape
 wire_is ahead tape is =
-    let made : ℕ → WireTape = λ mask. record {
-      mask = mask;
-      swap = drawn_bit (after_residue ahead);
-      first_key = drawn_key (later 1 (after_residue ahead));
-      second_key = drawn_key (later 4 (later 1 (after_residue ahead)));
-    } in
-    let drawn = of_some made (drawn_residue ahead) tape is in
-    let right : IsTape (made drawn.0) = record {
+    let drawn = of_some (λ mask. wire_with mask (after_residue ahead)) (drawn_residue ahead) tape is in
+    let right : IsTape (wire_with drawn.0 (after_residue ahead)) = record {
       mask = residue_is 4 ahead drawn.0 drawn.1;
       first_key = key_is_bytes (later 1 (after_residue ahead));
       second_key = key_is_bytes (later 4 (later 1 (after_residue ahead)));
     } in
     subst IsTape drawn.2 right
-
--- ---- the tape of so many wires
-
-after_ok : (wire : ℕ) (rest : WireTape → Result (List WireTape) ℕ) (o : Option WireTape) (tape : List WireTape) → wires_after wire rest o ≡ Ok tape
-    → (one : WireTape) × (o ≡ Some one) × (rest one ≡ Ok tape)
-after_ok wire rest None tape is = cc
-after_ok wire rest (Some one) tape is = (one, refl, is)
-
-tape_is : (before : List WireTape) (count : ℕ) (ahead : ℕ → ℕ) (tape : List WireTape) → All IsTape before → drawn_tape before count ahead ≡ Ok tape
-    → (length tape ≡ length before + count) × All IsTape tape
-unfolding drawn_tape
-tape_is before zero ahead tape are is = let same : before ≡ tape = cc in (omega (arith, ap length same), subst (All IsTape) same are)
-tape_is before (suc count) ahead tape are is =
-    let first = after_ok (length before) (λ one. drawn_tape (before ++ one ∷ []) count (after_wire ahead)) (drawn_wire ahead) tape is in
-    let rest = tape_is (before ++ first.0 ∷ []) count (after_wire ahead) tape (All-push IsTape before first.0 are (wire_is ahead first.0 first.1)) first.2 in
-    (rest.0 ∙ omega (arith, length_push before first.0), rest.1)
 
 -- ---- the tapes of a proof
 
@@ -126,7 +105,7 @@ drawn_is_tape : (proof : ProofValue) (lane : ℕ) (tape : List WireTape) → IsP
 unfolding drawn_in
 drawn_is_tape proof lane tape right some last drawn =
     let further = length proof.plan.kinds - proof.plan.inputs in
-    let is = tape_is (given_in proof.rows lane) further (word_at proof.seed proof.id lane) tape (given_are proof.rows proof.lanes lane right.secrets some last) drawn in
+    let is = drawn_each wire_drawing IsTape wire_is (given_in proof.rows lane) further (word_at proof.seed proof.id lane) tape (given_are proof.rows proof.lanes lane right.secrets some last) drawn in
     let few = inputs_within proof.plan right.plan in
     record { one_each = is.0 ∙ omega (arith, one_given_each proof.rows lane, right.one_input_each, few); each = is.1 }
 

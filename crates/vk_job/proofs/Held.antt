@@ -59,8 +59,7 @@ case_is auction right sealed =
     record {
       some_seals = sealed;
       most_seals = right.few_seals;
-      some_width = right.some_width;
-      most_width = right.last_width;
+      wide = right.size.width;
       some_position = is.is_position.some;
       within_seals = omega (arith, is.is_position.within);
       within_width = price_within (bids_of auction) auction.width (outcome_in auction).position (outcome_in auction).price is (bids_within auction right);
@@ -79,7 +78,7 @@ case_of auction seals outcome right sealed count is = rw (count, is) (case_is au
 -- bids are residues
 pub bids_are_residues : (auction : Auction) → IsAuction auction → All IsResidue (bids_of auction)
 bids_are_residues auction right =
-    let most : 2 ^ auction.width ≤ 2 ^ 40 = pow_mono {i = auction.width} {j = 40} right.last_width in
+    let most : 2 ^ auction.width ≤ 2 ^ 40 = pow_mono {i = auction.width} {j = 40} right.size.width.most in
     All-weaker (λ bid. bid < 2 ^ auction.width) IsResidue (λ bid within. omega arith) (bids_of auction) (bids_within auction right)
 
 -- the plan is one, and the values hold for it
@@ -122,8 +121,7 @@ proof_where auction seed right sealed none =
       plan = plan_is auction right sealed;
       one_input_each = inputs_are auction;
       values = values_hold auction right sealed;
-      some_lane = right.some_lane;
-      few_lanes = right.few_lanes;
+      count = right.size.lanes;
       secrets = All-weaker (IsSealRow auction.id auction.width auction.lanes) (HasTapesFor auction.lanes)
           (λ row is. record { count = lanes_of auction.id auction.width auction.lanes row is; each = is.secret.tapes }) auction.seals right.rows;
       none_dry = none;

@@ -41,15 +41,12 @@ head_is auction right sealed =
     let winner = winner_is auction right sealed in
     record {
       id = right.id;
-      some_width = right.some_width;
-      last_width = right.last_width;
-      some_lane = right.some_lane;
-      few_lanes = right.few_lanes;
+      size = right.size;
       some_seal = sealed;
       few_seals = right.few_seals;
       some_winner = winner.0;
       last_winner = winner.1;
-      price = omega (arith, (case_is auction right sealed).within_width, pow_mono {i = auction.width} {j = 64} (omega (arith, right.last_width)));
+      price = omega (arith, (case_is auction right sealed).within_width, pow_mono {i = auction.width} {j = 64} (omega (arith, right.size.width.most)));
     }
 
 -- ---- the seals
@@ -126,8 +123,7 @@ pub reply_is : (proof : ProofValue) (challenge : Challenge) → IsProof proof �
 reply_is proof challenge is right count =
     let long = length_shown proof 1 challenge.bits in
     record {
-      some_lane = omega (arith, right.some_bit);
-      few_lanes = omega (arith, right.few_bits);
+      count = record { least = omega (arith, right.some_bit); most = omega (arith, right.few_bits) };
       each = λ index shown found.
           let within : index < length challenge.bits = omega (arith, slice_get_within (lanes_shown_from proof 1 challenge.bits) index shown found) in
           let same : lane_shown_in proof (1 + index) (slice_index_or challenge.bits index false) ≡ shown =

@@ -1,10 +1,10 @@
 -- A job as contracts see it.
 use Rattle.std.specs.Prelude.{◌≡◌, ℕ, List, refl}
-use Rattle.std.specs.Coded.{Coded, code_by, coded×, coded_ℕ}
+use Rattle.std.specs.Coded.{Coded, code_by, coded×}
 use Rattle.vk_plan.specs.Plans.{PlanValue}
 use Rattle.vk_vickrey.specs.declared.outcomes.VickreyOutcome.{VickreyOutcome}
 use Rattle.vk_keeper.specs.declared.auction.Auction.{Auction}
-use Rattle.vk_keeper.specs.Codes.{auction_code}
+use Rattle.vk_keeper.specs.Codes.{auction_code, numbers_code}
 use Rattle.vk_job.specs.Jobs.{IsProvedAuction, outcome_in, plan_of, values_of}
 
 -- an auction, and the outcome of its bids
@@ -14,9 +14,7 @@ pub record JobValue : Type 0 where
 
 -- by which proofs tell jobs apart: each as the tuple of its fields
 abbrev pub outcome_code : Coded VickreyOutcome
-outcome_code =
-    code_by (ℕ × ℕ) (coded× coded_ℕ coded_ℕ)
-    (λ o. (o.position, o.price)) (λ p. record { position = p.0; price = p.1 }) (λ _. refl)
+outcome_code = numbers_code (λ o. (o.position, o.price)) (λ p. record { position = p.0; price = p.1 }) (λ _. refl)
 
 abbrev pub job_code : Coded JobValue
 job_code =

@@ -2,6 +2,7 @@
 -- the files. Lanes count from 1, wires from 0.
 use Rattle.std.specs.Prelude.{◌≡◌, ℕ, zero, suc, ◌+◌, ◌-◌, ◌<◌, ◌≤◌, Bool, All, List, [], ◌∷◌, ◌++◌, length, map, codes, Option, Some, None, Result, Ok, Err}
 use Rattle.std.specs.List.{AllByRecursion, flat_map}
+use Rattle.vk_residue.specs.Limits.{IsLaneCount}
 use Rattle.vk_dice.specs.Stream.{word_at}
 use Rattle.vk_lines.specs.Forms.{line}
 use Rattle.vk_plan.specs.Plans.{PlanValue, IsPlan, Holds}
@@ -109,8 +110,7 @@ pub record IsProof (proof : ProofValue) : Type 0 where
   pub plan : IsPlan proof.plan
   pub one_input_each : length proof.rows ≡ proof.plan.inputs
   pub values : Holds proof.plan proof.values
-  pub some_lane : 1 ≤ proof.lanes
-  pub few_lanes : proof.lanes ≤ 64
+  pub count : IsLaneCount proof.lanes
   pub secrets : All (HasTapesFor proof.lanes) proof.rows
   pub none_dry : first_dry_in (source_of proof) ≡ None
 

@@ -1,6 +1,6 @@
 -- An auction with one more seal, and in a later phase.
 use Rattle.std.proofs.Common.{◌≡◌, ◌≢◌, ℕ, ◌<◌, ◌≤◌, List, [], ◌∷◌, ◌++◌, length, length-append, Option, Some, None, IfSome, arith}
-use Rattle.std.specs.List.{All}
+use Rattle.std.specs.List.{All, AllPairs}
 use Rattle.std.proofs.lemmas.List.Elements.{All-push}
 use Rattle.std.proofs.lemmas.List.Quantifiers.{all_pairs_push}
 use Rattle.vk_commit.specs.Values.{AreBytes}
@@ -14,38 +14,25 @@ one_seal : (seed : Option (List ℕ)) (count : ℕ) → 1 ≤ count → IfSome s
 one_seal None count some = tt
 one_seal (Some seed) count some = some
 
+-- the same auction with these seals, in that phase
+with_seals : (auction : Auction) (seals : List SealRow) (phase : Phase) → IsAuction auction
+    → length seals ≤ 64 → All (IsSealRow auction.id auction.width auction.lanes) seals → AllPairs (λ earlier later. earlier.seal.seat ≢ later.seal.seat) seals → IfSome (seed_of phase) (λ _. 1 ≤ length seals)
+    → IfSome (seed_of phase) (AreBytes 32) → IfSome (challenge_of phase) IsChallenge → IfSome (challenge_of phase) (λ challenge. length challenge.bits ≡ auction.lanes)
+    → IsAuction (record auction { seals = seals; phase = phase })
+with_seals auction seals phase is few rows seats some seed challenge bits =
+    record { id = is.id; size = is.size; few_seals = few; rows = rows; seats = seats; some_seal = some; seed = seed; challenge = challenge; bits = bits }
+
 -- a seal of the auction, at a seat that no earlier one has
 pub with_row : (auction : Auction) (row : SealRow) → IsAuction auction → length auction.seals < 64 → IsSealRow auction.id auction.width auction.lanes row → All (λ earlier. earlier.seal.seat ≢ row.seal.seat) auction.seals → IsAuction (record auction { seals = auction.seals ++ row ∷ [] })
-with_row auction row is room right seat = record {
-  id = is.id;
-  some_width = is.some_width;
-  last_width = is.last_width;
-  some_lane = is.some_lane;
-  few_lanes = is.few_lanes;
-  few_seals = omega (arith, length-append auction.seals (row ∷ []));
-  rows = All-push (IsSealRow auction.id auction.width auction.lanes) auction.seals row is.rows right;
-  seats = all_pairs_push (λ earlier later. earlier.seal.seat ≢ later.seal.seat) auction.seals row is.seats seat;
-  some_seal = one_seal (seed_of auction.phase) _ (omega (arith, length-append auction.seals (row ∷ [])));
-  seed = is.seed;
-  challenge = is.challenge;
-  bits = is.bits;
-}
+with_row auction row is room right seat =
+    with_seals auction (auction.seals ++ row ∷ []) auction.phase is (omega (arith, length-append auction.seals (row ∷ [])))
+    (All-push (IsSealRow auction.id auction.width auction.lanes) auction.seals row is.rows right)
+    (all_pairs_push (λ earlier later. earlier.seal.seat ≢ later.seal.seat) auction.seals row is.seats seat)
+    (one_seal (seed_of auction.phase) _ (omega (arith, length-append auction.seals (row ∷ [])))) is.seed is.challenge is.bits
 
 -- the same auction in a phase that has a seed, and perhaps a challenge
 pub in_phase : (auction : Auction) (phase : Phase) → IsAuction auction → 1 ≤ length auction.seals
     → IfSome (seed_of phase) (AreBytes 32) → IfSome (challenge_of phase) IsChallenge → IfSome (challenge_of phase) (λ challenge. length challenge.bits ≡ auction.lanes)
     → IsAuction (record auction { phase = phase })
-in_phase auction phase is some seed challenge bits = record {
-  id = is.id;
-  some_width = is.some_width;
-  last_width = is.last_width;
-  some_lane = is.some_lane;
-  few_lanes = is.few_lanes;
-  few_seals = is.few_seals;
-  rows = is.rows;
-  seats = is.seats;
-  some_seal = one_seal (seed_of phase) (length auction.seals) some;
-  seed = seed;
-  challenge = challenge;
-  bits = bits;
-}
+in_phase auction phase is some =
+    with_seals auction auction.seals phase is is.few_seals is.rows is.seats (one_seal (seed_of phase) (length auction.seals) some)

@@ -1,5 +1,6 @@
 -- What a house keeps of an auction: which auctions there are.
 use Rattle.std.specs.Prelude.{◌≡◌, ◌≢◌, ℕ, ◌^◌, ◌<◌, ◌≤◌, List, length, Option, Some, None, IfSome, Ok, All, AllPairs}
+use Rattle.vk_residue.specs.Limits.{IsSize}
 use Rattle.vk_commit.specs.Values.{AreBytes}
 use Rattle.vk_reply.specs.declared.challenge.Challenge.{Challenge}
 use Rattle.vk_reply.specs.Values.{IsChallenge}
@@ -35,10 +36,7 @@ pub record IsSealRow (auction : List ℕ) (width lanes : ℕ) (row : SealRow) : 
 -- phases that have them
 pub record IsAuction (auction : Auction) : Type 0 where
   pub id : AreBytes 16 auction.id
-  pub some_width : 1 ≤ auction.width
-  pub last_width : auction.width ≤ 40
-  pub some_lane : 1 ≤ auction.lanes
-  pub few_lanes : auction.lanes ≤ 64
+  pub size : IsSize auction.width auction.lanes
   pub few_seals : length auction.seals ≤ 64
   pub rows : All (IsSealRow auction.id auction.width auction.lanes) auction.seals
   pub seats : AllPairs (λ earlier later. earlier.seal.seat ≢ later.seal.seat) auction.seals

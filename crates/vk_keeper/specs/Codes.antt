@@ -10,6 +10,10 @@ use Rattle.vk_keeper.specs.declared.auction.Phase.TheVariants.{Taking, Proved, A
 use Rattle.vk_keeper.specs.declared.auction.SealRow.{SealRow}
 use Rattle.vk_keeper.specs.declared.auction.Auction.{Auction}
 
+-- of two numbers
+abbrev pub numbers_code : {X : Type 0} (parts : X → ℕ × ℕ) (whole : ℕ × ℕ → X) → ((x : X) → whole (parts x) ≡ x) → Coded X
+numbers_code = code_by (ℕ × ℕ) (coded× coded_ℕ coded_ℕ)
+
 abbrev pub bytes_code : Coded (List ℕ)
 bytes_code = coded_list coded_ℕ
 

@@ -1,10 +1,10 @@
 -- A keeper in memory.
-use Rattle.std.specs.Prelude.{ℕ, refl}
-use Rattle.std.specs.Coded.{Coded, code_by, coded×, coded_ℕ}
+use Rattle.std.specs.Prelude.{refl}
+use Rattle.std.specs.Coded.{Coded, code_by, coded×}
 use Rattle.std.specs.FinMap as finite
 use Rattle.vk_io.specs.Faults.{Calls}
 use Rattle.vk_io.specs.Memory.{calls_code}
-use Rattle.vk_keeper.specs.Codes.{bytes_code, auction_code}
+use Rattle.vk_keeper.specs.Codes.{auction_code, bytes_code, numbers_code}
 use Rattle.vk_keeper.specs.Ledgers.{Ledger}
 use Rattle.vk_keeper.specs.Turns.{Turns}
 
@@ -15,9 +15,7 @@ pub record MemoryLedger : Type 0 where
   pub turns : Turns
 
 abbrev pub turns_code : Coded Turns
-turns_code =
-    code_by (ℕ × ℕ) (coded× coded_ℕ coded_ℕ)
-    (λ t. (t.calls, t.last_get)) (λ p. record { calls = p.0; last_get = p.1 }) (λ _. refl)
+turns_code = numbers_code (λ t. (t.calls, t.last_get)) (λ p. record { calls = p.0; last_get = p.1 }) (λ _. refl)
 
 abbrev pub ledger_code : Coded MemoryLedger
 ledger_code =

@@ -1,7 +1,7 @@
 ghost use Rattle.std.specs.Prelude.{◌≤◌, IfOk, length};
+ghost use Rattle.vk_residue.specs.Limits.{IsSize};
 ghost use Rattle.vk_reply.specs.Values.{IsChallenge};
 ghost use Rattle.vk_seal.specs.Values.{IsSeal, IsSecret};
-ghost use Rattle.vk_house.specs.Commands.{IsRoom};
 
 use std::alloc::Global;
 use std::process::Abort;
