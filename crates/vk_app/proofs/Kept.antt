@@ -3,10 +3,10 @@ use Rattle.std.proofs.Common.{ap, sym, ◌∙◌, ◌≡◌, ◌≢◌, ℕ, Lis
 use Rattle.std.specs.Prelude.{◌⊎◌, option_map}
 use Rattle.std.specs.FinMap.{get}
 use Rattle.std.proofs.lemmas.Option.{same_Some}
+use Rattle.vk_residue.specs.Steps.{◌>>=◌}
 use Rattle.vk_io.specs.declared.errors.OutsideErr.{OutsideErr}
 use Rattle.vk_io.specs.Files.{Files}
 use Rattle.vk_lines.specs.Forms.{fault_line}
-use Rattle.vk_lines.specs.Gives.{◌>>=◌}
 use Rattle.vk_lines.specs.Lines.{Rest, line_by}
 use Rattle.vk_lines.specs.Tokens.{word_of}
 use Rattle.vk_keeper.specs.Ledgers.{Ledger}

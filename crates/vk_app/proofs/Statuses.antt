@@ -2,8 +2,8 @@
 use Rattle.std.proofs.Common.{◌≡◌, ℕ, Bool, true, false, List, Option, Some, None, IfSome, Result, Ok, Err, refl, sym, subst}
 use Rattle.std.specs.Prelude.{IsSomeAnd, ◌==◌, option_map, IfErr}
 use Rattle.std.specs.FinMap.{get}
+use Rattle.vk_residue.specs.Steps.{◌>>=◌}
 use Rattle.vk_io.specs.Files.{Files}
-use Rattle.vk_lines.specs.Gives.{◌>>=◌}
 use Rattle.vk_lines.specs.Lines.{Rest, line_by}
 use Rattle.vk_lines.specs.Tokens.{word_of}
 use Rattle.vk_reply.specs.Reading.{challenge_at}
@@ -21,9 +21,8 @@ use Rattle.vk_bids.specs.declared.confrontation.ConfrontErr.{ConfrontErr}
 use Rattle.vk_bids.specs.declared.confrontation.ConfrontErr.TheVariants as unconfronted
 use Rattle.vk_bids.specs.declared.confrontation.Confrontation.{Confrontation}
 use Rattle.vk_bids.specs.declared.confrontation.Confrontation.TheVariants as confrontations
-use Rattle.vk_bids.specs.declared.extraction.Extraction.{Extraction}
 use Rattle.vk_bids.specs.declared.extraction.Extraction.TheVariants as extractions
-use Rattle.vk_bids.specs.Extraction.{extraction_on}
+use Rattle.vk_bids.specs.Extraction.{Extraction, extraction_on}
 use Rattle.vk_report.specs.declared.report.ReportErr.{ReportErr}
 use Rattle.vk_report.specs.declared.report.ReportErr.TheVariants as unreported
 use Rattle.vk_report.specs.Reports.{report_on}

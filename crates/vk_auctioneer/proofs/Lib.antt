@@ -4,3 +4,4 @@ pub mod Reading
 pub mod Working
 pub mod Written
 pub mod Words
+pub mod Naming

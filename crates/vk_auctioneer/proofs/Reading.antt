@@ -3,8 +3,8 @@ use Rattle.std.proofs.Common.{◌≡◌, ◌≢◌, ℕ, List, [], ◌∷◌, Op
 use Rattle.std.specs.Prelude.{IfErr}
 use Rattle.std.specs.FinMap.{get}
 use Rattle.std.specs.Result.{result_err}
+use Rattle.vk_residue.specs.Steps.{◌>>=◌}
 use Rattle.vk_io.specs.Files.{Files}
-use Rattle.vk_lines.specs.Gives.{◌>>=◌}
 use Rattle.vk_lines.specs.Lines.{Rest}
 use Rattle.vk_reply.specs.declared.challenge.Challenge.{Challenge}
 use Rattle.vk_reply.specs.Reading.{challenge_at}
@@ -30,7 +30,7 @@ use Rattle.vk_auctioneer.specs.Laws.{AreTexts, IsText, ReadsChallenge, ReadsRow}
 -- ---- a seal and a secret
 
 -- both files are begun, and then both are read
-abbrev both_read : Result Rest SaidValue → Result Rest SaidValue → (Rest → Result Seal SaidValue) → (Rest → Result Secret SaidValue) → Result SealRow SaidValue
+abbrev pub both_read : Result Rest SaidValue → Result Rest SaidValue → (Rest → Result Seal SaidValue) → (Rest → Result Secret SaidValue) → Result SealRow SaidValue
 both_read first second read_first read_second =
     first >>= λ one. second >>= λ other. read_first one >>= λ seal. read_second other >>= λ secret. Ok (record { seal = seal; secret = secret })
 
@@ -100,7 +100,7 @@ reads_row files seal_name secret_name = record {
 
 -- ---- a challenge
 
-abbrev one_read : Result Rest SaidValue → (Rest → Result Challenge SaidValue) → Result Challenge SaidValue
+abbrev pub one_read : Result Rest SaidValue → (Rest → Result Challenge SaidValue) → Result Challenge SaidValue
 one_read file read = file >>= λ rest. read rest >>= λ challenge. Ok challenge
 
 one_said_last : (challenge : Result Challenge SaidValue) → result_err (challenge >>= λ c. Ok c) ≡ first_of (result_err challenge ∷ [])

@@ -3,11 +3,12 @@ use Rattle.std.proofs.Common.{◌≡◌, ℕ, ◌^◌, ◌<◌, ◌≤◌, nat_l
 use Rattle.std.specs.Prelude.{◌==◌, option_map}
 use Rattle.std.specs.Str.{bytes_eq}
 use Rattle.std.proofs.lemmas.Bool.{leb-true}
+use Rattle.vk_residue.specs.Limits.{IsSize}
+use Rattle.vk_residue.specs.Steps.{◌>>?◌}
 use Rattle.vk_commit.specs.Values.{AreBytes}
-use Rattle.vk_lines.specs.Tokens.{◌>>=◌, hex_of, meets, number_token}
+use Rattle.vk_lines.specs.Tokens.{hex_of, meets, number_token}
 use Rattle.vk_lines.proofs.Hexadecimal.{hex_of-some}
 use Rattle.vk_lines.proofs.Words.{decimal_token, meeting_token}
-use Rattle.vk_house.specs.Commands.{IsRoom}
 use Rattle.vk_words.specs.declared.table.Verb.{Verb}
 use Rattle.vk_words.specs.declared.table.Verb.TheVariants as verbs
 use Rattle.vk_words.specs.Commands.{CommandWords, Seal, House, Verify, Extract, Confront, Report, Sample, Ceremony, command_by, command_words, house_in, house_words}
@@ -22,7 +23,7 @@ abbrev OfHouse : CommandWords → Type 0
 OfHouse (House order) = AreHouseWords order
 OfHouse command = Unit {0}
 
-pub then_each : {A B : Type 0} (P : B → Type 0) (found : Option A) (f : A → Option B) → ((x : A) → found ≡ Some x → IfSome (f x) P) → IfSome (found >>= f) P
+pub then_each : {A B : Type 0} (P : B → Type 0) (found : Option A) (f : A → Option B) → ((x : A) → found ≡ Some x → IfSome (f x) P) → IfSome (found >>? f) P
 then_each P None f each = tt
 then_each P (Some x) f each = each x refl
 
@@ -45,16 +46,16 @@ number_within least most number text fits found =
     let shown = (meeting_token (λ n. nat_le least n) (decimal_token most fits)).shown text number found in
     (leb-true least number shown.0.1, shown.0.0)
 
-room_of : (wide long : List ℕ) (width lanes : ℕ) → number_token 1 40 wide ≡ Some width → number_token 1 64 long ≡ Some lanes → IsRoom width lanes
-room_of wide long width lanes width_is lanes_are =
+size_of : (wide long : List ℕ) (width lanes : ℕ) → number_token 1 40 wide ≡ Some width → number_token 1 64 long ≡ Some lanes → IsSize width lanes
+size_of wide long width lanes width_is lanes_are =
     let widths = number_within 1 40 width wide (omega arith) width_is in
     let counts = number_within 1 64 lanes long (omega arith) lanes_are in
-    record { some_width = widths.0; last_width = widths.1; some_lane = counts.0; few_lanes = counts.1 }
+    record { width = record { least = widths.0; most = widths.1 }; lanes = record { least = counts.0; most = counts.1 } }
 
 house_each : (words : List (List ℕ)) (id : List ℕ) → AreBytes 16 id → (verb : Verb) → IfSome (house_on id verb words) AreHouseWords
 house_each words id is verbs.Announce =
     then_each AreHouseWords (number_token 1 40 (word_at words 2)) _
-    (λ width wide. then_each AreHouseWords (number_token 1 64 (word_at words 3)) _ (λ lanes long. (is, room_of (word_at words 2) (word_at words 3) width lanes wide long)))
+    (λ width wide. then_each AreHouseWords (number_token 1 64 (word_at words 3)) _ (λ lanes long. (is, size_of (word_at words 2) (word_at words 3) width lanes wide long)))
 house_each words id is verbs.Submit = then_each AreHouseWords (name_at words 2) _ (λ seal _. then_each AreHouseWords (name_at words 3) _ (λ secret _. is))
 house_each words id is verbs.Prove =
     then_each AreHouseWords (seed_at words 2) _ (λ seed found. then_each AreHouseWords (name_at words 3) _ (λ board _. (is, hex_bytes 32 (word_at words 2) seed found)))

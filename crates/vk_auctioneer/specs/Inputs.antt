@@ -1,8 +1,8 @@
 -- The files that a command of the house is given by name.
 use Rattle.std.specs.Prelude.{ℕ, List, Result, Ok}
 use Rattle.std.specs.FinMap.{get}
+use Rattle.vk_residue.specs.Steps.{◌>>=◌}
 use Rattle.vk_io.specs.Files.{Files}
-use Rattle.vk_lines.specs.Gives.{◌>>=◌}
 use Rattle.vk_reply.specs.declared.challenge.Challenge.{Challenge}
 use Rattle.vk_reply.specs.Reading.{challenge_at}
 use Rattle.vk_seal.specs.Reading.{seal_at, secret_at}

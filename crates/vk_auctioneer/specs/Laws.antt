@@ -2,6 +2,7 @@
 use Rattle.std.specs.Prelude.{◌≡◌, ◌↔◌, ℕ, List, [], ◌∷◌, Some, Ok, IsSomeAnd}
 use Rattle.std.specs.FinMap.{get}
 use Rattle.std.specs.Result.{result_err}
+use Rattle.vk_residue.specs.Limits.{IsSize}
 use Rattle.vk_commit.specs.Values.{AreBytes}
 use Rattle.vk_io.specs.Files.{Files}
 use Rattle.vk_reply.specs.declared.challenge.Challenge.{Challenge}
@@ -18,7 +19,6 @@ use Rattle.vk_keeper.specs.Joining.{first_of}
 use Rattle.vk_keeper.specs.Ledgers.{Ledger, IsLedger}
 use Rattle.vk_job.specs.Jobs.{IsProvedAuction}
 use Rattle.vk_job.specs.Published.{IsChallengeTo, board_of, reply_of}
-use Rattle.vk_house.specs.Commands.{IsRoom}
 use Rattle.vk_words.specs.Orders.{HouseWords, Announce, Submit, Prove, Answer, Show}
 use Rattle.vk_effect.specs.Effects.{Effect}
 use Rattle.vk_effect.specs.Reading.{IsFile, faulty_said, unheld_said}
@@ -29,7 +29,7 @@ use Rattle.vk_auctioneer.specs.Inputs.{challenge_in, row_in}
 
 -- words by which the house may be asked: the id has 16 bytes and the seed 32, and an auction may have the width and the lanes
 abbrev pub AreHouseWords : HouseWords → Type 0
-AreHouseWords (Announce id width lanes) = AreBytes 16 id × IsRoom width lanes
+AreHouseWords (Announce id width lanes) = AreBytes 16 id × IsSize width lanes
 AreHouseWords (Submit id seal secret) = AreBytes 16 id
 AreHouseWords (Prove id seed board) = AreBytes 16 id × AreBytes 32 seed
 AreHouseWords (Answer id challenge reply) = AreBytes 16 id

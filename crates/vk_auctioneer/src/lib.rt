@@ -2,7 +2,6 @@
 #![tactic(auto)]
 
 mod command;
-mod inputs;
 mod laws;
 mod publishing;
 mod refusals;

@@ -13,15 +13,14 @@ ghost use Rattle.vk_auctioneer.specs.Effects.{board_file, on_ledger, prove_effec
 ghost use Rattle.vk_auctioneer.specs.Inputs.{challenge_in};
 ghost use Rattle.vk_auctioneer.specs.Lines.{TakesNoMemory, done_said, proved_line, answered_line};
 
-use crate::inputs::ChallengeForm;
 use crate::refusals::refused;
 use std::alloc::Global;
-use vk_effect::{Said, Unread, begin_named, read_named};
+use vk_effect::{Said, Unread, begin_named, named_value};
 use vk_house::{House, HouseErr};
 use vk_io::{OutsideErr, Shelf, WrittenFiles, write_files};
 use vk_job::Job;
 use vk_keeper::Keeper;
-use vk_reply::Challenge;
+use vk_reply::{Challenge, read_challenge};
 use vk_residue::NoMemory;
 
 /// Proves the auction, and writes its board.
@@ -160,7 +159,8 @@ fn asked_challenge<S: Shelf>(alloc: Global, shelf: &mut S, name: &str) -> Result
     ensures shelf { OnlyReads S.held S.Shelf.faults Unread.Failed result shelf.old shelf.new }
 {
     let mut lines = begin_named(alloc, shelf, name)?;
-    let challenge = read_named(alloc, shelf, name, &mut lines, &ChallengeForm)?;
+    let challenge = read_challenge(alloc, shelf, &mut lines);
+    let challenge = named_value(alloc, name, challenge)?;
     Ok(challenge)
 }
 

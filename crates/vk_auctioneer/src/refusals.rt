@@ -9,7 +9,7 @@ ghost use Rattle.vk_auctioneer.specs.Answers.{IsReply};
 ghost use Rattle.vk_auctioneer.specs.Lines.{TakesNoMemory, phase_word, refusal_line, refused_said};
 
 use std::alloc::Global;
-use vk_effect::{Said, house_dry_line};
+use vk_effect::{Said, house_dry_line, numbers_line};
 use vk_house::{HouseErr, PhaseName};
 use vk_io::OutsideErr;
 use vk_reply::Challenge;
@@ -86,12 +86,7 @@ fn phase_line(kept: PhaseName) -> ShortText
 fn length_line(kept: u32, given: u32) -> ShortText
     ensures { result ≡ refusal_line 0 (HouseErr.Length kept given) }
 {
-    ShortText::new()
-        .word("house length kept ")
-        .number(u64::from(kept))
-        .word(" given ")
-        .number(u64::from(given))
-        .word("\n")
+    numbers_line("house length kept ", kept, " given ", given)
 }
 
 /// Of an auction that has answered another challenge, the kept one.

@@ -1,8 +1,9 @@
 //! `announce` and `show`, which read and write no file: an auction begins, and how it stands is said.
 
 ghost use Rattle.std.specs.Prelude.{◌≡◌, ℕ, IfErr, IfOk, IfSome, IsOk, Option};
+ghost use Rattle.vk_residue.specs.Limits.{IsSize};
 ghost use Rattle.vk_house.specs.Replies.{Done, Stands};
-ghost use Rattle.vk_house.specs.Commands.{Announce, IsRoom, Show};
+ghost use Rattle.vk_house.specs.Commands.{Announce, Show};
 ghost use Rattle.vk_auctioneer.specs.Answers.{Says};
 ghost use Rattle.vk_auctioneer.specs.Common.{Acts, Causes, Files, GetsOnce, KeepsAnswers, Told, as_reply, stores};
 ghost use Rattle.vk_auctioneer.specs.Effects.{announce_effect, on_ledger, show_effect};
@@ -24,7 +25,7 @@ pub fn announce<K: Keeper + Drop>(
     width: u32,
     lanes: u32,
 ) -> Result<Said, OutsideErr>
-    requires { IsRoom width lanes }
+    requires { IsSize width lanes }
     ensures acts { (files : Option Files) → IfSome (on_ledger (λ kept. announce_effect kept id.now width lanes) (K.ledger keeper.old))
         (λ effect. Acts result effect (stores files (K.ledger keeper.old)) (stores files (K.ledger keeper.new))) }
     ensures once { Told KeepsAnswers (K.ledger keeper.old) (K.ledger keeper.new) }
@@ -43,14 +44,8 @@ fn announced(alloc: Global, id: &[u8; 16], answer: Result<(), HouseErr>) -> Resu
     ensures causes { (before after : ℕ) → Causes HouseErr.KeeperFailed answer before after → Causes OutsideErr.Failed result before after }
 {
     match answer {
-        Ok(()) => {
-            let said = opened(alloc, id)?;
-            Ok(said)
-        }
-        Err(refusal) => {
-            let said = refused(alloc, 0, refusal);
-            said
-        }
+        Ok(()) => Ok(opened(alloc, id)?),
+        Err(refusal) => refused(alloc, 0, refusal),
     }
 }
 
@@ -92,14 +87,8 @@ fn shown(
     ensures causes { (before after : ℕ) → Causes HouseErr.KeeperFailed answer before after → Causes OutsideErr.Failed result before after }
 {
     match answer {
-        Ok(standing) => {
-            let said = stands(alloc, id, standing)?;
-            Ok(said)
-        }
-        Err(refusal) => {
-            let said = refused(alloc, 0, refusal);
-            said
-        }
+        Ok(standing) => Ok(stands(alloc, id, standing)?),
+        Err(refusal) => refused(alloc, 0, refusal),
     }
 }
 

@@ -13,14 +13,14 @@ ghost use Rattle.vk_auctioneer.specs.Effects.{asked, no_file, on_both, on_ledger
 ghost use Rattle.vk_auctioneer.specs.Inputs.{row_in};
 ghost use Rattle.vk_auctioneer.specs.Lines.{TakesNoMemory, done_said, taken_line};
 
-use crate::inputs::{SealForm, SecretForm};
 use crate::refusals::refused;
 use std::alloc::Global;
-use vk_effect::{Said, Unread, begin_named, read_named};
+use vk_effect::{Said, Unread, begin_named, named_value};
 use vk_house::{House, HouseErr};
 use vk_io::{OutsideErr, Shelf};
 use vk_keeper::{Keeper, SealRow};
 use vk_residue::NoMemory;
+use vk_seal::{read_seal, read_secret};
 
 /// Hands the named seal and its secret in.
 pub fn submit<S: Shelf, K: Keeper + Drop>(
@@ -62,8 +62,10 @@ fn row<S: Shelf>(
 {
     let mut seal_lines = begin_named(alloc, shelf, seal_name)?;
     let mut secret_lines = begin_named(alloc, shelf, secret_name)?;
-    let seal = read_named(alloc, shelf, seal_name, &mut seal_lines, &SealForm)?;
-    let secret = read_named(alloc, shelf, secret_name, &mut secret_lines, &SecretForm)?;
+    let seal = read_seal(alloc, shelf, &mut seal_lines);
+    let seal = named_value(alloc, seal_name, seal)?;
+    let secret = read_secret(alloc, shelf, &mut secret_lines);
+    let secret = named_value(alloc, secret_name, secret)?;
     Ok(SealRow { seal, secret })
 }
 
@@ -96,14 +98,8 @@ fn handed_in(alloc: Global, seat: u16, answer: Result<u32, HouseErr>) -> Result<
     ensures causes { (before after : ℕ) → Causes HouseErr.KeeperFailed answer before after → Causes OutsideErr.Failed result before after }
 {
     match answer {
-        Ok(position) => {
-            let said = taken(alloc, seat, position)?;
-            Ok(said)
-        }
-        Err(refusal) => {
-            let said = refused(alloc, seat, refusal);
-            said
-        }
+        Ok(position) => Ok(taken(alloc, seat, position)?),
+        Err(refusal) => refused(alloc, seat, refusal),
     }
 }
 

@@ -3,9 +3,9 @@ use Rattle.std.proofs.Common.{◌≡◌, ◌≢◌, ℕ, ◌<◌, Bool, true, fa
 use Rattle.std.specs.Prelude.{◌⊎◌}
 use Rattle.std.specs.List.{AllByRecursion}
 use Rattle.std.specs.FinMap.{get}
+use Rattle.vk_residue.specs.Steps.{◌>>=◌}
 use Rattle.vk_io.specs.Files.{Files, Told}
 use Rattle.vk_lines.specs.Lines.{Rest}
-use Rattle.vk_row.specs.LaneTests.{◌>>=◌}
 use Rattle.vk_verifier.specs.declared.answers.Part.{Part}
 use Rattle.vk_verifier.specs.declared.answers.Part.TheVariants as part
 use Rattle.vk_verifier.specs.declared.answers.BoardVerdict.{BoardVerdict}
@@ -14,10 +14,9 @@ use Rattle.vk_verifier.specs.declared.answers.VErr.{VErr}
 use Rattle.vk_verifier.specs.declared.answers.VErr.TheVariants.{Missing, TooLong, Failed, NoMemory}
 use Rattle.vk_verifier.specs.Verdicts.{begun}
 use Rattle.vk_verifier.specs.Two.{Ahead}
-use Rattle.vk_verifier.specs.TwoBoards.{ahead_at, as_second, base_on, two_on}
-use Rattle.vk_bids.specs.declared.extraction.Extraction.{Extraction}
+use Rattle.vk_verifier.specs.TwoBoards.{ahead_at, base_on, two_on}
 use Rattle.vk_bids.specs.declared.extraction.Extraction.TheVariants.{Refused, Same, Clash, Bids}
-use Rattle.vk_bids.specs.Extraction.{extraction_of, extraction_on}
+use Rattle.vk_bids.specs.Extraction.{Extraction, extraction_of, extraction_on}
 use Rattle.vk_bids.specs.Texts.{clash_text, extraction_text}
 use Rattle.vk_bids.specs.Headline.{TwoAccepted, IsOf, extraction_of_held}
 use Rattle.vk_bids.proofs.Headlines.{accepted_are_extracted}
@@ -31,7 +30,7 @@ use Rattle.vk_audit.specs.Findings.{ExtractionHolds}
 use Rattle.vk_audit.specs.Inputs.{CanBeRead, HoldsFiles, extract_inputs}
 use Rattle.vk_audit.specs.Statuses.{AcceptsTwoFiles, AcceptsSameFiles, ExtractsExactly, IsExtracted, PutsExtraction, PutsClash, TellsSameExactly}
 use Rattle.vk_audit.specs.Verdicts.{answer_said, name_of, unread_said}
-use Rattle.vk_audit.proofs.Findings.{extraction_holds, unfound_found}
+use Rattle.vk_audit.proofs.Findings.{extraction_holds, second_accepted, unfound_found}
 use Rattle.vk_audit.proofs.Inputs.{all_read, begun_unread, fault_of, first_unread, never_none, unread_found, unread_shown}
 use Rattle.vk_audit.proofs.Telling.{tells}
 use Rattle.vk_audit.proofs.Verifying.{status_accepted, status_within}
@@ -153,15 +152,6 @@ said_of_accepted files names taken accepted =
     (accepted_are_extracted held.board_bytes held.first.challenge_bytes held.first.reply_bytes held.second.challenge_bytes held.second.reply_bytes accepted.two))
 
 -- ---- only such files
-
-second_accepted : (answered : BoardVerdict) → as_second answered ≡ verdict.Accepted → answered ≡ verdict.Accepted
-second_accepted verdict.Accepted same = refl
-second_accepted (verdict.Malformed file line) same = cc
-second_accepted verdict.Price same = cc
-second_accepted verdict.Winner same = cc
-second_accepted verdict.Lanes same = cc
-second_accepted (verdict.Wire lane wire fault) same = cc
-second_accepted (verdict.Row lane row) same = cc
 
 -- no reply is refused by the verdict that it is accepted
 pub refused_never : (second : Bool) (refused : BoardVerdict) (board first_challenge first_reply second_challenge second_reply : List ℕ)

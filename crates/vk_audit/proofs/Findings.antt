@@ -1,5 +1,6 @@
 -- What two replies come to holds of their bytes, and so does what a secret comes to against them.
 use Rattle.std.proofs.Common.{◌≡◌, ◌≢◌, ℕ, All, Bool, true, false, if◌then◌else◌, List, Option, Some, None, Result, Ok, Err, refl, sym, ap, subst, ◌∙◌, inl, inr}
+use Rattle.std.specs.Prelude.{◌⊎◌}
 use Rattle.std.specs.Result.{result_err}
 use Rattle.vk_lines.specs.Lines.{Rest}
 use Rattle.vk_seal.specs.declared.secret.Secret.{Secret}
@@ -13,7 +14,7 @@ use Rattle.vk_verifier.specs.declared.stage.Finding.{Finding}
 use Rattle.vk_verifier.specs.declared.stage.Finding.TheVariants as two
 use Rattle.vk_verifier.specs.Acceptance.{Accepts}
 use Rattle.vk_verifier.specs.Refusals.{VerdictHolds}
-use Rattle.vk_verifier.specs.Verdicts.{from_start, verdict_of}
+use Rattle.vk_verifier.specs.Verdicts.{from_start, statement_of, verdict_of}
 use Rattle.vk_verifier.specs.Two.{accepted_of, same_bits}
 use Rattle.vk_verifier.specs.TwoBoards.{BoardBase, as_second, is_accepted, two_verdict}
 use Rattle.vk_verifier.specs.TwoLaw.{ahead_in, bits_in}
@@ -23,11 +24,11 @@ use Rattle.vk_verifier.proofs.TwoLaw.{found_in}
 use Rattle.vk_commit.specs.Commitment.{TwoOpeningsSeen}
 use Rattle.vk_bids.specs.declared.bids.LaneBids.{LaneBids}
 use Rattle.vk_bids.specs.declared.extraction.Extracted.{Extracted}
-use Rattle.vk_bids.specs.declared.extraction.Extraction.{Extraction}
 use Rattle.vk_bids.specs.declared.extraction.Extraction.TheVariants.{Refused, Same, Clash, Bids}
 use Rattle.vk_bids.specs.declared.confrontation.Confrontation.{Confrontation}
 use Rattle.vk_bids.specs.declared.confrontation.Confrontation.TheVariants as comes
-use Rattle.vk_bids.specs.Extraction.{extraction_by, extraction_in, gathered_after}
+use Rattle.vk_bids.specs.Extraction.{Extraction, extraction_in, shown_on}
+use Rattle.vk_bids.specs.Extractions.{found_by as extracted_by, gathered_after}
 use Rattle.vk_bids.specs.Headline.{IsExtraction, IsFound, IsOf, TwoAccepted}
 use Rattle.vk_bids.specs.Binding.{ClashOr, HasMismatch, IsConfrontationOf}
 use Rattle.vk_bids.specs.Confrontation.{confrontation_in, confrontation_of, found_by, secret_in}
@@ -40,14 +41,27 @@ use Rattle.vk_audit.proofs.Matching.{mismatch_alone, no_seal_alone}
 
 -- ---- verdicts
 
+-- only one verdict is of an accepted reply, and no other becomes it where the reply is the second one
+pub accepted_or_not : (answered : BoardVerdict) → (answered ≡ verdict.Accepted) ⊎ ((is_accepted answered ≡ false) × (as_second answered ≢ verdict.Accepted))
+accepted_or_not verdict.Accepted = inl refl
+accepted_or_not (verdict.Malformed file line) = inr (refl, λ same. cc)
+accepted_or_not verdict.Price = inr (refl, λ same. cc)
+accepted_or_not verdict.Winner = inr (refl, λ same. cc)
+accepted_or_not verdict.Lanes = inr (refl, λ same. cc)
+accepted_or_not (verdict.Wire lane wire fault) = inr (refl, λ same. cc)
+accepted_or_not (verdict.Row lane row) = inr (refl, λ same. cc)
+
 accepted_is : (answered : BoardVerdict) → is_accepted answered ≡ true → answered ≡ verdict.Accepted
-accepted_is verdict.Accepted is = refl
-accepted_is (verdict.Malformed file line) is = cc
-accepted_is verdict.Price is = cc
-accepted_is verdict.Winner is = cc
-accepted_is verdict.Lanes is = cc
-accepted_is (verdict.Wire lane wire fault) is = cc
-accepted_is (verdict.Row lane row) is = cc
+accepted_is answered is = elim (accepted_or_not answered) [
+  | inl same ↦ same
+  | inr other ↦ absurd (cc (other.0, is))
+]
+
+pub second_accepted : (answered : BoardVerdict) → as_second answered ≡ verdict.Accepted → answered ≡ verdict.Accepted
+second_accepted answered is = elim (accepted_or_not answered) [
+  | inl same ↦ same
+  | inr other ↦ absurd (other.1 is)
+]
 
 refuses : (answered : BoardVerdict) → is_accepted answered ≡ false → answered ≢ verdict.Accepted
 refuses answered is = λ same. let yes : is_accepted answered ≡ true = ap is_accepted same in cc
@@ -61,7 +75,7 @@ no_refusal true second answered is = cc
 no_refusal false second answered is = cc
 
 refused_finding : (base : Option BoardBase) (finding : Finding BoardVerdict) (gathered : Result (List LaneBids) TwoOpeningsSeen) (second : Bool) (refused : BoardVerdict)
-    → extraction_by base finding gathered ≡ Refused second refused → finding ≡ two.Refused second refused
+    → extracted_by (λ (base : BoardBase). shown_on base.front) base finding gathered ≡ Refused second refused → finding ≡ two.Refused second refused
 refused_finding base (two.Refused other fault) gathered second refused is = cc
 refused_finding base two.Same gathered second refused is = cc
 refused_finding (Some base) two.Ready (Ok lanes) second refused is = cc
@@ -86,7 +100,7 @@ module _ (board first_challenge first_reply second_challenge second_reply : List
   abbrev by_finding : Finding BoardVerdict → Extraction
   by_finding finding =
       let base = begun_in board first_challenge first_reply second_challenge second_reply in
-      extraction_by base finding (gathered_after base (ahead_in board first_challenge first_reply second_challenge second_reply).lanes)
+      extracted_by (λ (base : BoardBase). shown_on base.front) base finding (gathered_after (λ (base : BoardBase). statement_of base.front) base (ahead_in board first_challenge first_reply second_challenge second_reply).lanes)
 
   abbrev by_tests : BoardVerdict → BoardVerdict → Bool → Bool → Finding BoardVerdict
   by_tests one another accepted also =
@@ -115,7 +129,7 @@ module _ (board first_challenge first_reply second_challenge second_reply : List
   by_value (Refused second refused) is =
       let base = begun_in board first_challenge first_reply second_challenge second_reply in
       let ahead = ahead_in board first_challenge first_reply second_challenge second_reply in
-      let finding = refused_finding base ahead.finding (gathered_after base ahead.lanes) second refused (sym is) in
+      let finding = refused_finding base ahead.finding (gathered_after (λ (base : BoardBase). statement_of base.front) base ahead.lanes) second refused (sym is) in
       refused_holds second refused (is_accepted first) (is_accepted other) refl refl (sym
       (found_in board first_challenge first_reply second_challenge second_reply) ∙ finding)
   by_value Same is = (same_is_found board first_challenge first_reply second_challenge second_reply).0 (sym is)

@@ -1,8 +1,8 @@
 -- What `verify` says holds of the files, and status 0 comes exactly where the reply is accepted.
 use Rattle.std.proofs.Common.{◌≡◌, ◌≢◌, ℕ, ◌<◌, ◌≤◌, Bool, false, true, List, [], ◌∷◌, Option, Some, None, Result, Ok, Err, refl, sym, ap, subst, ◌∙◌, arith}
 use Rattle.std.specs.FinMap.{get}
+use Rattle.vk_residue.specs.Steps.{◌>>=◌}
 use Rattle.vk_io.specs.Files.{Files}
-use Rattle.vk_row.specs.LaneTests.{◌>>=◌}
 use Rattle.vk_lines.specs.Lines.{Rest}
 use Rattle.vk_verifier.specs.declared.answers.Part.{Part}
 use Rattle.vk_verifier.specs.declared.answers.Part.TheVariants as part

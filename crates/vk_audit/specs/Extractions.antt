@@ -1,9 +1,8 @@
 -- What is said of what two replies to a board come to.
 use Rattle.vk_io.specs.Files.{Files}
-use Rattle.vk_bids.specs.declared.extraction.Extraction.{Extraction}
-use Rattle.vk_bids.specs.declared.extraction.TwoReplies.{TwoReplies}
+use Rattle.vk_verifier.specs.declared.named.TwoReplies.{TwoReplies}
 use Rattle.vk_bids.specs.declared.extraction.Extraction.TheVariants.{Refused, Same, Clash, Bids}
-use Rattle.vk_bids.specs.Extraction.{extraction_on}
+use Rattle.vk_bids.specs.Extraction.{Extraction, extraction_on}
 use Rattle.vk_bids.specs.Texts.{clash_text, extraction_text}
 use Rattle.vk_words.specs.Names.{ExtractWords}
 use Rattle.vk_effect.specs.Effects.{SaidValue}

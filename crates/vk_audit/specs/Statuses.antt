@@ -10,7 +10,7 @@ use Rattle.vk_verifier.specs.declared.answers.BoardVerdict.TheVariants.{Accepted
 use Rattle.vk_verifier.specs.Refusals.{VerdictHolds}
 use Rattle.vk_verifier.specs.TwoValues.{front_in}
 use Rattle.vk_bids.specs.declared.extraction.Extracted.{Extracted}
-use Rattle.vk_bids.specs.declared.extraction.Extraction.{Extraction}
+use Rattle.vk_bids.specs.Extraction.{Extraction}
 use Rattle.vk_bids.specs.declared.extraction.Extraction.TheVariants.{Same}
 use Rattle.vk_bids.specs.Texts.{clash_text, extraction_text}
 use Rattle.vk_bids.specs.Headline.{HeldAttempt, IsHeld, TwoAccepted, IsExtraction, IsExtractionClash, LaneAgrees, differing_in}

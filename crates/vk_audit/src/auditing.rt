@@ -3,8 +3,8 @@
 ghost use Rattle.std.specs.Prelude.{◌≡◌, IfSome, IfOk};
 ghost use Rattle.vk_io.specs.Reads.{OnlyReads};
 ghost use Rattle.vk_lines.specs.Gives.{Gives};
-ghost use Rattle.vk_words.specs.Names.{confront_seen, extract_seen, verify_seen};
 ghost use Rattle.vk_bids.specs.Confrontation.{fault_of};
+ghost use Rattle.vk_words.specs.Names.{confront_seen, extract_seen, verify_seen};
 ghost use Rattle.vk_audit.specs.Audits.{audit_said, audit_seen};
 ghost use Rattle.vk_audit.specs.Confrontations.{confrontation_in};
 ghost use Rattle.vk_audit.specs.Extractions.{replies_seen};

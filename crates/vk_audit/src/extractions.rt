@@ -3,9 +3,10 @@
 ghost use Rattle.std.specs.Prelude.{◌≡◌, ℕ, IfOk, Ok, Result};
 ghost use Rattle.vk_commit.specs.Commitment.{TwoOpeningsSeen};
 ghost use Rattle.vk_io.specs.Faults.{Causes};
+ghost use Rattle.vk_lines.specs.Gives.{Gives};
 ghost use Rattle.vk_verifier.specs.declared.answers.VErr.{VErr};
-ghost use Rattle.vk_verifier.specs.Verdicts.{Gives};
-ghost use Rattle.vk_bids.specs.declared.extraction.Extraction.{Extraction};
+ghost use Rattle.vk_verifier.specs.Verdicts.{unread_file};
+ghost use Rattle.vk_bids.specs.Extraction.{Extraction as BoardExtraction};
 ghost use Rattle.vk_bids.specs.Texts.{clash_text};
 ghost use Rattle.vk_words.specs.Names.{extract_seen};
 ghost use Rattle.vk_audit.specs.Extractions.{extraction_said};
@@ -50,7 +51,7 @@ pub fn extract_answered(
     names: &ExtractNames<'_>,
     answer: Result<Extraction, VErr>,
 ) -> Result<Said, OutsideErr>
-    ensures said { (expected : Result Extraction VErr) → Gives (λ extraction. extraction) answer expected
+    ensures said { (expected : Result BoardExtraction VErr) → Gives unread_file (λ extraction. extraction) answer expected
         → IfOk result (λ said. said ≡ answer_said (extraction_said (extract_seen names.now)) (unread_said (extract_seen names.now)) expected) }
     ensures clash { (two : TwoOpeningsSeen) → answer ≡ Ok (Extraction.Clash two)
         → result ≡ Ok (record { status = 3; text = clash_text two }) }

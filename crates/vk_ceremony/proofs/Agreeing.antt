@@ -9,9 +9,10 @@ use Rattle.std.proofs.lemmas.List.{nil_from_length}
 use Rattle.std.proofs.lemmas.List.Folds.{list_all-append}
 use Rattle.std.proofs.lemmas.List.Splits.{join_with_byte-slice_split}
 use Rattle.std.proofs.lemmas.Slice.Eq.{bytes_eq-Decides}
+use Rattle.vk_residue.specs.Steps.{◌>>?◌}
 use Rattle.vk_lines.specs.Forms.{FaultsAllButTexts, IsPart, fault_after, fault_at, fault_from, fault_line, line, spaced}
 use Rattle.vk_lines.specs.Lines.{Rest, line_by}
-use Rattle.vk_lines.specs.Tokens.{◌>>=◌, fields_of, word_of}
+use Rattle.vk_lines.specs.Tokens.{fields_of, word_of}
 use Rattle.vk_lines.proofs.Faults.{line_follows}
 use Rattle.vk_lines.proofs.Parts.{line_part}
 use Rattle.vk_lines.proofs.Words.{fixed_line, join-fields_of, split_some}
@@ -243,7 +244,7 @@ if_none : (test : Bool) (number : ℕ) (said : Script) → (let chosen : Script 
 if_none true number said none = (refl, none)
 if_none false number said none = cc
 
-utf8_line : (script text : List ℕ) (test : Bool) (order : HouseWords) → is_utf8 text ≡ test → ((if test then Some (fields_of text) else None) >>= script_words script) ≡ Some order → (is_utf8 text ≡ true) × (script_words script (fields_of text) ≡ Some order)
+utf8_line : (script text : List ℕ) (test : Bool) (order : HouseWords) → is_utf8 text ≡ test → ((if test then Some (fields_of text) else None) >>? script_words script) ≡ Some order → (is_utf8 text ≡ true) × (script_words script (fields_of text) ≡ Some order)
 utf8_line script text true order utf8 is = (utf8, is)
 utf8_line script text false order utf8 is = cc
 

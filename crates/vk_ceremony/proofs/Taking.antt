@@ -6,14 +6,14 @@ use Rattle.std.specs.Str.{bytes_eq}
 use Rattle.std.proofs.lemmas.Bool.Decides.{nat_tests}
 use Rattle.std.proofs.lemmas.Bool.{cases_lt}
 use Rattle.std.proofs.lemmas.List.{length-take-le, nil_from_length}
+use Rattle.vk_residue.specs.Steps.{◌>>=◌, ◌>>?◌}
 use Rattle.vk_io.specs.Files.{Files}
 use Rattle.vk_lines.specs.declared.errors.ReadErr.{ReadErr}
 use Rattle.vk_lines.specs.declared.step.Step.{Step}
 use Rattle.vk_lines.specs.declared.step.Step.TheVariants.{Text, End, Long, Cut}
 use Rattle.vk_lines.specs.Gives.{Refuses}
-use Rattle.vk_lines.specs.Gives as result
 use Rattle.vk_lines.specs.Lines.{IsNext, LinesValue, Reads, ReadsPart, Rest, line_by, feed_at, rest_in, rest_of, step_of, text_at, text_by}
-use Rattle.vk_lines.specs.Tokens.{◌>>=◌, word_of}
+use Rattle.vk_lines.specs.Tokens.{word_of}
 use Rattle.vk_lines.proofs.Parts.{ok_same}
 use Rattle.vk_lines.proofs.Pieces.{other_pieces, pieces_feed, pieces_none, text_tells}
 use Rattle.vk_lines.proofs.Words.{split_some}
@@ -96,12 +96,12 @@ other_says script rest text word behind taken is other =
 pub words_say : (script : List ℕ) (rest : Rest) (text word : List ℕ) (behind : Rest) (words : List (List ℕ)) → text_at rest ≡ Ok (text, behind) → word ≡ codes "end" → false ≡ bytes_eq text word → Some words ≡ line_words text
     → script_at script rest ≡ order_then script (script_words script words) behind
 words_say script rest text word behind words taken is other are =
-    other_says script rest text word behind taken is other ∙ ap (λ o. order_then script (o >>= script_words script) behind) (sym are)
+    other_says script rest text word behind taken is other ∙ ap (λ o. order_then script (o >>? script_words script) behind) (sym are)
 
 pub no_words_say : (script : List ℕ) (rest : Rest) (text word : List ℕ) (behind : Rest) (number : ℕ) → text_at rest ≡ Ok (text, behind) → word ≡ codes "end" → false ≡ bytes_eq text word → None ≡ line_words text → number ≡ behind.taken
     → script_at script rest ≡ closes (Some number)
 no_words_say script rest text word behind number taken is other none count =
-    other_says script rest text word behind taken is other ∙ ap (λ o. order_then script (o >>= script_words script) behind) (sym none) ∙ ap (λ n. closes (Some n)) (sym count)
+    other_says script rest text word behind taken is other ∙ ap (λ o. order_then script (o >>? script_words script) behind) (sym none) ∙ ap (λ n. closes (Some n)) (sym count)
 
 -- ---- what a reader took
 
@@ -195,4 +195,4 @@ heading_refused script (Some files) now before after read refusal same begun rea
     let here : Reads (λ x. x) read (rest_of after files) (line_by (word_of heading) (rest_of before files)) =
     subst (λ left. ReadsPart (line_by (word_of heading)) left before after read) same reads in
     let said = no_heading script (said_of_unread refusal) (line_by (word_of heading) (rest_of before files)) (refuses (rest_of after files) (line_by (word_of heading) (rest_of before files)) here) in
-    subst (λ r. Refuses (said_of_unread refusal) (result.◌>>=◌ r (λ file. behind_heading script (line_by (word_of heading) file)))) (sym begun) said
+    subst (λ r. Refuses (said_of_unread refusal) (◌>>=◌ r (λ file. behind_heading script (line_by (word_of heading) file)))) (sym begun) said

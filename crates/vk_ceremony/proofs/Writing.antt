@@ -6,10 +6,11 @@ use Rattle.std.specs.Option.{option_map_or}
 use Rattle.std.specs.Str.{bytes_eq}
 use Rattle.std.proofs.lemmas.Option.{same_Some}
 use Rattle.std.proofs.lemmas.Slice.Eq.{bytes_eq-Decides}
+use Rattle.vk_residue.specs.Steps.{◌>>?◌}
 use Rattle.vk_io.specs.Files.{Files, bytes_of}
 use Rattle.vk_io.specs.Writing.{written}
 use Rattle.vk_io.proofs.Finite.{get_inserted}
-use Rattle.vk_lines.specs.Tokens.{◌>>=◌, meets}
+use Rattle.vk_lines.specs.Tokens.{meets}
 use Rattle.vk_reply.specs.declared.challenge.Challenge.{Challenge}
 use Rattle.vk_keeper.specs.Ledgers.{Ledger}
 use Rattle.vk_house.specs.Commands as house
@@ -99,7 +100,7 @@ met_shows : (name : List ℕ) (other order : HouseWords) (test : Bool) → leave
 met_shows name other order true is same = ap (leaves_name name) (sym (same_Some other order same)) ∙ is
 met_shows name other order false is same = cc
 
-meets_shows : (name : List ℕ) (found : Option HouseWords) (order : HouseWords) → (found >>= meets (leaves_name name)) ≡ Some order → leaves_name name order ≡ true
+meets_shows : (name : List ℕ) (found : Option HouseWords) (order : HouseWords) → (found >>? meets (leaves_name name)) ≡ Some order → leaves_name name order ≡ true
 meets_shows name None order is = cc
 meets_shows name (Some other) order is = met_shows name other order (leaves_name name other) refl is
 

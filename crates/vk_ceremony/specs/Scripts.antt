@@ -3,10 +3,10 @@ use Rattle.std.specs.Prelude.{ℕ, ◌+◌, ◌==◌, nat_lt, if◌then◌else�
 use Rattle.std.specs.FinMap.{get}
 use Rattle.std.specs.List.{slice_split}
 use Rattle.std.specs.Str.{bytes_eq}
+use Rattle.vk_residue.specs.Steps.{◌>>=◌, ◌>>?◌}
 use Rattle.vk_io.specs.Files.{Files}
-use Rattle.vk_lines.specs.Gives as result
 use Rattle.vk_lines.specs.Lines.{Rest, line_by}
-use Rattle.vk_lines.specs.Tokens.{◌>>=◌, word_of}
+use Rattle.vk_lines.specs.Tokens.{word_of}
 use Rattle.vk_words.specs.Orders.{HouseWords}
 use Rattle.vk_words.specs.Scripts.{line_words, script_words}
 use Rattle.vk_effect.specs.Effects.{SaidValue}
@@ -24,7 +24,7 @@ pub data ScriptLine : Type 0 where
 
 -- the command of a line in the script of that name
 abbrev pub order_line : List ℕ → List ℕ → Option HouseWords
-order_line script line = line_words line >>= script_words script
+order_line script line = line_words line >>? script_words script
 
 -- what a line behind the first says in the script of that name, where it may stand in it
 abbrev pub script_line : List ℕ → List ℕ → Option ScriptLine
@@ -83,4 +83,4 @@ behind_heading script (Err number) = Err (malformed_said script number)
 
 -- the script of that name behind its first line; or what is said where it isn't held, is too long, or begins otherwise
 unfoldable pub script_begun : Files → List ℕ → Result Rest SaidValue
-script_begun files script = result.◌>>=◌ (begun_in script (get files script)) (λ file. behind_heading script (line_by (word_of heading) file))
+script_begun files script = ◌>>=◌ (begun_in script (get files script)) (λ file. behind_heading script (line_by (word_of heading) file))

@@ -1,13 +1,12 @@
 //! The commands of a script, one after another.
 
 ghost use Rattle.std.specs.Prelude.{◌≡◌, ◌≤◌, ◌+◌, ◌^◌, false, IfOk, IfSome};
-ghost use Rattle.vk_io.specs.Files.{Told};
 ghost use Rattle.vk_lines.specs.Lines.{KeepsFile};
-ghost use Rattle.vk_house.specs.Once.{KeepsAnswers};
-ghost use Rattle.vk_effect.specs.Counts.{CausesThree};
-ghost use Rattle.vk_effect.specs.Effects.{IsEnd, outside, stores};
-ghost use Rattle.vk_effect.specs.Ends.{Ends};
 ghost use Rattle.vk_words.specs.Orders.{IsHouseOrder, house_seen};
+ghost use Rattle.vk_effect.specs.Counts.{CausesThree};
+ghost use Rattle.vk_effect.specs.Effects.{IsEnd, outside};
+ghost use Rattle.vk_effect.specs.Ends.{Ends};
+ghost use Rattle.vk_auctioneer.specs.Common.{KeepsAnswers, Told, stores};
 ghost use Rattle.vk_auctioneer.specs.Effects.{house_effect};
 ghost use Rattle.vk_ceremony.specs.Ceremonies.{EndsAll, ceremony_on};
 ghost use Rattle.vk_ceremony.specs.Turns.{EndsWell, IsNextTurn, Turns, left_of, turn_by};

@@ -2,27 +2,26 @@
 
 ghost use Rattle.std.specs.Prelude.{◌≡◌, ◌≢◌, ◌⊎◌, ℕ, List, [], ◌∷◌, map, Contains, Option, Some, None, Result, Ok, IfSome, IsSomeAnd};
 ghost use Rattle.std.specs.List.{AllByRecursion};
-ghost use Rattle.vk_io.specs.Files.{Files};
 ghost use Rattle.vk_io.specs.declared.errors.OutsideErr.{OutsideErr};
 ghost use Rattle.vk_lines.specs.Forms.{FaultsAllButTexts, fault_line};
 ghost use Rattle.vk_lines.specs.Lines.{Rest, line_by};
 ghost use Rattle.vk_lines.specs.Tokens.{word_of};
 ghost use Rattle.vk_keeper.specs.Ledgers.{Ledger, IsLedger};
 ghost use Rattle.vk_house.specs.Commands.{HouseCommand};
-ghost use Rattle.vk_house.specs.Once.{KeepsAnswers};
 ghost use Rattle.vk_house.specs.Steps.{house_step};
-ghost use Rattle.vk_effect.specs.Effects.{Outside, outside, stores};
-ghost use Rattle.vk_effect.specs.Ends.{Done, Ends};
 ghost use Rattle.vk_words.specs.Commands.{House, command_words};
 ghost use Rattle.vk_words.specs.Orders.{HouseWords};
+ghost use Rattle.vk_effect.specs.Effects.{Outside, outside, stores};
+ghost use Rattle.vk_effect.specs.Ends.{Done, Ends};
+ghost use Rattle.vk_auctioneer.specs.Common.{Files, KeepsAnswers};
 ghost use Rattle.vk_auctioneer.specs.Effects.{house_effect};
 ghost use Rattle.vk_auctioneer.specs.Laws.{AreHouseWords};
 ghost use Rattle.vk_auctioneer.specs.Lines.{reply_said};
 ghost use Rattle.vk_ceremony.specs.Acts.{AreActs, HouseAct, IsAct, Performs, PerformsAll, PerformsSome};
 ghost use Rattle.vk_ceremony.specs.Ceremonies.{EndsAll, ceremony_effect, ceremony_on};
+ghost use Rattle.vk_ceremony.specs.Forms.{AreOrders, SaysOrders, fault_by, script_table, script_text};
 ghost use Rattle.vk_ceremony.specs.Runs.{IsRun, asked_in, orders_in};
 ghost use Rattle.vk_ceremony.specs.Scripts.{heading};
-ghost use Rattle.vk_ceremony.specs.Forms.{AreOrders, SaysOrders, fault_by, script_table, script_text};
 
 /// A law: where a file is no script of that name, reading stops at its fault line.
 pub fn reading_a_script_stops_at_the_fault_line()

@@ -1,17 +1,21 @@
 -- What a file that is given by name is read as, and what is said of it.
 use Rattle.std.proofs.Common.{◌≡◌, ℕ, ◌^◌, ◌<◌, ◌≤◌, nat_lt, Bool, true, false, if◌then◌else◌, List, length, Option, Some, None, option_map, Result, Ok, Err, refl, sym, ap, subst, ◌∙◌, arith}
-use Rattle.std.specs.Prelude.{IfErr}
+use Rattle.std.specs.Prelude.{IfErr, IfSome}
 use Rattle.std.specs.FinMap.{get}
 use Rattle.std.specs.Result.{result_err}
 use Rattle.std.proofs.lemmas.Bool.Decides.{nat_tests}
 use Rattle.std.proofs.lemmas.Bool.{le-ltb, lt-ltb}
+use Rattle.vk_residue.specs.Steps.{◌>>=◌}
 use Rattle.vk_io.specs.Files.{Files}
+use Rattle.vk_lines.specs.declared.errors.ReadErr.{ReadErr}
 use Rattle.vk_lines.specs.Forms.{IsWhole, Table, fault_line, whole}
-use Rattle.vk_lines.specs.Gives.{◌>>=◌}
-use Rattle.vk_lines.specs.Lines.{Rest}
+use Rattle.vk_lines.specs.Gives.{Gives}
+use Rattle.vk_lines.specs.Lines.{LinesValue, Reads, ReadsPart, Rest, rest_of}
+use Rattle.vk_effect.specs.declared.reading.Unread.{Unread}
 use Rattle.vk_effect.specs.Effects.{SaidValue}
 use Rattle.vk_effect.specs.NamedFiles.{malformed_said, missing_said, too_long_said}
-use Rattle.vk_effect.specs.Reading.{IsFile, begun_in, faulty_said, from_first, value_in}
+use Rattle.vk_effect.specs.Reading.{IsFile, begun_in, faulty_said, from_first, said_of_unread, value_in}
+use Rattle.vk_effect.proofs.Acting.{if_some_map}
 
 -- ---- answers
 
@@ -75,6 +79,13 @@ file_read IsValue text read form files name rest x began given =
 pub whole_found : {X : Type 0} (IsValue : X → Type 0) (text : X → List ℕ) (read : Rest → Result (X × Rest) ℕ) → IsWhole IsValue text read
     → (name : List ℕ) (x : X) → IsValue x → value_in name (read (from_first (text x))) ≡ Ok x
 whole_found IsValue text read form name x right = ap (value_in name) (form.found (from_first (text x)) x right refl).1
+
+-- what is answered of it is of what was left of it before, where the files' bytes are told
+pub part_told : {X : Type 0} (name : List ℕ) (read_at : Rest → Result (X × Rest) ℕ) (held : Option Files) (before after : LinesValue) (read : Result X ReadErr) (answer : Result X Unread)
+    → ReadsPart read_at held before after read
+    → ((rest : Rest) (expected : Result (X × Rest) ℕ) → Reads (λ x. x) read rest expected → Gives said_of_unread (λ x. x) answer (value_in name expected))
+    → IfSome held (λ files. Gives said_of_unread (λ x. x) answer (value_in name (read_at (rest_of before files))))
+part_told name read_at held before after read answer reads told = if_some_map _ _ (λ files is. told (rest_of after files) (read_at (rest_of before files)) is) held reads
 
 -- ---- what is said of it
 

@@ -3,6 +3,7 @@
 ghost use Rattle.std.specs.Prelude.{◌≡◌};
 ghost use Rattle.vk_effect.specs.Dry.{bidder_dry_line, house_dry_line};
 
+use crate::numbers::numbers_line;
 use vk_text::ShortText;
 
 /// Of a bidder's seed: the first lane, from 1, for which no residue can be drawn.
@@ -19,10 +20,5 @@ pub fn bidder_dry_line(lane: u32) -> ShortText
 pub fn house_dry_line(lane: u32, wire: u32) -> ShortText
     ensures { result ≡ house_dry_line lane wire }
 {
-    ShortText::new()
-        .word("house dry seed lane ")
-        .number(u64::from(lane))
-        .word(" wire ")
-        .number(u64::from(wire))
-        .word("\n")
+    numbers_line("house dry seed lane ", lane, " wire ", wire)
 }

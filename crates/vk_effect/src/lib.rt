@@ -4,6 +4,7 @@
 mod dry;
 mod laws;
 mod named;
+mod numbers;
 mod printing;
 mod reading;
 mod said;
@@ -11,6 +12,7 @@ mod said;
 pub use dry::{bidder_dry_line, house_dry_line};
 pub use laws::{a_stop_is_after_some_of_the_commands, commands_one_after_another_are_one};
 pub use named::{malformed, missing, refused, too_long};
+pub use numbers::numbers_line;
 pub use printing::print;
-pub use reading::{FileForm, Unread, begin_named, named_value, read_named};
+pub use reading::{Unread, begin_named, named_value};
 pub use said::Said;

@@ -83,10 +83,7 @@ is_auction sample case rows all =
     let some : 1 ≤ length rows = omega (arith, all.count) in
     record {
       id = case.id;
-      some_width = omega arith;
-      last_width = omega arith;
-      some_lane = omega arith;
-      few_lanes = omega arith;
+      size = record { width = record { least = omega arith; most = omega arith }; lanes = record { least = omega arith; most = omega arith } };
       few_seals = omega (arith, all.count);
       rows = all.right;
       seats = seats_differ rows sample.seats all.seats_are case.seats_differ;

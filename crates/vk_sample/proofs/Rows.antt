@@ -1,8 +1,8 @@
 -- The seals of a sample, one after another.
 use Rattle.std.proofs.Common.{◌≡◌, ℕ, zero, suc, ◌+◌, ◌-◌, ◌<◌, nat_lt, true, if◌then◌else◌, List, [], ◌∷◌, ◌++◌, length, Option, Some, None, Result, Ok, Err, refl, sym, ap, subst, ◌∙◌, arith}
 use Rattle.std.proofs.lemmas.Bool.Decides.{nat_tests}
+use Rattle.vk_residue.specs.Steps.{◌>>=◌}
 use Rattle.vk_lines.specs.Gives.{Refuses}
-use Rattle.vk_row.specs.LaneTests.{◌>>=◌}
 use Rattle.vk_seal.specs.declared.making.SealErr.{SealErr}
 use Rattle.vk_seal.specs.declared.making.SealErr.TheVariants.{BidTooLarge, DrySeed as DryLane, NoMemory}
 use Rattle.vk_seal.specs.declared.secret.Secret.{Secret}

@@ -6,12 +6,14 @@ use Rattle.std.proofs.lemmas.List.{length_push}
 use Rattle.std.proofs.lemmas.List.Elements.{All-nil, All-push, recursion_from_All}
 use Rattle.vk_commit.proofs.Digests.{digest_is_bytes}
 use Rattle.vk_dice.specs.Draws.{after_residue, drawn_key, drawn_residue}
+use Rattle.vk_dice.specs.Many.{drawn_onto}
 use Rattle.vk_dice.specs.Stream.{word_at}
 use Rattle.vk_dice.specs.Words.{later}
+use Rattle.vk_dice.proofs.Drawing.{drawn_each}
 use Rattle.vk_wire.specs.Values.{IsCom}
 use Rattle.vk_seal.specs.declared.secret.XTape.{XTape}
 use Rattle.vk_seal.specs.declared.secret.Secret.{Secret}
-use Rattle.vk_seal.specs.Made.{after_tape, drawn_tape, lane_coms, seal_of, secret_with, tapes_after, tapes_onto}
+use Rattle.vk_seal.specs.Made.{by_lane, drawn_tape, lane_coms, seal_of, secret_with, tape_drawing, tape_with}
 use Rattle.vk_seal.specs.Values.{IsXTape}
 use Rattle.vk_seal.proofs.SealsMatch.{made_matches}
 use Rattle.vk_seal.proofs.Tapes.{length-lane_coms}
@@ -26,27 +28,9 @@ use Rattle.vk_sample.specs.Auctions.{sealed, secret_at}
 
 tape_is : (ahead : ℕ → ℕ) (tape : XTape) → drawn_tape ahead ≡ Some tape → IsXTape tape
 tape_is ahead tape is =
-    let made : ℕ → XTape = λ mask. record { mask = mask; first_key = drawn_key (after_residue ahead); second_key = drawn_key (later 4 (after_residue ahead)) } in
-    let drawn = of_some made (drawn_residue ahead) tape is in
+    let drawn = of_some (λ mask. tape_with mask (after_residue ahead)) (drawn_residue ahead) tape is in
     let P : XTape → Type 0 = λ t. IsXTape t in
     subst P drawn.2 (residue_is 4 ahead drawn.0 drawn.1, key_is_bytes (after_residue ahead), key_is_bytes (later 4 (after_residue ahead)))
-
--- where there are tapes after this one, it was drawn
-tape_drawn : (lane : ℕ) (rest : XTape → Result (List XTape) ℕ) (drawn : Option XTape) (tapes : List XTape) → tapes_after lane rest drawn ≡ Ok tapes
-    → (tape : XTape) × (drawn ≡ Some tape) × (rest tape ≡ Ok tapes)
-tape_drawn lane rest None tapes is = cc
-tape_drawn lane rest (Some tape) tapes is = (tape, refl, is)
-
-tapes_are : (before : List XTape) (count : ℕ) (ahead : ℕ → ℕ) (tapes : List XTape) → All (λ tape. IsXTape tape) before → tapes_onto before count ahead ≡ Ok tapes
-    → (length tapes ≡ length before + count) × All (λ tape. IsXTape tape) tapes
-unfolding tapes_onto
-tapes_are before zero ahead tapes are is =
-    let same : before ≡ tapes = cc in
-    (omega (arith, ap length same), subst (All (λ tape. IsXTape tape)) same are)
-tapes_are before (suc count) ahead tapes are is =
-    let first = tape_drawn (length before + 1) (λ tape. tapes_onto (before ++ tape ∷ []) count (after_tape ahead)) (drawn_tape ahead) tapes is in
-    let rest = tapes_are (before ++ first.0 ∷ []) count (after_tape ahead) tapes (All-push (λ tape. IsXTape tape) before first.0 are (tape_is ahead first.0 first.1)) first.2 in
-    (rest.0 ∙ omega (arith, length_push before first.0), rest.1)
 
 -- ---- the seal
 
@@ -60,10 +44,10 @@ row_with auction seat bid tapes =
     let secret : Secret = record { auction = auction; seat = seat; bid = bid; lanes = tapes } in
     record { seal = seal_of secret; secret = secret }
 
-row_drawn : (auction : List ℕ) (seat bid : ℕ) (drawn : Result (List XTape) ℕ) (row : SealRow) → sealed (secret_with auction seat bid drawn) ≡ Ok row
+row_drawn : (auction : List ℕ) (seat bid : ℕ) (drawn : Result (List XTape) ℕ) (row : SealRow) → sealed (secret_with auction seat bid (by_lane drawn)) ≡ Ok row
     → (tapes : List XTape) × (drawn ≡ Ok tapes) × (row_with auction seat bid tapes ≡ row)
 row_drawn auction seat bid (Ok tapes) row is = (tapes, refl, cc)
-row_drawn auction seat bid (Err lane) row is = cc
+row_drawn auction seat bid (Err before) row is = cc
 
 -- ---- the row of the seal at that index
 
@@ -77,9 +61,9 @@ row_is sample case index within row is =
     let seat = slice_index sample.seats index in
     let bid = slice_index sample.bids index in
     let ahead = word_at (slice_index_or sample.seeds index []) sample.auction (65536 + seat) in
-    let drawn = row_drawn sample.auction seat bid (tapes_onto [] lanes ahead) row is in
+    let drawn = row_drawn sample.auction seat bid (drawn_onto tape_drawing [] lanes ahead) row is in
     let tapes = drawn.0 in
-    let are = tapes_are [] lanes ahead tapes (All-nil (λ tape. IsXTape tape)) drawn.1 in
+    let are = drawn_each tape_drawing (λ tape. IsXTape tape) tape_is [] lanes ahead tapes (All-nil (λ tape. IsXTape tape)) drawn.1 in
     let seat_within : (101 ≤ seat) × (seat ≤ 120) = case.seats index 0 (omega (arith, case.seat_count)) in
     let bid_within : bid < 2 ^ 32 = case.bids index 0 (omega (arith, case.bid_count)) in
     let long : length (lane_coms sample.auction seat bid 1 tapes) ≡ lanes = length-lane_coms sample.auction seat bid 1 tapes ∙ are.0 in
@@ -88,8 +72,7 @@ row_is sample case index within row is =
         id = case.id;
         some_seat = omega (arith, seat_within.0);
         last_seat = omega (arith, seat_within.1);
-        some_lane = omega (arith, long);
-        few_lanes = omega (arith, long);
+        count = record { least = omega (arith, long); most = omega (arith, long) };
         coms = coms_are sample.auction seat bid 1 tapes;
       };
       secret = record {
@@ -97,8 +80,7 @@ row_is sample case index within row is =
         some_seat = omega (arith, seat_within.0);
         last_seat = omega (arith, seat_within.1);
         small_bid = omega (arith, bid_within);
-        some_lane = omega (arith, are.0);
-        few_lanes = omega (arith, are.0);
+        count = record { least = omega (arith, are.0); most = omega (arith, are.0) };
         tapes = recursion_from_All (λ tape. IsXTape tape) tapes are.1;
       };
       id = refl;

@@ -1,7 +1,7 @@
 -- The auction of a sample: its seals are made with the bidders' seeds, and its board with the auctioneer's.
 use Rattle.std.specs.Prelude.{ℕ, zero, suc, ◌+◌, List, [], ◌∷◌, ◌++◌, length, slice_index, slice_index_or, Option, Some, None, Result, Ok, Err}
+use Rattle.vk_residue.specs.Steps.{◌>>=◌}
 use Rattle.vk_dice.specs.Stream.{word_at}
-use Rattle.vk_row.specs.LaneTests.{◌>>=◌}
 use Rattle.vk_seal.specs.declared.secret.Secret.{Secret}
 use Rattle.vk_seal.specs.Made.{secret_of, seal_of}
 use Rattle.vk_keeper.specs.declared.auction.Phase.TheVariants.{Proved}

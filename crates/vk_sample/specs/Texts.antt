@@ -5,7 +5,7 @@ use Rattle.vk_board.specs.declared.board.Head.{Head}
 use Rattle.vk_reply.specs.Texts.{challenge_text}
 use Rattle.vk_verifier.specs.declared.answers.VErr.{VErr}
 use Rattle.vk_bids.specs.declared.extraction.Extracted.{Extracted}
-use Rattle.vk_bids.specs.declared.extraction.Extraction.{Extraction}
+use Rattle.vk_bids.specs.Extraction.{Extraction}
 use Rattle.vk_bids.specs.declared.extraction.Extraction.TheVariants.{Refused, Same, Clash, Bids}
 use Rattle.vk_bids.specs.Texts.{has_one_bid, winner_line}
 use Rattle.vk_keeper.specs.declared.auction.Auction.{Auction}

@@ -33,10 +33,10 @@ impl From<JobErr> for SampleErr {
     ghost from_gives = { λ refused e. e ≡ of_job refused };
 
     fn from(refused: JobErr) -> SampleErr {
-        match refused {
-            JobErr::DrySeed { lane, wire } => SampleErr::DryHouse { lane, wire },
-            JobErr::NoMemory => SampleErr::NoMemory,
-        }
+        let JobErr::DrySeed { lane, wire } = refused else {
+            return SampleErr::NoMemory;
+        };
+        SampleErr::DryHouse { lane, wire }
     }
 }
 

@@ -4,7 +4,7 @@ use Rattle.std.specs.Prelude.{if◌then◌else◌, option_map}
 use Rattle.std.specs.List.{AllByRecursion}
 use Rattle.std.specs.Option.{option_map_or}
 use Rattle.std.specs.Str.{bytes_eq}
-use Rattle.vk_lines.specs.Tokens.{◌>>=◌}
+use Rattle.vk_residue.specs.Steps.{◌>>?◌}
 use Rattle.vk_words.specs.Commands.{AsksNoKeeper, CommandWords, Seal, Verify, Extract, Confront, Report, Sample, command_by, command_words, first_asks}
 use Rattle.vk_words.specs.Names.{confront_in, extract_in, name_at, verify_in, word_at}
 use Rattle.vk_words.specs.Orders.{seal_in}
@@ -50,7 +50,7 @@ by_first :
     (row : Option Row) (words : List (List ℕ))
     → IfSome row AsksAsItSays
     → IsFalse (option_map_or (λ r. r.asks_house) row false)
-    → AsksNoKeeper (row >>= λ r. if length words == r.words then command_by r.verb words else None)
+    → AsksNoKeeper (row >>? λ r. if length words == r.words then command_by r.verb words else None)
 by_first None words each is = tt
 by_first (Some row) words each is = by_length (length words == row.words) (command_by row.verb words) (each is words)
 

@@ -1,7 +1,8 @@
 -- The command that words are.
 use Rattle.std.specs.Prelude.{ℕ, ◌-◌, ◌^◌, ◌==◌, if◌then◌else◌, Bool, false, List, length, Option, Some, None, option_map}
 use Rattle.std.specs.Option.{option_map_or}
-use Rattle.vk_lines.specs.Tokens.{◌>>=◌, decimal_of}
+use Rattle.vk_residue.specs.Steps.{◌>>?◌}
+use Rattle.vk_lines.specs.Tokens.{decimal_of}
 use Rattle.vk_words.specs.declared.command.Command.{Command}
 use Rattle.vk_words.specs.declared.command.Command.TheVariants as commands
 use Rattle.vk_words.specs.declared.table.Verb.{Verb}
@@ -51,7 +52,7 @@ command_by verb words = option_map House (house_by verb words)
 -- the command that words are, if they are one: the first names it, and they are as many as it has
 unfoldable pub command_words : List (List ℕ) → Option CommandWords
 command_words words =
-    row_of (word_at words 0) >>= λ row.
+    row_of (word_at words 0) >>? λ row.
     if length words == row.words then command_by row.verb words else None
 
 -- a command that asks no keeper
@@ -71,4 +72,4 @@ house_in command = None
 
 -- the command of the house that words are, if they are one
 unfoldable pub house_words : List (List ℕ) → Option HouseWords
-house_words words = command_words words >>= house_in
+house_words words = command_words words >>? house_in

@@ -1,6 +1,6 @@
 -- The names of the files that a command reads.
 use Rattle.std.specs.Prelude.{ℕ, ◌+◌, ◌&&◌, nat_le, Bool, if◌then◌else◌, List, [], length, slice_index_or, Option, Some, None}
-use Rattle.vk_lines.specs.Tokens.{◌>>=◌}
+use Rattle.vk_residue.specs.Steps.{◌>>?◌}
 use Rattle.vk_words.specs.declared.names.AttemptNames.{AttemptNames}
 use Rattle.vk_words.specs.declared.names.ConfrontNames.{ConfrontNames}
 use Rattle.vk_words.specs.declared.names.ExtractNames.{ExtractNames}
@@ -57,28 +57,28 @@ confront_seen names = record { replies = extract_seen names.replies; secret = na
 
 -- the names of a challenge, at that place, and of the reply behind it
 unfoldable pub attempt_at : List (List ℕ) → ℕ → Option AttemptWords
-attempt_at words place = do
-  challenge ← name_at words place
-  reply ← name_at words (place + 1)
-  Some (record { challenge = challenge; reply = reply })
+attempt_at words place =
+    name_at words place >>? λ challenge.
+    name_at words (place + 1) >>? λ reply.
+    Some (record { challenge = challenge; reply = reply })
 
 -- BOARD CHALLENGE REPLY behind the first word
 unfoldable pub verify_in : List (List ℕ) → Option VerifyWords
-verify_in words = do
-  board ← name_at words 1
-  attempt ← attempt_at words 2
-  Some (record { board = board; attempt = attempt })
+verify_in words =
+    name_at words 1 >>? λ board.
+    attempt_at words 2 >>? λ attempt.
+    Some (record { board = board; attempt = attempt })
 
 -- the same and CHALLENGE REPLY, the second ones
 unfoldable pub extract_in : List (List ℕ) → Option ExtractWords
-extract_in words = do
-  names ← verify_in words
-  second ← attempt_at words 4
-  Some (record { board = names.board; first = names.attempt; second = second })
+extract_in words =
+    verify_in words >>? λ names.
+    attempt_at words 4 >>? λ second.
+    Some (record { board = names.board; first = names.attempt; second = second })
 
 -- the same and SECRET
 unfoldable pub confront_in : List (List ℕ) → Option ConfrontWords
-confront_in words = do
-  replies ← extract_in words
-  secret ← name_at words 6
-  Some (record { replies = replies; secret = secret })
+confront_in words =
+    extract_in words >>? λ replies.
+    name_at words 6 >>? λ secret.
+    Some (record { replies = replies; secret = secret })

@@ -1,7 +1,9 @@
 -- What a bidder's command and the house's commands are to do.
 use Rattle.std.specs.Prelude.{ℕ, ◌-◌, ◌^◌, ◌≤◌, if◌then◌else◌, List, Option, Some, None}
 use Rattle.std.specs.Str.{bytes_eq}
-use Rattle.vk_lines.specs.Tokens.{◌>>=◌, decimal_of, hex_of, number_token}
+use Rattle.vk_residue.specs.Limits.{IsSize}
+use Rattle.vk_residue.specs.Steps.{◌>>?◌}
+use Rattle.vk_lines.specs.Tokens.{decimal_of, hex_of, number_token}
 use Rattle.vk_words.specs.declared.orders.HouseOrder.{HouseOrder}
 use Rattle.vk_words.specs.declared.orders.HouseOrder.TheVariants as orders
 use Rattle.vk_words.specs.declared.orders.SealOrder.{SealOrder}
@@ -41,13 +43,6 @@ house_seen (orders.Show id) = Show id
 
 -- ---- limits
 
--- the width of an auction and its number of lanes are within their limits
-pub record IsSize (width lanes : ℕ) : Type 0 where
-  pub some_width : 1 ≤ width
-  pub last_width : width ≤ 40
-  pub some_lane : 1 ≤ lanes
-  pub last_lane : lanes ≤ 64
-
 -- what making a seal asks of its numbers
 pub record IsSealOrder (order : SealWords) : Type 0 where
   pub seat : 1 ≤ order.seat
@@ -74,26 +69,26 @@ if_other name other given = if bytes_eq name other then None else Some given
 
 -- ID SEAT BID WIDTH LANES SEED SECRET SEAL behind the first word, where the two files have different names
 unfoldable pub seal_in : List (List ℕ) → Option SealWords
-seal_in words = do
-  auction ← id_at words 1
-  seat ← number_token 1 65535 (word_at words 2)
-  bid ← decimal_of (2 ^ 64 - 1) (word_at words 3)
-  width ← number_token 1 40 (word_at words 4)
-  lanes ← number_token 1 64 (word_at words 5)
-  seed ← seed_at words 6
-  secret ← name_at words 7
-  seal ← name_at words 8
-  if_other secret seal (record { auction = auction; seat = seat; bid = bid; width = width; lanes = lanes; seed = seed; secret = secret; seal = seal })
+seal_in words =
+    id_at words 1 >>? λ auction.
+    number_token 1 65535 (word_at words 2) >>? λ seat.
+    decimal_of (2 ^ 64 - 1) (word_at words 3) >>? λ bid.
+    number_token 1 40 (word_at words 4) >>? λ width.
+    number_token 1 64 (word_at words 5) >>? λ lanes.
+    seed_at words 6 >>? λ seed.
+    name_at words 7 >>? λ secret.
+    name_at words 8 >>? λ seal.
+    if_other secret seal (record { auction = auction; seat = seat; bid = bid; width = width; lanes = lanes; seed = seed; secret = secret; seal = seal })
 
 -- behind ID: WIDTH LANES; SEAL SECRET; SEED BOARD; CHALLENGE REPLY, where the two files have different names; nothing
 abbrev pub house_on : List ℕ → Verb → List (List ℕ) → Option HouseWords
-house_on id verbs.Announce words = number_token 1 40 (word_at words 2) >>= λ width. number_token 1 64 (word_at words 3) >>= λ lanes. Some (Announce id width lanes)
-house_on id verbs.Submit words = name_at words 2 >>= λ seal. name_at words 3 >>= λ secret. Some (Submit id seal secret)
-house_on id verbs.Prove words = seed_at words 2 >>= λ seed. name_at words 3 >>= λ board. Some (Prove id seed board)
-house_on id verbs.Answer words = attempt_at words 2 >>= λ attempt. if_other attempt.challenge attempt.reply (Answer id attempt.challenge attempt.reply)
+house_on id verbs.Announce words = number_token 1 40 (word_at words 2) >>? λ width. number_token 1 64 (word_at words 3) >>? λ lanes. Some (Announce id width lanes)
+house_on id verbs.Submit words = name_at words 2 >>? λ seal. name_at words 3 >>? λ secret. Some (Submit id seal secret)
+house_on id verbs.Prove words = seed_at words 2 >>? λ seed. name_at words 3 >>? λ board. Some (Prove id seed board)
+house_on id verbs.Answer words = attempt_at words 2 >>? λ attempt. if_other attempt.challenge attempt.reply (Answer id attempt.challenge attempt.reply)
 house_on id verbs.Show words = Some (Show id)
 house_on id verb words = None
 
 -- a command of the house on the auction whose ID stands behind the first word
 abbrev pub house_by : Verb → List (List ℕ) → Option HouseWords
-house_by verb words = id_at words 1 >>= λ id. house_on id verb words
+house_by verb words = id_at words 1 >>? λ id. house_on id verb words
