@@ -8,7 +8,7 @@ mod runs;
 
 use std::alloc::Global;
 use std::process::ExitCode;
-use vk_cases::{Form, Unreplayed, replay_forms};
+use vk_cases::{Form, Tried, replay_forms};
 use vk_io::Shelf;
 
 /// What a file of cases has, one case a line.
@@ -31,12 +31,7 @@ impl Form for Cases {
         }
     }
 
-    fn text<S: Shelf>(
-        &self,
-        alloc: Global,
-        shelf: &mut S,
-        case: &[u8],
-    ) -> Result<Vec<u8>, Unreplayed> {
+    fn text<S: Shelf>(&self, alloc: Global, shelf: &mut S, case: &[u8]) -> Tried<Vec<u8>> {
         match self {
             Cases::Files => files::fault_text(alloc, shelf, case),
             Cases::Runs => runs::run_text(alloc, shelf, case),

@@ -2,7 +2,7 @@
 use sha2::{Digest, Sha256};
 use std::alloc::Global;
 use vk_app::run;
-use vk_cases::{Unreplayed, number_at, read_cases, text_of, words_of};
+use vk_cases::{Tried, Unreplayed, number_at, read_cases, text_of, words_of};
 use vk_io::{MemShelf, MemSink, Shelf};
 use vk_keeper::MemKeeper;
 use vk_lines::{end_line, push_decimal, push_hex, push_line, push_space};
@@ -17,11 +17,7 @@ struct Run<'a> {
 }
 
 /// The case, and what its run comes to.
-pub fn run_text<S: Shelf>(
-    alloc: Global,
-    shelf: &mut S,
-    case: &[u8],
-) -> Result<Vec<u8>, Unreplayed> {
+pub fn run_text<S: Shelf>(alloc: Global, shelf: &mut S, case: &[u8]) -> Tried<Vec<u8>> {
     let parts = run_of(case)?;
     let given = files_of(alloc, shelf, parts.files)?;
     let mut files = files_of(alloc, shelf, parts.files)?;
@@ -37,11 +33,7 @@ pub fn run_text<S: Shelf>(
 }
 
 /// The case, and what its commands come to, which a house does one after another.
-pub fn house_text<S: Shelf>(
-    alloc: Global,
-    shelf: &mut S,
-    case: &[u8],
-) -> Result<Vec<u8>, Unreplayed> {
+pub fn house_text<S: Shelf>(alloc: Global, shelf: &mut S, case: &[u8]) -> Tried<Vec<u8>> {
     let mut parts = case.split(|byte| *byte == b'|');
     let name = parts.next().ok_or(Unreplayed::NoCase)?;
     let mut files = files_of(alloc, shelf, parts.next().ok_or(Unreplayed::NoCase)?)?;
@@ -76,7 +68,7 @@ fn command_text(
     keeper: &mut MemKeeper,
     name: &[u8],
     words: &[String],
-) -> Result<Vec<u8>, Unreplayed> {
+) -> Tried<Vec<u8>> {
     let given = files_named(alloc, words, files)?;
     let mut out = MemSink::new(alloc);
     let status = run(alloc, words, files, keeper, &mut out);
@@ -91,7 +83,7 @@ fn push_sums(
     words: &[String],
     given: &MemShelf,
     files: &MemShelf,
-) -> Result<(), Unreplayed> {
+) -> Tried<()> {
     for word in words.iter().skip(1) {
         if let Some(left) = files.file(word.as_str()) {
             if !is_given(given, word.as_str(), left) {
@@ -103,7 +95,7 @@ fn push_sums(
 }
 
 /// `left NAME LENGTH SHA-256`.
-fn push_sum(text: &mut Vec<u8>, name: &[u8], left: &[u8]) -> Result<(), Unreplayed> {
+fn push_sum(text: &mut Vec<u8>, name: &[u8], left: &[u8]) -> Tried<()> {
     text.extend_from_slice(b"left ")?;
     text.extend_from_slice(name)?;
     push_space(text)?;
@@ -115,7 +107,7 @@ fn push_sum(text: &mut Vec<u8>, name: &[u8], left: &[u8]) -> Result<(), Unreplay
 }
 
 /// The files that the words name, as they are.
-fn files_named(alloc: Global, words: &[String], files: &MemShelf) -> Result<MemShelf, Unreplayed> {
+fn files_named(alloc: Global, words: &[String], files: &MemShelf) -> Tried<MemShelf> {
     let mut named = MemShelf::new(alloc);
     for word in words {
         if let Some(bytes) = files.file(word.as_str()) {
@@ -126,7 +118,7 @@ fn files_named(alloc: Global, words: &[String], files: &MemShelf) -> Result<MemS
 }
 
 /// The name of a case, the status of a run, and what it printed.
-fn end_text(alloc: Global, name: &[u8], status: u8, out: &MemSink) -> Result<Vec<u8>, Unreplayed> {
+fn end_text(alloc: Global, name: &[u8], status: u8, out: &MemSink) -> Tried<Vec<u8>> {
     let mut text = Vec::from_slice(alloc, name)?;
     text.extend_from_slice(b"| ")?;
     push_decimal(&mut text, u64::from(status))?;
@@ -136,7 +128,7 @@ fn end_text(alloc: Global, name: &[u8], status: u8, out: &MemSink) -> Result<Vec
 }
 
 /// The parts of the case, which stand between bars.
-fn run_of(case: &[u8]) -> Result<Run<'_>, Unreplayed> {
+fn run_of(case: &[u8]) -> Tried<Run<'_>> {
     let mut parts = case.split(|byte| *byte == b'|');
     let name = parts.next().ok_or(Unreplayed::NoCase)?;
     let files = parts.next().ok_or(Unreplayed::NoCase)?;
@@ -151,11 +143,7 @@ fn run_of(case: &[u8]) -> Result<Run<'_>, Unreplayed> {
 }
 
 /// The files of a part, in memory. Each stands there as `NAME=FILE`.
-pub fn files_of<S: Shelf>(
-    alloc: Global,
-    shelf: &mut S,
-    part: &[u8],
-) -> Result<MemShelf, Unreplayed> {
+pub fn files_of<S: Shelf>(alloc: Global, shelf: &mut S, part: &[u8]) -> Tried<MemShelf> {
     let mut files = MemShelf::new(alloc);
     for word in part.split(|byte| *byte == b' ') {
         if !word.is_empty() {
@@ -171,7 +159,7 @@ fn put_file<S: Shelf>(
     shelf: &mut S,
     files: &mut MemShelf,
     word: &[u8],
-) -> Result<(), Unreplayed> {
+) -> Tried<()> {
     let mut parts = word.split(|byte| *byte == b'=');
     let name = parts.next().ok_or(Unreplayed::NoCase)?;
     let file = parts.next().ok_or(Unreplayed::NoCase)?;
@@ -189,7 +177,7 @@ fn push_left(
     from: usize,
     given: &MemShelf,
     files: &MemShelf,
-) -> Result<(), Unreplayed> {
+) -> Tried<()> {
     for word in words.iter().skip(from) {
         if let Some(left) = files.file(word.as_str()) {
             if !is_given(given, word.as_str(), left) {

@@ -2,7 +2,7 @@
 use crate::changes::{put_file, with_line};
 use std::alloc::Global;
 use vk_app::run;
-use vk_cases::{Unreplayed, WatchedShelf, words_of};
+use vk_cases::{Tried, Unreplayed, WatchedShelf, words_of};
 use vk_io::MemSink;
 use vk_keeper::MemKeeper;
 
@@ -39,7 +39,7 @@ impl Stage {
     }
 
     /// Has this text in place of a line of the named file, until the next run is over.
-    pub fn change(&mut self, name: String, number: u64, text: &[u8]) -> Result<(), Unreplayed> {
+    pub fn change(&mut self, name: String, number: u64, text: &[u8]) -> Tried<()> {
         let file = self.shelf.file(name.as_str()).ok_or(Unreplayed::NoCase)?;
         let bytes = Vec::from_slice(self.alloc, file)?;
         let changed = with_line(self.alloc, file, number, text)?;
@@ -55,7 +55,7 @@ impl Stage {
 
     /// Runs the command of these words, and puts the changed lines back. Answers its status and
     /// what it printed.
-    pub fn run(&mut self, line: &[u8]) -> Result<(u8, MemSink), Unreplayed> {
+    pub fn run(&mut self, line: &[u8]) -> Tried<(u8, MemSink)> {
         let words = words_of(self.alloc, line)?;
         let mut out = MemSink::new(self.alloc);
         self.shelf.watch(words.as_slice())?;
@@ -73,7 +73,7 @@ impl Stage {
 }
 
 /// Has each file as it was before its first change.
-fn put_back(shelf: &mut WatchedShelf, replaced: &[Replaced]) -> Result<(), Unreplayed> {
+fn put_back(shelf: &mut WatchedShelf, replaced: &[Replaced]) -> Tried<()> {
     for file in replaced.iter().rev() {
         put_file(shelf, file.name.as_str(), file.bytes.as_slice())?;
     }

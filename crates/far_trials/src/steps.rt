@@ -2,7 +2,7 @@
 use crate::changes::put_file;
 use crate::stage::Stage;
 use std::alloc::Global;
-use vk_cases::{Unreplayed, behind, number_at, read_cases, text_of, word_at};
+use vk_cases::{Tried, Unreplayed, behind, number_at, read_cases, text_of, word_at};
 use vk_dice::{ListWords, draw_residue};
 use vk_io::Shelf;
 use vk_lines::{end_line, push_decimal, push_line};
@@ -23,7 +23,7 @@ pub fn step_text<S: Shelf>(
     stage: &mut Stage,
     folder: &mut S,
     step: &[u8],
-) -> Result<Vec<u8>, Unreplayed> {
+) -> Tried<Vec<u8>> {
     let word = text_of(alloc, word_at(step, 0)?)?;
     let rest = behind(step, word.len().saturating_add(1));
     match word.as_str() {
@@ -43,12 +43,7 @@ pub fn step_text<S: Shelf>(
 }
 
 /// Has the named file of the folder in memory.
-fn take<S: Shelf>(
-    alloc: Global,
-    stage: &mut Stage,
-    folder: &mut S,
-    name: &[u8],
-) -> Result<Vec<u8>, Unreplayed> {
+fn take<S: Shelf>(alloc: Global, stage: &mut Stage, folder: &mut S, name: &[u8]) -> Tried<Vec<u8>> {
     let name = text_of(alloc, name)?;
     let bytes = read_cases(alloc, folder, name.as_str())?;
     put_file(&mut stage.shelf, name.as_str(), bytes.as_slice())?;
@@ -56,7 +51,7 @@ fn take<S: Shelf>(
 }
 
 /// Runs a command, and tells of it where it wasn't done.
-fn done(alloc: Global, stage: &mut Stage, line: &[u8]) -> Result<Vec<u8>, Unreplayed> {
+fn done(alloc: Global, stage: &mut Stage, line: &[u8]) -> Tried<Vec<u8>> {
     let (status, out) = stage.run(line)?;
     if status == 0 {
         return Ok(Vec::new(alloc));
@@ -65,13 +60,13 @@ fn done(alloc: Global, stage: &mut Stage, line: &[u8]) -> Result<Vec<u8>, Unrepl
 }
 
 /// Runs a command, and tells of it.
-fn said(alloc: Global, stage: &mut Stage, line: &[u8]) -> Result<Vec<u8>, Unreplayed> {
+fn said(alloc: Global, stage: &mut Stage, line: &[u8]) -> Tried<Vec<u8>> {
     let (status, out) = stage.run(line)?;
     run_text(alloc, line, status, out.bytes())
 }
 
 /// The words of a command, its status, and what it printed.
-fn run_text(alloc: Global, line: &[u8], status: u8, printed: &[u8]) -> Result<Vec<u8>, Unreplayed> {
+fn run_text(alloc: Global, line: &[u8], status: u8, printed: &[u8]) -> Tried<Vec<u8>> {
     let mut text = Vec::from_slice(alloc, line)?;
     text.extend_from_slice(b" | ")?;
     push_decimal(&mut text, u64::from(status))?;
@@ -84,7 +79,7 @@ fn run_text(alloc: Global, line: &[u8], status: u8, printed: &[u8]) -> Result<Ve
 const LINE_AND_SPACES: usize = 7;
 
 /// Changes a line, and tells which.
-fn change(alloc: Global, stage: &mut Stage, step: &[u8]) -> Result<Vec<u8>, Unreplayed> {
+fn change(alloc: Global, stage: &mut Stage, step: &[u8]) -> Tried<Vec<u8>> {
     let name = text_of(alloc, word_at(step, 1)?)?;
     let number = number_at(step, 2, u64::MAX)?;
     let named = name.len().saturating_add(word_at(step, 2)?.len());
@@ -96,7 +91,7 @@ fn change(alloc: Global, stage: &mut Stage, step: &[u8]) -> Result<Vec<u8>, Unre
 }
 
 /// Tells whether the last command read the named file within the bounds of the step.
-fn bounded(alloc: Global, stage: &Stage, step: &[u8]) -> Result<Vec<u8>, Unreplayed> {
+fn bounded(alloc: Global, stage: &Stage, step: &[u8]) -> Tried<Vec<u8>> {
     let name = text_of(alloc, word_at(step, 1)?)?;
     let place = number_at(step, 2, u64::MAX)?;
     let least = number_at(step, 3, u64::MAX)?;
@@ -108,7 +103,7 @@ fn bounded(alloc: Global, stage: &Stage, step: &[u8]) -> Result<Vec<u8>, Unrepla
 }
 
 /// Tells whether the last command read the named file to its end.
-fn ended(alloc: Global, stage: &Stage, name: &[u8]) -> Result<Vec<u8>, Unreplayed> {
+fn ended(alloc: Global, stage: &Stage, name: &[u8]) -> Tried<Vec<u8>> {
     let name = text_of(alloc, name)?;
     if stage.shelf.reach(name.as_str()) == stage.length(name.as_str()) {
         let text = format!(in alloc; "{name} read to its end\n")?;
@@ -118,7 +113,7 @@ fn ended(alloc: Global, stage: &Stage, name: &[u8]) -> Result<Vec<u8>, Unreplaye
 }
 
 /// How far the last command read the named file.
-fn reach_text(alloc: Global, stage: &Stage, name: &str) -> Result<Vec<u8>, Unreplayed> {
+fn reach_text(alloc: Global, stage: &Stage, name: &str) -> Tried<Vec<u8>> {
     let reach = stage.shelf.reach(name);
     let length = stage.length(name);
     let text = format!(in alloc; "{name} read to {reach} of {length}\n")?;
@@ -126,7 +121,7 @@ fn reach_text(alloc: Global, stage: &Stage, name: &str) -> Result<Vec<u8>, Unrep
 }
 
 /// Tells the last of so many residues that are drawn from a list of the words from 1 on.
-fn drawn(alloc: Global, step: &[u8]) -> Result<Vec<u8>, Unreplayed> {
+fn drawn(alloc: Global, step: &[u8]) -> Tried<Vec<u8>> {
     let number = number_at(step, 1, u64::MAX)?;
     let mut list = Vec::new(alloc);
     for word in 1..=number {

@@ -3,7 +3,7 @@ use crate::asked::Asked;
 use crate::honest::{Honest, seat_at};
 use std::alloc::Global;
 use vk_app::run;
-use vk_cases::{Unreplayed, words_of};
+use vk_cases::{Tried, words_of};
 use vk_io::{MemShelf, MemSink, PieceShelf, Shelf, Sink};
 use vk_keeper::MemKeeper;
 use vk_lines::{end_line, push_decimal, push_space};
@@ -61,7 +61,7 @@ const AUCTIONS: [Auction; 5] = [
 ];
 
 /// Makes each auction, and tells what its files come to.
-pub fn try_auctions<W: Sink>(alloc: Global, out: &mut W) -> Result<(), Unreplayed> {
+pub fn try_auctions<W: Sink>(alloc: Global, out: &mut W) -> Tried<()> {
     for auction in &AUCTIONS {
         let text = auction_text(alloc, auction)?;
         out.put(text.as_slice())?;
@@ -70,7 +70,7 @@ pub fn try_auctions<W: Sink>(alloc: Global, out: &mut W) -> Result<(), Unreplaye
 }
 
 /// How large the auction's files are, and what the program says of them.
-fn auction_text(alloc: Global, auction: &Auction) -> Result<Vec<u8>, Unreplayed> {
+fn auction_text(alloc: Global, auction: &Auction) -> Tried<Vec<u8>> {
     let honest = Honest::of(alloc, auction.bids, auction.width, auction.lanes)?;
     let mut shelf = PieceShelf::over(MemShelf::new(alloc));
     honest.write(alloc, &mut shelf)?;
@@ -90,7 +90,7 @@ fn push_sizes(
     auction: &Auction,
     honest: &Honest,
     files: &MemShelf,
-) -> Result<(), Unreplayed> {
+) -> Tried<()> {
     text.extend_from_slice(b"auction")?;
     push_count(text, b"bids", auction.bids.len() as u64)?;
     push_count(text, b"width", u64::from(auction.width))?;
@@ -104,7 +104,7 @@ fn push_sizes(
 }
 
 /// A word and its number, each behind a space.
-fn push_count(text: &mut Vec<u8>, word: &[u8], number: u64) -> Result<(), Unreplayed> {
+fn push_count(text: &mut Vec<u8>, word: &[u8], number: u64) -> Tried<()> {
     push_space(text)?;
     text.extend_from_slice(word)?;
     push_space(text)?;
@@ -129,7 +129,7 @@ fn push_verified(
     text: &mut Vec<u8>,
     shelf: &mut PieceShelf,
     asked: Asked,
-) -> Result<(), Unreplayed> {
+) -> Tried<()> {
     let line = words_with(alloc, "verify board", asked)?;
     let out = push_run(alloc, text, shelf, line.as_bytes())?;
     text.extend_from_slice(out.bytes())?;
@@ -137,7 +137,7 @@ fn push_verified(
 }
 
 /// These words, and the names of what is asked and of the reply.
-fn words_with(alloc: Global, words: &str, asked: Asked) -> Result<String, Unreplayed> {
+fn words_with(alloc: Global, words: &str, asked: Asked) -> Tried<String> {
     let challenge = asked.name();
     let reply = asked.reply();
     let line = format!(in alloc; "{words} {challenge} {reply}")?;
@@ -150,7 +150,7 @@ pub fn push_run<S: Shelf>(
     text: &mut Vec<u8>,
     shelf: &mut S,
     line: &[u8],
-) -> Result<MemSink, Unreplayed> {
+) -> Tried<MemSink> {
     let words = words_of(alloc, line)?;
     let mut out = MemSink::new(alloc);
     let mut keeper = MemKeeper::new(alloc);
@@ -160,7 +160,7 @@ pub fn push_run<S: Shelf>(
 }
 
 /// A command and its status.
-fn push_status(text: &mut Vec<u8>, words: &[u8], status: u8) -> Result<(), Unreplayed> {
+fn push_status(text: &mut Vec<u8>, words: &[u8], status: u8) -> Tried<()> {
     text.extend_from_slice(words)?;
     text.extend_from_slice(b" | ")?;
     push_decimal(text, u64::from(status))?;
@@ -177,7 +177,7 @@ fn push_extracted(
     shelf: &mut PieceShelf,
     auction: &Auction,
     asked: Asked,
-) -> Result<(), Unreplayed> {
+) -> Tried<()> {
     let line = words_with(alloc, "extract board zeros reply-zeros", asked)?;
     let out = push_run(alloc, text, shelf, line.as_bytes())?;
     let said = without_openings(alloc, out.bytes())?;
@@ -193,7 +193,7 @@ fn push_extracted(
 }
 
 /// The text of an extraction, each line as far as its openings.
-fn without_openings(alloc: Global, said: &[u8]) -> Result<Vec<u8>, Unreplayed> {
+fn without_openings(alloc: Global, said: &[u8]) -> Tried<Vec<u8>> {
     let mut text = Vec::new(alloc);
     for line in said.split(|byte| *byte == b'\n') {
         if !line.is_empty() {
@@ -204,7 +204,7 @@ fn without_openings(alloc: Global, said: &[u8]) -> Result<Vec<u8>, Unreplayed> {
 }
 
 /// The words of the line before `u`, behind which the openings stand.
-fn push_before_openings(text: &mut Vec<u8>, line: &[u8]) -> Result<(), Unreplayed> {
+fn push_before_openings(text: &mut Vec<u8>, line: &[u8]) -> Tried<()> {
     let mut begun = false;
     for word in line.split(|byte| *byte == b' ') {
         if word == b"u".as_slice() {
@@ -222,7 +222,7 @@ fn push_before_openings(text: &mut Vec<u8>, line: &[u8]) -> Result<(), Unreplaye
 
 /// What an extraction without its openings has to be: the bids of each lane where more than
 /// zeros is asked for, the outcome, and that each seat's bids are the same.
-fn expected(alloc: Global, auction: &Auction, asked: Asked) -> Result<Vec<u8>, Unreplayed> {
+fn expected(alloc: Global, auction: &Auction, asked: Asked) -> Tried<Vec<u8>> {
     let mut text = Vec::new(alloc);
     for lane in 1..=auction.lanes {
         if asked.bit(u32::from(lane), u32::from(auction.lanes)) {
@@ -237,12 +237,7 @@ fn expected(alloc: Global, auction: &Auction, asked: Asked) -> Result<Vec<u8>, U
 }
 
 /// The line of each bid in a lane.
-fn push_bids(
-    alloc: Global,
-    text: &mut Vec<u8>,
-    auction: &Auction,
-    lane: u16,
-) -> Result<(), Unreplayed> {
+fn push_bids(alloc: Global, text: &mut Vec<u8>, auction: &Auction, lane: u16) -> Tried<()> {
     for (bid, position) in auction.bids.iter().zip(1u32..=64) {
         let bid = *bid;
         let seat = seat_at(position);
@@ -253,7 +248,7 @@ fn push_bids(
 }
 
 /// The line of the outcome that is known.
-fn winner_line(alloc: Global, auction: &Auction) -> Result<String, Unreplayed> {
+fn winner_line(alloc: Global, auction: &Auction) -> Tried<String> {
     let seat = seat_at(auction.position);
     let price = auction.price;
     let line = format!(in alloc; "winner {seat} price {price}\n")?;
@@ -261,7 +256,7 @@ fn winner_line(alloc: Global, auction: &Auction) -> Result<String, Unreplayed> {
 }
 
 /// The line of each seat whose bids are the same in all lanes.
-fn push_same(alloc: Global, text: &mut Vec<u8>, auction: &Auction) -> Result<(), Unreplayed> {
+fn push_same(alloc: Global, text: &mut Vec<u8>, auction: &Auction) -> Tried<()> {
     for (_bid, position) in auction.bids.iter().zip(1u32..=64) {
         let seat = seat_at(position);
         let line = format!(in alloc; "seat {seat} same\n")?;

@@ -3,16 +3,12 @@ use crate::auctions::lines_in;
 use crate::commands::{SMALLEST, VERIFY};
 use crate::world::World;
 use std::alloc::Global;
-use vk_cases::Unreplayed;
+use vk_cases::{Tried, Unreplayed};
 use vk_io::{Shelf, Sink};
 use vk_lines::{end_line, push_decimal};
 
 /// Tells of each of the files whether `verify` names the line at which it is cut.
-pub fn try_cuts<S: Shelf, W: Sink>(
-    alloc: Global,
-    shelf: &mut S,
-    out: &mut W,
-) -> Result<(), Unreplayed> {
+pub fn try_cuts<S: Shelf, W: Sink>(alloc: Global, shelf: &mut S, out: &mut W) -> Tried<()> {
     for name in ["board", "challenge-0", "reply-0"] {
         let mut text = Vec::new(alloc);
         text.extend_from_slice(b"cuts of ")?;
@@ -31,11 +27,7 @@ pub fn try_cuts<S: Shelf, W: Sink>(
 }
 
 /// How many bytes are kept by the first cut whose line isn't told, of those at each byte before the file's end.
-fn first_untold<S: Shelf>(
-    alloc: Global,
-    shelf: &mut S,
-    name: &str,
-) -> Result<Option<u64>, Unreplayed> {
+fn first_untold<S: Shelf>(alloc: Global, shelf: &mut S, name: &str) -> Tried<Option<u64>> {
     let mut world = World::of(alloc, shelf, SMALLEST, &[])?;
     let whole = Vec::from_slice(alloc, world.files.file(name).ok_or(Unreplayed::NoCase)?)?;
     let mut kept = Vec::new(alloc);
@@ -50,7 +42,7 @@ fn first_untold<S: Shelf>(
 }
 
 /// Whether `verify` says that the file is malformed at the line behind those that are whole.
-fn is_told(alloc: Global, world: &mut World, name: &str) -> Result<bool, Unreplayed> {
+fn is_told(alloc: Global, world: &mut World, name: &str) -> Tried<bool> {
     let line = lines_in(&world.files, name).saturating_add(1);
     let said = format!(in alloc; "malformed {name} line {line}\n")?;
     let ran = world.run(alloc, VERIFY)?;

@@ -3,7 +3,7 @@ use crate::commands::{COMMANDS, Command};
 use crate::stops::Effect;
 use crate::world::{Outside, Ran, World};
 use std::alloc::Global;
-use vk_cases::Unreplayed;
+use vk_cases::Tried;
 use vk_io::{Shelf, Sink};
 use vk_lines::{end_line, push_decimal};
 
@@ -21,11 +21,7 @@ enum Fault {
 }
 
 /// Tells of each command whether each of its faults is told.
-pub fn try_faults<S: Shelf, W: Sink>(
-    alloc: Global,
-    shelf: &mut S,
-    out: &mut W,
-) -> Result<(), Unreplayed> {
+pub fn try_faults<S: Shelf, W: Sink>(alloc: Global, shelf: &mut S, out: &mut W) -> Tried<()> {
     for command in &COMMANDS {
         let mut text = Vec::new(alloc);
         text.extend_from_slice(b"faults of ")?;
@@ -43,7 +39,7 @@ fn push_told<S: Shelf>(
     text: &mut Vec<u8>,
     shelf: &mut S,
     command: &Command,
-) -> Result<(), Unreplayed> {
+) -> Tried<()> {
     let effect = Effect::of(alloc, shelf, command)?;
     for outside in command.outsides {
         if let Some(call) = first_untold(alloc, shelf, command, &effect, *outside)? {
@@ -73,7 +69,7 @@ fn first_untold<S: Shelf>(
     command: &Command,
     effect: &Effect,
     outside: Outside,
-) -> Result<Option<u64>, Unreplayed> {
+) -> Tried<Option<u64>> {
     for call in 1..=MOST_CALLS {
         let mut world = World::of(alloc, shelf, command.given, command.before)?;
         world.fail_at(outside, call)?;
@@ -93,7 +89,7 @@ fn fault_in(
     command: &Command,
     effect: &Effect,
     outside: Outside,
-) -> Result<Fault, Unreplayed> {
+) -> Tried<Fault> {
     let first = world.run(alloc, command.words)?;
     if first.said(0, command.whole) {
         let second = world.run(alloc, command.words)?;
@@ -119,7 +115,7 @@ fn is_stopped(
     effect: &Effect,
     outside: Outside,
     ran: &Ran,
-) -> Result<bool, Unreplayed> {
+) -> Tried<bool> {
     let kept = world.kept(alloc)?;
     let text = ran.text.as_slice();
     let printed = match outside {
@@ -135,7 +131,7 @@ fn is_done_again(
     world: &mut World,
     command: &Command,
     effect: &Effect,
-) -> Result<bool, Unreplayed> {
+) -> Tried<bool> {
     let kept = world.kept(alloc)?;
     if let Some((words, said)) = command.refused {
         if effect.keeps(kept.as_str()) && !world.run(alloc, words)?.said(8, said) {

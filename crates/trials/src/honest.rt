@@ -4,7 +4,7 @@ ghost use Rattle.vk_plan.specs.Plans.{Holds};
 
 use std::alloc::Global;
 use vk_board::{Head, LaneLines, SealLines};
-use vk_cases::Unreplayed;
+use vk_cases::{Tried, Unreplayed};
 use vk_dice::ChaChaWords;
 use vk_plan::{Circuit, Plan};
 use vk_prover::{LaneTape, answer_lane, draw_tape, make_lane};
@@ -58,7 +58,7 @@ pub struct Honest {
 
 impl Honest {
     /// The auction of these bids, where they are within the limits.
-    pub fn of(alloc: Global, bids: &[u64], width: u32, lanes: u16) -> Result<Honest, Unreplayed> {
+    pub fn of(alloc: Global, bids: &[u64], width: u32, lanes: u16) -> Tried<Honest> {
         if bids.is_empty() || 64 < bids.len() || 40 < width {
             return Err(Unreplayed::NoCase);
         }
@@ -91,7 +91,7 @@ fn honest_lanes(
     values: &[Residue],
     secrets: &[Secret],
     lanes: u16,
-) -> Result<Vec<HonestLane>, Unreplayed>
+) -> Tried<Vec<HonestLane>>
     requires { Holds plan.now values.now }
 {
     let mut all = Vec::new(alloc);
@@ -109,7 +109,7 @@ fn honest_lane(
     plan: &Plan,
     values: &[Residue],
     tape: &LaneTape,
-) -> Result<HonestLane, Unreplayed>
+) -> Tried<HonestLane>
     requires holds { Holds plan.now values.now }
     requires one_each { length tape.now.wires ≡ length plan.now.kinds }
 {
@@ -120,12 +120,7 @@ fn honest_lane(
 }
 
 /// The tape of a lane, from 1: those of the bids in it, and what the auctioneer draws.
-fn lane_tape(
-    alloc: Global,
-    plan: &Plan,
-    secrets: &[Secret],
-    lane: u16,
-) -> Result<LaneTape, Unreplayed>
+fn lane_tape(alloc: Global, plan: &Plan, secrets: &[Secret], lane: u16) -> Tried<LaneTape>
     ensures { IfOk result (λ tape. length tape.wires ≡ length plan.now.kinds) }
 {
     let mut given = Vec::new(alloc);
@@ -154,7 +149,7 @@ fn sealed_bids(
     bids: &[u64],
     width: u32,
     lanes: u16,
-) -> Result<(Vec<Secret>, Vec<SealLines>), Unreplayed> {
+) -> Tried<(Vec<Secret>, Vec<SealLines>)> {
     let mut secrets = Vec::new(alloc);
     let mut seals = Vec::new(alloc);
     for (bid, position) in bids.iter().zip(1u32..=64) {
@@ -169,13 +164,7 @@ fn sealed_bids(
 }
 
 /// What one bidder keeps and hands in.
-fn sealed_bid(
-    alloc: Global,
-    bid: u64,
-    seat: u16,
-    width: u32,
-    lanes: u32,
-) -> Result<(Secret, Seal), Unreplayed> {
+fn sealed_bid(alloc: Global, bid: u64, seat: u16, width: u32, lanes: u32) -> Tried<(Secret, Seal)> {
     if seat == 0 || width == 0 || 40 < width || lanes == 0 || 64 < lanes {
         return Err(Unreplayed::NoCase);
     }
@@ -187,7 +176,7 @@ fn sealed_bid(
 }
 
 /// The plan of the bids at their outcome, and the values that hold for it.
-fn plan_of_bids(alloc: Global, bids: &[u64], width: u32) -> Result<(Plan, Vec<Residue>), Unreplayed>
+fn plan_of_bids(alloc: Global, bids: &[u64], width: u32) -> Tried<(Plan, Vec<Residue>)>
     requires some { 1 ≤ length bids.now }
     requires most { length bids.now ≤ 64 }
     requires width { width ≤ 40 }

@@ -5,7 +5,7 @@ use crate::honest::Honest;
 use std::alloc::Global;
 use vk_app::run;
 use vk_board::SealLines;
-use vk_cases::{Unreplayed, WatchedShelf, behind, words_of};
+use vk_cases::{Tried, Unreplayed, WatchedShelf, behind, words_of};
 use vk_io::{MemShelf, MemSink, PieceShelf, Sink};
 use vk_keeper::MemKeeper;
 use vk_lines::push_line;
@@ -19,7 +19,7 @@ const SPOILED: &str = "sample-reply-2";
 
 /// Tells what `sample 1` says over its own files, of which one is spoiled, and over a board that has a right proof of
 /// another bid in each lane.
-pub fn try_samples<W: Sink>(alloc: Global, out: &mut W) -> Result<(), Unreplayed> {
+pub fn try_samples<W: Sink>(alloc: Global, out: &mut W) -> Tried<()> {
     let spoiled = spoiled_files(alloc)?;
     let text = sample_text(alloc, b"x begins sample-reply-2", spoiled)?;
     out.put(text.as_slice())?;
@@ -30,7 +30,7 @@ pub fn try_samples<W: Sink>(alloc: Global, out: &mut W) -> Result<(), Unreplayed
 }
 
 /// What is told of the files, and what `sample 1` says over them.
-fn sample_text(alloc: Global, told: &[u8], files: MemShelf) -> Result<Vec<u8>, Unreplayed> {
+fn sample_text(alloc: Global, told: &[u8], files: MemShelf) -> Tried<Vec<u8>> {
     let mut text = Vec::new(alloc);
     push_line(&mut text, told)?;
     let mut shelf = WatchedShelf::fixed(alloc, files);
@@ -40,7 +40,7 @@ fn sample_text(alloc: Global, told: &[u8], files: MemShelf) -> Result<Vec<u8>, U
 }
 
 /// The files that `sample 1` writes, of which one has `x` for its first byte.
-fn spoiled_files(alloc: Global) -> Result<MemShelf, Unreplayed> {
+fn spoiled_files(alloc: Global) -> Tried<MemShelf> {
     let mut files = MemShelf::new(alloc);
     let words = words_of(alloc, LINE)?;
     let mut keeper = MemKeeper::new(alloc);
@@ -58,7 +58,7 @@ fn spoiled_files(alloc: Global) -> Result<MemShelf, Unreplayed> {
 
 /// One seal of width 1, under the names of a sample: the bid 0 in lane 1 and 1 in lane 2, each with the proof of an honest
 /// auction. The first reply shows all first halves, and the second all second ones.
-fn files_of_two_bids(alloc: Global) -> Result<MemShelf, Unreplayed> {
+fn files_of_two_bids(alloc: Global) -> Tried<MemShelf> {
     let first = Honest::of(alloc, &[0], 1, 2)?;
     let second = Honest::of(alloc, &[1], 1, 2)?;
     let mixed = with_last_lane(alloc, first, second)?;
@@ -79,7 +79,7 @@ fn files_of_two_bids(alloc: Global) -> Result<MemShelf, Unreplayed> {
 }
 
 /// The auction with the last lane of another in place of its own, and that lane's commitments of each seal.
-fn with_last_lane(alloc: Global, auction: Honest, other: Honest) -> Result<Honest, Unreplayed> {
+fn with_last_lane(alloc: Global, auction: Honest, other: Honest) -> Tried<Honest> {
     let mut mixed = auction;
     let mut theirs = other;
     mixed.seals = mixed_seals(alloc, mixed.seals.as_slice(), theirs.seals.as_slice())?;
@@ -90,11 +90,7 @@ fn with_last_lane(alloc: Global, auction: Honest, other: Honest) -> Result<Hones
 }
 
 /// Seals with the commitments of others in the last lane.
-fn mixed_seals(
-    alloc: Global,
-    seals: &[SealLines],
-    others: &[SealLines],
-) -> Result<Vec<SealLines>, Unreplayed> {
+fn mixed_seals(alloc: Global, seals: &[SealLines], others: &[SealLines]) -> Tried<Vec<SealLines>> {
     let mut mixed = Vec::new(alloc);
     for (seal, other) in seals.iter().zip(others) {
         mixed.push(SealLines {
@@ -106,11 +102,7 @@ fn mixed_seals(
 }
 
 /// The commitments of a seal in all lanes but the last, where they are those of another.
-fn with_last(
-    alloc: Global,
-    coms: &Seq<WireCom>,
-    other: &Seq<WireCom>,
-) -> Result<Seq<WireCom>, Unreplayed> {
+fn with_last(alloc: Global, coms: &Seq<WireCom>, other: &Seq<WireCom>) -> Tried<Seq<WireCom>> {
     let last = other.as_slice().last().ok_or(Unreplayed::NoCase)?;
     let mut mixed = Vec::from_slice(alloc, coms.as_slice())?;
     mixed.pop();

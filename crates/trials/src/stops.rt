@@ -2,7 +2,7 @@
 use crate::commands::Command;
 use crate::world::World;
 use std::alloc::Global;
-use vk_cases::Unreplayed;
+use vk_cases::{Tried, Unreplayed};
 use vk_io::{MemShelf, Shelf};
 
 /// What stands: the files, and all that is kept of the auction.
@@ -20,7 +20,7 @@ pub struct Effect {
 }
 
 impl Left {
-    fn of(alloc: Global, world: World) -> Result<Left, Unreplayed> {
+    fn of(alloc: Global, world: World) -> Tried<Left> {
         let mut world = world;
         let kept = world.kept(alloc)?;
         Ok(Left {
@@ -32,11 +32,7 @@ impl Left {
 
 impl Effect {
     /// Of a command of which no call fails.
-    pub fn of<S: Shelf>(
-        alloc: Global,
-        shelf: &mut S,
-        command: &Command,
-    ) -> Result<Effect, Unreplayed> {
+    pub fn of<S: Shelf>(alloc: Global, shelf: &mut S, command: &Command) -> Tried<Effect> {
         let old = World::of(alloc, shelf, command.given, command.before)?;
         let mut new = World::of(alloc, shelf, command.given, command.before)?;
         if !new.run(alloc, command.words)?.said(0, command.whole) {

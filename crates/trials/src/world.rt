@@ -2,7 +2,7 @@
 use crate::honest::ID;
 use std::alloc::Global;
 use vk_app::run;
-use vk_cases::{Unreplayed, behind, read_cases, words_of};
+use vk_cases::{Tried, Unreplayed, behind, read_cases, words_of};
 use vk_io::{MemShelf, MemSink, Shelf};
 use vk_keeper::{Keeper, MemKeeper};
 
@@ -45,7 +45,7 @@ impl World {
         shelf: &mut S,
         given: &[&str],
         before: &[&str],
-    ) -> Result<World, Unreplayed> {
+    ) -> Tried<World> {
         let mut world = World {
             files: given_files(alloc, shelf, given)?,
             keeper: MemKeeper::new(alloc),
@@ -61,7 +61,7 @@ impl World {
     }
 
     /// Does a command of a house, which gets an auction once and puts it once.
-    fn do_before(&mut self, alloc: Global, line: &str) -> Result<(), Unreplayed> {
+    fn do_before(&mut self, alloc: Global, line: &str) -> Tried<()> {
         let ran = self.run(alloc, line)?;
         self.turns = self.turns.saturating_add(2);
         if ran.status != 0 {
@@ -71,7 +71,7 @@ impl World {
     }
 
     /// Has the call of that number fail, of those that are still to be made.
-    pub fn fail_at(&mut self, outside: Outside, call: u64) -> Result<(), Unreplayed> {
+    pub fn fail_at(&mut self, outside: Outside, call: u64) -> Tried<()> {
         match outside {
             Outside::Shelf => self.files.fail_at(call)?,
             Outside::Keeper => self.keeper.fail_at(self.turns.saturating_add(call))?,
@@ -81,7 +81,7 @@ impl World {
     }
 
     /// Runs the command, which prints behind what was printed before.
-    pub fn run(&mut self, alloc: Global, line: &str) -> Result<Ran, Unreplayed> {
+    pub fn run(&mut self, alloc: Global, line: &str) -> Tried<Ran> {
         let words = words_of(alloc, line.as_bytes())?;
         let before = self.out.bytes().len();
         let status = run(
@@ -96,7 +96,7 @@ impl World {
     }
 
     /// All that is kept of the auction, as text.
-    pub fn kept(&mut self, alloc: Global) -> Result<String, Unreplayed> {
+    pub fn kept(&mut self, alloc: Global) -> Tried<String> {
         let auction = self.keeper.get(&ID)?;
         let text = format!(in alloc; "{auction:?}")?;
         Ok(text)
@@ -104,11 +104,7 @@ impl World {
 }
 
 /// The files of these names, in memory.
-fn given_files<S: Shelf>(
-    alloc: Global,
-    shelf: &mut S,
-    given: &[&str],
-) -> Result<MemShelf, Unreplayed> {
+fn given_files<S: Shelf>(alloc: Global, shelf: &mut S, given: &[&str]) -> Tried<MemShelf> {
     let mut files = MemShelf::new(alloc);
     for name in given {
         let bytes = read_cases(alloc, shelf, name)?;

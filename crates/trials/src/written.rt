@@ -3,14 +3,14 @@ use crate::asked::Asked;
 use crate::honest::Honest;
 use std::alloc::Global;
 use vk_board::{head_text, lane_text, seal_lines_text};
-use vk_cases::Unreplayed;
+use vk_cases::Tried;
 use vk_io::{PieceShelf, Shelf};
 use vk_reply::{Challenge, challenge_text, reply_head_text, reply_lane_text};
 use vk_seq::Seq;
 
 impl Honest {
     /// Writes the board, and each challenge with its reply.
-    pub fn write(&self, alloc: Global, shelf: &mut PieceShelf) -> Result<(), Unreplayed> {
+    pub fn write(&self, alloc: Global, shelf: &mut PieceShelf) -> Tried<()> {
         self.write_front(alloc, shelf)?;
         self.write_lanes(alloc, shelf)?;
         for asked in [Asked::Zeros, Asked::Ones, Asked::Last] {
@@ -21,7 +21,7 @@ impl Honest {
     }
 
     /// Writes the board's lines before its first lane.
-    fn write_front(&self, alloc: Global, shelf: &mut PieceShelf) -> Result<(), Unreplayed> {
+    fn write_front(&self, alloc: Global, shelf: &mut PieceShelf) -> Tried<()> {
         shelf.create("board")?;
         let text = head_text(alloc, &self.head)?;
         shelf.append("board", text.as_slice())?;
@@ -33,7 +33,7 @@ impl Honest {
     }
 
     /// Writes the board's lanes and its end.
-    fn write_lanes(&self, alloc: Global, shelf: &mut PieceShelf) -> Result<(), Unreplayed> {
+    fn write_lanes(&self, alloc: Global, shelf: &mut PieceShelf) -> Tried<()> {
         for (lane, number) in self.lanes.iter().zip(1u32..=64) {
             let text = lane_text(alloc, number, &lane.lines)?;
             shelf.append("board", text.as_slice())?;
@@ -42,12 +42,7 @@ impl Honest {
         Ok(())
     }
 
-    fn write_challenge(
-        &self,
-        alloc: Global,
-        shelf: &mut PieceShelf,
-        asked: Asked,
-    ) -> Result<(), Unreplayed> {
+    fn write_challenge(&self, alloc: Global, shelf: &mut PieceShelf, asked: Asked) -> Tried<()> {
         let mut bits = Seq::new(alloc);
         for (_lane, number) in self.lanes.iter().zip(1u32..=64) {
             bits.push(asked.bit(number, self.head.lanes))?;
@@ -58,12 +53,7 @@ impl Honest {
         Ok(())
     }
 
-    fn write_reply(
-        &self,
-        alloc: Global,
-        shelf: &mut PieceShelf,
-        asked: Asked,
-    ) -> Result<(), Unreplayed> {
+    fn write_reply(&self, alloc: Global, shelf: &mut PieceShelf, asked: Asked) -> Tried<()> {
         shelf.create(asked.reply())?;
         let text = reply_head_text(alloc, self.head.lanes)?;
         shelf.append(asked.reply(), text.as_slice())?;

@@ -2,12 +2,12 @@
 ghost use Rattle.std.specs.Prelude.{◌≤◌, length, vec_len};
 
 use std::alloc::Global;
-use vk_cases::{Unreplayed, numbers_in};
+use vk_cases::{Tried, Unreplayed, numbers_in};
 use vk_lines::{end_line, push_decimal};
 use vk_vickrey::outcome;
 
 /// The bids, the position of the winner, and the price.
-pub fn outcome_text(alloc: Global, case: &[u8]) -> Result<Vec<u8>, Unreplayed> {
+pub fn outcome_text(alloc: Global, case: &[u8]) -> Tried<Vec<u8>> {
     let bids = numbers_in(alloc, case)?;
     if bids.is_empty() || 64 < bids.len() {
         return Err(Unreplayed::NoCase);

@@ -1,12 +1,12 @@
 // Four wires at a time, and the digests of what each opens for either bit.
 use super::wires::shown_of;
 use std::alloc::Global;
-use vk_cases::Unreplayed;
+use vk_cases::{Tried, Unreplayed};
 use vk_lines::push_digests_line;
 use vk_wire::{Opened, hash_four};
 
 /// For either bit, the first and the last digest of what each of the four wires opens.
-pub fn hashed_text(alloc: Global, case: &[u8]) -> Result<Vec<u8>, Unreplayed> {
+pub fn hashed_text(alloc: Global, case: &[u8]) -> Tried<Vec<u8>> {
     let mut wires = case.split(|byte| *byte == b'|');
     let four = [
         wires.next().ok_or(Unreplayed::NoCase)?,
@@ -21,7 +21,7 @@ pub fn hashed_text(alloc: Global, case: &[u8]) -> Result<Vec<u8>, Unreplayed> {
 }
 
 /// What the four wires open for the bit, all four hashed at once.
-fn opened(four: &[&[u8]; 4], bit: bool) -> Result<[Opened; 4], Unreplayed> {
+fn opened(four: &[&[u8]; 4], bit: bool) -> Tried<[Opened; 4]> {
     let (first_place, first) = shown_of(four[0], bit)?;
     let (second_place, second) = shown_of(four[1], bit)?;
     let (third_place, third) = shown_of(four[2], bit)?;
@@ -31,7 +31,7 @@ fn opened(four: &[&[u8]; 4], bit: bool) -> Result<[Opened; 4], Unreplayed> {
 }
 
 /// A line for each of the four.
-fn push_opened(text: &mut Vec<u8>, word: &[u8], four: &[Opened; 4]) -> Result<(), Unreplayed> {
+fn push_opened(text: &mut Vec<u8>, word: &[u8], four: &[Opened; 4]) -> Tried<()> {
     for opened in four {
         push_digests_line(text, word, &opened.first, &opened.last)?;
     }

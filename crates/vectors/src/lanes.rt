@@ -6,7 +6,7 @@ ghost use Rattle.vk_vickrey.specs.VickreyPlans.{vickrey_plan};
 use super::views::push_moved;
 use super::wires::{push_shown, tape_of};
 use std::alloc::Global;
-use vk_cases::{Unreplayed, number_at};
+use vk_cases::{Tried, Unreplayed, number_at};
 use vk_lines::{behind_word, end_line, push_decimal, push_line, push_space, read_decimal};
 use vk_plan::{Circuit, Plan};
 use vk_prover::LaneTape;
@@ -35,7 +35,7 @@ struct Seen {
 }
 
 /// The case with the values of both lists of bids behind these, and what is seen of the lane.
-pub fn lane_text(alloc: Global, case: &[u8]) -> Result<Vec<u8>, Unreplayed> {
+pub fn lane_text(alloc: Global, case: &[u8]) -> Tried<Vec<u8>> {
     let mut parts = case.split(|byte| *byte == b'|');
     let plan = parts.next().ok_or(Unreplayed::NoCase)?;
     let bids = parts.next().ok_or(Unreplayed::NoCase)?;
@@ -53,12 +53,12 @@ pub fn lane_text(alloc: Global, case: &[u8]) -> Result<Vec<u8>, Unreplayed> {
     }
     let first = looked_at(alloc, &lane, false)?;
     let second = looked_at(alloc, &lane, true)?;
-    push_seen(&mut text, &lane.tape, &first, &second)?;
+    push_seen(&mut text, &lane.tape, &[first, second])?;
     Ok(text)
 }
 
 /// The circuit of `plan seals N width T winner W price P`.
-fn circuit_of(plan: &[u8]) -> Result<VickreyPlan, Unreplayed> {
+fn circuit_of(plan: &[u8]) -> Tried<VickreyPlan> {
     let seals = number_at(plan, 2, 64)?;
     let width = number_at(plan, 4, 40)?;
     let published = VickreyOutcome {
@@ -69,7 +69,7 @@ fn circuit_of(plan: &[u8]) -> Result<VickreyPlan, Unreplayed> {
 }
 
 /// The tape of the parts that begin with `tape`, one wire each.
-fn tape_in(alloc: Global, case: &[u8]) -> Result<LaneTape, Unreplayed> {
+fn tape_in(alloc: Global, case: &[u8]) -> Tried<LaneTape> {
     let mut wires = Seq::new(alloc);
     for part in case.split(|byte| *byte == b'|') {
         if behind_word(part, b"tape").is_some() {
@@ -86,7 +86,7 @@ fn lane_of(
     bids: &[u8],
     others: &[u8],
     tape: LaneTape,
-) -> Result<Lane, Unreplayed>
+) -> Tried<Lane>
     ensures values { IfOk result (λ lane. Holds lane.plan lane.values.items) }
     ensures others { IfOk result (λ lane. Holds lane.plan lane.others.items) }
     ensures one_each { IfOk result (λ lane. length lane.tape.wires ≡ length lane.plan.kinds) }
@@ -108,7 +108,7 @@ fn lane_of(
 }
 
 /// The numbers behind that word, with spaces between them.
-fn bids_of(alloc: Global, part: &[u8], word: &[u8]) -> Result<Vec<u64>, Unreplayed> {
+fn bids_of(alloc: Global, part: &[u8], word: &[u8]) -> Tried<Vec<u64>> {
     let numbers = behind_word(part, word).ok_or(Unreplayed::NoCase)?;
     let mut bids = Vec::new(alloc);
     for number in numbers.split(|byte| *byte == b' ') {
@@ -118,7 +118,7 @@ fn bids_of(alloc: Global, part: &[u8], word: &[u8]) -> Result<Vec<u64>, Unreplay
 }
 
 /// The values of all wires for these bids. An error where they are not of the circuit's width and outcome.
-fn values_of(alloc: Global, circuit: &VickreyPlan, bids: &[u64]) -> Result<Vec<Residue>, Unreplayed>
+fn values_of(alloc: Global, circuit: &VickreyPlan, bids: &[u64]) -> Tried<Vec<Residue>>
     ensures { IfOk result (λ values. Holds
         (vickrey_plan circuit.now.seals circuit.now.width circuit.now.position circuit.now.price) values.items) }
 {
@@ -135,7 +135,7 @@ fn values_of(alloc: Global, circuit: &VickreyPlan, bids: &[u64]) -> Result<Vec<R
 }
 
 /// The bids as residues. An error where one is not of the width.
-fn inputs_of(alloc: Global, bids: &[u64], width: u32) -> Result<Vec<Residue>, Unreplayed>
+fn inputs_of(alloc: Global, bids: &[u64], width: u32) -> Tried<Vec<Residue>>
     ensures same { IfOk result (λ inputs. inputs.items ≡ bids.now) }
     ensures within { IfOk result (λ inputs. All (λ bid. bid < 2 ^ width) bids.now) }
 {
@@ -153,7 +153,7 @@ fn inputs_of(alloc: Global, bids: &[u64], width: u32) -> Result<Vec<Residue>, Un
 }
 
 /// What there is of the lane for the bit.
-fn looked_at(alloc: Global, lane: &Lane, bit: bool) -> Result<Seen, Unreplayed>
+fn looked_at(alloc: Global, lane: &Lane, bit: bool) -> Tried<Seen>
     requires values { Holds lane.now.plan lane.now.values.items }
     requires others { Holds lane.now.plan lane.now.others.items }
     requires one_each { length lane.now.tape.wires ≡ length lane.now.plan.kinds }
@@ -167,12 +167,8 @@ fn looked_at(alloc: Global, lane: &Lane, bit: bool) -> Result<Seen, Unreplayed>
 }
 
 /// Where a moved tape is another one, what is posted, and what is shown for either bit.
-fn push_seen(
-    text: &mut Vec<u8>,
-    tape: &LaneTape,
-    first: &Seen,
-    second: &Seen,
-) -> Result<(), Unreplayed> {
+fn push_seen(text: &mut Vec<u8>, tape: &LaneTape, seen: &[Seen; 2]) -> Tried<()> {
+    let [first, second] = seen;
     push_moves(text, b"moved0", tape, &first.moved)?;
     push_moves(text, b"moved1", tape, &second.moved)?;
     push_values(text, b"posted", first.view.posted.as_slice())?;
@@ -186,7 +182,7 @@ fn push_seen(
 }
 
 /// A line where the other bids with the moved tape are seen otherwise.
-fn push_difference(text: &mut Vec<u8>, seen: &Seen) -> Result<(), Unreplayed> {
+fn push_difference(text: &mut Vec<u8>, seen: &Seen) -> Tried<()> {
     if seen.again.shown.as_slice() != seen.view.shown.as_slice() {
         push_line(text, b"the other bids show otherwise")?;
     }
@@ -197,12 +193,7 @@ fn push_difference(text: &mut Vec<u8>, seen: &Seen) -> Result<(), Unreplayed> {
 }
 
 /// The wires whose tape is another one once it is moved.
-fn push_moves(
-    text: &mut Vec<u8>,
-    word: &[u8],
-    tape: &LaneTape,
-    moved: &LaneTape,
-) -> Result<(), Unreplayed> {
+fn push_moves(text: &mut Vec<u8>, word: &[u8], tape: &LaneTape, moved: &LaneTape) -> Tried<()> {
     let wires = tape.wires.as_slice().iter().zip(moved.wires.as_slice());
     for (wire, (tape, moved)) in wires.enumerate() {
         if moved != tape {
@@ -214,7 +205,7 @@ fn push_moves(
 }
 
 /// What is shown of each wire.
-fn push_all_shown(text: &mut Vec<u8>, word: &[u8], all: &[Shown]) -> Result<(), Unreplayed> {
+fn push_all_shown(text: &mut Vec<u8>, word: &[u8], all: &[Shown]) -> Tried<()> {
     for (wire, shown) in all.iter().enumerate() {
         push_word(text, word, wire)?;
         push_shown(text, shown)?;
@@ -223,7 +214,7 @@ fn push_all_shown(text: &mut Vec<u8>, word: &[u8], all: &[Shown]) -> Result<(), 
 }
 
 /// The word and the number of a wire.
-fn push_word(text: &mut Vec<u8>, word: &[u8], wire: usize) -> Result<(), Unreplayed> {
+fn push_word(text: &mut Vec<u8>, word: &[u8], wire: usize) -> Tried<()> {
     text.extend_from_slice(word)?;
     push_space(text)?;
     push_decimal(text, wire as u64)?;
@@ -231,7 +222,7 @@ fn push_word(text: &mut Vec<u8>, word: &[u8], wire: usize) -> Result<(), Unrepla
 }
 
 /// The word and the values, as a line.
-fn push_values(text: &mut Vec<u8>, word: &[u8], values: &[Residue]) -> Result<(), Unreplayed> {
+fn push_values(text: &mut Vec<u8>, word: &[u8], values: &[Residue]) -> Tried<()> {
     text.extend_from_slice(word)?;
     for value in values {
         push_space(text)?;

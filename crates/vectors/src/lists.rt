@@ -1,6 +1,6 @@
 // Lists of words, and the residue that is drawn from each.
 use std::alloc::Global;
-use vk_cases::{Unreplayed, numbers_in};
+use vk_cases::{Tried, numbers_in};
 use vk_dice::{ListWords, Words, draw_residue};
 use vk_lines::{end_line, push_decimal};
 
@@ -11,7 +11,7 @@ const MOST_WORDS: usize = 4;
 const MARK: u64 = 1;
 
 /// The words, the residue that is drawn from them or `dry`, and how many words that took.
-pub fn draw_text(alloc: Global, case: &[u8]) -> Result<Vec<u8>, Unreplayed> {
+pub fn draw_text(alloc: Global, case: &[u8]) -> Tried<Vec<u8>> {
     let mut list = numbers_in(alloc, case)?;
     for _ in list.len()..MOST_WORDS {
         list.push(0)?;

@@ -12,7 +12,7 @@ mod wires;
 
 use std::alloc::Global;
 use std::process::ExitCode;
-use vk_cases::{Form, Unreplayed, replay_forms};
+use vk_cases::{Form, Tried, replay_forms};
 use vk_io::Shelf;
 
 /// What a file of cases has, one case a line.
@@ -48,12 +48,7 @@ impl Form for Cases {
         }
     }
 
-    fn text<S: Shelf>(
-        &self,
-        alloc: Global,
-        _shelf: &mut S,
-        case: &[u8],
-    ) -> Result<Vec<u8>, Unreplayed> {
+    fn text<S: Shelf>(&self, alloc: Global, _shelf: &mut S, case: &[u8]) -> Tried<Vec<u8>> {
         match self {
             Cases::Streams => streams::stream_text(alloc, case),
             Cases::Lists => lists::draw_text(alloc, case),

@@ -1,11 +1,11 @@
 // Streams of words: the first of them, some far ones, and what is drawn from the start.
 use std::alloc::Global;
-use vk_cases::{Unreplayed, id_at, key_at, number_at};
+use vk_cases::{Tried, Unreplayed, id_at, key_at, number_at};
 use vk_dice::{ChaChaWords, Words, draw_bit, draw_key, draw_residue};
 use vk_lines::{end_line, push_decimal, push_hex, push_line, push_space};
 
 /// The case, and what its stream gives.
-pub fn stream_text(alloc: Global, case: &[u8]) -> Result<Vec<u8>, Unreplayed> {
+pub fn stream_text(alloc: Global, case: &[u8]) -> Tried<Vec<u8>> {
     let seed = key_at(case, 1)?;
     let auction = id_at(case, 2)?;
     let stream = number_at(case, 3, u64::MAX)?;
@@ -17,7 +17,7 @@ pub fn stream_text(alloc: Global, case: &[u8]) -> Result<Vec<u8>, Unreplayed> {
 }
 
 /// The first twelve words, and three that stand far ahead.
-fn push_words(text: &mut Vec<u8>, words: &mut ChaChaWords) -> Result<(), Unreplayed> {
+fn push_words(text: &mut Vec<u8>, words: &mut ChaChaWords) -> Tried<()> {
     text.extend_from_slice(b"words")?;
     for _ in 0..12 {
         push_space(text)?;
@@ -33,12 +33,7 @@ fn push_words(text: &mut Vec<u8>, words: &mut ChaChaWords) -> Result<(), Unrepla
 }
 
 /// The word of that number, where those before `taken` were taken.
-fn push_far(
-    text: &mut Vec<u8>,
-    words: &mut ChaChaWords,
-    taken: u64,
-    number: u64,
-) -> Result<(), Unreplayed> {
+fn push_far(text: &mut Vec<u8>, words: &mut ChaChaWords, taken: u64, number: u64) -> Tried<()> {
     for _ in taken..number {
         words.next();
     }
@@ -50,7 +45,7 @@ fn push_far(
 }
 
 /// Six draws in a row: a residue, a key, a bit, a residue, a key and a key.
-fn push_draws(text: &mut Vec<u8>, words: &mut ChaChaWords) -> Result<(), Unreplayed> {
+fn push_draws(text: &mut Vec<u8>, words: &mut ChaChaWords) -> Tried<()> {
     text.extend_from_slice(b"draws")?;
     push_residue(text, words)?;
     push_key(text, words)?;
@@ -63,14 +58,14 @@ fn push_draws(text: &mut Vec<u8>, words: &mut ChaChaWords) -> Result<(), Unrepla
     Ok(())
 }
 
-fn push_residue(text: &mut Vec<u8>, words: &mut ChaChaWords) -> Result<(), Unreplayed> {
+fn push_residue(text: &mut Vec<u8>, words: &mut ChaChaWords) -> Tried<()> {
     let residue = draw_residue(words).map_err(|_dry| Unreplayed::NoCase)?;
     push_space(text)?;
     push_decimal(text, residue.get())?;
     Ok(())
 }
 
-fn push_key(text: &mut Vec<u8>, words: &mut ChaChaWords) -> Result<(), Unreplayed> {
+fn push_key(text: &mut Vec<u8>, words: &mut ChaChaWords) -> Tried<()> {
     let key = draw_key(words);
     push_space(text)?;
     push_hex(text, &key)?;

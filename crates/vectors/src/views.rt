@@ -1,18 +1,14 @@
 // Single wires: the tape moved from one value to another, and what both show.
-ghost use Rattle.std.specs.Prelude.{IfOk};
-ghost use Rattle.vk_plan.specs.Plans.{HasWeight};
-
-use super::wires::{push_shown, push_words, tape_of, value_at};
+use super::wires::{kind_of, push_shown, push_words, tape_of, value_at};
 use std::alloc::Global;
-use vk_cases::{Unreplayed, number_at, word_at};
+use vk_cases::Tried;
 use vk_lines::{end_line, push_decimal, push_line, push_space};
-use vk_plan::WireKind;
 use vk_views::moved_wire;
 use vk_wire::{WireTape, show};
 
 /// The case, the tape moved for either bit, and what the wire shows for either bit.
-pub fn view_text(alloc: Global, case: &[u8]) -> Result<Vec<u8>, Unreplayed> {
-    let kind = kind_of(case)?;
+pub fn view_text(alloc: Global, case: &[u8]) -> Tried<Vec<u8>> {
+    let kind = kind_of(case, 1)?;
     let value = value_at(case, 3, kind)?;
     let other = value_at(case, 5, kind)?;
     let tape = tape_of(case, 6)?;
@@ -38,19 +34,8 @@ pub fn view_text(alloc: Global, case: &[u8]) -> Result<Vec<u8>, Unreplayed> {
     Ok(text)
 }
 
-/// The kind of the wire.
-fn kind_of(case: &[u8]) -> Result<WireKind, Unreplayed>
-    ensures { IfOk result HasWeight }
-{
-    if word_at(case, 1)? == b"split".as_slice() {
-        return Ok(WireKind::Split);
-    }
-    let i = number_at(case, 1, 60)?;
-    Ok(WireKind::Pair(i as u32))
-}
-
 /// The mask of a tape, and whether it swaps, behind a space each.
-pub fn push_moved(text: &mut Vec<u8>, tape: &WireTape) -> Result<(), Unreplayed> {
+pub fn push_moved(text: &mut Vec<u8>, tape: &WireTape) -> Tried<()> {
     push_space(text)?;
     push_decimal(text, tape.mask.get())?;
     push_space(text)?;

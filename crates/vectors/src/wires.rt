@@ -3,7 +3,7 @@ ghost use Rattle.std.specs.Prelude.{◌≡◌, ◌≤◌, ◌%◌, IfOk};
 ghost use Rattle.vk_plan.specs.Plans.{HasWeight, MayHave};
 
 use std::alloc::Global;
-use vk_cases::{Unreplayed, id_at, key_at, number_at, residue_at, word_at};
+use vk_cases::{Tried, Unreplayed, id_at, key_at, number_at, residue_at, word_at};
 use vk_commit::{Opening, Place};
 use vk_lines::{end_line, push_decimal, push_digests_line, push_hex, push_number_line, push_space};
 use vk_plan::WireKind;
@@ -11,8 +11,8 @@ use vk_residue::Residue;
 use vk_wire::{Shown, WireTape, make, read, show};
 
 /// The case, its commitments, and for each bit what is shown and read.
-pub fn wire_text(alloc: Global, case: &[u8]) -> Result<Vec<u8>, Unreplayed> {
-    let kind = kind_of(case)?;
+pub fn wire_text(alloc: Global, case: &[u8]) -> Tried<Vec<u8>> {
+    let kind = kind_of(case, 2)?;
     let at = place_word(kind);
     let value = value_of(case, kind)?;
     let place = place_of(case, at)?;
@@ -34,10 +34,10 @@ pub fn wire_text(alloc: Global, case: &[u8]) -> Result<Vec<u8>, Unreplayed> {
 }
 
 /// The place of the case's wire, and what is shown of it for the bit.
-pub fn shown_of(case: &[u8], bit: bool) -> Result<(Place, Shown), Unreplayed>
+pub fn shown_of(case: &[u8], bit: bool) -> Tried<(Place, Shown)>
     ensures { IfOk result (λ found. found.0.slot % 2 ≡ 0) }
 {
-    let kind = kind_of(case)?;
+    let kind = kind_of(case, 2)?;
     let at = place_word(kind);
     let value = value_of(case, kind)?;
     let place = place_of(case, at)?;
@@ -45,14 +45,14 @@ pub fn shown_of(case: &[u8], bit: bool) -> Result<(Place, Shown), Unreplayed>
     Ok((place, show(kind, value, &tape, bit)))
 }
 
-/// The kind of the wire.
-fn kind_of(case: &[u8]) -> Result<WireKind, Unreplayed>
+/// The kind of the wire. A pair's number stands at that place.
+pub fn kind_of(case: &[u8], number: usize) -> Tried<WireKind>
     ensures { IfOk result HasWeight }
 {
     if word_at(case, 1)? == b"split".as_slice() {
         return Ok(WireKind::Split);
     }
-    let i = number_at(case, 2, 60)?;
+    let i = number_at(case, number, 60)?;
     Ok(WireKind::Pair(i as u32))
 }
 
@@ -67,7 +67,7 @@ fn place_word(kind: WireKind) -> usize
 }
 
 /// The value of the wire, which stands before the word `place`.
-fn value_of(case: &[u8], kind: WireKind) -> Result<Residue, Unreplayed>
+fn value_of(case: &[u8], kind: WireKind) -> Tried<Residue>
     requires { HasWeight kind }
     ensures { IfOk result (MayHave kind) }
 {
@@ -78,7 +78,7 @@ fn value_of(case: &[u8], kind: WireKind) -> Result<Residue, Unreplayed>
 }
 
 /// The value at that place, which a wire of the kind may have.
-pub fn value_at(case: &[u8], place: usize, kind: WireKind) -> Result<Residue, Unreplayed>
+pub fn value_at(case: &[u8], place: usize, kind: WireKind) -> Tried<Residue>
     requires { HasWeight kind }
     ensures { IfOk result (MayHave kind) }
 {
@@ -96,7 +96,7 @@ pub fn value_at(case: &[u8], place: usize, kind: WireKind) -> Result<Residue, Un
 }
 
 /// The place of the first commitment, behind the word at `at`.
-fn place_of(case: &[u8], at: usize) -> Result<Place, Unreplayed>
+fn place_of(case: &[u8], at: usize) -> Tried<Place>
     requires { at ≤ 5 }
     ensures { IfOk result (λ place. place.slot % 2 ≡ 0) }
 {
@@ -116,7 +116,7 @@ fn place_of(case: &[u8], at: usize) -> Result<Place, Unreplayed>
 }
 
 /// The tape of the wire, behind the word at `at`.
-pub fn tape_of(case: &[u8], at: usize) -> Result<WireTape, Unreplayed>
+pub fn tape_of(case: &[u8], at: usize) -> Tried<WireTape>
     requires { at ≤ 10 }
 {
     let mask = residue_at(case, at + 1)?;
@@ -132,12 +132,7 @@ pub fn tape_of(case: &[u8], at: usize) -> Result<WireTape, Unreplayed>
 }
 
 /// The words of the case from one place to before another, as a line.
-pub fn push_words(
-    text: &mut Vec<u8>,
-    case: &[u8],
-    first: usize,
-    end: usize,
-) -> Result<(), Unreplayed> {
+pub fn push_words(text: &mut Vec<u8>, case: &[u8], first: usize, end: usize) -> Tried<()> {
     for place in first..end {
         if first < place {
             push_space(text)?;
@@ -153,7 +148,7 @@ fn half_word(bit: bool) -> &'static [u8] {
 }
 
 /// What is shown, behind a space: a half, both entries, or which entry is spent and that one.
-pub fn push_shown(text: &mut Vec<u8>, shown: &Shown) -> Result<(), Unreplayed> {
+pub fn push_shown(text: &mut Vec<u8>, shown: &Shown) -> Tried<()> {
     match shown {
         Shown::Half(opening) => {
             text.extend_from_slice(b" h")?;
@@ -175,7 +170,7 @@ pub fn push_shown(text: &mut Vec<u8>, shown: &Shown) -> Result<(), Unreplayed> {
 }
 
 /// The key and the value of an opening, each behind a space.
-fn push_opening(text: &mut Vec<u8>, opening: &Opening) -> Result<(), Unreplayed> {
+fn push_opening(text: &mut Vec<u8>, opening: &Opening) -> Tried<()> {
     push_space(text)?;
     push_hex(text, &opening.key)?;
     push_space(text)?;

@@ -10,6 +10,6 @@ mod words;
 
 pub use cases::{behind, id_at, key_at, number_at, numbers_in, read_cases, residue_at, word_at};
 pub use replaying::{Form, Replay, Replayed, replay_forms, replay_here};
-pub use unreplayed::Unreplayed;
+pub use unreplayed::{Tried, Unreplayed};
 pub use watched::WatchedShelf;
 pub use words::{text_of, words_of};

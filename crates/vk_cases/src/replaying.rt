@@ -1,14 +1,14 @@
 // Programs that replay the cases of the folder that they run in.
 
 use crate::cases::read_cases;
-use crate::unreplayed::Unreplayed;
+use crate::unreplayed::Tried;
 use std::alloc::Global;
 use std::process::ExitCode;
 use vk_files::{FileShelf, OutSink};
 use vk_io::{Shelf, Sink};
 
 /// Whether cases were replayed to their end.
-pub type Replayed = Result<(), Unreplayed>;
+pub type Replayed = Tried<()>;
 
 /// What a program does over the files of a folder.
 pub trait Replay {
@@ -22,12 +22,7 @@ pub trait Form {
     fn file(&self) -> &'static str;
 
     /// The case, and what comes of it.
-    fn text<S: Shelf>(
-        &self,
-        alloc: Global,
-        shelf: &mut S,
-        case: &[u8],
-    ) -> Result<Vec<u8>, Unreplayed>;
+    fn text<S: Shelf>(&self, alloc: Global, shelf: &mut S, case: &[u8]) -> Tried<Vec<u8>>;
 }
 
 /// Replays every case of one form.

@@ -17,6 +17,9 @@ pub enum Unreplayed {
     NoMemory,
 }
 
+/// What came of a case that was tried.
+pub type Tried<T> = Result<T, Unreplayed>;
+
 impl From<OutsideErr> for Unreplayed {
     fn from(refusal: OutsideErr) -> Unreplayed {
         match refusal {
