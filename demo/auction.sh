@@ -1,10 +1,11 @@
 #!/usr/bin/env bash
-# demo/auction.sh PROGRAM: a whole auction in a new folder, every command shown before it runs. Three bidders seal, the
-# auctioneer proves the outcome, a challenge is drawn in view, and the reply is checked. It takes a few seconds.
+# demo/auction.sh PROGRAM: a whole auction in a new folder, every command shown before it runs. Three bidders seal and publish
+# their seals, and then hand in their secrets; the auctioneer proves the outcome and publishes the board's digest, a challenge
+# is drawn in view and answered, and demo/audit.sh checks all. It takes a few seconds, and wants python3. The status is the audit's.
 set -u
-[ $# -eq 1 ] || { sed -n '2,3p' "$0"; exit 2; }
+[ $# -eq 1 ] || { sed -n '2,4p' "$0"; exit 2; }
 program=$(realpath "$1")
-checker=$(realpath "$(dirname "$0")/../checker/check.py")
+audit=$(realpath "$(dirname "$0")/audit.sh")
 folder=$(mktemp -d "${TMPDIR:-/tmp}/vickrey-auction.XXXXXX")
 cd "$folder" || exit 1
 umask 077
@@ -38,16 +39,26 @@ say "The auction has an id of 32 digits. A bid is below 2^$width = $((1 << width
 id=$(seed | head -c 32)
 vickrey 0 announce "$id" $width $lanes
 
-say 'Three bidders seal 15, 9 and 4, each with a secret seed. Each keeps the secret, and hands in both files.'
+say 'Three bidders seal 15, 9 and 4, each with a secret seed. Each keeps the secret, and publishes the seal.'
 for bidder in '7 15' '9 9' '300 4'; do
   read -r seat bid <<<"$bidder"
   vickrey 0 seal "$id" "$seat" "$bid" $width $lanes "$(seed)" "secret-$seat" "seal-$seat"
+done
+shown 'chmod a+r seal-7 seal-9 seal-300'
+
+say 'Now all seals are public. Only now do the bidders hand in their secrets. The auctioneer takes them by ascending seat.'
+for seat in 7 9 300; do
   vickrey 0 submit "$id" "seal-$seat" "secret-$seat"
 done
 
-say 'The auctioneer takes no more seals, and publishes the board. Seat 7 wins, and pays the second highest bid.'
+say 'The auctioneer takes no more seals, and makes the board. Seat 7 wins, and pays the second highest bid.'
 vickrey 0 prove "$id" "$(seed)" board
 vickrey 0 report board
+
+say 'The board becomes public with its digest. Everybody writes the digest down, before the draw.'
+shown 'chmod a+r board'
+shown 'sha256sum board'
+digest=$(sha256sum board | cut -d ' ' -f 1)
 
 say 'Only now is the challenge drawn: one random number for each lane, odd for 1 and even for 0.'
 shown "od -An -v -tu1 -w1 -N$lanes /dev/urandom >drawn"
@@ -57,10 +68,9 @@ echo
 write_challenge challenge "$bits"
 shown 'cat challenge'
 
-say 'The auctioneer answers it. Anybody checks the reply: with this program, and with another one.'
+say 'The auctioneer answers it. This reply is all that is ever opened, and anybody can check it.'
 vickrey 0 answer "$id" challenge reply
 vickrey 0 verify board challenge reply
-command -v python3 >/dev/null && shown "python3 $checker verify board challenge reply"
 
 say 'Two replies would give the bids away, so another challenge is refused for ever: status 8. The same one is not.'
 write_challenge other-challenge "$(tr 01 10 <<<"$bits")"
@@ -72,6 +82,10 @@ vickrey 0 sample 1
 shown "$program extract sample-board sample-challenge-1 sample-reply-1 sample-challenge-2 sample-reply-2 >revealed"
 shown "head -n 3 revealed | cut -d ' ' -f 1-6"
 
+say 'The whole audit, with a second checker and what no checker of a reply can see. Here seat 9 makes it, with its own secret.'
+shown "$(printf '%q %q' "$audit" "$program") $digest $id $width $lanes 7,9,300 $bits secret-9"
+audited=$?
+
 say "Look at the files, in $folder:"
 cat <<END
 board               what the auctioneer publishes: commitments and posted numbers
@@ -80,3 +94,4 @@ secret-7, seal-7    a bidder's secret, with its bid, and the seal that stands on
 house.sqlite        what the auctioneer keeps; it has all bids
 revealed            the bids of the sample, each with its two openings
 END
+exit $audited

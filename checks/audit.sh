@@ -1,0 +1,178 @@
+#!/usr/bin/env bash
+# checks/audit.sh PROGRAM: tries demo/audit.sh on an honest auction, and on others where one thing each is wrong: what it says
+# is FAILED has to be just that. It wants python3, and is no part of the gate. The last line says how many cases passed and failed.
+set -u
+[ $# -eq 1 ] || { sed -n '2,3p' "$0"; exit 2; }
+program=$(realpath "$1")
+here=$(realpath "$(dirname "$0")")
+audit=$here/../demo/audit.sh
+folder=$(mktemp -d)
+trap 'rm -rf "$folder"' EXIT
+cd "$folder" || exit 1
+passed=0
+failed=0
+id=000102030405060708090a0b0c0d0e0f
+bits=0110100110
+other=1001011001
+lanes=${#bits}
+
+failed_case() { failed=$((failed + 1)); echo "FAILED: $*"; }
+
+# tried NAME FOLDER STATUS WORDS FAILURE..: the audit with these words in that folder ends so, and just these lines FAILED,
+# each told by a part of it
+tried() {
+  local name=$1 where=$2 status=$3 got failure lines each
+  read -ra each <<<"$4"
+  shift 4
+  (cd "$where" && "$audit" "$program" "${each[@]}") >said 2>errors
+  got=$?
+  [ "$got" = "$status" ] || { failed_case "$name: status $got, not $status: $(cat said errors)"; return; }
+  lines=$(grep -c '^FAILED ' said)
+  [ "$lines" = $# ] || { failed_case "$name: $lines lines, not $#: $(cat said errors)"; return; }
+  for failure in "$@"; do
+    grep -q "^FAILED  .*$failure" said || { failed_case "$name: no line of '$failure': $(cat said errors)"; return; }
+  done
+  if [ "$status" != 2 ] && [ -s errors ]; then failed_case "$name: $(cat errors)"; return; fi
+  passed=$((passed + 1))
+}
+
+# run STATUS WORD..: the program ends so
+run() {
+  local status=$1
+  shift
+  "$program" "$@" >said 2>&1
+  [ $? = "$status" ] || { failed_case "vickrey $*: $(cat said)"; exit 1; }
+}
+
+# auction FOLDER SEED BITS SEAT..: a board of these seats' seals by an honest auctioneer, and the reply to these bits
+auction() {
+  local where=$1 seed=$2 asked=$3 seat
+  shift 3
+  mkdir "$where" "$where.house" && cd "$where.house" || exit 1
+  run 0 announce $id 4 "$lanes"
+  for seat in "$@"; do
+    run 0 submit $id "../seal-$seat" "../secret-$seat"
+  done
+  run 0 prove $id "$seed" "../$where/board"
+  printf 'vickrey-challenge 1\nbits %s\nend\n' "$asked" >"../$where/challenge"
+  run 0 answer $id "../$where/challenge" "../$where/reply"
+  cd ..
+  cp seal-7 seal-9 seal-300 "$where"
+}
+
+# copy NEW: a copy of the honest auction's public files
+copy() { cp -r honest "$1"; }
+
+digest() { sha256sum "$1/board" | cut -d ' ' -f 1; }
+
+for bidder in '7 15' '9 9' '300 4'; do
+  read -r seat bid <<<"$bidder"
+  run 0 seal $id "$seat" "$bid" 4 "$lanes" "$(printf '%064d' "$seat")" "secret-$seat" "seal-$seat"
+done
+one=$(printf '%064d' 1)
+two=$(printf '%064d' 2)
+auction honest "$one" $bits 7 9 300
+honest=$(digest honest)
+words="$honest $id 4 $lanes 7,9,300 $bits"
+
+# an honest auction, for each bidder and for anybody
+tried 'an honest auction' honest 0 "$words"
+for seat in 300 9 7; do
+  tried "an honest auction, seat $seat" honest 0 "$words ../secret-$seat"
+done
+if grep -q '^12 ok, 0 FAILED$' said && ! sed "s/$id//; s/$honest//" said | grep -q 15; then
+  passed=$((passed + 1))
+else
+  failed_case "the words of an honest audit, and no bid among them: $(cat said)"
+fi
+
+# a board that was made after the draw: an honest one, and one with another outcome, which both checkers accept
+auction late "$two" $bits 7 9 300
+tried 'a board made after the draw' late 1 "$words" "board's digest"
+python3 "$here/foreseen.py" $bits false "$lanes" secret-7=15 secret-9=3 secret-300=4
+cp seal-* false
+tried 'another outcome, made after the draw' false 1 "$words" "board's digest"
+tried 'the same, by a bidder who lost by it' false 1 "$words ../secret-9" "board's digest" 'my bid'
+tried 'the same, by one who did not' false 1 "$words ../secret-300" "board's digest"
+
+# a bid above the price: the draw was foreseen, and the digest is public in time
+tried 'a bid above the price' false 1 "$(digest false) $id 4 $lanes 7,9,300 $bits ../secret-9" "my bid isn't above the price"
+python3 "$here/foreseen.py" $bits robbed "$lanes" secret-7=3 secret-9=9 secret-300=4
+cp seal-* robbed
+tried 'the highest bid does not win' robbed 1 "$(digest robbed) $id 4 $lanes 7,9,300 $bits ../secret-7" "my bid isn't above the price"
+python3 "$here/foreseen.py" $bits dear "$lanes" secret-7=15 secret-9=9 secret-300=14
+cp seal-* dear
+sed 's/^bid 15$/bid 13/' secret-7 >modest
+tried 'a price above the bid that won' dear 1 "$(digest dear) $id 4 $lanes 7,9,300 $bits ../modest" "price isn't above my bid"
+
+# a board of one lane, whose digest is public in time
+python3 "$here/foreseen.py" $bits short 1 secret-7=15 secret-9=9 secret-300=4
+cp seal-* short
+tried 'a board of one lane' short 1 "$(digest short) $id 4 $lanes 7,9,300 $bits" lanes 'seat 7 ' 'seat 9 ' 'seat 300 ' 'the challenge'
+tried 'a board of one lane, with one bit published' short 1 "$(digest short) $id 4 $lanes 7,9,300 ${bits:0:1}" lanes 'seat 7 ' 'seat 9 ' 'seat 300 '
+
+# a board with a seal less, more, of another, in another order; other announced numbers
+auction less "$one" $bits 7 9
+tried 'a seal less' less 1 "$(digest less) $id 4 $lanes 7,9,300 $bits" seats 'seat 300 '
+tried 'a public seal that nobody told of' honest 1 "$honest $id 4 $lanes 7,9 $bits" seats 'seal-300 is a public seal'
+auction turned "$one" $bits 9 7 300
+tried 'seals in another order' turned 1 "$(digest turned) $id 4 $lanes 7,9,300 $bits" seats
+mkdir kept && mv seal-9 secret-9 kept
+run 0 seal $id 9 1 4 "$lanes" "$two" secret-9 seal-9
+auction swapped "$one" $bits 7 9 300
+cp kept/* .
+cp seal-9 swapped
+tried 'another seal at a seat' swapped 1 "$(digest swapped) $id 4 $lanes 7,9,300 $bits ../secret-9" 'seat 9 ' 'my bid'
+tried 'another id' honest 1 "$honest ${id/0f/1f} 4 $lanes 7,9,300 $bits" "board's id"
+tried 'another width' honest 1 "$honest $id 5 $lanes 7,9,300 $bits" width
+copy gone
+rm gone/seal-9
+tried 'a seal that is not at hand' gone 1 "$words" 'seat 9 .*no file seal-9'
+
+# another challenge, and a reply to another one
+auction asked "$one" $other 7 9 300
+tried 'another challenge' asked 1 "$words" 'the challenge'
+copy crossed
+cp asked/reply crossed
+tried 'a reply to another challenge' crossed 1 "$words" 'the program accepts the reply: .*malformed reply' 'check.py accepts the reply: .*malformed reply'
+
+# a reply refused, files that are missing or damaged
+copy refused
+sed -i '/^h /{s/[1-8]$/9/;:a;n;ba}' refused/reply
+cmp -s honest/reply refused/reply && sed -i '/^h /{s/[09]$/1/;:a;n;ba}' refused/reply
+tried 'a reply refused' refused 1 "$words" 'the program accepts the reply: .*refused reply lane 1 wire 0' 'check.py accepts the reply: .*refused reply lane 1 wire 0'
+copy torn
+sed -i '$d' torn/board
+tried 'a board without its end' torn 1 "$words" "board's digest" 'the program .*malformed board' 'check.py .*malformed board'
+mkdir bare
+tried 'no file at all' bare 1 "$words" "board's digest" "board's id" width lanes seats 'seat 7 ' 'seat 9 ' 'seat 300 ' 'the challenge' 'the program .*missing board' \
+  'check.py .*missing board'
+mkdir odd odd/challenge
+mkfifo odd/board odd/seal-7
+tried 'folders and pipes for files' odd 1 "$id$id $id 4 $lanes 7 $bits" "board's digest" "board's id" width lanes seats 'seat 7 ' 'the challenge' \
+  'the program .*outside fault' 'check.py .*outside fault'
+copy noise
+head -c 3000 /dev/urandom >noise/board
+tried 'a board of noise' noise 1 "$words ../secret-9" "board's digest" "board's id" width lanes seats 'seat 7 ' 'seat 9 ' 'seat 300 ' 'the program .*malformed board line 1' \
+  'check.py .*malformed board line 1' 'my bid'
+tried 'a secret that is none' honest 1 "$words board" 'my bid'
+tried 'a secret that is not there' honest 1 "$words nowhere" 'my bid'
+sed "s/^seat 9$/seat 10/" secret-9 >stranger
+tried 'a secret of another seat' honest 1 "$words ../stranger" 'my bid'
+
+# a checker that says nothing, and words of another form
+honest_program=$program
+program=$(command -v true)
+tried 'a program that says nothing' honest 1 "$words" 'the program'
+program=nowhere
+tried 'no program' honest 2 "$words"
+program=$honest_program
+tried 'a word too few' honest 2 "${words% *}"
+tried 'a digest of another form' honest 2 "x$words"
+tried 'seats of another form' honest 2 "$honest $id 4 $lanes 7,,300 $bits"
+PATH=$(dirname "$program"):$PATH
+program=$(basename "$program")
+tried 'a program on the path' honest 0 "$words"
+
+echo "$passed passed, $failed failed"
+[ "$failed" = 0 ]
