@@ -1,10 +1,13 @@
 #!/usr/bin/env python3
-"""figures.py PROGRAM [--check]: draws the figures of docs/METHOD.md from one worked auction, and those of docs/ARCHITECTURE.md.
+"""figures.py PROGRAM [--check]: draws the figures of docs/METHOD.md from one worked auction, and those of docs/ARCHITECTURE.md and
+docs/AUCTION.md.
 
 The program makes the auction's files and the replies to the two challenges 01 and 10, accepts both, and extracts the bids;
 every number in the figures of the method comes from these files. With --check nothing is written, and it is an error if a figure that
-stands here differs from what would be drawn.
+stands here differs from what would be drawn, or if docs/FORMATS.md hasn't the script of this auction, what it prints, a seal, a secret
+and the digests of its files among its worked values.
 """
+import hashlib
 import os
 import subprocess
 import sys
@@ -14,7 +17,7 @@ import textwrap
 M = 2**61 - 1
 ID = "000102030405060708090a0b0c0d0e0f"
 WIDTH, LANES = 4, 2
-BIDDERS = [(7, 15, "77" * 32), (9, 9, "99" * 32), (300, 4, "33" * 32)]
+BIDDERS = [(7, 13, "77" * 32), (9, 9, "99" * 32), (300, 4, "33" * 32)]
 HOUSE_SEED = "aa" * 32
 CHALLENGES = ("01", "10")
 HERE = os.path.dirname(os.path.abspath(__file__))
@@ -58,12 +61,28 @@ def answer(program, folder, bits):
     for seat, bid, seed in BIDDERS:
         run(program, folder, "seal", ID, str(seat), str(bid), str(WIDTH), str(LANES), seed, f"secret-{seat}", f"seal-{seat}")
         day.append(f"submit {ID} seal-{seat} secret-{seat}")
-    day += [f"prove {ID} {HOUSE_SEED} board", f"answer {ID} challenge reply"]
+    day += [f"prove {ID} {HOUSE_SEED} board", f"answer {ID} challenge reply", f"show {ID}"]
     for name, lines in (("challenge", ["vickrey-challenge 1", f"bits {bits}"]), ("day", ["vickrey-script 1", *day])):
         with open(os.path.join(folder, name), "w", encoding="ascii") as file:
             file.writelines(f"{line}\n" for line in [*lines, "end"])
-    run(program, folder, "ceremony", "day")
+    with open(os.path.join(folder, "printed"), "w", encoding="ascii") as file:
+        file.write(run(program, folder, "ceremony", "day"))
     assert run(program, folder, "verify", "board", "challenge", "reply") == "accepted\n"
+
+
+def is_worked_out(top):
+    """Whether the worked values of docs/FORMATS.md are those of the auction that was answered for 01."""
+    with open(os.path.join(HERE, "FORMATS.md"), encoding="utf-8") as file:
+        page = file.read()
+    folder = os.path.join(top, "01")
+    texts = []
+    for name in ("day", "printed", "secret-7", "seal-7"):
+        with open(os.path.join(folder, name), encoding="ascii") as file:
+            texts.append("".join(f"    {line}\n" for line in file.read().splitlines()))
+    for name in ("board", "reply"):
+        with open(os.path.join(folder, name), "rb") as file:
+            texts.append(f"    {hashlib.sha256(file.read()).hexdigest()}  {name}\n")
+    return all(text in page for text in texts)
 
 
 class Auction:
@@ -85,6 +104,7 @@ class Auction:
         for j, (_, bid, _) in enumerate(BIDDERS):
             assert int(self.extracted[j][5]) == bid == (self.first_half(j) + self.second_half(j)) % M
         assert self.row_value([(1, 0), (-1, 3)]) == 0 and len(self.posted) == LANES * self.rows
+        self.is_worked_out = is_worked_out(top)
 
     def first_half(self, wire):
         fields = self.zero[wire]
@@ -141,7 +161,7 @@ def short(digest):
 
 def halves(auction):
     figure = Figure("A number and its two halves", 720, 300)
-    figure.box(270, 16, 180, 50, [("the bid of seat 7", "s"), ("15", "n b")])
+    figure.box(270, 16, 180, 50, [("the bid of seat 7", "s"), (str(BIDDERS[0][1]), "n b")])
     for x, name, value, digest in ((60, "first half: a random mask", auction.first_half(0), auction.seals[0][0]),
                                    (400, "second half: the bid minus the mask", auction.second_half(0), auction.seals[0][1])):
         figure.arrow((360, 66), (x + 130, 104))
@@ -150,7 +170,7 @@ def halves(auction):
         figure.text(x + 138, 180, "SHA-256, with a secret key", "s")
         figure.box(x, 196, 260, 50, [("on the board", "s"), (short(digest), "n")], "shut")
     figure.text(360, 136, "+", "m b")
-    figure.text(360, 278, f"{auction.first_half(0)} + {auction.second_half(0)} = 15, modulo {M}", "m n")
+    figure.text(360, 278, f"{auction.first_half(0)} + {auction.second_half(0)} = {auction.value(0)}, modulo {M}", "m n")
     return figure
 
 
@@ -203,18 +223,18 @@ def circuit(auction):
     bids = [auction.value(wire) for wire in range(3)]
     test_sets = [sum(auction.value(wire) for wire in range(first, first + WIDTH)) for first in (6, 10, 14, 18, 22, 26, 30, 36, 40)]
     selectors = [auction.value(34), auction.value(35)]
-    price = 9
-    assert test_sets == [*bids, 15 - 9, 15 - 4, price - 9, price - 4, 0 - price + 9, 15 - price + 4] and selectors == [1, 0]
-    figure = Figure("The circuit of an auction of three", 780, 470)
+    price, top = 9, 2**WIDTH - 1
+    assert test_sets == [*bids, 13 - 9, 13 - 4, price - 9, price - 4, top * 0 - price + 9, top * 1 - price + 4] and selectors == [1, 0]
+    figure = Figure("The circuit of an auction of three", 780, 490)
     for j, (seat, _, _) in enumerate(BIDDERS):
         x = 190 + 200 * j
         figure.box(x, 14, 170, 48, [(f"input, seat {seat}", "s"), (str(bids[j]), "n b")])
         figure.arrow((x + 85, 62), (x + 85, 86))
         figure.box(x, 88, 170, 48, [("copy", "s"), (str(bids[j]), "n b")])
     rows = [
-        ("A", "each copy is its bid", ["15 - 15 = 0", "9 - 9 = 0", "4 - 4 = 0"]),
-        ("B", "each bid is below 16", ["15 in range", "9 in range", "4 in range"]),
-        ("C", "the winner bids at least as much", ["", "15 - 9 = 6", "15 - 4 = 11"]),
+        ("A", "each copy is its bid", ["13 - 13 = 0", "9 - 9 = 0", "4 - 4 = 0"]),
+        ("B", "each bid is below 16", ["13 in range", "9 in range", "4 in range"]),
+        ("C", "the winner bids at least as much", ["", "13 - 9 = 4", "13 - 4 = 9"]),
         ("D", "the price is at least each other bid", ["", "9 - 9 = 0", "9 - 4 = 5"]),
         ("E", "one other bid is selected", ["", "selector 1", "selector 0"]),
         ("F", "the selected bid is at least the price", ["", "15·0 - 9 + 9 = 0", "15·1 - 9 + 4 = 10"]),
@@ -228,7 +248,8 @@ def circuit(auction):
         for j, cell in enumerate(cells):
             if cell:
                 figure.box(195 + 200 * j, y - 6, 160, 34, [(cell, "n")])
-    figure.text(8, 450, f"{auction.wires} wires and {auction.rows} rows. 'In range' is shown by test sets: pairs of the weights 1, 2, 4, 8.", "s")
+    figure.text(8, 450, f"{auction.wires} wires and {auction.rows} rows in each lane. 'In range' is from 0 to 15, shown by pairs of the weights 1, 2, 4, 8.", "s")
+    figure.text(8, 472, "In row F the 15 is 2^4 - 1, the largest number in range, and no bid. It is taken 1 - selector times.", "s")
     return figure
 
 
@@ -312,12 +333,51 @@ def machine(_auction):
     return figure
 
 
+def who(_auction):
+    """Who gives what to whom, and when. It has no number of the auction."""
+    figure = Figure("Who gives what to whom, and when", 780, 576)
+    columns = {"bidders": 120, "auctioneer": 290, "challenger": 640, "auditors": 735}
+    for name, x in columns.items():
+        figure.text(x, 26, name, "m b")
+    figure.text(470, 26, "public, in one place", "m b")
+    posts = [
+        ("", "auctioneer", ["id, width, lanes, seats", ("unit, rules, deadlines, the draw", "s")]),
+        ("seals", "bidders", ["every seal", ("signed by its bidder", "s")]),
+        ("secrets", "", []),
+        ("board", "auctioneer", ["the board and its digest", ("seats, winner, price", "s")]),
+        ("draw", "challenger", ["the challenge", ("one bit for each lane", "s")]),
+        ("reply", "auctioneer", ["the reply", ("one half of each number", "s")]),
+    ]
+    commands = {0: ("announce", "m n"), 1: ("seal", "m n"), 3: ("prove", "m n"), 4: ("a draw", "m"), 5: ("answer", "m n")}
+    for index, (deadline, source, lines) in enumerate(posts):
+        y = 42 + 76 * index
+        if deadline:
+            figure.text(8, y + 18, f"{index}", "b")
+            figure.text(22, y + 18, deadline, "s")
+        if not source:
+            figure.text(120, y + 30, "every secret", "m")
+            figure.arrow((172, y + 26), (226, y + 26))
+            figure.box(228, y, 124, 52, ["the bids", ("known to it alone", "s")], "shut")
+            continue
+        figure.box(372, y, 196, 52, lines, "open")
+        x = columns[source]
+        figure.text(x, y + 30, *commands[index])
+        figure.arrow(*(((x - 30, y + 26), (570, y + 26)) if source == "challenger" else ((x + 40, y + 26), (370, y + 26))))
+    y = 42 + 76 * len(posts)
+    figure.box(372, y, 396, 62, ["the audit: digest, announced numbers, seals,", "challenge, both checkers; a bidder’s own bid", ("anybody, bidders too", "s")])
+    figure.arrow((470, y - 24), (470, y - 2))
+    figure.arrow((735, 36), (735, y - 2))
+    figure.text(8, y + 20, "1 to 5 are the deadlines, in this order.", "s")
+    figure.text(8, y + 40, "Green is public. Only the auctioneer sees secrets.", "s")
+    return figure
+
+
 def main(words):
     if not 1 <= len(words) <= 2 or words[1:] not in ([], ["--check"]):
         sys.exit(__doc__)
     with tempfile.TemporaryDirectory() as top:
         auction = Auction(os.path.abspath(words[0]), top)
-    for draw in (halves, lane, pair, circuit, two_replies, crates, machine):
+    for draw in (halves, lane, pair, circuit, two_replies, crates, machine, who):
         path = os.path.join(HERE, draw.__name__.replace("_", "-") + ".svg")
         drawn = draw(auction).svg()
         assert len(drawn) < 20000
@@ -327,6 +387,8 @@ def main(words):
         elif drawn != open(path, encoding="utf-8").read():
             sys.exit(f"{path} differs")
         print(os.path.basename(path))
+    if words[1:] and not auction.is_worked_out:
+        sys.exit("the worked values of docs/FORMATS.md differ")
 
 
 if __name__ == "__main__":
