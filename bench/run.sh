@@ -92,6 +92,7 @@ measure() {
   local start took
   ${before[$1]}
   start=${EPOCHREALTIME/./}
+  # shellcheck disable=SC2086 # the words of a command
   $pin ${command[$1]} >said
   took=$((${EPOCHREALTIME/./} - start))
   [ "$(tail -n 1 said)" = "${last[$1]}" ] || { echo "$1 says: $(tail -n 1 said)"; exit 1; }
@@ -111,6 +112,7 @@ size_rows
 house_rows
 for name in "${names[@]}"; do
   ${before[$name]}
+  # shellcheck disable=SC2086 # the words of a command
   peak[$name]=$({ /usr/bin/time -f %M $pin ${command[$name]} >said; } 2>&1 | tail -n 1)
 done
 for _ in $(seq "${ROUNDS:-5}"); do

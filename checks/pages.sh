@@ -1,57 +1,87 @@
 #!/usr/bin/env bash
-# checks/pages.sh PROGRAM: runs the commands of the README, of docs/AUCTION.md, docs/METHOD.md and of the manual page as they are
-# written, in empty folders, but for those of `rt`. It is no part of the gate. The last line says how many pages passed.
+# checks/pages.sh PROGRAM: runs the commands of README.md, docs/AUCTION.md, docs/METHOD.md and of the manual page exactly as they are
+# written, each page in a new copy of this folder, with nothing on PATH but the system. Only `rt` is stood in for: `rt run` and `rt try`
+# run the program, and `rt ci` does nothing. It is no part of the gate, and wants sqlite3. The last line says how many passed and failed.
 set -u
-[ $# -eq 1 ] || { sed -n '2,3p' "$0"; exit 2; }
+[ $# -eq 1 ] || { sed -n '2,4p' "$0"; exit 2; }
 program=$(realpath "$1")
 top=$(realpath "$(dirname "$0")/..")
 folder=$(mktemp -d)
 trap 'rm -rf "$folder"' EXIT
+system=$(getconf PATH)
 passed=0
 failed=0
 
-# In an empty folder with the repository's folders at hand, and the program where the pages say that it is
+# begin PAGE: into a new folder with what the repository has, but for its crates, and the program where README's build leaves it
 begin() {
-  mkdir -p "$folder/$1/crates/vickrey/out" "$folder/$1/bin" && cd "$folder/$1" || exit 1
-  ln -s "$top/demo" "$top/checker" "$top/docs" .
-  ln -s "$top/crates/vickrey/data" crates/vickrey/data
-  ln -s "$program" crates/vickrey/out/vickrey
-  ln -s "$program" bin/vickrey
-  PATH=$folder/$1/bin:$PATH
+  local here=$folder/$1 entry
+  mkdir -p "$here/crates/vickrey/out" "$folder/$1.tmp" && cd "$here" || exit 1
+  for entry in "$top"/*; do
+    [ "$entry" = "$top/crates" ] || cp -r "$entry" .
+  done
+  cp -r "$top/crates/vickrey/data" crates/vickrey
+  cp "$program" crates/vickrey/out/vickrey
 }
 
-# The commands in the blocks of a page, without those of rt
-blocks() { awk '/^```/ { inside = ($0 == "```sh"); next } inside' "$1" | grep -v 'rt run\|rt ci'; }
+# The commands of a page, from a line on: its blocks of the shell
+blocks() { awk -v from="${2:-}" '$0 == from { begun = 1 } /^```/ { inside = ($0 == "```sh"); next } inside && (begun || from == "")' "$1"; }
+
+# What a page shows beside them: the lines of its other blocks
+shown() { awk '/^```/ { inside = !inside; other = ($0 == "```"); next } inside && other' "$1"; }
 
 # The commands in the literal blocks of a manual page
 examples() { awk '/^\.Bd -literal/ { inside = 1; next } /^\.Ed/ { inside = 0 } inside' "$1" | sed 's/\\e/\\/g'; }
 
-# page NAME TEXT..: the commands of standard input end well, and each text is a line of what they print
+# What stands in for the kit's command
+rt() {
+  [ "$1" != ci ] || return 0
+  shift 2
+  out/vickrey "$@"
+}
+
+# page NAME PATH TEXT..: the commands of standard input end well in this folder, and each text is a line of what they print
 page() {
-  local name=$1 text
-  shift
-  if ! bash -euo pipefail -c "$(cat)" >output 2>&1; then
+  local name=$1 path=$2 commands text
+  shift 2
+  commands=$(declare -f rt; cat)
+  if ! env -i HOME="$folder" PATH="$path" TMPDIR="$PWD.tmp" bash -euo pipefail -c "$commands" >"$PWD.printed" 2>&1 </dev/null; then
     failed=$((failed + 1))
-    echo "FAILED: $name: $(tail -n 3 output)"
+    echo "FAILED: $name: $(tail -n 3 "$PWD.printed")"
     return
   fi
   for text in "$@"; do
-    grep -qxF -- "$text" output || { failed=$((failed + 1)); echo "FAILED: $name: no line '$text'"; return; }
+    grep -qxF -- "$text" "$PWD.printed" || { failed=$((failed + 1)); echo "FAILED: $name: no line '$text'"; return; }
   done
   passed=$((passed + 1))
 }
 
-begin pages
-page README.md 'sealed seat 7 lanes 2' 'proved winner 7 price 9' answered accepted < <(blocks "$top/README.md")
-page docs/AUCTION.md < <(blocks "$top/docs/AUCTION.md")
-page docs/METHOD.md crates.svg < <(blocks "$top/docs/METHOD.md")
+begin README
+mapfile -t lines < <(shown README.md)
+page README.md "$system" "${lines[@]}" < <(blocks README.md)
+begin worked
+page 'the worked auction of README.md' "$system" 'sealed seat 7 lanes 2' 'proved winner 7 price 9' answered 'board: OK' accepted \
+  < <(blocks README.md '## A worked auction')
+
+# In the folder that this auction was held in: what README says of it beside its blocks
+tried=$PWD/crates/vickrey/out:$system
+auction=$(find "$PWD.tmp" -name digest | head -n 1)
+mkdir "$folder/faults" && cd "$folder/faults" || exit 1
+[ -z "$auction" ] || cp "${auction%digest}"* .
+page 'what README.md says of faults' "$tried" 'refused dear price' 'malformed short line 21' \
+  "house other challenge kept $(sed -n 's/^bits //p' challenge)" <<'END'
 sed '7s/.*/price 16/' board >dear
-sed 20d board >short
-page 'faults of README.md' 'refused dear price' 'malformed short line 58' <<'END'
-vickrey verify dear challenge reply || true
-vickrey verify short challenge reply || true
+head -n 20 board >short
+sed '/^bits/y/01/10/' challenge >other
+vickrey verify dear challenge reply || [ $? = 1 ]
+vickrey verify short challenge reply || [ $? = 4 ]
+vickrey answer "$(sed -n 's/^auction //p' board)" other other-reply || [ $? = 8 ]
 END
+
+begin AUCTION
+page docs/AUCTION.md "$system" '21 ok, 0 FAILED' 'taken seat 3 position 1' < <(blocks docs/AUCTION.md)
+begin METHOD
+page docs/METHOD.md "$system" crates.svg < <(blocks docs/METHOD.md)
 begin manual
-page docs/vickrey.1 answered accepted < <(examples "$top/docs/vickrey.1")
+page docs/vickrey.1 "$PWD/crates/vickrey/out:$system" answered accepted 'held seat 7' < <(examples docs/vickrey.1)
 echo "$passed passed, $failed failed"
 [ "$failed" = 0 ]

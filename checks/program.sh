@@ -58,7 +58,7 @@ case_of 5 'missing nothing' '' extract board challenge-0 reply-0 challenge-1 not
 case_of 2 "$usage" '' verify
 case_of 2 "$usage" '' frobnicate
 case_of 2 "$usage" '' verify board challenge-0 "$(printf '\377')"
-head -n 14 board >cut
+head -n 14 board >"cut"
 case_of 4 'malformed cut line 15' '' verify cut challenge-0 reply-0
 truncate -s 1073741825 huge
 case_of 4 'too long huge' '' verify huge challenge-0 reply-0

@@ -1,0 +1,92 @@
+#!/usr/bin/env python3
+"""checks/tests.py [--write]: counts the tests of the gate, and says if docs/TESTING.md has other numbers.
+
+The page begins with the table of them, which --write writes anew.
+"""
+import os
+import re
+import sys
+
+TOP = os.path.join(os.path.dirname(os.path.abspath(__file__)), "..")
+PAGE = os.path.join(TOP, "docs", "TESTING.md")
+HEADING, NEXT = "## In the gate\n", "\n## Outside of the gate\n"
+TEST = re.compile(r"^\s*#\[test\]", re.MULTILINE)
+
+
+def below(*parts):
+    """The files below a folder of the repository, with their texts."""
+    for folder, _, names in os.walk(os.path.join(TOP, *parts)):
+        for name in sorted(names):
+            with open(os.path.join(folder, name), encoding="utf-8", errors="replace") as file:
+                yield name, file.read()
+
+
+def crates():
+    return sorted(os.listdir(os.path.join(TOP, "crates")))
+
+
+def lines(*parts):
+    with open(os.path.join(TOP, "crates", *parts), encoding="utf-8") as file:
+        return file.read().count("\n")
+
+
+def by_crate(count):
+    """The sum of what is counted of each crate, and how many crates have some."""
+    counts = [number for number in map(count, crates()) if number]
+    return f"{sum(counts)} in {len(counts)} crates"
+
+
+def edits(crate):
+    return sum(name.endswith(".edit") for name, _ in below("crates", crate, "must-fail"))
+
+
+def tests(crate):
+    return sum(len(TEST.findall(text)) for name, text in below("crates", crate, "src") if name.endswith(".rt"))
+
+
+def cases(program, **words):
+    return ", ".join(f"{lines(program, 'data', file)} {what}" for file, what in words.items())
+
+
+def rows():
+    yield ("Must-fail edits: a change of the code, or of a definition, that the check has to refuse, named for what it breaks",
+           by_crate(edits), "`rt must-fail NAME..`")
+    yield "Tests (`#[test]`)", by_crate(tests), "`rt test` in the crate"
+    parts = cases("vectors", streams="streams of words", lists="lists of draws", wires="wires", fours="times four wires", bids="outcomes",
+                  views="views of wires", lanes="views of auctions")
+    wholes = cases("conformance", files="seals and secrets", runs="runs of the program", houses="houses")
+    for program, what in (("vectors", parts), ("conformance", wholes)):
+        yield (f"`{program}`, a program that replays what independent implementations worked out",
+               f"{what}; {lines(program, 'stdout')} lines", "`rt run` in the crate")
+    for program, what in (("trials", "whole auctions, cut files, a fault at each call"), ("far_trials", "the largest files, and damage at far places")):
+        yield f"`{program}`, a program that tries {what}", f"{lines(program, 'stdout')} lines", "`rt run` in the crate"
+    with open(os.path.join(TOP, "crates", "vickrey", "args"), encoding="utf-8") as file:
+        words = " ".join(file.read().split())
+    yield f"`vickrey {words}`, the program itself", f"{lines('vickrey', 'stdout')} lines", f"`rt run -- {words}` in the crate"
+
+
+def section():
+    head = ["", "`rt ci` runs all of these, and ends with `N passed, 0 failed`. Of a program each line that it prints is compared.", "",
+            "| Kind | How many | Alone |", "|---|---|---|"]
+    return "\n".join(head + [f"| {' | '.join(row)} |" for row in rows()]) + "\n"
+
+
+def main(words):
+    with open(PAGE, encoding="utf-8") as file:
+        text = file.read()
+    before, after = text.find(HEADING), text.find(NEXT)
+    if before < 0 or after < before:
+        print(f"docs/TESTING.md has no part {HEADING.strip()!r} with {NEXT.strip()!r} behind it")
+        return 1
+    if words == ["--write"]:
+        with open(PAGE, "w", encoding="utf-8") as file:
+            file.write(text[:before] + HEADING + section() + text[after:])
+        return 0
+    same = text[before + len(HEADING):after] == section()
+    print(f"must-fail edits {by_crate(edits)}, tests {by_crate(tests)}, as docs/TESTING.md has them" if same
+          else "docs/TESTING.md begins with other numbers: checks/tests.py --write")
+    return 0 if same else 1
+
+
+if __name__ == "__main__":
+    sys.exit(main(sys.argv[1:]))
