@@ -1,19 +1,20 @@
 -- Reading a board stops at its fault line. What stands behind a head is proved for every head: a crate with a
 -- head of its own shows that reading it follows its table to `behind_head`, line by line with `head_line_then`,
 -- as `head_follows` does here, and takes all that stands behind it from `behind_ends`.
-use Rattle.std.proofs.Common.{◌≡◌, ℕ, ◌+◌, List, [], ◌∷◌, ◌++◌, length, codes, Option, option_map, Result, Ok, refl, arith, length-append, subst}
+use Rattle.std.proofs.Common.{◌≡◌, ℕ, ◌+◌, ◌-◌, ◌^◌, ◌==◌, Bool, true, false, if◌then◌else◌, List, [], ◌∷◌, ◌++◌, length, codes, Option, option_map, Result, Ok, refl, arith, length-append, subst}
 use Rattle.std.specs.Result.{result_err}
 use Rattle.vk_residue.specs.Steps.{◌>>=◌}
 use Rattle.vk_lines.specs.Lines.{Rest, line_by}
+use Rattle.vk_lines.specs.Tokens.{number_line}
 use Rattle.vk_lines.specs.Forms.{Table, Follows, Ends, fault_line, many_at, whole}
 use Rattle.vk_lines.proofs.Faults.{line_follows, many_follows, follows_then, follows_done, ends_then, end_ends, ends_done, fault_line_is}
 use Rattle.vk_board.specs.declared.board.Head.{Head}
 use Rattle.vk_board.specs.declared.board.SealLines.{SealLines}
 use Rattle.vk_board.specs.declared.board.LaneLines.{LaneLines}
 use Rattle.vk_board.specs.Values.{Shape, Frame, frame_of}
-use Rattle.vk_board.specs.Reading.{com_line, posted_line, seats_of, head_at, seal_at, seal_lines_at, lane_at, lane_lines_at, behind_at, board_at}
+use Rattle.vk_board.specs.Reading.{com_line, posted_line, seats_of, reserve_at, head_at, seal_at, seal_lines_at, lane_at, lane_lines_at, behind_at, board_at}
 use Rattle.vk_board.specs.Tables.{InHead, Seal, Input, Lane, Wire, Row, Last, Over, Place, lane_place, row_place, wire_place, seal_place, input_place, behind_head, HeadTable, sealed_table}
-use Rattle.vk_board.specs.Tables.{Heading, Auction, Width, Lanes, Seals, Winner, Price, HeadPlace, head_table, board_table}
+use Rattle.vk_board.specs.Tables.{Heading, Auction, Width, Lanes, Seals, Reserve, Winner, Price, HeadPlace, reserve_place, head_table, board_table}
 use Rattle.vk_board.proofs.Seats.{seats_more}
 use Rattle.vk_board.proofs.Forms.{head_with, seal_with, lane_with}
 use Rattle.vk_board.proofs.Boards.{board_with}
@@ -120,20 +121,33 @@ module _ {H : Type 0} (head : HeadTable H) where
 
 -- ---- a board
 
+-- the line of the reserve, which version 2 has
+reserve_follows : (shape : Head → Shape) (version : ℕ) (auction : List ℕ) (width lanes seals : ℕ) (second : Bool)
+    → Follows (board_table shape)
+    (if second then InHead (Reserve version auction width lanes seals) else InHead (Winner version auction width lanes seals 0))
+    (λ rest. if second then line_by (number_line (codes "reserve") 0 (2 ^ 64 - 1)) rest else Ok (0, rest))
+    (λ reserve. InHead (Winner version auction width lanes seals reserve))
+reserve_follows shape version auction width lanes seals true =
+    line_follows (board_table shape) (InHead (Reserve version auction width lanes seals)) _
+    (λ reserve. InHead (Winner version auction width lanes seals reserve)) (λ text. refl) refl
+reserve_follows shape version auction width lanes seals false =
+    follows_done (board_table shape) (λ reserve. InHead (Winner version auction width lanes seals reserve)) 0
+
 pub head_follows : (shape : Head → Shape)
     → Follows (board_table shape) (InHead Heading) head_at (λ head. behind_head (frame_of shape head))
-unfolding head_at
+unfolding head_at reserve_at
 head_follows shape =
     let head = head_table shape in
     let after : Head → Place HeadPlace = λ h. behind_head (frame_of shape h) in
-    head_line_then head Heading _ (λ _. InHead Auction) (λ text. refl) (λ heading.
-    head_line_then head Auction _ (λ auction. InHead (Width auction)) (λ text. refl) (λ auction.
-    head_line_then head (Width auction) _ (λ width. InHead (Lanes auction width)) (λ text. refl) (λ width.
-    head_line_then head (Lanes auction width) _ (λ lanes. InHead (Seals auction width lanes)) (λ text. refl) (λ lanes.
-    head_line_then head (Seals auction width lanes) _ (λ seals. InHead (Winner auction width lanes seals)) (λ text. refl) (λ seals.
-    head_line_then head (Winner auction width lanes seals) _ (λ winner. InHead (Price auction width lanes seals winner)) (λ text. refl) (λ winner.
-    head_line_then head (Price auction width lanes seals winner) _ (λ price. after (head_with auction width lanes seals winner price)) (λ text. refl) (λ price.
-    follows_done (board_table shape) after (head_with auction width lanes seals winner price))))))))
+    head_line_then head Heading _ (λ version. InHead (Auction version)) (λ text. refl) (λ version.
+    head_line_then head (Auction version) _ (λ auction. InHead (Width version auction)) (λ text. refl) (λ auction.
+    head_line_then head (Width version auction) _ (λ width. InHead (Lanes version auction width)) (λ text. refl) (λ width.
+    head_line_then head (Lanes version auction width) _ (λ lanes. InHead (Seals version auction width lanes)) (λ text. refl) (λ lanes.
+    head_line_then head (Seals version auction width lanes) _ (reserve_place version auction width lanes) (λ text. refl) (λ seals.
+    follows_then (board_table shape) (reserve_place version auction width lanes seals) (reserve_follows shape version auction width lanes seals (version == 2)) (λ reserve.
+    head_line_then head (Winner version auction width lanes seals reserve) _ (λ winner. InHead (Price version auction width lanes seals reserve winner)) (λ text. refl) (λ winner.
+    head_line_then head (Price version auction width lanes seals reserve winner) _ (λ price. after (head_with version auction width lanes seals reserve winner price)) (λ text. refl) (λ price.
+    follows_done (board_table shape) after (head_with version auction width lanes seals reserve winner price)))))))))
 
 pub board_ends : (shape : Head → Shape) → Ends (board_table shape) (InHead Heading) (board_at shape)
 unfolding board_at

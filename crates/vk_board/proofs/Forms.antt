@@ -1,11 +1,12 @@
 -- The head, the seals and a lane of a board are read from their texts alone.
-use Rattle.std.proofs.Common.{◌≡◌, ℕ, ◌-◌, ◌^◌, ◌≤◌, List, [], ◌∷◌, ◌++◌, length, codes, decimal, flat_map, Result, Ok, refl, ap, arith}
+use Rattle.std.proofs.Common.{◌≡◌, ℕ, ◌-◌, ◌^◌, ◌≤◌, ◌==◌, Bool, true, false, if◌then◌else◌, List, [], ◌∷◌, ◌++◌, length, codes, decimal, flat_map, Option, Result, Ok, refl, ap, arith}
+use Rattle.std.proofs.lemmas.Bool.{eqb-true, eq-eqb}
 use Rattle.hex.specs.Hex.{IsBytes}
 use Rattle.vk_lines.specs.Lines.{Rest, line_by}
 use Rattle.vk_lines.specs.Forms.{line, spaced, IsLine, IsPart, EachAfter, many_at}
 use Rattle.vk_lines.specs.Tokens.{hex_text, id_line, number_line}
 use Rattle.vk_lines.proofs.Words.{number_line_is, id_line_is, from_test, to_test, InRange, below_from, below_to}
-use Rattle.vk_lines.proofs.Parts.{line_part, many_part, part_headed, part_then, part_last, part_same, each_from_all, all_from_each}
+use Rattle.vk_lines.proofs.Parts.{line_part, many_part, part_then, part_done, part_last, part_same, each_from_all, all_from_each}
 use Rattle.vk_residue.specs.Residue.{modulus}
 use Rattle.vk_residue.specs.Steps.{◌>>=◌}
 use Rattle.vk_wire.specs.declared.wire.WireCom.{WireCom}
@@ -13,129 +14,179 @@ use Rattle.vk_wire.specs.Values.{IsCom}
 use Rattle.vk_board.specs.declared.board.Head.{Head}
 use Rattle.vk_board.specs.declared.board.SealLines.{SealLines}
 use Rattle.vk_board.specs.declared.board.LaneLines.{LaneLines}
-use Rattle.vk_board.specs.Values.{IsHead, IsSealAfter, AreSealsOf, AreSeals, IsLaneLines}
-use Rattle.vk_board.specs.Texts.{com_text, posted_text, head_text, seal_lines_text, lane_text}
-use Rattle.vk_board.specs.Reading.{com_line, posted_line, seats_of, head_at, seal_at, seal_lines_at, seals_at, lane_at}
+use Rattle.vk_board.specs.Values.{IsReserve, IsWinner, IsHead, IsSealAfter, AreSealsOf, AreSeals, IsLaneLines}
+use Rattle.vk_board.specs.Texts.{com_text, posted_text, reserve_text, winner_text, head_text, seal_lines_text, lane_text}
+use Rattle.vk_board.specs.Reading.{com_line, posted_line, seats_of, winner_line, reserve_at, head_at, seal_at, seal_lines_at, seals_at, lane_at}
 use Rattle.vk_board.proofs.Seats.{new_from_test, new_to_test}
-use Rattle.vk_board.proofs.Lines.{com_line_is, posted_line_is, seat_line_is, to_residues, from_residues}
+use Rattle.vk_board.proofs.Lines.{com_line_is, posted_line_is, seat_line_is, winner_line_is, to_residues, from_residues}
 
 -- ---- the head
 
-abbrev pub head_with : List ℕ → ℕ → ℕ → ℕ → ℕ → ℕ → Head
-head_with auction width lanes seals winner price = record { auction = auction; width = width; lanes = lanes; seals = seals; winner = winner; price = price }
+abbrev pub head_with : ℕ → List ℕ → ℕ → ℕ → ℕ → ℕ → Option ℕ → ℕ → Head
+head_with version auction width lanes seals reserve winner price =
+    record { auction = auction; version = version; width = width; lanes = lanes; seals = seals; reserve = reserve; winner = winner; price = price }
 
--- what is read from the price, the winner, the seals, the lanes, the width and the id on
-abbrev PriceOf : List ℕ → ℕ → ℕ → ℕ → ℕ → Head → Type 0
-PriceOf auction width lanes seals winner head = InRange 0 (2 ^ 64 - 1) head.price × (head ≡ head_with auction width lanes seals winner head.price)
+-- what is read from the price, the winner, the reserve, the seals, the lanes, the width, the id and the version on
+abbrev PriceOf : ℕ → List ℕ → ℕ → ℕ → ℕ → ℕ → Option ℕ → Head → Type 0
+PriceOf version auction width lanes seals reserve winner head =
+    InRange 0 (2 ^ 64 - 1) head.price × (head ≡ head_with version auction width lanes seals reserve winner head.price)
 
-abbrev WinnerOf : List ℕ → ℕ → ℕ → ℕ → Head → Type 0
-WinnerOf auction width lanes seals head = InRange 1 65535 head.winner × PriceOf auction width lanes seals head.winner head
+abbrev WinnerOf : ℕ → List ℕ → ℕ → ℕ → ℕ → ℕ → Head → Type 0
+WinnerOf version auction width lanes seals reserve head = IsWinner version head.winner × PriceOf version auction width lanes seals reserve head.winner head
 
-abbrev SealsOf : List ℕ → ℕ → ℕ → Head → Type 0
-SealsOf auction width lanes head = InRange 1 64 head.seals × WinnerOf auction width lanes head.seals head
+abbrev ReserveOf : ℕ → List ℕ → ℕ → ℕ → ℕ → Head → Type 0
+ReserveOf version auction width lanes seals head = IsReserve version head.reserve × WinnerOf version auction width lanes seals head.reserve head
 
-abbrev LanesOf : List ℕ → ℕ → Head → Type 0
-LanesOf auction width head = InRange 1 64 head.lanes × SealsOf auction width head.lanes head
+abbrev SealsOf : ℕ → List ℕ → ℕ → ℕ → Head → Type 0
+SealsOf version auction width lanes head = InRange 1 64 head.seals × ReserveOf version auction width lanes head.seals head
 
-abbrev WidthOf : List ℕ → Head → Type 0
-WidthOf auction head = InRange 1 40 head.width × LanesOf auction head.width head
+abbrev LanesOf : ℕ → List ℕ → ℕ → Head → Type 0
+LanesOf version auction width head = InRange 1 64 head.lanes × SealsOf version auction width head.lanes head
 
-abbrev IdOf : Head → Type 0
-IdOf head = ((length head.auction ≡ 16) × IsBytes head.auction) × WidthOf head.auction head
+abbrev WidthOf : ℕ → List ℕ → Head → Type 0
+WidthOf version auction head = InRange 1 40 head.width × LanesOf version auction head.width head
+
+abbrev IdOf : ℕ → Head → Type 0
+IdOf version head = ((length head.auction ≡ 16) × IsBytes head.auction) × WidthOf version head.auction head
 
 abbrev price_text : Head → List ℕ
 price_text head = line (spaced (codes "price" ∷ decimal head.price ∷ []))
 
-abbrev winner_text : Head → List ℕ
-winner_text head = line (spaced (codes "winner" ∷ decimal head.winner ∷ [])) ++ price_text head
+abbrev outcome_text : Head → List ℕ
+outcome_text head = line (winner_text head.winner) ++ price_text head
 
-abbrev seals_text : Head → List ℕ
-seals_text head = line (spaced (codes "seals" ∷ decimal head.seals ∷ [])) ++ winner_text head
+abbrev least_text : ℕ → Head → List ℕ
+least_text version head = reserve_text version head.reserve ++ outcome_text head
 
-abbrev count_text : Head → List ℕ
-count_text head = line (spaced (codes "lanes" ∷ decimal head.lanes ∷ [])) ++ seals_text head
+abbrev seals_text : ℕ → Head → List ℕ
+seals_text version head = line (spaced (codes "seals" ∷ decimal head.seals ∷ [])) ++ least_text version head
 
-abbrev width_text : Head → List ℕ
-width_text head = line (spaced (codes "width" ∷ decimal head.width ∷ [])) ++ count_text head
+abbrev count_text : ℕ → Head → List ℕ
+count_text version head = line (spaced (codes "lanes" ∷ decimal head.lanes ∷ [])) ++ seals_text version head
 
-abbrev id_text : Head → List ℕ
-id_text head = line (spaced (codes "auction" ∷ hex_text head.auction ∷ [])) ++ width_text head
+abbrev width_text : ℕ → Head → List ℕ
+width_text version head = line (spaced (codes "width" ∷ decimal head.width ∷ [])) ++ count_text version head
 
-abbrev price_at : List ℕ → ℕ → ℕ → ℕ → ℕ → Rest → Result (Head × Rest) ℕ
-price_at auction width lanes seals winner rest =
-    line_by (number_line (codes "price") 0 (2 ^ 64 - 1)) rest >>= λ price. Ok (head_with auction width lanes seals winner price.0, price.1)
+abbrev id_text : ℕ → Head → List ℕ
+id_text version head = line (spaced (codes "auction" ∷ hex_text head.auction ∷ [])) ++ width_text version head
 
-abbrev winner_at : List ℕ → ℕ → ℕ → ℕ → Rest → Result (Head × Rest) ℕ
-winner_at auction width lanes seals rest = line_by (number_line (codes "winner") 1 65535) rest >>= λ winner. price_at auction width lanes seals winner.0 winner.1
+abbrev price_at : ℕ → List ℕ → ℕ → ℕ → ℕ → ℕ → Option ℕ → Rest → Result (Head × Rest) ℕ
+price_at version auction width lanes seals reserve winner rest =
+    line_by (number_line (codes "price") 0 (2 ^ 64 - 1)) rest >>= λ price. Ok (head_with version auction width lanes seals reserve winner price.0, price.1)
 
-abbrev count_of_seals_at : List ℕ → ℕ → ℕ → Rest → Result (Head × Rest) ℕ
-count_of_seals_at auction width lanes rest = line_by (number_line (codes "seals") 1 64) rest >>= λ seals. winner_at auction width lanes seals.0 seals.1
+abbrev outcome_at : ℕ → List ℕ → ℕ → ℕ → ℕ → ℕ → Rest → Result (Head × Rest) ℕ
+outcome_at version auction width lanes seals reserve rest =
+    line_by (winner_line version) rest >>= λ winner. price_at version auction width lanes seals reserve winner.0 winner.1
 
-abbrev count_at : List ℕ → ℕ → Rest → Result (Head × Rest) ℕ
-count_at auction width rest = line_by (number_line (codes "lanes") 1 64) rest >>= λ lanes. count_of_seals_at auction width lanes.0 lanes.1
+abbrev least_at : ℕ → List ℕ → ℕ → ℕ → ℕ → Rest → Result (Head × Rest) ℕ
+least_at version auction width lanes seals rest = reserve_at version rest >>= λ reserve. outcome_at version auction width lanes seals reserve.0 reserve.1
 
-abbrev width_at : List ℕ → Rest → Result (Head × Rest) ℕ
-width_at auction rest = line_by (number_line (codes "width") 1 40) rest >>= λ width. count_at auction width.0 width.1
+abbrev count_of_seals_at : ℕ → List ℕ → ℕ → ℕ → Rest → Result (Head × Rest) ℕ
+count_of_seals_at version auction width lanes rest =
+    line_by (number_line (codes "seals") 1 64) rest >>= λ seals. least_at version auction width lanes seals.0 seals.1
 
-abbrev id_at : Rest → Result (Head × Rest) ℕ
-id_at rest = line_by (id_line (codes "auction")) rest >>= λ auction. width_at auction.0 auction.1
+abbrev count_at : ℕ → List ℕ → ℕ → Rest → Result (Head × Rest) ℕ
+count_at version auction width rest =
+    line_by (number_line (codes "lanes") 1 64) rest >>= λ lanes. count_of_seals_at version auction width lanes.0 lanes.1
 
-price_part : (auction : List ℕ) (width lanes seals winner : ℕ) → IsPart (PriceOf auction width lanes seals winner) price_text (price_at auction width lanes seals winner)
-price_part auction width lanes seals winner =
-    part_last (λ head. head.price) (head_with auction width lanes seals winner) (λ price. refl) (line_part (number_line_is (codes "price") 0 (2 ^ 64 - 1) refl (omega arith) (omega arith)))
+abbrev width_at : ℕ → List ℕ → Rest → Result (Head × Rest) ℕ
+width_at version auction rest = line_by (number_line (codes "width") 1 40) rest >>= λ width. count_at version auction width.0 width.1
 
-winner_part : (auction : List ℕ) (width lanes seals : ℕ) → IsPart (WinnerOf auction width lanes seals) winner_text (winner_at auction width lanes seals)
-winner_part auction width lanes seals =
-    part_then {IsZ = λ winner head. PriceOf auction width lanes seals winner head} {text_z = λ winner head. price_text head} (λ head. head.winner)
-    (line_part (number_line_is (codes "winner") 1 65535 refl (omega arith) (omega arith))) (λ winner _. price_part auction width lanes seals winner) (λ winner head is. ap (λ h. h.winner) is.1)
+abbrev id_at : ℕ → Rest → Result (Head × Rest) ℕ
+id_at version rest = line_by (id_line (codes "auction")) rest >>= λ auction. width_at version auction.0 auction.1
 
-seals_part : (auction : List ℕ) (width lanes : ℕ) → IsPart (SealsOf auction width lanes) seals_text (count_of_seals_at auction width lanes)
-seals_part auction width lanes =
-    part_then {IsZ = λ seals head. WinnerOf auction width lanes seals head} {text_z = λ seals head. winner_text head} (λ head. head.seals)
-    (line_part (number_line_is (codes "seals") 1 64 refl (omega arith) (omega arith))) (λ seals _. winner_part auction width lanes seals) (λ seals head is. ap (λ h. h.seals) is.1.1)
+price_part : (version : ℕ) (auction : List ℕ) (width lanes seals reserve : ℕ) (winner : Option ℕ)
+    → IsPart (PriceOf version auction width lanes seals reserve winner) price_text (price_at version auction width lanes seals reserve winner)
+price_part version auction width lanes seals reserve winner =
+    part_last (λ head. head.price) (head_with version auction width lanes seals reserve winner) (λ price. refl)
+    (line_part (number_line_is (codes "price") 0 (2 ^ 64 - 1) refl (omega arith) (omega arith)))
 
-count_part : (auction : List ℕ) (width : ℕ) → IsPart (LanesOf auction width) count_text (count_at auction width)
-count_part auction width =
-    part_then {IsZ = λ lanes head. SealsOf auction width lanes head} {text_z = λ lanes head. seals_text head} (λ head. head.lanes)
-    (line_part (number_line_is (codes "lanes") 1 64 refl (omega arith) (omega arith))) (λ lanes _. seals_part auction width lanes) (λ lanes head is. ap (λ h. h.lanes) is.1.1.1)
+outcome_part : (version : ℕ) (auction : List ℕ) (width lanes seals reserve : ℕ)
+    → IsPart (WinnerOf version auction width lanes seals reserve) outcome_text (outcome_at version auction width lanes seals reserve)
+outcome_part version auction width lanes seals reserve =
+    part_then {IsZ = λ winner head. PriceOf version auction width lanes seals reserve winner head} {text_z = λ winner head. price_text head} (λ head. head.winner)
+    (line_part (winner_line_is version)) (λ winner _. price_part version auction width lanes seals reserve winner) (λ winner head is. ap (λ h. h.winner) is.1)
 
-width_part : (auction : List ℕ) → IsPart (WidthOf auction) width_text (width_at auction)
-width_part auction =
-    part_then {IsZ = λ width head. LanesOf auction width head} {text_z = λ width head. count_text head} (λ head. head.width)
-    (line_part (number_line_is (codes "width") 1 40 refl (omega arith) (omega arith))) (λ width _. count_part auction width) (λ width head is. ap (λ h. h.width) is.1.1.1.1)
+reserve_by : (version : ℕ) (second : Bool) → (version == 2) ≡ second
+    → IsPart (IsReserve version) (λ reserve. if second then line (spaced (codes "reserve" ∷ decimal reserve ∷ [])) else [])
+    (λ rest. if second then line_by (number_line (codes "reserve") 0 (2 ^ 64 - 1)) rest else Ok (0, rest))
+reserve_by version true test =
+    part_same (line_part (number_line_is (codes "reserve") 0 (2 ^ 64 - 1) refl (omega arith) (omega arith)))
+    (λ reserve is. record { small = below_from (2 ^ 64) reserve (omega arith) is.0; unnamed = λ other. absurd (other (eqb-true version 2 test)) })
+    (λ reserve is. (below_to (2 ^ 64) reserve is.small, to_test 0 reserve (omega arith)))
+    (λ reserve. refl)
+reserve_by version false test =
+    part_same (part_done 0)
+    (λ reserve is. record { small = rw is (omega arith); unnamed = λ other. is })
+    (λ reserve is. is.unnamed (λ same. let second = eq-eqb version 2 same in cc (test, second)))
+    (λ reserve. refl)
 
-id_part : IsPart IdOf id_text id_at
-id_part =
-    part_then {IsZ = λ auction head. WidthOf auction head} {text_z = λ auction head. width_text head} (λ head. head.auction)
-    (line_part (id_line_is (codes "auction") refl (omega arith))) (λ auction _. width_part auction) (λ auction head is. ap (λ h. h.auction) is.1.1.1.1.1)
+least_part : (version : ℕ) (auction : List ℕ) (width lanes seals : ℕ)
+    → IsPart (ReserveOf version auction width lanes seals) (least_text version) (least_at version auction width lanes seals)
+unfolding reserve_at
+least_part version auction width lanes seals =
+    part_then {IsZ = λ reserve head. WinnerOf version auction width lanes seals reserve head} {text_z = λ reserve head. outcome_text head} (λ head. head.reserve)
+    (reserve_by version (version == 2) refl) (λ reserve _. outcome_part version auction width lanes seals reserve) (λ reserve head is. ap (λ h. h.reserve) is.1.1)
+
+seals_part : (version : ℕ) (auction : List ℕ) (width lanes : ℕ)
+    → IsPart (SealsOf version auction width lanes) (seals_text version) (count_of_seals_at version auction width lanes)
+seals_part version auction width lanes =
+    part_then {IsZ = λ seals head. ReserveOf version auction width lanes seals head} {text_z = λ seals head. least_text version head} (λ head. head.seals)
+    (line_part (number_line_is (codes "seals") 1 64 refl (omega arith) (omega arith))) (λ seals _. least_part version auction width lanes seals) (λ seals head is. ap (λ h. h.seals) is.1.1.1)
+
+count_part : (version : ℕ) (auction : List ℕ) (width : ℕ) → IsPart (LanesOf version auction width) (count_text version) (count_at version auction width)
+count_part version auction width =
+    part_then {IsZ = λ lanes head. SealsOf version auction width lanes head} {text_z = λ lanes head. seals_text version head} (λ head. head.lanes)
+    (line_part (number_line_is (codes "lanes") 1 64 refl (omega arith) (omega arith))) (λ lanes _. seals_part version auction width lanes) (λ lanes head is. ap (λ h. h.lanes) is.1.1.1.1)
+
+width_part : (version : ℕ) (auction : List ℕ) → IsPart (WidthOf version auction) (width_text version) (width_at version auction)
+width_part version auction =
+    part_then {IsZ = λ width head. LanesOf version auction width head} {text_z = λ width head. count_text version head} (λ head. head.width)
+    (line_part (number_line_is (codes "width") 1 40 refl (omega arith) (omega arith))) (λ width _. count_part version auction width) (λ width head is. ap (λ h. h.width) is.1.1.1.1.1)
+
+id_part : (version : ℕ) → IsPart (IdOf version) (id_text version) (id_at version)
+id_part version =
+    part_then {IsZ = λ auction head. WidthOf version auction head} {text_z = λ auction head. width_text version head} (λ head. head.auction)
+    (line_part (id_line_is (codes "auction") refl (omega arith))) (λ auction _. width_part version auction) (λ auction head is. ap (λ h. h.auction) is.1.1.1.1.1.1)
+
+version_part : IsPart (λ head. InRange 1 2 head.version × IdOf head.version head)
+    (λ head. line (spaced (codes "vickrey-board" ∷ decimal head.version ∷ [])) ++ id_text head.version head)
+    (λ rest. line_by (number_line (codes "vickrey-board") 1 2) rest >>= λ version. id_at version.0 version.1)
+version_part =
+    part_then {IsZ = λ version head. IdOf version head} {text_z = λ version head. id_text version head} (λ head. head.version)
+    (line_part (number_line_is (codes "vickrey-board") 1 2 refl (omega arith) (omega arith))) (λ version _. id_part version) (λ version head is. ap (λ h. h.version) is.1.1.1.1.1.1.1)
 
 pub head_is_part : IsPart IsHead head_text head_at
 unfolding head_text head_at
 head_is_part =
-    part_same (part_headed (codes "vickrey-board 1") refl (omega arith) id_part)
+    part_same version_part
     (λ head is. record {
-      id = is.0;
+      id = is.1.0;
+      version = record { least = from_test 1 head.version is.0.1; most = is.0.0 };
       size = record {
-        width = record { least = from_test 1 head.width is.1.0.1; most = is.1.0.0 };
-        lanes = record { least = from_test 1 head.lanes is.1.1.0.1; most = is.1.1.0.0 };
+        width = record { least = from_test 1 head.width is.1.1.0.1; most = is.1.1.0.0 };
+        lanes = record { least = from_test 1 head.lanes is.1.1.1.0.1; most = is.1.1.1.0.0 };
       };
-      some_seal = from_test 1 head.seals is.1.1.1.0.1;
-      few_seals = is.1.1.1.0.0;
-      some_winner = from_test 1 head.winner is.1.1.1.1.0.1;
-      last_winner = is.1.1.1.1.0.0;
-      price = below_from (2 ^ 64) head.price (omega arith) is.1.1.1.1.1.0.0;
+      some_seal = from_test 1 head.seals is.1.1.1.1.0.1;
+      few_seals = is.1.1.1.1.0.0;
+      reserve = is.1.1.1.1.1.0;
+      winner = is.1.1.1.1.1.1.0;
+      price = below_from (2 ^ 64) head.price (omega arith) is.1.1.1.1.1.1.1.0.0;
     })
     (λ head is. (
-      is.id,
+      (is.version.most, to_test 1 head.version is.version.least),
       (
-        (is.size.width.most, to_test 1 head.width is.size.width.least),
+        is.id,
         (
-          (is.size.lanes.most, to_test 1 head.lanes is.size.lanes.least),
+          (is.size.width.most, to_test 1 head.width is.size.width.least),
           (
-            (is.few_seals, to_test 1 head.seals is.some_seal),
+            (is.size.lanes.most, to_test 1 head.lanes is.size.lanes.least),
             (
-              (is.last_winner, to_test 1 head.winner is.some_winner),
-              ((below_to (2 ^ 64) head.price is.price, to_test 0 head.price (omega arith)), refl),
+              (is.few_seals, to_test 1 head.seals is.some_seal),
+              (
+                is.reserve,
+                (is.winner, ((below_to (2 ^ 64) head.price is.price, to_test 0 head.price (omega arith)), refl)),
+              ),
             ),
           ),
         ),

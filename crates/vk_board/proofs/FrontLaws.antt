@@ -12,7 +12,7 @@ use Rattle.vk_board.specs.Values.{Shape, frame_of}
 use Rattle.vk_board.specs.Texts.{head_text, seal_lines_text}
 use Rattle.vk_board.specs.Tables.{head_table, board_table}
 use Rattle.vk_board.specs.Reading.{head_at, seals_at}
-use Rattle.vk_board.specs.Published.{price_stands, position_of}
+use Rattle.vk_board.specs.Published.{price_stands, placed}
 use Rattle.vk_board.specs.Fronts.{PriceStands, FrontFault, Malformed, Price, Winner, front_placed, front_of, front_at, FrontsAreRead, Begins, PriceFails, WinnerFails, LineFails, FrontsAreRefused}
 use Rattle.vk_board.proofs.Forms.{head_is_part, seals_are_part}
 use Rattle.vk_board.proofs.Faults.{head_follows, seals_follow}
@@ -62,7 +62,7 @@ fronts_read = record {
           head_read = read.1.head_read;
           seals_read = read.1.seals_read;
           price = price_found front.head is.price;
-          winner = winner_found front.head front.seals front.position is.seals is.winner;
+          winner = winner_found front.head front.seals front.head.winner front.position is.seals is.winner;
         }),
       );
   shown = λ rest front after ok.
@@ -101,11 +101,11 @@ unfolding front_at
 at_seals rest head middle line is stop = rw (is, stop) refl
 
 -- by the two tests
-abbrev tested : Head → List SealLines → Rest → Bool → Option ℕ → Result (Front × Rest) FrontFault
+abbrev tested : Head → List SealLines → Rest → Bool → Option (Option ℕ) → Result (Front × Rest) FrontFault
 tested head seals after stands place = (if stands then front_placed head seals place else Err Price) >>= λ front. Ok (front, after)
 
 at_tests : (rest : Rest) (head : Head) (seals : List SealLines) (after : Rest) → AreRead rest head seals after
-    → front_at rest ≡ tested head seals after (price_stands head) (position_of head.winner seals)
+    → front_at rest ≡ tested head seals after (price_stands head) (placed head.winner seals)
 unfolding front_at front_of
 at_tests rest head seals after read = rw (read.head_read, read.seals_read) refl
 
@@ -114,7 +114,7 @@ at_tests rest head seals after read = rw (read.head_read, read.seals_read) refl
 line_same : (m n : ℕ) → ◌≡◌ {A = Result (Front × Rest) FrontFault} (Err (Malformed m)) (Err (Malformed n)) → m ≡ n
 line_same m n same = cc
 
-no_line : (head : Head) (seals : List SealLines) (after : Rest) (stands : Bool) (place : Option ℕ) (number : ℕ) → tested head seals after stands place ≡ Err (Malformed number) → ⊥
+no_line : (head : Head) (seals : List SealLines) (after : Rest) (stands : Bool) (place : Option (Option ℕ)) (number : ℕ) → tested head seals after stands place ≡ Err (Malformed number) → ⊥
 no_line head seals after true (Some position) number is = cc
 no_line head seals after true None number is = cc
 no_line head seals after false place number is = cc
@@ -129,7 +129,7 @@ line_by_way shape bytes number (NoSeals head middle line is stop) refused =
     (head_follows shape).ok start head middle is ∙ (seals_follow (head_table shape) (frame_of shape head)).err middle line stop
     ∙ ap Some (line_same line number (sym (at_seals start head middle line is stop) ∙ refused))
 line_by_way shape bytes number (Both head seals after read) refused =
-    absurd (no_line head seals after (price_stands head) (position_of head.winner seals) number (sym (at_tests (record { taken = 0; left = bytes }) head seals after read) ∙ refused))
+    absurd (no_line head seals after (price_stands head) (placed head.winner seals) number (sym (at_tests (record { taken = 0; left = bytes }) head seals after read) ∙ refused))
 
 line_shown : (shape : Head → Shape) (bytes : List ℕ) (number : ℕ) → front_at (record { taken = 0; left = bytes }) ≡ Err (Malformed number) → LineFails shape bytes number
 line_shown shape bytes number refused =
@@ -139,7 +139,7 @@ line_shown shape bytes number refused =
       before = λ head seals begins.
           let read = text_found start head seals begins in
           let after : Rest = record { taken = read.0; left = begins.more } in
-          no_line head seals after (price_stands head) (position_of head.winner seals) number (sym (at_tests start head seals after read.1) ∙ refused);
+          no_line head seals after (price_stands head) (placed head.winner seals) number (sym (at_tests start head seals after read.1) ∙ refused);
     }
 
 line_refused : (shape : Head → Shape) (bytes : List ℕ) (number : ℕ) → Way (record { taken = 0; left = bytes }) → LineFails shape bytes number → front_at (record { taken = 0; left = bytes }) ≡ Err (Malformed number)
@@ -156,12 +156,12 @@ line_refused shape bytes number (Both head seals after read) is =
 
 -- ---- the price and the winner
 
-price_by : (head : Head) (seals : List SealLines) (after : Rest) (stands : Bool) (place : Option ℕ) → tested head seals after stands place ≡ Err Price → stands ≡ false
+price_by : (head : Head) (seals : List SealLines) (after : Rest) (stands : Bool) (place : Option (Option ℕ)) → tested head seals after stands place ≡ Err Price → stands ≡ false
 price_by head seals after true (Some position) is = cc
 price_by head seals after true None is = cc
 price_by head seals after false place is = refl
 
-winner_by : (head : Head) (seals : List SealLines) (after : Rest) (stands : Bool) (place : Option ℕ) → tested head seals after stands place ≡ Err Winner → (stands ≡ true) × (place ≡ None)
+winner_by : (head : Head) (seals : List SealLines) (after : Rest) (stands : Bool) (place : Option (Option ℕ)) → tested head seals after stands place ≡ Err Winner → (stands ≡ true) × (place ≡ None)
 winner_by head seals after true (Some position) is = cc
 winner_by head seals after true None is = (refl, refl)
 winner_by head seals after false place is = cc
@@ -175,7 +175,7 @@ price_way : (rest : Rest) → Way rest → front_at rest ≡ Err Price → Price
 price_way rest (NoHead line stop) refused = cc (at_head rest line stop)
 price_way rest (NoSeals head middle line is stop) refused = cc (at_seals rest head middle line is stop)
 price_way rest (Both head seals after read) refused =
-    let no = price_by head seals after (price_stands head) (position_of head.winner seals) (sym (at_tests rest head seals after read) ∙ refused) in
+    let no = price_by head seals after (price_stands head) (placed head.winner seals) (sym (at_tests rest head seals after read) ∙ refused) in
     record {
       head = head;
       seals = seals;
@@ -187,20 +187,23 @@ price_refused : (rest : Rest) → PriceFails rest.left → front_at rest ≡ Err
 price_refused rest is =
     let read = text_found rest is.head is.seals is.begins in
     at_tests rest is.head is.seals (record { taken = read.0; left = is.begins.more }) read.1
-    ∙ ap (λ stands. tested is.head is.seals (record { taken = read.0; left = is.begins.more }) stands (position_of is.head.winner is.seals)) (fails is.head (price_stands is.head) refl is.price)
+    ∙ ap (λ stands. tested is.head is.seals (record { taken = read.0; left = is.begins.more }) stands (placed is.head.winner is.seals)) (fails is.head (price_stands is.head) refl is.price)
 
 winner_way : (rest : Rest) → Way rest → front_at rest ≡ Err Winner → WinnerFails rest.left
 winner_way rest (NoHead line stop) refused = cc (at_head rest line stop)
 winner_way rest (NoSeals head middle line is stop) refused = cc (at_seals rest head middle line is stop)
 winner_way rest (Both head seals after read) refused =
-    let no = winner_by head seals after (price_stands head) (position_of head.winner seals) (sym (at_tests rest head seals after read) ∙ refused) in
+    let no = winner_by head seals after (price_stands head) (placed head.winner seals) (sym (at_tests rest head seals after read) ∙ refused) in
     let begins = text_shown rest head seals after read in
+    let missing = none_shown head seals head.winner begins.are_seals no.1 in
     record {
       head = head;
       seals = seals;
       begins = begins;
       price = price_shown head no.0;
-      winner = none_shown head seals begins.are_seals no.1;
+      seat = missing.0;
+      named = missing.1;
+      missing = missing.2;
     }
 
 winner_refused : (rest : Rest) → WinnerFails rest.left → front_at rest ≡ Err Winner
@@ -208,8 +211,8 @@ winner_refused rest is =
     let read = text_found rest is.head is.seals is.begins in
     let after : Rest = record { taken = read.0; left = is.begins.more } in
     at_tests rest is.head is.seals after read.1
-    ∙ ap (λ stands. tested is.head is.seals after stands (position_of is.head.winner is.seals)) (price_found is.head is.price)
-    ∙ ap (λ place. tested is.head is.seals after true place) (none_found is.head.winner is.seals is.winner)
+    ∙ ap (λ stands. tested is.head is.seals after stands (placed is.head.winner is.seals)) (price_found is.head is.price)
+    ∙ ap (λ place. tested is.head is.seals after true place) (none_found is.head.winner is.seat is.seals is.named is.missing)
 
 pub fronts_refused : FrontsAreRefused
 fronts_refused = record {

@@ -7,18 +7,18 @@ use Rattle.vk_board.specs.declared.board.SealLines.{SealLines}
 use Rattle.vk_board.specs.declared.front.Front.{Front}
 use Rattle.vk_board.specs.Values.{IsHead, AreSeals}
 use Rattle.vk_board.specs.Reading.{head_at, seals_at}
-use Rattle.vk_board.specs.Published.{price_stands, position_of}
+use Rattle.vk_board.specs.Published.{price_stands, placed}
 use Rattle.vk_board.specs.Fronts.{IsFront, FrontFault, Price, in_front, front_with, front_placed, front_of, front_at}
 use Rattle.vk_board.proofs.Prices.{price_shown, price_found}
 use Rattle.vk_board.proofs.Winners.{winner_shown, winner_found}
 
-pub front_right : (head : Head) (seals : List SealLines) (position : ℕ) → IsHead head → AreSeals head seals → price_stands head ≡ true → position_of head.winner seals ≡ Some position
+pub front_right : (head : Head) (seals : List SealLines) (position : Option ℕ) → IsHead head → AreSeals head seals → price_stands head ≡ true → placed head.winner seals ≡ Some position
     → IsFront (front_with head seals position)
 front_right head seals position is are price winner = record {
   head = is;
   seals = are;
   price = price_shown head price;
-  winner = winner_shown head seals position are winner;
+  winner = winner_shown seals head.winner position winner;
 }
 
 -- ---- one step after another
@@ -36,28 +36,28 @@ in_front_ok (Err line) x h = cc
 
 -- ---- the price and the winner
 
-placed_shown : (head : Head) (seals : List SealLines) (found : Option ℕ) (front : Front) → front_placed head seals found ≡ Ok front
-    → (position : ℕ) × (found ≡ Some position) × (front_with head seals position ≡ front)
+placed_shown : (head : Head) (seals : List SealLines) (found : Option (Option ℕ)) (front : Front) → front_placed head seals found ≡ Ok front
+    → (position : Option ℕ) × (found ≡ Some position) × (front_with head seals position ≡ front)
 placed_shown head seals None front ok = cc
 placed_shown head seals (Some position) front ok = (position, refl, value_same (front_with head seals position) front ok)
 
 tests_shown : (head : Head) (seals : List SealLines) (stands : Bool) (front : Front) → price_stands head ≡ stands
-    → (if stands then front_placed head seals (position_of head.winner seals) else Err Price) ≡ Ok front
-    → (price_stands head ≡ true) × (position : ℕ) × (position_of head.winner seals ≡ Some position) × (front_with head seals position ≡ front)
+    → (if stands then front_placed head seals (placed head.winner seals) else Err Price) ≡ Ok front
+    → (price_stands head ≡ true) × (position : Option ℕ) × (placed head.winner seals ≡ Some position) × (front_with head seals position ≡ front)
 tests_shown head seals false front stands ok = cc
 tests_shown head seals true front stands ok =
-    let place = placed_shown head seals (position_of head.winner seals) front ok in
+    let place = placed_shown head seals (placed head.winner seals) front ok in
     (stands, place.0, place.1, place.2)
 
 front_of_shown : (head : Head) (seals : List SealLines) (front : Front) → front_of head seals ≡ Ok front
-    → (price_stands head ≡ true) × (position : ℕ) × (position_of head.winner seals ≡ Some position) × (front_with head seals position ≡ front)
+    → (price_stands head ≡ true) × (position : Option ℕ) × (placed head.winner seals ≡ Some position) × (front_with head seals position ≡ front)
 unfolding front_of
 front_of_shown head seals front ok = tests_shown head seals (price_stands head) front refl ok
 
 front_of_found : (front : Front) → IsFront front → front_of front.head front.seals ≡ Ok front
 unfolding front_of
 front_of_found front is =
-    rw (price_found front.head is.price, winner_found front.head front.seals front.position is.seals is.winner) refl
+    rw (price_found front.head is.price, winner_found front.head front.seals front.head.winner front.position is.seals is.winner) refl
 
 -- ---- the lines before the first lane
 
@@ -67,7 +67,7 @@ pub record FrontRead (rest : Rest) (front : Front) (after : Rest) : Type 0 where
   pub head_read : head_at rest ≡ Ok (front.head, middle)
   pub seals_read : seals_at front.head middle ≡ Ok (front.seals, after)
   pub price : price_stands front.head ≡ true
-  pub winner : position_of front.head.winner front.seals ≡ Some front.position
+  pub winner : placed front.head.winner front.seals ≡ Some front.position
 
 abbrev seals_then : Head → List SealLines × Rest → Result (Front × Rest) FrontFault
 seals_then head seals = front_of head seals.0 >>= λ front. Ok (front, seals.1)

@@ -1,5 +1,5 @@
 -- What stands on a board before its first lane: its head and its seals, with the place of the winner's seal.
-use Rattle.std.specs.Prelude.{◌≡◌, ◌↔◌, ℕ, ◌-◌, ◌^◌, ◌<◌, ◌≤◌, if◌then◌else◌, List, ◌++◌, slice_index, Contains, Option, Some, None, Result, Ok, Err}
+use Rattle.std.specs.Prelude.{◌≡◌, ◌≢◌, ◌↔◌, ℕ, ◌-◌, ◌^◌, ◌<◌, ◌≤◌, if◌then◌else◌, List, ◌++◌, length, slice_index, Contains, Option, Some, None, Result, Ok, Err}
 use Rattle.std.specs.List.{flat_map}
 use Rattle.vk_residue.specs.Steps.{◌>>=◌}
 use Rattle.vk_lines.specs.Lines.{Rest}
@@ -14,25 +14,47 @@ use Rattle.vk_board.specs.Values.{IsHead, AreSeals, Shape}
 use Rattle.vk_board.specs.Texts.{head_text, seal_lines_text}
 use Rattle.vk_board.specs.Reading.{head_at, seals_at, seats_of}
 use Rattle.vk_board.specs.Tables.{board_table}
-use Rattle.vk_board.specs.Published.{price_stands, position_of}
+use Rattle.vk_board.specs.Published.{price_stands, placed}
 
--- the price is below 2^width, and 0 where there is one seal
-pub record PriceStands (head : Head) : Type 0 where
+-- what is sold: its price is below 2^width and not below the reserve, and is the reserve where there is one seal
+pub record SoldPriceStands (head : Head) : Type 0 where
   pub within_width : head.price < 2 ^ head.width
-  pub alone : head.seals ≡ 1 → head.price ≡ 0
+  pub reserve_within_price : head.reserve ≤ head.price
+  pub alone : head.seals ≡ 1 → head.price ≡ head.reserve
 
--- the seal at the position, counted from 1, has the seat of the published winner
-pub record HasWinner (front : Front) : Type 0 where
-  pub some : 1 ≤ front.position
-  pub within : front.position ≤ front.head.seals
-  pub seat : slice_index (seats_of front.seals) (front.position - 1) ≡ front.head.winner
+-- what isn't: there is a reserve that no bid met, and no price
+pub record UnsoldPriceStands (head : Head) : Type 0 where
+  pub some_reserve : head.reserve ≢ 0
+  pub no_price : head.price ≡ 0
+
+abbrev pub PriceStandsFor : Head → Option ℕ → Type 0
+PriceStandsFor head (Some seat) = SoldPriceStands head
+PriceStandsFor head None = UnsoldPriceStands head
+
+-- the reserve is below 2^width, and the price may stand beside it. Version 1 has the reserve 0
+pub record PriceStands (head : Head) : Type 0 where
+  pub reserve_within_width : head.reserve < 2 ^ head.width
+  pub price : PriceStandsFor head head.winner
+
+-- the seal at the position, counted from 1, has the seat
+pub record HasPlace (seals : List SealLines) (seat position : ℕ) : Type 0 where
+  pub some : 1 ≤ position
+  pub within : position ≤ length seals
+  pub seat_there : slice_index (seats_of seals) (position - 1) ≡ seat
+
+-- the position is that of the winner's seal; there is none where nothing is sold
+abbrev pub IsPlaced : List SealLines → Option ℕ → Option ℕ → Type 0
+IsPlaced seals (Some seat) (Some position) = HasPlace seals seat position
+IsPlaced seals (Some seat) None = ⊥
+IsPlaced seals None (Some position) = ⊥
+IsPlaced seals None None = Unit {0}
 
 -- the front of a board whose price and winner may stand
 pub record IsFront (front : Front) : Type 0 where
   pub head : IsHead front.head
   pub seals : AreSeals front.head front.seals
   pub price : PriceStands front.head
-  pub winner : HasWinner front
+  pub winner : IsPlaced front.seals front.head.winner front.position
 
 abbrev pub front_text : Front → List ℕ
 front_text front = head_text front.head ++ flat_map seal_lines_text front.seals
@@ -59,16 +81,16 @@ in_front (Ok x) = Ok x
 in_front (Err line) = Err (Malformed line)
 
 -- where the winner's seal has that place
-abbrev pub front_with : Head → List SealLines → ℕ → Front
+abbrev pub front_with : Head → List SealLines → Option ℕ → Front
 front_with head seals position = record { head = head; seals = seals; position = position }
 
-abbrev pub front_placed : Head → List SealLines → Option ℕ → Result Front FrontFault
+abbrev pub front_placed : Head → List SealLines → Option (Option ℕ) → Result Front FrontFault
 front_placed head seals None = Err Winner
 front_placed head seals (Some position) = Ok (front_with head seals position)
 
 -- the price is tested first, then the winner
 unfoldable pub front_of : Head → List SealLines → Result Front FrontFault
-front_of head seals = if price_stands head then front_placed head seals (position_of head.winner seals) else Err Price
+front_of head seals = if price_stands head then front_placed head seals (placed head.winner seals) else Err Price
 
 -- the lines before the first lane
 unfoldable pub front_at : Rest → Result (Front × Rest) FrontFault
@@ -100,13 +122,15 @@ pub record PriceFails (left : List ℕ) : Type 0 where
   pub begins : Begins left head seals
   pub price : ¬ PriceStands head
 
--- they do, the price may stand, and no seal has the winner's seat
+-- they do, the price may stand, and no seal has the seat that is named as the winner's
 pub record WinnerFails (left : List ℕ) : Type 0 where
   pub head : Head
   pub seals : List SealLines
   pub begins : Begins left head seals
   pub price : PriceStands head
-  pub winner : ¬ Contains (seats_of seals) head.winner
+  pub seat : ℕ
+  pub named : head.winner ≡ Some seat
+  pub missing : ¬ Contains (seats_of seals) seat
 
 -- a file has that fault line, and doesn't begin so
 pub record LineFails (shape : Head → Shape) (bytes : List ℕ) (number : ℕ) : Type 0 where

@@ -1,6 +1,6 @@
 -- How a board is read, line by line. The laws say that this is exactly its text, and stops at the fault
 -- line.
-use Rattle.std.specs.Prelude.{ℕ, ◌+◌, ◌^◌, ◌-◌, ◌==◌, not, Bool, List, length, map, codes, Option, Result, Ok}
+use Rattle.std.specs.Prelude.{ℕ, ◌+◌, ◌^◌, ◌-◌, ◌==◌, not, Bool, if◌then◌else◌, List, length, map, codes, Option, Some, None, option_map, Result, Ok}
 use Rattle.std.specs.List.{list_all}
 use Rattle.vk_residue.specs.Steps.{◌>>=◌, ◌>>?◌}
 use Rattle.vk_lines.specs.Lines.{Rest, line_by, end_at}
@@ -35,19 +35,36 @@ seat_token seats text = ◌>>?◌ (number_token 1 65535 text) (meets (is_new_sea
 abbrev pub seat_line : List ℕ → List ℕ → Option ℕ
 seat_line seats text = one_field (codes "seal") (seat_token seats) text
 
+-- that nothing is sold, where the version knows of it
+abbrev pub unsold_line : ℕ → List ℕ → Option (Option ℕ)
+unsold_line version text = if version == 2 then option_map (λ _. None) (word_of (codes "unsold") text) else None
+
+-- the seat that won, or that nothing is sold
+abbrev pub winner_or : Option ℕ → Option (Option ℕ) → Option (Option ℕ)
+winner_or (Some seat) unsold = Some (Some seat)
+winner_or None unsold = unsold
+
+abbrev pub winner_line : ℕ → List ℕ → Option (Option ℕ)
+winner_line version text = winner_or (number_line (codes "winner") 1 65535 text) (unsold_line version text)
+
 -- ---- parts
+
+-- the reserve, which version 2 names
+unfoldable pub reserve_at : ℕ → Rest → Result (ℕ × Rest) ℕ
+reserve_at version rest = if version == 2 then line_by (number_line (codes "reserve") 0 (2 ^ 64 - 1)) rest else Ok (0, rest)
 
 -- the head of a board
 unfoldable pub head_at : Rest → Result (Head × Rest) ℕ
 head_at rest =
-    line_by (word_of (codes "vickrey-board 1")) rest >>= λ heading.
-    line_by (id_line (codes "auction")) heading.1 >>= λ auction.
+    line_by (number_line (codes "vickrey-board") 1 2) rest >>= λ version.
+    line_by (id_line (codes "auction")) version.1 >>= λ auction.
     line_by (number_line (codes "width") 1 40) auction.1 >>= λ width.
     line_by (number_line (codes "lanes") 1 64) width.1 >>= λ lanes.
     line_by (number_line (codes "seals") 1 64) lanes.1 >>= λ seals.
-    line_by (number_line (codes "winner") 1 65535) seals.1 >>= λ winner.
+    reserve_at version.0 seals.1 >>= λ reserve.
+    line_by (winner_line version.0) reserve.1 >>= λ winner.
     line_by (number_line (codes "price") 0 (2 ^ 64 - 1)) winner.1 >>= λ price.
-    Ok (record { auction = auction.0; width = width.0; lanes = lanes.0; seals = seals.0; winner = winner.0; price = price.0 }, price.1)
+    Ok (record { auction = auction.0; version = version.0; width = width.0; lanes = lanes.0; seals = seals.0; reserve = reserve.0; winner = winner.0; price = price.0 }, price.1)
 
 -- a seal of so many lanes after these
 unfoldable pub seal_at : ℕ → List SealLines → Rest → Result (SealLines × Rest) ℕ

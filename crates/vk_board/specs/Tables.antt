@@ -1,10 +1,10 @@
 -- What may stand next in a file of a head, seals and lanes, place by place. Boards are such files.
-use Rattle.std.specs.Prelude.{ℕ, zero, suc, ◌+◌, ◌-◌, ◌^◌, Bool, true, false, List, [], ◌∷◌, ◌++◌, codes, Option, None, option_map}
+use Rattle.std.specs.Prelude.{ℕ, zero, suc, ◌+◌, ◌-◌, ◌^◌, ◌==◌, Bool, true, false, if◌then◌else◌, List, [], ◌∷◌, ◌++◌, codes, Option, None, option_map}
 use Rattle.vk_lines.specs.Forms.{Table}
 use Rattle.vk_lines.specs.Tokens.{word_of, number_line, id_line}
 use Rattle.vk_board.specs.declared.board.Head.{Head}
 use Rattle.vk_board.specs.Values.{Shape, Frame, frame_of}
-use Rattle.vk_board.specs.Reading.{com_line, posted_line, seat_line}
+use Rattle.vk_board.specs.Reading.{com_line, posted_line, seat_line, winner_line}
 
 -- ---- behind a head
 
@@ -85,26 +85,34 @@ sealed_table head = record { first = InHead head.first; next = sealed_next head;
 -- the places of a board's head, each with its fields so far
 pub data HeadPlace : Type 0 where
   Heading : HeadPlace
-  Auction : HeadPlace
-  Width : List ℕ → HeadPlace
-  Lanes : List ℕ → ℕ → HeadPlace
-  Seals : List ℕ → ℕ → ℕ → HeadPlace
-  Winner : List ℕ → ℕ → ℕ → ℕ → HeadPlace
-  Price : List ℕ → ℕ → ℕ → ℕ → ℕ → HeadPlace
+  Auction : ℕ → HeadPlace
+  Width : ℕ → List ℕ → HeadPlace
+  Lanes : ℕ → List ℕ → ℕ → HeadPlace
+  Seals : ℕ → List ℕ → ℕ → ℕ → HeadPlace
+  Reserve : ℕ → List ℕ → ℕ → ℕ → ℕ → HeadPlace
+  Winner : ℕ → List ℕ → ℕ → ℕ → ℕ → ℕ → HeadPlace
+  Price : ℕ → List ℕ → ℕ → ℕ → ℕ → ℕ → Option ℕ → HeadPlace
+
+-- behind the number of seals: version 2 names a reserve, version 1 has none
+abbrev pub reserve_place : ℕ → List ℕ → ℕ → ℕ → ℕ → Place HeadPlace
+reserve_place version auction width lanes seals =
+    if version == 2 then InHead (Reserve version auction width lanes seals) else InHead (Winner version auction width lanes seals 0)
 
 abbrev pub head_next : (Head → Shape) → HeadPlace → List ℕ → Option (Place HeadPlace)
-head_next shape Heading text = option_map (λ _. InHead Auction) (word_of (codes "vickrey-board 1") text)
-head_next shape Auction text = option_map (λ auction. InHead (Width auction)) (id_line (codes "auction") text)
-head_next shape (Width auction) text =
-    option_map (λ width. InHead (Lanes auction width)) (number_line (codes "width") 1 40 text)
-head_next shape (Lanes auction width) text =
-    option_map (λ lanes. InHead (Seals auction width lanes)) (number_line (codes "lanes") 1 64 text)
-head_next shape (Seals auction width lanes) text =
-    option_map (λ seals. InHead (Winner auction width lanes seals)) (number_line (codes "seals") 1 64 text)
-head_next shape (Winner auction width lanes seals) text =
-    option_map (λ winner. InHead (Price auction width lanes seals winner)) (number_line (codes "winner") 1 65535 text)
-head_next shape (Price auction width lanes seals winner) text =
-    option_map (λ price. behind_head (frame_of shape (record { auction = auction; width = width; lanes = lanes; seals = seals; winner = winner; price = price })))
+head_next shape Heading text = option_map (λ version. InHead (Auction version)) (number_line (codes "vickrey-board") 1 2 text)
+head_next shape (Auction version) text = option_map (λ auction. InHead (Width version auction)) (id_line (codes "auction") text)
+head_next shape (Width version auction) text =
+    option_map (λ width. InHead (Lanes version auction width)) (number_line (codes "width") 1 40 text)
+head_next shape (Lanes version auction width) text =
+    option_map (λ lanes. InHead (Seals version auction width lanes)) (number_line (codes "lanes") 1 64 text)
+head_next shape (Seals version auction width lanes) text =
+    option_map (reserve_place version auction width lanes) (number_line (codes "seals") 1 64 text)
+head_next shape (Reserve version auction width lanes seals) text =
+    option_map (λ reserve. InHead (Winner version auction width lanes seals reserve)) (number_line (codes "reserve") 0 (2 ^ 64 - 1) text)
+head_next shape (Winner version auction width lanes seals reserve) text =
+    option_map (λ winner. InHead (Price version auction width lanes seals reserve winner)) (winner_line version text)
+head_next shape (Price version auction width lanes seals reserve winner) text =
+    option_map (λ price. behind_head (frame_of shape (record { auction = auction; version = version; width = width; lanes = lanes; seals = seals; reserve = reserve; winner = winner; price = price })))
     (number_line (codes "price") 0 (2 ^ 64 - 1) text)
 
 abbrev pub head_table : (Head → Shape) → HeadTable HeadPlace

@@ -1,5 +1,5 @@
 -- The text of a board, part by part and line by line.
-use Rattle.std.specs.Prelude.{ℕ, List, [], ◌∷◌, ◌++◌, codes, decimal}
+use Rattle.std.specs.Prelude.{ℕ, ◌==◌, if◌then◌else◌, List, [], ◌∷◌, ◌++◌, codes, decimal, Option, Some, None}
 use Rattle.std.specs.List.{flat_map}
 use Rattle.vk_lines.specs.Forms.{digests_text, line, spaced, numbered_text}
 use Rattle.vk_lines.specs.Tokens.{hex_text}
@@ -17,15 +17,25 @@ com_text word digests = digests_text word digests.first digests.second
 abbrev pub posted_text : ℕ → List ℕ
 posted_text number = spaced (codes "d" ∷ decimal number ∷ [])
 
+-- the line of the reserve, which version 2 has
+abbrev pub reserve_text : ℕ → ℕ → List ℕ
+reserve_text version reserve = if version == 2 then line (spaced (codes "reserve" ∷ decimal reserve ∷ [])) else []
+
+-- the seat that won, or that nothing is sold
+abbrev pub winner_text : Option ℕ → List ℕ
+winner_text (Some seat) = spaced (codes "winner" ∷ decimal seat ∷ [])
+winner_text None = codes "unsold"
+
 unfoldable pub head_text : Head → List ℕ
 head_text head =
-    line (codes "vickrey-board 1")
+    line (spaced (codes "vickrey-board" ∷ decimal head.version ∷ []))
     ++ (line (spaced (codes "auction" ∷ hex_text head.auction ∷ []))
     ++ (line (spaced (codes "width" ∷ decimal head.width ∷ []))
     ++ (line (spaced (codes "lanes" ∷ decimal head.lanes ∷ []))
     ++ (line (spaced (codes "seals" ∷ decimal head.seals ∷ []))
-    ++ (line (spaced (codes "winner" ∷ decimal head.winner ∷ []))
-    ++ line (spaced (codes "price" ∷ decimal head.price ∷ [])))))))
+    ++ (reserve_text head.version head.reserve
+    ++ (line (winner_text head.winner)
+    ++ line (spaced (codes "price" ∷ decimal head.price ∷ []))))))))
 
 unfoldable pub seal_lines_text : SealLines → List ℕ
 seal_lines_text seal =

@@ -1,5 +1,5 @@
 -- Boards: what an auctioneer publishes of an auction.
-use Rattle.std.specs.Prelude.{◌≡◌, ◌≢◌, ℕ, ◌^◌, ◌<◌, ◌≤◌, List, [], length}
+use Rattle.std.specs.Prelude.{◌≡◌, ◌≢◌, ℕ, ◌^◌, ◌<◌, ◌≤◌, List, [], length, Option, Some, None}
 use Rattle.std.specs.List.{AllByRecursion}
 use Rattle.vk_residue.specs.Limits.{IsSize}
 use Rattle.vk_residue.specs.Residue.{IsResidue}
@@ -10,15 +10,35 @@ use Rattle.vk_board.specs.declared.board.Head.{Head}
 use Rattle.vk_board.specs.declared.board.SealLines.{SealLines}
 use Rattle.vk_board.specs.declared.board.LaneLines.{LaneLines}
 
--- the head of a board: the id of an auction, the width of its bids, how many lanes and seals there are,
--- the seat that won, and the price
+-- version 1 knows of no reserve and sells always; version 2 names a reserve, and may leave it unsold
+pub record IsVersion (version : ℕ) : Type 0 where
+  pub least : 1 ≤ version
+  pub most : version ≤ 2
+
+pub record IsReserve (version reserve : ℕ) : Type 0 where
+  pub small : reserve < 2 ^ 64
+  pub unnamed : version ≢ 2 → reserve ≡ 0
+
+-- a bidder's seat
+pub record IsSeat (seat : ℕ) : Type 0 where
+  pub least : 1 ≤ seat
+  pub most : seat ≤ 65535
+
+-- the seat that won, or none
+abbrev pub IsWinner : ℕ → Option ℕ → Type 0
+IsWinner version (Some seat) = IsSeat seat
+IsWinner version None = version ≡ 2
+
+-- the head of a board: the id of an auction, its version, the width of its bids, how many lanes and seals there are,
+-- the reserve, the seat that won, and the price
 pub record IsHead (head : Head) : Type 0 where
   pub id : AreBytes 16 head.auction
+  pub version : IsVersion head.version
   pub size : IsSize head.width head.lanes
   pub some_seal : 1 ≤ head.seals
   pub few_seals : head.seals ≤ 64
-  pub some_winner : 1 ≤ head.winner
-  pub last_winner : head.winner ≤ 65535
+  pub reserve : IsReserve head.version head.reserve
+  pub winner : IsWinner head.version head.winner
   pub price : head.price < 2 ^ 64
 
 -- a seal on a board of so many lanes: a bidder's seat, and the two commitments of each lane

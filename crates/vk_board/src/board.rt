@@ -8,14 +8,18 @@ use vk_wire::WireCom;
 #[derive(Clone, Copy, Debug, PartialEq, Eq)]
 pub struct Head {
     pub auction: [u8; 16],
+    /// 1, or 2 where the board names a reserve.
+    pub version: u32,
     /// A bid is below 2^width. 1 to 40.
     pub width: u32,
     /// 1 to 64.
     pub lanes: u32,
     /// How many seals are on the board, 1 to 64.
     pub seals: u32,
-    /// The seat that won, at least 1.
-    pub winner: u16,
+    /// The least price at which the seller sells; 0 with version 1.
+    pub reserve: u64,
+    /// The seat that won, at least 1. None where nothing is sold, which is of version 2 alone.
+    pub winner: Option<u16>,
     pub price: u64,
 }
 

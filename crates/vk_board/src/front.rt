@@ -8,7 +8,7 @@ ghost use Rattle.vk_board.specs.Fronts.{IsFront, fault_of, front_of, front_at};
 ghost use Rattle.vk_board.specs.declared.front.FrontErr.TheVariants as refusal;
 
 use crate::board::{Head, SealLines};
-use crate::published::{position_of, price_stands};
+use crate::published::{placed, price_stands};
 use crate::reading::{read_head, read_seals};
 use std::alloc::Global;
 use vk_io::Shelf;
@@ -16,12 +16,13 @@ use vk_lines::{Lines, ReadErr};
 use vk_residue::NoMemory;
 use vk_seq::Seq;
 
-/// What stands on a board before its first lane, and the place of the winner's seal, from 1.
+/// What stands on a board before its first lane, and the place of the winner's seal, from 1. No place
+/// where nothing is sold.
 #[derive(Debug, Drop)]
 pub struct Front {
     pub head: Head,
     pub seals: Seq<SealLines>,
-    pub position: u32,
+    pub position: Option<u32>,
 }
 
 /// Why no front was read.
@@ -29,9 +30,9 @@ pub struct Front {
 pub enum FrontErr {
     /// A line isn't what its place demands, or nothing was read.
     Unread(ReadErr),
-    /// The price isn't below 2^width, or there is one seal and the price isn't 0.
+    /// The price may not stand beside the reserve, the width and the number of seals.
     Price,
-    /// No seal has the winner's seat.
+    /// The board names a winner, and no seal has that seat.
     Winner,
 }
 
@@ -75,7 +76,7 @@ fn front_from(head: Head, seals: Seq<SealLines>) -> Result<Front, FrontErr>
     if !price_stands(&head) {
         return Err(FrontErr::Price);
     }
-    match position_of(head.winner, seals.as_slice()) {
+    match placed(head.winner, seals.as_slice()) {
         None => Err(FrontErr::Winner),
         Some(position) => Ok(Front {
             head,

@@ -4,8 +4,8 @@ ghost use Rattle.vk_residue.specs.Residue.{IsResidue};
 ghost use Rattle.vk_lines.specs.Forms.{many_at};
 ghost use Rattle.vk_lines.specs.Lines.{KeepsFile, OnlyReads, ReadsPart, line_by};
 ghost use Rattle.vk_lines.specs.declared.errors.ReadErr.TheVariants.{Failed};
-ghost use Rattle.vk_board.specs.Values.{AreBytes, IsCom, IsHead, IsSealAfter, AreSealsOf, AreSeals, IsLaneLines};
-ghost use Rattle.vk_board.specs.Reading.{com_line, posted_line, seats_of, is_new_seat, seat_line, head_at, seal_at, seal_lines_at, seals_at, lane_at};
+ghost use Rattle.vk_board.specs.Values.{AreBytes, IsCom, IsVersion, IsReserve, IsWinner, IsHead, IsSealAfter, AreSealsOf, AreSeals, IsLaneLines};
+ghost use Rattle.vk_board.specs.Reading.{com_line, posted_line, seats_of, is_new_seat, seat_line, reserve_at, unsold_line, winner_line, head_at, seal_at, seal_lines_at, seals_at, lane_at};
 
 use crate::board::{Head, LaneLines, SealLines};
 use std::alloc::Global;
@@ -13,14 +13,14 @@ use std::marker::PhantomData;
 use vk_io::Shelf;
 use vk_lines::{
     DigestsLine, LineKind, Lines, ReadErr, behind_word, one_field, read_decimal, read_many,
-    read_residue,
+    read_number, read_residue, read_word,
 };
 use vk_residue::Residue;
 use vk_seq::Seq;
 use vk_wire::WireCom;
 
-/// Reads the head of a board, its first seven lines. Malformed carries the number of the first line
-/// that isn't what its place demands.
+/// Reads the head of a board: seven lines with version 1, eight with version 2. Malformed carries the
+/// number of the first line that isn't what its place demands.
 #[tactic(auto, unfolding(crate::specs::Reading::head_at))]
 pub fn read_head<S: Shelf>(shelf: &mut S, lines: &mut Lines) -> Result<Head, ReadErr>
     ensures told { ReadsPart head_at (S.held shelf.old) lines.old lines.new result }
@@ -28,41 +28,115 @@ pub fn read_head<S: Shelf>(shelf: &mut S, lines: &mut Lines) -> Result<Head, Rea
     ensures file { KeepsFile lines.old lines.new }
     ensures shelf { OnlyReads S.held S.Shelf.faults ReadErr.Failed result shelf.old shelf.new }
 {
-    lines.read_fixed(shelf, b"vickrey-board 1")?;
+    let version = lines.read_number(shelf, b"vickrey-board", 1, 2)?;
     let auction = lines.read_id(shelf, b"auction")?;
     let width = lines.read_number(shelf, b"width", 1, 40)?;
-    let lanes = lines.read_number(shelf, b"lanes", 1, 64)?;
+    let count = lines.read_number(shelf, b"lanes", 1, 64)?;
     let seals = lines.read_number(shelf, b"seals", 1, 64)?;
-    let winner = lines.read_number(shelf, b"winner", 1, 65535)?;
+    let reserve = read_reserve(shelf, lines, version)?;
+    let winner = read_winner(shelf, lines, version)?;
     let price = lines.read_number(shelf, b"price", 0, u64::MAX)?;
-    Ok(head_from(&auction, width, lanes, seals, winner, price))
+    let size = HeadSize {
+        version,
+        width,
+        lanes: count,
+        seals,
+    };
+    Ok(head_from(&auction, size, reserve, winner, price))
+}
+
+/// The numbers of a head's first lines.
+#[derive(Clone, Copy, Debug)]
+struct HeadSize {
+    version: u64,
+    width: u64,
+    lanes: u64,
+    seals: u64,
 }
 
 /// A head of what was read.
 fn head_from(
     auction: &[u8; 16],
-    width: u64,
-    lanes: u64,
-    seals: u64,
-    winner: u64,
+    size: HeadSize,
+    reserve: u64,
+    winner: Option<u16>,
     price: u64,
 ) -> Head
     requires id { AreBytes 16 auction.now }
-    requires width { (1 ≤ width) × (width ≤ 40) }
-    requires lanes { (1 ≤ lanes) × (lanes ≤ 64) }
-    requires seals { (1 ≤ seals) × (seals ≤ 64) }
-    requires winner { (1 ≤ winner) × (winner ≤ 65535) }
-    ensures value { result ≡ record { auction = auction.now; width = width; lanes = lanes; seals = seals; winner = winner; price = price } }
+    requires version { IsVersion size.version }
+    requires width { (1 ≤ size.width) × (size.width ≤ 40) }
+    requires lanes { (1 ≤ size.lanes) × (size.lanes ≤ 64) }
+    requires seals { (1 ≤ size.seals) × (size.seals ≤ 64) }
+    requires reserve { IsReserve size.version reserve }
+    requires winner { IsWinner size.version winner }
+    ensures value { result ≡ record { auction = auction.now; version = size.version; width = size.width; lanes = size.lanes; seals = size.seals; reserve = reserve; winner = winner; price = price } }
     ensures right { IsHead result }
 {
     Head {
         auction: *auction,
-        width: width as u32,
-        lanes: lanes as u32,
-        seals: seals as u32,
-        winner: winner as u16,
+        version: size.version as u32,
+        width: size.width as u32,
+        lanes: size.lanes as u32,
+        seals: size.seals as u32,
+        reserve,
+        winner,
         price,
     }
+}
+
+/// Reads the reserve that version 2 names; version 1 has no such line, and the reserve 0.
+#[tactic(auto, unfolding(crate::specs::Reading::reserve_at))]
+fn read_reserve<S: Shelf>(shelf: &mut S, lines: &mut Lines, version: u64) -> Result<u64, ReadErr>
+    ensures told { ReadsPart (reserve_at version) (S.held shelf.old) lines.old lines.new result }
+    ensures right { IfOk result (IsReserve version) }
+    ensures file { KeepsFile lines.old lines.new }
+    ensures shelf { OnlyReads S.held S.Shelf.faults ReadErr.Failed result shelf.old shelf.new }
+{
+    if version != 2 {
+        return Ok(0);
+    }
+    let reserve = lines.read_number(shelf, b"reserve", 0, u64::MAX)?;
+    Ok(reserve)
+}
+
+/// Reads the seat that won. None where the line says that nothing is sold, as it may with version 2.
+#[tactic(auto, unfolding(vk_lines::specs::Lines::line_by))]
+fn read_winner<S: Shelf>(
+    shelf: &mut S,
+    lines: &mut Lines,
+    version: u64,
+) -> Result<Option<u16>, ReadErr>
+    ensures told { ReadsPart (line_by (winner_line version)) (S.held shelf.old) lines.old lines.new result }
+    ensures right { IfOk result (IsWinner version) }
+    ensures file { KeepsFile lines.old lines.new }
+    ensures shelf { OnlyReads S.held S.Shelf.faults ReadErr.Failed result shelf.old shelf.new }
+{
+    lines.read_text(shelf)?;
+    let winner = lines.found(winner_of(lines.text(), version));
+    winner
+}
+
+/// What the winner's line tells.
+fn winner_of(text: &[u8], version: u64) -> Option<Option<u16>>
+    ensures value { result ≡ winner_line version text.now }
+    ensures right { IfSome result (IsWinner version) }
+{
+    match read_number(text, b"winner", 1, 65535) {
+        Some(seat) => Some(Some(seat as u16)),
+        None => unsold_of(text, version),
+    }
+}
+
+/// That nothing is sold, where the line says so and the version knows of it.
+fn unsold_of(text: &[u8], version: u64) -> Option<Option<u16>>
+    ensures value { result ≡ unsold_line version text.now }
+    ensures right { IfSome result (IsWinner version) }
+{
+    if version != 2 {
+        return None;
+    }
+    read_word(text, b"unsold")?;
+    Some(None)
 }
 
 /// Reads the seals of a board with this head, as read_seal_lines does.

@@ -1,27 +1,48 @@
 ghost use Rattle.std.specs.Prelude.{◌≡◌, ◌++◌, IfOk, OnOk};
 ghost use Rattle.std.specs.List.{flat_map};
 ghost use Rattle.vk_lines.specs.Forms.{line};
-ghost use Rattle.vk_board.specs.Texts.{posted_text, head_text, seal_lines_text, lane_text};
+ghost use Rattle.vk_board.specs.Texts.{posted_text, reserve_text, winner_text, head_text, seal_lines_text, lane_text};
 
 use crate::board::{Head, LaneLines, SealLines};
 use std::alloc::Global;
 use vk_lines::{push_digests_lines, push_hex_line, push_line, push_number_line};
 use vk_residue::{NoMemory, Residue};
 
-/// The text of a board's head.
+/// The text of a board's head. Its numbers are within the limits of their lines.
 #[tactic(auto, unfolding(crate::specs::Texts::head_text))]
 pub fn head_text(alloc: Global, head: &Head) -> Result<Vec<u8>, NoMemory>
     ensures { IfOk result (λ text. text.items ≡ head_text head.now) }
 {
     let mut text = Vec::new(alloc);
-    push_line(&mut text, b"vickrey-board 1")?;
+    push_number_line(&mut text, b"vickrey-board", u64::from(head.version))?;
     push_hex_line(&mut text, b"auction", &head.auction)?;
     push_number_line(&mut text, b"width", u64::from(head.width))?;
     push_number_line(&mut text, b"lanes", u64::from(head.lanes))?;
     push_number_line(&mut text, b"seals", u64::from(head.seals))?;
-    push_number_line(&mut text, b"winner", u64::from(head.winner))?;
+    push_reserve(&mut text, head.version, head.reserve)?;
+    push_winner(&mut text, head.winner)?;
     push_number_line(&mut text, b"price", head.price)?;
     Ok(text)
+}
+
+/// Appends the line of the reserve, which version 2 has.
+fn push_reserve(out: &mut Vec<u8>, version: u32, reserve: u64) -> Result<(), NoMemory>
+    ensures { OnOk result (out.new.items ≡ out.old.items ++ reserve_text version reserve) }
+{
+    if version == 2 {
+        push_number_line(out, b"reserve", reserve)?;
+    }
+    Ok(())
+}
+
+/// Appends the line that tells the winner's seat, or that nothing is sold.
+fn push_winner(out: &mut Vec<u8>, winner: Option<u16>) -> Result<(), NoMemory>
+    ensures { OnOk result (out.new.items ≡ out.old.items ++ line (winner_text winner)) }
+{
+    match winner {
+        Some(seat) => push_number_line(out, b"winner", u64::from(seat)),
+        None => push_line(out, b"unsold"),
+    }
 }
 
 /// The text of a seal on a board.

@@ -1,5 +1,5 @@
 -- What comes of a list of bids where the seller names a reserve. Positions count from 1.
-use Rattle.std.specs.Prelude.{ℕ, ◌<◌, ◌≤◌, ◌≡◌, ◌≢◌, ◌⊎◌, List}
+use Rattle.std.specs.Prelude.{ℕ, ◌<◌, ◌≤◌, ◌≡◌, ◌≢◌, ◌⊎◌, List, Option, Some, None}
 use Rattle.vk_vickrey.specs.declared.sales.Sale.{Sale}
 use Rattle.vk_vickrey.specs.declared.sales.Sale.TheVariants.{Sold, Unsold}
 use Rattle.vk_vickrey.specs.Outcomes.{bid_at, IsPosition, IsBidElsewhere}
@@ -22,3 +22,8 @@ pub record IsSold (bids : List ℕ) (reserve winner price : ℕ) : Type 0 where
 abbrev pub IsSale : List ℕ → ℕ → Sale → Type 0
 IsSale bids reserve (Sold position price) = IsSold bids reserve position price
 IsSale bids reserve Unsold = (position : ℕ) → IsPosition bids position → bid_at bids position < reserve
+
+-- what a position and a price tell
+abbrev pub sale_at : Option ℕ → ℕ → Sale
+sale_at (Some position) price = Sold position price
+sale_at None price = Unsold

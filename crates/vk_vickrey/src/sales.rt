@@ -1,6 +1,6 @@
 ghost use Rattle.std.specs.Prelude.{◌≡◌, ◌≤◌, ◌↔◌, List, ℕ, length};
 ghost use Rattle.vk_vickrey.specs.Outcomes.{IsVickreyOutcome};
-ghost use Rattle.vk_vickrey.specs.Sales.{IsSale};
+ghost use Rattle.vk_vickrey.specs.Sales.{IsSale, sale_at};
 ghost use Rattle.vk_vickrey.specs.declared.sales.Sale.{Sale as SaleValue};
 ghost use Rattle.vk_vickrey.specs.declared.sales.Sale.TheVariants.{Sold as SoldTo};
 
@@ -13,6 +13,18 @@ pub enum Sale {
     Sold { position: u32, price: u64 },
     /// Every bid is below the reserve.
     Unsold,
+}
+
+impl Sale {
+    /// What a position, counted from 1, and a price tell; where there is no position nothing is sold.
+    pub fn at(position: Option<u32>, price: u64) -> Sale
+        ensures { result ≡ sale_at position price }
+    {
+        match position {
+            Some(position) => Sale::Sold { position, price },
+            None => Sale::Unsold,
+        }
+    }
 }
 
 /// The sale of 1 to 64 bids: the winner pays the reserve, or the price without one where that is more.
