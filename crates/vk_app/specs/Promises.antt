@@ -22,8 +22,8 @@ use Rattle.vk_app.specs.Commands.{usage_said}
 -- ---- the headline
 
 -- of two replies that are accepted with one board for different challenges, `extract` puts the bids of each lane whose bits
--- differ: they are below 2^width, open the lane's seals, and have the Vickrey outcome that the board publishes. Or it puts two
--- openings of one commitment. It puts such of no others
+-- differ: they are below 2^width, open the lane's seals, and have the Vickrey outcome that the board publishes, which is the
+-- published sale under the board's reserve, 0 in version 1. Or it puts two openings of one commitment. It puts such of no others
 pub record Headline (files : Files) (words : List (List ℕ)) (status : ℕ) (old new : Option (List ℕ)) : Type 0 where
   pub found : (names : ExtractWords) → command_words words ≡ Some (Extract names) → (accepted : AcceptsTwoFiles files names)
       → status ≢ 6 → status ≢ 9 → IsExtracted accepted.two status old new

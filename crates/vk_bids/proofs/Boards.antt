@@ -80,7 +80,7 @@ pub same_statement : (front : StatementValue → Front) (base : Option Base) →
 same_statement front None stands = tt
 same_statement front (Some base) stands = stands.1
 
--- the lanes of a board show its outcome
+-- the lanes of a board show its sale
 pub lanes_show : (front : Front) (s : StatementValue) (lanes : List LaneBids) → IsFront front → s ≡ statement_of front
     → All (LaneOpens s) lanes
     → All (LaneShows front) lanes

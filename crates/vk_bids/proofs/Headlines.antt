@@ -1,5 +1,5 @@
--- Two replies that are accepted for different challenges give values for which the circuit holds, on a board the
--- published outcome; or a clash. Only such replies do.
+-- Two replies that are accepted for different challenges give values for which the circuit holds, on a board those
+-- of the published sale; or a clash. Only such replies do.
 use Rattle.std.proofs.Common.{◌≡◌, ◌≢◌, ℕ, suc, ◌+◌, ◌-◌, ◌<◌, ◌≤◌, ◌&&◌, Bool, true, false, if◌then◌else◌, List, [], ◌∷◌, length, Option, Some, Result, Ok, Err, refl, sym, ap, subst, ◌∙◌, arith}
 use Rattle.std.specs.Prelude.{slice_get, slice_index_or}
 use Rattle.std.proofs.lemmas.List.Elements.{All-weaker}

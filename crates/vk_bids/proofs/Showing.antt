@@ -1,11 +1,11 @@
 -- What two accepted replies open of a lane: values for which the statement's circuit holds. On a board they show the
--- published outcome.
+-- published sale.
 use Rattle.std.proofs.Common.{◌≡◌, ℕ, ◌-◌, ◌<◌, ◌≤◌, true, false, List, length, take, Some, None, refl, sym, ap, subst, ◌∙◌, arith}
 use Rattle.std.specs.Prelude.{slice_get, slice_index, slice_index_or}
 use Rattle.std.proofs.lemmas.List.{length-map}
 use Rattle.std.proofs.lemmas.Option.{slice_get_within}
 use Rattle.vk_commit.specs.Commitment.{Opens}
-use Rattle.vk_plan.specs.Plans.{PlanValue}
+use Rattle.vk_plan.specs.Plans.{Holds, PlanValue}
 use Rattle.vk_wire.specs.declared.wire.WireCom.{WireCom}
 use Rattle.vk_wire.specs.declared.wire.Shown.{Shown}
 use Rattle.vk_row.specs.declared.case.LaneCase.{LaneCase}
@@ -13,8 +13,8 @@ use Rattle.vk_row.specs.Lanes.{IsAccepted, IsAcceptedLane, nothing_shown}
 use Rattle.vk_board.specs.declared.board.SealLines.{SealLines}
 use Rattle.vk_board.specs.declared.board.LaneLines.{LaneLines}
 use Rattle.vk_board.specs.Reading.{seats_of}
-use Rattle.vk_vickrey.specs.VickreyPlans.{IsVickreyClaim}
-use Rattle.vk_vickrey.specs.VickreySteps.{circuit_sound}
+use Rattle.vk_vickrey.specs.BoardPlans.{BoardClaim, BoardNumbers, IsBoardCase, board_plan}
+use Rattle.vk_vickrey.specs.BoardLaws.{board_sound, of_plans}
 use Rattle.vk_row.specs.Rows.{sums}
 use Rattle.vk_extractor.specs.Clash.{clash_of_lane}
 use Rattle.vk_extractor.specs.Refused.{IsRefusalOf}
@@ -26,7 +26,7 @@ use Rattle.vk_board.specs.declared.front.Front.{Front}
 use Rattle.vk_board.specs.Fronts.{IsFront}
 use Rattle.vk_verifier.specs.Statement.{StatementValue, IsStatement}
 use Rattle.vk_verifier.specs.Behind.{case_of}
-use Rattle.vk_verifier.specs.Verdicts.{statement_of}
+use Rattle.vk_verifier.specs.Verdicts.{numbers_in, statement_of}
 use Rattle.vk_verifier.proofs.Fronts.{front_case}
 use Rattle.vk_bids.specs.declared.bids.OpenedBid.{OpenedBid}
 use Rattle.vk_bids.specs.Bids.{opened_bid, opened_bids}
@@ -173,12 +173,17 @@ lanes_open s is number lines zs os both = (
 
 -- ---- a board
 
--- where the circuit is that of a board's front, its inputs show the published outcome
+-- values for which the plan of a board's numbers holds begin with bids that make their sale
+numbers_sound : (values : List ℕ) (n : BoardNumbers) → IsBoardCase n → Holds (board_plan n) values
+    → BoardClaim n (take (board_plan n).inputs values)
+numbers_sound values =
+    of_plans (λ n. Holds (board_plan n) values → BoardClaim n (take (board_plan n).inputs values)) (λ plan. board_sound plan values)
+
+-- where the circuit is that of a board's front, its inputs show the published sale
 pub opens_shows : (front : Front) (number : ℕ) (bids : List OpenedBid) → IsFront front
     → OpensValues (statement_of front) number bids
     → ShowsOutcome front number bids
 opens_shows front number bids is opens =
-    let head = front.head in
-    let P : List ℕ → Type 0 = λ inputs. IsVickreyClaim head.seals head.width front.position head.price inputs in
-    let claim = subst P opens.inputs (circuit_sound head.seals head.width front.position head.price opens.values (front_case front is) opens.holds) in
-    record { one_each = opens.one_each; opened = opens.opened; within_width = claim.within_width; outcome = claim.outcome }
+    let P : List ℕ → Type 0 = λ inputs. BoardClaim (numbers_in front) inputs in
+    let claim = subst P opens.inputs (numbers_sound opens.values (numbers_in front) (front_case front is) opens.holds) in
+    record { one_each = opens.one_each; opened = opens.opened; within_width = claim.within_width; sale = claim.is_sale }

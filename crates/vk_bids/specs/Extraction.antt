@@ -50,7 +50,7 @@ abbrev pub extraction_named : Files → TwoReplies → Result Extraction VErr
 extraction_named files names = extraction_on files names.board.now names.challenge1.now names.reply1.now names.challenge2.now names.reply2.now
 
 -- of bids: the front is that of a board whose price and winner may stand, and the bids of each lane show the
--- outcome that it publishes
+-- sale that it publishes
 abbrev pub Shows : Extraction → Type 0
 Shows = OfBids (λ found. IsFront found.front × All (LaneShows found.front) found.lanes)
 

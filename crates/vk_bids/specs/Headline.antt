@@ -1,5 +1,5 @@
 -- The law of two replies that are accepted for different challenges: behind any front they open values for which the
--- statement's circuit holds, on a board they give the published outcome; or they give two openings of one commitment.
+-- statement's circuit holds, on a board they make the published sale; or they give two openings of one commitment.
 use Rattle.std.specs.Prelude.{◌≡◌, ◌≢◌, ◌↔◌, ℕ, ◌+◌, ◌^◌, ◌<◌, ◌≤◌, Bool, true, false, All, List, [], ◌∷◌, ◌++◌, length, map, Some, Ok}
 use Rattle.std.specs.List.{Contains}
 use Rattle.std.specs.FinMap.{get}
@@ -137,8 +137,8 @@ abbrev pub LaneAgrees : {board first_challenge first_reply second_challenge seco
 LaneAgrees two = AgreesAt (two_lane_in two.first two.second)
 
 -- the bids are of just the lanes whose two bits differ, in order. Those of each lane are opened by what the
--- replies show of it, they open its seals, and the published outcome is theirs. In each of these lanes the
--- spent entries agree
+-- replies show of it, they open its seals, and whatever the board's version, the sale that they make under its
+-- reserve is the one that it publishes. In each of these lanes the spent entries agree
 pub record IsExtraction {board first_challenge first_reply second_challenge second_reply : List ℕ}
     (two : TwoAccepted board first_challenge first_reply second_challenge second_reply) (found : Extracted) : Type 0 where
   pub front : found.front ≡ front_in two.first

@@ -40,7 +40,7 @@ AcceptedLanesOpen =
     → BothAccepted s number lines zero one
     → OpensOrClashes s number lines zero one (OpensValues s number)
 
--- of every board: the bids that are opened show the published outcome
+-- of every board, whatever its version: the bids that are opened show the published sale
 abbrev pub AcceptedLanesShow : Type 0
 AcceptedLanesShow =
     (front : Front) → IsFront front → (number : ℕ) (lines : LaneLines) (zero one : List Shown)

@@ -70,11 +70,26 @@ abbrev pub agreements_text : ℕ → List SealLines → List LaneBids → List �
 agreements_text index [] lanes = []
 agreements_text index (seal ∷ seals) lanes = agreement_line seal (has_one_bid index lanes) ++ agreements_text (index + 1) seals lanes
 
--- the winner and the price that the board publishes
-abbrev pub winner_line : Head → List ℕ
-winner_line head = line (spaced (codes "winner" ∷ decimal head.winner ∷ codes "price" ∷ decimal head.price ∷ []))
+-- what is sold: the seat that won and the price, and the reserve, which version 2 names
+abbrev pub sold_line : Head → ℕ → List ℕ
+sold_line head seat =
+    if head.version == 2
+    then line (spaced (codes "winner" ∷ decimal seat ∷ codes "price" ∷ decimal head.price ∷ codes "reserve" ∷ decimal head.reserve ∷ []))
+    else line (spaced (codes "winner" ∷ decimal seat ∷ codes "price" ∷ decimal head.price ∷ []))
 
--- the bids of each lane, the published outcome, and of each seal whether its bids are equal
+-- what is not: the reserve that no bid met
+abbrev pub unsold_line : Head → List ℕ
+unsold_line head = line (spaced (codes "unsold" ∷ codes "reserve" ∷ decimal head.reserve ∷ []))
+
+abbrev pub sale_line_for : Head → Option ℕ → List ℕ
+sale_line_for head (Some seat) = sold_line head seat
+sale_line_for head None = unsold_line head
+
+-- the sale that the board publishes
+abbrev pub sale_line : Head → List ℕ
+sale_line head = sale_line_for head head.winner
+
+-- the bids of each lane, the published sale, and of each seal whether its bids are equal
 abbrev pub extraction_text : Extracted → List ℕ
 extraction_text found =
-    flat_map lane_bids_text found.lanes ++ (winner_line found.front.head ++ (agreements_text 0 found.front.seals found.lanes ++ line (codes "end")))
+    flat_map lane_bids_text found.lanes ++ (sale_line found.front.head ++ (agreements_text 0 found.front.seals found.lanes ++ line (codes "end")))

@@ -130,8 +130,8 @@ fn extract_course<S: Shelf>(
 }
 
 /// What is found behind the front of a board with this head, where the winner's seal has that
-/// place, from 1.
-fn with_front(head: Head, position: u32, found: LaneExtraction) -> Extraction
+/// place, from 1; no place where nothing is sold.
+fn with_front(head: Head, position: Option<u32>, found: LaneExtraction) -> Extraction
     requires opens { OpensLanes found }
     requires front { AreOfFront (λ s. front_with head s.seals position) found }
     ensures value { result ≡ extraction_with (λ s. front_with head s.seals position) found }

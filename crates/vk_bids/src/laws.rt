@@ -13,9 +13,9 @@ pub fn accepted_lanes_open_values()
 {}
 
 /// Of any board's front and any of its lanes, where a reply is accepted for bit 0 and another for
-/// bit 1: the bids that they open are below 2^width, open the lane's seals, and have the published
-/// outcome. Or an entry was opened with two values, and then the first such entry has two openings
-/// with different values.
+/// bit 1: the bids that they open are below 2^width, open the lane's seals, and make the published
+/// sale under the board's reserve, which is 0 with version 1. Or an entry was opened with two
+/// values, and then the first such entry has two openings with different values.
 pub fn accepted_lanes_show_the_outcome()
     ensures { AcceptedLanesShow }
 {}
@@ -34,9 +34,10 @@ pub fn accepted_replies_open_values_or_clash()
 
 /// Of any five files, where both replies are accepted with the board and the challenges differ: the
 /// extraction is the bids of just the lanes whose two bits differ. In each of these they are below
-/// 2^width, open the lane's seals by what the replies show, and have the published outcome. Or the
-/// extraction is a clash: of the first of these lanes that has one, the first commitment with two
-/// openings of different values.
+/// 2^width, and open the lane's seals by what the replies show. Whatever the board's version, the
+/// sale that they make under its reserve is the one that it publishes. Or the extraction is a clash:
+/// of the first of these lanes that has one, the first commitment with two openings of different
+/// values.
 ///
 /// Only such files give bids or a clash, and the challenges are found to be the same exactly where
 /// both replies are accepted and the bits are equal. The extraction of named files is that of their

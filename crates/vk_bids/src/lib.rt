@@ -1,7 +1,7 @@
 //! What two replies come to: where both are accepted and the challenges differ, they open the
 //! values of the lanes whose bits differ, for which the circuit holds; or there are two openings of
-//! one commitment. On a board the values are bids, and the published outcome is theirs. And what a
-//! bidder's secret comes to against them.
+//! one commitment. On a board the values are bids, and the sale that they make under its reserve is
+//! the published one. And what a bidder's secret comes to against them.
 #![tactic(auto)]
 
 mod bids;
@@ -28,5 +28,5 @@ pub use laws::{
     accepted_lanes_show_the_outcome, accepted_replies_give_bids_or_a_clash,
     accepted_replies_open_values_or_clash,
 };
-pub use printing::{extraction_lines, has_one_bid};
+pub use printing::{extraction_lines, has_one_bid, sale_line};
 pub use vk_verifier::TwoReplies;

@@ -1,12 +1,12 @@
 // What is printed of the bids that two replies give.
 ghost use Rattle.std.specs.Prelude.{◌≡◌, ◌++◌, IfOk, OnOk, string_bytes};
 ghost use Rattle.std.specs.List.{flat_map};
-ghost use Rattle.vk_bids.specs.Texts.{agreement, agreements_text, bid_in, bid_line, extraction_text, first_bid, has_one_bid, lane_bids_text, opening_text};
+ghost use Rattle.vk_bids.specs.Texts.{agreement, agreements_text, bid_in, bid_line, extraction_text, first_bid, has_one_bid, lane_bids_text, opening_text, sale_line, sold_line};
 
 use crate::bids::{LaneBids, OpenedBid};
 use crate::extraction::Extracted;
 use std::alloc::Global;
-use vk_board::SealLines;
+use vk_board::{Head, SealLines};
 use vk_commit::Opening;
 use vk_residue::{NoMemory, Residue};
 
@@ -34,22 +34,51 @@ fn bid_line(alloc: Global, number: u32, bid: &OpenedBid) -> Result<String, NoMem
     Ok(line)
 }
 
-/// The lines of an extraction: the bids of each lane, the winner and the price that the board publishes, of each
-/// seal whether its bids are equal in all lanes, and the end.
+/// The lines of an extraction: the bids of each lane, the sale that the board publishes, of each seal whether its
+/// bids are equal in all lanes, and the end.
 pub fn extraction_lines(alloc: Global, found: &Extracted) -> Result<Vec<String>, NoMemory>
     ensures { IfOk result (λ lines. flat_map string_bytes lines.items ≡ extraction_text found.now) }
 {
     let mut lines = Vec::new(alloc);
     let lanes = found.lanes.as_slice();
     add_lanes(alloc, lanes, &mut lines)?;
-    let winner = found.front.head.winner;
-    let price = found.front.head.price;
-    let line = format!(in alloc; "winner {winner} price {price}\n")?;
+    let line = sale_line(alloc, &found.front.head)?;
     lines.push(line)?;
     add_agreements(alloc, found.front.seals.as_slice(), lanes, &mut lines)?;
     let end = String::from_str(alloc, "end\n")?;
     lines.push(end)?;
     Ok(lines)
+}
+
+/// The line of the sale that a board publishes: what is sold, or that nothing is.
+pub fn sale_line(alloc: Global, head: &Head) -> Result<String, NoMemory>
+    ensures { IfOk result (λ line. string_bytes line ≡ sale_line head.now) }
+{
+    match head.winner {
+        Some(seat) => {
+            let line = sold_line(alloc, head, seat)?;
+            Ok(line)
+        }
+        None => {
+            let reserve = head.reserve;
+            let line = format!(in alloc; "unsold reserve {reserve}\n")?;
+            Ok(line)
+        }
+    }
+}
+
+/// The line of what is sold: the winner and the price, and the reserve, which version 2 names.
+fn sold_line(alloc: Global, head: &Head, seat: u16) -> Result<String, NoMemory>
+    ensures { IfOk result (λ line. string_bytes line ≡ sold_line head.now seat) }
+{
+    let price = head.price;
+    let reserve = head.reserve;
+    if head.version == 2 {
+        let line = format!(in alloc; "winner {seat} price {price} reserve {reserve}\n")?;
+        return Ok(line);
+    }
+    let line = format!(in alloc; "winner {seat} price {price}\n")?;
+    Ok(line)
 }
 
 /// Appends the lines of the lanes' bids.

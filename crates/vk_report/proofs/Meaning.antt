@@ -14,7 +14,7 @@ use Rattle.vk_board.specs.Reading.{head_at, seals_at, lanes_at, board_at}
 use Rattle.vk_board.specs.declared.front.Front.{Front}
 use Rattle.vk_board.specs.Fronts.{FrontFault, front_with, front_at}
 use Rattle.vk_board.specs.Fronts as fronts
-use Rattle.vk_board.specs.Published.{price_stands, position_of}
+use Rattle.vk_board.specs.Published.{price_stands, placed}
 use Rattle.vk_board.proofs.Boards.{board_is_whole, board_with}
 use Rattle.vk_board.proofs.Prices.{price_found}
 use Rattle.vk_board.proofs.Fronts.{FrontRead, front_right, front_at_shown, front_at_found}
@@ -22,7 +22,7 @@ use Rattle.vk_report.specs.declared.report.Report.{Report}
 use Rattle.vk_report.specs.declared.report.ReportErr.{ReportErr}
 use Rattle.vk_lines.specs.declared.errors.StartErr.TheVariants.{TooLong}
 use Rattle.vk_report.specs.Reports.{in_board, in_front, passed, lanes_passed, report_with, report_at, in_start, report_on}
-use Rattle.vk_report.proofs.Winner.{winner_is, place_found}
+use Rattle.vk_report.proofs.Winner.{winner_is, winner_placed}
 use Rattle.vk_report.specs.Meaning.{auction_shape, IsReportOn}
 
 -- ---- results one after another
@@ -90,7 +90,7 @@ board_parts rest board over some =
 -- ---- the report and the board
 
 report_joined : (rest : Rest) (front : Front) (lanes : List LaneLines) (over : Rest) → AreParts rest front.head front.seals lanes over
-    → price_stands front.head ≡ true → position_of front.head.winner front.seals ≡ Some front.position → report_at rest ≡ Ok (report_with front)
+    → price_stands front.head ≡ true → placed front.head.winner front.seals ≡ Some front.position → report_at rest ≡ Ok (report_with front)
 unfolding report_at
 report_joined rest front lanes over are price winner =
     let read = front_at_found rest front are.after_seals (record { middle = are.after_head; head_read = are.head_is; seals_read = are.seals_are; price = price; winner = winner }) in
@@ -167,7 +167,7 @@ reported files name report some =
         text = whole.1;
         is_board = whole.0;
         price = front.price;
-        winner = winner_is is.front whole.0.seals front.winner;
+        winner = winner_is is.front.seals is.front.head.winner is.front.position front.winner;
         report_is = is.report_is;
       };
     }
@@ -180,7 +180,7 @@ is_reported files name report is =
     let rest : Rest = record { taken = 0; left = is.file } in
     let read = (board_is_whole auction_shape).found rest board publishes.is_board publishes.text in
     let parts = board_parts rest board read.0 read.1 in
-    let winner = place_found board.head.winner 1 board.seals publishes.winner in
+    let winner = winner_placed board.seals board.head.winner publishes.winner in
     let front : Front = front_with board.head board.seals winner.0 in
     ap (λ told. in_start (started told) >>= report_at) is.held
     ∙ ap (λ begins. begins >>= report_at) (started_found is.file is.short)

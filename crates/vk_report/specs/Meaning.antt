@@ -1,5 +1,5 @@
 -- When a file is reported on, by its whole text, and why another isn't.
-use Rattle.std.specs.Prelude.{◌≡◌, ◌↔◌, ◌⊎◌, ℕ, ◌-◌, ◌^◌, ◌<◌, ◌≤◌, List, ◌++◌, length, Contains, Some, None, Ok, Err}
+use Rattle.std.specs.Prelude.{◌≡◌, ◌↔◌, ◌⊎◌, ℕ, ◌-◌, ◌^◌, ◌<◌, ◌≤◌, List, ◌++◌, length, Some, None, Ok, Err}
 use Rattle.std.specs.FinMap.{get}
 use Rattle.vk_io.specs.Files.{Files}
 use Rattle.vk_lines.specs.Forms.{fault_line}
@@ -11,15 +11,15 @@ use Rattle.vk_board.specs.Texts.{board_text}
 use Rattle.vk_board.specs.Tables.{board_table}
 use Rattle.vk_board.specs.Fronts.{IsFront, front_text, PriceStands, Begins, PriceFails, WinnerFails}
 use Rattle.vk_board.specs.Reading.{seats_of}
-use Rattle.vk_vickrey.specs.VickreyPlans.{wire_count, row_count}
+use Rattle.vk_vickrey.specs.BoardPlans.{board_wire_count, board_row_count}
 use Rattle.vk_report.specs.declared.report.Report.{Report}
 use Rattle.vk_report.specs.declared.report.ReportErr.{ReportErr}
 use Rattle.vk_report.specs.declared.report.ReportErr.TheVariants.{Missing, TooLong, Malformed, Price, Winner, Failed, NoMemory}
-use Rattle.vk_report.specs.Reports.{report_at, report_on}
+use Rattle.vk_report.specs.Reports.{IsWinnerOf, head_numbers, report_of, report_at, report_on}
 
 -- how many wires after the inputs, and how many rows, each lane of the auction has
 abbrev pub auction_shape : Head → Shape
-auction_shape head = record { wires = wire_count head.seals head.width - head.seals; rows = row_count head.seals }
+auction_shape head = record { wires = board_wire_count (head_numbers head) - head.seals; rows = board_row_count (head_numbers head) }
 
 -- the file is the text of a board whose price and winner may stand, and the report says what it publishes
 pub record Publishes (file : List ℕ) (report : Report) : Type 0 where
@@ -27,13 +27,8 @@ pub record Publishes (file : List ℕ) (report : Report) : Type 0 where
   pub text : file ≡ board_text board
   pub is_board : IsBoard auction_shape board
   pub price : PriceStands board.head
-  pub winner : Contains (seats_of board.seals) board.head.winner
-  pub report_is : report ≡ record {
-    head = board.head;
-    seats = seats_of board.seals;
-    wires = wire_count board.head.seals board.head.width;
-    rows = row_count board.head.seals;
-  }
+  pub winner : IsWinnerOf (seats_of board.seals) board.head.winner
+  pub report_is : report ≡ report_of board.head board.seals
 
 -- a file of that name is held, has at most 2^30 bytes, and this holds of them
 pub record HoldsOfNamed (files : Files) (name : List ℕ) (Holds : List ℕ → Type 0) : Type 0 where

@@ -9,12 +9,15 @@ use Rattle.vk_lines.specs.declared.errors.StartErr.{StartErr}
 use Rattle.vk_lines.specs.Lines.{Rest, end_at, started}
 use Rattle.vk_lines.specs.Tokens.{hex_text}
 use Rattle.vk_board.specs.declared.board.Head.{Head}
+use Rattle.vk_board.specs.declared.board.SealLines.{SealLines}
 use Rattle.vk_board.specs.declared.front.Front.{Front}
 use Rattle.vk_board.specs.Values.{IsHead, Shape}
 use Rattle.vk_board.specs.Reading.{lanes_at, seats_of}
+use Rattle.vk_board.specs.Texts.{reserve_text, winner_text}
 use Rattle.vk_board.specs.Fronts.{FrontFault, PriceStands, front_at}
 use Rattle.vk_board.specs.Fronts as fronts
-use Rattle.vk_vickrey.specs.VickreyPlans.{wire_count, row_count}
+use Rattle.vk_vickrey.specs.Sales.{sale_at}
+use Rattle.vk_vickrey.specs.BoardPlans.{BoardNumbers, board_numbers, board_wire_count, board_row_count}
 use Rattle.vk_report.specs.Causes.{of_start}
 use Rattle.vk_report.specs.declared.report.Report.{Report}
 use Rattle.vk_report.specs.declared.report.ReportErr.{ReportErr}
@@ -44,23 +47,36 @@ in_front (Err (fronts.Malformed line)) = Err (Malformed line)
 in_front (Err fronts.Price) = Err Price
 in_front (Err fronts.Winner) = Err Winner
 
--- what a board with this front publishes; wires and rows are those of one lane
-abbrev pub report_with : Front → Report
-report_with front = record {
-  head = front.head;
-  seats = seats_of front.seals;
-  wires = wire_count front.head.seals front.head.width;
-  rows = row_count front.head.seals;
+-- the numbers that a head publishes. What is counted doesn't ask where the winner's seal stands, so the seat stands for
+-- its place
+abbrev pub head_numbers : Head → BoardNumbers
+head_numbers head = board_numbers head.version head.seals head.width head.reserve (sale_at head.winner head.price)
+
+-- what a board with this head and these seals publishes; wires and rows are those of one lane
+abbrev pub report_of : Head → List SealLines → Report
+report_of head seals = record {
+  head = head;
+  seats = seats_of seals;
+  wires = board_wire_count (head_numbers head);
+  rows = board_row_count (head_numbers head);
 }
+
+abbrev pub report_with : Front → Report
+report_with front = report_of front.head front.seals
+
+-- the seat that won is one of these, where one won
+abbrev pub IsWinnerOf : List ℕ → Option ℕ → Type 0
+IsWinnerOf seats (Some seat) = Contains seats seat
+IsWinnerOf seats None = Unit {0}
 
 -- a report that was made: its price and its winner stand, and its numbers are those of its head
 pub record IsReport (report : Report) : Type 0 where
   pub head : IsHead report.head
   pub price : PriceStands report.head
-  pub winner : Contains report.seats report.head.winner
+  pub winner : IsWinnerOf report.seats report.head.winner
   pub seats : length report.seats ≡ report.head.seals
-  pub wires : report.wires ≡ wire_count report.head.seals report.head.width
-  pub rows : report.rows ≡ row_count report.head.seals
+  pub wires : report.wires ≡ board_wire_count (head_numbers report.head)
+  pub rows : report.rows ≡ board_row_count (head_numbers report.head)
 
 -- ---- the lanes and the end
 
@@ -104,15 +120,16 @@ report_on files name = do
 unfoldable pub commitment_count : Report → ℕ
 commitment_count report = 2 * report.wires * report.head.lanes
 
--- what the head says
+-- what the head says; the reserve and the winner in the lines of the board
 unfoldable pub head_lines : Head → List ℕ
 head_lines head =
     line (spaced (codes "auction" ∷ hex_text head.auction ∷ []))
     ++ (line (spaced (codes "width" ∷ decimal head.width ∷ []))
     ++ (line (spaced (codes "lanes" ∷ decimal head.lanes ∷ []))
     ++ (line (spaced (codes "seals" ∷ decimal head.seals ∷ []))
-    ++ (line (spaced (codes "winner" ∷ decimal head.winner ∷ []))
-    ++ line (spaced (codes "price" ∷ decimal head.price ∷ []))))))
+    ++ (reserve_text head.version head.reserve
+    ++ (line (winner_text head.winner)
+    ++ line (spaced (codes "price" ∷ decimal head.price ∷ [])))))))
 
 abbrev pub seat_text : ℕ → List ℕ
 seat_text seat = spaced (codes "seat" ∷ decimal seat ∷ [])

@@ -26,9 +26,9 @@ pub enum ReportErr {
     TooLong,
     /// The number of the first line, from 1, that isn't what its place demands.
     Malformed { line: u64 },
-    /// The price isn't below 2^width, or there is one seal and the price isn't 0.
+    /// The price may not stand beside the reserve, the width and the number of seals.
     Price,
-    /// No seal has the winner's seat.
+    /// The board names a winner, and no seal has that seat.
     Winner,
     /// The outside failed. The shelf's count of faults rose in this call.
     Failed,

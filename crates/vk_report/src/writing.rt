@@ -2,6 +2,7 @@ ghost use Rattle.std.specs.Prelude.{◌≡◌, ◌++◌, [], ◌∷◌, codes, d
 ghost use Rattle.std.specs.List.{flat_map};
 ghost use Rattle.vk_lines.specs.Forms.{line, spaced};
 ghost use Rattle.vk_lines.specs.Tokens.{hex_text};
+ghost use Rattle.vk_board.specs.Texts.{reserve_text, winner_text};
 ghost use Rattle.vk_report.specs.Reports.{IsReport, commitment_count, head_lines, seat_text, count_lines, report_text};
 
 use crate::report::Report;
@@ -46,7 +47,7 @@ pub fn report_lines(alloc: Global, report: &Report) -> Result<Vec<String>, NoMem
         report.rows,
         commitment_count(report),
     )?;
-    push_end(alloc, &mut lines)?;
+    push_word(alloc, &mut lines, "end")?;
     Ok(lines)
 }
 
@@ -65,6 +66,15 @@ fn push_number(
     Ok(())
 }
 
+/// A word alone.
+fn push_word(alloc: Global, lines: &mut Vec<String>, word: &str) -> Result<(), NoMemory>
+    ensures { OnOk result (flat_map string_bytes lines.new.items ≡ flat_map string_bytes lines.old.items ++ line word.now) }
+{
+    let text = format!(in alloc; "{word}\n")?;
+    lines.push(text)?;
+    Ok(())
+}
+
 /// The id of the auction.
 fn push_auction(alloc: Global, lines: &mut Vec<String>, id: &[u8; 16]) -> Result<(), NoMemory>
     ensures { OnOk result (flat_map string_bytes lines.new.items
@@ -76,12 +86,31 @@ fn push_auction(alloc: Global, lines: &mut Vec<String>, id: &[u8; 16]) -> Result
     Ok(())
 }
 
-fn push_end(alloc: Global, lines: &mut Vec<String>) -> Result<(), NoMemory>
-    ensures { OnOk result (flat_map string_bytes lines.new.items ≡ flat_map string_bytes lines.old.items ++ line (codes "end")) }
+/// The reserve, which version 2 has.
+fn push_reserve(
+    alloc: Global,
+    lines: &mut Vec<String>,
+    version: u32,
+    reserve: u64,
+) -> Result<(), NoMemory>
+    ensures { OnOk result (flat_map string_bytes lines.new.items
+        ≡ flat_map string_bytes lines.old.items ++ reserve_text version reserve) }
 {
-    let text = format!(in alloc; "end\n")?;
-    lines.push(text)?;
+    if version == 2 {
+        push_number(alloc, lines, "reserve", reserve)?;
+    }
     Ok(())
+}
+
+/// The winner's seat, or that nothing is sold.
+fn push_winner(alloc: Global, lines: &mut Vec<String>, winner: Option<u16>) -> Result<(), NoMemory>
+    ensures { OnOk result (flat_map string_bytes lines.new.items
+        ≡ flat_map string_bytes lines.old.items ++ line (winner_text winner)) }
+{
+    match winner {
+        Some(seat) => push_number(alloc, lines, "winner", u64::from(seat)),
+        None => push_word(alloc, lines, "unsold"),
+    }
 }
 
 /// Appends the lines of what the head says.
@@ -93,7 +122,8 @@ fn push_head(alloc: Global, lines: &mut Vec<String>, head: &Head) -> Result<(), 
     push_number(alloc, lines, "width", u64::from(head.width))?;
     push_number(alloc, lines, "lanes", u64::from(head.lanes))?;
     push_number(alloc, lines, "seals", u64::from(head.seals))?;
-    push_number(alloc, lines, "winner", u64::from(head.winner))?;
+    push_reserve(alloc, lines, head.version, head.reserve)?;
+    push_winner(alloc, lines, head.winner)?;
     push_number(alloc, lines, "price", head.price)?;
     Ok(())
 }

@@ -7,7 +7,7 @@ use Rattle.vk_verifier.specs.declared.answers.VErr.{VErr}
 use Rattle.vk_bids.specs.declared.extraction.Extracted.{Extracted}
 use Rattle.vk_bids.specs.Extraction.{Extraction}
 use Rattle.vk_bids.specs.declared.extraction.Extraction.TheVariants.{Refused, Same, Clash, Bids}
-use Rattle.vk_bids.specs.Texts.{has_one_bid, winner_line}
+use Rattle.vk_bids.specs.Texts.{has_one_bid, sale_line}
 use Rattle.vk_keeper.specs.declared.auction.Auction.{Auction}
 use Rattle.vk_job.specs.Published.{board_of, reply_of}
 use Rattle.vk_honest.specs.Sizes.{board_lines, reply_lines}
@@ -50,7 +50,7 @@ dry_said dry = record { status = 8; text = dry_line dry }
 
 -- ---- the summary
 
--- of the auction as it was made, by the head of its board: how many lines the board and a reply have, and the outcome
+-- of the auction as it was made, by the head of its board: how many lines the board and a reply have, and the sale
 abbrev pub size_line : Head → List ℕ
 size_line head = codes "seals " +++ decimal head.seals +++ codes " width " +++ decimal head.width +++ codes " lanes " +++ decimal head.lanes +++ line_feed
 
@@ -62,7 +62,7 @@ made_text number head =
     (codes "sample " +++ decimal number +++ line_feed)
     ++ (size_line head
     ++ (counts_text (board_lines head.seals head.width head.lanes) (reply_lines head.seals head.width head.lanes)
-    ++ winner_line head))
+    ++ sale_line head))
 
 -- both replies are accepted
 abbrev pub accepted_text : List ℕ

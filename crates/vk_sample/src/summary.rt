@@ -4,19 +4,19 @@ ghost use Rattle.std.specs.List.{flat_map};
 ghost use Rattle.vk_board.specs.Values.{IsHead};
 ghost use Rattle.vk_honest.specs.Sizes.{board_lines, reply_lines};
 ghost use Rattle.vk_commit.specs.Commitment.{TwoOpeningsSeen};
-ghost use Rattle.vk_bids.specs.Texts.{clash_text, winner_line};
+ghost use Rattle.vk_bids.specs.Texts.{clash_text, sale_line};
 ghost use Rattle.vk_sample.specs.Texts.{accepted_text, counts_text, found_text, made_text, opened_said, opened_text, same_count, size_line};
 
 use crate::files::sample_names;
 use std::alloc::Global;
 use vk_audit::extracted;
-use vk_bids::{Extracted, Extraction, has_one_bid};
+use vk_bids::{Extracted, Extraction, has_one_bid, sale_line};
 use vk_board::Head;
 use vk_effect::Said;
 use vk_residue::NoMemory;
 use vk_vickrey::{row_count, wire_count};
 
-/// How many lines the board has.
+/// How many lines the board has, which is of version 1.
 fn board_lines(head: &Head) -> u32
     requires { IsHead head.now }
     ensures { result ≡ board_lines head.now.seals head.now.width head.now.lanes }
@@ -25,7 +25,7 @@ fn board_lines(head: &Head) -> u32
     7 + head.seals * (1 + head.lanes) + head.lanes * lane + 1
 }
 
-/// How many lines a reply has.
+/// How many lines a reply to it has.
 fn reply_lines(head: &Head) -> u32
     requires { IsHead head.now }
     ensures { result ≡ reply_lines head.now.seals head.now.width head.now.lanes }
@@ -59,7 +59,7 @@ pub fn made_lines(alloc: Global, number: u64, head: &Head) -> Result<Vec<String>
     push(&mut lines, format!(in alloc; "sample {number}\n")?)?;
     push_size(alloc, &mut lines, head)?;
     push_counts(alloc, &mut lines, head)?;
-    push_outcome(alloc, &mut lines, head)?;
+    push_sale(alloc, &mut lines, head)?;
     Ok(lines)
 }
 
@@ -92,12 +92,11 @@ fn push_counts(alloc: Global, lines: &mut Vec<String>, head: &Head) -> Result<()
     Ok(())
 }
 
-/// The outcome.
-fn push_outcome(alloc: Global, lines: &mut Vec<String>, head: &Head) -> Result<(), NoMemory>
-    ensures { OnOk result (flat_map string_bytes lines.new.items ≡ flat_map string_bytes lines.old.items ++ winner_line head.now) }
+/// The sale.
+fn push_sale(alloc: Global, lines: &mut Vec<String>, head: &Head) -> Result<(), NoMemory>
+    ensures { OnOk result (flat_map string_bytes lines.new.items ≡ flat_map string_bytes lines.old.items ++ sale_line head.now) }
 {
-    let Head { winner, price, .. } = *head;
-    let line = format!(in alloc; "winner {winner} price {price}\n")?;
+    let line = sale_line(alloc, head)?;
     push(lines, line)?;
     Ok(())
 }

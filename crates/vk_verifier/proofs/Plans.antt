@@ -1,37 +1,25 @@
 -- The circuit of a board: it is a plan, and how many wires and rows it has.
-use Rattle.std.proofs.Common.{◌≡◌, ℕ, ◌-◌, length, inl, inr, refl, ap, sym, ◌∙◌}
-use Rattle.std.proofs.lemmas.Bool.{cases_eq}
+use Rattle.std.proofs.Common.{◌≡◌, ℕ, ◌-◌, List, length, Option, Some, None, refl, ap, sym, ◌∙◌}
 use Rattle.vk_plan.specs.Plans.{IsPlan}
-use Rattle.vk_vickrey.specs.VickreyPlans.{IsVickreyCase, vickrey_plan, wire_count, row_count}
-use Rattle.vk_vickrey.specs.VickreySteps.{vickrey_is_plan, wires_alone, wires_many, rows_alone, rows_many}
+use Rattle.vk_vickrey.specs.declared.sales.Sale.{Sale}
+use Rattle.vk_vickrey.specs.declared.sales.Sale.TheVariants.{Sold}
+use Rattle.vk_vickrey.specs.Sales.{sale_at}
+use Rattle.vk_vickrey.specs.BoardPlans.{board_numbers, board_plan, board_wire_count, board_row_count}
+use Rattle.vk_vickrey.specs.BoardLaws.{board_inputs, board_is_plan, board_rows, board_wires, of_plans}
+use Rattle.vk_board.specs.declared.board.SealLines.{SealLines}
 use Rattle.vk_board.specs.declared.front.Front.{Front}
-use Rattle.vk_board.specs.Fronts.{IsFront}
+use Rattle.vk_board.specs.Fronts.{IsFront, IsPlaced}
 use Rattle.vk_verifier.specs.Statement.{IsStatement}
 use Rattle.vk_verifier.specs.Behind.{later_wires}
-use Rattle.vk_verifier.specs.Verdicts.{plan_of, statement_of}
-use Rattle.vk_verifier.specs.Acceptance.{shape_of}
+use Rattle.vk_verifier.specs.Verdicts.{numbers_in, plan_of, statement_of}
+use Rattle.vk_verifier.specs.Acceptance.{head_numbers, shape_of}
 use Rattle.vk_verifier.proofs.Fronts.{front_case}
 
-vickrey_wires : (seals width position price : ℕ) → IsVickreyCase seals width position price
-    → length (vickrey_plan seals width position price).kinds ≡ wire_count seals width
-vickrey_wires seals width position price case = elim (cases_eq seals 1) [
-  | inl one ↦ wires_alone seals width position price one
-  | inr many ↦ wires_many seals width position price case.some_seals many
-]
+is_plan : (front : Front) → IsFront front → IsPlan (plan_of front)
+is_plan front is = of_plans (λ n. IsPlan (board_plan n)) board_is_plan (numbers_in front) (front_case front is)
 
-vickrey_rows : (seals width position price : ℕ) → IsVickreyCase seals width position price
-    → length (vickrey_plan seals width position price).rows ≡ row_count seals
-vickrey_rows seals width position price case = elim (cases_eq seals 1) [
-  | inl one ↦ rows_alone seals width position price one
-  | inr many ↦ rows_many seals width position price case.some_seals many
-]
-
-pub is_plan : (front : Front) → IsFront front → IsPlan (plan_of front)
-is_plan front is = vickrey_is_plan front.head.seals front.head.width front.position front.head.price (front_case front is)
-
-inputs_are : (front : Front) → (plan_of front).inputs ≡ front.head.seals
-unfolding vickrey_plan
-inputs_are front = refl
+inputs_are : (front : Front) → IsFront front → (plan_of front).inputs ≡ front.head.seals
+inputs_are front is = of_plans (λ n. (board_plan n).inputs ≡ n.seals) board_inputs (numbers_in front) (front_case front is)
 
 -- what the lanes of a board are to show
 pub statement_right : (front : Front) → IsFront front → IsStatement (statement_of front)
@@ -39,15 +27,33 @@ statement_right front is = record {
   id = is.head.id;
   count = is.head.size.lanes;
   seals = is.seals.each;
-  inputs = inputs_are front ∙ sym is.seals.count;
+  inputs = inputs_are front is ∙ sym is.seals.count;
   plan = is_plan front is;
 }
+
+-- a count that is the same at each place is told by the seat
+by_seat : (count : Sale → ℕ) (price : ℕ) (seals : List SealLines) (winner position : Option ℕ) → IsPlaced seals winner position
+    → ((place other : ℕ) → count (Sold place price) ≡ count (Sold other price))
+    → count (sale_at position price) ≡ count (sale_at winner price)
+by_seat count price seals (Some seat) (Some position) placed same = same position seat
+by_seat count price seals (Some seat) None placed same = absurd placed
+by_seat count price seals None (Some position) placed same = absurd placed
+by_seat count price seals None None placed same = refl
+
+all_wires : (front : Front) → IsFront front → length (plan_of front).kinds ≡ board_wire_count (head_numbers front.head)
+all_wires front is =
+    of_plans (λ n. length (board_plan n).kinds ≡ board_wire_count n) board_wires (numbers_in front) (front_case front is)
+    ∙ by_seat (λ sale. board_wire_count (board_numbers front.head.version front.head.seals front.head.width front.head.reserve sale))
+    front.head.price front.seals front.head.winner front.position is.winner (λ place other. refl)
 
 -- the shape of its lanes
 pub wires_are : (front : Front) → IsFront front → later_wires (plan_of front) ≡ (shape_of front.head).wires
 wires_are front is =
-    ap (λ n. n - (plan_of front).inputs) (vickrey_wires front.head.seals front.head.width front.position front.head.price (front_case front is))
-    ∙ ap (λ n. wire_count front.head.seals front.head.width - n) (inputs_are front)
+    ap (λ n. n - (plan_of front).inputs) (all_wires front is)
+    ∙ ap (λ n. board_wire_count (head_numbers front.head) - n) (inputs_are front is)
 
 pub rows_are : (front : Front) → IsFront front → length (plan_of front).rows ≡ (shape_of front.head).rows
-rows_are front is = vickrey_rows front.head.seals front.head.width front.position front.head.price (front_case front is)
+rows_are front is =
+    of_plans (λ n. length (board_plan n).rows ≡ board_row_count n) board_rows (numbers_in front) (front_case front is)
+    ∙ by_seat (λ sale. board_row_count (board_numbers front.head.version front.head.seals front.head.width front.head.reserve sale))
+    front.head.price front.seals front.head.winner front.position is.winner (λ place other. refl)

@@ -13,7 +13,8 @@ use Rattle.vk_board.specs.Fronts.{IsFront, front_text}
 use Rattle.vk_reply.specs.declared.challenge.Challenge.{Challenge}
 use Rattle.vk_reply.specs.Values.{IsChallenge, IsReply}
 use Rattle.vk_reply.specs.Texts.{challenge_text, reply_text}
-use Rattle.vk_vickrey.specs.VickreyPlans.{wire_count, row_count}
+use Rattle.vk_vickrey.specs.Sales.{sale_at}
+use Rattle.vk_vickrey.specs.BoardPlans.{BoardNumbers, board_numbers, board_wire_count, board_row_count}
 use Rattle.vk_verifier.specs.declared.answers.BoardVerdict.TheVariants.{Accepted}
 use Rattle.vk_verifier.specs.Statement.{StatementValue}
 use Rattle.vk_verifier.specs.Behind.{later_wires, case_of}
@@ -56,9 +57,13 @@ pub record AcceptsBehind (s : StatementValue) (front : List ℕ) (file challenge
 
 -- ---- boards
 
+-- what the counts are told by. They are the same wherever the winner's seal stands, so the seat stands for its place
+abbrev pub head_numbers : Head → BoardNumbers
+head_numbers head = board_numbers head.version head.seals head.width head.reserve (sale_at head.winner head.price)
+
 -- how many wires after the inputs, and how many rows, a lane of the auction has
 abbrev pub shape_of : Head → Shape
-shape_of head = record { wires = wire_count head.seals head.width - head.seals; rows = row_count head.seals }
+shape_of head = record { wires = board_wire_count (head_numbers head) - head.seals; rows = board_row_count (head_numbers head) }
 
 -- the board has a front whose price and winner may stand, and behind it the reply is accepted for the challenge
 pub record Accepts (board_file challenge_file reply_file : List ℕ) : Type 0 where

@@ -8,7 +8,8 @@ use Rattle.vk_plan.specs.Plans.{PlanValue}
 use Rattle.vk_board.specs.declared.front.Front.{Front}
 use Rattle.vk_board.specs.Fronts.{FrontFault, front_at}
 use Rattle.vk_board.specs.Fronts as fronts
-use Rattle.vk_vickrey.specs.VickreyPlans.{vickrey_plan}
+use Rattle.vk_vickrey.specs.Sales.{sale_at}
+use Rattle.vk_vickrey.specs.BoardPlans.{BoardNumbers, board_numbers, board_plan}
 use Rattle.vk_verifier.specs.declared.answers.Part.{Part}
 use Rattle.vk_verifier.specs.declared.answers.Part.TheVariants as part
 use Rattle.vk_verifier.specs.declared.answers.Fault.{Fault}
@@ -37,9 +38,14 @@ in_front (Err fault) = Err (front_verdict fault)
 abbrev pub front_judged : Rest → Result (Front × Rest) BoardVerdict
 front_judged rest = in_front (front_at rest)
 
+-- what the board publishes of its auction
+abbrev pub numbers_in : Front → BoardNumbers
+numbers_in front =
+    board_numbers front.head.version front.head.seals front.head.width front.head.reserve (sale_at front.position front.head.price)
+
 -- the circuit of the board
 abbrev pub plan_of : Front → PlanValue
-plan_of front = vickrey_plan front.head.seals front.head.width front.position front.head.price
+plan_of front = board_plan (numbers_in front)
 
 -- what its lanes are to show
 abbrev pub statement_of : Front → StatementValue

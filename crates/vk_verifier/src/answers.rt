@@ -50,9 +50,9 @@ pub enum BoardVerdict {
         part: Part,
         line: u64,
     },
-    /// The price isn't below 2^width, or there is one seal and the price isn't 0.
+    /// The price may not stand beside the reserve, the width and the number of seals.
     Price,
-    /// No seal has the winner's seat.
+    /// The board names a winner, and no seal has that seat.
     Winner,
     /// The challenge's bits, or the reply's lanes, aren't as many as the board's lanes.
     Lanes,

@@ -23,7 +23,7 @@ use vk_io::Shelf;
 use vk_lines::ReadErr;
 use vk_plan::{Circuit, Plan};
 use vk_residue::NoMemory;
-use vk_vickrey::{VickreyOutcome, VickreyPlan};
+use vk_vickrey::{BoardPlan, Sale};
 
 /// What was read of a board before its first lane. A fault of it is the verdict.
 pub fn in_front<X>(read: Result<X, FrontErr>) -> Result<X, Halt<BoardVerdict>>
@@ -68,11 +68,9 @@ fn plan_of(alloc: Global, front: &Front) -> Result<Plan, NoMemory>
     requires { IsFront front.now }
     ensures { IfOk result (λ plan. plan ≡ plan_of front.now) }
 {
-    let outcome = VickreyOutcome {
-        position: front.position,
-        price: front.head.price,
-    };
-    match VickreyPlan::new(front.head.seals, front.head.width, outcome) {
+    let head = &front.head;
+    let sale = Sale::at(front.position, head.price);
+    match BoardPlan::of(head.version, head.seals, head.width, head.reserve, sale) {
         None => unreachable!(),
         Some(circuit) => {
             let plan = circuit.plan(alloc)?;

@@ -25,11 +25,11 @@ use vk_io::{OutsideErr, Shelf};
 use vk_plan::Plan;
 
 /// A board whose lanes are read beside two replies: its head, the place of the winner's seal, from
-/// 1, and how far the lanes were read.
+/// 1, where something is sold, and how far the lanes were read.
 #[derive(Drop)]
 pub struct BoardCourse {
     pub head: Head,
-    pub position: u32,
+    pub position: Option<u32>,
     pub lanes: LaneChecker,
 }
 

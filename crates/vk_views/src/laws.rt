@@ -29,10 +29,10 @@ pub fn moved_tapes_give_the_same_views()
     ensures all_lanes { WhereBothHold TapesOfLanesAreEquallyMany }
 {}
 
-/// A law of any two lists of bids, below 2^width each, of which an auction publishes one winner and one price: their
-/// values hold for one plan. So for either bit and any tape, the first bids with the tape and the other bids with the
-/// moved tape give one view, and back; and each view arises from equally many tapes, in a lane and over all lanes of
-/// any challenge.
+/// A law of any two lists of bids, equally many and below 2^width each, of which an auction publishes one sale under one
+/// reserve, in either version of a board: a winner and a price, or that nothing is sold. Their values hold for one plan.
+/// So for either bit and any tape, the first bids with the tape and the other bids with the moved tape give one view,
+/// and back; and each view arises from equally many tapes, in a lane and over all lanes of any challenge.
 ///
 /// A losing bid is hidden among all that leave the outcome as it is, as far as what is opened and posted tells. That
 /// digests hide what isn't opened is not claimed.
