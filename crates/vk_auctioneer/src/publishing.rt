@@ -85,11 +85,10 @@ fn publish<S: Shelf>(
 }
 
 /// Of an auction that is proved: the winner's seat, and the price.
-#[tactic(auto, unfolding(vk_job::specs::Published::head_of))]
 fn outcome_said(alloc: Global, job: &Job) -> Result<Said, NoMemory>
     ensures { IfOk result (λ said. said ≡ done_said (proved_line (winner_of job.now.auction) job.now.outcome.price)) }
 {
-    let winner = job.head().winner;
+    let winner = job.winner();
     let price = job.outcome().price;
     let line = format!(in alloc; "proved winner {winner} price {price}\n")?;
     let said = Said::of_line(alloc, 0, line.as_str())?;

@@ -15,7 +15,7 @@ pub record HasLines (count : ℕ) (text : List ℕ) : Type 0 where
 pub lines_as : (count other : ℕ) (text : List ℕ) → HasLines count text → count ≡ other → HasLines other text
 lines_as count other text has same = subst (λ n. HasLines n text) same has
 
-none_have : HasLines 0 []
+pub none_have : HasLines 0 []
 none_have = record { lines = refl; short = omega arith }
 
 -- plain text has no line feed

@@ -1,11 +1,11 @@
 -- What stands on the board of a proved auction before its first lane: the price and the winner may stand. Its statement is
 -- that of the auction's proof, whose rows are sealed.
-use Rattle.std.proofs.Common.{◌≡◌, ◌-◌, ◌++◌, codes, length, map, take, refl, ap, append_assoc, sym}
+use Rattle.std.proofs.Common.{◌≡◌, ◌-◌, ◌++◌, codes, length, map, take, refl, ap, append_assoc, sym, arith}
 use Rattle.std.specs.Prelude.{slice_index}
 use Rattle.std.specs.List.{flat_map}
 use Rattle.std.proofs.lemmas.List.{length-map}
 use Rattle.vk_lines.specs.Forms.{line}
-use Rattle.vk_board.specs.Fronts.{HasWinner, IsFront, PriceStands, front_text}
+use Rattle.vk_board.specs.Fronts.{IsFront, IsPlaced, PriceStands, front_text}
 use Rattle.vk_board.specs.Reading as board
 use Rattle.vk_board.specs.Texts.{board_text, head_text, lanes_text, seal_lines_text}
 use Rattle.vk_vickrey.specs.VickreyPlans.{vickrey_plan}
@@ -53,18 +53,21 @@ board_is_file auction =
 module _ (auction : Auction) (proved : IsProvedAuction auction) where
   price_stands : PriceStands (head_of auction)
   unfolding head_of
-  price_stands = let case = case_is auction proved.right (has_seal auction proved) in record { within_width = case.within_width; alone = case.alone }
+  price_stands = let case = case_is auction proved.right (has_seal auction proved) in record {
+    reserve_within_width = omega (arith, case.within_width);
+    price = record { within_width = case.within_width; reserve_within_price = omega arith; alone = case.alone };
+  }
 
-  has_winner : HasWinner (front_of auction)
+  is_placed : IsPlaced (front_of auction).seals (head_of auction).winner (front_of auction).position
   unfolding head_of
-  has_winner = let case = case_is auction proved.right (has_seal auction proved) in record {
+  is_placed = let case = case_is auction proved.right (has_seal auction proved) in record {
     some = case.some_position;
-    within = case.within_seals;
-    seat = ap (λ seats. slice_index seats ((outcome_in auction).position - 1)) (seats_on_board auction);
+    within = omega (arith, case.within_seals, length-map auction.seals seal_lines_of);
+    seat_there = ap (λ seats. slice_index seats ((outcome_in auction).position - 1)) (seats_on_board auction);
   }
 
   pub front_is : IsFront (front_of auction)
-  front_is = record { head = head_is auction proved.right (has_seal auction proved); seals = seals_are auction proved.right; price = price_stands; winner = has_winner }
+  front_is = record { head = head_is auction proved.right (has_seal auction proved); seals = seals_are auction proved.right; price = price_stands; winner = is_placed }
 
   pub sealed : IsSealedProof auction.width (proof_of auction)
   sealed = record { right = proof_is auction proved; rows = proved.right.rows; inputs = begins_with_bids auction }

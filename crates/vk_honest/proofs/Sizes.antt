@@ -1,5 +1,5 @@
 -- How many lines boards, challenges and replies have, and so at most how many bytes.
-use Rattle.std.proofs.Common.{◌≡◌, ℕ, ◌+◌, ◌-◌, ◌*◌, ◌^◌, ◌<◌, ◌≤◌, ◌==◌, Bool, true, List, [], ◌∷◌, length, codes, decimal, refl, ap, subst, ◌∙◌, arith}
+use Rattle.std.proofs.Common.{◌≡◌, ℕ, ◌+◌, ◌-◌, ◌*◌, ◌^◌, ◌<◌, ◌≤◌, ◌==◌, Bool, true, List, [], ◌∷◌, length, codes, decimal, refl, sym, ap, subst, ◌∙◌, arith}
 use Rattle.std.specs.Prelude.{slice_index_or}
 use Rattle.std.specs.List.{AllByRecursion, flat_map, slice_split}
 use Rattle.std.proofs.lemmas.Bool.Decides.{nat_tests}
@@ -18,9 +18,9 @@ use Rattle.vk_wire.specs.Values.{IsCom}
 use Rattle.vk_board.specs.declared.board.Head.{Head}
 use Rattle.vk_board.specs.declared.board.LaneLines.{LaneLines}
 use Rattle.vk_board.specs.declared.board.SealLines.{SealLines}
-use Rattle.vk_board.specs.Texts.{board_text, com_text, head_text, lane_text, posted_text, seal_lines_text}
+use Rattle.vk_board.specs.Texts.{board_text, com_text, head_text, lane_text, posted_text, reserve_text, seal_lines_text}
 use Rattle.vk_board.specs.Values.{Board, IsBoard, IsHead, IsLaneLines, IsSealAfter, IsSealLines, Shape}
-use Rattle.vk_board.proofs.Lines.{com_line_is, from_residues, posted_line_is}
+use Rattle.vk_board.proofs.Lines.{com_line_is, from_residues, posted_line_is, winner_line_is}
 use Rattle.vk_reply.specs.declared.challenge.Challenge.{Challenge}
 use Rattle.vk_reply.specs.Texts.{challenge_text, reply_head_text, reply_lane_text, reply_text, shown_text}
 use Rattle.vk_reply.specs.Values.{AreShown, IsChallenge, IsReply}
@@ -38,7 +38,7 @@ use Rattle.vk_job.proofs.Parts.{length_shown, reply_is}
 use Rattle.vk_honest.specs.Answers.{WhereChallenged}
 use Rattle.vk_honest.specs.Sizes.{IsShort, board_lines, line_count, reply_lines}
 use Rattle.vk_honest.proofs.Accepted.{board_is}
-use Rattle.vk_honest.proofs.Counted.{HasLines, both_have, flat_have, line_has, lines_as, numbered_have}
+use Rattle.vk_honest.proofs.Counted.{HasLines, both_have, flat_have, line_has, lines_as, none_have, numbered_have}
 
 -- ---- the lines of a number, and the last
 
@@ -52,16 +52,23 @@ end_has = line_has (fixed_line (codes "end") refl (omega arith)) tt tt
 
 -- ---- a board
 
-head_has : (head : Head) → IsHead head → HasLines 7 (head_text head)
+-- version 1 has no line of a reserve
+reserve_has : (version reserve : ℕ) → version ≡ 1 → HasLines 0 (reserve_text version reserve)
+reserve_has version reserve one =
+    let P : ℕ → Type 0 = λ version. HasLines 0 (reserve_text version reserve) in
+    subst P (sym one) none_have
+
+head_has : (head : Head) → head.version ≡ 1 → IsHead head → HasLines 7 (head_text head)
 unfolding head_text
-head_has head is =
-    both_have (line_has (fixed_line (codes "vickrey-board 1") refl (omega arith)) tt tt)
+head_has head one is =
+    both_have (number_has (codes "vickrey-board") 1 2 head.version refl (omega arith) (omega arith) is.version.least is.version.most)
     (both_have (line_has (id_line_is (codes "auction") refl (omega arith)) head.auction is.id)
     (both_have (number_has (codes "width") 1 40 head.width refl (omega arith) (omega arith) is.size.width.least is.size.width.most)
     (both_have (number_has (codes "lanes") 1 64 head.lanes refl (omega arith) (omega arith) is.size.lanes.least is.size.lanes.most)
     (both_have (number_has (codes "seals") 1 64 head.seals refl (omega arith) (omega arith) is.some_seal is.few_seals)
-    (both_have (number_has (codes "winner") 1 65535 head.winner refl (omega arith) (omega arith) is.some_winner is.last_winner)
-    (number_has (codes "price") 0 (2 ^ 64 - 1) head.price refl (omega arith) (omega arith) (omega arith) (omega (arith, is.price))))))))
+    (both_have (reserve_has head.version head.reserve one)
+    (both_have (line_has (winner_line_is head.version) head.winner is.winner)
+    (number_has (codes "price") 0 (2 ^ 64 - 1) head.price refl (omega arith) (omega arith) (omega arith) (omega (arith, is.price)))))))))
 
 coms_have : (word : List ℕ) → is_word word ≡ true → length word ≤ 100 → (coms : List WireCom) → AllByRecursion IsCom coms
     → HasLines (length coms * 1) (flat_map (λ digests. line (com_text word digests)) coms)
@@ -88,10 +95,10 @@ lane_has wires rows lane lines few is =
     let posted = posted_have lines.posted is.posted in
     lines_as (1 + (length lines.coms * 1 + length lines.posted * 1)) (1 + wires + rows) _ (both_have number (both_have coms posted)) (omega (arith, is.wire_count, is.row_count))
 
-pub board_has : (shape : Head → Shape) (board : Board) → IsBoard shape board
+pub board_has : (shape : Head → Shape) (board : Board) → board.head.version ≡ 1 → IsBoard shape board
     → HasLines (7 + board.head.seals * (1 + board.head.lanes) + board.head.lanes * (1 + (shape board.head).wires + (shape board.head).rows) + 1) (board_text board)
 unfolding board_text
-board_has shape board is =
+board_has shape board one is =
     let head = board.head in
     let lane : ℕ = 1 + (shape head).wires + (shape head).rows in
     let IsLane : LaneLines → Type 0 = IsLaneLines (shape head).wires (shape head).rows in
@@ -103,7 +110,7 @@ board_has shape board is =
     let seal_lines : length board.seals * (1 + head.lanes) ≡ head.seals * (1 + head.lanes) = ap (λ n. n * (1 + head.lanes)) is.seals.count in
     let lane_lines : length board.lanes * lane ≡ head.lanes * lane = ap (λ n. n * lane) is.count in
     lines_as (7 + (length board.seals * (1 + head.lanes) + (length board.lanes * lane + 1))) (7 + head.seals * (1 + head.lanes) + head.lanes * lane + 1) _
-    (both_have (head_has head is.head) (both_have seals (both_have lanes end_has))) (omega (arith, seal_lines, lane_lines))
+    (both_have (head_has head one is.head) (both_have seals (both_have lanes end_has))) (omega (arith, seal_lines, lane_lines))
 
 -- ---- a challenge
 
@@ -146,7 +153,7 @@ reply_has kinds bit_of lanes is =
 module _ (auction : Auction) (proved : IsProvedAuction auction) where
   board_lines_are : HasLines (board_lines (length auction.seals) auction.width auction.lanes) (board_of auction)
   unfolding head_of
-  board_lines_are = board_has shape_of (published auction) (board_is auction proved)
+  board_lines_are = board_has shape_of (published auction) refl (board_is auction proved)
 
   wires_are : length (plan_of auction).kinds ≡ wire_count (length auction.seals) auction.width
   unfolding plan_of

@@ -1,5 +1,5 @@
 -- What an honest prover answers is accepted: of every proof behind any front, and so of auctions with their boards.
-use Rattle.std.specs.Prelude.{◌≡◌, ℕ, All, List, length, map, take}
+use Rattle.std.specs.Prelude.{◌≡◌, ℕ, All, List, length, map, take, Some}
 use Rattle.vk_board.specs.declared.front.Front.{Front}
 use Rattle.vk_reply.specs.declared.challenge.Challenge.{Challenge}
 use Rattle.vk_reply.specs.Texts.{challenge_text}
@@ -43,4 +43,4 @@ AnswersAreAccepted = WhereChallenged (λ auction challenge. Accepts (board_of au
 
 -- what stands on the board before its first lane, with the place of the winner's seal
 abbrev pub front_of : Auction → Front
-front_of auction = record { head = head_of auction; seals = map seal_lines_of auction.seals; position = (outcome_in auction).position }
+front_of auction = record { head = head_of auction; seals = map seal_lines_of auction.seals; position = Some ((outcome_in auction).position) }

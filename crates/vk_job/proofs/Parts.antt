@@ -8,7 +8,7 @@ use Rattle.std.proofs.lemmas.List.Elements.{All-head, All-tail, All-push, All-ni
 use Rattle.std.proofs.lemmas.Option.{slice_get_within, get_or_from_slice_get}
 use Rattle.vk_wire.specs.declared.wire.Shown.{Shown}
 use Rattle.vk_board.specs.declared.board.SealLines.{SealLines}
-use Rattle.vk_board.specs.Values.{IsHead, IsSealLines, IsSealAfter, AreSeals, IsLaneLines}
+use Rattle.vk_board.specs.Values.{IsHead, IsSeat, IsSealLines, IsSealAfter, AreSeals, IsLaneLines}
 use Rattle.vk_lines.specs.Forms.{EachAfter}
 use Rattle.vk_range.specs.SetLaws.{All-listed}
 use Rattle.vk_reply.specs.declared.challenge.Challenge.{Challenge}
@@ -26,26 +26,26 @@ use Rattle.vk_job.proofs.Drawing.{lane_tape_is}
 -- ---- the head
 
 -- the winner's seat is that of a seal
-winner_is : (auction : Auction) → IsAuction auction → 1 ≤ length auction.seals → (1 ≤ winner_of auction) × (winner_of auction ≤ 65535)
+winner_is : (auction : Auction) → IsAuction auction → 1 ≤ length auction.seals → IsSeat (winner_of auction)
 winner_is auction right sealed =
     let place = (outcome_in auction).position - 1 in
     let at = (outcome_is auction sealed).is_position in
     let within : place < length auction.seals = omega (arith, at.some, at.within, length_bids auction) in
     let seat = get_or-map (λ row. row.seal.seat) auction.seals place no_row 0 within in
     let seal = (right.rows place no_row within).seal in
-    (omega (arith, seal.some_seat), omega (arith, seal.last_seat))
+    record { least = omega (arith, seal.some_seat); most = omega (arith, seal.last_seat) }
 
 pub head_is : (auction : Auction) → IsAuction auction → 1 ≤ length auction.seals → IsHead (head_of auction)
 unfolding head_of
 head_is auction right sealed =
-    let winner = winner_is auction right sealed in
     record {
       id = right.id;
+      version = record { least = omega arith; most = omega arith };
       size = right.size;
       some_seal = sealed;
       few_seals = right.few_seals;
-      some_winner = winner.0;
-      last_winner = winner.1;
+      reserve = record { small = omega arith; unnamed = λ _. refl };
+      winner = winner_is auction right sealed;
       price = omega (arith, (case_is auction right sealed).within_width, pow_mono {i = auction.width} {j = 64} (omega (arith, right.size.width.most)));
     }
 

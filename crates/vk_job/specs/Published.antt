@@ -1,5 +1,5 @@
 -- What an honest auctioneer publishes of an auction that is proved, and what it shows for a challenge.
-use Rattle.std.specs.Prelude.{◌≡◌, ℕ, ◌-◌, Bool, false, slice_index_or, List, length, map}
+use Rattle.std.specs.Prelude.{◌≡◌, ℕ, ◌-◌, Bool, false, slice_index_or, List, length, map, Some}
 use Rattle.vk_wire.specs.declared.wire.Shown.{Shown}
 use Rattle.vk_board.specs.declared.board.Head.{Head}
 use Rattle.vk_board.specs.declared.board.LaneLines.{LaneLines}
@@ -15,13 +15,16 @@ use Rattle.vk_job.specs.Proofs.{seal_lines_of, lane_in, lanes_in, lane_shown_in,
 
 -- ---- the board
 
+-- the house makes boards of version 1, which name no reserve and always have a winner
 unfoldable pub head_of : Auction → Head
 head_of auction = record {
   auction = auction.id;
+  version = 1;
   width = auction.width;
   lanes = auction.lanes;
   seals = length auction.seals;
-  winner = winner_of auction;
+  reserve = 0;
+  winner = Some (winner_of auction);
   price = (outcome_in auction).price;
 }
 

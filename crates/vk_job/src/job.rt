@@ -2,7 +2,7 @@ ghost use Rattle.std.specs.Prelude.{◌≡◌, ◌-◌, ◌<◌, ◌≤◌, [], 
 ghost use Rattle.vk_board.specs.Values.{IsHead};
 ghost use Rattle.vk_keeper.specs.Auctions.{IsAuction, challenge_of, seed_of};
 ghost use Rattle.vk_job.specs.Answers.{JobAnswer};
-ghost use Rattle.vk_job.specs.Jobs.{IsProvedAuction, outcome_in, proof_of};
+ghost use Rattle.vk_job.specs.Jobs.{IsProvedAuction, outcome_in, proof_of, winner_of};
 ghost use Rattle.vk_job.specs.Proofs.{no_row, seal_lines_of};
 ghost use Rattle.vk_job.specs.Published.{board_pieces, head_of, kept_bit, lane_of, reply_pieces, shown_in};
 
@@ -85,7 +85,14 @@ impl Job {
         self.outcome
     }
 
-    /// What the board says of the auction as a whole.
+    /// The seat of the winner.
+    pub fn winner(&self) -> u16
+        ensures { result ≡ winner_of self.now.auction }
+    {
+        winner_of(&self.auction, self.outcome)
+    }
+
+    /// What the board, which is one of version 1, says of the auction as a whole.
     #[tactic(auto, unfolding(crate::specs::Published::head_of))]
     pub fn head(&self) -> Head
         ensures value { result ≡ head_of self.now.auction }
@@ -93,10 +100,12 @@ impl Job {
     {
         Head {
             auction: self.auction.id,
+            version: 1,
             width: self.auction.width,
             lanes: self.auction.lanes,
             seals: self.auction.seals.len() as u32,
-            winner: winner_of(&self.auction, self.outcome),
+            reserve: 0,
+            winner: Some(self.winner()),
             price: self.outcome.price,
         }
     }

@@ -39,9 +39,11 @@ pub fn proved_auctions_hold()
     ensures auction_tapes { WhereProved (λ auction. HasTapesOfPlan (proof_of auction)) }
 {}
 
-/// Of any auction that is proved: what is published of it is a board. Of any proof, so of that of such an
-/// auction too: what is published of its lanes has the plan's wires and rows, and what is shown is a reply.
+/// Of any auction that is proved: what is published of it is a board of version 1. Of any proof, so of that
+/// of such an auction too: what is published of its lanes has the plan's wires and rows, and what is shown
+/// is a reply.
 pub fn published_boards_are_of_their_form()
+    ensures version { (auction : Auction) → (head_of auction).version ≡ 1 }
     ensures head { WhereProved (λ auction. IsHead (head_of auction)) }
     ensures seals { WhereProved (λ auction. AreSeals (head_of auction) (published auction).seals) }
     ensures count { (auction : Auction) → length (published auction).lanes ≡ auction.lanes }

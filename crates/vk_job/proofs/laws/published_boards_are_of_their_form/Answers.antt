@@ -1,10 +1,14 @@
-use Rattle.std.proofs.Common.{◌+◌}
+use Rattle.std.proofs.Common.{◌+◌, refl}
 use Rattle.vk_range.specs.SetLaws.{length_listed}
-use Rattle.vk_job.specs.Published.{lane_of}
+use Rattle.vk_job.specs.Published.{head_of, lane_of}
 use Rattle.vk_job.specs.Jobs.{proof_of}
 use Rattle.vk_job.proofs.Held.{has_seal, proof_is}
 use Rattle.vk_job.proofs.Parts.{head_is, seals_are, lanes_are, shown_is, reply_is}
 use Rattle.vk_job.proofs.laws.published_boards_are_of_their_form.Goals as goal
+
+pub returns-clause-version : goal.returns-clause-version
+unfolding head_of
+returns-clause-version c auction = refl
 
 pub returns-clause-head : goal.returns-clause-head
 returns-clause-head c auction proved = head_is auction proved.right (has_seal auction proved)
