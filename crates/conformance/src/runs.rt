@@ -142,7 +142,7 @@ fn run_of(case: &[u8]) -> Tried<Run<'_>> {
     })
 }
 
-/// The files of a part, in memory. Each stands there as `NAME=FILE`.
+/// The files of a part, in memory. Each stands there as `NAME=FILE`, or as `NAME=FILE+FILE`, one behind the other.
 pub fn files_of<S: Shelf>(alloc: Global, shelf: &mut S, part: &[u8]) -> Tried<MemShelf> {
     let mut files = MemShelf::new(alloc);
     for word in part.split(|byte| *byte == b' ') {
@@ -153,7 +153,7 @@ pub fn files_of<S: Shelf>(alloc: Global, shelf: &mut S, part: &[u8]) -> Tried<Me
     Ok(files)
 }
 
-/// Puts the file of a word `NAME=FILE` under that name.
+/// Puts the file of a word `NAME=FILE` or `NAME=FILE+FILE` under that name.
 fn put_file<S: Shelf>(
     alloc: Global,
     shelf: &mut S,
@@ -162,12 +162,22 @@ fn put_file<S: Shelf>(
 ) -> Tried<()> {
     let mut parts = word.split(|byte| *byte == b'=');
     let name = parts.next().ok_or(Unreplayed::NoCase)?;
-    let file = parts.next().ok_or(Unreplayed::NoCase)?;
+    let pieces = parts.next().ok_or(Unreplayed::NoCase)?;
     let name = text_of(alloc, name)?;
-    let file = text_of(alloc, file)?;
-    let bytes = read_cases(alloc, shelf, file.as_str())?;
+    let bytes = joined(alloc, shelf, pieces)?;
     files.put_file(name.as_str(), bytes.as_slice())?;
     Ok(())
+}
+
+/// The bytes of the files with a plus between their names, one behind the other.
+fn joined<S: Shelf>(alloc: Global, shelf: &mut S, pieces: &[u8]) -> Tried<Vec<u8>> {
+    let mut bytes = Vec::new(alloc);
+    for file in pieces.split(|byte| *byte == b'+') {
+        let file = text_of(alloc, file)?;
+        let piece = read_cases(alloc, shelf, file.as_str())?;
+        bytes.extend_from_slice(piece.as_slice())?;
+    }
+    Ok(bytes)
 }
 
 /// Each file that a word from that place on names, and that isn't as it was given.

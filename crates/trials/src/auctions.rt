@@ -1,62 +1,149 @@
 // Honest auctions as files, judged and extracted from by the program.
 use crate::asked::Asked;
-use crate::honest::{Honest, seat_at};
+use crate::honest::{Honest, Terms, seat_at};
 use std::alloc::Global;
 use vk_app::run;
 use vk_cases::{Tried, words_of};
 use vk_io::{MemShelf, MemSink, PieceShelf, Shelf, Sink};
 use vk_keeper::MemKeeper;
 use vk_lines::{end_line, push_decimal, push_space};
+use vk_vickrey::Sale;
 
-/// The bids of an auction, and the outcome that they are known to have.
+/// The bids of an auction, how it is held, and the sale that it is known to come to.
 #[derive(Clone, Copy)]
 struct Auction {
     bids: &'static [u64],
-    width: u32,
-    lanes: u16,
-    /// The place of the winner's seal, from 1.
-    position: u32,
-    price: u64,
+    terms: Terms,
+    sale: Sale,
 }
 
 /// The greatest bid of all, by as many as there may be.
 const MOST: [u64; 64] = [1099511627775; 64];
 
-const AUCTIONS: [Auction; 5] = [
+const AUCTIONS: [Auction; 10] = [
     Auction {
         bids: &MOST,
-        width: 40,
-        lanes: 2,
-        position: 1,
-        price: 1099511627775,
+        terms: Terms {
+            version: 1,
+            width: 40,
+            lanes: 2,
+            reserve: 0,
+        },
+        sale: Sale::Sold {
+            position: 1,
+            price: 1099511627775,
+        },
     },
     Auction {
         bids: &[7, 9, 9, 4],
-        width: 4,
-        lanes: 3,
-        position: 2,
-        price: 9,
+        terms: Terms {
+            version: 1,
+            width: 4,
+            lanes: 3,
+            reserve: 0,
+        },
+        sale: Sale::Sold {
+            position: 2,
+            price: 9,
+        },
     },
     Auction {
         bids: &[1],
-        width: 1,
-        lanes: 64,
-        position: 1,
-        price: 0,
+        terms: Terms {
+            version: 1,
+            width: 1,
+            lanes: 64,
+            reserve: 0,
+        },
+        sale: Sale::Sold {
+            position: 1,
+            price: 0,
+        },
     },
     Auction {
         bids: &[13, 250, 0, 255, 250],
-        width: 8,
-        lanes: 1,
-        position: 4,
-        price: 250,
+        terms: Terms {
+            version: 1,
+            width: 8,
+            lanes: 1,
+            reserve: 0,
+        },
+        sale: Sale::Sold {
+            position: 4,
+            price: 250,
+        },
     },
     Auction {
         bids: &[255, 0, 255, 13, 1],
-        width: 8,
-        lanes: 2,
-        position: 1,
-        price: 255,
+        terms: Terms {
+            version: 1,
+            width: 8,
+            lanes: 2,
+            reserve: 0,
+        },
+        sale: Sale::Sold {
+            position: 1,
+            price: 255,
+        },
+    },
+    Auction {
+        bids: &MOST,
+        terms: Terms {
+            version: 2,
+            width: 40,
+            lanes: 2,
+            reserve: 1099511627775,
+        },
+        sale: Sale::Sold {
+            position: 1,
+            price: 1099511627775,
+        },
+    },
+    Auction {
+        bids: &[13, 250, 0, 255, 250],
+        terms: Terms {
+            version: 2,
+            width: 8,
+            lanes: 2,
+            reserve: 251,
+        },
+        sale: Sale::Sold {
+            position: 4,
+            price: 251,
+        },
+    },
+    Auction {
+        bids: &[13, 250, 0, 255, 250],
+        terms: Terms {
+            version: 2,
+            width: 8,
+            lanes: 1,
+            reserve: 249,
+        },
+        sale: Sale::Sold {
+            position: 4,
+            price: 250,
+        },
+    },
+    Auction {
+        bids: &[7, 9, 9, 4],
+        terms: Terms {
+            version: 2,
+            width: 4,
+            lanes: 3,
+            reserve: 10,
+        },
+        sale: Sale::Unsold,
+    },
+    Auction {
+        bids: &[0],
+        terms: Terms {
+            version: 2,
+            width: 1,
+            lanes: 64,
+            reserve: 1,
+        },
+        sale: Sale::Unsold,
     },
 ];
 
@@ -71,7 +158,7 @@ pub fn try_auctions<W: Sink>(alloc: Global, out: &mut W) -> Tried<()> {
 
 /// How large the auction's files are, and what the program says of them.
 fn auction_text(alloc: Global, auction: &Auction) -> Tried<Vec<u8>> {
-    let honest = Honest::of(alloc, auction.bids, auction.width, auction.lanes)?;
+    let honest = Honest::of(alloc, auction.bids, auction.terms)?;
     let mut shelf = PieceShelf::over(MemShelf::new(alloc));
     honest.write(alloc, &mut shelf)?;
     let mut text = Vec::new(alloc);
@@ -81,6 +168,7 @@ fn auction_text(alloc: Global, auction: &Auction) -> Tried<Vec<u8>> {
     }
     push_extracted(alloc, &mut text, &mut shelf, auction, Asked::Ones)?;
     push_extracted(alloc, &mut text, &mut shelf, auction, Asked::Last)?;
+    push_reported(alloc, &mut text, &mut shelf, auction, &honest)?;
     Ok(text)
 }
 
@@ -93,8 +181,11 @@ fn push_sizes(
 ) -> Tried<()> {
     text.extend_from_slice(b"auction")?;
     push_count(text, b"bids", auction.bids.len() as u64)?;
-    push_count(text, b"width", u64::from(auction.width))?;
-    push_count(text, b"lanes", u64::from(auction.lanes))?;
+    push_count(text, b"width", u64::from(auction.terms.width))?;
+    push_count(text, b"lanes", u64::from(auction.terms.lanes))?;
+    if auction.terms.version == 2 {
+        push_count(text, b"reserve", auction.terms.reserve)?;
+    }
     push_count(text, b"wires", u64::from(honest.wires))?;
     push_count(text, b"rows", u64::from(honest.rows))?;
     push_count(text, b"board", lines_in(files, "board"))?;
@@ -170,7 +261,7 @@ fn push_status(text: &mut Vec<u8>, words: &[u8], status: u8) -> Tried<()> {
 
 /// What `extract` says of the reply to zeros and that to another challenge: its text without the
 /// openings, or, where this is as it has to be, that the bids are as given, the line of the
-/// winner, and that the bids of every seat are the same in all lanes.
+/// sale, and that the bids of every seat are the same in all lanes.
 fn push_extracted(
     alloc: Global,
     text: &mut Vec<u8>,
@@ -181,10 +272,10 @@ fn push_extracted(
     let line = words_with(alloc, "extract board zeros reply-zeros", asked)?;
     let out = push_run(alloc, text, shelf, line.as_bytes())?;
     let said = without_openings(alloc, out.bytes())?;
-    let winner = winner_line(alloc, auction)?;
+    let sale = sale_line(alloc, auction)?;
     if said.as_slice() == expected(alloc, auction, asked)?.as_slice() {
         text.extend_from_slice(b"bids as given\n")?;
-        text.extend_from_slice(winner.as_bytes())?;
+        text.extend_from_slice(sale.as_bytes())?;
         text.extend_from_slice(b"all seats same\n")?;
     } else {
         text.extend_from_slice(said.as_slice())?;
@@ -221,16 +312,17 @@ fn push_before_openings(text: &mut Vec<u8>, line: &[u8]) -> Tried<()> {
 }
 
 /// What an extraction without its openings has to be: the bids of each lane where more than
-/// zeros is asked for, the outcome, and that each seat's bids are the same.
+/// zeros is asked for, the sale, and that each seat's bids are the same.
 fn expected(alloc: Global, auction: &Auction, asked: Asked) -> Tried<Vec<u8>> {
     let mut text = Vec::new(alloc);
-    for lane in 1..=auction.lanes {
-        if asked.bit(u32::from(lane), u32::from(auction.lanes)) {
+    let lanes = auction.terms.lanes;
+    for lane in 1..=lanes {
+        if asked.bit(u32::from(lane), u32::from(lanes)) {
             push_bids(alloc, &mut text, auction, lane)?;
         }
     }
-    let winner = winner_line(alloc, auction)?;
-    text.extend_from_slice(winner.as_bytes())?;
+    let sale = sale_line(alloc, auction)?;
+    text.extend_from_slice(sale.as_bytes())?;
     push_same(alloc, &mut text, auction)?;
     text.extend_from_slice(b"end\n")?;
     Ok(text)
@@ -247,11 +339,21 @@ fn push_bids(alloc: Global, text: &mut Vec<u8>, auction: &Auction, lane: u16) ->
     Ok(())
 }
 
-/// The line of the outcome that is known.
-fn winner_line(alloc: Global, auction: &Auction) -> Tried<String> {
-    let seat = seat_at(auction.position);
-    let price = auction.price;
-    let line = format!(in alloc; "winner {seat} price {price}\n")?;
+/// The line of the sale that is known.
+fn sale_line(alloc: Global, auction: &Auction) -> Tried<String> {
+    let mut line = match auction.sale {
+        Sale::Sold { position, price } => {
+            let seat = seat_at(position);
+            format!(in alloc; "winner {seat} price {price}")?
+        }
+        Sale::Unsold => String::from_str(alloc, "unsold")?,
+    };
+    if auction.terms.version == 2 {
+        let reserve = auction.terms.reserve;
+        let more = format!(in alloc; " reserve {reserve}")?;
+        line.push_str(more.as_str())?;
+    }
+    line.push_str("\n")?;
     Ok(line)
 }
 
@@ -262,5 +364,65 @@ fn push_same(alloc: Global, text: &mut Vec<u8>, auction: &Auction) -> Tried<()> 
         let line = format!(in alloc; "seat {seat} same\n")?;
         text.extend_from_slice(line.as_bytes())?;
     }
+    Ok(())
+}
+
+/// What `report` says of the board; or, where this is as it has to be, that it is as published.
+fn push_reported(
+    alloc: Global,
+    text: &mut Vec<u8>,
+    shelf: &mut PieceShelf,
+    auction: &Auction,
+    honest: &Honest,
+) -> Tried<()> {
+    let out = push_run(alloc, text, shelf, b"report board")?;
+    if out.bytes() == reported(alloc, auction, honest)?.as_slice() {
+        text.extend_from_slice(b"as published\n")?;
+    } else {
+        text.extend_from_slice(out.bytes())?;
+    }
+    Ok(())
+}
+
+/// What a report has to be.
+fn reported(alloc: Global, auction: &Auction, honest: &Honest) -> Tried<Vec<u8>> {
+    let mut text = Vec::new(alloc);
+    text.extend_from_slice(b"auction 000102030405060708090a0b0c0d0e0f\n")?;
+    push_number(&mut text, b"width", u64::from(auction.terms.width))?;
+    push_number(&mut text, b"lanes", u64::from(auction.terms.lanes))?;
+    push_number(&mut text, b"seals", auction.bids.len() as u64)?;
+    push_published(&mut text, auction)?;
+    for (_bid, position) in auction.bids.iter().zip(1u32..=64) {
+        push_number(&mut text, b"seat", u64::from(seat_at(position)))?;
+    }
+    push_number(&mut text, b"wires", u64::from(honest.wires))?;
+    push_number(&mut text, b"rows", u64::from(honest.rows))?;
+    let commitments = 2 * u64::from(honest.wires) * u64::from(auction.terms.lanes);
+    push_number(&mut text, b"commitments", commitments)?;
+    text.extend_from_slice(b"end\n")?;
+    Ok(text)
+}
+
+/// The lines of the reserve, which version 2 has, of the winner and of the price.
+fn push_published(text: &mut Vec<u8>, auction: &Auction) -> Tried<()> {
+    if auction.terms.version == 2 {
+        push_number(text, b"reserve", auction.terms.reserve)?;
+    }
+    match auction.sale {
+        Sale::Sold { position, price } => {
+            push_number(text, b"winner", u64::from(seat_at(position)))?;
+            push_number(text, b"price", price)?;
+        }
+        Sale::Unsold => text.extend_from_slice(b"unsold\nprice 0\n")?,
+    }
+    Ok(())
+}
+
+/// A line of a word and its number.
+fn push_number(text: &mut Vec<u8>, word: &[u8], number: u64) -> Tried<()> {
+    text.extend_from_slice(word)?;
+    push_space(text)?;
+    push_decimal(text, number)?;
+    end_line(text)?;
     Ok(())
 }

@@ -11,7 +11,7 @@ use vk_prover::{LaneTape, answer_lane, draw_tape, make_lane};
 use vk_residue::{NoMemory, Residue};
 use vk_seal::{Seal, Secret, make_seal};
 use vk_seq::Seq;
-use vk_vickrey::{VickreyPlan, outcome};
+use vk_vickrey::{BoardPlan, Sale, sale_of};
 use vk_wire::Shown;
 
 pub const ID: [u8; 16] = [0, 1, 2, 3, 4, 5, 6, 7, 8, 9, 10, 11, 12, 13, 14, 15];
@@ -23,6 +23,17 @@ const BIDDERS: [u8; 32] = [0x5a; 32];
 /// The seat at a position, from 1: the last seat of all, then those before it.
 pub fn seat_at(position: u32) -> u16 {
     u16::try_from(65536u32.saturating_sub(position)).unwrap_or(0)
+}
+
+/// How an auction is held.
+#[derive(Clone, Copy)]
+pub struct Terms {
+    /// The version of the board.
+    pub version: u32,
+    pub width: u32,
+    pub lanes: u16,
+    /// 0 with version 1.
+    pub reserve: u64,
 }
 
 /// What is published of a lane, and what is shown of it for each bit.
@@ -57,30 +68,41 @@ pub struct Honest {
 }
 
 impl Honest {
-    /// The auction of these bids, where they are within the limits.
-    pub fn of(alloc: Global, bids: &[u64], width: u32, lanes: u16) -> Tried<Honest> {
-        if bids.is_empty() || 64 < bids.len() || 40 < width {
+    /// The auction of these bids, where they and the terms are within the limits.
+    pub fn of(alloc: Global, bids: &[u64], terms: Terms) -> Tried<Honest> {
+        if bids.is_empty() || 64 < bids.len() || 40 < terms.width {
             return Err(Unreplayed::NoCase);
         }
-        let (plan, values) = plan_of_bids(alloc, bids, width)?;
-        let (secrets, seals) = sealed_bids(alloc, bids, width, lanes)?;
+        let lanes = terms.lanes;
+        let (plan, values) = plan_of_bids(alloc, bids, terms)?;
+        let (secrets, seals) = sealed_bids(alloc, bids, terms.width, lanes)?;
         let made = honest_lanes(alloc, &plan, values.as_slice(), secrets.as_slice(), lanes)?;
-        let won = outcome(bids);
-        let head = Head {
-            auction: ID,
-            width,
-            lanes: u32::from(lanes),
-            seals: plan.inputs(),
-            winner: seat_at(won.position),
-            price: won.price,
-        };
+        let sale = sale_of(bids, terms.reserve);
         Ok(Honest {
-            head,
+            head: head_of(terms, plan.inputs(), sale),
             wires: plan.wires(),
             rows: plan.rows(),
             seals,
             lanes: made,
         })
+    }
+}
+
+/// The head of a board with so many seals and this sale.
+fn head_of(terms: Terms, seals: u32, sale: Sale) -> Head {
+    let (winner, price) = match sale {
+        Sale::Sold { position, price } => (Some(seat_at(position)), price),
+        Sale::Unsold => (None, 0),
+    };
+    Head {
+        auction: ID,
+        version: terms.version,
+        width: terms.width,
+        lanes: u32::from(terms.lanes),
+        seals,
+        reserve: terms.reserve,
+        winner,
+        price,
     }
 }
 
@@ -175,15 +197,22 @@ fn sealed_bid(alloc: Global, bid: u64, seat: u16, width: u32, lanes: u32) -> Tri
     Ok(made)
 }
 
-/// The plan of the bids at their outcome, and the values that hold for it.
-fn plan_of_bids(alloc: Global, bids: &[u64], width: u32) -> Tried<(Plan, Vec<Residue>)>
+/// The plan of the bids at their sale, and the values that hold for it.
+fn plan_of_bids(alloc: Global, bids: &[u64], terms: Terms) -> Tried<(Plan, Vec<Residue>)>
     requires some { 1 ≤ length bids.now }
     requires most { length bids.now ≤ 64 }
-    requires width { width ≤ 40 }
+    requires width { terms.width ≤ 40 }
     ensures { IfOk result (λ made. Holds made.0 made.1.items) }
 {
+    let Terms {
+        version,
+        width,
+        reserve,
+        ..
+    } = terms;
     let inputs = residues(alloc, bids, width)?.ok_or(Unreplayed::NoCase)?;
-    let circuit = VickreyPlan::new(bids.len() as u32, width, outcome(bids)).ok_or(
+    let sale = sale_of(bids, reserve);
+    let circuit = BoardPlan::of(version, bids.len() as u32, width, reserve, sale).ok_or(
         Unreplayed::NoCase,
     )?;
     let made = plan_and_values(alloc, &circuit, inputs.as_slice())?;

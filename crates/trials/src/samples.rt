@@ -1,7 +1,7 @@
 // `sample 1` over files that stay as they are: what it says of the replies is what it reads, and not what it wrote.
 use crate::asked::Asked;
 use crate::auctions::push_run;
-use crate::honest::Honest;
+use crate::honest::{Honest, Terms};
 use std::alloc::Global;
 use vk_app::run;
 use vk_board::SealLines;
@@ -13,6 +13,14 @@ use vk_seq::Seq;
 use vk_wire::WireCom;
 
 const LINE: &[u8] = b"sample 1";
+
+/// Two lanes of bids of one bit.
+const TWO_LANES: Terms = Terms {
+    version: 1,
+    width: 1,
+    lanes: 2,
+    reserve: 0,
+};
 
 /// The file of the sample that is spoiled.
 const SPOILED: &str = "sample-reply-2";
@@ -59,8 +67,8 @@ fn spoiled_files(alloc: Global) -> Tried<MemShelf> {
 /// One seal of width 1, under the names of a sample: the bid 0 in lane 1 and 1 in lane 2, each with the proof of an honest
 /// auction. The first reply shows all first halves, and the second all second ones.
 fn files_of_two_bids(alloc: Global) -> Tried<MemShelf> {
-    let first = Honest::of(alloc, &[0], 1, 2)?;
-    let second = Honest::of(alloc, &[1], 1, 2)?;
+    let first = Honest::of(alloc, &[0], TWO_LANES)?;
+    let second = Honest::of(alloc, &[1], TWO_LANES)?;
     let mixed = with_last_lane(alloc, first, second)?;
     let mut made = PieceShelf::over(MemShelf::new(alloc));
     mixed.write(alloc, &mut made)?;

@@ -1,11 +1,12 @@
-//! Replays what independent implementations worked out of the parts: words and draws, wires, outcomes, and what is
-//! seen of wires and lanes. What is printed is to be, byte for byte, what those implementations wrote.
+//! Replays what independent implementations worked out of the parts: words and draws, wires, outcomes, sales, and what
+//! is seen of wires and lanes. What is printed is to be, byte for byte, what those implementations wrote.
 #![tactic(auto)]
 
 mod bids;
 mod fours;
 mod lanes;
 mod lists;
+mod sales;
 mod streams;
 mod views;
 mod wires;
@@ -28,6 +29,10 @@ enum Cases {
     Fours,
     /// 1 to 64 bids, with commas between them.
     Bids,
+    /// `BIDS RESERVE WIDTH`.
+    Sales,
+    /// `BIDS RESERVE WIDTH POSITION PRICE`, or `BIDS RESERVE WIDTH unsold`.
+    Rows,
     /// `wire KIND value NUMBER other NUMBER tape MASK SWAP KEY KEY`, where a kind is `split` or the `I` of a pair.
     Views,
     /// `plan seals N width T winner W price P|bids ..|others ..`, and behind it for each wire
@@ -43,6 +48,8 @@ impl Form for Cases {
             Cases::Wires => "wires",
             Cases::Fours => "fours",
             Cases::Bids => "bids",
+            Cases::Sales => "sales",
+            Cases::Rows => "rows",
             Cases::Views => "views",
             Cases::Lanes => "lanes",
         }
@@ -55,6 +62,8 @@ impl Form for Cases {
             Cases::Wires => wires::wire_text(alloc, case),
             Cases::Fours => fours::hashed_text(alloc, case),
             Cases::Bids => bids::outcome_text(alloc, case),
+            Cases::Sales => sales::sale_text(alloc, case),
+            Cases::Rows => sales::rows_text(alloc, case),
             Cases::Views => views::view_text(alloc, case),
             Cases::Lanes => lanes::lane_text(alloc, case),
         }
@@ -62,12 +71,14 @@ impl Form for Cases {
 }
 
 /// All forms, in the order in which they are replayed.
-const FORMS: [Cases; 7] = [
+const FORMS: [Cases; 9] = [
     Cases::Streams,
     Cases::Lists,
     Cases::Wires,
     Cases::Fours,
     Cases::Bids,
+    Cases::Sales,
+    Cases::Rows,
     Cases::Views,
     Cases::Lanes,
 ];

@@ -71,24 +71,21 @@ pub fn judge<S: Shelf>(
         Gives unread_file (λ judged. judged) result (sum_judged_on files names.now.file.now names.now.challenge.now names.now.reply.now)) }
     ensures shelf { OnlyReads S.held S.Shelf.faults VErr.Failed result shelf.old shelf.new }
 {
-    let mut attempt = begin_attempt(alloc, shelf, names)?;
-    let judged = judge_lines(alloc, shelf, &mut attempt);
+    let attempt = begin_attempt(alloc, shelf, names)?;
+    let judged = judge_lines(alloc, shelf, attempt);
     let judged = known(judged)?;
     Ok(judged)
 }
 
 /// Judges the files, from their first lines to their ends.
 #[tactic(auto, using(vk_verifier::proofs::Joined::behind_parts), unfolding(crate::specs::Judging::sum_judged))]
-fn judge_lines<S: Shelf>(
-    alloc: Global,
-    shelf: &mut S,
-    attempt: &mut Attempt,
-) -> Result<(), Halt<Fault>>
-    ensures told { IfSome (S.held shelf.old) (λ files. Judges (λ done. done) result (of_begun sum_judged attempt.old files)) }
+fn judge_lines<S: Shelf>(alloc: Global, shelf: &mut S, attempt: Attempt) -> Result<(), Halt<Fault>>
+    ensures told { IfSome (S.held shelf.old) (λ files. Judges (λ done. done) result (of_begun sum_judged attempt files)) }
     ensures shelf { OnlyReads S.held S.Shelf.faults Halt.Failed result shelf.old shelf.new }
 {
+    let mut attempt = attempt;
     let statement = read_statement(alloc, shelf, &mut attempt.pair.board)?;
-    judge_behind(alloc, shelf, &statement, attempt)?;
+    judge_behind(alloc, shelf, &statement, &mut attempt)?;
     Ok(())
 }
 

@@ -41,16 +41,18 @@ fn two_lanes(alloc: Global, bid: Residue) -> Result<Extracted, Fail> {
     lanes.push(lane_of(alloc, 5, bid)?)?;
     let head = Head {
         auction: ID,
+        version: 1,
         width: 1,
         lanes: 5,
         seals: 1,
-        winner: 7,
+        reserve: 0,
+        winner: Some(7),
         price: 0,
     };
     let front = Front {
         head,
         seals,
-        position: 1,
+        position: Some(1),
     };
     Ok(Extracted { front, lanes })
 }

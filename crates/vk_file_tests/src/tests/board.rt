@@ -1,5 +1,5 @@
-// The smallest board, read part by part and written back, and the winner of three seals. Boards that are refused are
-// replayed by the program `conformance`.
+// The smallest board, read part by part and written back, heads with a reserve, and the winner of three seals. Boards
+// that are refused are replayed by the program `conformance`.
 use super::files::board;
 use std::alloc::Global;
 use std::test::Fail;
@@ -49,15 +49,55 @@ fn the_smallest_board_is_read_and_written_back(rt: HostRuntime) -> Result<(), Fa
     let (head, seals, lane) = parts_in(rt.alloc(), &mut shelf)?;
     let expected = Head {
         auction: ID,
+        version: 1,
         width: 1,
         lanes: 1,
         seals: 1,
-        winner: 7,
+        reserve: 0,
+        winner: Some(7),
         price: 0,
     };
     assert!(rt; head == expected);
     let written = text_of(rt.alloc(), &head, seals.as_slice(), &lane)?;
     assert!(rt; written.as_slice() == board());
+    Ok(())
+}
+
+/// A head with a reserve, up to the line of its winner.
+const RESERVED: &[u8] = b"vickrey-board 2\n\
+auction 000102030405060708090a0b0c0d0e0f\n\
+width 4\n\
+lanes 2\n\
+seals 3\n\
+reserve 9\n";
+
+#[test]
+fn heads_with_a_reserve_are_written_and_read_back(rt: HostRuntime) -> Result<(), Fail> {
+    let alloc = rt.alloc();
+    for (winner, price, end) in [
+        (Some(500), 9, "winner 500\nprice 9\n"),
+        (None, 0, "unsold\nprice 0\n"),
+    ] {
+        let head = Head {
+            auction: ID,
+            version: 2,
+            width: 4,
+            lanes: 2,
+            seals: 3,
+            reserve: 9,
+            winner,
+            price,
+        };
+        let mut text = Vec::from_slice(alloc, RESERVED)?;
+        text.extend_from_slice(end.as_bytes())?;
+        let written = head_text(alloc, &head)?;
+        assert!(rt; written.as_slice() == text.as_slice());
+        let mut shelf = MemShelf::new(alloc);
+        shelf.put_file("board", text.as_slice())?;
+        let mut lines = Lines::start(alloc, &mut shelf, "board")?;
+        let read = read_head(&mut shelf, &mut lines)?;
+        assert!(rt; read == head);
+    }
     Ok(())
 }
 
@@ -83,7 +123,7 @@ fn the_winner_of_three_seals_is_found(rt: HostRuntime) -> Result<(), Fail> {
     shelf.put_file("board", THREE)?;
     let mut lines = Lines::start(alloc, &mut shelf, "board")?;
     let front = read_front(alloc, &mut shelf, &mut lines)?;
-    assert!(rt; front.position == 3);
+    assert!(rt; front.position == Some(3));
     let seats = seats_of(alloc, front.seals.as_slice())?;
     assert!(rt; seats.as_slice() == [7, 65535, 500].as_slice());
     Ok(())

@@ -80,7 +80,7 @@ fn the_kept_challenge_is_replied_to(rt: HostRuntime) -> Result<(), Fail> {
     let job = Job::of(rt.alloc(), auction)?;
     let outcome = job.outcome();
     assert!(rt; (outcome.position, outcome.price) == (3, 6));
-    assert!(rt; (job.head().winner, job.board_pieces()) == (1, 8));
+    assert!(rt; (job.head().winner, job.board_pieces()) == (Some(1), 8));
     let shown = job.reply(rt.alloc(), 2)?;
     let text = reply_lane_text(rt.alloc(), 2, shown.as_slice())?;
     assert!(rt; Sha256::digest(text.as_slice()) == SECOND_LANE);
