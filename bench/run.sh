@@ -4,11 +4,12 @@
 # `sample 1` of the program makes the board of 20 seals and 40 lanes that the first rows judge. bench/baseline/verify.c does
 # the least that a verdict takes; it is built without hashing, with a scalar SHA-256, and, where its headers are installed,
 # with OpenSSL's. bench/make_board.py, which is written from docs/FORMATS.md alone, makes the boards of other sizes
-# (seals:width:lanes), and the last rows are of a house of 64 seals with 64 lanes at width 40, over a real file. Each round
+# (seals:width:lanes), and one of each version of the same bids, of which that of version 2 has a reserve below its price, and so
+# the same circuit. The last rows are of a house of 64 seals with 64 lanes at width 40, over a real file. Each round
 # runs every row once, so that all meet the same noise; the best of each counts. ROUNDS (5) says how many rounds, CPU the
-# processor that the runs are pinned to, CC the compiler. It takes 400 MB of disk, and some minutes.
+# processor that the runs are pinned to, CC the compiler. It takes 500 MB of disk, and some minutes.
 set -eu
-[ $# -eq 1 ] || { sed -n '2,10p' "$0"; exit 2; }
+[ $# -eq 1 ] || { sed -n '2,11p' "$0"; exit 2; }
 program=$(realpath "$1")
 here=$(cd "$(dirname "$0")" && pwd)
 folder=$(mktemp -d)
@@ -52,6 +53,15 @@ size_rows() {
     files="$size/board $size/challenge-1 $size/reply-1"
     row "verify $size" accepted "$program verify $files"
     row "extract $size" end "$program extract $files $size/challenge-2 $size/reply-2"
+  done
+}
+
+version_rows() {
+  local name
+  python3 "$here/make_board.py" 20 40 40 1 version-1
+  python3 "$here/make_board.py" 20 40 40 1 version-2 above
+  for name in version-1 version-2; do
+    row "verify 20:40:40, ${name/-/ }" accepted "$program verify $name/board $name/challenge-1 $name/reply-1"
   done
 }
 
@@ -109,6 +119,7 @@ ratio() {
 
 sample_rows
 size_rows
+version_rows
 house_rows
 for name in "${names[@]}"; do
   ${before[$name]}
@@ -120,8 +131,8 @@ for _ in $(seq "${ROUNDS:-5}"); do
 done
 
 echo "$(sed -n 's/^model name[^:]*: //p' /proc/cpuinfo | head -n 1), best of ${ROUNDS:-5} rounds"
-printf '%-18s %9s %9s %9s %10s\n' '' seconds 'peak MB' '/ scalar' '/ OpenSSL'
+printf '%-26s %9s %9s %9s %10s\n' '' seconds 'peak MB' '/ scalar' '/ OpenSSL'
 for name in "${names[@]}"; do
-  printf '%-18s %5d.%03d %9s %9s %10s\n' "$name" $((best[$name] / 1000000)) $((best[$name] % 1000000 / 1000)) \
+  printf '%-26s %5d.%03d %9s %9s %10s\n' "$name" $((best[$name] / 1000000)) $((best[$name] % 1000000 / 1000)) \
     "$((peak[$name] / 1024)).$((peak[$name] % 1024 * 10 / 1024))" "$(ratio "$name" 'C, scalar SHA-256')" "$(ratio "$name" 'C, OpenSSL')"
 done

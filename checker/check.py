@@ -45,17 +45,20 @@ class Lines:
 
     def next(self, *kinds):
         """The fields of the next line, each by its kind: a word that has to stand there, or a reader of a field."""
+        return self.next_of(kinds)
+
+    def next_of(self, *forms):
+        """The fields of the next line by the first of these lists of kinds that it fits."""
         self.number += 1
         self.file = self.file or open(self.name, "rb")
         line = self.file.readline(min(LONGEST_LINE, self.left))
         self.left -= len(line)
-        fields = line[:-1].split(b" ")
-        if not line.endswith(b"\n") or len(fields) != len(kinds):
-            raise self.malformed()
-        values = [value_of(kind, field) for kind, field in zip(kinds, fields)]
-        if None in values:
-            raise self.malformed()
-        return [value for kind, value in zip(kinds, values) if callable(kind)]
+        fields = line[:-1].split(b" ") if line.endswith(b"\n") else []
+        for kinds in forms:
+            values = [value_of(kind, field) for kind, field in zip(kinds, fields)]
+            if len(fields) == len(kinds) and None not in values:
+                return [value for kind, value in zip(kinds, values) if callable(kind)]
+        raise self.malformed()
 
     def end(self):
         """The line `end`, behind which no byte stands."""
@@ -104,9 +107,9 @@ bytes32 = digits(32)
 
 class Circuit:
     """The wires of an auction, each None for a split wire or the weight of a pair; and the rows, each a list of (factor,
-    wire) with a constant."""
+    wire) with a constant. The winner is None where nothing is sold, and the reserve where the board can't name one."""
 
-    def __init__(self, seals, width, winner, price):
+    def __init__(self, seals, width, reserve, winner, price):
         self.width = width
         self.wires = [None] * (2 * seals)
         self.rows = []
@@ -116,11 +119,17 @@ class Circuit:
             self.rows.append(([(1, j), (-1, copies[j])], 0))
         for j in range(seals):
             self.in_range([(1, copies[j])], 0)
+        if winner is None:
+            for j in range(seals):
+                self.in_range([(-1, copies[j])], reserve - 1)
+            return
         for j in others:
             self.in_range([(1, copies[winner]), (-1, copies[j])], -1 if j < winner else 0)
         for j in others:
             self.in_range([(-1, copies[j])], price)
-        if others:
+        if price == reserve:
+            self.in_range([(1, copies[winner])], -reserve)
+        elif others:
             self.select(others, copies, price)
 
     def in_range(self, terms, constant):
@@ -146,22 +155,28 @@ class Circuit:
 # ---------------------------------------------------------------------------------------------------------------- board
 
 class Board:
-    """What stands on a board before its first lane."""
+    """What stands on a board before its first lane. The winner is None where nothing is sold, and the reserve on a board of
+    version 1."""
 
     def __init__(self, lines):
         self.lines = lines
-        lines.next(b"vickrey-board", b"1")
+        [version] = lines.next(b"vickrey-board", number(1, 2))
         [self.auction] = lines.next(b"auction", bytes16)
         [self.width] = lines.next(b"width", number(1, 40))
         [self.lanes] = lines.next(b"lanes", lane_count)
         [count] = lines.next(b"seals", number(1, 64))
-        [self.winner] = lines.next(b"winner", seat_number)
+        self.reserve, sales = None, [(b"winner", seat_number)]
+        if version == 2:
+            [self.reserve] = lines.next(b"reserve", number(0, 2**64 - 1))
+            sales.append((b"unsold",))
+        [self.winner] = lines.next_of(*sales) or [None]  # `unsold` has no field
         [self.price] = lines.next(b"price", number(0, 2**64 - 1))
         self.seats, self.seals = [], []
         for _ in range(count):
             self.read_seal()
         self.test_outcome()
-        self.circuit = Circuit(count, self.width, self.seats.index(self.winner), self.price)
+        winner = None if self.winner is None else self.seats.index(self.winner)
+        self.circuit = Circuit(count, self.width, self.reserve, winner, self.price)
 
     def read_seal(self):
         [seat] = self.lines.next(b"seal", seat_number)
@@ -171,10 +186,17 @@ class Board:
         self.seals.append([self.lines.next(b"x", bytes32, bytes32) for _ in range(self.lanes)])
 
     def test_outcome(self):
-        if self.price >= 2**self.width or (len(self.seals) == 1 and self.price != 0):
+        if not self.price_stands():
             raise Verdict(1, b"refused %s price" % self.lines.name)
-        if self.winner not in self.seats:
+        if self.winner is not None and self.winner not in self.seats:
             raise Verdict(1, b"refused %s winner" % self.lines.name)
+
+    def price_stands(self):
+        """Whether bids of this width can come to this price, by what the head says alone."""
+        least = self.reserve or 0
+        if self.winner is None:
+            return 0 < least < 2**self.width and self.price == 0
+        return least <= self.price < 2**self.width and (len(self.seals) > 1 or self.price == least)
 
     def read_lane(self, lane):
         """The two digests of each wire in this lane, and the posted number of each row."""

@@ -1,10 +1,12 @@
 #!/usr/bin/env bash
-# checker/compare.sh PROGRAM: runs `verify` of the program and of checker/check.py on auctions that the program makes, and on
-# damaged copies of their files, and compares status and text. The last line says how many of the runs agree.
+# checker/compare.sh PROGRAM: runs `verify` of the program and of checker/check.py on auctions that the program makes, on boards
+# with a reserve that bench/make_board.py makes, and on damaged copies of their files, and compares status and text. The last
+# line says how many of the runs agree.
 set -u
-[ $# -eq 1 ] || { sed -n '2,3p' "$0"; exit 2; }
+[ $# -eq 1 ] || { sed -n '2,4p' "$0"; exit 2; }
 program=$(realpath "$1")
 checker=$(realpath "$(dirname "$0")/check.py")
+maker=$(realpath "$(dirname "$0")/../bench/make_board.py")
 python=$(python3 -c "import sys; print(sys.executable)") # the interpreter itself, which starts faster than what stands for it
 top=$(mktemp -d)
 trap 'rm -rf "$top"' EXIT
@@ -61,15 +63,29 @@ damages() {
   mv whole "$file"
 }
 
-# auction EACH WIDTH LANES BID..: two replies to one board, and damages to the files of each
-auction() {
-  local each=$1 width=$2 lanes=$3 bits other
-  shift 3
-  cd "$(mktemp -d -p "$top")" || exit 1
-  bits=$(printf '%s' 0110100110010110 | head -c "$lanes")
-  other=$(tr 01 10 <<<"$bits")
-  answered "$other" "$width" "$lanes" "$@"
-  answered "$bits" "$width" "$lanes" "$@"
+# heads: the board of version 2 with each reserve, sale and price that is near to what stands there or to a limit
+heads() {
+  local width seat said near reserve sale price
+  cp board whole
+  width=$(sed -n 's/^width //p' whole)
+  seat=$(sed -n 's/^seal //p' whole | head -n 1)
+  mapfile -t said < <(sed -n 's/^reserve //p; s/^price //p' whole)
+  mapfile -t near < <(printf '%s\n' 0 $(((1 << width) - 1)) $((1 << width)) "${said[@]}" $((said[0] + 1)) $((said[1] + 1)) | sort -nu)
+  for reserve in "${near[@]}"; do
+    for sale in unsold "winner $seat" 'winner 65535'; do
+      for price in "${near[@]}"; do
+        case="a head with reserve $reserve, $sale, price $price"
+        { head -n 5 whole; printf 'reserve %s\n%s\nprice %s\n' "$reserve" "$sale" "$price"; tail -n +9 whole; } >board
+        compare board "challenge-$bits" "reply-$bits"
+      done
+    done
+  done
+  mv whole board
+}
+
+# compared EACH: both replies to a board, and damages to the files of each
+compared() {
+  local each=$1
   case=honest
   compare board "challenge-$bits" "reply-$bits"
   compare board "challenge-$other" "reply-$other"
@@ -82,9 +98,36 @@ auction() {
   damages "reply-$bits" "$each"
 }
 
+# auction EACH WIDTH LANES BID..: what both say of an auction by the program
+auction() {
+  local each=$1 width=$2 lanes=$3 bits other
+  shift 3
+  cd "$(mktemp -d -p "$top")" || exit 1
+  bits=$(printf '%s' 0110100110010110 | head -c "$lanes")
+  other=$(tr 01 10 <<<"$bits")
+  answered "$other" "$width" "$lanes" "$@"
+  answered "$bits" "$width" "$lanes" "$@"
+  compared "$each"
+}
+
+# reserved EACH SEALS WIDTH LANES NUMBER RESERVE: what both say of a board of version 2
+reserved() {
+  local each=$1 bits=1 other=2
+  cd "$(mktemp -d -p "$top")" || exit 1
+  "$python" -IS "$maker" "${@:2:4}" . "$6" || exit 1
+  heads
+  compared "$each"
+}
+
 auction 1 1 1 0
 auction 12 2 2 1 3 1
 auction 60 5 3 9 9 30 31 2
+reserved 1 1 2 1 3 unsold
+reserved 7 1 2 1 3 at
+reserved 40 2 2 3 8 unsold
+reserved 40 2 2 3 3 at
+reserved 40 2 2 3 3 above
+reserved 400 5 40 2 1 above
 cd "$(mktemp -d -p "$top")" || exit 1
 case=sample
 if "$program" sample 1 >/dev/null; then

@@ -129,6 +129,11 @@ copy gone
 rm gone/seal-9
 tried 'a seal that is not at hand' gone 1 "$words" 'seat 9 .*no file seal-9'
 
+# a reserve on the board, below the price, so that both checkers accept it
+copy reserved
+sed -i 's/^vickrey-board 1$/vickrey-board 2/; 6i reserve 8' reserved/board
+tried 'a reserve that nobody told of' reserved 1 "$(digest reserved) $id 4 $lanes 7,9,300 $bits" 'it names a reserve'
+
 # another challenge, and a reply to another one
 auction asked "$one" $other 7 9 300
 tried 'another challenge' asked 1 "$words" 'the challenge'

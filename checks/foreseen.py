@@ -11,7 +11,7 @@ import random
 import sys
 
 sys.path.insert(0, os.path.join(os.path.dirname(os.path.abspath(__file__)), "..", "bench"))
-from make_board import M, Circuit, Wire, outcome, write  # noqa: E402
+from make_board import M, Circuit, Wire, head_lines, outcome, write  # noqa: E402
 
 WIDTH = 4
 
@@ -45,15 +45,13 @@ def main(bits, out, lanes, *bidders):
     secrets, false_bids = zip(*((read_secret(name), int(bid)) for name, bid in (word.split("=") for word in bidders)))
     auction, seats = secrets[0][0], [seat for _, seat, _, _ in secrets]
     circuit = Circuit(list(false_bids), WIDTH)
-    winner, price = outcome(list(false_bids))
     lanes = int(lanes)
     wires = []
     for lane in range(lanes):
         inputs = [input_wire(bid, masks[lane], draw) for _, _, bid, masks in secrets]
         others = list(zip(circuit.kinds, circuit.values))[len(seats):]
         wires.append(inputs + [Wire(kind, value, draw) for kind, value in others])
-    board = ["vickrey-board 1", f"auction {auction.hex()}", f"width {WIDTH}", f"lanes {lanes}", f"seals {len(seats)}"]
-    board += [f"winner {seats[winner]}", f"price {price}"]
+    board = head_lines(auction, WIDTH, lanes, seats, outcome(list(false_bids)))
     for place, seat in enumerate(seats):
         board.append(f"seal {seat}")
         board += [f"x {wires[lane][place].digests(auction, seat, lane + 1, 0)}" for lane in range(lanes)]

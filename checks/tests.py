@@ -53,7 +53,7 @@ def rows():
            by_crate(edits), "`rt must-fail NAME..`")
     yield "Tests (`#[test]`)", by_crate(tests), "`rt test` in the crate"
     parts = cases("vectors", streams="streams of words", lists="lists of draws", wires="wires", fours="times four wires", bids="outcomes",
-                  views="views of wires", lanes="views of auctions")
+                  sales="sales", rows="plans with their rows", views="views of wires", lanes="views of auctions")
     wholes = cases("conformance", files="seals and secrets", runs="runs of the program", houses="houses")
     for program, what in (("vectors", parts), ("conformance", wholes)):
         yield (f"`{program}`, a program that replays what independent implementations worked out",

@@ -112,6 +112,10 @@ same "the board's id is the announced one" "$id" "$(head_line board 2 auction)"
 same "the board's width is the announced one" "$width" "$(head_line board 3 width)"
 same "the board's lanes are the announced ones" "$lanes" "$(head_line board 4 lanes)"
 same "the board's seats are the announced ones, in their order" "$seats" "$(board_seats)"
+# Both checkers accept a board with a reserve, and this audit is of an auction without one.
+if start board | head -n 1 | LC_ALL=C grep -aqx 'vickrey-board 2'; then
+  wrong 'the board has the announced terms: it names a reserve, and none was announced'
+fi
 IFS=, read -ra each <<<"$seats"
 for seat in "${each[@]}"; do
   seal_stands "$seat"

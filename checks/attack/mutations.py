@@ -144,7 +144,8 @@ def forge(draw, files, board, reply):
     seals = int(lines[4].split()[1])
     lanes = int(lines[3].split()[1])
     wire = draw.randrange(sum(line[:2] == b"w " for line in lines) // lanes) + seals
-    at, on_board = 3 + wire, 7 + seals * (1 + lanes) + 1 + wire - seals
+    head = next(at for at, line in enumerate(lines) if line[:5] == b"seal ")
+    at, on_board = 3 + wire, head + seals * (1 + lanes) + 1 + wire - seals
     words, digests = shown[at].split(b" "), lines[on_board].split(b" ")
     places = {b"h": [(1, None)], b"a": [(1, 0), (3, 1)], b"s": [(2, int(words[1] == b"1"))]}[words[0]]
     place, entry = draw.choice(places)

@@ -79,20 +79,32 @@ def digest(auction, seat, lane, slot, key, value):
 class Circuit:
     """The wires, each a weight or None for a split one, and the rows, each (factor, wire) and a constant."""
 
-    def __init__(self, seals, width, winner, price):
+    def __init__(self, seals, width):
+        """What every auction shows: each bid has a copy, which is in range."""
         self.kinds = [None] * (2 * seals)
-        self.width, self.rows = width, []
-        others = [j for j in range(seals) if j != winner]
+        self.seals, self.width, self.rows = seals, width, []
         for j in range(seals):
             self.rows.append(([(1, j), (-1, seals + j)], 0))
         for j in range(seals):
             self.in_range([(1, seals + j)], 0)
+
+    def unsold(self, reserve):
+        for j in range(self.seals):
+            self.in_range([(-1, self.seals + j)], reserve - 1)
+        return self
+
+    def sold(self, winner, price, at_reserve):
+        seals = self.seals
+        others = [j for j in range(seals) if j != winner]
         for j in others:
             self.in_range([(1, seals + winner), (-1, seals + j)], -1 if j < winner else 0)
         for j in others:
             self.in_range([(-1, seals + j)], price)
-        if others:
+        if at_reserve:
+            self.in_range([(1, seals + winner)], -price)
+        elif others:
             self.select(others, seals, price)
+        return self
 
     def in_range(self, form, constant):
         first = len(self.kinds)
@@ -119,13 +131,30 @@ class Front:
     width: int
     lanes: int
     seals: int
-    winner: int
-    price: int
+    version: int = 1
+    reserve: int = 0
+    winner: int = None  # none where nothing is sold
+    price: int = 0
     seats: list = field(default_factory=list)
     inputs: list = field(default_factory=list)  # of each seal and lane two digests
 
     def circuit(self):
-        return Circuit(self.seals, self.width, self.seats.index(self.winner), self.price)
+        circuit = Circuit(self.seals, self.width)
+        if self.winner is None:
+            return circuit.unsold(self.reserve)
+        at_reserve = self.version == 2 and self.price == self.reserve
+        return circuit.sold(self.seats.index(self.winner), self.price, at_reserve)
+
+    def refusal(self):
+        """The word for what can't stand in this head, or None."""
+        top = 2**self.width
+        if self.winner is None and (self.reserve == 0 or self.price > 0):
+            return "price"
+        if self.reserve >= top or self.price >= top:
+            return "price"
+        if self.winner is not None and (self.price < self.reserve or self.seals == 1 and self.price != self.reserve):
+            return "price"
+        return None if self.winner in (None, *self.seats) else "winner"
 
 
 def text_of(groups):
@@ -133,10 +162,17 @@ def text_of(groups):
 
 
 def read_front(lines):
-    lines.take(rb"vickrey-board 1")
+    (version,) = lines.take(rb"vickrey-board ([12])")
     (auction,) = text_of(lines.take(rb"auction " + DIGITS_16))
     width, lanes, seals = lines.whole(b"width", 1, 40), lines.whole(b"lanes", 1, 64), lines.whole(b"seals", 1, 64)
-    front = Front(auction, width, lanes, seals, lines.whole(b"winner", 1, 65535), lines.whole(b"price", 0, 2**64 - 1))
+    front = Front(auction, width, lanes, seals, int(version))
+    if front.version == 1:
+        front.winner = lines.whole(b"winner", 1, 65535)
+    else:
+        front.reserve = lines.whole(b"reserve", 0, 2**64 - 1)
+        (seat,) = lines.take(rb"unsold|winner " + NUMBER)
+        front.winner = None if seat is None else lines.within(seat, 1, 65535)
+    front.price = lines.whole(b"price", 0, 2**64 - 1)
     for _ in range(seals):
         seat = lines.whole(b"seal", 1, 65535)
         if seat in front.seats:
@@ -253,11 +289,14 @@ def part(name, read, *given):
 
 def read_judged_front(name, lines):
     front = part(name, read_front, lines)
-    if front.price >= 2**front.width or (front.seals == 1 and front.price):
-        raise Ends(1, f"refused {name} price\n")
-    if front.winner not in front.seats:
-        raise Ends(1, f"refused {name} winner\n")
+    refused = front.refusal()
+    if refused:
+        raise Ends(1, f"refused {name} {refused}\n")
     return front
+
+
+def sale_of(front):
+    return "unsold" if front.winner is None else f"winner {front.winner}"
 
 
 def read_wire(front, lane, wire, kind, digests, shown):
@@ -348,7 +387,9 @@ def extraction(first, differing):
             bid = (value + other) % MODULUS
             bids[seat].add(bid)
             lines.append(f"lane {lane} seat {seat} bid {bid} u {key} {value} v {other_key} {other}")
-    lines.append(f"winner {first.front.winner} price {first.front.price}")
+    priced = f" price {first.front.price}" if first.front.winner else ""
+    reserved = f" reserve {first.front.reserve}" if first.front.version == 2 else ""
+    lines.append(sale_of(first.front) + priced + reserved)
     lines += [f"seat {seat} {'same' if len(bids[seat]) == 1 else 'differs'}" for seat in first.front.seats]
     return "".join(f"{line}\n" for line in [*lines, "end"])
 
@@ -408,8 +449,9 @@ def report(files, name):
     for lane in range(1, front.lanes + 1):
         part(name, read_board_lane, lines, front, circuit, lane)
     part(name, lines.end)
-    numbers = ["auction", "width", "lanes", "seals", "winner", "price"]
-    said = [f"{number} {getattr(front, number)}" for number in numbers] + [f"seat {seat}" for seat in front.seats]
+    said = [f"{number} {getattr(front, number)}" for number in ("auction", "width", "lanes", "seals")]
+    said += [f"reserve {front.reserve}"] if front.version == 2 else []
+    said += [sale_of(front), f"price {front.price}"] + [f"seat {seat}" for seat in front.seats]
     wires, rows = len(circuit.kinds), len(circuit.rows)
     said += [f"wires {wires}", f"rows {rows}", f"commitments {2 * wires * front.lanes}", "end"]
     return "".join(f"{line}\n" for line in said)

@@ -24,17 +24,21 @@ def smallest_files():
     return files | {"secret": secret_of_the_smallest_board()}
 
 
-def reading_scenarios(files):
-    """The commands that write nothing, over the smallest board; what they say is the reference's."""
-    table = {
-        "verify": (reference.verify, ["board", "challenge-0", "reply-0"]),
-        "extract": (reference.extract, ["board", "challenge-0", "reply-0", "challenge-1", "reply-1"]),
-        "confront": (reference.confront, ["board", "challenge-0", "reply-0", "challenge-1", "reply-1", "secret"]),
-        "report": (reference.report, ["board"]),
-    }
-    for name, (command, words) in table.items():
-        status, text = reference.answer(command, files, *words)
-        yield Scenario(name, [name, *words], files, [Step(text.encode())], status)
+def reading_scenarios(files, unsold):
+    """The commands that write nothing, over the smallest board, and two of them over a board that is unsold; what they say is
+    the reference's."""
+    replies = ["challenge-0", "reply-0", "challenge-1", "reply-1"]
+    table = [
+        ("verify", files, ["verify", "board", *replies[:2]]),
+        ("extract", files, ["extract", "board", *replies]),
+        ("confront", files, ["confront", "board", *replies, "secret"]),
+        ("report", files, ["report", "board"]),
+        ("verify, unsold", unsold, ["verify", "board", "challenge-1", "reply-1"]),
+        ("report, unsold", unsold, ["report", "board"]),
+    ]
+    for name, held, words in table:
+        status, text = reference.answer(getattr(reference, words[0]), held, *words[1:])
+        yield Scenario(name, words, held, [Step(text.encode())], status)
 
 
 def seed_of(number):
@@ -128,6 +132,7 @@ class Attacked:
     """All that is attacked."""
 
     files: dict
+    boards: dict
     reading: list
     writing: list
     large: list
@@ -138,19 +143,35 @@ class Attacked:
 
 
 def attacked(made):
-    files = smallest_files()
+    files, made_boards = smallest_files(), boards(made)
     ceremony = ceremony_scenario(made, "ceremony", {7: 15, 9: 9}, 2)
     old = {"secret-7": b"an older secret\n", "seal-7": b"an older seal\n"}
     seals = [seal_scenario(made, "seal", 2, {}), seal_scenario(made, "seal over files", 2, old)]
     three = {7: 15, 9: 9, 300: 4}
     large = [seal_scenario(made, "seal of 64 lanes", 64, {}), ceremony_scenario(made, "ceremony of 8 lanes", three, 8)]
     house = house_scenarios(made, ceremony)
-    return Attacked(files, list(reading_scenarios(files)), [*seals, ceremony, *house], large, sample_scenario(made))
+    reading = list(reading_scenarios(files, made_boards["unsold, one seal"]))
+    return Attacked(files, made_boards, reading, [*seals, ceremony, *house], large, sample_scenario(made))
 
 
-def two_seals(made):
-    """A board of two seals and three lanes with two replies, which bench/make_board.py makes."""
+# Of each board the seals, the width, the lanes, a number whose bids have such a reserve, and what is said of the reserve.
+BOARDS = {
+    "no reserve": ("2", "2", "3", "5"),
+    "above the reserve": ("2", "2", "3", "3", "above"),
+    "at the reserve": ("2", "2", "3", "3", "at"),
+    "unsold": ("2", "2", "3", "8", "unsold"),
+    "no reserve, one seal": ("1", "2", "1", "3"),
+    "at the reserve, one seal": ("1", "2", "1", "3", "at"),
+    "unsold, one seal": ("1", "2", "1", "3", "unsold"),
+}
+
+
+def boards(made):
+    """Boards of both versions with two replies to each, which bench/make_board.py makes."""
     script = os.path.join(REPOSITORY, "bench", "make_board.py")
-    with Folder(made, {}) as folder:
-        subprocess.run([sys.executable, script, "2", "2", "3", "5", folder.path], check=True)
-        return folder.files()
+    found = {}
+    for label, words in BOARDS.items():
+        with Folder(made, {}) as folder:
+            subprocess.run([sys.executable, script, *words[:4], folder.path, *words[4:]], check=True)
+            found[label] = folder.files()
+    return found

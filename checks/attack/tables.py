@@ -11,7 +11,7 @@ from attack import mutations, reference
 from attack.cases import Batch, KilledLater, Limited, LimitedOutput, Output, Refused, SmallDisk, Spelled, Told
 from attack.defined import EFFECT
 from attack.runs import KILLED, Folder, Program
-from attack.subjects import AUCTION, Attacked, seed_of, two_seals
+from attack.subjects import AUCTION, Attacked, seed_of
 
 EVER = 2**62  # a number of calls that no run comes to
 OUTSIDE = "osrwlycCfn"  # the letters of faults.c of all calls but those for memory
@@ -347,6 +347,63 @@ def sizes_of_verify(words, files):
         yield Told(f"verify with {label}", words, (end[0], end[1].encode()), files, lay)
 
 
+def heads(attack):
+    """Heads of boards of both versions: each of their lines at fault, and each sale, reserve and price that is near to what
+    stands there or to a limit. What is said of them is the reference's."""
+    cases = []
+    for label, files in attack.on.boards.items():
+        lines = files["board"].split(b"\n")
+        for change, head in (*bad_heads(lines), *heads_near(lines)):
+            changed_files = files | {"board": b"\n".join(head)}
+            cases += [(f"{label}, {change}", words, changed_files) for words in (["report", "board"], VERIFY)]
+    for label, words, files in attack.some(cases, 300 if attack.quick else 10000):
+        status, text = reference.answer(getattr(reference, words[0]), files, *words[1:])
+        yield Told(f"{words[0]}, {label}", words, (status, text.encode()), files)
+
+
+VERIFY = ["verify", "board", "challenge-1", "reply-1"]
+
+
+def bad_heads(lines):
+    """Boards, by their lines, of which one line of the head is at fault."""
+    for at in range(first_seal(lines)):
+        line, behind = lines[at], lines[at + 1]
+        word, _, rest = line.partition(b" ")
+        ways = {
+            "is gone": [], "stands twice": [line, line], "is empty": [b""], "is the end": [b"end"], "is one word": [word],
+            "has a space behind": [line + b" "], "has two spaces": [line.replace(b" ", b"  ")], "has upper letters": [line.upper()],
+            "has 255 bytes": [line.ljust(255, b"0")], "has 256 bytes": [line.ljust(256, b"0")],
+            "ends with a zero byte": [line + b"\0"], "ends with a carriage return": [line + b"\r"],
+        }
+        ways |= {f"has {number}": [word + b" " + number.encode()] for number in (*mutations.NUMBERS, "3", f"0{rest.decode()}")}
+        for way, text in ways.items():
+            if text != [line]:
+                yield f"line {at + 1} {way}", lines[:at] + text + lines[at + 1 :]
+        if line != behind:
+            yield f"line {at + 1} changes places", lines[:at] + [behind, line] + lines[at + 2 :]
+
+
+def heads_near(lines):
+    """Boards, by their lines, whose head has each sale, reserve and price, its own among them."""
+    first, top = first_seal(lines), 2 ** int(lines[2].split()[1])
+    said = [int(line.split()[1]) for line in lines[5:first] if line.startswith((b"reserve", b"price"))]
+    numbers = sorted({near for number in (0, top, *said) for near in (number - 1, number, number + 1) if near >= 0} | {2**64 - 1})
+    seats = [line.split()[1] for line in lines if line[:5] == b"seal "]
+    other = next(b"%d" % seat for seat in range(1, 4) if b"%d" % seat not in seats)
+    sales = [b"unsold"] + [b"winner " + seat for seat in (*seats, other)]
+    for reserve in [None] if first == 7 else numbers:
+        reserves = [] if reserve is None else [b"reserve %d" % reserve]
+        for sale in sales:
+            for price in numbers:
+                head = [*reserves, sale, b"price %d" % price]
+                yield f"a head with {b', '.join(head).decode()}", lines[:5] + head + lines[first:]
+
+
+def first_seal(lines):
+    """How many lines the head of a board has."""
+    return next(at for at, line in enumerate(lines) if line[:5] == b"seal ")
+
+
 def changed(attack):
     """Files with small changes, against the reference."""
     subjects = changed_subjects(attack)
@@ -356,10 +413,9 @@ def changed(attack):
 
 
 def changed_subjects(attack):
-    smallest, two = attack.on.files, two_seals(attack.made)
-    subjects = []
-    for files, names in ((smallest, ["challenge-0", "reply-0", "challenge-1", "reply-1"]),
-                         (two, ["challenge-1", "reply-1", "challenge-2", "reply-2"])):
+    smallest, subjects, names = attack.on.files, [], ["challenge-1", "reply-1", "challenge-2", "reply-2"]
+    two = [(attack.on.boards[label], names) for label in ("no reserve", "above the reserve", "at the reserve", "unsold")]
+    for files, names in ((smallest, ["challenge-0", "reply-0", "challenge-1", "reply-1"]), *two):
         for at in (0, 2):
             subjects.append(mutations.Subject(["verify", "board", *names[at : at + 2]], files, ("board", names[at + 1])))
         subjects.append(mutations.Subject(["extract", "board", *names], files, ("board", names[3])))
@@ -370,4 +426,4 @@ def changed_subjects(attack):
     return subjects + [mutations.Subject(ceremony.words, ceremony.files)] * 2
 
 
-TABLES = [memory, calls, interrupted, killed, disk, output, places, spellings, sizes, changed]
+TABLES = [memory, calls, interrupted, killed, disk, output, places, spellings, sizes, heads, changed]
