@@ -1,4 +1,5 @@
 pub mod Places
 pub mod Rows
+pub mod Firsts
 pub mod Joins
 pub mod Orders

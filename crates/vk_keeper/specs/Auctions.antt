@@ -32,15 +32,27 @@ pub record IsSealRow (auction : List ℕ) (width lanes : ℕ) (row : SealRow) : 
   pub matched : match_of row.secret row.seal ≡ Ok tt
   pub small_bid : row.secret.bid < 2 ^ width
 
--- an auction: up to 64 seals whose seats differ, and at least one, a seed and a bit for each lane in the
--- phases that have them
+-- the version of an auction's board, 1 or 2, and its reserve: below 2^width, and 0 in version 1, which names none
+pub record IsTerms (version width reserve : ℕ) : Type 0 where
+  pub least : 1 ≤ version
+  pub most : version ≤ 2
+  pub small : reserve < 2 ^ width
+  pub unnamed : version ≢ 2 → reserve ≡ 0
+
+-- what is kept beside the terms: up to 64 seals whose seats differ, and at least one, a seed and a bit for each lane
+-- in the phases that have them
+pub record IsHeld (auction : List ℕ) (width lanes : ℕ) (phase : Phase) (seals : List SealRow) : Type 0 where
+  pub id : AreBytes 16 auction
+  pub size : IsSize width lanes
+  pub few_seals : length seals ≤ 64
+  pub rows : All (IsSealRow auction width lanes) seals
+  pub seats : AllPairs (λ earlier later. earlier.seal.seat ≢ later.seal.seat) seals
+  pub some_seal : IfSome (seed_of phase) (λ seed. 1 ≤ length seals)
+  pub seed : IfSome (seed_of phase) (AreBytes 32)
+  pub challenge : IfSome (challenge_of phase) IsChallenge
+  pub bits : IfSome (challenge_of phase) (λ challenge. length challenge.bits ≡ lanes)
+
+-- an auction: what is held of it, on its terms
 pub record IsAuction (auction : Auction) : Type 0 where
-  pub id : AreBytes 16 auction.id
-  pub size : IsSize auction.width auction.lanes
-  pub few_seals : length auction.seals ≤ 64
-  pub rows : All (IsSealRow auction.id auction.width auction.lanes) auction.seals
-  pub seats : AllPairs (λ earlier later. earlier.seal.seat ≢ later.seal.seat) auction.seals
-  pub some_seal : IfSome (seed_of auction.phase) (λ seed. 1 ≤ length auction.seals)
-  pub seed : IfSome (seed_of auction.phase) (AreBytes 32)
-  pub challenge : IfSome (challenge_of auction.phase) IsChallenge
-  pub bits : IfSome (challenge_of auction.phase) (λ challenge. length challenge.bits ≡ auction.lanes)
+  pub held : IsHeld auction.id auction.width auction.lanes auction.phase auction.seals
+  pub terms : IsTerms auction.version auction.width auction.reserve

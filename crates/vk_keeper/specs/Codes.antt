@@ -10,7 +10,7 @@ use Rattle.vk_keeper.specs.declared.auction.Phase.TheVariants.{Taking, Proved, A
 use Rattle.vk_keeper.specs.declared.auction.SealRow.{SealRow}
 use Rattle.vk_keeper.specs.declared.auction.Auction.{Auction}
 
--- of two numbers
+-- a code of what two numbers make
 abbrev pub numbers_code : {X : Type 0} (parts : X → ℕ × ℕ) (whole : ℕ × ℕ → X) → ((x : X) → whole (parts x) ≡ x) → Coded X
 numbers_code = code_by (ℕ × ℕ) (coded× coded_ℕ coded_ℕ)
 
@@ -68,5 +68,7 @@ phase_code =
 
 abbrev pub auction_code : Coded Auction
 auction_code =
-    code_by (List ℕ × (ℕ × (ℕ × (Phase × List SealRow)))) (coded× bytes_code (coded× coded_ℕ (coded× coded_ℕ (coded× phase_code (coded_list row_code)))))
-    (λ a. (a.id, (a.width, (a.lanes, (a.phase, a.seals))))) (λ p. record { id = p.0; width = p.1.0; lanes = p.1.1.0; phase = p.1.1.1.0; seals = p.1.1.1.1 }) (λ _. refl)
+    code_by (List ℕ × (ℕ × (ℕ × (ℕ × (ℕ × (Phase × List SealRow))))))
+    (coded× bytes_code (coded× coded_ℕ (coded× coded_ℕ (coded× coded_ℕ (coded× coded_ℕ (coded× phase_code (coded_list row_code)))))))
+    (λ a. (a.id, (a.version, (a.width, (a.lanes, (a.reserve, (a.phase, a.seals)))))))
+    (λ p. record { id = p.0; version = p.1.0; width = p.1.1.0; lanes = p.1.1.1.0; reserve = p.1.1.1.1.0; phase = p.1.1.1.1.1.0; seals = p.1.1.1.1.1.1 }) (λ _. refl)

@@ -25,16 +25,19 @@ first_of (None ∷ rest) = first_of rest
 abbrev pub is_taken : ℕ → List SealRow → Bool
 is_taken seat held = list_any (λ row. row.seal.seat == seat) held
 
--- why a seal and its secret may not join an auction: the first of these tests that holds
-abbrev pub join_refusal : Auction → Seal → Secret → Option Refusal
-join_refusal auction seal secret = first_of
-    (refused_if (nat_le 64 (length auction.seals)) Full
-    ∷ refused_if (not (bytes_eq seal.auction auction.id)) (OtherAuction seal.auction)
-    ∷ refused_if (is_taken seal.seat auction.seals) SeatTaken
-    ∷ refused_if (not (length seal.lanes == auction.lanes)) (Length auction.lanes (length seal.lanes))
-    ∷ refused_if (nat_le (2 ^ auction.width) secret.bid) BidTooLarge
+-- why a seal and its secret may not join what is held of an auction: the first of these tests that holds
+abbrev pub held_refusal : (auction : List ℕ) (width lanes : ℕ) (held : List SealRow) → Seal → Secret → Option Refusal
+held_refusal auction width lanes held seal secret = first_of
+    (refused_if (nat_le 64 (length held)) Full
+    ∷ refused_if (not (bytes_eq seal.auction auction)) (OtherAuction seal.auction)
+    ∷ refused_if (is_taken seal.seat held) SeatTaken
+    ∷ refused_if (not (length seal.lanes == lanes)) (Length lanes (length seal.lanes))
+    ∷ refused_if (nat_le (2 ^ width) secret.bid) BidTooLarge
     ∷ option_map Mismatch (result_err (match_of secret seal))
     ∷ [])
+
+abbrev pub join_refusal : Auction → Seal → Secret → Option Refusal
+join_refusal auction = held_refusal auction.id auction.width auction.lanes auction.seals
 
 -- the auction with this row last
 abbrev pub with_last : Auction → SealRow → Auction

@@ -1,4 +1,5 @@
 pub mod Auctions
+pub mod First
 pub mod Ledgers
 pub mod Turns
 pub mod Joining

@@ -16,8 +16,10 @@ impl Auction {
         let seals = copy_rows(alloc, self.seals.as_slice())?;
         Ok(Auction {
             id: self.id,
+            version: self.version,
             width: self.width,
             lanes: self.lanes,
+            reserve: self.reserve,
             phase,
             seals,
         })

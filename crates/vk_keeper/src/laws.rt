@@ -1,12 +1,15 @@
 //! What holds of all auctions and ledgers.
 
-ghost use Rattle.std.specs.Prelude.{◌≡◌, ◌↔◌, ◌+◌, ◌-◌, ◌<◌, ◌≤◌, ◌^◌, ◌⊎◌, List, [], ◌∷◌, length, None};
-ghost use Rattle.std.specs.FinMap.{insert};
+ghost use Rattle.std.specs.Prelude.{◌≡◌, ◌↔◌, ◌+◌, ◌-◌, ◌<◌, ◌≤◌, ◌^◌, ◌⊎◌, ℕ, List, [], ◌∷◌, length, map, None, option_map};
+ghost use Rattle.std.specs.FinMap.{get, insert};
 ghost use Rattle.vk_seal.specs.Values.{IsSeal, IsSecret};
 ghost use Rattle.vk_keeper.specs.Auctions.{IsAuction};
+ghost use Rattle.vk_keeper.specs.First.{FirstLedger, first_ledger_in, lifted, lifted_ledger};
 ghost use Rattle.vk_keeper.specs.Joining.{join_refusal, with_last};
+ghost use Rattle.vk_keeper.specs.Kept.{ledger_in};
 ghost use Rattle.vk_keeper.specs.Ledgers.{Ledger, IsLedger};
 ghost use Rattle.vk_keeper.specs.Turns.{Call, Get, Put, Turns, GetsOnce, turns_after_all};
+ghost use Rattle.vk_keeper.specs.declared.auction.FirstAuction.{FirstAuction};
 ghost use Rattle.vk_keeper.specs.declared.auction.SealRow.{SealRow};
 ghost use Rattle.vk_keeper.specs.declared.auction.Auction.{Auction};
 
@@ -20,6 +23,14 @@ pub fn what_may_join_makes_an_auction()
 pub fn a_ledger_with_an_auction_is_a_ledger()
     ensures { (kept : Ledger) (auction : Auction) → IsLedger kept → IsAuction auction
         → IsLedger (insert kept auction.id auction) }
+{}
+
+/// A law: a ledger lifted has under each id what stood there, lifted. It is what the auctions make once each is lifted.
+pub fn a_lifted_ledger_has_each_auction_lifted()
+    ensures each { (firsts : FirstLedger) (id : List ℕ)
+        → get (lifted_ledger firsts) id ≡ option_map lifted (get firsts id) }
+    ensures whole { (firsts : List FirstAuction)
+        → ledger_in (map lifted firsts) ≡ lifted_ledger (first_ledger_in firsts) }
 {}
 
 /// A law: below the greatest u64, `GetsOnce` is said of one `get`, alone or with one `put` after it,

@@ -1,13 +1,17 @@
-ghost use Rattle.std.specs.Prelude.{◌≡◌, ◌++◌, ◌↔◌, [], ◌∷◌, IfSome, IfOk, IfErr, OnOk, OnErr, IsErr, IsErrOf, IsTrue};
+ghost use Rattle.std.specs.Prelude.{◌≡◌, ◌≢◌, ◌++◌, ◌↔◌, [], ◌∷◌, All, AllPairs, IfSome, IfOk, IfErr, OnOk, OnErr, IsErr, IsErrOf, IsTrue};
+ghost use Rattle.std.specs.Prelude as list;
 ghost use Rattle.std.specs.FinMap as map;
 ghost use Rattle.vk_io.specs.Faults.{Causes, fails_next, fails_too, after_call};
 ghost use Rattle.vk_keeper.specs.Auctions.{IsAuction};
+ghost use Rattle.vk_keeper.specs.First.{IsFirstAuction, lifted};
+ghost use Rattle.vk_keeper.specs.Kept.{AreKept, ledger_in};
 ghost use Rattle.vk_keeper.specs.Ledgers.{IsLedger};
 ghost use Rattle.vk_keeper.specs.Turns.{AfterGet, AfterPut};
 
-use crate::auction::Auction;
+use crate::auction::{Auction, FirstAuction};
 use crate::keeper::Keeper;
 use crate::kept::{copy_of, keep};
+use crate::lifting::lifted_each;
 use crate::turns::TurnCount;
 use std::alloc::Global;
 use std::marker::Model;
@@ -48,8 +52,34 @@ impl MemKeeper {
           turns = record { calls = 0; last_get = 0 };
         } }
     {
+        MemKeeper::holding(alloc, Vec::new(alloc))
+    }
+
+    /// These auctions, each lifted, and no call that is to fail. Errs for want of memory alone.
+    pub fn lifted(alloc: Global, firsts: Vec<FirstAuction>) -> Result<MemKeeper, NoMemory>
+        requires each { All IsFirstAuction firsts.items }
+        requires ids { AllPairs (λ earlier later. earlier ≢ later) (list.map (λ first. first.id) firsts.items) }
+        ensures { IfOk result (λ keeper. keeper ≡ record {
+          ledger = ledger_in (list.map lifted firsts.items);
+          calls = record { made = 0; failing = []; faults = 0 };
+          turns = record { calls = 0; last_get = 0 };
+        }) }
+    {
+        let auctions = lifted_each(alloc, firsts)?;
+        Ok(MemKeeper::holding(alloc, auctions))
+    }
+
+    /// These auctions, with no call made yet.
+    fn holding(alloc: Global, auctions: Vec<Auction>) -> MemKeeper
+        requires { AreKept auctions.items }
+        ensures { result ≡ record {
+          ledger = ledger_in auctions.items;
+          calls = record { made = 0; failing = []; faults = 0 };
+          turns = record { calls = 0; last_get = 0 };
+        } }
+    {
         MemKeeper {
-            auctions: Vec::new(alloc),
+            auctions,
             calls: CallCount::new(alloc),
             turns: TurnCount::new(),
             alloc,
