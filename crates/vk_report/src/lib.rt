@@ -13,5 +13,5 @@ pub use laws::{
 };
 pub use reading::read_report;
 pub use report::{Report, ReportErr};
-pub use sample::{LANES, SEALS, SampleCase, WIDTH, sample_case};
+pub use sample::{SampleCase, Sizes, case_of, digest_at, sample_case};
 pub use writing::{report_lines, report_text};
