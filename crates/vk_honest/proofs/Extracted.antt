@@ -1,5 +1,5 @@
 -- Two replies of an honest auctioneer give the bids that were sealed.
-use Rattle.std.proofs.Common.{◌≡◌, ℕ, zero, suc, ◌+◌, ◌-◌, ◌<◌, ◌≤◌, All, Bool, true, false, List, [], ◌∷◌, length, map, get_or, refl, sym, ap, subst, ◌∙◌, arith, eq-eqb}
+use Rattle.std.proofs.Common.{◌≡◌, ℕ, zero, suc, ◌+◌, ◌-◌, ◌<◌, ◌≤◌, All, Bool, true, false, List, [], ◌∷◌, length, map, get_or, Some, refl, sym, ap, subst, ◌∙◌, arith, eq-eqb}
 use Rattle.std.specs.Prelude.{◌≢◌, ◌==◌, ◌&&◌, slice_get, slice_index, slice_index_or}
 use Rattle.std.specs.List.{list_all}
 use Rattle.std.proofs.lemmas.List.{ext_get_or, get_or-map, length-map}
@@ -10,6 +10,7 @@ use Rattle.vk_commit.specs.declared.place.Opening.{Opening}
 use Rattle.vk_wire.specs.declared.wire.Shown.{Shown}
 use Rattle.vk_wire.specs.declared.wire.Shown.TheVariants.{Half}
 use Rattle.vk_board.specs.declared.front.Front.{Front}
+use Rattle.vk_board.specs.Reading as board
 use Rattle.vk_extractor.specs.Confronting.{secret_opening}
 use Rattle.vk_extractor.specs.FirstClash.{WireAgrees}
 use Rattle.vk_reply.specs.declared.challenge.Challenge.{Challenge}
@@ -32,14 +33,15 @@ use Rattle.vk_keeper.specs.Auctions.{IsSealRow}
 use Rattle.vk_keeper.specs.declared.auction.Auction.{Auction}
 use Rattle.vk_keeper.specs.declared.auction.SealRow.{SealRow}
 use Rattle.vk_job.specs.Jobs.{IsProvedAuction, proof_of}
-use Rattle.vk_job.specs.Proofs.{no_row}
+use Rattle.vk_job.specs.Proofs.{ProofValue, lane_shown_in, no_row, seal_lines_of}
 use Rattle.vk_job.specs.Published.{IsChallengeTo, board_of, reply_of, shown_from, shown_in}
 use Rattle.vk_job.proofs.Drawing.{lanes_of}
-use Rattle.vk_honest.specs.Answers.{front_of}
-use Rattle.vk_honest.specs.Extracted.{BidsAreEqual, RepliesGiveBids, TurnedOpenAll, bid_in_lane, bids_in_lane, sealed_bids}
+use Rattle.vk_honest.specs.Answers.{IsSealedProof, front_of}
+use Rattle.vk_honest.specs.Extracted.{BidsAreEqual, RepliesGiveBids, TurnedOpenAll, bid_in_lane, bids_in_lane, rows_in_lane, sealed_bids}
 use Rattle.vk_honest.proofs.Accepted.{accepts, shown_at}
+use Rattle.vk_honest.proofs.Cases.{seats_are}
 use Rattle.vk_honest.proofs.Differing.{DiffersIn, all_differ, length-differing_turned, turned_differ}
-use Rattle.vk_honest.proofs.Fronts.{seats_on_board, sealed}
+use Rattle.vk_honest.proofs.Fronts.{sealed}
 use Rattle.vk_honest.proofs.Opened.{half_shown, shown_agree, shown_either}
 
 no_opening : Opening
@@ -59,55 +61,57 @@ same_bid one other seat bid first second =
     ap (λ s. of s one.bid one.first one.second) seat
     ∙ (ap (λ b. of other.seat b one.first one.second) bid ∙ (ap (λ u. of other.seat other.bid u one.second) first ∙ ap (of other.seat other.bid other.first) second))
 
-module _ (auction : Auction) (proved : IsProvedAuction auction) (lane : ℕ) (some : 1 ≤ lane) (within : lane ≤ auction.lanes) (bids : List OpenedBid)
-    (shown : AreShownIn (shown_in auction lane false) (shown_in auction lane true) bids) (shows : ShowsOutcome (front_of auction) lane bids) where
+module _ (width : ℕ) (proof : ProofValue) (is : IsSealedProof width proof) (lane : ℕ) (some : 1 ≤ lane) (within : lane ≤ proof.lanes) (bids : List OpenedBid)
+    (shown : AreShownIn (lane_shown_in proof lane false) (lane_shown_in proof lane true) bids)
+    (one_each : map (λ (bid : OpenedBid). bid.seat) bids ≡ board.seats_of (map seal_lines_of proof.rows))
+    (sums : (index : ℕ) (bid : OpenedBid) → slice_get bids index ≡ Some bid → bid.bid ≡ sum bid.first.value bid.second.value) where
   -- one for each seal, at its seat
-  seats_same : map (λ (bid : OpenedBid). bid.seat) bids ≡ map (λ (row : SealRow). row.seal.seat) auction.seals
-  seats_same = shows.one_each ∙ seats_on_board auction
+  seats_same : map (λ (bid : OpenedBid). bid.seat) bids ≡ map (λ (row : SealRow). row.seal.seat) proof.rows
+  seats_same = one_each ∙ seats_are proof.rows
 
-  count_same : length bids ≡ length auction.seals
-  count_same = sym (length-map bids (λ bid. bid.seat)) ∙ (ap length seats_same ∙ length-map auction.seals (λ row. row.seal.seat))
+  count_same : length bids ≡ length proof.rows
+  count_same = sym (length-map bids (λ bid. bid.seat)) ∙ (ap length seats_same ∙ length-map proof.rows (λ row. row.seal.seat))
 
   -- both halves are the secret's, so their sum is its bid
-  bid_same : (index : ℕ) → index < length bids → get_or bids index no_bid ≡ bid_in_lane lane (get_or auction.seals index no_row)
+  bid_same : (index : ℕ) → index < length bids → get_or bids index no_bid ≡ bid_in_lane lane (get_or proof.rows index no_row)
   bid_same index lt =
-      let inside : index < length auction.seals = omega (arith, count_same) in
+      let inside : index < length proof.rows = omega (arith, count_same) in
       let bid = get_or bids index no_bid in
-      let row = get_or auction.seals index no_row in
-      let right : IsSealRow auction.id auction.width auction.lanes row = proved.right.rows index no_row inside in
+      let row = get_or proof.rows index no_row in
+      let right : IsSealRow proof.id width proof.lanes row = is.rows index no_row inside in
       let here = slice_get-get_or bids index no_bid lt in
       let halves = shown index bid here in
-      let first : bid.first ≡ secret_opening row.secret lane false = same_half _ _ (sym halves.0 ∙ half_shown auction proved lane some within false index inside) in
-      let second : bid.second ≡ secret_opening row.secret lane true = same_half _ _ (sym halves.1 ∙ half_shown auction proved lane some within true index inside) in
-      let last : lane ≤ length row.secret.lanes = omega (arith, lanes_of auction.id auction.width auction.lanes row right) in
+      let first : bid.first ≡ secret_opening row.secret lane false = same_half _ _ (sym halves.0 ∙ half_shown width proof is lane some within false index inside) in
+      let second : bid.second ≡ secret_opening row.secret lane true = same_half _ _ (sym halves.1 ∙ half_shown width proof is lane some within true index inside) in
+      let last : lane ≤ length row.secret.lanes = omega (arith, lanes_of proof.id width proof.lanes row right) in
       same_bid bid (bid_in_lane lane row)
       (sym (get_or-map (λ (b : OpenedBid). b.seat) bids index no_bid 0 lt)
-      ∙ (ap (λ seats. slice_index seats index) seats_same ∙ get_or-map (λ (r : SealRow). r.seal.seat) auction.seals index no_row 0 inside))
-      ((shows.opened index bid here).is_sum
+      ∙ (ap (λ seats. slice_index seats index) seats_same ∙ get_or-map (λ (r : SealRow). r.seal.seat) proof.rows index no_row 0 inside))
+      (sums index bid here
       ∙ (ap (λ (u : Opening). sum u.value bid.second.value) first
       ∙ (ap (λ (v : Opening). sum (secret_opening row.secret lane false).value v.value) second ∙ halves_sum row.secret lane right.secret some last)))
       first second
 
-  bids_same : bids ≡ map (bid_in_lane lane) auction.seals
+  pub bids_same : bids ≡ map (bid_in_lane lane) proof.rows
   bids_same =
-      let long : length (map (bid_in_lane lane) auction.seals) ≡ length auction.seals = length-map auction.seals (bid_in_lane lane) in
-      ext_get_or no_bid bids (map (bid_in_lane lane) auction.seals) (count_same ∙ sym long)
-      (λ index lt. bid_same index lt ∙ sym (get_or-map (bid_in_lane lane) auction.seals index no_row no_bid (omega (arith, count_same))))
+      let long : length (map (bid_in_lane lane) proof.rows) ≡ length proof.rows = length-map proof.rows (bid_in_lane lane) in
+      ext_get_or no_bid bids (map (bid_in_lane lane) proof.rows) (count_same ∙ sym long)
+      (λ index lt. bid_same index lt ∙ sym (get_or-map (bid_in_lane lane) proof.rows index no_row no_bid (omega (arith, count_same))))
 
 -- ---- lane by lane
 
 -- what is true of the numbers of lanes
-of_numbers : (P : ℕ → Type 0) (lanes : List LaneBids) → All P (map (λ (lane : LaneBids). lane.number) lanes) → All (λ (lane : LaneBids). P lane.number) lanes
+pub of_numbers : (P : ℕ → Type 0) (lanes : List LaneBids) → All P (map (λ (lane : LaneBids). lane.number) lanes) → All (λ (lane : LaneBids). P lane.number) lanes
 of_numbers P lanes all k d lt =
     let long : length (map (λ (lane : LaneBids). lane.number) lanes) ≡ length lanes = length-map lanes (λ lane. lane.number) in
     subst P (get_or-map (λ (lane : LaneBids). lane.number) lanes k d 0 lt) (all k 0 (omega arith))
 
 -- the same value by its parts
-lane_same : (one : LaneBids) (bids : List OpenedBid) → one.bids ≡ bids → one ≡ record { number = one.number; bids = bids }
+pub lane_same : (one : LaneBids) (bids : List OpenedBid) → one.bids ≡ bids → one ≡ record { number = one.number; bids = bids }
 lane_same one bids same = let of : List OpenedBid → LaneBids = λ bs. record { number = one.number; bids = bs } in ap of same
 
 -- lanes that follow from their numbers
-by_number : (of : ℕ → LaneBids) (lanes : List LaneBids) → All (λ (lane : LaneBids). lane ≡ of lane.number) lanes → lanes ≡ map of (map (λ (lane : LaneBids). lane.number) lanes)
+pub by_number : (of : ℕ → LaneBids) (lanes : List LaneBids) → All (λ (lane : LaneBids). lane ≡ of lane.number) lanes → lanes ≡ map of (map (λ (lane : LaneBids). lane.number) lanes)
 by_number of [] all = refl
 by_number of (lane ∷ lanes) all =
     let P : LaneBids → Type 0 = λ lane. lane ≡ of lane.number in
@@ -155,7 +159,7 @@ module _ (auction : Auction) (proved : IsProvedAuction auction) (first second : 
   agrees lane is wire inside =
       let P : List Shown → Type 0 = λ zeros. WireAgrees zeros (shown_in auction lane true) wire in
       let Q : List Shown → Type 0 = λ ones. WireAgrees (shown_of two false lane) ones wire in
-      subst Q (sym (is.shown true)) (subst P (sym (is.shown false)) (shown_agree auction proved lane is.some is.within wire))
+      subst Q (sym (is.shown true)) (subst P (sym (is.shown false)) (shown_agree auction.width (proof_of auction) (sealed auction proved) lane is.some is.within wire))
 
   record GivesBids (extraction : Extraction) : Type 0 where
     found : Extracted
@@ -175,7 +179,8 @@ module _ (auction : Auction) (proved : IsProvedAuction auction) (first second : 
       let P : List Shown → Type 0 = λ zeros. AreShownIn zeros (shown_of two true lane.number) lane.bids in
       let Q : List Shown → Type 0 = λ ones. AreShownIn (shown_in auction lane.number false) ones lane.bids in
       lane_same lane (map (bid_in_lane lane.number) auction.seals)
-      (bids_same auction proved lane.number is.some is.within lane.bids (subst Q (is.shown true) (subst P (is.shown false) shown)) shows)
+      (bids_same auction.width (proof_of auction) (sealed auction proved) lane.number is.some is.within lane.bids (subst Q (is.shown true) (subst P (is.shown false) shown))
+      shows.one_each (λ index bid here. (shows.opened index bid here).is_sum))
 
   found_is : (found : Extracted) → IsExtraction two found → found ≡ sealed_bids auction first second
   found_is found right =
@@ -199,20 +204,20 @@ one_bid [] index lane other = refl
 one_bid (row ∷ rows) zero lane other = refl
 one_bid (row ∷ rows) (suc index) lane other = one_bid rows index lane other
 
-all_equal : (auction : Auction) (index value : ℕ) (lanes : List ℕ) → ((lane : ℕ) → bid_in index (bids_in_lane auction lane) ≡ value)
-    → list_all (λ lane. bid_in index lane == value) (map (bids_in_lane auction) lanes) ≡ true
-all_equal auction index value [] equal = refl
-all_equal auction index value (lane ∷ lanes) equal =
-    let rest = list_all (λ lane. bid_in index lane == value) (map (bids_in_lane auction) lanes) in
-    ap (λ test. test && rest) (eq-eqb (bid_in index (bids_in_lane auction lane)) value (equal lane)) ∙ all_equal auction index value lanes equal
+all_equal : (rows : List SealRow) (index value : ℕ) (lanes : List ℕ) → ((lane : ℕ) → bid_in index (rows_in_lane rows lane) ≡ value)
+    → list_all (λ lane. bid_in index lane == value) (map (rows_in_lane rows) lanes) ≡ true
+all_equal rows index value [] equal = refl
+all_equal rows index value (lane ∷ lanes) equal =
+    let rest = list_all (λ lane. bid_in index lane == value) (map (rows_in_lane rows) lanes) in
+    ap (λ test. test && rest) (eq-eqb (bid_in index (rows_in_lane rows lane)) value (equal lane)) ∙ all_equal rows index value lanes equal
 
-equal_in : (auction : Auction) (index : ℕ) (lanes : List ℕ) → has_one_bid index (map (bids_in_lane auction) lanes) ≡ true
-equal_in auction index [] = refl
-equal_in auction index (lane ∷ lanes) =
-    all_equal auction index (bid_in index (bids_in_lane auction lane)) (lane ∷ lanes) (λ other. one_bid auction.seals index other lane)
+pub equal_in : (rows : List SealRow) (index : ℕ) (lanes : List ℕ) → has_one_bid index (map (rows_in_lane rows) lanes) ≡ true
+equal_in rows index [] = refl
+equal_in rows index (lane ∷ lanes) =
+    all_equal rows index (bid_in index (rows_in_lane rows lane)) (lane ∷ lanes) (λ other. one_bid rows index other lane)
 
 pub bids_are_equal : BidsAreEqual
-bids_are_equal auction first second index = equal_in auction index (differing 1 first.bits second.bits)
+bids_are_equal auction first second index = equal_in auction.seals index (differing 1 first.bits second.bits)
 
 pub turned_open_all : TurnedOpenAll
 turned_open_all auction first second is turned = (

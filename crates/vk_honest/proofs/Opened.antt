@@ -1,4 +1,4 @@
--- What an honest auctioneer shows of a seal in a lane is a half of its secret, and what it shows of the lane for both
+-- What an honest prover shows of a seal in a lane is a half of its secret, and what it shows of the lane for both
 -- bits agrees.
 use Rattle.std.proofs.Common.{◌≡◌, ℕ, ◌<◌, ◌≤◌, Bool, true, false, List, length, get_or, refl, sym, ap, subst, ◌∙◌, arith, inl, inr}
 use Rattle.std.specs.Prelude.{◌≢◌, if◌then◌else◌, slice_index, slice_index_or}
@@ -20,12 +20,9 @@ use Rattle.vk_prover.specs.Honest.{no_tape, shown_of}
 use Rattle.vk_prover.proofs.Accepted.{IsHonest}
 use Rattle.vk_prover.proofs.Wires.{get_or-each_wire, inputs_within, length-each_wire}
 use Rattle.vk_bids.specs.Gathering.{shown_for}
-use Rattle.vk_keeper.specs.declared.auction.Auction.{Auction}
-use Rattle.vk_job.specs.Jobs.{IsProvedAuction, lane_tape, plan_of, proof_of, seats_of, values_of}
-use Rattle.vk_job.specs.Proofs.{lane_shown_in, no_row}
-use Rattle.vk_job.specs.Published.{shown_in}
-use Rattle.vk_honest.proofs.Cases.{bid_at, is_honest, tape_at}
-use Rattle.vk_honest.proofs.Fronts.{inputs_are, sealed}
+use Rattle.vk_job.specs.Proofs.{ProofValue, lane_shown_in, lane_tape_in, no_row}
+use Rattle.vk_honest.specs.Answers.{IsSealedProof}
+use Rattle.vk_honest.proofs.Cases.{bid_at, is_honest, seats_in, tape_at}
 
 -- ---- one wire
 
@@ -51,45 +48,45 @@ half_is secret lane false = refl
 
 -- ---- one lane
 
-module _ (auction : Auction) (proved : IsProvedAuction auction) (lane : ℕ) (some : 1 ≤ lane) (within : lane ≤ auction.lanes) where
-  abbrev honest : IsHonest (plan_of auction) (seats_of auction) (values_of auction) (lane_tape auction lane)
-  honest = is_honest auction.width (proof_of auction) (sealed auction proved) lane some within
+module _ (width : ℕ) (proof : ProofValue) (is : IsSealedProof width proof) (lane : ℕ) (some : 1 ≤ lane) (within : lane ≤ proof.lanes) where
+  abbrev honest : IsHonest proof.plan (seats_in proof) proof.values (lane_tape_in proof lane)
+  honest = is_honest width proof is lane some within
 
   -- what is shown of a wire
-  wire_shown : (bit : Bool) (wire : ℕ) → wire < length (plan_of auction).kinds
-      → slice_index_or (shown_in auction lane bit) wire nothing_shown
-      ≡ shown_wire (slice_index_or (plan_of auction).kinds wire Split) (slice_index (values_of auction) wire) (slice_index_or (lane_tape auction lane) wire no_tape) bit
+  wire_shown : (bit : Bool) (wire : ℕ) → wire < length proof.plan.kinds
+      → slice_index_or (lane_shown_in proof lane bit) wire nothing_shown
+      ≡ shown_wire (slice_index_or proof.plan.kinds wire Split) (slice_index proof.values wire) (slice_index_or (lane_tape_in proof lane) wire no_tape) bit
   unfolding lane_shown_in
   wire_shown bit wire lt =
-      get_or-each_wire (shown_of bit) 0 (plan_of auction).kinds (values_of auction) (lane_tape auction lane) wire nothing_shown lt honest.values_hold.one_each honest.tape_is.one_each
+      get_or-each_wire (shown_of bit) 0 proof.plan.kinds proof.values (lane_tape_in proof lane) wire nothing_shown lt honest.values_hold.one_each honest.tape_is.one_each
 
-  shown_count : (bit : Bool) → length (shown_in auction lane bit) ≡ length (plan_of auction).kinds
+  shown_count : (bit : Bool) → length (lane_shown_in proof lane bit) ≡ length proof.plan.kinds
   unfolding lane_shown_in
-  shown_count bit = length-each_wire (shown_of bit) 0 (plan_of auction).kinds (values_of auction) (lane_tape auction lane) honest.values_hold.one_each honest.tape_is.one_each
+  shown_count bit = length-each_wire (shown_of bit) 0 proof.plan.kinds proof.values (lane_tape_in proof lane) honest.values_hold.one_each honest.tape_is.one_each
 
   -- of a seal: the half that its secret has
-  pub half_shown : (bit : Bool) (input : ℕ) → input < length auction.seals
-      → slice_index_or (shown_in auction lane bit) input nothing_shown ≡ Half (secret_opening (get_or auction.seals input no_row).secret lane bit)
+  pub half_shown : (bit : Bool) (input : ℕ) → input < length proof.rows
+      → slice_index_or (lane_shown_in proof lane bit) input nothing_shown ≡ Half (secret_opening (get_or proof.rows input no_row).secret lane bit)
   half_shown bit input lt =
-      let plan = plan_of auction in
-      let few : plan.inputs ≤ length plan.kinds = inputs_within plan (sealed auction proved).right.plan in
-      let inside : input < plan.inputs = omega (arith, inputs_are auction) in
-      let split : slice_index_or plan.kinds input Split ≡ Split = get_or_from_slice_get plan.kinds input Split Split ((sealed auction proved).right.plan.inputs_are_split input inside) in
-      let value = slice_index (values_of auction) input in
-      let tape = slice_index_or (lane_tape auction lane) input no_tape in
-      let secret = (get_or auction.seals input no_row).secret in
+      let plan = proof.plan in
+      let few : plan.inputs ≤ length plan.kinds = inputs_within plan is.right.plan in
+      let inside : input < plan.inputs = omega (arith, is.right.one_input_each) in
+      let split : slice_index_or plan.kinds input Split ≡ Split = get_or_from_slice_get plan.kinds input Split Split (is.right.plan.inputs_are_split input inside) in
+      let value = slice_index proof.values input in
+      let tape = slice_index_or (lane_tape_in proof lane) input no_tape in
+      let secret = (get_or proof.rows input no_row).secret in
       wire_shown bit input (omega arith)
       ∙ (ap (λ kind. shown_wire kind value tape bit) split
-      ∙ (ap (λ bid. shown_wire Split bid tape bit) (bid_at auction.width (proof_of auction) (sealed auction proved) lane some within input lt)
-      ∙ (ap (λ t. shown_wire Split secret.bid t bit) (tape_at auction.width (proof_of auction) (sealed auction proved) lane some within input lt) ∙ half_is secret lane bit)))
+      ∙ (ap (λ bid. shown_wire Split bid tape bit) (bid_at width proof is lane some within input lt)
+      ∙ (ap (λ t. shown_wire Split secret.bid t bit) (tape_at width proof is lane some within input lt) ∙ half_is secret lane bit)))
 
   -- what is shown for both bits agrees
-  pub shown_agree : (wire : ℕ) → WireAgrees (shown_in auction lane false) (shown_in auction lane true) wire
-  shown_agree wire = elim (cases_lt wire (length (plan_of auction).kinds)) [
+  pub shown_agree : (wire : ℕ) → WireAgrees (lane_shown_in proof lane false) (lane_shown_in proof lane true) wire
+  shown_agree wire = elim (cases_lt wire (length proof.plan.kinds)) [
     | inl inside ↦ agree_as _ _ _ _ (wire_shown false wire inside) (wire_shown true wire inside)
-        (wire_agrees (slice_index_or (plan_of auction).kinds wire Split) (slice_index (values_of auction) wire) (slice_index_or (lane_tape auction lane) wire no_tape))
-    | inr past ↦ agree_as _ _ _ _ (get_or_past (shown_in auction lane false) wire nothing_shown (omega (arith, shown_count false)))
-        (get_or_past (shown_in auction lane true) wire nothing_shown (omega (arith, shown_count true))) tt
+        (wire_agrees (slice_index_or proof.plan.kinds wire Split) (slice_index proof.values wire) (slice_index_or (lane_tape_in proof lane) wire no_tape))
+    | inr past ↦ agree_as _ _ _ _ (get_or_past (lane_shown_in proof lane false) wire nothing_shown (omega (arith, shown_count false)))
+        (get_or_past (lane_shown_in proof lane true) wire nothing_shown (omega (arith, shown_count true))) tt
   ]
 
 -- of two replies whose bits differ, what the one for this bit shows

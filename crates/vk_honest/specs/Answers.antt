@@ -1,5 +1,5 @@
 -- What an honest prover answers is accepted: of every proof behind any front, and so of auctions with their boards.
-use Rattle.std.specs.Prelude.{◌≡◌, ℕ, All, List, length, map, take, Some}
+use Rattle.std.specs.Prelude.{◌≡◌, ℕ, All, List, length, map, take}
 use Rattle.vk_board.specs.declared.front.Front.{Front}
 use Rattle.vk_reply.specs.declared.challenge.Challenge.{Challenge}
 use Rattle.vk_reply.specs.Texts.{challenge_text}
@@ -9,7 +9,8 @@ use Rattle.vk_verifier.specs.Acceptance.{Accepts, AcceptsBehind, file_text}
 use Rattle.vk_keeper.specs.Auctions.{IsSealRow}
 use Rattle.vk_keeper.specs.declared.auction.Auction.{Auction}
 use Rattle.vk_job.specs.Proofs.{ProofValue, IsProof, lanes_in, reply_in, seal_lines_of}
-use Rattle.vk_job.specs.Jobs.{IsProvedAuction, outcome_in}
+use Rattle.vk_job.specs.Outcome.{position_in}
+use Rattle.vk_job.specs.Jobs.{IsProvedAuction, sale_in}
 use Rattle.vk_job.specs.Published.{IsChallengeTo, board_of, head_of, reply_of}
 
 -- ---- of every proof
@@ -41,6 +42,6 @@ WhereChallenged Law = (auction : Auction) (challenge : Challenge) → IsProvedAu
 abbrev pub AnswersAreAccepted : Type 0
 AnswersAreAccepted = WhereChallenged (λ auction challenge. Accepts (board_of auction) (challenge_text challenge) (reply_of auction challenge))
 
--- what stands on the board before its first lane, with the place of the winner's seal
+-- what stands on the board before its first lane, with the place of the winner's seal where there is one
 abbrev pub front_of : Auction → Front
-front_of auction = record { head = head_of auction; seals = map seal_lines_of auction.seals; position = Some ((outcome_in auction).position) }
+front_of auction = record { head = head_of auction; seals = map seal_lines_of auction.seals; position = position_in (sale_in auction) }

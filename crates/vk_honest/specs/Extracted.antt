@@ -1,5 +1,5 @@
 -- What two replies of an honest auctioneer open: the bids that were sealed.
-use Rattle.std.specs.Prelude.{◌≡◌, ◌≢◌, ℕ, true, false, not, length, map}
+use Rattle.std.specs.Prelude.{◌≡◌, ◌≢◌, ℕ, true, false, not, List, length, map}
 use Rattle.vk_extractor.specs.Confronting.{secret_opening}
 use Rattle.vk_reply.specs.declared.challenge.Challenge.{Challenge}
 use Rattle.vk_reply.specs.Texts.{challenge_text}
@@ -25,11 +25,15 @@ bid_in_lane lane row = record {
   second = secret_opening row.secret lane true;
 }
 
--- those of all seals, in the order in which they were handed in
-abbrev pub bids_in_lane : Auction → ℕ → LaneBids
-bids_in_lane auction lane = record { number = lane; bids = map (bid_in_lane lane) auction.seals }
+-- those of all seals in order, in the lane of that number
+abbrev pub rows_in_lane : List SealRow → ℕ → LaneBids
+rows_in_lane rows lane = record { number = lane; bids = map (bid_in_lane lane) rows }
 
--- of the lanes whose two bits differ, under what the board publishes
+-- those of an auction, in the order in which they were handed in
+abbrev pub bids_in_lane : Auction → ℕ → LaneBids
+bids_in_lane auction = rows_in_lane auction.seals
+
+-- the bids of all lanes whose two bits differ, under what the board publishes
 abbrev pub sealed_bids : Auction → Challenge → Challenge → Extracted
 sealed_bids auction first second = record { front = front_of auction; lanes = map (bids_in_lane auction) (differing 1 first.bits second.bits) }
 

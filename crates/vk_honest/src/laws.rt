@@ -5,6 +5,7 @@ ghost use Rattle.std.specs.List.{slice_split};
 ghost use Rattle.vk_reply.specs.declared.challenge.Challenge.{Challenge};
 ghost use Rattle.vk_reply.specs.Values.{IsChallenge};
 ghost use Rattle.vk_reply.specs.Texts.{challenge_text};
+ghost use Rattle.vk_job.specs.Jobs.{numbers_in};
 ghost use Rattle.vk_job.specs.Laws.{WhereProved};
 ghost use Rattle.vk_job.specs.Published.{board_of, reply_of};
 ghost use Rattle.vk_honest.specs.Answers.{AnswersAreAccepted, ProofsAreAccepted, WhereChallenged};
@@ -17,8 +18,8 @@ pub fn an_honest_proof_is_accepted()
     ensures { ProofsAreAccepted }
 {}
 
-/// A law: of every auction that is proved, the reply to any challenge with a bit for each of its lanes is accepted
-/// with its board. So there is no challenge that an honest auctioneer can't answer.
+/// A law: of every auction that is proved, of either version, sold or not, the reply to any challenge with a bit for each
+/// of its lanes is accepted with its board. So there is no challenge that an honest auctioneer can't answer.
 pub fn an_honest_answer_is_accepted()
     ensures { AnswersAreAccepted }
 {}
@@ -43,13 +44,13 @@ pub fn honest_files_are_short()
 {}
 
 /// A law: of every auction that is proved, how many lines the board has, and how many the reply to any challenge: by
-/// the numbers of seals and lanes, and the width.
+/// the numbers that the board publishes and the number of lanes.
 ///
 /// Lines are counted as fault lines are: of the pieces between line feeds the last is no line.
 pub fn honest_files_have_so_many_lines()
     ensures boards { WhereProved (λ auction. line_count (board_of auction)
-        ≡ board_lines (length auction.seals) auction.width auction.lanes) }
+        ≡ board_lines (numbers_in auction) auction.lanes) }
     ensures replies { WhereChallenged (λ auction challenge. line_count (reply_of auction challenge)
-        ≡ reply_lines (length auction.seals) auction.width auction.lanes) }
+        ≡ reply_lines (numbers_in auction) auction.lanes) }
     ensures pieces { (text : List ℕ) → length (slice_split (λ byte. byte == 10) text) ≡ line_count text + 1 }
 {}

@@ -1,4 +1,5 @@
 pub mod Outcomes
+pub mod Sales
 pub mod Dry
 pub mod Held
 pub mod Drawing

@@ -6,8 +6,6 @@ use Rattle.std.proofs.lemmas.Bool.{cases_lt, eq-eqb}
 use Rattle.std.proofs.lemmas.Bool.Decides.{nat_tests}
 use Rattle.std.proofs.lemmas.List.{get_or_append_left, get_or-append_right, get_or-take, get_or-drop, length-take-le}
 use Rattle.std.proofs.lemmas.List.Sums.{fails_before_first, passes_at_first}
-use Rattle.vk_vickrey.specs.declared.outcomes.VickreyOutcome.{VickreyOutcome}
-use Rattle.vk_vickrey.specs.OutcomeLaws.{outcome_is_one}
 use Rattle.vk_vickrey.specs.Outcomes.{bid_at, IsVickreyOutcome}
 use Rattle.vk_job.specs.Outcome.{greatest, place_of_greatest, all_but, outcome_of}
 
@@ -109,13 +107,19 @@ none_but place numbers within one = no_numbers (all_but place numbers) (length_a
 
 -- ---- the outcome
 
+-- the winner's bid is the greatest
+pub outcome_bids_most : (bids : List ℕ) → 1 ≤ length bids → bid_at bids (outcome_of bids).position ≡ greatest bids
+unfolding outcome_of
+outcome_bids_most bids some =
+    let back : place_of_greatest bids + 1 - 1 ≡ place_of_greatest bids = omega arith in
+    ap (slice_index bids) back ∙ place_holds bids some
+
 pub outcome_is_vickrey : (bids : List ℕ) → 1 ≤ length bids → IsVickreyOutcome bids (outcome_of bids).position (outcome_of bids).price
 unfolding outcome_of
 outcome_is_vickrey bids some =
     let place = place_of_greatest bids in
     let within : place < length bids = place_within bids some in
-    let back : place + 1 - 1 ≡ place = omega arith in
-    let best : bid_at bids (place + 1) ≡ greatest bids = ap (slice_index bids) back ∙ place_holds bids some in
+    let best : bid_at bids (place + 1) ≡ greatest bids = outcome_bids_most bids some in
     record {
       is_position = record { some = omega arith; within = omega arith };
       none_bids_more = λ other at. omega (arith, at_most_greatest bids (other - 1) (omega (arith, at.some, at.within)));
@@ -131,11 +135,3 @@ outcome_is_vickrey bids some =
             bids_price = (let e : held.0 + 1 - 1 ≡ held.0 = omega arith in ap (slice_index bids) e) ∙ held.3;
           };
     }
-
--- any other by maxima is the same
-pub outcome_same : (bids : List ℕ) (found : VickreyOutcome) → IsVickreyOutcome bids found.position found.price → found ≡ outcome_of bids
-outcome_same bids found is =
-    let one = outcome_is_one bids found.position found.price (outcome_of bids).position (outcome_of bids).price is
-    (outcome_is_vickrey bids (omega (arith, is.is_position.some, is.is_position.within))) in
-    let make : ℕ → ℕ → VickreyOutcome = λ position price. record { position = position; price = price } in
-    ap (λ position. make position found.price) one.0 ∙ ap (make (outcome_of bids).position) one.1

@@ -1,6 +1,6 @@
 -- What is published of an auction that is proved may stand on a board, and what is shown of any proof in a reply.
-use Rattle.std.proofs.Common.{◌≡◌, ◌≢◌, ℕ, zero, suc, ◌+◌, ◌-◌, ◌<◌, ◌≤◌, Bool, false, All, List, [], ◌∷◌, ◌++◌, length, map, get_or, refl, sym, ap, ◌∙◌, subst, arith}
-use Rattle.std.specs.Prelude.{slice_index_or}
+use Rattle.std.proofs.Common.{◌≡◌, ◌≢◌, ℕ, zero, suc, ◌+◌, ◌-◌, ◌<◌, ◌≤◌, ◌^◌, Bool, false, All, List, [], ◌∷◌, ◌++◌, length, map, get_or, refl, sym, ap, ◌∙◌, subst, arith, inl, inr}
+use Rattle.std.specs.Prelude.{option_map, slice_index, slice_index_or}
 use Rattle.std.specs.List.{AllByRecursion, AllPairs}
 use Rattle.std.proofs.Math.Pow.{pow_mono}
 use Rattle.std.proofs.lemmas.List.{length-map, get_or-map}
@@ -8,45 +8,69 @@ use Rattle.std.proofs.lemmas.List.Elements.{All-head, All-tail, All-push, All-ni
 use Rattle.std.proofs.lemmas.Option.{slice_get_within, get_or_from_slice_get}
 use Rattle.vk_wire.specs.declared.wire.Shown.{Shown}
 use Rattle.vk_board.specs.declared.board.SealLines.{SealLines}
-use Rattle.vk_board.specs.Values.{IsHead, IsSeat, IsSealLines, IsSealAfter, AreSeals, IsLaneLines}
+use Rattle.vk_board.specs.Values.{IsHead, IsSeat, IsWinner, IsSealLines, IsSealAfter, AreSeals, IsLaneLines}
 use Rattle.vk_lines.specs.Forms.{EachAfter}
 use Rattle.vk_range.specs.SetLaws.{All-listed}
 use Rattle.vk_reply.specs.declared.challenge.Challenge.{Challenge}
 use Rattle.vk_reply.specs.Values.{IsChallenge, AreShown, IsReply}
 use Rattle.vk_prover.proofs.Forms.{lines_are, shown_are}
+use Rattle.vk_vickrey.specs.declared.sales.Sale.{Sale}
+use Rattle.vk_vickrey.specs.declared.sales.Sale.TheVariants.{Sold, Unsold}
+use Rattle.vk_vickrey.specs.BoardPlans.{IsBoardCase, board_numbers}
 use Rattle.vk_keeper.specs.declared.auction.SealRow.{SealRow}
 use Rattle.vk_keeper.specs.declared.auction.Auction.{Auction}
 use Rattle.vk_keeper.specs.Auctions.{IsAuction, IsSealRow}
 use Rattle.vk_job.specs.Proofs.{ProofValue, IsProof, no_row, seal_lines_of, lane_tape_in, lane_in, lanes_in, lane_shown_in, lanes_shown_from}
-use Rattle.vk_job.specs.Jobs.{outcome_in, winner_of}
+use Rattle.vk_job.specs.Outcome.{position_in, price_in}
+use Rattle.vk_job.specs.Jobs.{sale_in, seats_of}
 use Rattle.vk_job.specs.Published.{head_of}
-use Rattle.vk_job.proofs.Held.{length_bids, outcome_is, case_is}
+use Rattle.vk_job.proofs.Held.{case_is, winner_within}
 use Rattle.vk_job.proofs.Drawing.{lane_tape_is}
 
 -- ---- the head
 
 -- the winner's seat is that of a seal
-winner_is : (auction : Auction) → IsAuction auction → 1 ≤ length auction.seals → IsSeat (winner_of auction)
-winner_is auction right sealed =
-    let place = (outcome_in auction).position - 1 in
-    let at = (outcome_is auction sealed).is_position in
-    let within : place < length auction.seals = omega (arith, at.some, at.within, length_bids auction) in
+seat_is : (auction : Auction) (position price : ℕ) → IsAuction auction → 1 ≤ length auction.seals → Sold position price ≡ sale_in auction
+    → IsSeat (slice_index (seats_of auction) (position - 1))
+seat_is auction position price right sealed sold =
+    let place = position - 1 in
+    let within : place < length auction.seals = (winner_within auction position price sealed sold).1 in
     let seat = get_or-map (λ row. row.seal.seat) auction.seals place no_row 0 within in
-    let seal = (right.rows place no_row within).seal in
+    let seal = (right.held.rows place no_row within).seal in
     record { least = omega (arith, seal.some_seat); most = omega (arith, seal.last_seat) }
+
+-- only version 2 has none
+winner_is : (auction : Auction) (sale : Sale) → IsAuction auction → 1 ≤ length auction.seals → sale ≡ sale_in auction
+    → IsBoardCase (board_numbers auction.version (length auction.seals) auction.width auction.reserve sale)
+    → IsWinner auction.version (option_map (λ position. slice_index (seats_of auction) (position - 1)) (position_in sale))
+winner_is auction (Sold position price) right sealed is case = seat_is auction position price right sealed is
+winner_is auction Unsold right sealed is (inl first) = absurd first.1
+winner_is auction Unsold right sealed is (inr second) = second.0
+
+price_is : (version seals width reserve : ℕ) (sale : Sale) → width ≤ 40 → IsBoardCase (board_numbers version seals width reserve sale) → price_in sale < 2 ^ 64
+price_is version seals width reserve (Sold position price) narrow (inl first) =
+    omega (arith, first.1.1.within_width, pow_mono {i = width} {j = 64} (omega arith))
+price_is version seals width reserve (Sold position price) narrow (inr second) =
+    omega (arith, second.1.sale_case.within_width, pow_mono {i = width} {j = 64} (omega arith))
+price_is version seals width reserve Unsold narrow case = omega arith
 
 pub head_is : (auction : Auction) → IsAuction auction → 1 ≤ length auction.seals → IsHead (head_of auction)
 unfolding head_of
 head_is auction right sealed =
+    let narrow : auction.width ≤ 40 = right.held.size.width.most in
+    let case = case_is auction right sealed in
     record {
-      id = right.id;
-      version = record { least = omega arith; most = omega arith };
-      size = right.size;
+      id = right.held.id;
+      version = record { least = right.terms.least; most = right.terms.most };
+      size = right.held.size;
       some_seal = sealed;
-      few_seals = right.few_seals;
-      reserve = record { small = omega arith; unnamed = λ _. refl };
-      winner = winner_is auction right sealed;
-      price = omega (arith, (case_is auction right sealed).within_width, pow_mono {i = auction.width} {j = 64} (omega (arith, right.size.width.most)));
+      few_seals = right.held.few_seals;
+      reserve = record {
+        small = omega (arith, right.terms.small, pow_mono {i = auction.width} {j = 64} (omega arith));
+        unnamed = right.terms.unnamed;
+      };
+      winner = winner_is auction (sale_in auction) right sealed refl case;
+      price = price_is auction.version (length auction.seals) auction.width auction.reserve (sale_in auction) narrow case;
     }
 
 -- ---- the seals
@@ -81,7 +105,7 @@ pub seals_are : (auction : Auction) → IsAuction auction → AreSeals (head_of 
 unfolding head_of
 seals_are auction right = record {
   count = length-map auction.seals seal_lines_of;
-  each = rows_after auction.id auction.width auction.lanes [] auction.seals right.rows right.seats (λ k d within. All-nil (λ earlier. earlier.seat ≢ (slice_index_or auction.seals k d).seal.seat));
+  each = rows_after auction.id auction.width auction.lanes [] auction.seals right.held.rows right.held.seats (λ k d within. All-nil (λ earlier. earlier.seat ≢ (slice_index_or auction.seals k d).seal.seat));
 }
 
 -- ---- the lanes of any proof

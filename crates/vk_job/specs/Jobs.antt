@@ -1,15 +1,15 @@
--- An auction whose seals are taken: its outcome, and what its seed gives. Lanes count from 1.
-use Rattle.std.specs.Prelude.{◌≡◌, ℕ, ◌-◌, List, [], length, map, slice_index, Option, None, Result, unwrap_or, IsSome}
+-- An auction whose seals are taken: its sale, and what its seed gives. Lanes count from 1.
+use Rattle.std.specs.Prelude.{◌≡◌, ℕ, ◌-◌, List, [], length, map, option_map, slice_index, Option, None, Result, unwrap_or, IsSome}
 use Rattle.vk_plan.specs.Plans.{PlanValue}
 use Rattle.vk_wire.specs.declared.wire.WireTape.{WireTape}
-use Rattle.vk_vickrey.specs.declared.outcomes.VickreyOutcome.{VickreyOutcome}
-use Rattle.vk_vickrey.specs.VickreyPlans.{vickrey_plan, honest_values}
+use Rattle.vk_vickrey.specs.declared.sales.Sale.{Sale}
+use Rattle.vk_vickrey.specs.BoardPlans.{BoardNumbers, board_numbers, board_plan, board_values}
 use Rattle.vk_keeper.specs.declared.auction.Auction.{Auction}
 use Rattle.vk_keeper.specs.Auctions.{IsAuction, seed_of}
-use Rattle.vk_job.specs.Outcome.{outcome_of}
+use Rattle.vk_job.specs.Outcome.{sale_of, position_in}
 use Rattle.vk_job.specs.Proofs.{ProofValue, Dry, source_of, given_in, drawn_in, first_dry_from, first_dry_in, lane_tape_in, IsDrawnIn, IsFirstDryIn}
 
--- ---- the outcome
+-- ---- the sale
 
 -- the bids and the seats, in the order in which the seals were handed in
 abbrev pub bids_of : Auction → List ℕ
@@ -18,20 +18,24 @@ bids_of auction = map (λ row. row.secret.bid) auction.seals
 abbrev pub seats_of : Auction → List ℕ
 seats_of auction = map (λ row. row.seal.seat) auction.seals
 
--- who wins, and at which price
-abbrev pub outcome_in : Auction → VickreyOutcome
-outcome_in auction = outcome_of (bids_of auction)
+-- who wins, and at which price, or that nothing is sold
+abbrev pub sale_in : Auction → Sale
+sale_in auction = sale_of (bids_of auction) auction.reserve
 
--- the seat of the winner
-abbrev pub winner_of : Auction → ℕ
-winner_of auction = slice_index (seats_of auction) ((outcome_in auction).position - 1)
+-- the seat that wins, none where nothing is sold
+abbrev pub winner_of : Auction → Option ℕ
+winner_of auction = option_map (λ position. slice_index (seats_of auction) (position - 1)) (position_in (sale_in auction))
 
--- the circuit that shows this outcome, and the values of its wires
+-- the numbers that its board publishes
+abbrev pub numbers_in : Auction → BoardNumbers
+numbers_in auction = board_numbers auction.version (length auction.seals) auction.width auction.reserve (sale_in auction)
+
+-- the circuit that shows the sale, and the values of its wires
 unfoldable pub plan_of : Auction → PlanValue
-plan_of auction = vickrey_plan (length auction.seals) auction.width (outcome_in auction).position (outcome_in auction).price
+plan_of auction = board_plan (numbers_in auction)
 
 unfoldable pub values_of : Auction → List ℕ
-values_of auction = honest_values (length auction.seals) auction.width (outcome_in auction).position (outcome_in auction).price (bids_of auction)
+values_of auction = board_values (numbers_in auction) (bids_of auction)
 
 -- ---- the proof
 

@@ -17,7 +17,11 @@ OfProofs Law = (proof : ProofValue) → IsProof proof → Law proof
 abbrev pub WhereProved : (Auction → Type 0) → Type 0
 WhereProved Law = (auction : Auction) → IsProvedAuction auction → Law auction
 
--- of each of so many lanes, counted from 1
+-- a law of every auction of version 1, which names no reserve
+abbrev pub OfFirst : (Auction → Type 0) → Type 0
+OfFirst Law = (auction : Auction) → auction.version ≡ 1 → auction.reserve ≡ 0 → Law auction
+
+-- what holds of each of so many lanes, counted from 1
 abbrev pub EachLane : ℕ → (ℕ → Type 0) → Type 0
 EachLane lanes Holds = (lane : ℕ) → 1 ≤ lane → lane ≤ lanes → Holds lane
 

@@ -1,5 +1,5 @@
 -- What an honest auctioneer publishes of an auction that is proved, and what it shows for a challenge.
-use Rattle.std.specs.Prelude.{◌≡◌, ℕ, ◌-◌, Bool, false, slice_index_or, List, length, map, Some}
+use Rattle.std.specs.Prelude.{◌≡◌, ℕ, ◌-◌, Bool, false, slice_index_or, List, length, map}
 use Rattle.vk_wire.specs.declared.wire.Shown.{Shown}
 use Rattle.vk_board.specs.declared.board.Head.{Head}
 use Rattle.vk_board.specs.declared.board.LaneLines.{LaneLines}
@@ -10,22 +10,23 @@ use Rattle.vk_reply.specs.Values.{IsChallenge}
 use Rattle.vk_keeper.specs.declared.auction.Phase.{Phase}
 use Rattle.vk_keeper.specs.declared.auction.Phase.TheVariants.{Taking, Proved, Answered}
 use Rattle.vk_keeper.specs.declared.auction.Auction.{Auction}
-use Rattle.vk_job.specs.Jobs.{outcome_in, winner_of, proof_of}
+use Rattle.vk_job.specs.Outcome.{price_in}
+use Rattle.vk_job.specs.Jobs.{sale_in, winner_of, proof_of}
 use Rattle.vk_job.specs.Proofs.{seal_lines_of, lane_in, lanes_in, lane_shown_in, lanes_shown_from, file_pieces, reply_in, reply_lanes_in, reply_pieces_in}
 
 -- ---- the board
 
--- the house makes boards of version 1, which name no reserve and always have a winner
+-- what the board says of the auction as a whole
 unfoldable pub head_of : Auction → Head
 head_of auction = record {
   auction = auction.id;
-  version = 1;
+  version = auction.version;
   width = auction.width;
   lanes = auction.lanes;
   seals = length auction.seals;
-  reserve = 0;
-  winner = Some (winner_of auction);
-  price = (outcome_in auction).price;
+  reserve = auction.reserve;
+  winner = winner_of auction;
+  price = price_in (sale_in auction);
 }
 
 -- what is published of a lane, counted from 1

@@ -2,14 +2,14 @@ ghost use Rattle.std.specs.Prelude.{◌≡◌, ◌-◌, ◌<◌, ◌≤◌, [], 
 ghost use Rattle.vk_board.specs.Values.{IsHead};
 ghost use Rattle.vk_keeper.specs.Auctions.{IsAuction, challenge_of, seed_of};
 ghost use Rattle.vk_job.specs.Answers.{JobAnswer};
-ghost use Rattle.vk_job.specs.Jobs.{IsProvedAuction, outcome_in, proof_of, winner_of};
+ghost use Rattle.vk_job.specs.Jobs.{IsProvedAuction, proof_of, sale_in, winner_of};
 ghost use Rattle.vk_job.specs.Proofs.{no_row, seal_lines_of};
 ghost use Rattle.vk_job.specs.Published.{board_pieces, head_of, kept_bit, lane_of, reply_pieces, shown_in};
 
 use crate::errors::JobErr;
 use crate::kept::{bit_in, seed_in};
-use crate::outcome::{bids_of, further_wires, outcome_in, plan_of, values_of, winner_of};
 use crate::proof::HonestProof;
+use crate::sale::{further_wires, plan_of, price_in, sale_in, values_of, winner_of};
 use crate::tapes::check_tapes;
 use std::alloc::Global;
 use std::marker::Model;
@@ -19,15 +19,15 @@ use vk_plan::Plan;
 use vk_reply::Challenge;
 use vk_residue::{NoMemory, Residue};
 use vk_seq::Seq;
-use vk_vickrey::VickreyOutcome;
+use vk_vickrey::Sale;
 use vk_wire::Shown;
 
-/// An auction in a phase with a seed, which gives a tape for every lane, and the outcome of its bids.
+/// An auction in a phase with a seed, which gives a tape for every lane, and the sale of its bids.
 /// Plan and values are kept, so that no lane makes them anew.
 #[derive(Drop)]
 pub struct Job {
     auction: Auction,
-    outcome: VickreyOutcome,
+    sale: Sale,
     plan: Plan,
     values: Seq<Residue>,
 }
@@ -39,9 +39,9 @@ impl Model for Job {
 
     ghost coded = { job_code };
 
-    ghost view = { λ j. record { auction = j.auction; outcome = j.outcome } };
+    ghost view = { λ j. record { auction = j.auction; sale = j.sale } };
 
-    ghost invariant = { λ j. IsJob j.auction j.outcome j.plan j.values };
+    ghost invariant = { λ j. IsJob j.auction j.sale j.plan j.values };
 }
 
 impl Job {
@@ -52,20 +52,19 @@ impl Job {
         requires seeded { IsSome (seed_of auction.phase) }
         ensures { JobAnswer result auction }
     {
+        let sale = sale_in(&auction);
         check_tapes(
             &auction.id,
             auction.seals.as_slice(),
             auction.lanes,
             &seed_in(&auction.phase),
-            further_wires(&auction),
+            further_wires(&auction, sale),
         )?;
-        let bids = bids_of(alloc, auction.seals.as_slice())?;
-        let outcome = outcome_in(&auction, bids.as_slice());
-        let plan = plan_of(alloc, &auction, outcome)?;
-        let values = values_of(alloc, &auction, outcome, bids.as_slice())?;
+        let plan = plan_of(alloc, &auction, sale)?;
+        let values = values_of(alloc, &auction, sale)?;
         Ok(Job {
             auction,
-            outcome,
+            sale,
             plan,
             values: Seq::from_vec(values),
         })
@@ -78,21 +77,22 @@ impl Job {
         &self.auction
     }
 
-    pub fn outcome(&self) -> VickreyOutcome
-        ensures value { result ≡ self.now.outcome }
-        ensures outcome { self.now.outcome ≡ outcome_in self.now.auction }
+    /// Who wins, and at which price, or that nothing is sold.
+    pub fn sale(&self) -> Sale
+        ensures value { result ≡ self.now.sale }
+        ensures sale { self.now.sale ≡ sale_in self.now.auction }
     {
-        self.outcome
+        self.sale
     }
 
-    /// The seat of the winner.
-    pub fn winner(&self) -> u16
+    /// The seat of the winner, None where nothing is sold.
+    pub fn winner(&self) -> Option<u16>
         ensures { result ≡ winner_of self.now.auction }
     {
-        winner_of(&self.auction, self.outcome)
+        winner_of(&self.auction, self.sale)
     }
 
-    /// What the board, which is one of version 1, says of the auction as a whole.
+    /// What the board, which is one of the auction's version, says of the auction as a whole.
     #[tactic(auto, unfolding(crate::specs::Published::head_of))]
     pub fn head(&self) -> Head
         ensures value { result ≡ head_of self.now.auction }
@@ -100,13 +100,13 @@ impl Job {
     {
         Head {
             auction: self.auction.id,
-            version: 1,
+            version: self.auction.version,
             width: self.auction.width,
             lanes: self.auction.lanes,
             seals: self.auction.seals.len() as u32,
-            reserve: 0,
-            winner: Some(self.winner()),
-            price: self.outcome.price,
+            reserve: self.auction.reserve,
+            winner: self.winner(),
+            price: price_in(self.sale),
         }
     }
 
@@ -197,7 +197,7 @@ impl Job {
     }
 
     /// Its proof, which borrows what it is made from.
-    fn proof(&self) -> HonestProof<'_>
+    pub fn proof(&self) -> HonestProof<'_>
         ensures { result ≡ proof_of self.now.auction }
     {
         HonestProof::of(

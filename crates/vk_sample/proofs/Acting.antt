@@ -17,7 +17,7 @@ use Rattle.vk_effect.specs.Effects.{Effect, SaidValue, Stores, says, stores}
 use Rattle.vk_effect.specs.Ends.{Acts}
 use Rattle.vk_sample.specs.Auctions.{DrySeed, auction_of}
 use Rattle.vk_sample.specs.Laws.{IsAuctionOf, OpensAll, opened}
-use Rattle.vk_sample.specs.Samples.{effect_by, sample_on}
+use Rattle.vk_sample.specs.Samples.{effect_by, effect_unless_dry, sample_on, told_effect}
 use Rattle.vk_sample.specs.Texts.{dry_said, files_of, found_text, made_text, read_said, same_count, sample_names, summary_said}
 
 -- it was stopped where nothing had changed
@@ -31,11 +31,11 @@ said_alone : (held : Option Files) (ledger : Option Ledger) (said dry : SaidValu
 said_alone None ledger said dry is = (is, refl)
 said_alone (Some files) ledger said dry is = (is, refl)
 
-pub dry_acts : (dry : Option DrySeed) (made : Result Auction DrySeed) (held : Option Files) (ledger : Option Ledger) (number : ℕ) (sample : SampleCase) (said : SaidValue) → Refuses dry made → IfSome dry (λ seed. said ≡ dry_said seed) → IsSome dry
-    → IfSome (effect_by held ledger number sample made) (λ effect. Acts (Ok said) effect (stores held ledger) (stores held ledger))
-dry_acts None made held ledger number sample said refused is some = cc some
-dry_acts (Some dry) made held ledger number sample said refused is some =
-    subst (λ m. IfSome (effect_by held ledger number sample m) (λ effect. Acts (Ok said) effect (stores held ledger) (stores held ledger))) (sym refused)
+pub dry_acts : {X : Type 0} (dry : Option DrySeed) (made : Result X DrySeed) (held : Option Files) (ledger : Option Ledger) (effect : X → Option Effect) (said : SaidValue) → Refuses dry made → IfSome dry (λ seed. said ≡ dry_said seed) → IsSome dry
+    → IfSome (effect_unless_dry ledger effect made) (λ whole. Acts (Ok said) whole (stores held ledger) (stores held ledger))
+dry_acts None made held ledger effect said refused is some = cc some
+dry_acts (Some dry) made held ledger effect said refused is some =
+    subst (λ m. IfSome (effect_unless_dry ledger effect m) (λ whole. Acts (Ok said) whole (stores held ledger) (stores held ledger))) (sym refused)
     (said_alone held ledger said (dry_said dry) is)
 
 -- ---- files that are written
@@ -45,19 +45,32 @@ divided_last : (texts : List (List ℕ × List ℕ)) (files : Files) → IsDivid
 divided_last [] files = refl
 divided_last (text ∷ texts) files = inr (divided_last texts (insert files text.0 text.1))
 
-pub writing_stopped : (sample : SampleCase) (auction : Auction) (number : ℕ) (held left : Option Files) (ledger : Option Ledger) (stop : OutsideErr) → Told (WritesAll (files_of sample auction) (Err stop)) held left
-    → IfSome (effect_by held ledger number sample (Ok auction)) (λ effect. Acts (Err stop) effect (stores held ledger) (stores left ledger))
-writing_stopped sample auction number None left ledger stop told = tt
-writing_stopped sample auction number (Some files) None ledger stop told = absurd told
-writing_stopped sample auction number (Some files) (Some after) ledger stop told = inr (refl, told)
+module _ (texts : List (List ℕ × List ℕ)) (whole : SaidValue) (ledger : Option Ledger) where
+  pub writing_stopped : (held left : Option Files) (stop : OutsideErr) → Told (WritesAll texts (Err stop)) held left
+      → IfSome (told_effect held ledger texts whole) (λ effect. Acts (Err stop) effect (stores held ledger) (stores left ledger))
+  writing_stopped None left stop told = tt
+  writing_stopped (Some files) None stop told = absurd told
+  writing_stopped (Some files) (Some after) stop told = inr (refl, told)
 
-pub reading_stopped : (sample : SampleCase) (auction : Auction) (number : ℕ) (held left now : Option Files) (ledger : Option Ledger) (stop : OutsideErr) → Told (WritesAll {E = OutsideErr} (files_of sample auction) (Ok tt)) held left → now ≡ left
-    → IfSome (effect_by held ledger number sample (Ok auction)) (λ effect. Acts (Err stop) effect (stores held ledger) (stores now ledger))
-reading_stopped sample auction number None left now ledger stop told same = tt
-reading_stopped sample auction number (Some files) None now ledger stop told same = absurd told
-reading_stopped sample auction number (Some files) (Some after) now ledger stop told same =
-    let is : now ≡ Some (written (files_of sample auction) files) = same ∙ ap Some told in
-    inr (refl, subst (Told (IsDivided (files_of sample auction)) (Some files)) (sym is) (divided_last (files_of sample auction) files))
+  pub reading_stopped : (held left now : Option Files) (stop : OutsideErr) → Told (WritesAll {E = OutsideErr} texts (Ok tt)) held left → now ≡ left
+      → IfSome (told_effect held ledger texts whole) (λ effect. Acts (Err stop) effect (stores held ledger) (stores now ledger))
+  reading_stopped None left now stop told same = tt
+  reading_stopped (Some files) None now stop told same = absurd told
+  reading_stopped (Some files) (Some after) now stop told same =
+      let is : now ≡ Some (written texts files) = same ∙ ap Some told in
+      inr (refl, subst (Told (IsDivided texts) (Some files)) (sym is) (divided_last texts files))
+
+  -- what was written is read back, and this is said of it
+  pub holding_done : (said_of_files : Files → SaidValue) → ((files : Files) → said_of_files (written texts files) ≡ whole)
+      → (held left now : Option Files) (said : SaidValue) → Told (WritesAll {E = OutsideErr} texts (Ok tt)) held left → now ≡ left
+      → IfSome left (λ files. said ≡ said_of_files files)
+      → IfSome (told_effect held ledger texts whole) (λ effect. Acts (Ok said) effect (stores held ledger) (stores now ledger))
+  holding_done said_of_files reads None left now said told same is = tt
+  holding_done said_of_files reads (Some files) None now said told same is = absurd told
+  holding_done said_of_files reads (Some files) (Some after) now said told same is = (
+    is ∙ ap said_of_files told ∙ reads files,
+    ap (λ left. stores left ledger) (same ∙ ap Some told),
+  )
 
 -- ---- the summary
 
@@ -67,23 +80,13 @@ module _ (sample : SampleCase) (auction : Auction) (is : IsAuctionOf sample auct
   summary =
       let of : List ℕ → ℕ → ℕ → SaidValue = λ front lanes same. record { status = 0; text = front ++ found_text lanes same } in
       let found = opened sample auction in
-      ap (λ front. of front (length found.lanes) (same_count found)) made_is
-      ∙ ap (λ lanes. of (made_text number (head_of auction)) lanes (same_count found)) (opens.all_lanes ∙ sym is.lanes_are)
+      ap (λ front. of front (length found.lanes) (same_count (length found.front.seals) found.lanes)) made_is
+      ∙ ap (λ lanes. of (made_text number (head_of auction)) lanes (same_count (length found.front.seals) found.lanes)) (opens.all_lanes ∙ sym is.lanes_are)
       ∙ ap (of (made_text number (head_of auction)) auction.lanes) (opens.all_same ∙ sym is.seals_are)
 
   -- the files that were written are read back, and open every bid
-  pub holding_done : (held left now : Option Files) (ledger : Option Ledger) (said : SaidValue) → Told (WritesAll {E = OutsideErr} (files_of sample auction) (Ok tt)) held left → now ≡ left
-      → IfSome left (λ files. said ≡ read_said made (extraction_on files sample_names.board sample_names.first.challenge sample_names.first.reply sample_names.second.challenge sample_names.second.reply))
-      → IfSome (effect_by held ledger number sample (Ok auction)) (λ effect. Acts (Ok said) effect (stores held ledger) (stores now ledger))
-  holding_done None left now ledger said told same reads = tt
-  holding_done (Some files) None now ledger said told same reads = absurd told
-  holding_done (Some files) (Some after) now ledger said told same reads = (
-    reads
-        ∙ ap (λ left. read_said made (extraction_on left sample_names.board sample_names.first.challenge sample_names.first.reply sample_names.second.challenge sample_names.second.reply)) told
-        ∙ ap (read_said made) (opens.read files)
-        ∙ summary,
-    ap (λ left. stores left ledger) (same ∙ ap Some told),
-  )
+  pub reads_back : (files : Files) → read_said made (extraction_on (written (files_of sample auction) files) sample_names.board sample_names.first.challenge sample_names.first.reply sample_names.second.challenge sample_names.second.reply) ≡ summary_said number (head_of auction)
+  reads_back files = ap (read_said made) (opens.read files) ∙ summary
 
 -- ---- the whole
 

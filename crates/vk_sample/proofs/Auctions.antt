@@ -2,6 +2,7 @@
 use Rattle.std.proofs.Common.{◌≡◌, ◌≢◌, ℕ, zero, suc, ◌+◌, ◌<◌, ◌≤◌, List, [], ◌∷◌, ◌++◌, length, map, take, get_or, Option, Some, None, Ok, refl, sym, ap, subst, ◌∙◌, arith}
 use Rattle.std.specs.Prelude.{All, AllPairs}
 use Rattle.std.proofs.lemmas.List.{get_or-map, length-map, length_push, map-append, take_all, take_more}
+use Rattle.std.proofs.lemmas.Nat.{pow_pos}
 use Rattle.std.proofs.lemmas.List.Elements.{All-nil, All-push}
 use Rattle.vk_verifier.proofs.Steps.{bind_ok}
 use Rattle.vk_keeper.specs.declared.auction.Auction.{Auction}
@@ -10,7 +11,7 @@ use Rattle.vk_keeper.specs.Auctions.{IsAuction, IsSealRow}
 use Rattle.vk_job.specs.Proofs.{Dry}
 use Rattle.vk_job.specs.Jobs.{dry_in}
 use Rattle.vk_report.specs.declared.sample.SampleCase.{SampleCase}
-use Rattle.vk_report.specs.Samples.{IsSampleCase, lanes, seals, width}
+use Rattle.vk_report.specs.Samples.{IsCase, IsSampleCase}
 use Rattle.vk_sample.specs.Auctions.{auction_by, auction_of, auction_with, rows_onto, sealed, secret_at, unless_dry}
 use Rattle.vk_sample.specs.Laws.{IsAuctionOf}
 use Rattle.vk_sample.proofs.Seals.{IsRowAt, row_is}
@@ -18,7 +19,7 @@ use Rattle.vk_sample.proofs.Seals.{IsRowAt, row_is}
 -- ---- the rows so far
 
 record AreRows (sample : SampleCase) (rows : List SealRow) : Type 0 where
-  right : All (IsSealRow sample.auction width lanes) rows
+  right : All (IsSealRow sample.auction sample.width sample.lanes) rows
   seats_are : map (λ (row : SealRow). row.seal.seat) rows ≡ take (length rows) sample.seats
   bids_are : map (λ (row : SealRow). row.secret.bid) rows ≡ take (length rows) sample.bids
 
@@ -29,14 +30,14 @@ taken_more of rows row values within so_far here =
     map-append of rows (row ∷ []) ∙ ap (λ vs. vs ++ of row ∷ []) so_far ∙ ap (λ v. take (length rows) values ++ v ∷ []) here
     ∙ sym (take_more values (length rows) 0 within) ∙ ap (λ n. take n values) (sym (length_push rows row))
 
-row_added : (sample : SampleCase) → IsSampleCase sample → (rows : List SealRow) (row : SealRow) → length rows < seals → AreRows sample rows → IsRowAt sample (length rows) row → AreRows sample (rows ++ row ∷ [])
+row_added : (sample : SampleCase) → IsCase sample → (rows : List SealRow) (row : SealRow) → length rows < length sample.seats → AreRows sample rows → IsRowAt sample (length rows) row → AreRows sample (rows ++ row ∷ [])
 row_added sample case rows row within are is = record {
-  right = All-push (IsSealRow sample.auction width lanes) rows row are.right is.right;
-  seats_are = taken_more (λ r. r.seal.seat) rows row sample.seats (omega (arith, case.seat_count)) are.seats_are is.seat_is;
+  right = All-push (IsSealRow sample.auction sample.width sample.lanes) rows row are.right is.right;
+  seats_are = taken_more (λ r. r.seal.seat) rows row sample.seats within are.seats_are is.seat_is;
   bids_are = taken_more (λ r. r.secret.bid) rows row sample.bids (omega (arith, case.bid_count)) are.bids_are is.bid_is;
 }
 
-rows_are : (sample : SampleCase) → IsSampleCase sample → (before : List SealRow) (more : ℕ) (rows : List SealRow) → length before + more ≤ seals → AreRows sample before → rows_onto sample before more ≡ Ok rows
+rows_are : (sample : SampleCase) → IsCase sample → (before : List SealRow) (more : ℕ) (rows : List SealRow) → length before + more ≤ length sample.seats → AreRows sample before → rows_onto sample before more ≡ Ok rows
     → (length rows ≡ length before + more) × AreRows sample rows
 unfolding rows_onto
 rows_are sample case before zero rows few are is =
@@ -52,25 +53,25 @@ rows_are sample case before (suc more) rows few are is =
 -- ---- all rows
 
 pub record AllRows (sample : SampleCase) (rows : List SealRow) : Type 0 where
-  pub count : length rows ≡ seals
-  pub right : All (IsSealRow sample.auction width lanes) rows
+  pub count : length rows ≡ length sample.seats
+  pub right : All (IsSealRow sample.auction sample.width sample.lanes) rows
   pub seats_are : map (λ (row : SealRow). row.seal.seat) rows ≡ sample.seats
   pub bids_are : map (λ (row : SealRow). row.secret.bid) rows ≡ sample.bids
 
-pub all_rows : (sample : SampleCase) → IsSampleCase sample → (rows : List SealRow) → rows_onto sample [] seals ≡ Ok rows → AllRows sample rows
+pub all_rows : (sample : SampleCase) → IsCase sample → (rows : List SealRow) → rows_onto sample [] (length sample.seats) ≡ Ok rows → AllRows sample rows
 all_rows sample case rows is =
-    let none : AreRows sample [] = record { right = All-nil (IsSealRow sample.auction width lanes); seats_are = refl; bids_are = refl } in
-    let are = rows_are sample case [] seals rows (omega arith) none is in
+    let none : AreRows sample [] = record { right = All-nil (IsSealRow sample.auction sample.width sample.lanes); seats_are = refl; bids_are = refl } in
+    let are = rows_are sample case [] (length sample.seats) rows (omega arith) none is in
     record {
-      count = are.0;
+      count = omega (arith, are.0);
       right = are.1.right;
-      seats_are = are.1.seats_are ∙ take_all (length rows) sample.seats (omega (arith, are.0, case.seat_count));
+      seats_are = are.1.seats_are ∙ take_all (length rows) sample.seats (omega (arith, are.0));
       bids_are = are.1.bids_are ∙ take_all (length rows) sample.bids (omega (arith, are.0, case.bid_count));
     }
 
 -- ---- the auction
 
-seats_differ : (rows : List SealRow) (seats : List ℕ) → map (λ (row : SealRow). row.seal.seat) rows ≡ seats → AllPairs (λ earlier later. earlier ≢ later) seats
+pub seats_differ : (rows : List SealRow) (seats : List ℕ) → map (λ (row : SealRow). row.seal.seat) rows ≡ seats → AllPairs (λ earlier later. earlier ≢ later) seats
     → AllPairs (λ (earlier : SealRow) (later : SealRow). earlier.seal.seat ≢ later.seal.seat) rows
 seats_differ rows seats are differ i j d before within =
     let of : SealRow → ℕ = λ row. row.seal.seat in
@@ -78,39 +79,44 @@ seats_differ rows seats are differ i j d before within =
     let at : (k : ℕ) → k < length rows → get_or seats k 0 ≡ of (get_or rows k d) = λ k lt. sym (ap (λ ss. get_or ss k 0) are) ∙ get_or-map of rows k d 0 lt in
     λ same. differ i j 0 before (omega (arith, long)) (at i (omega arith) ∙ same ∙ sym (at j within))
 
-pub is_auction : (sample : SampleCase) → IsSampleCase sample → (rows : List SealRow) → AllRows sample rows → IsAuction (auction_with sample rows)
+pub is_auction : (sample : SampleCase) → IsCase sample → (rows : List SealRow) → AllRows sample rows → IsAuction (auction_with sample rows)
 is_auction sample case rows all =
-    let some : 1 ≤ length rows = omega (arith, all.count) in
+    let some : 1 ≤ length rows = omega (arith, all.count, case.some_seal) in
     record {
-      id = case.id;
-      size = record { width = record { least = omega arith; most = omega arith }; lanes = record { least = omega arith; most = omega arith } };
-      few_seals = omega (arith, all.count);
-      rows = all.right;
-      seats = seats_differ rows sample.seats all.seats_are case.seats_differ;
-      some_seal = some;
-      seed = case.seed;
-      challenge = tt;
-      bits = tt;
+      held = record {
+        id = case.id;
+        size = case.size;
+        few_seals = omega (arith, all.count, case.few_seals);
+        rows = all.right;
+        seats = seats_differ rows sample.seats all.seats_are case.seats_differ;
+        some_seal = some;
+        seed = case.seed;
+        challenge = tt;
+        bits = tt;
+      };
+      terms = record { least = omega arith; most = omega arith; small = pow_pos sample.width; unnamed = λ _. refl };
     }
 
-none_dry : (auction other : Auction) (dry : Option Dry) → unless_dry auction dry ≡ Ok other → (dry ≡ None) × (auction ≡ other)
+pub none_dry : {X : Type 0} (auction other : X) (dry : Option Dry) → unless_dry auction dry ≡ Ok other → (dry ≡ None) × (auction ≡ other)
 none_dry auction other None is = (refl, cc)
 none_dry auction other (Some dry) is = cc
 
 pub auction_is : (sample : SampleCase) → IsSampleCase sample → (auction : Auction) → auction_of sample ≡ Ok auction → IsAuctionOf sample auction
 unfolding auction_of
 auction_is sample case auction is =
-    let made = bind_ok (rows_onto sample [] seals) (auction_by sample) auction is in
+    let made = bind_ok (rows_onto sample [] (length sample.seats)) (auction_by sample) auction is in
     let rows = made.0 in
-    let all = all_rows sample case rows made.1 in
+    let all = all_rows sample case.right rows made.1 in
     let passed = none_dry (auction_with sample rows) auction (dry_in (auction_with sample rows) sample.seed) made.2 in
     let right : IsAuctionOf sample (auction_with sample rows) = record {
-      proved = record { right = is_auction sample case rows all; seeded = refl; tapes = passed.0 };
-      first = record { right = case.first; one_bit_each = case.first_count };
-      second = record { right = case.second; one_bit_each = case.second_count };
-      width_is = refl;
-      lanes_are = refl;
-      seals_are = all.count;
+      proved = record { right = is_auction sample case.right rows all; seeded = refl; tapes = passed.0 };
+      first = record { right = case.right.first; one_bit_each = case.right.first_count };
+      second = record { right = case.right.second; one_bit_each = case.right.second_count };
+      version_is = refl;
+      width_is = case.width_is;
+      lanes_are = case.lanes_are;
+      reserve_is = refl;
+      seals_are = all.count ∙ case.seals_are;
       seats_are = all.seats_are;
       bids_are = all.bids_are;
     } in

@@ -15,6 +15,8 @@ use Rattle.vk_bids.specs.Headline.{HeldAttempt, HeldFiles}
 use Rattle.vk_bids.specs.Texts.{has_one_bid}
 use Rattle.vk_bids.proofs.Named.{files_are_extracted}
 use Rattle.vk_keeper.specs.declared.auction.Auction.{Auction}
+use Rattle.vk_vickrey.specs.BoardPlans.{board_numbers}
+use Rattle.vk_job.specs.Jobs.{numbers_in, sale_in}
 use Rattle.vk_job.specs.Proofs.{seal_lines_of}
 use Rattle.vk_job.specs.Published.{IsChallengeTo, board_of, reply_of}
 use Rattle.vk_honest.specs.Sizes.{board_lines, reply_lines}
@@ -22,7 +24,7 @@ use Rattle.vk_honest.proofs.Accepted.{answers_are_accepted}
 use Rattle.vk_honest.proofs.Extracted.{bids_are_equal, replies_give_bids, turned_open_all}
 use Rattle.vk_honest.proofs.Sizes.{boards_are_short, boards_have_lines, challenges_are_short, replies_are_short, replies_have_lines}
 use Rattle.vk_report.specs.declared.sample.SampleCase.{SampleCase}
-use Rattle.vk_report.specs.Samples.{IsSampleCase, lanes, seals, width}
+use Rattle.vk_report.specs.Samples.{IsSampleCase, auction_sizes}
 use Rattle.vk_words.specs.Names.{AttemptWords}
 use Rattle.vk_sample.specs.Laws.{AreAccepted, HasLines, IsAuctionOf, OpensAll, opened}
 use Rattle.vk_sample.specs.Texts.{files_of, sample_names}
@@ -30,7 +32,7 @@ use Rattle.vk_sample.specs.Texts.{files_of, sample_names}
 -- ---- what a file holds after others are written
 
 -- whether none of them has the name
-abbrev none_named : List ℕ → List (List ℕ × List ℕ) → Bool
+abbrev pub none_named : List ℕ → List (List ℕ × List ℕ) → Bool
 none_named name [] = true
 none_named name (text ∷ texts) = not (bytes_eq name text.0) && none_named name texts
 
@@ -46,7 +48,7 @@ held_still (text ∷ texts) files name bytes other held =
     (get_inserted files text.0 text.1 name ∙ ap (λ b. cond b (Some text.1) (get files name)) parts.0 ∙ held)
 
 -- a file that is written before others of other names
-held_first : (texts : List (List ℕ × List ℕ)) (files : Files) (name bytes : List ℕ) → none_named name texts ≡ true → get (written ((name, bytes) ∷ texts) files) name ≡ Some bytes
+pub held_first : (texts : List (List ℕ × List ℕ)) (files : Files) (name bytes : List ℕ) → none_named name texts ≡ true → get (written ((name, bytes) ∷ texts) files) name ≡ Some bytes
 held_first texts files name bytes other = held_still texts (insert files name bytes) name bytes other (get_own files name bytes)
 
 -- ---- counts
@@ -57,7 +59,7 @@ counted_on test all so_far from (suc count) =
     ap (λ b. fold (λ a x. a + cond (test x) 1 0) (so_far + cond b 1 0) (range_with_len (from + 1) count)) (all from)
     ∙ counted_on test all (so_far + 1) (from + 1) count ∙ omega arith
 
-all_counted : (test : ℕ → Bool) → ((index : ℕ) → test index ≡ true) → (from count : ℕ) → count_by test (range_with_len from count) ≡ count
+pub all_counted : (test : ℕ → Bool) → ((index : ℕ) → test index ≡ true) → (from count : ℕ) → count_by test (range_with_len from count) ≡ count
 all_counted test all from count = counted_on test all 0 from count ∙ omega arith
 
 -- ---- the sample
@@ -65,10 +67,16 @@ all_counted test all from count = counted_on test all 0 from count ∙ omega ari
 module _ (sample : SampleCase) (case : IsSampleCase sample) (auction : Auction) (is : IsAuctionOf sample auction) where
   pub has_lines : HasLines sample auction
   has_lines =
-      let board : board_lines (length auction.seals) auction.width auction.lanes ≡ board_lines seals width lanes =
-      ap (λ n. board_lines n auction.width auction.lanes) is.seals_are ∙ ap (λ w. board_lines seals w auction.lanes) is.width_is ∙ ap (λ l. board_lines seals width l) is.lanes_are in
-      let reply : reply_lines (length auction.seals) auction.width auction.lanes ≡ reply_lines seals width lanes =
-      ap (λ n. reply_lines n auction.width auction.lanes) is.seals_are ∙ ap (λ w. reply_lines seals w auction.lanes) is.width_is ∙ ap (λ l. reply_lines seals width l) is.lanes_are in
+      let sale = sale_in auction in
+      let numbers : numbers_in auction ≡ board_numbers 1 auction_sizes.seals auction_sizes.width 0 sale =
+      ap (λ version. board_numbers version (length auction.seals) auction.width auction.reserve sale) is.version_is
+      ∙ ap (λ n. board_numbers 1 n auction.width auction.reserve sale) is.seals_are
+      ∙ ap (λ w. board_numbers 1 auction_sizes.seals w auction.reserve sale) is.width_is
+      ∙ ap (λ reserve. board_numbers 1 auction_sizes.seals auction_sizes.width reserve sale) is.reserve_is in
+      let board : board_lines (numbers_in auction) auction.lanes ≡ board_lines (board_numbers 1 auction_sizes.seals auction_sizes.width 0 sale) auction_sizes.lanes =
+      ap (λ n. board_lines n auction.lanes) numbers ∙ ap (board_lines (board_numbers 1 auction_sizes.seals auction_sizes.width 0 sale)) is.lanes_are in
+      let reply : reply_lines (numbers_in auction) auction.lanes ≡ reply_lines (board_numbers 1 auction_sizes.seals auction_sizes.width 0 sale) auction_sizes.lanes =
+      ap (λ n. reply_lines n auction.lanes) numbers ∙ ap (reply_lines (board_numbers 1 auction_sizes.seals auction_sizes.width 0 sale)) is.lanes_are in
       record {
         board = boards_have_lines auction is.proved ∙ board;
         first = replies_have_lines auction sample.first is.proved is.first ∙ reply;
@@ -117,9 +125,9 @@ module _ (sample : SampleCase) (case : IsSampleCase sample) (auction : Auction) 
 
   pub opens_all : OpensAll sample auction
   opens_all =
-      let turned = turned_open_all auction sample.first sample.second is.first case.turned in
+      let turned = turned_open_all auction sample.first sample.second is.first case.right.turned in
       let gives = replies_give_bids auction sample.first sample.second is.proved is.first is.second turned.0 in
-      let count : length (opened sample auction).front.seals ≡ seals = length-map auction.seals seal_lines_of ∙ is.seals_are in
+      let count : length (opened sample auction).front.seals ≡ auction_sizes.seals = length-map auction.seals seal_lines_of ∙ is.seals_are in
       record {
         read = λ files.
             (files_are_extracted (written (files_of sample auction) files) sample_names.board sample_names.first.challenge sample_names.first.reply

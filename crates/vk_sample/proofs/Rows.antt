@@ -16,7 +16,6 @@ use Rattle.vk_job.specs.Jobs.{dry_in, seed_in}
 use Rattle.vk_job.specs.declared.errors.JobErr.{JobErr}
 use Rattle.vk_job.specs.declared.errors.JobErr.TheVariants as job
 use Rattle.vk_report.specs.declared.sample.SampleCase.{SampleCase}
-use Rattle.vk_report.specs.Samples.{seals}
 use Rattle.vk_sample.specs.Auctions.{DrySeed, OfBidder, auction_by, auction_with, dry_of, of_job, rows_onto, sealed, secret_at, unless_dry}
 
 -- ---- one seal
@@ -81,13 +80,13 @@ pub bind_refuses : {A B : Type 0} (dry : Option DrySeed) (step : Result A DrySee
 bind_refuses None step next refused = tt
 bind_refuses (Some dry) step next refused = ap (λ s. s >>= next) refused
 
-pub job_refuses : (sample : SampleCase) (rows : List SealRow) (refused : JobErr) → rows_onto sample [] seals ≡ Ok rows → JobAnswer (Err refused) (auction_with sample rows)
-    → Refuses (dry_of (of_job refused)) (rows_onto sample [] seals >>= auction_by sample)
+pub job_refuses : (sample : SampleCase) (rows : List SealRow) (refused : JobErr) → rows_onto sample [] (length sample.seats) ≡ Ok rows → JobAnswer (Err refused) (auction_with sample rows)
+    → Refuses (dry_of (of_job refused)) (rows_onto sample [] (length sample.seats) >>= auction_by sample)
 job_refuses sample rows refused made is =
     subst (λ r. Refuses (dry_of (of_job refused)) (r >>= auction_by sample)) (sym made) (job_dry (auction_with sample rows) refused is)
 
-pub job_made : (sample : SampleCase) (rows : List SealRow) (job : JobValue) → rows_onto sample [] seals ≡ Ok rows → JobAnswer (Ok job) (auction_with sample rows)
-    → (rows_onto sample [] seals >>= auction_by sample) ≡ Ok job.auction
+pub job_made : (sample : SampleCase) (rows : List SealRow) (job : JobValue) → rows_onto sample [] (length sample.seats) ≡ Ok rows → JobAnswer (Ok job) (auction_with sample rows)
+    → (rows_onto sample [] (length sample.seats) >>= auction_by sample) ≡ Ok job.auction
 job_made sample rows job made is =
     ap (λ r. r >>= auction_by sample) made
     ∙ ap (unless_dry (auction_with sample rows)) (is.1.tapes)

@@ -1,11 +1,11 @@
 -- A secret that was drawn for a sample, and its seal, may stand in the sample's auction.
-use Rattle.std.proofs.Common.{◌≡◌, ℕ, zero, suc, ◌+◌, ◌^◌, ◌<◌, ◌≤◌, List, [], ◌∷◌, ◌++◌, length, Option, Some, None, Result, Ok, Err, refl, ap, subst, ◌∙◌, arith}
-use Rattle.std.specs.Prelude.{All, slice_index, slice_index_or}
+use Rattle.std.proofs.Common.{◌≡◌, ℕ, ◌+◌, ◌^◌, ◌<◌, ◌≤◌, List, [], ◌∷◌, length, Some, Result, Ok, Err, refl, subst, arith}
+use Rattle.std.specs.Prelude.{slice_index, slice_index_or}
 use Rattle.std.specs.List.{AllByRecursion}
-use Rattle.std.proofs.lemmas.List.{length_push}
-use Rattle.std.proofs.lemmas.List.Elements.{All-nil, All-push, recursion_from_All}
+use Rattle.std.proofs.lemmas.List.Elements.{All-nil, recursion_from_All}
+use Rattle.std.proofs.Math.Nat.{pow-le-pow_right}
 use Rattle.vk_commit.proofs.Digests.{digest_is_bytes}
-use Rattle.vk_dice.specs.Draws.{after_residue, drawn_key, drawn_residue}
+use Rattle.vk_dice.specs.Draws.{after_residue, drawn_residue}
 use Rattle.vk_dice.specs.Many.{drawn_onto}
 use Rattle.vk_dice.specs.Stream.{word_at}
 use Rattle.vk_dice.specs.Words.{later}
@@ -21,7 +21,7 @@ use Rattle.vk_keeper.specs.declared.auction.SealRow.{SealRow}
 use Rattle.vk_keeper.specs.Auctions.{IsSealRow}
 use Rattle.vk_job.proofs.Drawing.{key_is_bytes, of_some, residue_is}
 use Rattle.vk_report.specs.declared.sample.SampleCase.{SampleCase}
-use Rattle.vk_report.specs.Samples.{IsSampleCase, lanes, seals, width}
+use Rattle.vk_report.specs.Samples.{IsCase}
 use Rattle.vk_sample.specs.Auctions.{sealed, secret_at}
 
 -- ---- the tapes
@@ -52,35 +52,36 @@ row_drawn auction seat bid (Err before) row is = cc
 -- ---- the row of the seal at that index
 
 pub record IsRowAt (sample : SampleCase) (index : ℕ) (row : SealRow) : Type 0 where
-  pub right : IsSealRow sample.auction width lanes row
+  pub right : IsSealRow sample.auction sample.width sample.lanes row
   pub seat_is : row.seal.seat ≡ slice_index sample.seats index
   pub bid_is : row.secret.bid ≡ slice_index sample.bids index
 
-pub row_is : (sample : SampleCase) → IsSampleCase sample → (index : ℕ) → index < seals → (row : SealRow) → sealed (secret_at sample index) ≡ Ok row → IsRowAt sample index row
+pub row_is : (sample : SampleCase) → IsCase sample → (index : ℕ) → index < length sample.seats → (row : SealRow) → sealed (secret_at sample index) ≡ Ok row → IsRowAt sample index row
 row_is sample case index within row is =
     let seat = slice_index sample.seats index in
     let bid = slice_index sample.bids index in
     let ahead = word_at (slice_index_or sample.seeds index []) sample.auction (65536 + seat) in
-    let drawn = row_drawn sample.auction seat bid (drawn_onto tape_drawing [] lanes ahead) row is in
+    let drawn = row_drawn sample.auction seat bid (drawn_onto tape_drawing [] sample.lanes ahead) row is in
     let tapes = drawn.0 in
-    let are = drawn_each tape_drawing (λ tape. IsXTape tape) tape_is [] lanes ahead tapes (All-nil (λ tape. IsXTape tape)) drawn.1 in
-    let seat_within : (101 ≤ seat) × (seat ≤ 120) = case.seats index 0 (omega (arith, case.seat_count)) in
-    let bid_within : bid < 2 ^ 32 = case.bids index 0 (omega (arith, case.bid_count)) in
-    let long : length (lane_coms sample.auction seat bid 1 tapes) ≡ lanes = length-lane_coms sample.auction seat bid 1 tapes ∙ are.0 in
-    let right : IsSealRow sample.auction width lanes (row_with sample.auction seat bid tapes) = record {
+    let are = drawn_each tape_drawing (λ tape. IsXTape tape) tape_is [] sample.lanes ahead tapes (All-nil (λ tape. IsXTape tape)) drawn.1 in
+    let seat_within : (101 ≤ seat) × (seat ≤ 100 + length sample.seats) = case.seats index 0 within in
+    let bid_within : bid < 2 ^ sample.width = case.bids index 0 (omega (arith, case.bid_count)) in
+    let widest : 2 ^ sample.width ≤ 2 ^ 40 = pow-le-pow_right {n = 2} (omega arith) case.size.width.most in
+    let long : length (lane_coms sample.auction seat bid 1 tapes) ≡ sample.lanes = omega (arith, length-lane_coms sample.auction seat bid 1 tapes, are.0) in
+    let right : IsSealRow sample.auction sample.width sample.lanes (row_with sample.auction seat bid tapes) = record {
       seal = record {
         id = case.id;
         some_seat = omega (arith, seat_within.0);
-        last_seat = omega (arith, seat_within.1);
-        count = record { least = omega (arith, long); most = omega (arith, long) };
+        last_seat = omega (arith, seat_within.1, case.few_seals);
+        count = record { least = omega (arith, long, case.size.lanes.least); most = omega (arith, long, case.size.lanes.most) };
         coms = coms_are sample.auction seat bid 1 tapes;
       };
       secret = record {
         id = case.id;
         some_seat = omega (arith, seat_within.0);
-        last_seat = omega (arith, seat_within.1);
-        small_bid = omega (arith, bid_within);
-        count = record { least = omega (arith, are.0); most = omega (arith, are.0) };
+        last_seat = omega (arith, seat_within.1, case.few_seals);
+        small_bid = omega (arith, bid_within, widest);
+        count = record { least = omega (arith, are.0, case.size.lanes.least); most = omega (arith, are.0, case.size.lanes.most) };
         tapes = recursion_from_All (λ tape. IsXTape tape) tapes are.1;
       };
       id = refl;

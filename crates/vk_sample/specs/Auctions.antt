@@ -12,7 +12,6 @@ use Rattle.vk_job.specs.declared.errors.JobErr.TheVariants as job
 use Rattle.vk_job.specs.Proofs.{Dry}
 use Rattle.vk_job.specs.Jobs.{dry_in}
 use Rattle.vk_report.specs.declared.sample.SampleCase.{SampleCase}
-use Rattle.vk_report.specs.Samples.{lanes, seals, width}
 use Rattle.vk_sample.specs.declared.errors.SampleErr.{SampleErr}
 use Rattle.vk_sample.specs.declared.errors.SampleErr.TheVariants as refusal
 
@@ -39,7 +38,7 @@ of_job job.NoMemory = refusal.NoMemory
 -- the secret of a seal: drawn for each lane from the words of the bidder's seed, in the stream of the seat
 abbrev pub secret_at : SampleCase → ℕ → Result Secret ℕ
 secret_at sample index =
-    secret_of (slice_index sample.bids index) (slice_index sample.seats index) sample.auction lanes
+    secret_of (slice_index sample.bids index) (slice_index sample.seats index) sample.auction sample.lanes
     (word_at (slice_index_or sample.seeds index []) sample.auction (65536 + slice_index sample.seats index))
 
 -- a secret with its seal; or the first lane that nothing can be drawn for
@@ -54,17 +53,26 @@ rows_onto sample rows (suc more) = sealed (secret_at sample (length rows)) >>= �
 
 -- ---- the whole
 
--- it is proved with the auctioneer's seed
+-- it is of version 1, which names no reserve, and is proved with the auctioneer's seed
 abbrev pub auction_with : SampleCase → List SealRow → Auction
-auction_with sample rows = record { id = sample.auction; width = width; lanes = lanes; phase = Proved sample.seed; seals = rows }
+auction_with sample rows = record {
+  id = sample.auction;
+  version = 1;
+  width = sample.width;
+  lanes = sample.lanes;
+  reserve = 0;
+  phase = Proved sample.seed;
+  seals = rows;
+}
 
-abbrev pub unless_dry : Auction → Option Dry → Result Auction DrySeed
-unless_dry auction None = Ok auction
-unless_dry auction (Some dry) = Err (OfHouse dry)
+-- what is made where no tape is dry
+abbrev pub unless_dry : {X : Type 0} → X → Option Dry → Result X DrySeed
+unless_dry made None = Ok made
+unless_dry made (Some dry) = Err (OfHouse dry)
 
 abbrev pub auction_by : SampleCase → List SealRow → Result Auction DrySeed
 auction_by sample rows = unless_dry (auction_with sample rows) (dry_in (auction_with sample rows) sample.seed)
 
 -- the auction of a sample, or the first seed that is dry: of the bidders in the order of their seals, then the auctioneer's
 unfoldable pub auction_of : SampleCase → Result Auction DrySeed
-auction_of sample = rows_onto sample [] seals >>= auction_by sample
+auction_of sample = rows_onto sample [] (length sample.seats) >>= auction_by sample

@@ -13,7 +13,7 @@ use Rattle.vk_job.specs.Published.{IsChallengeTo, board_of, reply_of}
 use Rattle.vk_honest.specs.Extracted.{sealed_bids}
 use Rattle.vk_honest.specs.Sizes.{line_count}
 use Rattle.vk_report.specs.declared.sample.SampleCase.{SampleCase}
-use Rattle.vk_report.specs.Samples.{lanes, sample_of, seals, width}
+use Rattle.vk_report.specs.Samples.{auction_sizes, sample_of}
 use Rattle.vk_sample.specs.Auctions.{auction_of}
 use Rattle.vk_sample.specs.Texts.{files_of, same_count, sample_names}
 
@@ -21,14 +21,17 @@ use Rattle.vk_sample.specs.Texts.{files_of, same_count, sample_names}
 abbrev pub OfEachSample : (SampleCase → Auction → Type 0) → Type 0
 OfEachSample Law = (number : ℕ) (auction : Auction) → auction_of (sample_of number) ≡ Ok auction → Law (sample_of number) auction
 
--- the auction is proved, both challenges are ones to it, and its seals have the seats and the bids of the sample
+-- the auction is proved, of version 1 with no reserve, both challenges are ones to it, and its seals have the seats and
+-- the bids of the sample
 pub record IsAuctionOf (sample : SampleCase) (auction : Auction) : Type 0 where
   pub proved : IsProvedAuction auction
   pub first : IsChallengeTo auction sample.first
   pub second : IsChallengeTo auction sample.second
-  pub width_is : auction.width ≡ width
-  pub lanes_are : auction.lanes ≡ lanes
-  pub seals_are : length auction.seals ≡ seals
+  pub version_is : auction.version ≡ 1
+  pub width_is : auction.width ≡ auction_sizes.width
+  pub lanes_are : auction.lanes ≡ auction_sizes.lanes
+  pub reserve_is : auction.reserve ≡ 0
+  pub seals_are : length auction.seals ≡ auction_sizes.seals
   pub seats_are : seats_of auction ≡ sample.seats
   pub bids_are : bids_of auction ≡ sample.bids
 
@@ -52,6 +55,6 @@ opened sample auction = sealed_bids auction sample.first sample.second
 pub record OpensAll (sample : SampleCase) (auction : Auction) : Type 0 where
   pub read : (files : Files) → extraction_on (written (files_of sample auction) files) sample_names.board
       sample_names.first.challenge sample_names.first.reply sample_names.second.challenge sample_names.second.reply ≡ Ok (Bids (opened sample auction))
-  pub all_lanes : length (opened sample auction).lanes ≡ lanes
-  pub all_seals : length (opened sample auction).front.seals ≡ seals
-  pub all_same : same_count (opened sample auction) ≡ seals
+  pub all_lanes : length (opened sample auction).lanes ≡ auction_sizes.lanes
+  pub all_seals : length (opened sample auction).front.seals ≡ auction_sizes.seals
+  pub all_same : same_count (length (opened sample auction).front.seals) (opened sample auction).lanes ≡ auction_sizes.seals

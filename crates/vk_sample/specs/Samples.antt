@@ -1,25 +1,30 @@
 -- What `sample` does, where nothing outside fails and memory is given.
-use Rattle.std.specs.Prelude.{ℕ, Option, Some, option_map, Result, Ok, Err}
+use Rattle.std.specs.Prelude.{ℕ, List, Option, Some, option_map, Result, Ok, Err}
 use Rattle.vk_io.specs.Files.{Files}
 use Rattle.vk_keeper.specs.Ledgers.{Ledger}
 use Rattle.vk_keeper.specs.declared.auction.Auction.{Auction}
 use Rattle.vk_job.specs.Published.{head_of}
 use Rattle.vk_report.specs.declared.sample.SampleCase.{SampleCase}
 use Rattle.vk_report.specs.Samples.{sample_of}
-use Rattle.vk_effect.specs.Effects.{Effect, says, writes_and_says}
+use Rattle.vk_effect.specs.Effects.{Effect, SaidValue, says, writes_and_says}
 use Rattle.vk_sample.specs.Auctions.{DrySeed, auction_of}
 use Rattle.vk_sample.specs.Texts.{dry_said, files_of, summary_said}
 pub use Rattle.vk_report.specs.Samples.{IsSampleCase}
 pub use Rattle.vk_effect.specs.Ends.{Acts}
 
--- the files are written and the summary is said
-abbrev pub made_effect : Option Ledger → ℕ → SampleCase → Auction → Effect
-made_effect ledger number sample auction = writes_and_says ledger (files_of sample auction) (summary_said number (head_of auction))
+-- over files that are told these are written, and this is said
+abbrev pub told_effect : Option Files → Option Ledger → List (List ℕ × List ℕ) → SaidValue → Option Effect
+told_effect files ledger texts said = option_map (λ told. writes_and_says ledger texts said) files
 
--- over files that are told. A seed that is dry is said over any files, and none is written
+-- the effect of what was made. A seed that is dry is said over any files, and none is written
+abbrev pub effect_unless_dry : {X : Type 0} → Option Ledger → (X → Option Effect) → Result X DrySeed → Option Effect
+effect_unless_dry ledger effect (Ok made) = effect made
+effect_unless_dry ledger effect (Err dry) = Some (says ledger (dry_said dry))
+
+-- the files are written and the summary is said
 abbrev pub effect_by : Option Files → Option Ledger → ℕ → SampleCase → Result Auction DrySeed → Option Effect
-effect_by files ledger number sample (Ok auction) = option_map (λ told. made_effect ledger number sample auction) files
-effect_by files ledger number sample (Err dry) = Some (says ledger (dry_said dry))
+effect_by files ledger number sample =
+    effect_unless_dry ledger (λ auction. told_effect files ledger (files_of sample auction) (summary_said number (head_of auction)))
 
 -- the ledger is left as it is
 unfoldable pub sample_on : Option Files → Option Ledger → ℕ → Option Effect

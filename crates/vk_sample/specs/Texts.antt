@@ -4,7 +4,7 @@ use Rattle.std.specs.List.{count_by, range_with_len}
 use Rattle.vk_board.specs.declared.board.Head.{Head}
 use Rattle.vk_reply.specs.Texts.{challenge_text}
 use Rattle.vk_verifier.specs.declared.answers.VErr.{VErr}
-use Rattle.vk_bids.specs.declared.extraction.Extracted.{Extracted}
+use Rattle.vk_bids.specs.declared.bids.LaneBids.{LaneBids}
 use Rattle.vk_bids.specs.Extraction.{Extraction}
 use Rattle.vk_bids.specs.declared.extraction.Extraction.TheVariants.{Refused, Same, Clash, Bids}
 use Rattle.vk_bids.specs.Texts.{has_one_bid, sale_line}
@@ -12,6 +12,7 @@ use Rattle.vk_keeper.specs.declared.auction.Auction.{Auction}
 use Rattle.vk_job.specs.Published.{board_of, reply_of}
 use Rattle.vk_honest.specs.Sizes.{board_lines, reply_lines}
 use Rattle.vk_report.specs.declared.sample.SampleCase.{SampleCase}
+use Rattle.vk_report.specs.Reports.{head_numbers}
 use Rattle.vk_words.specs.Names.{ExtractWords}
 use Rattle.vk_effect.specs.Dry.{bidder_dry_line, house_dry_line}
 use Rattle.vk_effect.specs.Effects.{SaidValue}
@@ -61,7 +62,7 @@ abbrev pub made_text : ℕ → Head → List ℕ
 made_text number head =
     (codes "sample " +++ decimal number +++ line_feed)
     ++ (size_line head
-    ++ (counts_text (board_lines head.seals head.width head.lanes) (reply_lines head.seals head.width head.lanes)
+    ++ (counts_text (board_lines (head_numbers head) head.lanes) (reply_lines (head_numbers head) head.lanes)
     ++ sale_line head))
 
 -- both replies are accepted
@@ -75,13 +76,13 @@ opened_text lanes same = (codes "extract lanes " +++ decimal lanes +++ codes " s
 abbrev pub found_text : ℕ → ℕ → List ℕ
 found_text lanes same = accepted_text ++ opened_text lanes same
 
--- how many of the seals have one bid in all lanes
-abbrev pub same_count : Extracted → ℕ
-same_count found = count_by (λ index. has_one_bid index found.lanes) (range_with_len 0 (length found.front.seals))
+-- how many of so many seals have one bid in all lanes
+abbrev pub same_count : ℕ → List LaneBids → ℕ
+same_count seals lanes = count_by (λ index. has_one_bid index lanes) (range_with_len 0 seals)
 
--- of the files as they were read back: bids are opened only where both replies are accepted. Else what `extract` says
+-- what is said of the files as they were read back: bids are opened only where both replies are accepted. Else what `extract` says
 abbrev pub opened_said : List ℕ → Extraction → SaidValue
-opened_said made (Bids found) = record { status = 0; text = made ++ found_text (length found.lanes) (same_count found) }
+opened_said made (Bids found) = record { status = 0; text = made ++ found_text (length found.lanes) (same_count (length found.front.seals) found.lanes) }
 opened_said made (Refused second verdict) = extraction_said sample_names (Refused second verdict)
 opened_said made Same = extraction_said sample_names Same
 opened_said made (Clash two) = extraction_said sample_names (Clash two)

@@ -1,17 +1,17 @@
--- The files of a sample in pieces: boards and replies lane by lane, each challenge as a whole.
-use Rattle.std.specs.Prelude.{List, [], ◌∷◌}
+-- The files of a proof in pieces: what is published and the replies lane by lane, each challenge as a whole.
+use Rattle.std.specs.Prelude.{ℕ, List, [], ◌∷◌}
 use Rattle.vk_io.specs.Writing.{WrittenFile}
+use Rattle.vk_reply.specs.declared.challenge.Challenge.{Challenge}
 use Rattle.vk_reply.specs.Texts.{challenge_text}
-use Rattle.vk_keeper.specs.declared.auction.Auction.{Auction}
-use Rattle.vk_job.specs.Published.{board_pieces, reply_pieces}
-use Rattle.vk_report.specs.declared.sample.SampleCase.{SampleCase}
-use Rattle.vk_sample.specs.Texts.{sample_names}
+use Rattle.vk_job.specs.Proofs.{ProofValue, file_pieces, reply_pieces_in}
+use Rattle.vk_words.specs.Names.{ExtractWords}
 
-abbrev pub written_of : SampleCase → Auction → List WrittenFile
-written_of sample auction =
-    record { name = sample_names.board; pieces = board_pieces auction }
-    ∷ record { name = sample_names.first.challenge; pieces = challenge_text sample.first ∷ [] }
-    ∷ record { name = sample_names.first.reply; pieces = reply_pieces auction sample.first }
-    ∷ record { name = sample_names.second.challenge; pieces = challenge_text sample.second ∷ [] }
-    ∷ record { name = sample_names.second.reply; pieces = reply_pieces auction sample.second }
+-- of a proof behind that text of a head, and of two challenges with the replies to them
+abbrev pub written_of : ExtractWords → List ℕ → ProofValue → Challenge → Challenge → List WrittenFile
+written_of names head proof first second =
+    record { name = names.board; pieces = file_pieces head proof }
+    ∷ record { name = names.first.challenge; pieces = challenge_text first ∷ [] }
+    ∷ record { name = names.first.reply; pieces = reply_pieces_in proof first.bits }
+    ∷ record { name = names.second.challenge; pieces = challenge_text second ∷ [] }
+    ∷ record { name = names.second.reply; pieces = reply_pieces_in proof second.bits }
     ∷ []

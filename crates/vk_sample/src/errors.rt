@@ -29,6 +29,17 @@ impl<T: Drop> From<AllocFailed<T>> for SampleErr {
     }
 }
 
+impl From<NoMemory> for SampleErr {
+    ghost use Rattle.std.specs.Prelude.{◌≡◌};
+    ghost use Rattle.vk_sample.specs.declared.errors.SampleErr.TheVariants.{NoMemory as OutOfMemory};
+
+    ghost from_gives = { λ _ e. e ≡ OutOfMemory };
+
+    fn from(_refused: NoMemory) -> SampleErr {
+        SampleErr::NoMemory
+    }
+}
+
 impl From<JobErr> for SampleErr {
     ghost from_gives = { λ refused e. e ≡ of_job refused };
 

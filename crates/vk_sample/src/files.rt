@@ -7,9 +7,10 @@ ghost use Rattle.vk_words.specs.Names.{extract_seen};
 ghost use Rattle.vk_sample.specs.Texts.{files_of, sample_names};
 
 use std::alloc::Global;
+use vk_board::head_text;
 use vk_io::{OutsideErr, Shelf, WrittenFiles, write_files};
-use vk_job::Job;
-use vk_reply::challenge_text;
+use vk_job::{HonestProof, Job};
+use vk_reply::{Challenge, challenge_text};
 use vk_report::SampleCase;
 use vk_residue::NoMemory;
 use vk_words::{AttemptNames, ExtractNames};
@@ -41,19 +42,23 @@ pub fn sample_names() -> ExtractNames<'static>
     }
 }
 
-/// The files that the board of a sample's job, both challenges and the replies to them are written to.
+/// The files that a proof behind that text of a head, two challenges and the replies to them are written to.
 #[derive(Drop)]
-struct SampleFiles<'a> {
-    job: &'a Job,
-    sample: &'a SampleCase,
-    ghost first_bits: { length sample.now.first.bits ≡ job.now.auction.lanes },
-    ghost second_bits: { length sample.now.second.bits ≡ job.now.auction.lanes },
+pub struct ProofFiles<'a> {
+    pub names: ExtractNames<'a>,
+    pub head: &'a [u8],
+    pub proof: &'a HonestProof<'a>,
+    pub first: &'a Challenge,
+    pub second: &'a Challenge,
+    pub ghost first_bits: { length first.now.bits ≡ proof.now.lanes },
+    pub ghost second_bits: { length second.now.bits ≡ proof.now.lanes },
 }
 
-impl<'a> WrittenFiles for SampleFiles<'a> {
+impl<'a> WrittenFiles for ProofFiles<'a> {
+    ghost use Rattle.vk_words.specs.Names.{extract_seen};
     ghost use Rattle.vk_sample.specs.Written.{written_of};
 
-    ghost files = { λ f. written_of f.sample.now f.job.now.auction };
+    ghost files = { λ f. written_of (extract_seen f.names) f.head.now f.proof.now f.first.now f.second.now };
 
     fn count(&self) -> usize {
         5
@@ -61,30 +66,30 @@ impl<'a> WrittenFiles for SampleFiles<'a> {
 
     fn name(&self, file: usize) -> &str {
         match file {
-            0 => BOARD,
-            1 => FIRST_CHALLENGE,
-            2 => FIRST_REPLY,
-            3 => SECOND_CHALLENGE,
-            _ => SECOND_REPLY,
+            0 => self.names.board,
+            1 => self.names.first.challenge,
+            2 => self.names.first.reply,
+            3 => self.names.second.challenge,
+            _ => self.names.second.reply,
         }
     }
 
     fn pieces(&self, file: usize) -> usize {
         match file {
-            0 => self.job.board_pieces(),
-            2 => self.job.reply_pieces(&self.sample.first),
-            4 => self.job.reply_pieces(&self.sample.second),
+            0 => self.proof.file_pieces(),
+            2 => self.proof.reply_pieces(self.first),
+            4 => self.proof.reply_pieces(self.second),
             _ => 1,
         }
     }
 
     fn piece(&self, alloc: Global, file: usize, index: usize) -> Result<Vec<u8>, NoMemory> {
         let piece = match file {
-            0 => self.job.board_piece(alloc, index)?,
-            1 => challenge_text(alloc, &self.sample.first)?,
-            2 => self.job.reply_piece(alloc, &self.sample.first, index)?,
-            3 => challenge_text(alloc, &self.sample.second)?,
-            _ => self.job.reply_piece(alloc, &self.sample.second, index)?,
+            0 => self.proof.file_piece(alloc, self.head, index)?,
+            1 => challenge_text(alloc, self.first)?,
+            2 => self.proof.reply_piece(alloc, self.first, index)?,
+            3 => challenge_text(alloc, self.second)?,
+            _ => self.proof.reply_piece(alloc, self.second, index)?,
         };
         Ok(piece)
     }
@@ -102,6 +107,15 @@ pub fn write_sample<S: Shelf>(
     ensures written { Told (WritesAll (files_of sample.now job.now.auction) result) (S.held shelf.old) (S.held shelf.new) }
     ensures causes { Causes OutsideErr.Failed result (S.Shelf.faults shelf.old) (S.Shelf.faults shelf.new) }
 {
-    write_files(alloc, shelf, &SampleFiles { job, sample })?;
+    let head = head_text(alloc, &job.head())?;
+    let proof = job.proof();
+    let files = ProofFiles {
+        names: sample_names(),
+        head: head.as_slice(),
+        proof: &proof,
+        first: &sample.first,
+        second: &sample.second,
+    };
+    write_files(alloc, shelf, &files)?;
     Ok(())
 }

@@ -1,7 +1,7 @@
 // The auction of a sample.
-ghost use Rattle.std.specs.Prelude.{◌≡◌, ◌<◌, [], IfOk};
+ghost use Rattle.std.specs.Prelude.{◌≡◌, ◌<◌, [], IfOk, length};
 ghost use Rattle.vk_lines.specs.Gives.{Gives};
-ghost use Rattle.vk_report.specs.Samples.{IsSampleCase, seals};
+ghost use Rattle.vk_report.specs.Samples.{IsCase, IsSampleCase};
 ghost use Rattle.vk_sample.specs.Auctions.{auction_of, dry_of, rows_onto, sealed, secret_at};
 
 use crate::errors::SampleErr;
@@ -9,14 +9,14 @@ use std::alloc::Global;
 use vk_dice::ChaChaWords;
 use vk_job::Job;
 use vk_keeper::{Auction, Phase, SealRow};
-use vk_report::{LANES, SEALS, SampleCase, WIDTH};
+use vk_report::SampleCase;
 use vk_seal::{SealErr, make_seal};
 use vk_seq::Seq;
 
 /// The seal at that index, counted from 0, with its secret: made with the bidder's seed in the stream of the seat.
 pub fn seal_row(alloc: Global, sample: &SampleCase, index: usize) -> Result<SealRow, SampleErr>
-    requires right { IsSampleCase sample.now }
-    requires within { index < seals }
+    requires right { IsCase sample.now }
+    requires within { index < length sample.now.seats }
     ensures { Gives dry_of (λ row. row) result (sealed (secret_at sample.now index)) }
 {
     let seat = sample.seats.as_slice()[index];
@@ -24,7 +24,7 @@ pub fn seal_row(alloc: Global, sample: &SampleCase, index: usize) -> Result<Seal
     let seed = &sample.seeds.as_slice()[index];
     let id = &sample.auction;
     let mut words = ChaChaWords::of(seed, id, 65536 + u64::from(seat));
-    match make_seal(alloc, bid, seat, id, WIDTH, LANES, &mut words) {
+    match make_seal(alloc, bid, seat, id, sample.width, sample.lanes, &mut words) {
         Ok((secret, seal)) => Ok(SealRow { seal, secret }),
         Err(SealErr::DrySeed { lane }) => Err(SampleErr::DryBidder { lane }),
         Err(SealErr::NoMemory) => Err(SampleErr::NoMemory),
@@ -32,14 +32,14 @@ pub fn seal_row(alloc: Global, sample: &SampleCase, index: usize) -> Result<Seal
     }
 }
 
-/// All seals.
-fn seal_rows(alloc: Global, sample: &SampleCase) -> Result<Seq<SealRow>, SampleErr>
-    requires { IsSampleCase sample.now }
-    ensures { Gives dry_of (λ rows. rows) result (rows_onto sample.now [] seals) }
+/// All seals, in the order of the seats.
+pub fn seal_rows(alloc: Global, sample: &SampleCase) -> Result<Seq<SealRow>, SampleErr>
+    requires { IsCase sample.now }
+    ensures { Gives dry_of (λ rows. rows) result (rows_onto sample.now [] (length sample.now.seats)) }
 {
     let mut rows = Seq::new(alloc);
-    for index in 0..SEALS {
-        let row = seal_row(alloc, sample, index as usize)?;
+    for index in 0..sample.seats.len() {
+        let row = seal_row(alloc, sample, index)?;
         rows.push(row)?;
     }
     Ok(rows)
@@ -54,8 +54,10 @@ pub fn make_job(alloc: Global, sample: &SampleCase) -> Result<Job, SampleErr>
     let seals = seal_rows(alloc, sample)?;
     let auction = Auction {
         id: sample.auction,
-        width: WIDTH,
-        lanes: LANES,
+        version: 1,
+        width: sample.width,
+        lanes: sample.lanes,
+        reserve: 0,
         phase: Phase::Proved { seed: sample.seed },
         seals,
     };

@@ -2,6 +2,7 @@
 ghost use Rattle.std.specs.Prelude.{◌≡◌, ◌++◌, IfOk, Ok, OnOk, length, string_bytes};
 ghost use Rattle.std.specs.List.{flat_map};
 ghost use Rattle.vk_board.specs.Values.{IsHead};
+ghost use Rattle.vk_report.specs.Reports.{head_numbers};
 ghost use Rattle.vk_honest.specs.Sizes.{board_lines, reply_lines};
 ghost use Rattle.vk_commit.specs.Commitment.{TwoOpeningsSeen};
 ghost use Rattle.vk_bids.specs.Texts.{clash_text, sale_line};
@@ -10,7 +11,7 @@ ghost use Rattle.vk_sample.specs.Texts.{accepted_text, counts_text, found_text, 
 use crate::files::sample_names;
 use std::alloc::Global;
 use vk_audit::extracted;
-use vk_bids::{Extracted, Extraction, has_one_bid, sale_line};
+use vk_bids::{Extracted, Extraction, LaneBids, has_one_bid, sale_line};
 use vk_board::Head;
 use vk_effect::Said;
 use vk_residue::NoMemory;
@@ -18,8 +19,9 @@ use vk_vickrey::{row_count, wire_count};
 
 /// How many lines the board has, which is of version 1.
 fn board_lines(head: &Head) -> u32
-    requires { IsHead head.now }
-    ensures { result ≡ board_lines head.now.seals head.now.width head.now.lanes }
+    requires right { IsHead head.now }
+    requires first { head.now.version ≡ 1 }
+    ensures { result ≡ board_lines (head_numbers head.now) head.now.lanes }
 {
     let lane = 1 + (wire_count(head.seals, head.width) - head.seals) + row_count(head.seals);
     7 + head.seals * (1 + head.lanes) + head.lanes * lane + 1
@@ -27,8 +29,9 @@ fn board_lines(head: &Head) -> u32
 
 /// How many lines a reply to it has.
 fn reply_lines(head: &Head) -> u32
-    requires { IsHead head.now }
-    ensures { result ≡ reply_lines head.now.seals head.now.width head.now.lanes }
+    requires right { IsHead head.now }
+    requires first { head.now.version ≡ 1 }
+    ensures { result ≡ reply_lines (head_numbers head.now) head.now.lanes }
 {
     2 + head.lanes * (1 + wire_count(head.seals, head.width)) + 1
 }
@@ -42,7 +45,7 @@ fn push(lines: &mut Vec<String>, line: String) -> Result<(), NoMemory>
 }
 
 /// Two lines more.
-fn push_two(lines: &mut Vec<String>, first: String, second: String) -> Result<(), NoMemory>
+pub fn push_two(lines: &mut Vec<String>, first: String, second: String) -> Result<(), NoMemory>
     ensures { OnOk result (flat_map string_bytes lines.new.items ≡ flat_map string_bytes lines.old.items ++ (string_bytes first ++ string_bytes second)) }
 {
     push(lines, first)?;
@@ -50,9 +53,10 @@ fn push_two(lines: &mut Vec<String>, first: String, second: String) -> Result<()
     Ok(())
 }
 
-/// The lines of the auction as it was made.
+/// The lines of the auction as it was made, which is of version 1.
 pub fn made_lines(alloc: Global, number: u64, head: &Head) -> Result<Vec<String>, NoMemory>
-    requires { IsHead head.now }
+    requires right { IsHead head.now }
+    requires first { head.now.version ≡ 1 }
     ensures { IfOk result (λ lines. flat_map string_bytes lines.items ≡ made_text number head.now) }
 {
     let mut lines = Vec::new(alloc);
@@ -80,9 +84,10 @@ fn push_size(alloc: Global, lines: &mut Vec<String>, head: &Head) -> Result<(), 
 
 /// How many lines the files have.
 fn push_counts(alloc: Global, lines: &mut Vec<String>, head: &Head) -> Result<(), NoMemory>
-    requires { IsHead head.now }
+    requires right { IsHead head.now }
+    requires first { head.now.version ≡ 1 }
     ensures { OnOk result (flat_map string_bytes lines.new.items ≡ flat_map string_bytes lines.old.items
-        ++ counts_text (board_lines head.now.seals head.now.width head.now.lanes) (reply_lines head.now.seals head.now.width head.now.lanes)) }
+        ++ counts_text (board_lines (head_numbers head.now) head.now.lanes) (reply_lines (head_numbers head.now) head.now.lanes)) }
 {
     let board = board_lines(head);
     let board = format!(in alloc; "board lines {board}\n")?;
@@ -101,27 +106,41 @@ fn push_sale(alloc: Global, lines: &mut Vec<String>, head: &Head) -> Result<(), 
     Ok(())
 }
 
-/// How many of the seals have one bid in all lanes.
-fn same_count(found: &Extracted) -> usize
-    ensures { result ≡ same_count found.now }
+/// How many of so many seals have one bid in all lanes.
+pub fn same_count(seals: usize, lanes: &[LaneBids]) -> usize
+    ensures { result ≡ same_count seals lanes.now }
 {
-    let lanes = found.lanes.as_slice();
-    (0..found.front.seals.len())
+    (0..seals)
         .filter(|index| has_one_bid(*index, lanes))
         .count()
 }
 
-/// The lines of bids that both replies open, behind those of the auction as it was made.
-fn found_lines(alloc: Global, made: Vec<String>, found: &Extracted) -> Result<Vec<String>, NoMemory>
-    ensures { IfOk result (λ lines. flat_map string_bytes lines.items
-        ≡ flat_map string_bytes made.items ++ found_text (length found.now.lanes) (same_count found.now)) }
+/// The lines of what both replies open, behind those of what was made: in how many lanes, and of how many seals the
+/// same in all of these.
+pub fn found_lines(
+    alloc: Global,
+    made: Vec<String>,
+    lanes: usize,
+    same: usize,
+) -> Result<Vec<String>, NoMemory>
+    ensures { IfOk result (λ text. flat_map string_bytes text.items
+        ≡ flat_map string_bytes made.items ++ found_text lanes same) }
 {
-    let mut lines = made;
-    let lanes = found.lanes.len();
-    let same = same_count(found);
-    push_accepted(alloc, &mut lines)?;
-    push_opened(alloc, &mut lines, lanes, same)?;
-    Ok(lines)
+    let mut text = made;
+    push_accepted(alloc, &mut text)?;
+    push_opened(alloc, &mut text, lanes, same)?;
+    Ok(text)
+}
+
+/// Those of bids that both replies open.
+fn bids_lines(alloc: Global, made: Vec<String>, found: &Extracted) -> Result<Vec<String>, NoMemory>
+    ensures { IfOk result (λ text. flat_map string_bytes text.items ≡ flat_map string_bytes made.items
+        ++ found_text (length found.now.lanes) (same_count (length found.now.front.seals) found.now.lanes)) }
+{
+    let lanes = found.lanes.as_slice();
+    let same = same_count(found.front.seals.len(), lanes);
+    let text = found_lines(alloc, made, lanes.len(), same)?;
+    Ok(text)
 }
 
 /// That both replies are accepted.
@@ -149,7 +168,7 @@ fn push_opened(
     Ok(())
 }
 
-/// Of what the replies come to as they were read back.
+/// What is said of what the replies come to as they were read back.
 pub fn opened(alloc: Global, made: Vec<String>, extraction: &Extraction) -> Result<Said, NoMemory>
     ensures said { IfOk result (λ said. said ≡ opened_said (flat_map string_bytes made.items) extraction.now) }
     ensures clash { (two : TwoOpeningsSeen) → extraction.now ≡ Extraction.Clash two
@@ -157,7 +176,7 @@ pub fn opened(alloc: Global, made: Vec<String>, extraction: &Extraction) -> Resu
 {
     match extraction {
         Extraction::Bids(found) => {
-            let lines = found_lines(alloc, made, found)?;
+            let lines = bids_lines(alloc, made, found)?;
             Ok(Said::of_lines(0, lines))
         }
         other => {

@@ -6,14 +6,13 @@ use Rattle.vk_plan.specs.Plans.{Holds}
 use Rattle.vk_range.specs.SetLaws.{All-listed}
 use Rattle.vk_prover.specs.Laws.{IsTapeOf}
 use Rattle.vk_reply.specs.Texts.{reply_text}
-use Rattle.vk_vickrey.specs.VickreyPlans.{IsVickreyClaim}
-use Rattle.vk_vickrey.specs.VickreyLaws.{vickrey_complete}
+use Rattle.vk_vickrey.specs.BoardPlans.{BoardClaim}
 use Rattle.vk_keeper.specs.declared.auction.Auction.{Auction}
 use Rattle.vk_job.specs.Proofs.{lane_in, lane_shown_in}
-use Rattle.vk_job.specs.Jobs.{IsProvedAuction, plan_of, values_of, proof_of, lane_tape, outcome_in}
+use Rattle.vk_job.specs.Jobs.{IsProvedAuction, numbers_in, plan_of, values_of, proof_of, lane_tape}
 use Rattle.vk_job.specs.Published.{lane_of, shown_in, shown_from}
 use Rattle.vk_job.proofs.Drawing.{lane_tape_is}
-use Rattle.vk_job.proofs.Held.{has_seal, case_is, plan_is, proof_is, values_hold}
+use Rattle.vk_job.proofs.Held.{board_values_hold, has_seal, case_is, plan_is, proof_is, values_hold}
 use Rattle.vk_views.specs.Views.{views_of}
 use Rattle.vk_views.specs.Auctions.{RepliesAreTextsOfViews, PostedAreThoseOfViews, OtherBidsGiveTheViews, tapes_of, values_for}
 use Rattle.vk_views.proofs.Counts.{views_of_lanes}
@@ -50,12 +49,11 @@ tapes_are auction proved =
 
 -- the values for other bids hold for the plan
 others_hold : (auction : Auction) (others : List ℕ) → IsProvedAuction auction
-    → IsVickreyClaim (length auction.seals) auction.width (outcome_in auction).position (outcome_in auction).price others
+    → BoardClaim (numbers_in auction) others
     → Holds (plan_of auction) (values_for auction others)
 unfolding plan_of
 others_hold auction others proved claim =
-    vickrey_complete (length auction.seals) auction.width (outcome_in auction).position (outcome_in auction).price others
-    (case_is auction proved.right (has_seal auction proved)) claim
+    board_values_hold (numbers_in auction) (case_is auction proved.right (has_seal auction proved)) others claim
 
 pub others_give_the_views : OtherBidsGiveTheViews
 others_give_the_views auction challenge proved same others claim =

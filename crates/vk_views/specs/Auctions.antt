@@ -4,9 +4,9 @@ use Rattle.vk_range.specs.Sets.{listed}
 use Rattle.vk_wire.specs.declared.wire.WireTape.{WireTape}
 use Rattle.vk_reply.specs.declared.challenge.Challenge.{Challenge}
 use Rattle.vk_reply.specs.Texts.{reply_text}
-use Rattle.vk_vickrey.specs.VickreyPlans.{IsVickreyClaim, honest_values}
+use Rattle.vk_vickrey.specs.BoardPlans.{BoardClaim, board_values}
 use Rattle.vk_keeper.specs.declared.auction.Auction.{Auction}
-use Rattle.vk_job.specs.Jobs.{IsProvedAuction, outcome_in, plan_of, values_of, lane_tape}
+use Rattle.vk_job.specs.Jobs.{IsProvedAuction, numbers_in, plan_of, values_of, lane_tape}
 use Rattle.vk_job.specs.Published.{published, reply_of}
 use Rattle.vk_views.specs.declared.views.LaneView.{LaneView}
 use Rattle.vk_views.specs.Views.{views_of}
@@ -36,13 +36,12 @@ PostedAreThoseOfViews =
 
 -- the values of the wires, had these been the bids
 abbrev pub values_for : Auction → List ℕ → List ℕ
-values_for auction bids = honest_values (length auction.seals) auction.width (outcome_in auction).position (outcome_in auction).price bids
+values_for auction bids = board_values (numbers_in auction) bids
 
--- other bids of the auction's outcome: with the moved tapes of all lanes they give these very views
+-- other bids of which the board would publish the same: with the moved tapes of all lanes they give these very views
 abbrev pub OtherBidsGiveTheViews : Type 0
 OtherBidsGiveTheViews =
-    WhereAnswered (λ auction challenge. (others : List ℕ)
-    → IsVickreyClaim (length auction.seals) auction.width (outcome_in auction).position (outcome_in auction).price others
+    WhereAnswered (λ auction challenge. (others : List ℕ) → BoardClaim (numbers_in auction) others
     → views_of (plan_of auction) (values_for auction others)
     (moved_tapes (plan_of auction).kinds (values_of auction) (values_for auction others) challenge.bits (tapes_of auction)) challenge.bits
     ≡ views_in auction challenge.bits)

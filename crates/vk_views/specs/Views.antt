@@ -10,6 +10,6 @@ use Rattle.vk_views.specs.declared.views.LaneView.{LaneView}
 abbrev pub view_of : PlanValue → List ℕ → List WireTape → Bool → LaneView
 view_of plan values tape bit = record { shown = honest_reply plan.kinds values tape bit; posted = honest_posted plan.rows tape }
 
--- of each lane of a challenge: by its tape and its bit
+-- the view of each lane of a challenge, by its tape and its bit
 abbrev pub views_of : PlanValue → List ℕ → List (List WireTape) → List Bool → List LaneView
 views_of plan values tapes bits = zip2 (view_of plan values) tapes bits

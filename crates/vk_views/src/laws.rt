@@ -44,9 +44,10 @@ pub fn bids_of_one_outcome_give_the_same_views()
     ensures all_lanes { OfOneOutcome TapesOfLanesAreEquallyMany }
 {}
 
-/// A law of every auction that is proved: the reply to a challenge is the text of what the views of its lanes show,
-/// and the numbers that the board posts are those of the views. What else stands in a lane of the board is digests, by
-/// `vk_job::published_boards_are_of_their_form`. Other bids of the outcome give the same views, with the moved tapes.
+/// A law of every auction that is proved, of either version, sold or not: the reply to a challenge is the text of what the
+/// views of its lanes show, and the numbers that the board posts are those of the views. What else stands in a lane of the
+/// board is digests, by `vk_job::published_boards_are_of_their_form`. Other bids of the sale give the same views, with the
+/// moved tapes.
 pub fn what_is_handed_out_is_the_views()
     ensures replies { RepliesAreTextsOfViews }
     ensures posted { PostedAreThoseOfViews }

@@ -1,10 +1,10 @@
 use Rattle.vk_job.specs.Jobs.{proof_of}
-use Rattle.vk_job.proofs.Held.{has_seal, outcome_is, proof_is}
+use Rattle.vk_job.proofs.Held.{has_seal, proof_is, sale_is}
 use Rattle.vk_job.proofs.Drawing.{lane_tape_is}
 use Rattle.vk_job.proofs.laws.proved_auctions_hold.Goals as goal
 
-pub returns-clause-outcome : goal.returns-clause-outcome
-returns-clause-outcome c auction proved = outcome_is auction (has_seal auction proved)
+pub returns-clause-sale : goal.returns-clause-sale
+returns-clause-sale c auction proved = sale_is auction (has_seal auction proved)
 
 pub returns-clause-plan : goal.returns-clause-plan
 returns-clause-plan c auction proved = (proof_is auction proved).plan

@@ -1,5 +1,4 @@
 use Rattle.std.proofs.Common.{◌≡◌, ◌-◌, [], length}
-use Rattle.vk_report.specs.Samples.{seals}
 use Rattle.vk_sample.specs.Auctions.{rows_onto}
 use Rattle.vk_sample.proofs.making.seal_rows.Given as goal
 
@@ -7,5 +6,5 @@ use Rattle.vk_sample.proofs.making.seal_rows.Given as goal
 abbrev pub invariant-loop-index : goal.invariant-loop-index
 invariant-loop-index l = record {
   count : length l.rows ≡ l.index;
-  made : rows_onto l.sample l.rows (seals - l.index) ≡ rows_onto l.sample [] seals;
+  made : rows_onto l.sample l.rows (length l.sample.seats - l.index) ≡ rows_onto l.sample [] (length l.sample.seats);
 }

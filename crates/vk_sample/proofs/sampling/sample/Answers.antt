@@ -1,10 +1,11 @@
 use Rattle.std.proofs.Common.{◌≡◌, Result, Ok, refl}
 use Rattle.std.proofs.lemmas.Result.{err_from_is_err_and}
+use Rattle.vk_job.specs.Published.{head_of}
 use Rattle.vk_effect.specs.Effects.{SaidValue, stores}
 use Rattle.vk_effect.proofs.Acting.{if_some_map}
 use Rattle.vk_sample.specs.Auctions.{auction_of, dry_of}
-use Rattle.vk_sample.specs.Samples.{sample_on}
-use Rattle.vk_sample.specs.Texts.{dry_said}
+use Rattle.vk_sample.specs.Samples.{sample_on, told_effect}
+use Rattle.vk_sample.specs.Texts.{dry_said, files_of, summary_said}
 use Rattle.vk_sample.proofs.Acting.{dry_acts, sample_acts, stopped_first}
 use Rattle.vk_sample.proofs.sampling.sample.Goals as goal
 
@@ -31,5 +32,6 @@ returns-clause-acts g c = λ ledger.
     let held = g.S.Shelf.held c.args.shelf.now in
     let sample = c.in_ok-sample.sample in
     sample_acts c.args.number sample (auction_of sample) held held ledger (Ok c.in_ok-said-in-Err.said) c.in_ok-sample.ensures.sample refl
-    (dry_acts (dry_of c.in-Err.dry) (auction_of sample) held ledger c.args.number sample c.in_ok-said-in-Err.said c.in-Err.ensures
+    (dry_acts (dry_of c.in-Err.dry) (auction_of sample) held ledger
+    (λ auction. told_effect held ledger (files_of sample auction) (summary_said c.args.number (head_of auction))) c.in_ok-said-in-Err.said c.in-Err.ensures
     (if_some_map _ _ (λ dry. same_said c.in_ok-said-in-Err.said (dry_said dry)) (dry_of c.in-Err.dry) c.in_ok-said-in-Err.ensures.said) c.in_ok-said-in-Err.ensures.dry)
