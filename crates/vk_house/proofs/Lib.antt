@@ -1,4 +1,3 @@
-pub mod Fields
 pub mod Passing
 pub mod Deciding
 mod Keeping
@@ -7,3 +6,4 @@ pub mod Alone
 pub mod Once
 pub mod Seeds
 pub mod Rights
+pub mod Migrating

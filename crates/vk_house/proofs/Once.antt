@@ -2,23 +2,22 @@
 use Rattle.std.proofs.Common.{◌≡◌, ℕ, zero, suc, List, [], ◌∷◌, Option, Some, None, IfSome, IsSomeAnd, refl, sym, ap, subst, ◌∙◌, arith}
 use Rattle.std.specs.Option.{option_or}
 use Rattle.std.specs.FinMap.{get}
-use Rattle.vk_vickrey.specs.declared.outcomes.VickreyOutcome.{VickreyOutcome}
+use Rattle.vk_vickrey.specs.declared.sales.Sale.{Sale}
 use Rattle.vk_reply.specs.declared.challenge.Challenge.{Challenge}
 use Rattle.vk_keeper.specs.declared.auction.Auction.{Auction}
 use Rattle.vk_keeper.specs.declared.auction.Phase.{Phase}
 use Rattle.vk_keeper.specs.declared.auction.Phase.TheVariants.{Taking, Proved, Answered}
-use Rattle.vk_keeper.specs.declared.auction.SealRow.{SealRow}
 use Rattle.vk_keeper.specs.Auctions.{challenge_of}
 use Rattle.vk_keeper.specs.Joining.{first_of}
 use Rattle.vk_keeper.specs.Ledgers.{Ledger}
 use Rattle.vk_house.specs.declared.errors.HouseErr.{HouseErr}
-use Rattle.vk_house.specs.Commands.{HouseCommand, Announce, Submit, Prove, Answer, Show, id_of}
+use Rattle.vk_house.specs.Commands.{HouseCommand, Announce, AnnounceReserve, Submit, Prove, Answer, Show, id_of}
 use Rattle.vk_house.specs.Replies.{HouseReply, Work}
-use Rattle.vk_house.specs.Refusals.{refusals_of, refusal_of, other_than}
-use Rattle.vk_house.specs.Steps.{step_by, step_at, kept_by, HouseCall}
+use Rattle.vk_house.specs.Tests.{other_than}
+use Rattle.vk_house.specs.Refusals.{refusals_of, refusal_of}
+use Rattle.vk_house.specs.Steps.{step_by, step_at, kept_by, in_phase, HouseCall}
 use Rattle.vk_house.specs.Runs.{Event, HouseRun}
 use Rattle.vk_house.specs.Once.{KeepsSeed, KeepsAnswer, KeepsAnswers, IsAnswered}
-use Rattle.vk_house.proofs.Fields.{auction_with}
 use Rattle.vk_house.proofs.Passing.{none_holds, nothing_there}
 use Rattle.vk_house.proofs.Deciding.{challenge_with, kept_same}
 use Rattle.vk_house.proofs.Stepping.{value_after, step_here, step_reply, call_each}
@@ -29,33 +28,34 @@ Stays old new = IfSome old (λ auction. KeepsAnswer auction auction.phase new)
 
 -- ---- one auction
 
-stays_by : (id : List ℕ) (width lanes : ℕ) (phase : Phase) (seals : List SealRow) → let auction = auction_with id width lanes phase seals in KeepsAnswer auction phase (Some auction)
-stays_by id width lanes Taking seals = tt
-stays_by id width lanes (Proved seed) seals = record { same = refl; seed = refl }
-stays_by id width lanes (Answered seed challenge) seals = refl
+stays_by : (held : Auction) (phase : Phase) → let auction = in_phase held phase in KeepsAnswer auction phase (Some auction)
+stays_by held Taking = tt
+stays_by held (Proved seed) = record { same = refl; seed = refl }
+stays_by held (Answered seed challenge) = refl
 
 stays : (found : Option Auction) → Stays found found
 stays None = tt
-stays (Some auction) = stays_by auction.id auction.width auction.lanes auction.phase auction.seals
+stays (Some auction) = stays_by auction auction.phase
 
 -- a command that isn't refused
-kept_stays : (command : HouseCommand) (id : List ℕ) (width lanes : ℕ) (phase : Phase) (seals : List SealRow) → let auction = auction_with id width lanes phase seals in refusal_of command (Some auction) ≡ None → KeepsAnswer auction phase (option_or (kept_by command (Some auction)) (Some auction))
+kept_stays : (command : HouseCommand) (held : Auction) (phase : Phase) → let auction = in_phase held phase in refusal_of command (Some auction) ≡ None → KeepsAnswer auction phase (option_or (kept_by command (Some auction)) (Some auction))
 unfolding first_of
-kept_stays (Announce asked w l) id width lanes phase seals passes = cc
-kept_stays (Submit asked seal secret) id width lanes Taking seals passes = tt
-kept_stays (Submit asked seal secret) id width lanes (Proved seed) seals passes = cc
-kept_stays (Submit asked seal secret) id width lanes (Answered seed challenge) seals passes = cc
-kept_stays (Prove asked given) id width lanes Taking seals passes = tt
-kept_stays (Prove asked given) id width lanes (Proved seed) seals passes = record { same = refl; seed = refl }
-kept_stays (Prove asked given) id width lanes (Answered seed challenge) seals passes = refl
-kept_stays (Answer asked given) id width lanes Taking seals passes = tt
-kept_stays (Answer asked given) id width lanes (Proved seed) seals passes = record { same = refl; seed = refl }
-kept_stays (Answer asked given) id width lanes (Answered seed challenge) seals passes = refl
-kept_stays (Show asked) id width lanes phase seals passes = stays_by id width lanes phase seals
+kept_stays (Announce asked w l) held phase passes = cc
+kept_stays (AnnounceReserve asked w l reserve) held phase passes = cc
+kept_stays (Submit asked seal secret) held Taking passes = tt
+kept_stays (Submit asked seal secret) held (Proved seed) passes = cc
+kept_stays (Submit asked seal secret) held (Answered seed challenge) passes = cc
+kept_stays (Prove asked given) held Taking passes = tt
+kept_stays (Prove asked given) held (Proved seed) passes = record { same = refl; seed = refl }
+kept_stays (Prove asked given) held (Answered seed challenge) passes = refl
+kept_stays (Answer asked given) held Taking passes = tt
+kept_stays (Answer asked given) held (Proved seed) passes = record { same = refl; seed = refl }
+kept_stays (Answer asked given) held (Answered seed challenge) passes = refl
+kept_stays (Show asked) held phase passes = stays_by held phase
 
 step_stays : (command : HouseCommand) (auction : Auction) (refusal : Option HouseErr) → refusal_of command (Some auction) ≡ refusal → KeepsAnswer auction auction.phase (option_or (step_by refusal command (Some auction) (kept_by command (Some auction))).kept (Some auction))
 step_stays command auction (Some refusal) is = stays (Some auction)
-step_stays command auction None is = kept_stays command auction.id auction.width auction.lanes auction.phase auction.seals is
+step_stays command auction None is = kept_stays command auction auction.phase is
 
 value_stays : (command : HouseCommand) (found : Option Auction) → Stays found (value_after command found)
 unfolding value_after step_at
@@ -80,26 +80,26 @@ seed_on auction later last kept first second = record {
 some_seed : (seed kept : List ℕ) → Some seed ≡ Some kept → seed ≡ kept
 some_seed seed kept is = cc
 
-proved_on : (auction : Auction) (kept : List ℕ) (id : List ℕ) (width lanes : ℕ) (phase : Phase) (seals : List SealRow) (last : Option Auction) → let later = auction_with id width lanes phase seals in KeepsSeed auction kept later → KeepsAnswer later phase last → IsSomeAnd last (KeepsSeed auction kept)
-proved_on auction kept id width lanes Taking seals last first second = cc first.seed
-proved_on auction kept id width lanes (Proved seed) seals None first second = absurd second
-proved_on auction kept id width lanes (Proved seed) seals (Some last) first second =
-    seed_on auction (auction_with id width lanes (Proved seed) seals) last kept first (subst (λ s. KeepsSeed (auction_with id width lanes (Proved seed) seals) s last) (some_seed seed kept first.seed) second)
-proved_on auction kept id width lanes (Answered seed challenge) seals last first second =
+proved_on : (auction : Auction) (kept : List ℕ) (held : Auction) (phase : Phase) (last : Option Auction) → let later = in_phase held phase in KeepsSeed auction kept later → KeepsAnswer later phase last → IsSomeAnd last (KeepsSeed auction kept)
+proved_on auction kept held Taking last first second = cc first.seed
+proved_on auction kept held (Proved seed) None first second = absurd second
+proved_on auction kept held (Proved seed) (Some last) first second =
+    seed_on auction (in_phase held (Proved seed)) last kept first (subst (λ s. KeepsSeed (in_phase held (Proved seed)) s last) (some_seed seed kept first.seed) second)
+proved_on auction kept held (Answered seed challenge) last first second =
     subst (λ l. IsSomeAnd l (KeepsSeed auction kept)) (sym second) first
 
-on_by : (id : List ℕ) (width lanes : ℕ) (phase : Phase) (seals : List SealRow) (between last : Option Auction) → let auction = auction_with id width lanes phase seals in KeepsAnswer auction phase between → Stays between last → KeepsAnswer auction phase last
-on_by id width lanes Taking seals between last first second = tt
-on_by id width lanes (Proved seed) seals None last first second = absurd first
-on_by id width lanes (Proved seed) seals (Some later) last first second =
-    proved_on (auction_with id width lanes (Proved seed) seals) seed later.id later.width later.lanes later.phase later.seals last first second
-on_by id width lanes (Answered seed challenge) seals between last first second =
+on_by : (held : Auction) (phase : Phase) (between last : Option Auction) → let auction = in_phase held phase in KeepsAnswer auction phase between → Stays between last → KeepsAnswer auction phase last
+on_by held Taking between last first second = tt
+on_by held (Proved seed) None last first second = absurd first
+on_by held (Proved seed) (Some later) last first second =
+    proved_on (in_phase held (Proved seed)) seed later later.phase last first second
+on_by held (Answered seed challenge) between last first second =
     subst (λ b. Stays b last) first second
 
 stays_on : (found between last : Option Auction) → Stays found between → Stays between last → Stays found last
 stays_on None between last first second = tt
 stays_on (Some auction) between last first second =
-    on_by auction.id auction.width auction.lanes auction.phase auction.seals between last first second
+    on_by auction auction.phase between last first second
 
 pub keeps_on : (old between new : Ledger) → KeepsAnswers old between → KeepsAnswers between new → KeepsAnswers old new
 keeps_on old between new first second id = stays_on (get old id) (get between id) (get new id) (first id) (second id)
@@ -115,48 +115,48 @@ run_keeps (event ∷ later) old new run =
 abbrev Answers : Challenge → Option Auction → Type 0
 Answers challenge found = IsSomeAnd found (λ auction. challenge_of auction.phase ≡ Some challenge)
 
-stays_answered_by : (challenge : Challenge) (id : List ℕ) (width lanes : ℕ) (phase : Phase) (seals : List SealRow) (later : Option Auction) → let auction = auction_with id width lanes phase seals in challenge_of phase ≡ Some challenge → KeepsAnswer auction phase later → Answers challenge later
-stays_answered_by challenge id width lanes Taking seals later is keeps = cc
-stays_answered_by challenge id width lanes (Proved seed) seals later is keeps = cc
-stays_answered_by challenge id width lanes (Answered seed kept) seals later is keeps = subst (Answers challenge) (sym keeps) is
+stays_answered_by : (challenge : Challenge) (held : Auction) (phase : Phase) (later : Option Auction) → let auction = in_phase held phase in challenge_of phase ≡ Some challenge → KeepsAnswer auction phase later → Answers challenge later
+stays_answered_by challenge held Taking later is keeps = cc
+stays_answered_by challenge held (Proved seed) later is keeps = cc
+stays_answered_by challenge held (Answered seed kept) later is keeps = subst (Answers challenge) (sym keeps) is
 
 stays_answered : (challenge : Challenge) (found later : Option Auction) → Answers challenge found → Stays found later → Answers challenge later
 stays_answered challenge None later is keeps = absurd is
 stays_answered challenge (Some auction) later is keeps =
-    stays_answered_by challenge auction.id auction.width auction.lanes auction.phase auction.seals later is keeps
+    stays_answered_by challenge auction auction.phase later is keeps
 
-answered_in : (asked : List ℕ) (challenge : Challenge) (id : List ℕ) (width lanes : ℕ) (phase : Phase) (seals : List SealRow) → let auction = auction_with id width lanes phase seals in refusal_of (Answer asked challenge) (Some auction) ≡ None → Answers challenge (option_or (kept_by (Answer asked challenge) (Some auction)) (Some auction))
+answered_in : (asked : List ℕ) (challenge : Challenge) (held : Auction) (phase : Phase) → let auction = in_phase held phase in refusal_of (Answer asked challenge) (Some auction) ≡ None → Answers challenge (option_or (kept_by (Answer asked challenge) (Some auction)) (Some auction))
 unfolding first_of
-answered_in asked challenge id width lanes Taking seals passes = cc
-answered_in asked challenge id width lanes (Proved seed) seals passes = refl
-answered_in asked challenge id width lanes (Answered seed kept) seals passes =
-    let auction = auction_with id width lanes (Answered seed kept) seals in
+answered_in asked challenge held Taking passes = cc
+answered_in asked challenge held (Proved seed) passes = refl
+answered_in asked challenge held (Answered seed kept) passes =
+    let auction = in_phase held (Answered seed kept) in
     let tests = none_holds (refusals_of (Answer asked challenge) (Some auction)) passes in
     ap (λ bits. Some (challenge_with bits)) (kept_same challenge.bits kept.bits (nothing_there _ (other_than challenge (Some kept)) tests.1.1.1.0))
 
-work_answers : (asked : List ℕ) (challenge : Challenge) (found : Option Auction) (refusal : Option HouseErr) (auction : Auction) (outcome : VickreyOutcome) → refusal_of (Answer asked challenge) found ≡ refusal → (step_by refusal (Answer asked challenge) found (kept_by (Answer asked challenge) found)).reply ≡ Work auction outcome → Answers challenge (option_or (step_by refusal (Answer asked challenge) found (kept_by (Answer asked challenge) found)).kept found)
-work_answers asked challenge found (Some refusal) auction outcome is works = cc
-work_answers asked challenge None None auction outcome is works = cc
-work_answers asked challenge (Some found) None auction outcome is works =
-    answered_in asked challenge found.id found.width found.lanes found.phase found.seals is
+work_answers : (asked : List ℕ) (challenge : Challenge) (found : Option Auction) (refusal : Option HouseErr) (auction : Auction) (sale : Sale) → refusal_of (Answer asked challenge) found ≡ refusal → (step_by refusal (Answer asked challenge) found (kept_by (Answer asked challenge) found)).reply ≡ Work auction sale → Answers challenge (option_or (step_by refusal (Answer asked challenge) found (kept_by (Answer asked challenge) found)).kept found)
+work_answers asked challenge found (Some refusal) auction sale is works = cc
+work_answers asked challenge None None auction sale is works = cc
+work_answers asked challenge (Some found) None auction sale is works =
+    answered_in asked challenge found found.phase is
 
-value_answers : (asked : List ℕ) (challenge : Challenge) (found : Option Auction) (auction : Auction) (outcome : VickreyOutcome) → (step_at (Answer asked challenge) found).reply ≡ Work auction outcome → Answers challenge (value_after (Answer asked challenge) found)
+value_answers : (asked : List ℕ) (challenge : Challenge) (found : Option Auction) (auction : Auction) (sale : Sale) → (step_at (Answer asked challenge) found).reply ≡ Work auction sale → Answers challenge (value_after (Answer asked challenge) found)
 unfolding value_after step_at
-value_answers asked challenge found auction outcome works =
-    work_answers asked challenge found (refusal_of (Answer asked challenge) found) auction outcome refl works
+value_answers asked challenge found auction sale works =
+    work_answers asked challenge found (refusal_of (Answer asked challenge) found) auction sale refl works
 
-call_answers : (old new : Ledger) (id : List ℕ) (challenge : Challenge) (auction : Auction) (outcome : VickreyOutcome) → HouseCall old (Answer id challenge) (Work auction outcome) new → Answers challenge (get new id)
-call_answers old new id challenge auction outcome is =
-    subst (Answers challenge) (sym (step_here old new (Answer id challenge) (Work auction outcome) is))
-    (value_answers id challenge (get old id) auction outcome (step_reply old new (Answer id challenge) (Work auction outcome) is))
+call_answers : (old new : Ledger) (id : List ℕ) (challenge : Challenge) (auction : Auction) (sale : Sale) → HouseCall old (Answer id challenge) (Work auction sale) new → Answers challenge (get new id)
+call_answers old new id challenge auction sale is =
+    subst (Answers challenge) (sym (step_here old new (Answer id challenge) (Work auction sale) is))
+    (value_answers id challenge (get old id) auction sale (step_reply old new (Answer id challenge) (Work auction sale) is))
 
 run_answers : (events : List Event) (old new : Ledger) (id : List ℕ) (challenge : Challenge) → HouseRun events old new → IsAnswered id events challenge → Answers challenge (get new id)
-run_answers [] old new id challenge run (auction, outcome, (k, below, at)) = absurd (omega arith)
-run_answers (event ∷ later) old new id challenge run (auction, outcome, (zero, below, at)) =
+run_answers [] old new id challenge run (auction, sale, (k, below, at)) = absurd (omega arith)
+run_answers (event ∷ later) old new id challenge run (auction, sale, (zero, below, at)) =
     let call = subst (λ (e : Event). HouseCall old e.command e.reply run.0) at run.1 in
-    stays_answered challenge (get run.0 id) (get new id) (call_answers old run.0 id challenge auction outcome call) (run_keeps later run.0 new run.2 id)
-run_answers (event ∷ later) old new id challenge run (auction, outcome, (suc k, below, at)) =
-    run_answers later run.0 new id challenge run.2 (auction, outcome, (k, omega arith, at))
+    stays_answered challenge (get run.0 id) (get new id) (call_answers old run.0 id challenge auction sale call) (run_keeps later run.0 new run.2 id)
+run_answers (event ∷ later) old new id challenge run (auction, sale, (suc k, below, at)) =
+    run_answers later run.0 new id challenge run.2 (auction, sale, (k, omega arith, at))
 
 one_answer : (first second : Challenge) (found : Option Auction) → Answers first found → Answers second found → first ≡ second
 one_answer first second None one other = absurd one

@@ -24,7 +24,7 @@ as_reply said (Err refusal) = Refused refusal
 
 -- the work that a job is
 abbrev pub work_of : JobValue → HouseReply
-work_of job = Work job.auction job.outcome
+work_of job = Work job.auction job.sale
 
 -- the ledger, where it is told, makes this call
 abbrev pub Calls : HouseCommand → HouseReply → Option Ledger → Option Ledger → Type 0

@@ -5,12 +5,12 @@ use Rattle.vk_keeper.specs.declared.auction.Phase.{Phase}
 use Rattle.vk_keeper.specs.Auctions.{IsAuction}
 use Rattle.vk_keeper.specs.Ledgers.{Ledger, Keeps}
 use Rattle.vk_keeper.specs.Turns.{Turns, AfterPut}
-use Rattle.vk_job.specs.Jobs.{seed_in, outcome_in}
+use Rattle.vk_job.specs.Jobs.{dry_in, seed_in, sale_in}
 use Rattle.vk_house.specs.declared.errors.HouseErr.{HouseErr}
 use Rattle.vk_house.specs.declared.errors.HouseErr.TheVariants as house
 use Rattle.vk_house.specs.declared.working.Decision.{Decision}
 use Rattle.vk_house.specs.Replies.{Work}
-use Rattle.vk_house.specs.Refusals.{dry_seed}
+use Rattle.vk_house.specs.Tests.{dry_seed}
 use Rattle.vk_house.specs.Steps.{Step, refused, in_phase}
 use Rattle.vk_house.specs.Answers.{work_of}
 
@@ -39,15 +39,19 @@ abbrev pub phased : Auction → Option Phase → Auction
 phased auction None = auction
 phased auction (Some phase) = in_phase auction phase
 
+-- the seed that is kept gives no tape
+abbrev pub own_dry : Auction → Option HouseErr
+own_dry auction = dry_seed (dry_in auction (seed_in auction))
+
 -- its step where nothing but its seed may refuse it
 abbrev pub worked : Option HouseErr → Auction → Option Auction → Step
 worked (Some refusal) auction kept = refused refusal
-worked None auction kept = record { reply = Work auction (outcome_in auction); kept = kept }
+worked None auction kept = record { reply = Work auction (sale_in auction); kept = kept }
 
 abbrev pub work_step : Auction → Option Phase → Step
 work_step auction phase =
     let later = phased auction phase in
-    worked (dry_seed (seed_in later) later) later (option_map (in_phase auction) phase)
+    worked (own_dry later) later (option_map (in_phase auction) phase)
 
 -- a decision on what was found: it is on that auction, and what is kept anew is the auction that is answered of
 pub record IsDecisionOn (found : Option Auction) (decision : Decision) : Type 0 where

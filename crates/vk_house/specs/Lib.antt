@@ -1,4 +1,6 @@
 pub mod Commands
+pub mod Tests
+pub mod Shaped
 pub mod Replies
 pub mod Refusals
 pub mod Steps
@@ -6,3 +8,4 @@ pub mod Runs
 pub mod Once
 pub mod Answers
 pub mod Deciding
+pub mod Former

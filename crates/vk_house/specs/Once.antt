@@ -1,7 +1,7 @@
 -- An auction is answered once, and once it is proved nothing but that changes.
 use Rattle.std.specs.Prelude.{◌≡◌, ℕ, List, Option, Some, None, IfSome, IsSomeAnd, Contains}
 use Rattle.std.specs.FinMap.{get}
-use Rattle.vk_vickrey.specs.declared.outcomes.VickreyOutcome.{VickreyOutcome}
+use Rattle.vk_vickrey.specs.declared.sales.Sale.{Sale}
 use Rattle.vk_reply.specs.declared.challenge.Challenge.{Challenge}
 use Rattle.vk_keeper.specs.declared.auction.Auction.{Auction}
 use Rattle.vk_keeper.specs.declared.auction.Phase.{Phase}
@@ -18,7 +18,8 @@ pub record KeepsSeed (auction : Auction) (kept : List ℕ) (later : Auction) : T
   pub same : later ≡ record auction { phase = later.phase }
   pub seed : seed_of later.phase ≡ Some kept
 
--- what may stand later under the id of an auction: once it is proved, an auction with the same seals and seed;
+-- what may stand later under the id of an auction: once it is proved, an auction on the same terms, with the same seals
+-- and seed;
 -- once it is answered, that auction
 abbrev pub KeepsAnswer : Auction → Phase → Option Auction → Type 0
 KeepsAnswer auction Taking later = Unit {0}
@@ -32,7 +33,7 @@ KeepsAnswers old new = (id : List ℕ) → IfSome (get old id) (λ auction. Keep
 -- the challenge was answered for the auction of that id
 abbrev pub IsAnswered : List ℕ → List Event → Challenge → Type 0
 IsAnswered id events challenge =
-    (auction : Auction) × (outcome : VickreyOutcome) × Contains events (record { command = Answer id challenge; reply = Work auction outcome })
+    (auction : Auction) × (sale : Sale) × Contains events (record { command = Answer id challenge; reply = Work auction sale })
 
 -- ---- seeds
 

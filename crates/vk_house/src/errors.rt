@@ -2,7 +2,7 @@ ghost use Rattle.std.specs.Prelude.{◌≡◌};
 ghost use Rattle.vk_io.specs.Faults.{told_as};
 ghost use Rattle.vk_house.specs.declared.errors.HouseErr.TheVariants as house;
 ghost use Rattle.vk_house.specs.Answers.{job_err_of};
-ghost use Rattle.vk_house.specs.Refusals.{house_err_of};
+ghost use Rattle.vk_house.specs.Tests.{house_err_of};
 
 use crate::standing::PhaseName;
 use vk_io::OutsideErr;

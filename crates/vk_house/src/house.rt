@@ -1,4 +1,4 @@
-ghost use Rattle.std.specs.Prelude.{◌≡◌, IfOk, IfSome, OnErr, Some};
+ghost use Rattle.std.specs.Prelude.{◌≡◌, ◌<◌, ◌^◌, IfOk, IfSome, OnErr, Some};
 ghost use Rattle.vk_residue.specs.Limits.{IsSize};
 ghost use Rattle.vk_io.specs.Faults.{Causes};
 ghost use Rattle.vk_io.specs.Files.{Told};
@@ -7,7 +7,7 @@ ghost use Rattle.vk_seal.specs.Values.{IsSeal, IsSecret};
 ghost use Rattle.vk_keeper.specs.Auctions.{IsAuction, seed_of, challenge_of};
 ghost use Rattle.vk_keeper.specs.Turns.{GetsOnce};
 ghost use Rattle.vk_house.specs.Answers.{Calls, MayReply, as_reply, work_of};
-ghost use Rattle.vk_house.specs.Commands.{Announce, Submit, Prove, Answer, Show};
+ghost use Rattle.vk_house.specs.Commands.{Announce, AnnounceReserve, Submit, Prove, Answer, Show};
 ghost use Rattle.vk_house.specs.Deciding.{KeepsAnew, MayPut};
 ghost use Rattle.vk_house.specs.Replies.{Done, Position, Stands};
 
@@ -36,7 +36,7 @@ impl<'a, K: Keeper + Drop> House<'a, K> {
         House { keeper }
     }
 
-    /// Keeps an auction in phase Taking without seals. Refused where the id is known.
+    /// Keeps an auction of version 1 in phase Taking without seals. Refused where the id is known.
     pub fn announce(
         &mut self,
         alloc: Global,
@@ -53,7 +53,31 @@ impl<'a, K: Keeper + Drop> House<'a, K> {
         ensures keeper { self.new.keeper.ghost_name ≡ self.old.keeper.ghost_name }
     {
         let found = self.keeper.get(id)?;
-        let auction = decide_announce(alloc, found, id, width, lanes)?;
+        let auction = decide_announce(alloc, found, id, width, lanes, None)?;
+        self.keeper.put(auction)?;
+        Ok(())
+    }
+
+    /// Keeps an auction of version 2 with that reserve, in phase Taking without seals. Refused where the id is known.
+    pub fn announce_reserve(
+        &mut self,
+        alloc: Global,
+        id: &[u8; 16],
+        width: u32,
+        lanes: u32,
+        reserve: u64,
+    ) -> Result<(), HouseErr>
+        requires size { IsSize width lanes }
+        requires small { reserve < 2 ^ width }
+        ensures call { Calls (AnnounceReserve id.now width lanes reserve) (as_reply (λ _. Done) result) (K.ledger self.old.keeper.now) (K.ledger self.new.keeper.now) }
+        ensures refused { OnErr result (K.ledger self.new.keeper.now ≡ K.ledger self.old.keeper.now) }
+        ensures reply { MayReply (AnnounceReserve id.now width lanes reserve) (as_reply (λ _. Done) result) }
+        ensures turns { GetsOnce (K.turns self.old.keeper.now) (K.turns self.new.keeper.now) }
+        ensures causes { Causes HouseErr.KeeperFailed result (K.faults self.old.keeper.now) (K.faults self.new.keeper.now) }
+        ensures keeper { self.new.keeper.ghost_name ≡ self.old.keeper.ghost_name }
+    {
+        let found = self.keeper.get(id)?;
+        let auction = decide_announce(alloc, found, id, width, lanes, Some(reserve))?;
         self.keeper.put(auction)?;
         Ok(())
     }

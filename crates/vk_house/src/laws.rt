@@ -1,13 +1,17 @@
 //! What holds of every house, whatever it is asked, by whom and in which order.
 
-ghost use Rattle.std.specs.Prelude.{◌≡◌, ◌≢◌, ℕ, List, All};
+ghost use Rattle.std.specs.Prelude.{◌≡◌, ◌≢◌, ℕ, List, map, All};
 ghost use Rattle.std.specs.FinMap.{empty, get};
 ghost use Rattle.vk_reply.specs.declared.challenge.Challenge.{Challenge};
+ghost use Rattle.vk_keeper.specs.declared.auction.FirstAuction.{FirstAuction};
+ghost use Rattle.vk_keeper.specs.First.{FirstLedger, lifted, lifted_ledger};
 ghost use Rattle.vk_keeper.specs.Ledgers.{Ledger, IsLedger};
+ghost use Rattle.vk_job.specs.Jobs.{proof_with};
 ghost use Rattle.vk_house.specs.declared.errors.HouseErr.TheVariants.{DrySeed};
-ghost use Rattle.vk_house.specs.Commands.{HouseCommand, Answer, id_of, IsHouseCommand};
+ghost use Rattle.vk_house.specs.Commands.{HouseCommand, Answer, id_of, IsHouseCommand, NamesNoReserve};
+ghost use Rattle.vk_house.specs.Former.{first_house_steps, first_proof, lifted_reply};
 ghost use Rattle.vk_house.specs.Replies.{HouseReply, Refused};
-ghost use Rattle.vk_house.specs.Steps.{house_step, HouseCall};
+ghost use Rattle.vk_house.specs.Steps.{house_step, house_steps, HouseCall};
 ghost use Rattle.vk_house.specs.Runs.{Event, HouseRun, events_of, alone};
 ghost use Rattle.vk_house.specs.Once.{KeepsAnswers, IsAnswered, SeedsGiveTapes};
 
@@ -30,8 +34,8 @@ pub fn each_auction_has_a_run_of_its_own()
         → HouseRun (events_of id events) (alone id old) (alone id new) }
 {}
 
-/// A law of every list of calls: an auction that is answered stays as it is, and one that is proved keeps its seals and
-/// its seed. So all challenges that were answered for one auction are one.
+/// A law of every list of calls: an auction that is answered stays as it is, and one that is proved keeps its terms, its
+/// seals and its seed. So all challenges that were answered for one auction are one.
 pub fn an_auction_is_answered_once()
     ensures call { (old new : Ledger) (command : HouseCommand) (reply : HouseReply) → HouseCall old command reply new
         → KeepsAnswers old new }
@@ -49,6 +53,17 @@ pub fn kept_seeds_are_not_dry()
         → SeedsGiveTapes old → SeedsGiveTapes new }
     ensures answer { (old new : Ledger) (id : List ℕ) (challenge : Challenge) (lane wire : ℕ) → SeedsGiveTapes old
         → HouseCall old (Answer id challenge) (Refused (DrySeed lane wire)) new → ⊥ }
+{}
+
+/// A law of auctions that were kept before they had a version and a reserve: lifted, they go on as before. Whatever is asked
+/// then, if it names no reserve, is replied to as it was, and leaves the ledger that it left, lifted. What boards and replies
+/// are made from is the same too.
+pub fn a_lifted_ledger_goes_on_as_before()
+    ensures replies { (commands : List HouseCommand) (firsts : FirstLedger) → All NamesNoReserve commands
+        → (house_steps (lifted_ledger firsts) commands).0 ≡ map lifted_reply (first_house_steps firsts commands).0 }
+    ensures ledger { (commands : List HouseCommand) (firsts : FirstLedger) → All NamesNoReserve commands
+        → (house_steps (lifted_ledger firsts) commands).1 ≡ lifted_ledger (first_house_steps firsts commands).1 }
+    ensures proof { (first : FirstAuction) (seed : List ℕ) → proof_with (lifted first) seed ≡ first_proof first seed }
 {}
 
 /// A law: a ledger stays one, whatever the house is asked.

@@ -1,14 +1,14 @@
-//! `announce` and `submit`: an auction begins, and takes seals.
+//! `announce`, `announce_reserve` and `submit`: an auction begins, and takes seals.
 
-ghost use Rattle.std.specs.Prelude.{◌≡◌, ◌+◌, ◌<◌, ◌≤◌, ◌^◌, ℕ, IfSome, IfOk, IsErrOf, List, Some, length, true, false};
+ghost use Rattle.std.specs.Prelude.{◌≡◌, ◌+◌, ◌<◌, ◌≤◌, ◌^◌, ℕ, IfNone, IfSome, IfOk, IsErrOf, List, Some, length, true, false};
 ghost use Rattle.std.specs.Result.{result_err};
 ghost use Rattle.vk_residue.specs.Limits.{IsSize};
 ghost use Rattle.vk_seal.specs.Values.{IsSeal, IsSecret};
 ghost use Rattle.vk_keeper.specs.Auctions.{IsAuction};
 ghost use Rattle.vk_house.specs.Deciding.{Decides};
-ghost use Rattle.vk_house.specs.Commands.{Announce, Submit};
+ghost use Rattle.vk_house.specs.Commands.{announcing, Submit};
 ghost use Rattle.vk_house.specs.Replies.{Done, Position};
-ghost use Rattle.vk_house.specs.Refusals.{not_taking};
+ghost use Rattle.vk_house.specs.Tests.{not_taking};
 ghost use Rattle.vk_house.specs.Steps.{step_at};
 
 use crate::errors::HouseErr;
@@ -18,7 +18,18 @@ use vk_keeper::{Auction, Phase, SealRow};
 use vk_seal::{Seal, Secret};
 use vk_seq::Seq;
 
-/// The auction that `announce` keeps, by what was found under the id.
+/// The version and the reserve of an auction that begins with that one, if one is named.
+fn terms_of(reserve: Option<u64>) -> (u32, u64)
+    ensures first { IfNone reserve (result ≡ (1, 0)) }
+    ensures second { IfSome reserve (λ reserve. result ≡ (2, reserve)) }
+{
+    match reserve {
+        None => (1, 0),
+        Some(reserve) => (2, reserve),
+    }
+}
+
+/// The auction that begins with that reserve, if one is named, by what was found under the id.
 #[tactic(auto, unfolding(crate::specs::Steps::step_at, vk_keeper::specs::Joining::first_of))]
 pub fn decide_announce(
     alloc: Global,
@@ -26,19 +37,24 @@ pub fn decide_announce(
     id: &[u8; 16],
     width: u32,
     lanes: u32,
+    reserve: Option<u64>,
 ) -> Result<Auction, HouseErr>
-    requires { IsSize width lanes }
-    ensures decided { Decides (λ auction. record { reply = Done; kept = Some auction }) result (step_at (Announce id.now width lanes) found) }
+    requires size { IsSize width lanes }
+    requires small { IfSome reserve (λ reserve. reserve < 2 ^ width) }
+    ensures decided { Decides (λ auction. record { reply = Done; kept = Some auction }) result (step_at (announcing id.now width lanes reserve) found) }
     ensures right { IfOk result IsAuction }
     ensures id { IfOk result (λ auction. auction.id ≡ id.now) }
 {
     if found.is_some() {
         return Err(HouseErr::Known);
     }
+    let (version, reserve) = terms_of(reserve);
     Ok(Auction {
         id: *id,
+        version,
         width,
         lanes,
+        reserve,
         phase: Phase::Taking,
         seals: Seq::new(alloc),
     })

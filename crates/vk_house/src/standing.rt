@@ -4,7 +4,7 @@ ghost use Rattle.std.specs.Prelude.{◌≡◌, ℕ, IfSome, IsErrOf, List};
 ghost use Rattle.vk_keeper.specs.Auctions.{IsAuction};
 ghost use Rattle.vk_house.specs.Commands.{Show};
 ghost use Rattle.vk_house.specs.Deciding.{Decides};
-ghost use Rattle.vk_house.specs.Replies.{standing_of, phase_name, Stands};
+ghost use Rattle.vk_house.specs.Replies.{standing_of, phase_name, reserve_of, Stands};
 ghost use Rattle.vk_house.specs.Steps.{step_at};
 
 use crate::errors::HouseErr;
@@ -31,6 +31,8 @@ pub struct Standing {
     /// How many seals are held. At most 64.
     pub seals: u32,
     pub phase: PhaseName,
+    /// Below 2^width. None in version 1, which names none.
+    pub reserve: Option<u64>,
 }
 
 impl Standing {
@@ -44,8 +46,19 @@ impl Standing {
             lanes: auction.lanes,
             seals: auction.seals.len() as u32,
             phase: PhaseName::of(&auction.phase),
+            reserve: reserve_of(auction),
         }
     }
+}
+
+/// The reserve that an auction names.
+fn reserve_of(auction: &Auction) -> Option<u64>
+    ensures { result ≡ reserve_of auction.now }
+{
+    if auction.version == 1 {
+        return None;
+    }
+    Some(auction.reserve)
 }
 
 impl PhaseName {

@@ -4,10 +4,10 @@ ghost use Rattle.std.specs.Prelude.{◌≡◌, ◌≤◌, ℕ, IfSome, IfOk, IsE
 ghost use Rattle.std.specs.Result.{result_err};
 ghost use Rattle.vk_reply.specs.Values.{IsChallenge};
 ghost use Rattle.vk_keeper.specs.Auctions.{IsAuction, seed_of, challenge_of};
-ghost use Rattle.vk_job.specs.Jobs.{seed_in};
+ghost use Rattle.vk_job.specs.Jobs.{dry_in};
 ghost use Rattle.vk_house.specs.Commands.{Prove, Answer};
-ghost use Rattle.vk_house.specs.Deciding.{Decides, IsDecisionOn, work_step, step_of, phased};
-ghost use Rattle.vk_house.specs.Refusals.{dry_seed, no_seals, other_seed, still_taking, other_length, other_than};
+ghost use Rattle.vk_house.specs.Deciding.{Decides, IsDecisionOn, own_dry, work_step, step_of, phased};
+ghost use Rattle.vk_house.specs.Tests.{dry_seed, no_seals, other_seed, still_taking, other_length, other_than};
 ghost use Rattle.vk_house.specs.Steps.{step_at, phase_proved, phase_answered};
 
 use crate::errors::HouseErr;
@@ -34,7 +34,7 @@ fn work_in(alloc: Global, mut auction: Auction, phase: Option<Phase>) -> Result<
     ensures job { IfOk result (λ decision. decision.job.auction ≡ phased auction phase) }
     ensures kept { IfOk result (λ decision. IfSome decision.kept (λ auction. auction ≡ decision.job.auction)) }
     ensures right { IfOk result (λ decision. IfSome decision.kept IsAuction) }
-    ensures memory { IsErrOf result HouseErr.NoMemory → dry_seed (seed_in (phased auction phase)) (phased auction phase) ≡ None }
+    ensures memory { IsErrOf result HouseErr.NoMemory → own_dry (phased auction phase) ≡ None }
 {
     let is_new = phase.is_some();
     if let Some(phase) = phase {
@@ -52,7 +52,7 @@ fn work_in(alloc: Global, mut auction: Auction, phase: Option<Phase>) -> Result<
 
 /// Errs where no seal is held.
 fn check_seals(auction: &Auction) -> Result<(), HouseErr>
-    ensures { result_err result ≡ no_seals auction.now }
+    ensures { result_err result ≡ no_seals auction.now.seals }
 {
     if auction.seals.is_empty() {
         return Err(HouseErr::NoSeals);
@@ -62,7 +62,7 @@ fn check_seals(auction: &Auction) -> Result<(), HouseErr>
 
 /// Errs where another seed is kept.
 fn check_seed(auction: &Auction, seed: &[u8; 32]) -> Result<(), HouseErr>
-    ensures { result_err result ≡ other_seed seed.now auction.now }
+    ensures { result_err result ≡ other_seed seed.now auction.now.phase }
 {
     match &auction.phase {
         Phase::Proved { seed: kept } | Phase::Answered { seed: kept, .. } if kept != seed => {
@@ -94,7 +94,7 @@ pub fn decide_prove(
     ensures inside { IsErrOf result HouseErr.KeeperFailed → ⊥ }
     ensures on { IfOk result (IsDecisionOn found) }
     ensures seed { IfOk result (λ decision. seed_of decision.job.auction.phase ≡ Some seed.now) }
-    ensures memory { IsErrOf result HouseErr.NoMemory → IfSome found (λ auction. dry_seed seed.now auction ≡ None) }
+    ensures memory { IsErrOf result HouseErr.NoMemory → IfSome found (λ auction. dry_seed (dry_in auction seed.now) ≡ None) }
 {
     let auction = found.ok_or(HouseErr::Unknown)?;
     check_seals(&auction)?;
@@ -118,7 +118,7 @@ fn check_proved(phase: &Phase) -> Result<(), HouseErr>
 /// Errs where the challenge doesn't have a bit for each lane.
 fn check_length(auction: &Auction, challenge: &Challenge) -> Result<(), HouseErr>
     requires { IsChallenge challenge.now }
-    ensures { result_err result ≡ other_length challenge.now auction.now }
+    ensures { result_err result ≡ other_length challenge.now auction.now.lanes }
 {
     let given = challenge.bits.len() as u32;
     if given != auction.lanes {
