@@ -1,11 +1,12 @@
 -- Which words ask no keeper.
-use Rattle.std.proofs.Common.{ℕ, ◌==◌, Bool, true, false, List, length, Option, Some, None, IfSome, IsFalse}
+use Rattle.std.proofs.Common.{ℕ, Bool, true, false, List, length, Option, Some, None, IfSome, IsFalse}
 use Rattle.std.specs.Prelude.{if◌then◌else◌, option_map}
 use Rattle.std.specs.List.{AllByRecursion}
 use Rattle.std.specs.Option.{option_map_or}
 use Rattle.std.specs.Str.{bytes_eq}
 use Rattle.vk_residue.specs.Steps.{◌>>?◌}
-use Rattle.vk_words.specs.Commands.{AsksNoKeeper, CommandWords, Seal, Verify, Extract, Confront, Report, Sample, command_by, command_words, first_asks}
+use Rattle.vk_words.specs.Commands.{AsksNoKeeper, CommandWords, Seal, Verify, Extract, Confront, Report, Sample, ClaimVerify, ClaimExtract, ClaimSample, command_by, command_words, first_asks, may_have}
+use Rattle.vk_words.specs.Claims.{kind_named}
 use Rattle.vk_words.specs.Names.{confront_in, extract_in, name_at, verify_in, word_at}
 use Rattle.vk_words.specs.Orders.{seal_in}
 use Rattle.vk_words.specs.Table.{Row, commands, row_of}
@@ -15,6 +16,11 @@ use Rattle.vk_words.proofs.Rows.{◌&◌, IfSome-find}
 made : {X : Type 0} (f : X → CommandWords) → ((x : X) → AsksNoKeeper (Some (f x))) → (read : Option X) → AsksNoKeeper (option_map f read)
 made f none (Some x) = none x
 made f none None = tt
+
+-- and one that is made of what was read behind something else
+made_behind : {K : Type 0} (first : Option K) (later : K → Option CommandWords) → ((k : K) → AsksNoKeeper (later k)) → AsksNoKeeper (first >>? later)
+made_behind None later none = tt
+made_behind (Some k) later none = none k
 
 -- where the row doesn't ask, its command asks no keeper
 abbrev AsksAsItSays : Row → Type 0
@@ -35,6 +41,9 @@ each_row =
     & (λ is words. made Report (λ name. tt) (name_at words 1))
     & (λ is words. made Sample (λ number. tt) _)
     & (λ is. cc)
+    & (λ is words. made ClaimVerify (λ names. tt) (verify_in words))
+    & (λ is words. made ClaimExtract (λ names. tt) (extract_in words))
+    & (λ is words. made_behind (kind_named (word_at words 1)) _ (λ kind. made (ClaimSample kind) (λ number. tt) _))
     & tt
 
 of_word : (word : List ℕ) → IfSome (row_of word) AsksAsItSays
@@ -50,9 +59,9 @@ by_first :
     (row : Option Row) (words : List (List ℕ))
     → IfSome row AsksAsItSays
     → IsFalse (option_map_or (λ r. r.asks_house) row false)
-    → AsksNoKeeper (row >>? λ r. if length words == r.words then command_by r.verb words else None)
+    → AsksNoKeeper (row >>? λ r. if may_have r (length words) then command_by r.verb words else None)
 by_first None words each is = tt
-by_first (Some row) words each is = by_length (length words == row.words) (command_by row.verb words) (each is words)
+by_first (Some row) words each is = by_length (may_have row (length words)) (command_by row.verb words) (each is words)
 
 pub asks_none : (words : List (List ℕ)) → IsFalse (first_asks words) → AsksNoKeeper (command_words words)
 unfolding command_words

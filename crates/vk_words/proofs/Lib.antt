@@ -2,3 +2,4 @@ mod Asking
 mod Rows
 mod Listing
 pub mod ScriptLemmas
+pub mod Fitting

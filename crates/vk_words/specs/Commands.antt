@@ -1,5 +1,5 @@
 -- The command that words are.
-use Rattle.std.specs.Prelude.{ℕ, ◌-◌, ◌^◌, ◌==◌, if◌then◌else◌, Bool, false, List, length, Option, Some, None, option_map}
+use Rattle.std.specs.Prelude.{ℕ, ◌-◌, ◌^◌, ◌&&◌, nat_le, if◌then◌else◌, Bool, false, List, length, Option, Some, None, option_map}
 use Rattle.std.specs.Option.{option_map_or}
 use Rattle.vk_residue.specs.Steps.{◌>>?◌}
 use Rattle.vk_lines.specs.Tokens.{decimal_of}
@@ -7,9 +7,11 @@ use Rattle.vk_words.specs.declared.command.Command.{Command}
 use Rattle.vk_words.specs.declared.command.Command.TheVariants as commands
 use Rattle.vk_words.specs.declared.table.Verb.{Verb}
 use Rattle.vk_words.specs.declared.table.Verb.TheVariants as verbs
+use Rattle.vk_words.specs.Claims.{kind_named}
+use Rattle.vk_words.specs.declared.claim.ClaimKind.{ClaimKind}
 use Rattle.vk_words.specs.Names.{ConfrontWords, ExtractWords, VerifyWords, confront_in, confront_seen, extract_in, extract_seen, name_at, verify_in, verify_seen, word_at}
 use Rattle.vk_words.specs.Orders.{HouseWords, IsHouseOrder, IsSealOrder, SealWords, house_by, house_seen, seal_in, seal_seen}
-use Rattle.vk_words.specs.Table.{row_of}
+use Rattle.vk_words.specs.Table.{Row, row_of}
 
 -- a command
 pub data CommandWords : Type 0 where
@@ -21,6 +23,9 @@ pub data CommandWords : Type 0 where
   Report : List ℕ → CommandWords
   Sample : ℕ → CommandWords
   Ceremony : List ℕ → CommandWords
+  ClaimVerify : VerifyWords → CommandWords
+  ClaimExtract : ExtractWords → CommandWords
+  ClaimSample : ClaimKind → ℕ → CommandWords
 
 abbrev pub command_seen : Command → CommandWords
 command_seen (commands.Seal order) = Seal (seal_seen order)
@@ -31,12 +36,19 @@ command_seen (commands.Confront names) = Confront (confront_seen names)
 command_seen (commands.Report board) = Report board.now
 command_seen (commands.Sample number) = Sample number
 command_seen (commands.Ceremony script) = Ceremony script.now
+command_seen (commands.ClaimVerify names) = ClaimVerify (verify_seen names)
+command_seen (commands.ClaimExtract names) = ClaimExtract (extract_seen names)
+command_seen (commands.ClaimSample kind number) = ClaimSample kind number
 
 -- its numbers are those that making a seal, and the house, ask for
 abbrev pub IsCommand : Command → Type 0
 IsCommand (commands.Seal order) = IsSealOrder (seal_seen order)
 IsCommand (commands.House order) = IsHouseOrder order
 IsCommand command = Unit {0}
+
+-- KIND NUMBER behind the first word
+abbrev pub claim_sample_in : List (List ℕ) → Option CommandWords
+claim_sample_in words = kind_named (word_at words 1) >>? λ kind. option_map (ClaimSample kind) (decimal_of (2 ^ 64 - 1) (word_at words 2))
 
 -- the command of that first word, by the words behind it
 abbrev pub command_by : Verb → List (List ℕ) → Option CommandWords
@@ -47,13 +59,20 @@ command_by verbs.Confront words = option_map Confront (confront_in words)
 command_by verbs.Report words = option_map Report (name_at words 1)
 command_by verbs.Sample words = option_map Sample (decimal_of (2 ^ 64 - 1) (word_at words 1))
 command_by verbs.Ceremony words = option_map Ceremony (name_at words 1)
+command_by verbs.ClaimVerify words = option_map ClaimVerify (verify_in words)
+command_by verbs.ClaimExtract words = option_map ClaimExtract (extract_in words)
+command_by verbs.ClaimSample words = claim_sample_in words
 command_by verb words = option_map House (house_by verb words)
 
--- the command that words are, if they are one: the first names it, and they are as many as it has
+-- whether a command may have that many words
+abbrev pub may_have : Row → ℕ → Bool
+may_have row count = nat_le row.words count && nat_le count row.most
+
+-- the command that words are, if they are one: the first names it, and they are as many as it may have
 unfoldable pub command_words : List (List ℕ) → Option CommandWords
 command_words words =
     row_of (word_at words 0) >>? λ row.
-    if length words == row.words then command_by row.verb words else None
+    if may_have row (length words) then command_by row.verb words else None
 
 -- a command that asks no keeper
 abbrev pub AsksNoKeeper : Option CommandWords → Type 0

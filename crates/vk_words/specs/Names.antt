@@ -69,14 +69,14 @@ verify_in words =
     attempt_at words 2 >>? λ attempt.
     Some (record { board = board; attempt = attempt })
 
--- the same and CHALLENGE REPLY, the second ones
+-- BOARD CHALLENGE REPLY CHALLENGE REPLY behind the first word
 unfoldable pub extract_in : List (List ℕ) → Option ExtractWords
 extract_in words =
     verify_in words >>? λ names.
     attempt_at words 4 >>? λ second.
     Some (record { board = names.board; first = names.attempt; second = second })
 
--- the same and SECRET
+-- BOARD CHALLENGE REPLY CHALLENGE REPLY SECRET behind the first word
 unfoldable pub confront_in : List (List ℕ) → Option ConfrontWords
 confront_in words =
     extract_in words >>? λ replies.

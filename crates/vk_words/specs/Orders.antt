@@ -1,5 +1,5 @@
 -- What a bidder's command and the house's commands are to do.
-use Rattle.std.specs.Prelude.{ℕ, ◌-◌, ◌^◌, ◌≤◌, if◌then◌else◌, List, Option, Some, None}
+use Rattle.std.specs.Prelude.{ℕ, ◌-◌, ◌^◌, ◌<◌, ◌≤◌, nat_lt, if◌then◌else◌, List, length, option_map, Option, Some, None}
 use Rattle.std.specs.Str.{bytes_eq}
 use Rattle.vk_residue.specs.Limits.{IsSize}
 use Rattle.vk_residue.specs.Steps.{◌>>?◌}
@@ -25,6 +25,7 @@ pub record SealWords : Type 0 where
 -- a command of the house, on the auction of that id
 pub data HouseWords : Type 0 where
   Announce : (id : List ℕ) (width lanes : ℕ) → HouseWords
+  AnnounceReserve : (id : List ℕ) (width lanes reserve : ℕ) → HouseWords
   Submit : (id seal secret : List ℕ) → HouseWords
   Prove : (id seed board : List ℕ) → HouseWords
   Answer : (id challenge reply : List ℕ) → HouseWords
@@ -36,6 +37,7 @@ seal_seen order =
 
 abbrev pub house_seen : HouseOrder → HouseWords
 house_seen (orders.Announce id width lanes) = Announce id width lanes
+house_seen (orders.AnnounceReserve id width lanes reserve) = AnnounceReserve id width lanes reserve
 house_seen (orders.Submit id seal secret) = Submit id seal.now secret.now
 house_seen (orders.Prove id seed board) = Prove id seed board.now
 house_seen (orders.Answer id challenge reply) = Answer id challenge.now reply.now
@@ -51,6 +53,7 @@ pub record IsSealOrder (order : SealWords) : Type 0 where
 -- what the house asks of the numbers of a command
 abbrev pub IsHouseOrder : HouseOrder → Type 0
 IsHouseOrder (orders.Announce id width lanes) = IsSize width lanes
+IsHouseOrder (orders.AnnounceReserve id width lanes reserve) = IsSize width lanes × (reserve < 2 ^ width)
 IsHouseOrder order = Unit {0}
 
 -- ---- where they stand
@@ -80,9 +83,17 @@ seal_in words =
     name_at words 8 >>? λ seal.
     if_other secret seal (record { auction = auction; seat = seat; bid = bid; width = width; lanes = lanes; seed = seed; secret = secret; seal = seal })
 
--- behind ID: WIDTH LANES; SEAL SECRET; SEED BOARD; CHALLENGE REPLY, where the two files have different names; nothing
+-- behind ID, WIDTH and LANES: RESERVE, below 2^WIDTH, where there is a word more; else nothing
+abbrev pub announced_on : (id : List ℕ) (width lanes : ℕ) → List (List ℕ) → Option HouseWords
+announced_on id width lanes words =
+    if nat_lt 4 (length words)
+    then option_map (AnnounceReserve id width lanes) (decimal_of (2 ^ width - 1) (word_at words 4))
+    else Some (Announce id width lanes)
+
+-- behind ID: WIDTH LANES, and RESERVE where there is one; SEAL SECRET; SEED BOARD; CHALLENGE REPLY, where the two files
+-- have different names; nothing
 abbrev pub house_on : List ℕ → Verb → List (List ℕ) → Option HouseWords
-house_on id verbs.Announce words = number_token 1 40 (word_at words 2) >>? λ width. number_token 1 64 (word_at words 3) >>? λ lanes. Some (Announce id width lanes)
+house_on id verbs.Announce words = number_token 1 40 (word_at words 2) >>? λ width. number_token 1 64 (word_at words 3) >>? λ lanes. announced_on id width lanes words
 house_on id verbs.Submit words = name_at words 2 >>? λ seal. name_at words 3 >>? λ secret. Some (Submit id seal secret)
 house_on id verbs.Prove words = seed_at words 2 >>? λ seed. name_at words 3 >>? λ board. Some (Prove id seed board)
 house_on id verbs.Answer words = attempt_at words 2 >>? λ attempt. if_other attempt.challenge attempt.reply (Answer id attempt.challenge attempt.reply)

@@ -4,6 +4,7 @@ ghost use Rattle.std.specs.Prelude.{◌≡◌, IfSome, IsFalse, length, map, opt
 ghost use Rattle.vk_words.specs.Commands.{AsksNoKeeper, IsCommand, command_by, command_seen, command_words, first_asks, house_in, house_words};
 ghost use Rattle.vk_words.specs.Orders.{IsHouseOrder, house_seen};
 
+use crate::claim::{ClaimKind, claim_kind};
 use crate::names::{
     ConfrontNames, ExtractNames, VerifyNames, confront_names, extract_names, verify_names,
 };
@@ -26,6 +27,11 @@ pub enum Command<'a> {
     Sample(u64),
     /// The name of the script.
     Ceremony(&'a str),
+    /// The same of a claim of any circuit in the place of a board.
+    ClaimVerify(VerifyNames<'a>),
+    ClaimExtract(ExtractNames<'a>),
+    /// The kind of the sample's claim, and its number.
+    ClaimSample { kind: ClaimKind, number: u64 },
 }
 
 /// The command of that first word, by the words behind it.
@@ -44,18 +50,25 @@ fn command_by(verb: Verb, words: &[String]) -> Option<Command<'_>>
         Verb::Report => Command::Report(name(words, 1)?),
         Verb::Sample => Command::Sample(read_decimal(word(words, 1).as_bytes(), u64::MAX)?),
         Verb::Ceremony => Command::Ceremony(name(words, 1)?),
+        Verb::ClaimVerify => Command::ClaimVerify(verify_names(words)?),
+        Verb::ClaimExtract => Command::ClaimExtract(extract_names(words)?),
+        Verb::ClaimSample => {
+            let kind = claim_kind(word(words, 1))?;
+            let number = read_decimal(word(words, 2).as_bytes(), u64::MAX)?;
+            Command::ClaimSample { kind, number }
+        }
     };
     Some(command)
 }
 
-/// The command that the words are: the first names it, and they are as many as it has, each of its form.
+/// The command that the words are: the first names it, and they are as many as it may have, each of its form.
 #[tactic(auto, unfolding(crate::specs::Commands::command_words))]
 pub fn command_of(words: &[String]) -> Option<Command<'_>>
     ensures value { option_map command_seen result ≡ command_words (map string_bytes words.now) }
     ensures limits { IfSome result IsCommand }
 {
     let row = row_of(word(words, 0))?;
-    if words.len() != row.words {
+    if words.len() < row.words || row.most < words.len() {
         return None;
     }
     let command = command_by(row.verb, words);

@@ -1,7 +1,11 @@
 //! The words of a command line, and of a line of a script: which command they are.
 #![tactic(auto)]
 
+mod advice;
+mod claim;
 mod command;
+mod hints;
+mod kinds;
 mod laws;
 mod names;
 mod orders;
@@ -10,7 +14,11 @@ mod table;
 mod usage;
 mod word;
 
+pub use advice::hint_line;
+pub use claim::ClaimKind;
 pub use command::{Command, command_of, house_order_of, may_ask_house};
+pub use hints::{Hint, hint_of};
+pub use kinds::WordKind;
 pub use laws::every_command_is_found_by_its_name;
 pub use names::{AttemptNames, ConfrontNames, ExtractNames, VerifyNames};
 pub use orders::{HouseOrder, SealOrder};

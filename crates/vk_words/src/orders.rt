@@ -1,7 +1,8 @@
 //! What a bidder's command and the house's commands are to do.
 
 ghost use Rattle.std.specs.Prelude.{◌≡◌, ◌<◌, ◌≤◌, IfSome, length, map, option_map, string_bytes};
-ghost use Rattle.vk_words.specs.Orders.{IsHouseOrder, IsSealOrder, house_by, house_seen, id_at, seal_in, seal_seen, seed_at};
+ghost use Rattle.vk_residue.specs.Limits.{IsSize};
+ghost use Rattle.vk_words.specs.Orders.{IsHouseOrder, IsSealOrder, announced_on, house_by, house_seen, id_at, seal_in, seal_seen, seed_at};
 
 use crate::names::{AttemptNames, attempt_names};
 use crate::table::Verb;
@@ -34,6 +35,13 @@ pub enum HouseOrder<'a> {
         id: [u8; 16],
         width: u32,
         lanes: u32,
+    },
+    /// The same, with a reserve below 2^width.
+    AnnounceReserve {
+        id: [u8; 16],
+        width: u32,
+        lanes: u32,
+        reserve: u64,
     },
     /// The names of the files of a seal and its secret.
     Submit {
@@ -103,6 +111,24 @@ pub fn seal_order(words: &[String]) -> Option<SealOrder<'_>>
     })
 }
 
+/// The order of an `announce`, which has a reserve where there is a word more.
+fn announced(id: [u8; 16], width: u32, lanes: u32, words: &[String]) -> Option<HouseOrder<'_>>
+    requires { IsSize width lanes }
+    ensures value { option_map house_seen result ≡ announced_on id width lanes (map string_bytes words.now) }
+    ensures limits { IfSome result IsHouseOrder }
+{
+    if words.len() <= 4 {
+        return Some(HouseOrder::Announce { id, width, lanes });
+    }
+    let reserve = read_decimal(word(words, 4).as_bytes(), (1 << width) - 1)?;
+    Some(HouseOrder::AnnounceReserve {
+        id,
+        width,
+        lanes,
+        reserve,
+    })
+}
+
 /// A command of the house. `None` of the others.
 pub fn house_order(verb: Verb, words: &[String]) -> Option<HouseOrder<'_>>
     ensures value { option_map house_seen result ≡ house_by verb (map string_bytes words.now) }
@@ -113,7 +139,8 @@ pub fn house_order(verb: Verb, words: &[String]) -> Option<HouseOrder<'_>>
         Verb::Announce => {
             let width = count(word(words, 2), 40)? as u32;
             let lanes = count(word(words, 3), 64)? as u32;
-            Some(HouseOrder::Announce { id, width, lanes })
+            let order = announced(id, width, lanes, words);
+            order
         }
         Verb::Submit => {
             let seal = name(words, 2)?;

@@ -1,4 +1,4 @@
-//! The table of the commands: which word names each, how many words it has, and whether it asks the house.
+//! The table of the commands: which word names each, how many words it may have, and whether it asks the house.
 
 ghost use Rattle.std.specs.Prelude.{◌≡◌, map, option_map};
 ghost use Rattle.std.specs.Option.{option_copied};
@@ -21,6 +21,9 @@ pub enum Verb {
     Report,
     Sample,
     Ceremony,
+    ClaimVerify,
+    ClaimExtract,
+    ClaimSample,
 }
 
 /// What is asked of the words of a command.
@@ -29,85 +32,120 @@ pub struct CommandRow {
     /// Its first word.
     pub name: &'static str,
     pub verb: Verb,
-    /// How many words it has, the first included.
+    /// The fewest words that it has, the first included.
     pub words: usize,
+    /// And the most.
+    pub most: usize,
     /// Whether it asks the keeper of the house: a command of the house, or a ceremony of such.
     pub asks_house: bool,
 }
 
 /// The commands, in the order of the usage line.
-static COMMANDS: [CommandRow; 12] = [
+static COMMANDS: [CommandRow; 15] = [
     CommandRow {
         name: "seal",
         verb: Verb::Seal,
         words: 9,
+        most: 9,
         asks_house: false,
     },
     CommandRow {
         name: "announce",
         verb: Verb::Announce,
         words: 4,
+        most: 5,
         asks_house: true,
     },
     CommandRow {
         name: "submit",
         verb: Verb::Submit,
         words: 4,
+        most: 4,
         asks_house: true,
     },
     CommandRow {
         name: "prove",
         verb: Verb::Prove,
         words: 4,
+        most: 4,
         asks_house: true,
     },
     CommandRow {
         name: "answer",
         verb: Verb::Answer,
         words: 4,
+        most: 4,
         asks_house: true,
     },
     CommandRow {
         name: "show",
         verb: Verb::Show,
         words: 2,
+        most: 2,
         asks_house: true,
     },
     CommandRow {
         name: "verify",
         verb: Verb::Verify,
         words: 4,
+        most: 4,
         asks_house: false,
     },
     CommandRow {
         name: "extract",
         verb: Verb::Extract,
         words: 6,
+        most: 6,
         asks_house: false,
     },
     CommandRow {
         name: "confront",
         verb: Verb::Confront,
         words: 7,
+        most: 7,
         asks_house: false,
     },
     CommandRow {
         name: "report",
         verb: Verb::Report,
         words: 2,
+        most: 2,
         asks_house: false,
     },
     CommandRow {
         name: "sample",
         verb: Verb::Sample,
         words: 2,
+        most: 2,
         asks_house: false,
     },
     CommandRow {
         name: "ceremony",
         verb: Verb::Ceremony,
         words: 2,
+        most: 2,
         asks_house: true,
+    },
+    CommandRow {
+        name: "claim-verify",
+        verb: Verb::ClaimVerify,
+        words: 4,
+        most: 4,
+        asks_house: false,
+    },
+    CommandRow {
+        name: "claim-extract",
+        verb: Verb::ClaimExtract,
+        words: 6,
+        most: 6,
+        asks_house: false,
+    },
+    CommandRow {
+        name: "claim-sample",
+        verb: Verb::ClaimSample,
+        words: 3,
+        most: 3,
+        asks_house: false,
     },
 ];
 
