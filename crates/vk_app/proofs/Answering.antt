@@ -10,14 +10,13 @@ use Rattle.vk_verifier.specs.Acceptance.{Accepts}
 use Rattle.vk_keeper.specs.declared.auction.Auction.{Auction}
 use Rattle.vk_keeper.specs.declared.auction.Phase.{Phase}
 use Rattle.vk_keeper.specs.declared.auction.Phase.TheVariants.{Taking, Proved, Answered}
-use Rattle.vk_keeper.specs.declared.auction.SealRow.{SealRow}
 use Rattle.vk_keeper.specs.Auctions.{challenge_of, seed_of}
 use Rattle.vk_keeper.specs.Ledgers.{Ledger, IsLedger}
 use Rattle.vk_job.specs.Proofs.{drawn_in, lane_in}
 use Rattle.vk_job.specs.Jobs.{plan_of, values_of}
 use Rattle.vk_job.specs.Published.{board_of, head_of, reply_of}
 use Rattle.vk_house.specs.Once.{KeepsAnswer, KeepsAnswers, KeepsSeed}
-use Rattle.vk_house.proofs.Fields.{auction_with}
+use Rattle.vk_house.specs.Steps.{in_phase}
 use Rattle.vk_house.proofs.Once.{keeps_on, keeps_same}
 use Rattle.vk_words.specs.Commands.{command_words}
 use Rattle.vk_ceremony.specs.Acts.{HouseAct}
@@ -27,18 +26,17 @@ use Rattle.vk_app.proofs.Served.{served_found, served_keeps}
 -- ---- the board of an auction
 
 -- it is that of its seed: no challenge is in it
-board_by : (id : List ℕ) (width lanes : ℕ) (phase : Phase) (seals : List SealRow) (seed : List ℕ) → seed_of phase ≡ Some seed
-    → board_of (auction_with id width lanes phase seals) ≡ board_of (auction_with id width lanes (Proved seed) seals)
+board_by : (auction : Auction) (phase : Phase) (seed : List ℕ) → seed_of phase ≡ Some seed
+    → board_of (in_phase auction phase) ≡ board_of (in_phase auction (Proved seed))
 unfolding head_of lane_in plan_of values_of drawn_in
-board_by id width lanes Taking seals seed is = cc
-board_by id width lanes (Proved kept) seals seed is = ap (λ s. board_of (auction_with id width lanes (Proved s) seals)) (same_Some kept seed is)
-board_by id width lanes (Answered kept challenge) seals seed is = ap (λ s. board_of (auction_with id width lanes (Proved s) seals)) (same_Some kept seed is)
+board_by auction Taking seed is = cc
+board_by auction (Proved kept) seed is = ap (λ s. board_of (in_phase auction (Proved s))) (same_Some kept seed is)
+board_by auction (Answered kept challenge) seed is = ap (λ s. board_of (in_phase auction (Proved s))) (same_Some kept seed is)
 
-board_kept : (auction : Auction) (seed : List ℕ) (later : Auction) → seed_of auction.phase ≡ Some seed → KeepsSeed auction seed later → board_of later ≡ board_of auction
+board_kept : (auction : Auction) (seed : List ℕ) (later : Auction) → seed_of auction.phase ≡ Some seed
+    → KeepsSeed auction seed later → board_of later ≡ board_of auction
 board_kept auction seed later is keeps =
-    ap board_of keeps.same
-    ∙ board_by auction.id auction.width auction.lanes later.phase auction.seals seed keeps.seed
-    ∙ sym (board_by auction.id auction.width auction.lanes auction.phase auction.seals seed is)
+    ap board_of keeps.same ∙ board_by auction later.phase seed keeps.seed ∙ sym (board_by auction auction.phase seed is)
 
 -- ---- what stands in the last ledger
 

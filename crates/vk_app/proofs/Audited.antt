@@ -1,9 +1,9 @@
--- What a whole run of an auditor's command says.
+-- What a whole run of an auditor's command says, and of one on claims.
 use Rattle.std.proofs.Common.{◌≡◌, ℕ, List, Option, Some, None, IfSome, sym, subst}
 use Rattle.std.specs.Prelude.{◌⊎◌}
 use Rattle.vk_io.specs.Files.{Files}
 use Rattle.vk_keeper.specs.Ledgers.{Ledger}
-use Rattle.vk_words.specs.Commands.{CommandWords, Confront, Extract, Report, Verify, command_words}
+use Rattle.vk_words.specs.Commands.{CommandWords, ClaimExtract, ClaimVerify, Confront, Extract, Report, Verify, command_words}
 use Rattle.vk_effect.specs.Effects.{Outside, SaidValue, outside, puts, says, stores}
 use Rattle.vk_effect.specs.Ends.{Done}
 use Rattle.vk_audit.specs.Answers.{TellsConfrontation, TellsExtraction, TellsReport, TellsVerdict}
@@ -16,8 +16,13 @@ use Rattle.vk_audit.proofs.Binding.{binds_exactly, tells_confrontations}
 use Rattle.vk_audit.proofs.Extracting.{extracts_exactly, tells_extractions, tells_same_exactly}
 use Rattle.vk_audit.proofs.Reporting.{reports_exactly, tells_reports}
 use Rattle.vk_audit.proofs.Verifying.{tells_verdicts, verifies_exactly}
+use Rattle.vk_claims.specs.Extractions.{claim_extract_said}
+use Rattle.vk_claims.specs.Statuses.{AcceptsTwoClaims, IsClaimExtracted, IsClaimVerified, IsSameClaim, TellsClaimExtraction, TellsClaimVerdict}
+use Rattle.vk_claims.specs.Verdicts.{claim_verify_said}
+use Rattle.vk_claims.proofs.Extracting.{extracts_claims_exactly, tells_claim_extractions, tells_same_claims_exactly}
+use Rattle.vk_claims.proofs.Verifying.{tells_claim_verdicts, verifies_claims_exactly}
 use Rattle.vk_app.specs.Commands.{DoesWork, Work, work_of, work_on}
-use Rattle.vk_app.specs.Promises.{Audits, Headline}
+use Rattle.vk_app.specs.Promises.{Audits, ClaimHeadline, Claims, Headline}
 
 -- ---- at its end
 
@@ -60,14 +65,47 @@ module _ (files : Files) (ledger : Option Ledger) (words : List (List ℕ)) (sta
     };
   }
 
+  pub ended_claim_headline : ClaimHeadline files words status old new.taken
+  ended_claim_headline = record {
+    found = λ names is accepted _ _.
+        from_said (claim_extract_said files names) (λ n text. IsClaimExtracted accepted.two n old text) (done_is (ClaimExtract names) is) ((extracts_claims_exactly files names old).0 accepted);
+    only = λ names is. from_said (claim_extract_said files names) (λ n _. (n ≡ 0) ⊎ (n ≡ 3) → AcceptsTwoClaims files names) (done_is (ClaimExtract names) is) (extracts_claims_exactly files names old).1;
+  }
+
+  pub ended_claims : Claims files words status old new.taken
+  ended_claims = record {
+    verify = λ names is. record {
+      accepts = from_said (claim_verify_said files names) (λ n _. IsClaimVerified files names n) (done_is (ClaimVerify names) is) (verifies_claims_exactly files names);
+      tells = λ _ _. from_said (claim_verify_said files names) (λ n text. TellsClaimVerdict files names n old text) (done_is (ClaimVerify names) is) (tells_claim_verdicts files names old);
+    };
+    extract = λ names is. record {
+      same = from_said (claim_extract_said files names) (λ n _. IsSameClaim files names n) (done_is (ClaimExtract names) is) (tells_same_claims_exactly files names);
+      tells = λ _ _. from_said (claim_extract_said files names) (λ n text. TellsClaimExtraction files names n old text) (done_is (ClaimExtract names) is) (tells_claim_extractions files names old);
+    };
+  }
+
 -- ---- as far as the files are told
 
-pub told_headline : (held : Option Files) (ledger : Option Ledger) (words : List (List ℕ)) (status : ℕ) (old : Option (List ℕ)) (new : Outside)
-    → IfSome (work_on held ledger words) (λ work. DoesWork status work (outside (stores held ledger) old) new) → IfSome held (λ files. Headline files words status old new.taken)
-told_headline None ledger words status old new ended = tt
-told_headline (Some files) ledger words status old new ended = ended_headline files ledger words status old new ended
+-- so it is told of the files that are told
+abbrev TellsOf : (Files → List (List ℕ) → ℕ → Option (List ℕ) → Option (List ℕ) → Type 0) → Type 0
+TellsOf P = (held : Option Files) (ledger : Option Ledger) (words : List (List ℕ)) (status : ℕ) (old : Option (List ℕ)) (new : Outside)
+    → IfSome (work_on held ledger words) (λ work. DoesWork status work (outside (stores held ledger) old) new) → IfSome held (λ files. P files words status old new.taken)
 
-pub told_audits : (held : Option Files) (ledger : Option Ledger) (words : List (List ℕ)) (status : ℕ) (old : Option (List ℕ)) (new : Outside)
-    → IfSome (work_on held ledger words) (λ work. DoesWork status work (outside (stores held ledger) old) new) → IfSome held (λ files. Audits files words status old new.taken)
-told_audits None ledger words status old new ended = tt
-told_audits (Some files) ledger words status old new ended = ended_audits files ledger words status old new ended
+module _ (P : Files → List (List ℕ) → ℕ → Option (List ℕ) → Option (List ℕ) → Type 0)
+    (ended : (files : Files) (ledger : Option Ledger) (words : List (List ℕ)) (status : ℕ) (old : Option (List ℕ)) (new : Outside)
+    → IfSome (work_on (Some files) ledger words) (λ work. DoesWork status work (outside (stores (Some files) ledger) old) new) → P files words status old new.taken) where
+  told_of : TellsOf P
+  told_of None ledger words status old new is = tt
+  told_of (Some files) ledger words status old new is = ended files ledger words status old new is
+
+pub told_headline : TellsOf Headline
+told_headline = told_of Headline ended_headline
+
+pub told_audits : TellsOf Audits
+told_audits = told_of Audits ended_audits
+
+pub told_claim_headline : TellsOf ClaimHeadline
+told_claim_headline = told_of ClaimHeadline ended_claim_headline
+
+pub told_claims : TellsOf Claims
+told_claims = told_of Claims ended_claims

@@ -4,7 +4,7 @@ use Rattle.std.specs.Prelude.{IfSome, option_map}
 use Rattle.vk_io.specs.Files.{Files, Told}
 use Rattle.vk_io.specs.Writing.{WritesAll, written}
 use Rattle.vk_io.specs.declared.errors.OutsideErr.{OutsideErr}
-use Rattle.vk_words.specs.Commands.{AsksNoKeeper, CommandWords, Seal, House, Verify, Extract, Confront, Report, Sample, Ceremony}
+use Rattle.vk_words.specs.Commands.{AsksNoKeeper, CommandWords, Seal, House, Verify, Extract, Confront, Report, Sample, Ceremony, ClaimVerify, ClaimExtract, ClaimSample}
 use Rattle.vk_effect.specs.Effects.{Effect, Outside}
 use Rattle.vk_effect.specs.Ends.{Ends}
 use Rattle.vk_effect.proofs.Acting.{told_map}
@@ -34,6 +34,9 @@ no_script (Some (Extract names)) script is = cc
 no_script (Some (Confront names)) script is = cc
 no_script (Some (Report board)) script is = cc
 no_script (Some (Sample number)) script is = cc
+no_script (Some (ClaimVerify names)) script is = cc
+no_script (Some (ClaimExtract names)) script is = cc
+no_script (Some (ClaimSample kind number)) script is = cc
 no_script (Some (Ceremony name)) script is = λ asks. asks
 
 -- files that are told hold the texts that were written

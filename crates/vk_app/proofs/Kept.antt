@@ -1,5 +1,5 @@
 -- What a whole run keeps of its promises on the house, on a ceremony, on a seal, and on words of no form.
-use Rattle.std.proofs.Common.{ap, sym, ◌∙◌, ◌≡◌, ◌≢◌, ℕ, List, Option, Some, None, IfSome, IsSomeAnd, Result, Ok, Err, refl, subst, inl, inr, ◌^◌, ◌<◌, length, if◌then◌else◌, Bool, true, false, [], ◌∷◌, ◌≤◌}
+use Rattle.std.proofs.Common.{ap, sym, ◌∙◌, ◌≡◌, ◌≢◌, ℕ, List, Option, Some, None, IfSome, IsSomeAnd, Result, Ok, Err, refl, subst, inl, inr, ◌^◌, length, Bool, false, [], ◌≤◌}
 use Rattle.std.specs.Prelude.{◌⊎◌, option_map}
 use Rattle.std.specs.FinMap.{get}
 use Rattle.std.proofs.lemmas.Option.{same_Some}
@@ -12,7 +12,7 @@ use Rattle.vk_lines.specs.Tokens.{word_of}
 use Rattle.vk_keeper.specs.Ledgers.{Ledger}
 use Rattle.vk_words.specs.Commands.{CommandWords, Seal, command_words}
 use Rattle.vk_words.specs.Orders.{SealWords, HouseWords}
-use Rattle.vk_effect.specs.Effects.{Outside, outside, says, stores, SaidValue, IsSaid, Effect, Stores, after}
+use Rattle.vk_effect.specs.Effects.{Outside, outside, says, stores, SaidValue, IsSaid, Stores}
 use Rattle.vk_effect.specs.Ends.{Done}
 use Rattle.vk_effect.specs.NamedFiles.{missing_said, too_long_said}
 use Rattle.vk_effect.specs.Reading.{begun_in, from_first}

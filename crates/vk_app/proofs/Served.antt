@@ -19,9 +19,9 @@ use Rattle.vk_house.specs.Once.{KeepsAnswers}
 use Rattle.vk_house.specs.Replies.{HouseReply}
 use Rattle.vk_house.proofs.Once.{keeps_on, keeps_same}
 use Rattle.vk_honest.proofs.Accepted.{answers_are_accepted}
-use Rattle.vk_words.specs.Commands.{CommandWords, Seal, House, Verify, Extract, Confront, Report, Sample, command_words}
+use Rattle.vk_words.specs.Commands.{CommandWords, Seal, House, Verify, Extract, Confront, Report, Sample, ClaimVerify, ClaimExtract, ClaimSample, command_words}
 use Rattle.vk_words.specs.Commands as commands
-use Rattle.vk_words.specs.Orders.{HouseWords, SealWords, Answer, Prove, Announce, Show, Submit}
+use Rattle.vk_words.specs.Orders.{HouseWords, SealWords, Announce, AnnounceReserve, Submit, Prove, Answer, Show}
 use Rattle.vk_effect.specs.Effects.{Effect, Outside, SaidValue, outside, said_of, stores, says}
 use Rattle.vk_effect.specs.Ends.{Ends}
 use Rattle.vk_auctioneer.specs.Effects.{answer_effect, house_effect, prove_effect, Writes, asked, if_read, no_file, reply_file}
@@ -38,6 +38,11 @@ use Rattle.vk_ceremony.proofs.Performing.{ceremony_performs, command_performs}
 use Rattle.vk_ceremony.proofs.Standing.{act_same, act_steps, is_act_within, keeps_within, orders_are, performs_keeps, performs_right, right_within}
 use Rattle.vk_sample.specs.Auctions.{DrySeed, auction_of}
 use Rattle.vk_sample.specs.Samples.{effect_by, sample_on}
+use Rattle.vk_job.specs.Proofs.{ProofValue}
+use Rattle.vk_report.specs.declared.sample.SampleCase.{SampleCase}
+use Rattle.vk_claim_sample.specs.Claims.{claim_case, numbers_of, proof_of}
+use Rattle.vk_claim_sample.specs.ClaimSamples.{claim_sample_on}
+use Rattle.vk_claim_sample.specs.ClaimSamples as claimed
 use Rattle.vk_app.specs.Auctions.{CommandIsDone, KeepsToSteps, PerformsAt, PublishesBoard, PublishesReply, Serves, ServesHouse, orders_of, input_fault}
 use Rattle.vk_app.specs.Commands.{Command, EndsWork, Script, Work, command_effect, work_of, work_on}
 use Rattle.vk_app.specs.Sealing.{seal_on}
@@ -59,6 +64,7 @@ read_fault ledger (Err said) writes command effect is none = ap (λ (e : Effect)
 
 fault_said : (files : Files) (ledger : Ledger) (order : HouseWords) (effect : Effect) → house_effect (Some files) (Some ledger) order ≡ Some effect → asked_in files order ≡ None → Some (said_of effect) ≡ input_fault files order
 fault_said files ledger (Announce id width lanes) effect is none = cc
+fault_said files ledger (AnnounceReserve id width lanes reserve) effect is none = cc
 fault_said files ledger (Submit id seal secret) effect is none =
     read_fault ledger (row_in files seal secret) (λ _. no_file) (λ (row : SealRow). house.Submit id row.seal row.secret) effect is none ∙ (reads_row files seal secret).said
 fault_said files ledger (Prove id seed board) effect is none = cc
@@ -161,6 +167,9 @@ meant_words files words orders is = by_command (command_words words) refl where
   by_command (Some (Extract names)) at = (let no : orders_of files (Some (Extract names)) ≡ Some orders = ap (orders_of files) (sym at) ∙ is in cc)
   by_command (Some (Confront names)) at = (let no : orders_of files (Some (Confront names)) ≡ Some orders = ap (orders_of files) (sym at) ∙ is in cc)
   by_command (Some (Report board)) at = (let no : orders_of files (Some (Report board)) ≡ Some orders = ap (orders_of files) (sym at) ∙ is in cc)
+  by_command (Some (ClaimVerify names)) at = (let no : orders_of files (Some (ClaimVerify names)) ≡ Some orders = ap (orders_of files) (sym at) ∙ is in cc)
+  by_command (Some (ClaimExtract names)) at = (let no : orders_of files (Some (ClaimExtract names)) ≡ Some orders = ap (orders_of files) (sym at) ∙ is in cc)
+  by_command (Some (ClaimSample kind number)) at = (let no : orders_of files (Some (ClaimSample kind number)) ≡ Some orders = ap (orders_of files) (sym at) ∙ is in cc)
   by_command (Some (Sample number)) at = (let no : orders_of files (Some (Sample number)) ≡ Some orders = ap (orders_of files) (sym at) ∙ is in cc)
 
 -- what is kept after a run of which all that is kept is kept until the last ledger
@@ -249,6 +258,15 @@ module _ (files : Files) (ledger : Ledger) (result : Result ℕ OutsideErr) (old
   sampled number (Ok auction) = refl
   sampled number (Err dry) = refl
 
+  claim_sampled : (number : ℕ) (case : SampleCase) (numbers : List ℕ) (made : Result ProofValue DrySeed)
+      → IsSomeAnd (claimed.effect_by (Some files) (Some ledger) number case numbers made) (λ effect. effect.ledger ≡ Some ledger)
+  claim_sampled number case numbers (Ok proof) = refl
+  claim_sampled number case numbers (Err dry) = refl
+
+  claim_sample_still : (number : ℕ) → IsSomeAnd (claim_sample_on (Some files) (Some ledger) number) (λ effect. effect.ledger ≡ Some ledger)
+  unfolding claim_sample_on
+  claim_sample_still number = claim_sampled number (claim_case number) (numbers_of number) (proof_of number)
+
   sample_still : (number : ℕ) → IsSomeAnd (sample_on (Some files) (Some ledger) number) (λ effect. effect.ledger ≡ Some ledger)
   unfolding sample_on
   sample_still number = sampled number (auction_of (sample_of number))
@@ -266,6 +284,9 @@ module _ (files : Files) (ledger : Ledger) (result : Result ℕ OutsideErr) (old
   performed (Some (Extract names)) ends = still (command_effect (Some files) (Some ledger) (Some (Extract names))) refl ends
   performed (Some (Confront names)) ends = still (command_effect (Some files) (Some ledger) (Some (Confront names))) refl ends
   performed (Some (Report board)) ends = still (command_effect (Some files) (Some ledger) (Some (Report board))) refl ends
+  performed (Some (ClaimVerify names)) ends = still (command_effect (Some files) (Some ledger) (Some (ClaimVerify names))) refl ends
+  performed (Some (ClaimExtract names)) ends = still (command_effect (Some files) (Some ledger) (Some (ClaimExtract names))) refl ends
+  performed (Some (ClaimSample kind number)) ends = still (claim_sample_on (Some files) (Some ledger) number) (claim_sample_still number) ends
   performed (Some (Sample number)) ends = still (sample_on (Some files) (Some ledger) number) (sample_still number) ends
   performed (Some (commands.Ceremony script)) ends =
       acts_of (orders_in files script) (ceremony_performs files ledger script old result new (from_script (ceremony_on (Some files) (Some ledger) script) ends))

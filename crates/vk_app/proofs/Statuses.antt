@@ -2,7 +2,6 @@
 use Rattle.std.proofs.Common.{◌≡◌, ℕ, Bool, true, false, List, Option, Some, None, IfSome, Result, Ok, Err, refl, sym, subst}
 use Rattle.std.specs.Prelude.{IsSomeAnd, ◌==◌, option_map, IfErr}
 use Rattle.std.specs.FinMap.{get}
-use Rattle.vk_residue.specs.Steps.{◌>>=◌}
 use Rattle.vk_io.specs.Files.{Files}
 use Rattle.vk_lines.specs.Lines.{Rest, line_by}
 use Rattle.vk_lines.specs.Tokens.{word_of}
@@ -35,9 +34,9 @@ use Rattle.vk_house.specs.Commands as house
 use Rattle.vk_house.specs.Replies.{HouseReply}
 use Rattle.vk_house.specs.Replies as replies
 use Rattle.vk_house.specs.Steps.{house_step}
-use Rattle.vk_words.specs.Commands.{CommandWords, Seal, House, Verify, Extract, Confront, Report, Sample, Ceremony}
+use Rattle.vk_words.specs.Commands.{CommandWords, Seal, House, Verify, Extract, Confront, Report, Sample, Ceremony, ClaimVerify, ClaimExtract, ClaimSample}
 use Rattle.vk_words.specs.Names.{ConfrontWords, ExtractWords}
-use Rattle.vk_words.specs.Orders.{HouseWords, SealWords, Announce, Submit, Prove, Answer, Show}
+use Rattle.vk_words.specs.Orders.{HouseWords, SealWords, Announce, AnnounceReserve, Submit, Prove, Answer, Show}
 use Rattle.vk_effect.specs.Effects.{Effect, Outside, SaidValue, Stores, outside, stores}
 use Rattle.vk_effect.specs.Ends.{Ends}
 use Rattle.vk_effect.specs.Reading.{begun_in, value_in}
@@ -58,7 +57,21 @@ use Rattle.vk_ceremony.proofs.Each.{from_each}
 use Rattle.vk_ceremony.proofs.Following.{ceremony_follows, order_told}
 use Rattle.vk_sample.specs.Auctions.{DrySeed, auction_of}
 use Rattle.vk_sample.specs.Samples.{effect_by, sample_on}
-use Rattle.vk_app.specs.Commands.{Command, EndsWork, Script, Work, audit_on, work_of}
+use Rattle.vk_job.specs.Proofs.{ProofValue}
+use Rattle.vk_report.specs.declared.sample.SampleCase.{SampleCase}
+use Rattle.vk_claim_sample.specs.Claims.{claim_case, numbers_of, proof_of}
+use Rattle.vk_claim_sample.specs.ClaimSamples.{claim_sample_on}
+use Rattle.vk_claim_sample.specs.ClaimSamples as claim_samples
+use Rattle.vk_claim.specs.declared.verdict.ClaimVerdict.{ClaimVerdict}
+use Rattle.vk_claim.specs.declared.verdict.ClaimVerdict.TheVariants as claim_verdicts
+use Rattle.vk_claim.specs.Extraction.{ClaimExtraction, claim_extraction_on}
+use Rattle.vk_claim.specs.Verdicts.{claim_verdict_on}
+use Rattle.vk_claims.specs.Circuits.{admitted_plan}
+use Rattle.vk_claims.specs.Extractions.{claim_extraction_said}
+use Rattle.vk_claims.specs.Orders.{ClaimWords, claim_said}
+use Rattle.vk_claims.specs.Orders as claims
+use Rattle.vk_claims.specs.Verdicts.{claim_judged_said}
+use Rattle.vk_app.specs.Commands.{Command, EndsWork, Script, Work, audit_on, claim_on, work_of}
 use Rattle.vk_app.specs.Sealing.{made_said, seal_made, seal_on}
 
 abbrev IsOther : ℕ → Type 0
@@ -117,6 +130,30 @@ unreported_file board unreported.Winner = refl
 unreported_file board unreported.Failed = refl
 unreported_file board unreported.NoMemory = refl
 
+-- ---- a command on claims
+
+claim_told : (names : ExtractWords) (second : Bool) (verdict : ClaimVerdict) → SaysOther (claim_judged_said names second verdict)
+claim_told names second claim_verdicts.Accepted = refl
+claim_told names second (claim_verdicts.Malformed part line) = refl
+claim_told names second claim_verdicts.Public = refl
+claim_told names second claim_verdicts.Lanes = refl
+claim_told names second (claim_verdicts.Wire lane wire fault) = refl
+claim_told names second (claim_verdicts.Row lane row) = refl
+
+values_told : (names : ExtractWords) (extraction : ClaimExtraction) → SaysOther (claim_extraction_said names extraction)
+values_told names (extractions.Refused second verdict) = claim_told names second verdict
+values_told names extractions.Same = refl
+values_told names (extractions.Clash two) = refl
+values_told names (extractions.Bids found) = refl
+
+claimed : (files : Files) (order : ClaimWords) → SaysOther (claim_said files order)
+claimed files (claims.Verify names) =
+    by_answer _ _ (claim_verdict_on admitted_plan files names.board names.attempt.challenge names.attempt.reply) (claim_told (verified_words names) false)
+    (unread_files (verified_words names))
+claimed files (claims.Extract names) =
+    by_answer _ _ (claim_extraction_on admitted_plan files names.board names.first.challenge names.first.reply names.second.challenge names.second.reply)
+    (values_told names) (unread_files names)
+
 -- ---- a bidder's
 
 sealed : (order : SealWords) (made : Result (Secret × MadeSeal) SealErr) → SaysOther (made_said order made)
@@ -130,7 +167,7 @@ sealed order (Err unmade.NoMemory) = refl
 replied : (command : HouseCommand) (reply : HouseReply) → SaysOther (reply_said command reply)
 replied command replies.Done = refl
 replied command (replies.Position position) = refl
-replied command (replies.Work auction outcome) = refl
+replied command (replies.Work auction sale) = refl
 replied command (replies.Stands standing) = refl
 replied command (replies.Refused refusal) = refl
 
@@ -167,6 +204,7 @@ asks_house (Some ledger) writes command = replied command (house_step ledger com
 
 served : (held : Option Files) (kept : Option Ledger) (order : HouseWords) → IfSome (house_effect held kept order) EndsOther
 served held kept (Announce id width lanes) = asks_house kept no_file (house.Announce id width lanes)
+served held kept (AnnounceReserve id width lanes reserve) = asks_house kept no_file (house.AnnounceReserve id width lanes reserve)
 served held kept (Prove id seed board) = asks_house kept (board_file board) (house.Prove id seed)
 served held kept (Show id) = asks_house kept no_file (house.Show id)
 served None kept (Submit id seal secret) = tt
@@ -212,6 +250,11 @@ held (Some files) kept script = behind script (stores (Some files) kept) (script
 sampled : (files : Files) (kept : Option Ledger) (number : ℕ) (made : Result Auction DrySeed) → IsSomeAnd (effect_by (Some files) kept number (sample_of number) made) EndsOther
 sampled files kept number (Ok auction) = refl
 sampled files kept number (Err dry) = refl
+
+claim_sampled : (files : Files) (kept : Option Ledger) (number : ℕ) (case : SampleCase) (numbers : List ℕ) (made : Result ProofValue DrySeed)
+    → IsSomeAnd (claim_samples.effect_by (Some files) kept number case numbers made) EndsOther
+claim_sampled files kept number case numbers (Ok proof) = refl
+claim_sampled files kept number case numbers (Err dry) = refl
 
 audited : (files : Files) (order : AuditWords) → SaysOther (audit_said files order)
 audited files (audits.Verify names) =
@@ -261,6 +304,10 @@ module _ (files : Files) (ledger : Ledger) (status : ℕ) (old : Option (List �
   unfolding sample_on
   sampled_told number = sampled files (Some ledger) number (auction_of (sample_of number))
 
+  claim_sampled_told : (number : ℕ) → IsSomeAnd (claim_sample_on (Some files) (Some ledger) number) EndsOther
+  unfolding claim_sample_on
+  claim_sampled_told number = claim_sampled files (Some ledger) number (claim_case number) (numbers_of number) (proof_of number)
+
   order_is_told : (order : HouseWords) → IsSomeAnd (house_effect (Some files) (Some ledger) order) EndsOther
   order_is_told order =
       let told = order_told files ledger order in
@@ -278,5 +325,8 @@ module _ (files : Files) (ledger : Ledger) (status : ℕ) (old : Option (List �
   no_command (Some (Extract names)) ends two = absurd (command_other (audit_on (Some files) (Some ledger) (audits.Extract names)) (audited files (audits.Extract names)) ends two)
   no_command (Some (Confront names)) ends two = absurd (command_other (audit_on (Some files) (Some ledger) (audits.Confront names)) (audited files (audits.Confront names)) ends two)
   no_command (Some (Report board)) ends two = absurd (command_other (audit_on (Some files) (Some ledger) (audits.Report board)) (audited files (audits.Report board)) ends two)
+  no_command (Some (ClaimVerify names)) ends two = absurd (command_other (claim_on (Some files) (Some ledger) (claims.Verify names)) (claimed files (claims.Verify names)) ends two)
+  no_command (Some (ClaimExtract names)) ends two = absurd (command_other (claim_on (Some files) (Some ledger) (claims.Extract names)) (claimed files (claims.Extract names)) ends two)
+  no_command (Some (ClaimSample kind number)) ends two = absurd (command_other (claim_sample_on (Some files) (Some ledger) number) (claim_sampled_told number) ends two)
   no_command (Some (Sample number)) ends two = absurd (command_other (sample_on (Some files) (Some ledger) number) (sampled_told number) ends two)
   no_command (Some (Ceremony script)) ends two = absurd (script_other (ceremony_on (Some files) (Some ledger) script) (script_is_told script) ends two)

@@ -10,10 +10,11 @@ use Rattle.vk_keeper.specs.declared.auction.Auction.{Auction}
 use Rattle.vk_keeper.specs.declared.auction.Phase.TheVariants.{Proved}
 use Rattle.vk_keeper.specs.Ledgers.{Ledger, IsLedger}
 use Rattle.vk_job.specs.Jobs.{IsProvedAuction}
-use Rattle.vk_job.specs.Published.{IsChallengeTo, board_of}
+use Rattle.vk_job.specs.Published.{IsChallengeTo, board_of, reply_of}
 use Rattle.vk_effect.specs.Effects.{Effect}
 use Rattle.vk_auctioneer.specs.Effects.{answer_effect}
 use Rattle.vk_auctioneer.specs.Laws.{LeavesAuction}
+use Rattle.vk_auctioneer.specs.Leaving.{LeavesReply}
 
 -- the effect of `answer`: it leaves an auction with whose board, and the challenge of the named file, what it writes
 -- is accepted
@@ -44,3 +45,12 @@ ChallengesAreAnswered =
     (files : Files) (ledger : Ledger) (id challenge_name reply : List ℕ) (auction : Auction) (seed : List ℕ) (challenge : Challenge)
     → IsAsked files ledger id challenge_name auction seed challenge
     → (answer_effect files ledger id challenge_name reply).status ≡ 0
+
+-- a reply that is left, whatever the keeper tells: the file of the challenge's name held the challenge's text, and with that
+-- the reply is accepted with the board of its auction
+abbrev pub LeftRepliesAreAccepted : Type 0
+LeftRepliesAreAccepted =
+    (id challenge_name reply : List ℕ) (old new : Files) (auction : Auction) (challenge : Challenge)
+    → LeavesReply id challenge_name reply old new auction challenge
+    → (get old challenge_name ≡ Some (challenge_text challenge))
+    × Accepts (board_of auction) (challenge_text challenge) (reply_of auction challenge)

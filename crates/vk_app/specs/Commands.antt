@@ -4,16 +4,19 @@ use Rattle.vk_io.specs.Files.{Files}
 use Rattle.vk_io.specs.declared.errors.OutsideErr.{OutsideErr}
 use Rattle.vk_io.specs.declared.errors.OutsideErr.TheVariants.{Failed}
 use Rattle.vk_keeper.specs.Ledgers.{Ledger}
-use Rattle.vk_words.specs.Commands.{CommandWords, Seal, House, Verify, Extract, Confront, Report, Sample, Ceremony, command_words}
+use Rattle.vk_words.specs.Commands.{CommandWords, Seal, House, Verify, Extract, Confront, Report, Sample, Ceremony, ClaimVerify, ClaimExtract, ClaimSample, command_words}
 use Rattle.vk_words.specs.Usage.{usage_text}
 use Rattle.vk_effect.specs.Effects.{Effect, Outside, SaidValue, says}
 use Rattle.vk_effect.specs.Ends.{Ends}
 use Rattle.vk_audit.specs.Audits.{AuditWords, audit_said}
 use Rattle.vk_audit.specs.Audits as audits
+use Rattle.vk_claims.specs.Orders.{ClaimWords, claim_said}
+use Rattle.vk_claims.specs.Orders as claims
 use Rattle.vk_auctioneer.specs.Effects.{house_effect}
 use Rattle.vk_ceremony.specs.Ceremonies.{EndsAll, ceremony_on}
 use Rattle.vk_ceremony.specs.Ceremonies as ceremonies
 use Rattle.vk_sample.specs.Samples.{sample_on}
+use Rattle.vk_claim_sample.specs.ClaimSamples.{claim_sample_on}
 use Rattle.vk_app.specs.Sealing.{seal_on}
 
 -- ---- words that are no command
@@ -27,6 +30,10 @@ usage_said = record { status = 2; text = usage_text }
 abbrev pub audit_on : Option Files → Option Ledger → AuditWords → Option Effect
 audit_on files ledger order = option_map (λ told. says ledger (audit_said told order)) files
 
+-- and so has a command on claims
+abbrev pub claim_on : Option Files → Option Ledger → ClaimWords → Option Effect
+claim_on files ledger order = option_map (λ told. says ledger (claim_said told order)) files
+
 -- what reads nothing has its effect over any files, and what asks the house over a ledger that is told. A ceremony is
 -- no single command
 abbrev pub command_effect : Option Files → Option Ledger → Option CommandWords → Option Effect
@@ -38,6 +45,9 @@ command_effect files ledger (Some (Confront names)) = audit_on files ledger (aud
 command_effect files ledger (Some (Report board)) = audit_on files ledger (audits.Report board)
 command_effect files ledger (Some (House order)) = house_effect files ledger order
 command_effect files ledger (Some (Sample number)) = sample_on files ledger number
+command_effect files ledger (Some (ClaimVerify names)) = claim_on files ledger (claims.Verify names)
+command_effect files ledger (Some (ClaimExtract names)) = claim_on files ledger (claims.Extract names)
+command_effect files ledger (Some (ClaimSample kind number)) = claim_sample_on files ledger number
 command_effect files ledger (Some (Ceremony script)) = None
 
 -- ---- a whole command line

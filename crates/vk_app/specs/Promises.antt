@@ -1,9 +1,9 @@
 -- What `run` promises, one record for each family of commands, over files and a ledger that are told.
 use Rattle.std.specs.Prelude.{◌≡◌, ◌≢◌, ◌⊎◌, ℕ, ◌^◌, ◌<◌, ◌≤◌, Bool, List, [], length, Option, Some, None}
 use Rattle.std.specs.FinMap.{get}
-use Rattle.vk_io.specs.Files.{Files}
+use Rattle.vk_io.specs.Files.{Files, Told}
 use Rattle.vk_keeper.specs.Ledgers.{Ledger}
-use Rattle.vk_words.specs.Commands.{Confront, Extract, House, Report, Verify, command_words}
+use Rattle.vk_words.specs.Commands.{CommandWords, ClaimExtract, ClaimVerify, Confront, Extract, House, Report, Verify, command_words}
 use Rattle.vk_words.specs.Commands as commands
 use Rattle.vk_words.specs.Names.{ConfrontWords, ExtractWords, VerifyWords}
 use Rattle.vk_words.specs.Orders.{HouseWords}
@@ -11,13 +11,16 @@ use Rattle.vk_effect.specs.Effects.{IsSaid, outside, stores}
 use Rattle.vk_effect.specs.NamedFiles.{missing_said, too_long_said}
 use Rattle.vk_audit.specs.Answers.{TellsConfrontation, TellsExtraction, TellsReport, TellsVerdict}
 use Rattle.vk_audit.specs.Statuses.{AcceptsTwoFiles, BindsSecret, IsExtracted, IsReported, IsSame, IsVerified}
+use Rattle.vk_claims.specs.Statuses.{AcceptsTwoClaims, IsClaimExtracted, IsClaimVerified, IsSameClaim, TellsClaimExtraction, TellsClaimVerdict}
+use Rattle.vk_auctioneer.specs.Leaving.{LeavesFiles}
 use Rattle.vk_ceremony.specs.Acts.{PerformsAll}
 use Rattle.vk_lines.specs.Forms.{fault_line}
 use Rattle.vk_ceremony.specs.Ceremonies.{Ceremony, ceremony_on, closing_said}
 use Rattle.vk_ceremony.specs.Forms.{script_table}
+use Rattle.vk_ceremony.specs.Leaving.{CeremonyLeaves}
 use Rattle.vk_ceremony.specs.Runs.{orders_in}
 use Rattle.vk_app.specs.Auctions.{CommandIsDone, Serves}
-use Rattle.vk_app.specs.Commands.{usage_said}
+use Rattle.vk_app.specs.Commands.{script_in, usage_said}
 
 -- ---- the headline
 
@@ -28,6 +31,14 @@ pub record Headline (files : Files) (words : List (List ℕ)) (status : ℕ) (ol
   pub found : (names : ExtractWords) → command_words words ≡ Some (Extract names) → (accepted : AcceptsTwoFiles files names)
       → status ≢ 6 → status ≢ 9 → IsExtracted accepted.two status old new
   pub only : (names : ExtractWords) → command_words words ≡ Some (Extract names) → (status ≡ 0) ⊎ (status ≡ 3) → AcceptsTwoFiles files names
+
+-- of two replies that are accepted with one claim file for different challenges, `claim-extract` puts the values of each lane
+-- whose bits differ: they open the lane's seals, and the file's claim holds of them. Or it puts two openings of one
+-- commitment. It puts such of no others
+pub record ClaimHeadline (files : Files) (words : List (List ℕ)) (status : ℕ) (old new : Option (List ℕ)) : Type 0 where
+  pub found : (names : ExtractWords) → command_words words ≡ Some (ClaimExtract names) → (accepted : AcceptsTwoClaims files names)
+      → status ≢ 6 → status ≢ 9 → IsClaimExtracted accepted.two status old new
+  pub only : (names : ExtractWords) → command_words words ≡ Some (ClaimExtract names) → (status ≡ 0) ⊎ (status ≡ 3) → AcceptsTwoClaims files names
 
 -- ---- the auditor's commands
 
@@ -62,6 +73,24 @@ pub record Audits (files : Files) (words : List (List ℕ)) (status : ℕ) (old 
   pub confront : (names : ConfrontWords) → command_words words ≡ Some (Confront names) → Confronts files names status old new
   pub report : (board : List ℕ) → command_words words ≡ Some (Report board) → Reports files board status old new
 
+-- ---- the commands on claims
+
+-- status 0 of a `claim-verify` is that the reply is accepted. Every end says the verdict that holds of the files, or which of
+-- them is missing or too long
+pub record VerifiesClaim (files : Files) (names : VerifyWords) (status : ℕ) (old new : Option (List ℕ)) : Type 0 where
+  pub accepts : IsClaimVerified files names status
+  pub tells : status ≢ 6 → status ≢ 9 → TellsClaimVerdict files names status old new
+
+-- status 7 of a `claim-extract` is that both replies are accepted and the challenges don't differ. Every end says what holds
+-- of the files: the values, a clash, the verdict on a reply that isn't accepted, or which file is missing or too long
+pub record ExtractsClaim (files : Files) (names : ExtractWords) (status : ℕ) (old new : Option (List ℕ)) : Type 0 where
+  pub same : IsSameClaim files names status
+  pub tells : status ≢ 6 → status ≢ 9 → TellsClaimExtraction files names status old new
+
+pub record Claims (files : Files) (words : List (List ℕ)) (status : ℕ) (old new : Option (List ℕ)) : Type 0 where
+  pub verify : (names : VerifyWords) → command_words words ≡ Some (ClaimVerify names) → VerifiesClaim files names status old new
+  pub extract : (names : ExtractWords) → command_words words ≡ Some (ClaimExtract names) → ExtractsClaim files names status old new
+
 -- ---- the house's
 
 -- whatever the words and the status, what was done at the house is done command by command, and each keeps its promises. A single
@@ -89,6 +118,23 @@ pub record CeremonyIsDone (script : List ℕ) (files : Files) (ledger : Ledger) 
 abbrev pub HoldsCeremony : Files → Ledger → List (List ℕ) → ℕ → Option Files → Option Ledger → Option (List ℕ) → Option (List ℕ) → Type 0
 HoldsCeremony files ledger words status held kept old new =
     (script : List ℕ) → command_words words ≡ Some (commands.Ceremony script) → status ≢ 6 → status ≢ 9 → CeremonyIsDone script files ledger status held kept old new
+
+-- ---- the files, whatever the keeper tells
+
+-- what a single command leaves of files that are told, ended with that status: said of the house's
+abbrev pub CommandLeaves : Option CommandWords → (status : ℕ) → (held now : Option Files) → Type 0
+CommandLeaves (Some (House order)) status held now = Told (LeavesFiles order status) held now
+CommandLeaves command status held now = Unit {0}
+
+abbrev pub LeavesBy : Option (List ℕ) → Option CommandWords → (status : ℕ) → (held now : Option Files) → Type 0
+LeavesBy (Some script) command status held now = Told (CeremonyLeaves script status) held now
+LeavesBy None command status held now = CommandLeaves command status held now
+
+-- the same of whatever words, and of a ceremony command by command: with status 0 a board is that of some auction that is
+-- proved with the seed, and a reply is that of some auction that is proved, to the challenge of the named file; both have the
+-- id. All other files stay, and with any other status all do
+abbrev pub RunLeaves : List (List ℕ) → (status : ℕ) → (held now : Option Files) → Type 0
+RunLeaves words status held now = LeavesBy (script_in (command_words words)) (command_words words) status held now
 
 -- ---- words of no form
 

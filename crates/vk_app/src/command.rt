@@ -11,8 +11,9 @@ ghost use Rattle.vk_effect.specs.Ends.{Acts, Ends};
 ghost use Rattle.vk_house.specs.Once.{KeepsAnswers};
 ghost use Rattle.vk_effect.specs.Counts.{CausesThree, CausesTwo};
 ghost use Rattle.vk_audit.specs.Audits.{audit_seen};
-ghost use Rattle.vk_app.specs.Commands.{DoesWork, EndsWork, StopsWork, audit_on, command_effect, script_in, work_on};
-ghost use Rattle.vk_app.specs.Promises.{Audits, Headline, HoldsCeremony, KeepsHouse, TellsUsage};
+ghost use Rattle.vk_claims.specs.Orders.{claim_order_seen};
+ghost use Rattle.vk_app.specs.Commands.{DoesWork, EndsWork, StopsWork, audit_on, claim_on, command_effect, script_in, work_on};
+ghost use Rattle.vk_app.specs.Promises.{Audits, ClaimHeadline, Claims, CommandLeaves, Headline, HoldsCeremony, KeepsHouse, RunLeaves, TellsUsage};
 ghost use Rattle.vk_app.specs.Sealing.{Seals};
 
 use crate::seal::seal;
@@ -21,6 +22,8 @@ use std::alloc::Global;
 use vk_auctioneer::house_command;
 use vk_audit::{AuditOrder, audit};
 use vk_ceremony::ceremony;
+use vk_claim_sample::claim_sample;
+use vk_claims::{ClaimOrder, audit_claim};
 use vk_effect::Said;
 use vk_io::{OutsideErr, Shelf, Sink};
 use vk_keeper::Keeper;
@@ -37,6 +40,20 @@ fn read<S: Shelf>(alloc: Global, shelf: &mut S, order: &AuditOrder<'_>) -> Resul
     said
 }
 
+/// Does a command on claims, but for printing.
+fn read_claim<S: Shelf>(
+    alloc: Global,
+    shelf: &mut S,
+    order: &ClaimOrder<'_>,
+) -> Result<Said, OutsideErr>
+    ensures acts { (ledger : Option Ledger) → IfSome (claim_on (S.held shelf.old) ledger (claim_order_seen order.now))
+        (λ effect. Acts result effect (stores (S.held shelf.old) ledger) (stores (S.held shelf.new) ledger)) }
+    ensures causes { Causes OutsideErr.Failed result (S.Shelf.faults shelf.old) (S.Shelf.faults shelf.new) }
+{
+    let said = audit_claim(alloc, shelf, order);
+    said
+}
+
 /// Does the command, but for printing.
 #[tactic(auto, using(vk_ceremony::proofs::Leading::keeps_told))]
 fn act<S: Shelf, K: Keeper + Drop>(
@@ -48,6 +65,7 @@ fn act<S: Shelf, K: Keeper + Drop>(
     requires { IfSome command IsCommand }
     ensures acts { IfSome (command_effect (S.held shelf.old) (K.ledger keeper.old) (option_map command_seen command.entry))
         (λ effect. Acts result effect (stores (S.held shelf.old) (K.ledger keeper.old)) (stores (S.held shelf.new) (K.ledger keeper.new))) }
+    ensures files { IfOk result (λ said. CommandLeaves (option_map command_seen command.entry) said.status (S.held shelf.old) (S.held shelf.new)) }
     ensures once { Told KeepsAnswers (K.ledger keeper.old) (K.ledger keeper.new) }
     ensures keeper { AsksNoKeeper (option_map command_seen command.entry)
         → (K.ledger keeper.new ≡ K.ledger keeper.old) × (K.Keeper.faults keeper.new ≡ K.Keeper.faults keeper.old) }
@@ -83,6 +101,18 @@ fn act<S: Shelf, K: Keeper + Drop>(
             let said = sample(alloc, shelf, number)?;
             Ok(said)
         }
+        Some(Command::ClaimVerify(names)) => {
+            let said = read_claim(alloc, shelf, &ClaimOrder::Verify(names))?;
+            Ok(said)
+        }
+        Some(Command::ClaimExtract(names)) => {
+            let said = read_claim(alloc, shelf, &ClaimOrder::Extract(names))?;
+            Ok(said)
+        }
+        Some(Command::ClaimSample { kind: _, number }) => {
+            let said = claim_sample(alloc, shelf, number)?;
+            Ok(said)
+        }
         Some(Command::Ceremony(_)) | None => Ok(usage()),
     }
 }
@@ -100,6 +130,7 @@ fn answer<S: Shelf, K: Keeper + Drop, W: Sink>(
         (λ effect. Ends result effect (outside (stores (S.held shelf.old) (K.ledger keeper.old)) (W.taken out.old))
         (outside (stores (S.held shelf.new) (K.ledger keeper.new)) (W.taken out.new))) }
     ensures end { IfOk result IsEnd }
+    ensures files { IfOk result (λ status. CommandLeaves (option_map command_seen command.entry) status (S.held shelf.old) (S.held shelf.new)) }
     ensures once { Told KeepsAnswers (K.ledger keeper.old) (K.ledger keeper.new) }
     ensures keeper { AsksNoKeeper (option_map command_seen command.entry)
         → (K.ledger keeper.new ≡ K.ledger keeper.old) × (K.Keeper.faults keeper.new ≡ K.Keeper.faults keeper.old) }
@@ -124,6 +155,9 @@ fn script_of<'a>(command: Option<Command<'a>>) -> Option<&'a str>
         | Some(Command::Confront(_))
         | Some(Command::Report(_))
         | Some(Command::Sample(_))
+        | Some(Command::ClaimVerify(_))
+        | Some(Command::ClaimExtract(_))
+        | Some(Command::ClaimSample { .. })
         | None => None,
     }
 }
@@ -140,6 +174,7 @@ fn perform<S: Shelf, K: Keeper + Drop, W: Sink>(
         (λ work. EndsWork result work (outside (stores (S.held shelf.old) (K.ledger keeper.old)) (W.taken out.old))
         (outside (stores (S.held shelf.new) (K.ledger keeper.new)) (W.taken out.new))) }
     ensures end { IfOk result IsEnd }
+    ensures files { IfOk result (λ status. RunLeaves (map string_bytes words.now) status (S.held shelf.old) (S.held shelf.new)) }
     ensures once { Told KeepsAnswers (K.ledger keeper.old) (K.ledger keeper.new) }
     ensures keeper { AsksNoKeeper (command_words (map string_bytes words.now))
         → (K.ledger keeper.new ≡ K.ledger keeper.old) × (K.Keeper.faults keeper.new ≡ K.Keeper.faults keeper.old) }
@@ -184,6 +219,13 @@ pub fn run<S: Shelf, K: Keeper + Drop, W: Sink>(
     // What each status of `verify`, `extract`, `confront` and `report` means, by the bytes of the named files.
     ensures audits { IfSome (S.held shelf.old) (λ files. Audits files (map string_bytes words.now) result (W.taken out.old) (W.taken out.new)) }
 
+    // Of two replies to a claim file that are accepted for different challenges, a `claim-extract` puts values that open the
+    // seals and of which the file's claim holds, or two openings of one commitment; and it puts such of no others.
+    ensures claim_headline { IfSome (S.held shelf.old) (λ files. ClaimHeadline files (map string_bytes words.now) result (W.taken out.old) (W.taken out.new)) }
+
+    // What each status of `claim-verify` and `claim-extract` means, by the bytes of the named files.
+    ensures claims { IfSome (S.held shelf.old) (λ files. Claims files (map string_bytes words.now) result (W.taken out.old) (W.taken out.new)) }
+
     // What each status of `seal` means, and which files it leaves.
     ensures seals { (order : SealWords) → command_words (map string_bytes words.now) ≡ Some (Seal order) → result ≢ 6 → result ≢ 9
         → Seals order (S.held shelf.old) (S.held shelf.new) result (W.taken out.old) (W.taken out.new) }
@@ -196,6 +238,10 @@ pub fn run<S: Shelf, K: Keeper + Drop, W: Sink>(
     // A ceremony that came to its end did all that its script says, one command after another.
     ensures ceremony { IfSome (S.held shelf.old) (λ files. IfSome (K.ledger keeper.old) (λ ledger.
         HoldsCeremony files ledger (map string_bytes words.now) result (S.held shelf.new) (K.ledger keeper.new) (W.taken out.old) (W.taken out.new))) }
+
+    // Whatever the keeper tells, as a database that tells nothing: what a command of the house, or a ceremony, leaves of the
+    // files. A board is that of some proved auction, and a reply is one to the challenge of the named file.
+    ensures files { result ≢ 6 → result ≢ 9 → RunLeaves (map string_bytes words.now) result (S.held shelf.old) (S.held shelf.new) }
 
     // Status 2 is that the words are no command.
     ensures usage { IfSome (S.held shelf.old) (λ files. IfSome (K.ledger keeper.old) (λ ledger.

@@ -85,7 +85,7 @@ struct Sealing {
     files: Seq<FileText>,
 }
 
-/// Of a seal that was made.
+/// What is said of a seal that was made, and its files.
 fn made(
     alloc: Global,
     order: &SealOrder<'_>,

@@ -1,19 +1,21 @@
 -- The words of a command of the house are such that the house may be asked by them.
-use Rattle.std.proofs.Common.{◌≡◌, ℕ, ◌^◌, ◌<◌, ◌≤◌, nat_le, Bool, true, false, if◌then◌else◌, List, length, Option, Some, None, IfSome, refl, arith}
-use Rattle.std.specs.Prelude.{◌==◌, option_map}
+use Rattle.std.proofs.Common.{◌≡◌, ℕ, ◌^◌, ◌<◌, ◌≤◌, ◌-◌, nat_le, nat_lt, Bool, true, false, if◌then◌else◌, List, length, Option, Some, None, IfSome, refl, arith}
+use Rattle.std.specs.Prelude.{option_map}
 use Rattle.std.specs.Str.{bytes_eq}
+use Rattle.std.proofs.Math.Pow.{lt_of_le_ones, ones_lt, pow_mono}
 use Rattle.std.proofs.lemmas.Bool.{leb-true}
 use Rattle.vk_residue.specs.Limits.{IsSize}
 use Rattle.vk_residue.specs.Steps.{◌>>?◌}
 use Rattle.vk_commit.specs.Values.{AreBytes}
-use Rattle.vk_lines.specs.Tokens.{hex_of, meets, number_token}
+use Rattle.vk_lines.specs.Tokens.{decimal_of, hex_of, meets, number_token}
 use Rattle.vk_lines.proofs.Hexadecimal.{hex_of-some}
 use Rattle.vk_lines.proofs.Words.{decimal_token, meeting_token}
 use Rattle.vk_words.specs.declared.table.Verb.{Verb}
 use Rattle.vk_words.specs.declared.table.Verb.TheVariants as verbs
-use Rattle.vk_words.specs.Commands.{CommandWords, Seal, House, Verify, Extract, Confront, Report, Sample, Ceremony, command_by, command_words, house_in, house_words}
+use Rattle.vk_words.specs.Commands.{CommandWords, Seal, House, Verify, Extract, Confront, Report, Sample, Ceremony, ClaimVerify, ClaimExtract, ClaimSample, command_by, command_words, house_in, house_words, may_have}
+use Rattle.vk_words.specs.Claims.{kind_named}
 use Rattle.vk_words.specs.Names.{attempt_at, confront_in, extract_in, name_at, verify_in, word_at}
-use Rattle.vk_words.specs.Orders.{HouseWords, Answer, house_by, house_on, id_at, if_other, seal_in, seed_at}
+use Rattle.vk_words.specs.Orders.{HouseWords, Announce, AnnounceReserve, Answer, announced_on, house_by, house_on, id_at, if_other, seal_in, seed_at}
 use Rattle.vk_words.specs.Scripts.{leaves_name, script_words}
 use Rattle.vk_words.specs.Table.{row_of}
 use Rattle.vk_auctioneer.specs.Laws.{AreHouseWords}
@@ -52,10 +54,23 @@ size_of wide long width lanes width_is lanes_are =
     let counts = number_within 1 64 lanes long (omega arith) lanes_are in
     record { width = record { least = widths.0; most = widths.1 }; lanes = record { least = counts.0; most = counts.1 } }
 
+-- a decimal up to one less is below 2^width
+reserve_below : (width reserve : ℕ) (text : List ℕ) → width ≤ 40 → decimal_of (2 ^ width - 1) text ≡ Some reserve → reserve < 2 ^ width
+reserve_below width reserve text most found =
+    let fits : 2 ^ width - 1 < 2 ^ 64 = omega (arith, ones_lt width, pow_mono {i = width} {j = 64} (omega (arith, most))) in
+    lt_of_le_ones width ((decimal_token (2 ^ width - 1) fits).shown text reserve found).0
+
+announced_each : (words : List (List ℕ)) (id : List ℕ) (width lanes : ℕ) → AreBytes 16 id → IsSize width lanes → IfSome (announced_on id width lanes words) AreHouseWords
+announced_each words id width lanes is size =
+    elim (nat_lt 4 (length words)) as (λ b. IfSome (if b then option_map (AnnounceReserve id width lanes) (decimal_of (2 ^ width - 1) (word_at words 4)) else Some (Announce id width lanes)) AreHouseWords) [
+      | true ↦ map_each AreHouseWords (decimal_of (2 ^ width - 1) (word_at words 4)) (AnnounceReserve id width lanes) (λ reserve found. (is, size, reserve_below width reserve (word_at words 4) size.width.most found))
+      | false ↦ (is, size)
+    ]
+
 house_each : (words : List (List ℕ)) (id : List ℕ) → AreBytes 16 id → (verb : Verb) → IfSome (house_on id verb words) AreHouseWords
 house_each words id is verbs.Announce =
     then_each AreHouseWords (number_token 1 40 (word_at words 2)) _
-    (λ width wide. then_each AreHouseWords (number_token 1 64 (word_at words 3)) _ (λ lanes long. (is, size_of (word_at words 2) (word_at words 3) width lanes wide long)))
+    (λ width wide. then_each AreHouseWords (number_token 1 64 (word_at words 3)) _ (λ lanes long. announced_each words id width lanes is (size_of (word_at words 2) (word_at words 3) width lanes wide long)))
 house_each words id is verbs.Submit = then_each AreHouseWords (name_at words 2) _ (λ seal _. then_each AreHouseWords (name_at words 3) _ (λ secret _. is))
 house_each words id is verbs.Prove =
     then_each AreHouseWords (seed_at words 2) _ (λ seed found. then_each AreHouseWords (name_at words 3) _ (λ board _. (is, hex_bytes 32 (word_at words 2) seed found)))
@@ -69,6 +84,9 @@ house_each words id is verbs.Confront = tt
 house_each words id is verbs.Report = tt
 house_each words id is verbs.Sample = tt
 house_each words id is verbs.Ceremony = tt
+house_each words id is verbs.ClaimVerify = tt
+house_each words id is verbs.ClaimExtract = tt
+house_each words id is verbs.ClaimSample = tt
 
 by_each : (verb : Verb) (words : List (List ℕ)) → IfSome (house_by verb words) AreHouseWords
 by_each verb words = then_each AreHouseWords (id_at words 1) _ (λ id found. house_each words id (hex_bytes 16 (word_at words 1) id found) verb)
@@ -90,6 +108,10 @@ command_each words verbs.Confront = map_each OfHouse (confront_in words) Confron
 command_each words verbs.Report = map_each OfHouse (name_at words 1) Report (λ name _. tt)
 command_each words verbs.Sample = map_each OfHouse _ Sample (λ number _. tt)
 command_each words verbs.Ceremony = map_each OfHouse (name_at words 1) Ceremony (λ name _. tt)
+command_each words verbs.ClaimVerify = map_each OfHouse (verify_in words) ClaimVerify (λ names _. tt)
+command_each words verbs.ClaimExtract = map_each OfHouse (extract_in words) ClaimExtract (λ names _. tt)
+command_each words verbs.ClaimSample =
+    then_each OfHouse (kind_named (word_at words 1)) _ (λ kind _. map_each OfHouse _ (ClaimSample kind) (λ number _. tt))
 
 where_each : {X : Type 0} (P : X → Type 0) (test : Bool) (found : Option X) → IfSome found P → IfSome (if test then found else None) P
 where_each P true found each = each
@@ -97,7 +119,7 @@ where_each P false found each = tt
 
 words_each : (words : List (List ℕ)) → IfSome (command_words words) OfHouse
 unfolding command_words
-words_each words = then_each OfHouse (row_of (word_at words 0)) _ (λ row _. where_each OfHouse (length words == row.words) (command_by row.verb words) (command_each words row.verb))
+words_each words = then_each OfHouse (row_of (word_at words 0)) _ (λ row _. where_each OfHouse (may_have row (length words)) (command_by row.verb words) (command_each words row.verb))
 
 -- words of a command of the house
 pub house_bytes : (words : List (List ℕ)) (order : HouseWords) → command_words words ≡ Some (House order) → AreHouseWords order

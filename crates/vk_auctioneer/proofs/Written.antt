@@ -42,7 +42,7 @@ writes_reply : (files : Files) (ledger : Ledger) (id name reply : List ℕ) (cha
 writes_reply files ledger id name reply challenge auction right is_id text work =
     let given = answer_challenges id challenge (get ledger id) auction work.passes work.later in
     let is_auction = worked_right ledger (Answer id challenge) auction work (is_id, text.right) right in
-    let bits : length challenge.bits ≡ auction.lanes = subst (λ found. IfSome found (λ (c : Challenge). length c.bits ≡ auction.lanes)) given.challenge_is is_auction.bits in
+    let bits : length challenge.bits ≡ auction.lanes = subst (λ found. IfSome found (λ (c : Challenge). length c.bits ≡ auction.lanes)) given.challenge_is is_auction.held.bits in
     record {
       kept = work.kept;
       proved = proved_from auction given.seed is_auction given.seeded.seed_is given.seeded.tapes;

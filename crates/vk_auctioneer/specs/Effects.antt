@@ -9,7 +9,7 @@ use Rattle.vk_house.specs.Commands as house
 use Rattle.vk_house.specs.Replies.{HouseReply, Work}
 use Rattle.vk_house.specs.Steps.{house_step}
 use Rattle.vk_effect.specs.Effects.{Effect, SaidValue, says, writes_and_says}
-use Rattle.vk_words.specs.Orders.{HouseWords, Announce, Submit, Prove, Answer, Show}
+use Rattle.vk_words.specs.Orders.{HouseWords, Announce, AnnounceReserve, Submit, Prove, Answer, Show}
 use Rattle.vk_auctioneer.specs.Inputs.{challenge_in, row_in}
 use Rattle.vk_auctioneer.specs.Lines.{reply_said}
 
@@ -24,12 +24,12 @@ no_file reply = []
 
 -- the board of the auction that there is work on
 abbrev pub board_file : List ℕ → HouseReply → Writes
-board_file name (Work auction outcome) = (name, board_of auction) ∷ []
+board_file name (Work auction sale) = (name, board_of auction) ∷ []
 board_file name _ = []
 
 -- its reply to the challenge
 abbrev pub reply_file : List ℕ → Challenge → HouseReply → Writes
-reply_file name challenge (Work auction outcome) = (name, reply_of auction challenge) ∷ []
+reply_file name challenge (Work auction sale) = (name, reply_of auction challenge) ∷ []
 reply_file name challenge _ = []
 
 -- the effect of a reply and of the ledger that is left with it
@@ -45,10 +45,13 @@ abbrev pub if_read : {X : Type 0} → Ledger → (X → Effect) → Result X Sai
 if_read ledger effect (Ok x) = effect x
 if_read ledger effect (Err said) = says (Some ledger) said
 
--- ---- the five commands
+-- ---- the commands
 
 abbrev pub announce_effect : Ledger → (id : List ℕ) (width lanes : ℕ) → Effect
 announce_effect ledger id width lanes = asked no_file ledger (house.Announce id width lanes)
+
+abbrev pub announce_reserve_effect : Ledger → (id : List ℕ) (width lanes reserve : ℕ) → Effect
+announce_reserve_effect ledger id width lanes reserve = asked no_file ledger (house.AnnounceReserve id width lanes reserve)
 
 abbrev pub submit_effect : Files → Ledger → (id seal secret : List ℕ) → Effect
 submit_effect files ledger id seal secret =
@@ -70,13 +73,14 @@ show_effect ledger id = asked no_file ledger (house.Show id)
 abbrev pub on_ledger : (Ledger → Effect) → Option Ledger → Option Effect
 on_ledger effect ledger = option_map effect ledger
 
--- and of a command that reads where the files are told too
+-- the effect of a command that reads is known where the files are told too
 abbrev pub on_both : (Files → Ledger → Effect) → Option Files → Option Ledger → Option Effect
 on_both effect files ledger = option_and_then (λ held. on_ledger (effect held) ledger) files
 
 -- the effect of a command of the house
 abbrev pub house_effect : Option Files → Option Ledger → HouseWords → Option Effect
 house_effect files ledger (Announce id width lanes) = on_ledger (λ kept. announce_effect kept id width lanes) ledger
+house_effect files ledger (AnnounceReserve id width lanes reserve) = on_ledger (λ kept. announce_reserve_effect kept id width lanes reserve) ledger
 house_effect files ledger (Submit id seal secret) = on_both (λ held kept. submit_effect held kept id seal secret) files ledger
 house_effect files ledger (Prove id seed board) = on_ledger (λ kept. prove_effect kept id seed board) ledger
 house_effect files ledger (Answer id challenge reply) = on_both (λ held kept. answer_effect held kept id challenge reply) files ledger

@@ -1,5 +1,5 @@
 -- The laws of the auctioneer's commands.
-use Rattle.std.specs.Prelude.{◌≡◌, ◌↔◌, ℕ, List, [], ◌∷◌, Some, Ok, IsSomeAnd}
+use Rattle.std.specs.Prelude.{◌≡◌, ◌↔◌, ℕ, ◌^◌, ◌<◌, List, [], ◌∷◌, Some, Ok, IsSomeAnd}
 use Rattle.std.specs.FinMap.{get}
 use Rattle.std.specs.Result.{result_err}
 use Rattle.vk_residue.specs.Limits.{IsSize}
@@ -19,7 +19,7 @@ use Rattle.vk_keeper.specs.Joining.{first_of}
 use Rattle.vk_keeper.specs.Ledgers.{Ledger, IsLedger}
 use Rattle.vk_job.specs.Jobs.{IsProvedAuction}
 use Rattle.vk_job.specs.Published.{IsChallengeTo, board_of, reply_of}
-use Rattle.vk_words.specs.Orders.{HouseWords, Announce, Submit, Prove, Answer, Show}
+use Rattle.vk_words.specs.Orders.{HouseWords, Announce, AnnounceReserve, Submit, Prove, Answer, Show}
 use Rattle.vk_effect.specs.Effects.{Effect}
 use Rattle.vk_effect.specs.Reading.{IsFile, faulty_said, unheld_said}
 use Rattle.vk_auctioneer.specs.Effects.{answer_effect, prove_effect}
@@ -27,9 +27,11 @@ use Rattle.vk_auctioneer.specs.Inputs.{challenge_in, row_in}
 
 -- ---- what the words ask
 
--- words by which the house may be asked: the id has 16 bytes and the seed 32, and an auction may have the width and the lanes
+-- words by which the house may be asked: the id has 16 bytes and the seed 32, and an auction may have the width and
+-- the lanes, and the reserve
 abbrev pub AreHouseWords : HouseWords → Type 0
 AreHouseWords (Announce id width lanes) = AreBytes 16 id × IsSize width lanes
+AreHouseWords (AnnounceReserve id width lanes reserve) = AreBytes 16 id × IsSize width lanes × (reserve < 2 ^ width)
 AreHouseWords (Submit id seal secret) = AreBytes 16 id
 AreHouseWords (Prove id seed board) = AreBytes 16 id × AreBytes 32 seed
 AreHouseWords (Answer id challenge reply) = AreBytes 16 id

@@ -1,7 +1,8 @@
 -- What is said of the replies of a house.
-use Rattle.std.specs.Prelude.{ℕ, List, [], codes, decimal}
+use Rattle.std.specs.Prelude.{ℕ, List, [], codes, decimal, Option, Some, None}
 use Rattle.vk_lines.specs.Tokens.{hex_text}
-use Rattle.vk_vickrey.specs.declared.outcomes.VickreyOutcome.{VickreyOutcome}
+use Rattle.vk_vickrey.specs.declared.sales.Sale.{Sale}
+use Rattle.vk_vickrey.specs.declared.sales.Sale.TheVariants.{Sold}
 use Rattle.vk_reply.specs.Texts.{bits_text}
 use Rattle.vk_seal.specs.Mismatches.{mismatch_fields}
 use Rattle.vk_keeper.specs.declared.auction.Auction.{Auction}
@@ -61,16 +62,28 @@ announced_line id = codes "announced " +++ hex_text id +++ line_feed
 abbrev pub taken_line : ℕ → ℕ → List ℕ
 taken_line seat position = codes "taken seat " +++ decimal seat +++ codes " position " +++ decimal position +++ line_feed
 
-abbrev pub proved_line : ℕ → ℕ → List ℕ
-proved_line winner price = codes "proved winner " +++ decimal winner +++ codes " price " +++ decimal price +++ line_feed
+-- the line of a sale to the bidder in that seat, or of none
+abbrev pub proved_line : Option ℕ → Sale → List ℕ
+proved_line (Some winner) (Sold position price) = codes "proved winner " +++ decimal winner +++ codes " price " +++ decimal price +++ line_feed
+proved_line _ _ = codes "proved unsold" +++ line_feed
 
 abbrev pub answered_line : List ℕ
 answered_line = codes "answered" +++ line_feed
 
+-- the reserve of an auction that names one
+abbrev pub reserve_words : Option ℕ → List ℕ
+reserve_words (Some reserve) = codes " reserve " +++ decimal reserve
+reserve_words None = []
+
+-- how far an auction has come that stands so
+abbrev pub progress_words : Standing → List ℕ
+progress_words standing =
+    codes " seals " +++ decimal standing.seals +++ codes " phase " +++ phase_word standing.phase +++ reserve_words standing.reserve +++ line_feed
+
 abbrev pub standing_line : List ℕ → Standing → List ℕ
 standing_line id standing =
     codes "auction " +++ hex_text id +++ codes " width " +++ decimal standing.width +++ codes " lanes " +++ decimal standing.lanes
-    +++ codes " seals " +++ decimal standing.seals +++ codes " phase " +++ phase_word standing.phase +++ line_feed
+    +++ progress_words standing
 
 -- ---- a reply
 
@@ -80,9 +93,9 @@ seat_of (Submit id seal secret) = seal.seat
 seat_of _ = 0
 
 -- the line of work on an auction: it is answered, or its board is made
-abbrev pub work_line : HouseCommand → Auction → VickreyOutcome → List ℕ
-work_line (Answer id challenge) auction outcome = answered_line
-work_line _ auction outcome = proved_line (winner_of auction) outcome.price
+abbrev pub work_line : HouseCommand → Auction → Sale → List ℕ
+work_line (Answer id challenge) auction sale = answered_line
+work_line _ auction sale = proved_line (winner_of auction) sale
 
 abbrev pub done_said : List ℕ → SaidValue
 done_said text = record { status = 0; text = text }
@@ -91,6 +104,6 @@ done_said text = record { status = 0; text = text }
 abbrev pub reply_said : HouseCommand → HouseReply → SaidValue
 reply_said command Done = done_said (announced_line (id_of command))
 reply_said command (Position position) = done_said (taken_line (seat_of command) position)
-reply_said command (Work auction outcome) = done_said (work_line command auction outcome)
+reply_said command (Work auction sale) = done_said (work_line command auction sale)
 reply_said command (Stands standing) = done_said (standing_line (id_of command) standing)
 reply_said command (Refused refusal) = refused_said (seat_of command) refusal

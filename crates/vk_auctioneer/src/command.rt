@@ -6,9 +6,10 @@ ghost use Rattle.vk_words.specs.Scripts.{written_name_of};
 ghost use Rattle.vk_auctioneer.specs.Answers.{AsksOnce};
 ghost use Rattle.vk_auctioneer.specs.Common.{Acts, CausesTwo, KeepsAnswers, Told, stores};
 ghost use Rattle.vk_auctioneer.specs.Effects.{house_effect};
+ghost use Rattle.vk_auctioneer.specs.Leaving.{LeavesAsSaid};
 
 use crate::publishing::{answer, prove};
-use crate::standing::{announce, show};
+use crate::standing::{announce, announce_reserve, show};
 use crate::submitting::submit;
 use std::alloc::Global;
 use vk_effect::Said;
@@ -31,6 +32,9 @@ pub fn house_command<S: Shelf, K: Keeper + Drop>(
     // A command that writes no file leaves all that is held.
     ensures held { written_name_of (house_seen order.now) ≡ None → S.held shelf.new ≡ S.held shelf.old }
 
+    // Where the files are told, whatever the keeper tells: a board or a reply is written with status 0 and no other.
+    ensures files { LeavesAsSaid (house_seen order.now) result (S.held shelf.old) (S.held shelf.new) }
+
     // Whatever its end, an auction that was answered is the same, and one that was proved has its seed and its seals.
     ensures once { Told KeepsAnswers (K.ledger keeper.old) (K.ledger keeper.new) }
     ensures turns { AsksOnce (K.turns keeper.old) (K.turns keeper.new) }
@@ -39,6 +43,15 @@ pub fn house_command<S: Shelf, K: Keeper + Drop>(
     match order {
         HouseOrder::Announce { id, width, lanes } => {
             let said = announce(alloc, keeper, id, *width, *lanes);
+            said
+        }
+        HouseOrder::AnnounceReserve {
+            id,
+            width,
+            lanes,
+            reserve,
+        } => {
+            let said = announce_reserve(alloc, keeper, id, *width, *lanes, *reserve);
             said
         }
         HouseOrder::Submit { id, seal, secret } => {

@@ -3,14 +3,17 @@
 ghost use Rattle.std.specs.Prelude.{◌≡◌, ◌∷◌, [], ℕ, IfErr, IfOk, IfSome, IsOk, List, Some, length};
 ghost use Rattle.vk_reply.specs.Values.{IsChallenge};
 ghost use Rattle.vk_keeper.specs.Auctions.{challenge_of};
-ghost use Rattle.vk_job.specs.Jobs.{winner_of};
+ghost use Rattle.vk_job.specs.Jobs.{IsProvedAuction, winner_of};
 ghost use Rattle.vk_job.specs.Published.{board_of, reply_of};
+ghost use Rattle.vk_words.specs.Orders.{Prove as ProveWords, Answer as AnswerWords};
 ghost use Rattle.vk_house.specs.Commands.{Prove, Answer};
 ghost use Rattle.vk_effect.specs.Reading.{said_of_unread};
 ghost use Rattle.vk_auctioneer.specs.Answers.{Leaves, Says, AsksOnce};
 ghost use Rattle.vk_auctioneer.specs.Common.{Acts, Causes, CausesTwo, GetsOnce, KeepsAnswers, Told, as_reply, stores, work_of, Gives, OnlyReads};
 ghost use Rattle.vk_auctioneer.specs.Effects.{board_file, on_ledger, prove_effect, answer_effect, asked, on_both, reply_file};
 ghost use Rattle.vk_auctioneer.specs.Inputs.{challenge_in};
+ghost use Rattle.vk_auctioneer.specs.Laws.{IsText};
+ghost use Rattle.vk_auctioneer.specs.Leaving.{LeavesAsSaid};
 ghost use Rattle.vk_auctioneer.specs.Lines.{TakesNoMemory, done_said, proved_line, answered_line};
 
 use crate::refusals::refused;
@@ -22,6 +25,8 @@ use vk_job::Job;
 use vk_keeper::Keeper;
 use vk_reply::{Challenge, read_challenge};
 use vk_residue::NoMemory;
+use vk_text::ShortText;
+use vk_vickrey::Sale;
 
 /// Proves the auction, and writes its board.
 pub fn prove<S: Shelf, K: Keeper + Drop>(
@@ -34,6 +39,7 @@ pub fn prove<S: Shelf, K: Keeper + Drop>(
 ) -> Result<Said, OutsideErr>
     ensures acts { IfSome (on_ledger (λ kept. prove_effect kept id.now seed.now board.now) (K.ledger keeper.old))
         (λ effect. Acts result effect (stores (S.held shelf.old) (K.ledger keeper.old)) (stores (S.held shelf.new) (K.ledger keeper.new))) }
+    ensures files { LeavesAsSaid (ProveWords id.now seed.now board.now) result (S.held shelf.old) (S.held shelf.new) }
     ensures once { Told KeepsAnswers (K.ledger keeper.old) (K.ledger keeper.new) }
     ensures turns { GetsOnce (K.turns keeper.old) (K.turns keeper.new) }
     ensures causes { CausesTwo OutsideErr.Failed result (S.Shelf.faults shelf.old) (S.Shelf.faults shelf.new) (K.faults keeper.old) (K.faults keeper.new) }
@@ -43,7 +49,7 @@ pub fn prove<S: Shelf, K: Keeper + Drop>(
     said
 }
 
-/// Of what the house answered. The board of a job is written to the named file.
+/// What `prove` says by the house's answer. The board of a job is written to the named file.
 fn proved<S: Shelf>(
     alloc: Global,
     shelf: &mut S,
@@ -52,6 +58,7 @@ fn proved<S: Shelf>(
 ) -> Result<Said, OutsideErr>
     ensures said { (id seed : List ℕ) → Says (Prove id seed) (as_reply work_of answer) result }
     ensures written { Told (Leaves (board_file name.now (as_reply work_of answer)) result) (S.held shelf.old) (S.held shelf.new) }
+    ensures proved { IfOk answer (λ job. IsProvedAuction job.auction) }
     ensures told { IfErr answer (λ refusal. TakesNoMemory refusal → IsOk result) }
     ensures causes { (before after : ℕ) → Causes HouseErr.KeeperFailed answer before after
         → CausesTwo OutsideErr.Failed result (S.Shelf.faults shelf.old) (S.Shelf.faults shelf.new) before after }
@@ -75,24 +82,30 @@ fn publish<S: Shelf>(
     name: &str,
     job: &Job,
 ) -> Result<Said, OutsideErr>
-    ensures said { IfOk result (λ said. said ≡ done_said (proved_line (winner_of job.now.auction) job.now.outcome.price)) }
+    ensures said { IfOk result (λ said. said ≡ done_said (proved_line (winner_of job.now.auction) job.now.sale)) }
     ensures written { Told (Leaves ((name.now, board_of job.now.auction) ∷ []) result) (S.held shelf.old) (S.held shelf.new) }
+    ensures proved { IsProvedAuction job.now.auction }
     ensures causes { Causes OutsideErr.Failed result (S.Shelf.faults shelf.old) (S.Shelf.faults shelf.new) }
 {
-    let said = outcome_said(alloc, job)?;
+    let auction = job.auction();
+    let said = Said::of_short(0, proved_line(job.winner(), job.sale()));
     write_files(alloc, shelf, &BoardFile { name, job })?;
     Ok(said)
 }
 
-/// Of an auction that is proved: the winner's seat, and the price.
-fn outcome_said(alloc: Global, job: &Job) -> Result<Said, NoMemory>
-    ensures { IfOk result (λ said. said ≡ done_said (proved_line (winner_of job.now.auction) job.now.outcome.price)) }
+/// The line of an auction that is proved: the winner's seat and the price, or that nothing is sold.
+fn proved_line(winner: Option<u16>, sale: Sale) -> ShortText
+    ensures { result ≡ proved_line winner sale }
 {
-    let winner = job.winner();
-    let price = job.outcome().price;
-    let line = format!(in alloc; "proved winner {winner} price {price}\n")?;
-    let said = Said::of_line(alloc, 0, line.as_str())?;
-    Ok(said)
+    match (winner, sale) {
+        (Some(winner), Sale::Sold { price, .. }) => ShortText::new()
+            .word("proved winner ")
+            .number(u64::from(winner))
+            .word(" price ")
+            .number(price)
+            .word("\n"),
+        _ => ShortText::new().word("proved unsold\n"),
+    }
 }
 
 /// The file that the board of a job is written to.
@@ -137,6 +150,7 @@ pub fn answer<S: Shelf, K: Keeper + Drop>(
 ) -> Result<Said, OutsideErr>
     ensures acts { IfSome (on_both (λ held kept. answer_effect held kept id.now challenge.now reply.now) (S.held shelf.old) (K.ledger keeper.old))
         (λ effect. Acts result effect (stores (S.held shelf.old) (K.ledger keeper.old)) (stores (S.held shelf.new) (K.ledger keeper.new))) }
+    ensures files { LeavesAsSaid (AnswerWords id.now challenge.now reply.now) result (S.held shelf.old) (S.held shelf.new) }
     ensures once { Told KeepsAnswers (K.ledger keeper.old) (K.ledger keeper.new) }
     ensures turns { AsksOnce (K.turns keeper.old) (K.turns keeper.new) }
     ensures causes { CausesTwo OutsideErr.Failed result (S.Shelf.faults shelf.old) (S.Shelf.faults shelf.new) (K.faults keeper.old) (K.faults keeper.new) }
@@ -175,6 +189,8 @@ fn answer_challenge<S: Shelf, K: Keeper + Drop>(
     requires { IsChallenge challenge.now }
     ensures acts { IfSome (on_ledger (λ kept. asked (reply_file reply.now challenge.now) kept (Answer id.now challenge.now)) (K.ledger keeper.old))
         (λ effect. Acts result effect (stores (S.held shelf.old) (K.ledger keeper.old)) (stores (S.held shelf.new) (K.ledger keeper.new))) }
+    ensures files { (name : List ℕ) → IfSome (S.held shelf.old) (λ files. IsText files name challenge.now)
+        → LeavesAsSaid (AnswerWords id.now name reply.now) result (S.held shelf.old) (S.held shelf.new) }
     ensures once { Told KeepsAnswers (K.ledger keeper.old) (K.ledger keeper.new) }
     ensures turns { GetsOnce (K.turns keeper.old) (K.turns keeper.new) }
     ensures causes { CausesTwo OutsideErr.Failed result (S.Shelf.faults shelf.old) (S.Shelf.faults shelf.new) (K.faults keeper.old) (K.faults keeper.new) }
@@ -184,7 +200,7 @@ fn answer_challenge<S: Shelf, K: Keeper + Drop>(
     said
 }
 
-/// Of what the house answered. The reply of a job to the challenge is written to the named file.
+/// What `answer` says by the house's answer. The reply of a job to the challenge is written to the named file.
 fn answered<S: Shelf>(
     alloc: Global,
     shelf: &mut S,
@@ -195,6 +211,7 @@ fn answered<S: Shelf>(
     requires { IfOk answer (λ job. challenge_of job.auction.phase ≡ Some challenge.now) }
     ensures said { (id : List ℕ) → Says (Answer id challenge.now) (as_reply work_of answer) result }
     ensures written { Told (Leaves (reply_file name.now challenge.now (as_reply work_of answer)) result) (S.held shelf.old) (S.held shelf.new) }
+    ensures proved { IfOk answer (λ job. IsProvedAuction job.auction) }
     ensures told { IfErr answer (λ refusal. TakesNoMemory refusal → IsOk result) }
     ensures causes { (before after : ℕ) → Causes HouseErr.KeeperFailed answer before after
         → CausesTwo OutsideErr.Failed result (S.Shelf.faults shelf.old) (S.Shelf.faults shelf.new) before after }
@@ -222,10 +239,11 @@ fn show_halves<S: Shelf>(
     requires { challenge_of job.now.auction.phase ≡ Some challenge.now }
     ensures said { IfOk result (λ said. said ≡ done_said answered_line) }
     ensures written { Told (Leaves ((name.now, reply_of job.now.auction challenge.now) ∷ []) result) (S.held shelf.old) (S.held shelf.new) }
+    ensures proved { IsProvedAuction job.now.auction }
     ensures causes { Causes OutsideErr.Failed result (S.Shelf.faults shelf.old) (S.Shelf.faults shelf.new) }
 {
-    let said = Said::of_line(alloc, 0, "answered\n")?;
     let auction = job.auction();
+    let said = Said::of_line(alloc, 0, "answered\n")?;
     write_files(
         alloc,
         shelf,

@@ -72,7 +72,7 @@ fn refusal_line(seat: u16, refusal: &HouseErr) -> ShortText
     }
 }
 
-/// Of an auction that has come so far.
+/// The refusal of what an auction that has come so far no longer takes, or not yet.
 fn phase_line(kept: PhaseName) -> ShortText
     ensures { result ≡ refusal_line 0 (HouseErr.Phase kept) }
 {
@@ -82,14 +82,14 @@ fn phase_line(kept: PhaseName) -> ShortText
         .word("\n")
 }
 
-/// Of an auction with the kept number of lanes, where another one is given.
+/// The refusal of another number of lanes than the kept one of the auction.
 fn length_line(kept: u32, given: u32) -> ShortText
     ensures { result ≡ refusal_line 0 (HouseErr.Length kept given) }
 {
     numbers_line("house length kept ", kept, " given ", given)
 }
 
-/// Of an auction that has answered another challenge, the kept one.
+/// What is said where the auction has answered another challenge, the kept one.
 fn other_challenge(alloc: Global, kept: &Challenge) -> Result<Said, NoMemory>
     ensures { IfOk result (λ said. said ≡ refused_said 0 (HouseErr.OtherChallenge kept.now)) }
 {

@@ -1,13 +1,13 @@
 //! `announce` and `show`, which read and write no file: an auction begins, and how it stands is said.
 
-ghost use Rattle.std.specs.Prelude.{◌≡◌, ℕ, IfErr, IfOk, IfSome, IsOk, Option};
+ghost use Rattle.std.specs.Prelude.{◌≡◌, ◌≤◌, ◌+◌, ◌^◌, ◌<◌, ◌++◌, ℕ, IfErr, IfOk, IfSome, IsOk, Option, length};
 ghost use Rattle.vk_residue.specs.Limits.{IsSize};
 ghost use Rattle.vk_house.specs.Replies.{Done, Stands};
-ghost use Rattle.vk_house.specs.Commands.{Announce, Show};
+ghost use Rattle.vk_house.specs.Commands.{Announce, AnnounceReserve, Show};
 ghost use Rattle.vk_auctioneer.specs.Answers.{Says};
 ghost use Rattle.vk_auctioneer.specs.Common.{Acts, Causes, Files, GetsOnce, KeepsAnswers, Told, as_reply, stores};
-ghost use Rattle.vk_auctioneer.specs.Effects.{announce_effect, on_ledger, show_effect};
-ghost use Rattle.vk_auctioneer.specs.Lines.{TakesNoMemory, announced_line, done_said, standing_line};
+ghost use Rattle.vk_auctioneer.specs.Effects.{announce_effect, announce_reserve_effect, on_ledger, show_effect};
+ghost use Rattle.vk_auctioneer.specs.Lines.{TakesNoMemory, announced_line, done_said, progress_words, reserve_words, standing_line};
 
 use crate::refusals::{phase_word, refused};
 use std::alloc::Global;
@@ -16,6 +16,7 @@ use vk_house::{House, HouseErr, Standing};
 use vk_io::OutsideErr;
 use vk_keeper::Keeper;
 use vk_residue::NoMemory;
+use vk_text::ShortText;
 
 /// Opens the auction.
 pub fn announce<K: Keeper + Drop>(
@@ -37,9 +38,32 @@ pub fn announce<K: Keeper + Drop>(
     said
 }
 
-/// Of what the house answered.
+/// Opens the auction under that reserve.
+pub fn announce_reserve<K: Keeper + Drop>(
+    alloc: Global,
+    keeper: &mut K,
+    id: &[u8; 16],
+    width: u32,
+    lanes: u32,
+    reserve: u64,
+) -> Result<Said, OutsideErr>
+    requires size { IsSize width lanes }
+    requires small { reserve < 2 ^ width }
+    ensures acts { (files : Option Files) → IfSome (on_ledger (λ kept. announce_reserve_effect kept id.now width lanes reserve) (K.ledger keeper.old))
+        (λ effect. Acts result effect (stores files (K.ledger keeper.old)) (stores files (K.ledger keeper.new))) }
+    ensures once { Told KeepsAnswers (K.ledger keeper.old) (K.ledger keeper.new) }
+    ensures turns { GetsOnce (K.turns keeper.old) (K.turns keeper.new) }
+    ensures causes { Causes OutsideErr.Failed result (K.faults keeper.old) (K.faults keeper.new) }
+{
+    let answer = House::over(keeper).announce_reserve(alloc, id, width, lanes, reserve);
+    let said = announced(alloc, id, answer);
+    said
+}
+
+/// What `announce` says by the house's answer, with a reserve and without.
 fn announced(alloc: Global, id: &[u8; 16], answer: Result<(), HouseErr>) -> Result<Said, OutsideErr>
     ensures said { (width lanes : ℕ) → Says (Announce id.now width lanes) (as_reply (λ _. Done) answer) result }
+    ensures reserved { (width lanes reserve : ℕ) → Says (AnnounceReserve id.now width lanes reserve) (as_reply (λ _. Done) answer) result }
     ensures told { IfErr answer (λ refusal. TakesNoMemory refusal → IsOk result) }
     ensures causes { (before after : ℕ) → Causes HouseErr.KeeperFailed answer before after → Causes OutsideErr.Failed result before after }
 {
@@ -49,7 +73,7 @@ fn announced(alloc: Global, id: &[u8; 16], answer: Result<(), HouseErr>) -> Resu
     }
 }
 
-/// Of an auction that was opened.
+/// What is said of an auction that was opened.
 fn opened(alloc: Global, id: &[u8; 16]) -> Result<Said, NoMemory>
     ensures { IfOk result (λ said. said ≡ done_said (announced_line id.now)) }
 {
@@ -76,7 +100,7 @@ pub fn show<K: Keeper + Drop>(
     said
 }
 
-/// Of what the house answered.
+/// What `show` says by the house's answer.
 fn shown(
     alloc: Global,
     id: &[u8; 16],
@@ -87,26 +111,46 @@ fn shown(
     ensures causes { (before after : ℕ) → Causes HouseErr.KeeperFailed answer before after → Causes OutsideErr.Failed result before after }
 {
     match answer {
-        Ok(standing) => Ok(stands(alloc, id, standing)?),
+        Ok(standing) => Ok(Said::of_short(0, standing_line(id, &standing))),
         Err(refusal) => refused(alloc, 0, refusal),
     }
 }
 
-/// Of an auction that stands so.
-fn stands(alloc: Global, id: &[u8; 16], standing: Standing) -> Result<Said, NoMemory>
-    ensures { IfOk result (λ said. said ≡ done_said (standing_line id.now standing)) }
+/// The line of an auction that stands so.
+fn standing_line(id: &[u8; 16], standing: &Standing) -> ShortText
+    ensures { result ≡ standing_line id.now standing.now }
 {
-    let id = hex::encode(alloc, id.as_slice())?;
-    let Standing {
-        width,
-        lanes,
-        seals,
-        phase,
-    } = standing;
-    let phase = phase_word(phase);
-    let line = format!(in alloc;
-        "auction {id} width {width} lanes {lanes} seals {seals} phase {phase}\n"
-    )?;
-    let said = Said::of_line(alloc, 0, line.as_str())?;
-    Ok(said)
+    let size = ShortText::new()
+        .word("auction ")
+        .hex(id)
+        .word(" width ")
+        .number(u64::from(standing.width))
+        .word(" lanes ")
+        .number(u64::from(standing.lanes));
+    with_progress(size, standing)
+}
+
+/// The text, and how far an auction has come that stands so.
+fn with_progress(text: ShortText, standing: &Standing) -> ShortText
+    requires { length text ≤ 200 }
+    ensures { result ≡ text ++ progress_words standing.now }
+{
+    let text = text
+        .word(" seals ")
+        .number(u64::from(standing.seals))
+        .word(" phase ")
+        .word(phase_word(standing.phase));
+    with_reserve(text, standing.reserve).word("\n")
+}
+
+/// The text, and the reserve of an auction that names one.
+fn with_reserve(text: ShortText, reserve: Option<u64>) -> ShortText
+    requires { length text ≤ 300 }
+    ensures text { result ≡ text ++ reserve_words reserve }
+    ensures long { length result ≤ length text + 29 }
+{
+    match reserve {
+        Some(reserve) => text.word(" reserve ").number(reserve),
+        None => text,
+    }
 }

@@ -91,7 +91,7 @@ fn hand_in<K: Keeper + Drop>(
     said
 }
 
-/// Of what the house answered of a seal of that seat.
+/// What `submit` says by the house's answer to a seal of that seat.
 fn handed_in(alloc: Global, seat: u16, answer: Result<u32, HouseErr>) -> Result<Said, OutsideErr>
     ensures said { (id : List ℕ) (seal : Seal) (secret : Secret) → seal.seat ≡ seat → Says (Submit id seal secret) (as_reply Position answer) result }
     ensures told { IfErr answer (λ refusal. TakesNoMemory refusal → IsOk result) }
@@ -103,7 +103,7 @@ fn handed_in(alloc: Global, seat: u16, answer: Result<u32, HouseErr>) -> Result<
     }
 }
 
-/// Of a seal that was taken.
+/// What is said of a seal that was taken.
 fn taken(alloc: Global, seat: u16, position: u32) -> Result<Said, NoMemory>
     ensures { IfOk result (λ said. said ≡ done_said (taken_line seat position)) }
 {

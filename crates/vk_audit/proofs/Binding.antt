@@ -33,7 +33,8 @@ use Rattle.vk_audit.specs.Confrontations.{confrontation_in, confrontation_said, 
 use Rattle.vk_audit.specs.Inputs.{HoldsFiles, IsFirstUnread, IsLong, IsUnheld, confront_inputs, extract_inputs}
 use Rattle.vk_audit.specs.Statuses.{BindsExactly, ConfrontsFiles, HoldsSecret, IsBound, PutsClash, PutsSecretClash}
 use Rattle.vk_audit.specs.Verdicts.{answer_said, name_of}
-use Rattle.vk_audit.proofs.Extracting.{all_held, parts, put_told, refused_never}
+use Rattle.vk_audit.proofs.Answered.{extract_parts, files_held}
+use Rattle.vk_audit.proofs.Extracting.{put_told, refused_never}
 use Rattle.vk_audit.proofs.Extracting as extracting
 use Rattle.vk_audit.proofs.Findings.{confrontation_holds, settled_found}
 use Rattle.vk_audit.proofs.Inputs.{Why, all_read, fault_of, first_unread, one_or_last, unread_found, unread_shown, with_more}
@@ -57,7 +58,7 @@ module _ (files : Files) (names : ConfrontWords) where
   unfolding confrontation_on
   of_extracted given is = ap (λ a. of_extraction a >>= λ extraction. secret_told extraction (get files names.secret)) is
 
-  answer_unread : (unread : Part × Bool) → first_unread files (name_of replies) (parts files replies) ≡ Some unread → answer ≡ Err (Unread (fault_of unread))
+  answer_unread : (unread : Part × Bool) → first_unread files (name_of replies) extract_parts ≡ Some unread → answer ≡ Err (Unread (fault_of unread))
   answer_unread unread is = of_extracted (Err (fault_of unread)) (extracting.answer_unread files replies unread is)
 
   answer_held : (held : HoldsFiles files replies) → answer ≡ secret_told (extraction_of_held held) (get files names.secret)
@@ -80,20 +81,20 @@ module _ (files : Files) (names : ConfrontWords) where
       (record { held = held; secret_bytes = file; secret_is = is; is = refl })
 
   -- the secret is the first that can't be read
-  last_unread : (Reason : Files → List ℕ → Type 0) → first_unread files (name_of replies) (parts files replies) ≡ None → Reason files names.secret
+  last_unread : (Reason : Files → List ℕ → Type 0) → first_unread files (name_of replies) extract_parts ≡ None → Reason files names.secret
       → IsFirstUnread files (confront_inputs names) names.secret Reason
   last_unread Reason none why = record {
     earlier = extract_inputs replies;
     later = [];
     names_are = refl;
-    read = all_read files (name_of replies) (parts files replies) none;
+    read = all_read files (name_of replies) extract_parts none;
     why = why;
   }
 
-  held_by : first_unread files (name_of replies) (parts files replies) ≡ None → HoldsFiles files replies
-  held_by none = all_held files replies (all_read files (name_of replies) (parts files replies) none)
+  held_by : first_unread files (name_of replies) extract_parts ≡ None → HoldsFiles files replies
+  held_by none = files_held (all_read files (name_of replies) extract_parts none)
 
-  by_length : (none : first_unread files (name_of replies) (parts files replies) ≡ None) (file : List ℕ) → get files names.secret ≡ Some file
+  by_length : (none : first_unread files (name_of replies) extract_parts ≡ None) (file : List ℕ) → get files names.secret ≡ Some file
       → (long : Bool) → nat_lt (2 ^ 30) (length file) ≡ long
       → ConfrontHolds files names answer
   by_length none file is true test =
@@ -109,20 +110,20 @@ module _ (files : Files) (names : ConfrontWords) where
         holds = confrontation_holds held.board_bytes held.first.challenge_bytes held.first.reply_bytes held.second.challenge_bytes held.second.reply_bytes file;
       })
 
-  by_secret : first_unread files (name_of replies) (parts files replies) ≡ None → (told : Option (List ℕ)) → get files names.secret ≡ told
+  by_secret : first_unread files (name_of replies) extract_parts ≡ None → (told : Option (List ℕ)) → get files names.secret ≡ told
       → ConfrontHolds files names answer
   by_secret none None is = subst (ConfrontHolds files names) (sym (secret_unheld (held_by none) is)) (last_unread IsUnheld none is)
   by_secret none (Some file) is = by_length none file is (nat_lt (2 ^ 30) (length file)) refl
 
-  answer_by : (unread : Option (Part × Bool)) → first_unread files (name_of replies) (parts files replies) ≡ unread → ConfrontHolds files names answer
+  answer_by : (unread : Option (Part × Bool)) → first_unread files (name_of replies) extract_parts ≡ unread → ConfrontHolds files names answer
   answer_by (Some (part, true)) is =
       subst (ConfrontHolds files names) (sym (answer_unread (part, true) is))
       (with_more files IsLong (extract_inputs replies) (names.secret ∷ []) (name_of replies part) (unread_shown files (name_of replies)
-      (parts files replies) (part, true) is))
+      extract_parts (part, true) is))
   answer_by (Some (part, false)) is =
       subst (ConfrontHolds files names) (sym (answer_unread (part, false) is))
       (with_more files IsUnheld (extract_inputs replies) (names.secret ∷ []) (name_of replies part) (unread_shown files (name_of replies)
-      (parts files replies) (part, false) is))
+      extract_parts (part, false) is))
   answer_by None is = by_secret is (get files names.secret) refl
 
   abbrev said_of : Result Confrontation ConfrontErr → SaidValue
@@ -145,10 +146,10 @@ module _ (files : Files) (names : ConfrontWords) where
   cause_found : (name : List ℕ) (long : Bool) → IsFirstUnread files (confront_inputs names) name (Why long) → said_of answer ≡ cause_said long name
   cause_found name long is = elim (one_or_last files (Why long) (extract_inputs replies) names.secret name is) [
     | inl first ↦
-        let found = unread_found files (name_of replies) (parts files replies) name long first in
+        let found = unread_found files (name_of replies) extract_parts name long first in
         ap said_of (answer_unread (found.0, long) found.1) ∙ part_said found.0 long ∙ ap (cause_said long) found.2
     | inr last ↦
-        secret_said (all_held files replies last.0) long (subst (Why long files) last.2 last.1) ∙ ap (cause_said long) (sym last.2)
+        secret_said (files_held last.0) long (subst (Why long files) last.2 last.1) ∙ ap (cause_said long) (sym last.2)
   ]
 
   answer_settled : (other : Result Confrontation ConfrontErr) → SettlesConfront other → ConfrontHolds files names other → said_of answer ≡ said_of other
@@ -184,7 +185,7 @@ module _ (files : Files) (names : ConfrontWords) where
         (accepted_are_extracted held.board_bytes held.first.challenge_bytes held.first.reply_bytes held.second.challenge_bytes held.second.reply_bytes two))
 
   answer_holds : ConfrontHolds files names answer
-  answer_holds = answer_by (first_unread files (name_of replies) (parts files replies)) refl
+  answer_holds = answer_by (first_unread files (name_of replies) extract_parts) refl
 
 pub tells_confrontations : TellsConfrontations
 tells_confrontations files names taken = record {

@@ -1,19 +1,13 @@
 -- What `extract` says holds of the files: of two replies that are accepted for different challenges, bids or a clash, and of no others.
-use Rattle.std.proofs.Common.{◌≡◌, ◌≢◌, ℕ, ◌<◌, Bool, true, false, List, [], ◌∷◌, ◌++◌, Option, Some, None, Result, Ok, Err, refl, sym, ap, subst, ◌∙◌, arith, inl, inr}
+use Rattle.std.proofs.Common.{◌≡◌, ◌≢◌, ℕ, ◌<◌, Bool, true, false, List, ◌++◌, Option, Some, None, Result, Ok, Err, refl, sym, ap, subst, ◌∙◌, arith, inl, inr}
 use Rattle.std.specs.Prelude.{◌⊎◌}
-use Rattle.std.specs.List.{AllByRecursion}
-use Rattle.std.specs.FinMap.{get}
 use Rattle.vk_residue.specs.Steps.{◌>>=◌}
 use Rattle.vk_io.specs.Files.{Files, Told}
-use Rattle.vk_lines.specs.Lines.{Rest}
 use Rattle.vk_verifier.specs.declared.answers.Part.{Part}
-use Rattle.vk_verifier.specs.declared.answers.Part.TheVariants as part
 use Rattle.vk_verifier.specs.declared.answers.BoardVerdict.{BoardVerdict}
 use Rattle.vk_verifier.specs.declared.answers.BoardVerdict.TheVariants as verdict
 use Rattle.vk_verifier.specs.declared.answers.VErr.{VErr}
 use Rattle.vk_verifier.specs.declared.answers.VErr.TheVariants.{Missing, TooLong, Failed, NoMemory}
-use Rattle.vk_verifier.specs.Verdicts.{begun}
-use Rattle.vk_verifier.specs.Two.{Ahead}
 use Rattle.vk_verifier.specs.TwoBoards.{ahead_at, base_on, two_on}
 use Rattle.vk_bids.specs.declared.extraction.Extraction.TheVariants.{Refused, Same, Clash, Bids}
 use Rattle.vk_bids.specs.Extraction.{Extraction, extraction_of, extraction_on}
@@ -23,52 +17,30 @@ use Rattle.vk_bids.proofs.Headlines.{accepted_are_extracted}
 use Rattle.vk_bids.proofs.Named.{files_are_extracted}
 use Rattle.vk_words.specs.Names.{ExtractWords}
 use Rattle.vk_effect.specs.Effects.{SaidValue, puts}
-use Rattle.vk_effect.specs.NamedFiles.{missing_said, too_long_said}
 use Rattle.vk_audit.specs.Answers.{ExtractHolds, SettlesExtract, TellsExtractions}
 use Rattle.vk_audit.specs.Extractions.{extraction_said, extract_said}
 use Rattle.vk_audit.specs.Findings.{ExtractionHolds}
-use Rattle.vk_audit.specs.Inputs.{CanBeRead, HoldsFiles, extract_inputs}
-use Rattle.vk_audit.specs.Statuses.{AcceptsTwoFiles, AcceptsSameFiles, ExtractsExactly, IsExtracted, PutsExtraction, PutsClash, TellsSameExactly}
+use Rattle.vk_audit.specs.Inputs.{HoldsFiles}
+use Rattle.vk_audit.specs.Statuses.{AcceptsTwoFiles, AcceptsSameFiles, ExtractsExactly, HasExtraction, IsExtracted, PutsExtraction, PutsClash, TellsSameExactly}
 use Rattle.vk_audit.specs.Verdicts.{answer_said, name_of, unread_said}
 use Rattle.vk_audit.proofs.Findings.{extraction_holds, second_accepted, unfound_found}
-use Rattle.vk_audit.proofs.Inputs.{all_read, begun_unread, fault_of, first_unread, never_none, unread_found, unread_shown}
+use Rattle.vk_audit.proofs.Answered.{answered_holds, answered_settled, extract_parts, files_held, files_unread}
+use Rattle.vk_audit.proofs.Inputs.{fault_of, first_unread}
 use Rattle.vk_audit.proofs.Telling.{tells}
 use Rattle.vk_audit.proofs.Verifying.{status_accepted, status_within}
 
 -- ---- the answer
 
 module _ (files : Files) (names : ExtractWords) where
-  abbrev pub parts : List Part
-  parts = part.Board ∷ part.Challenge ∷ part.Reply ∷ part.SecondChallenge ∷ part.SecondReply ∷ []
-
   abbrev pub answer : Result Extraction VErr
   answer = extraction_on files names.board names.first.challenge names.first.reply names.second.challenge names.second.reply
 
-  abbrev last_then : Rest → Rest → Rest → Rest → Result (Ahead BoardVerdict) VErr
-  last_then board challenge reply other = begun part.SecondReply (get files names.second.reply) >>= λ second. Ok (ahead_at board challenge reply other second)
-
-  abbrev other_then : Rest → Rest → Rest → Result (Ahead BoardVerdict) VErr
-  other_then board challenge reply = begun part.SecondChallenge (get files names.second.challenge) >>= last_then board challenge reply
-
-  abbrev reply_then : Rest → Rest → Result (Ahead BoardVerdict) VErr
-  reply_then board challenge = begun part.Reply (get files names.first.reply) >>= other_then board challenge
-
-  abbrev challenge_then : Rest → Result (Ahead BoardVerdict) VErr
-  challenge_then board = begun part.Challenge (get files names.first.challenge) >>= reply_then board
-
-  two_unread : (unread : Part × Bool) → first_unread files (name_of names) parts ≡ Some unread
+  two_unread : (unread : Part × Bool) → first_unread files (name_of names) extract_parts ≡ Some unread
       → two_on files names.board names.first.challenge names.first.reply names.second.challenge names.second.reply ≡ Err (fault_of unread)
   unfolding two_on
-  two_unread unread is =
-      begun_unread part.Board _ challenge_then unread (λ board rest.
-      begun_unread part.Challenge _ (reply_then board) unread (λ challenge rest.
-      begun_unread part.Reply _ (other_then board challenge) unread (λ reply rest.
-      begun_unread part.SecondChallenge _ (last_then board challenge reply) unread (λ other rest.
-      begun_unread part.SecondReply None (λ second. Ok (ahead_at board challenge reply other second)) unread (λ second none. absurd (never_none unread none))
-      (get files names.second.reply) rest) (get files names.second.challenge) rest) (get files names.first.reply) rest)
-      (get files names.first.challenge) rest) (get files names.board) is
+  two_unread unread is = files_unread ahead_at files names unread is
 
-  pub answer_unread : (unread : Part × Bool) → first_unread files (name_of names) parts ≡ Some unread → answer ≡ Err (fault_of unread)
+  pub answer_unread : (unread : Part × Bool) → first_unread files (name_of names) extract_parts ≡ Some unread → answer ≡ Err (fault_of unread)
   unfolding extraction_on
   answer_unread unread is =
       ap (λ ahead. ahead >>= λ ahead. base_on files names.board names.first.challenge names.first.reply names.second.challenge names.second.reply >>= λ base. Ok (extraction_of base ahead))
@@ -79,45 +51,24 @@ module _ (files : Files) (names : ExtractWords) where
       (files_are_extracted files names.board names.first.challenge names.first.reply names.second.challenge names.second.reply (extraction_of_held held)).1
       (record { held = held; is = refl })
 
-  pub all_held : AllByRecursion (CanBeRead files) (extract_inputs names) → HoldsFiles files names
-  all_held read = record {
-    board_bytes = read.0.0;
-    board_is = read.0.1;
-    first = record { challenge_bytes = read.1.0.0; reply_bytes = read.1.1.0.0; challenge_is = read.1.0.1; reply_is = read.1.1.0.1 };
-    second = record { challenge_bytes = read.1.1.1.0.0; reply_bytes = read.1.1.1.1.0.0; challenge_is = read.1.1.1.0.1; reply_is = read.1.1.1.1.0.1 };
-  }
-
-  answer_by : (unread : Option (Part × Bool)) → first_unread files (name_of names) parts ≡ unread → ExtractHolds files names answer
-  answer_by (Some (part, true)) is =
-      subst (ExtractHolds files names) (sym (answer_unread (part, true) is)) (unread_shown files (name_of names) parts (part, true) is)
-  answer_by (Some (part, false)) is =
-      subst (ExtractHolds files names) (sym (answer_unread (part, false) is)) (unread_shown files (name_of names) parts (part, false) is)
-  answer_by None is =
-      let held = all_held (all_read files (name_of names) parts is) in
+  answer_holds : ExtractHolds files names answer
+  answer_holds =
+      answered_holds files names extract_parts (HasExtraction files names) answer answer_unread (λ read.
+      let held : HoldsFiles files names = files_held read in
       subst (ExtractHolds files names) (sym (answer_read held)) (record {
         held = held;
         holds = extraction_holds held.board_bytes held.first.challenge_bytes held.first.reply_bytes held.second.challenge_bytes held.second.reply_bytes;
-      })
+      }))
 
   abbrev said_of : Result Extraction VErr → SaidValue
   said_of answered = answer_said (extraction_said names) (unread_said names) answered
 
   answer_settled : (other : Result Extraction VErr) → SettlesExtract other → ExtractHolds files names other → said_of answer ≡ said_of other
-  answer_settled (Ok extraction) settles holds =
-      let held = holds.held in
-      ap said_of (answer_read held ∙ ap (λ e. Ok e)
-      (unfound_found held.board_bytes held.first.challenge_bytes held.first.reply_bytes held.second.challenge_bytes held.second.reply_bytes extraction settles holds.holds))
-  answer_settled (Err (Missing part)) settles holds =
-      let found = unread_found files (name_of names) parts (name_of names part) false holds in
-      ap said_of (answer_unread (found.0, false) found.1) ∙ ap missing_said found.2
-  answer_settled (Err (TooLong part)) settles holds =
-      let found = unread_found files (name_of names) parts (name_of names part) true holds in
-      ap said_of (answer_unread (found.0, true) found.1) ∙ ap too_long_said found.2
-  answer_settled (Err Failed) settles holds = absurd holds
-  answer_settled (Err NoMemory) settles holds = absurd holds
-
-  answer_holds : ExtractHolds files names answer
-  answer_holds = answer_by (first_unread files (name_of names) parts) refl
+  answer_settled =
+      answered_settled files names extract_parts (HasExtraction files names) answer answer_unread (extraction_said names) SettlesExtract (λ extraction settles has.
+      let held = has.held in
+      answer_read held ∙ ap (λ e. Ok e)
+      (unfound_found held.board_bytes held.first.challenge_bytes held.first.reply_bytes held.second.challenge_bytes held.second.reply_bytes extraction settles has.holds))
 
 pub tells_extractions : TellsExtractions
 tells_extractions files names taken =
@@ -176,7 +127,7 @@ only_said files names (Ok (Clash clash)) holds other small = record { held = hol
 only_said files names (Ok (Bids found)) holds other small = record { held = holds.held; two = holds.holds.0 }
 
 -- 0 and 3 are told from all other statuses that end a command
-told_apart : (status : ℕ) → (status ≡ 0) ⊎ (status ≡ 3) → (status ≢ 1) × (status < 4)
+pub told_apart : (status : ℕ) → (status ≡ 0) ⊎ (status ≡ 3) → (status ≢ 1) × (status < 4)
 told_apart status (inl zero_is) = (λ one. omega arith, omega arith)
 told_apart status (inr three_is) = (λ one. omega arith, omega arith)
 

@@ -2,6 +2,7 @@ pub mod Inputs
 pub mod Matching
 pub mod Findings
 pub mod Telling
+pub mod Answered
 pub mod Verifying
 pub mod Extracting
 pub mod Binding

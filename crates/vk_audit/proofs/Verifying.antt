@@ -1,26 +1,22 @@
 -- What `verify` says holds of the files, and status 0 comes exactly where the reply is accepted.
-use Rattle.std.proofs.Common.{◌≡◌, ◌≢◌, ℕ, ◌<◌, ◌≤◌, Bool, false, true, List, [], ◌∷◌, Option, Some, None, Result, Ok, Err, refl, sym, ap, subst, ◌∙◌, arith}
-use Rattle.std.specs.FinMap.{get}
-use Rattle.vk_residue.specs.Steps.{◌>>=◌}
+use Rattle.std.proofs.Common.{◌≡◌, ◌≢◌, ℕ, ◌<◌, ◌≤◌, Bool, false, List, Some, Result, Ok, Err, refl, sym, ap, subst, ◌∙◌, arith}
 use Rattle.vk_io.specs.Files.{Files}
 use Rattle.vk_lines.specs.Lines.{Rest}
 use Rattle.vk_verifier.specs.declared.answers.Part.{Part}
-use Rattle.vk_verifier.specs.declared.answers.Part.TheVariants as part
 use Rattle.vk_verifier.specs.declared.answers.BoardVerdict.{BoardVerdict}
 use Rattle.vk_verifier.specs.declared.answers.BoardVerdict.TheVariants as verdict
 use Rattle.vk_verifier.specs.declared.answers.VErr.{VErr}
 use Rattle.vk_verifier.specs.declared.answers.VErr.TheVariants.{Missing, TooLong, Failed, NoMemory}
-use Rattle.vk_verifier.specs.Verdicts.{begun, from_start, judged, verdict_by, verdict_of, verdict_on}
+use Rattle.vk_verifier.specs.Verdicts.{judged, verdict_by, verdict_of, verdict_on}
 use Rattle.vk_verifier.proofs.Verdicts.{verdict_holds, verdicts_exact}
 use Rattle.vk_bids.specs.Headline.{HeldAttempt, IsHeld}
-use Rattle.vk_bids.proofs.Begun.{attempt_found, begun_found}
 use Rattle.vk_words.specs.Names.{ExtractWords, VerifyWords}
 use Rattle.vk_effect.specs.Effects.{SaidValue}
-use Rattle.vk_effect.specs.NamedFiles.{missing_said, too_long_said}
 use Rattle.vk_audit.specs.Answers.{TellsVerdicts, VerifyHolds}
 use Rattle.vk_audit.specs.Statuses.{AcceptsFiles, HasVerdict, VerifiesExactly}
 use Rattle.vk_audit.specs.Verdicts.{answer_said, judged_said, name_of, unread_said, verified_words}
-use Rattle.vk_audit.proofs.Inputs.{all_read, begun_unread, fault_of, first_unread, never_none, unread_found, unread_shown}
+use Rattle.vk_audit.proofs.Answered.{answered_holds, answered_settled, attempt_held, attempt_read, attempt_unread, verify_parts}
+use Rattle.vk_audit.proofs.Inputs.{fault_of, first_unread}
 use Rattle.vk_audit.proofs.Telling.{tells}
 
 -- ---- verdicts
@@ -48,65 +44,37 @@ status_within names second (verdict.Row lane row) = omega arith
 -- ---- the answer
 
 module _ (files : Files) (names : VerifyWords) where
-  abbrev named : Part → List ℕ
-  named = name_of (verified_words names)
-
-  abbrev parts : List Part
-  parts = part.Board ∷ part.Challenge ∷ part.Reply ∷ []
+  abbrev judging : Rest → Rest → Rest → BoardVerdict
+  judging board challenge reply = verdict_by (judged board challenge reply)
 
   abbrev answer : Result BoardVerdict VErr
   answer = verdict_on files names.board names.attempt.challenge names.attempt.reply
 
-  abbrev reply_then : Rest → Rest → Result BoardVerdict VErr
-  reply_then board challenge = begun part.Reply (get files names.attempt.reply) >>= λ reply. Ok (verdict_by (judged board challenge reply))
-
-  abbrev challenge_then : Rest → Result BoardVerdict VErr
-  challenge_then board = begun part.Challenge (get files names.attempt.challenge) >>= reply_then board
-
-  answer_unread : (unread : Part × Bool) → first_unread files named parts ≡ Some unread → answer ≡ Err (fault_of unread)
+  answer_unread : (unread : Part × Bool) → first_unread files (name_of (verified_words names)) verify_parts ≡ Some unread → answer ≡ Err (fault_of unread)
   unfolding verdict_on
-  answer_unread unread is =
-      begun_unread part.Board _ challenge_then unread (λ board rest.
-      begun_unread part.Challenge _ (reply_then board) unread (λ challenge rest.
-      begun_unread part.Reply None (λ reply. Ok (verdict_by (judged board challenge reply))) unread (λ reply none. absurd (never_none unread none))
-      (get files names.attempt.reply) rest) (get files names.attempt.challenge) rest) (get files names.board) is
+  answer_unread unread is = attempt_unread judging files names unread is
 
   answer_read : (board : List ℕ) → IsHeld files names.board board → (attempt : HeldAttempt files names.attempt.challenge names.attempt.reply)
       → answer ≡ Ok (verdict_of board attempt.challenge_bytes attempt.reply_bytes)
   unfolding verdict_on
-  answer_read board is attempt =
-      begun_found files names.board board part.Board challenge_then is
-      ∙ attempt_found files part.Challenge part.Reply names.attempt.challenge names.attempt.reply (λ challenge reply. Ok (verdict_by (judged
-      (from_start board) challenge reply))) attempt
+  answer_read board is attempt = attempt_read judging files names board is attempt
 
-  answer_by : (unread : Option (Part × Bool)) → first_unread files named parts ≡ unread → VerifyHolds files names answer
-  answer_by (Some (part, true)) is = subst (VerifyHolds files names) (sym (answer_unread (part, true) is)) (unread_shown files named parts (part, true) is)
-  answer_by (Some (part, false)) is = subst (VerifyHolds files names) (sym (answer_unread (part, false) is)) (unread_shown files named parts (part, false) is)
-  answer_by None is =
-      let read = all_read files named parts is in
-      let attempt : HeldAttempt files names.attempt.challenge names.attempt.reply =
-      record { challenge_bytes = read.1.0.0; reply_bytes = read.1.1.0.0; challenge_is = read.1.0.1; reply_is = read.1.1.0.1 } in
+  answer_holds : VerifyHolds files names answer
+  answer_holds =
+      answered_holds files (verified_words names) verify_parts (HasVerdict files names) answer answer_unread (λ read.
+      let attempt : HeldAttempt files names.attempt.challenge names.attempt.reply = attempt_held read in
       subst (VerifyHolds files names) (sym (answer_read read.0.0 read.0.1 attempt))
-      (record { board = read.0.0; board_is = read.0.1; attempt = attempt; holds = verdict_holds read.0.0 attempt.challenge_bytes attempt.reply_bytes })
+      (record { board = read.0.0; board_is = read.0.1; attempt = attempt; holds = verdict_holds read.0.0 attempt.challenge_bytes attempt.reply_bytes }))
 
   abbrev said_of : Result BoardVerdict VErr → SaidValue
   said_of answered = answer_said (judged_said (verified_words names) false) (unread_said (verified_words names)) answered
 
   answer_settled : (other : Result BoardVerdict VErr) → VerifyHolds files names other → said_of answer ≡ said_of other
-  answer_settled (Ok answered) holds =
-      ap said_of (answer_read holds.board holds.board_is holds.attempt
-      ∙ ap (λ v. Ok v) ((verdicts_exact answered holds.board holds.attempt.challenge_bytes holds.attempt.reply_bytes).1 holds.holds))
-  answer_settled (Err (Missing part)) holds =
-      let found = unread_found files named parts (named part) false holds in
-      ap said_of (answer_unread (found.0, false) found.1) ∙ ap missing_said found.2
-  answer_settled (Err (TooLong part)) holds =
-      let found = unread_found files named parts (named part) true holds in
-      ap said_of (answer_unread (found.0, true) found.1) ∙ ap too_long_said found.2
-  answer_settled (Err Failed) holds = absurd holds
-  answer_settled (Err NoMemory) holds = absurd holds
-
-  answer_holds : VerifyHolds files names answer
-  answer_holds = answer_by (first_unread files named parts) refl
+  answer_settled other holds =
+      answered_settled files (verified_words names) verify_parts (HasVerdict files names) answer answer_unread (judged_said (verified_words names) false)
+      (λ _. Unit {0}) (λ answered _ has.
+      answer_read has.board has.board_is has.attempt
+      ∙ ap (λ v. Ok v) ((verdicts_exact answered has.board has.attempt.challenge_bytes has.attempt.reply_bytes).1 has.holds)) other tt holds
 
 pub tells_verdicts : TellsVerdicts
 tells_verdicts files names taken =

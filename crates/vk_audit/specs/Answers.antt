@@ -4,6 +4,7 @@ use Rattle.vk_io.specs.Files.{Files, Told}
 use Rattle.vk_verifier.specs.declared.answers.BoardVerdict.{BoardVerdict}
 use Rattle.vk_verifier.specs.declared.answers.VErr.{VErr}
 use Rattle.vk_verifier.specs.declared.answers.VErr.TheVariants.{Missing, TooLong, Failed, NoMemory}
+use Rattle.vk_bids.specs.declared.extraction.Extraction.{Extraction as ExtractionOf}
 use Rattle.vk_bids.specs.Extraction.{Extraction}
 use Rattle.vk_bids.specs.declared.confrontation.Confrontation.{Confrontation}
 use Rattle.vk_bids.specs.declared.confrontation.Confrontation.TheVariants as comes
@@ -30,14 +31,18 @@ pub record Tells {Answer : Type 0} (Holds Settles : Answer → Type 0) (said : A
   pub says : IsSaid (said answer) status old new
   pub settled : (other : Answer) → Settles other → Holds other → IsSaid (said other) status old new
 
+-- what is said of named files holds of them; or of these names, in their order, the first whose file can't be read is that part's
+abbrev pub AnswerHolds : {X : Type 0} → Files → ExtractWords → List (List ℕ) → (X → Type 0) → Result X VErr → Type 0
+AnswerHolds files names inputs Holds (Ok value) = Holds value
+AnswerHolds files names inputs Holds (Err (Missing part)) = IsMissing files inputs (name_of names part)
+AnswerHolds files names inputs Holds (Err (TooLong part)) = IsTooLong files inputs (name_of names part)
+AnswerHolds files names inputs Holds (Err Failed) = ⊥
+AnswerHolds files names inputs Holds (Err NoMemory) = ⊥
+
 -- ---- `verify`
 
 abbrev pub VerifyHolds : Files → VerifyWords → Result BoardVerdict VErr → Type 0
-VerifyHolds files names (Ok verdict) = HasVerdict files names verdict
-VerifyHolds files names (Err (Missing part)) = IsMissing files (verify_inputs names) (name_of (verified_words names) part)
-VerifyHolds files names (Err (TooLong part)) = IsTooLong files (verify_inputs names) (name_of (verified_words names) part)
-VerifyHolds files names (Err Failed) = ⊥
-VerifyHolds files names (Err NoMemory) = ⊥
+VerifyHolds files names = AnswerHolds files (verified_words names) (verify_inputs names) (HasVerdict files names)
 
 -- every answer settles what is said
 abbrev pub TellsVerdict : Files → VerifyWords → ℕ → Option (List ℕ) → Option (List ℕ) → Type 0
@@ -47,14 +52,10 @@ TellsVerdict files names status old new =
 -- ---- `extract`
 
 abbrev pub ExtractHolds : Files → ExtractWords → Result Extraction VErr → Type 0
-ExtractHolds files names (Ok extraction) = HasExtraction files names extraction
-ExtractHolds files names (Err (Missing part)) = IsMissing files (extract_inputs names) (name_of names part)
-ExtractHolds files names (Err (TooLong part)) = IsTooLong files (extract_inputs names) (name_of names part)
-ExtractHolds files names (Err Failed) = ⊥
-ExtractHolds files names (Err NoMemory) = ⊥
+ExtractHolds files names = AnswerHolds files names (extract_inputs names) (HasExtraction files names)
 
--- all but bids and a clash settles what is said
-abbrev pub SettlesExtract : Result Extraction VErr → Type 0
+-- all but bids and a clash settles what is said, whatever is said of a refusal and whatever is kept of the bids
+abbrev pub SettlesExtract : {V X : Type 0} → Result (ExtractionOf V X) VErr → Type 0
 SettlesExtract (Ok extraction) = ¬ IsFound extraction
 SettlesExtract (Err fault) = Unit {0}
 

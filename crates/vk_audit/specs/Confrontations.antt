@@ -41,7 +41,7 @@ IsOfNamedFile (Unread fault) = IsOfFile fault
 IsOfNamedFile MissingSecret = Unit {0}
 IsOfNamedFile TooLongSecret = Unit {0}
 
--- of the first file that is missing or too long
+-- what is said of the first file that is missing or too long
 abbrev pub unconfronted_said : ConfrontWords → ConfrontErr → SaidValue
 unconfronted_said names (Unread fault) = unread_said names.replies fault
 unconfronted_said names MissingSecret = missing_said names.secret

@@ -13,7 +13,7 @@ use Rattle.vk_audit.specs.Verdicts.{answer_said}
 abbrev pub reported_said : Report → SaidValue
 reported_said report = record { status = 0; text = report_text report }
 
--- of the first fault of the board's file. No definition gives the last two
+-- what is said of the first fault of the board's file. No definition gives the last two
 abbrev pub unreported_said : List ℕ → ReportErr → SaidValue
 unreported_said board Missing = missing_said board
 unreported_said board TooLong = too_long_said board

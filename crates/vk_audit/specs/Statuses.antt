@@ -27,6 +27,11 @@ use Rattle.vk_audit.specs.Inputs.{HoldsFiles}
 use Rattle.vk_audit.specs.Reports.{report_said}
 use Rattle.vk_audit.specs.Verdicts.{verify_said}
 
+-- that status comes only where this holds; and where it does, it comes at every end of the command
+pub record ComesExactly (wanted : ℕ) (Holds : Type 0) (status : ℕ) : Type 0 where
+  pub only : status ≡ wanted → Holds
+  pub always : Holds → status ≢ 6 → status ≢ 9 → status ≡ wanted
+
 -- ---- `verify`
 
 -- the named files are held, and the verdict holds of their bytes
@@ -40,10 +45,8 @@ pub record HasVerdict (files : Files) (names : VerifyWords) (verdict : BoardVerd
 abbrev pub AcceptsFiles : Files → VerifyWords → Type 0
 AcceptsFiles files names = HasVerdict files names Accepted
 
--- status 0 comes only where the reply is accepted; and where it is, it comes at every end of the command
-pub record IsVerified (files : Files) (names : VerifyWords) (status : ℕ) : Type 0 where
-  pub only : status ≡ 0 → AcceptsFiles files names
-  pub always : AcceptsFiles files names → status ≢ 6 → status ≢ 9 → status ≡ 0
+abbrev pub IsVerified : Files → VerifyWords → ℕ → Type 0
+IsVerified files names status = ComesExactly 0 (AcceptsFiles files names) status
 
 -- ---- `extract`
 
@@ -61,10 +64,8 @@ pub record HasExtraction (files : Files) (names : ExtractWords) (extraction : Ex
 abbrev pub AcceptsSameFiles : Files → ExtractWords → Type 0
 AcceptsSameFiles files names = HasExtraction files names Same
 
--- status 7 comes only where the challenges don't differ; and where they don't, it comes at every end of the command
-pub record IsSame (files : Files) (names : ExtractWords) (status : ℕ) : Type 0 where
-  pub only : status ≡ 7 → AcceptsSameFiles files names
-  pub always : AcceptsSameFiles files names → status ≢ 6 → status ≢ 9 → status ≡ 7
+abbrev pub IsSame : Files → ExtractWords → ℕ → Type 0
+IsSame files names status = ComesExactly 7 (AcceptsSameFiles files names) status
 
 -- what is put is the text of bids that both replies open, in all the lanes whose bits differ
 pub record PutsExtraction {board first_challenge first_reply second_challenge second_reply : List ℕ}

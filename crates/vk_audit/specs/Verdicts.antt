@@ -45,7 +45,7 @@ wire_cause lane wire fault = codes "lane " +++ decimal lane +++ codes " wire " +
 abbrev pub row_cause : ℕ → ℕ → List ℕ
 row_cause lane row = codes "lane " +++ decimal lane +++ codes " row " +++ decimal row
 
--- of the verdict on the first reply, or on the second: what is refused is the board for its price and its winner,
+-- what is said of the verdict on the first reply, or on the second: refused is the board for its price and its winner,
 -- and that reply for all else
 abbrev pub judged_said : ExtractWords → Bool → BoardVerdict → SaidValue
 judged_said names second Accepted = record { status = 0; text = codes "accepted" +++ line_feed }
@@ -69,7 +69,7 @@ IsOfFile (TooLong part) = Unit {0}
 IsOfFile Failed = ⊥
 IsOfFile NoMemory = ⊥
 
--- of the first file that is missing or too long; of a failure of the outside and of want of memory nothing is said
+-- what is said of the first file that is missing or too long; of a failure of the outside and of want of memory nothing is said
 abbrev pub unread_said : ExtractWords → VErr → SaidValue
 unread_said names (Missing part) = missing_said (name_of names part)
 unread_said names (TooLong part) = too_long_said (name_of names part)

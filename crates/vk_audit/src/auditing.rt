@@ -33,7 +33,7 @@ pub enum AuditOrder<'a> {
 }
 
 /// The names with those of the one challenge and reply in both places.
-fn verified_names<'a>(names: &VerifyNames<'a>) -> ExtractNames<'a>
+pub fn verified_names<'a>(names: &VerifyNames<'a>) -> ExtractNames<'a>
     ensures { extract_seen result ≡ verified_words (verify_seen names.now) }
 {
     ExtractNames {

@@ -31,7 +31,7 @@ fn printed(status: u8, confrontation: &Confrontation) -> Said
     Said::of_short(status, confrontation_line(confrontation))
 }
 
-/// Of the verdict on a reply that isn't accepted, or of what the secret comes to against two accepted replies. Only
+/// What is said of a reply that isn't accepted, or of what the secret comes to against two accepted replies. Only
 /// a line that names a file takes memory.
 pub fn confronted(
     alloc: Global,
@@ -61,7 +61,7 @@ pub fn confronted(
     }
 }
 
-/// Of files the first of which is missing or too long. A failure is handed on.
+/// What is said of the first file that is missing or too long. A failure is handed on.
 pub fn unconfronted(
     alloc: Global,
     names: &ConfrontNames<'_>,
@@ -79,7 +79,7 @@ pub fn unconfronted(
     Ok(said)
 }
 
-/// Of what the files came to, or of the first that is missing or too long. A failure is handed on.
+/// What is said of what the files came to, or of the first that is missing or too long. A failure is handed on.
 pub fn confront_answered(
     alloc: Global,
     names: &ConfrontNames<'_>,

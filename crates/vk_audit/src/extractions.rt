@@ -21,7 +21,7 @@ use vk_residue::NoMemory;
 use vk_verifier::VErr;
 use vk_words::ExtractNames;
 
-/// Of the verdict on a reply that isn't accepted, or of what two accepted replies come to. A clash takes no memory.
+/// What is said of a reply that isn't accepted, or of what two accepted replies come to. A clash takes no memory.
 pub fn extracted(
     alloc: Global,
     names: &ExtractNames<'_>,
@@ -45,7 +45,7 @@ pub fn extracted(
     }
 }
 
-/// Of what the files came to, or of the first that is missing or too long. A failure is handed on.
+/// What is said of what the files came to, or of the first that is missing or too long. A failure is handed on.
 pub fn extract_answered(
     alloc: Global,
     names: &ExtractNames<'_>,

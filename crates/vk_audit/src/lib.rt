@@ -8,7 +8,7 @@ mod laws;
 mod reports;
 mod verdicts;
 
-pub use auditing::{AuditOrder, audit, replies_of};
+pub use auditing::{AuditOrder, audit, replies_of, verified_names};
 pub use confrontations::{confront_answered, confronted, unconfronted};
 pub use extractions::{extract_answered, extracted};
 pub use laws::statuses_mean_what_the_files_are;

@@ -11,7 +11,7 @@ use vk_io::OutsideErr;
 use vk_report::{Report, ReportErr, report_lines};
 use vk_residue::NoMemory;
 
-/// Of a report that was made.
+/// What is said of a board: its report.
 pub fn reported(alloc: Global, report: &Report) -> Result<Said, NoMemory>
     requires { IsReport report.now }
     ensures { IfOk result (λ said. said ≡ reported_said report.now) }
@@ -20,7 +20,7 @@ pub fn reported(alloc: Global, report: &Report) -> Result<Said, NoMemory>
     Ok(Said::of_lines(0, lines))
 }
 
-/// Of the first fault of the board's file. A failure is handed on.
+/// What is said of the first fault of the board's file. A failure is handed on.
 pub fn unreported(alloc: Global, board: &str, fault: ReportErr) -> Result<Said, OutsideErr>
     ensures said { IfOk result (λ said. said ≡ unreported_said board.now fault) }
     ensures file { OnOk result (fault_of fault ≡ Some fault) }

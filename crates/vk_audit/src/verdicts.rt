@@ -51,7 +51,7 @@ fn fault_text(fault: WireFault) -> &'static str
     }
 }
 
-/// Of a reply whose wire of the lane reads nothing.
+/// What is said of a reply whose wire of the lane reads nothing.
 fn wire_refused(
     alloc: Global,
     reply: &str,
@@ -67,7 +67,7 @@ fn wire_refused(
     Ok(said)
 }
 
-/// Of a reply whose row of the lane isn't met.
+/// What is said of a reply whose row of the lane isn't met.
 fn row_refused(alloc: Global, reply: &str, lane: u32, row: u32) -> Result<Said, NoMemory>
     ensures { IfOk result (λ said. said ≡ refused_said reply.now (row_cause lane row)) }
 {
@@ -76,7 +76,7 @@ fn row_refused(alloc: Global, reply: &str, lane: u32, row: u32) -> Result<Said, 
     Ok(said)
 }
 
-/// Of the verdict on the first reply, or on the second. Of one reply alone both names are the same. That it is
+/// What is said of the verdict on the first reply, or on the second. Of one reply alone both names are the same. That it is
 /// accepted takes no memory.
 pub fn judged(
     alloc: Global,
@@ -101,14 +101,14 @@ pub fn judged(
     Ok(said)
 }
 
-/// Of challenges that don't differ. Takes no memory.
+/// What is said of challenges that don't differ. Takes no memory.
 pub fn same_challenge() -> Said
     ensures { result ≡ same_said }
 {
     Said::of_short(7, ShortText::new().word("same challenge\n"))
 }
 
-/// Of files that give no verdict, the first of which is missing or too long. A failure is handed on.
+/// What is said of the first file that is missing or too long, so that there is no verdict. A failure is handed on.
 pub fn unread(alloc: Global, names: &ExtractNames<'_>, fault: VErr) -> Result<Said, OutsideErr>
     ensures said { IfOk result (λ said. said ≡ unread_said (extract_seen names.now) fault) }
     ensures file { OnOk result (IsOfFile fault) }

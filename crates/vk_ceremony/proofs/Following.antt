@@ -17,7 +17,7 @@ use Rattle.vk_house.specs.Refusals.{refusal_of}
 use Rattle.vk_house.specs.Replies.{HouseReply, Refused, reply_to}
 use Rattle.vk_house.specs.Steps.{HouseCall, house_step, kept_by, ledger_after, step_at, step_by}
 use Rattle.vk_effect.specs.Effects.{Effect, SaidValue, after, said_of, stores}
-use Rattle.vk_words.specs.Orders.{HouseWords, Announce, Submit, Prove, Answer, Show}
+use Rattle.vk_words.specs.Orders.{HouseWords, Announce, AnnounceReserve, Submit, Prove, Answer, Show}
 use Rattle.vk_auctioneer.specs.Effects.{Writes, asked, board_file, house_effect, if_read, no_file, reply_file}
 use Rattle.vk_auctioneer.specs.Inputs.{challenge_in, row_in}
 use Rattle.vk_auctioneer.specs.Lines.{reply_said}
@@ -30,6 +30,7 @@ use Rattle.vk_ceremony.specs.Scripts.{script_at, script_begun}
 -- a command that is done on an auction isn't refused
 no_refusal : (command : HouseCommand) (auction : Auction) (refusal : HouseErr) → reply_to command (Some auction) ≡ Refused refusal → ⊥
 no_refusal (house.Announce id width lanes) auction refusal is = cc
+no_refusal (house.AnnounceReserve id width lanes reserve) auction refusal is = cc
 no_refusal (house.Submit id seal secret) auction refusal is = cc
 no_refusal (house.Prove id seed) auction refusal is = cc
 no_refusal (house.Answer id challenge) auction refusal is = cc
@@ -80,6 +81,8 @@ IsTold files ledger order = (effect : Effect) × (house_effect (Some files) (Som
 
 pub order_told : (files : Files) (ledger : Ledger) (order : HouseWords) → IsTold files ledger order
 order_told files ledger (Announce id width lanes) = (_, refl, asked_reaches no_file ledger (house.Announce id width lanes) (λ refusal. refl))
+order_told files ledger (AnnounceReserve id width lanes reserve) =
+    (_, refl, asked_reaches no_file ledger (house.AnnounceReserve id width lanes reserve) (λ refusal. refl))
 order_told files ledger (Submit id seal secret) =
     (_, refl, read_reaches ledger (λ row. no_file) (λ row. house.Submit id row.seal row.secret) (row_in files seal secret) (λ row refusal. refl))
 order_told files ledger (Prove id seed board) = (_, refl, asked_reaches (board_file board) ledger (house.Prove id seed) (λ refusal. refl))

@@ -4,6 +4,7 @@ use Rattle.std.specs.Prelude.{IsSomeAnd}
 use Rattle.vk_io.specs.declared.errors.OutsideErr.{OutsideErr}
 use Rattle.vk_io.specs.declared.errors.OutsideErr.TheVariants as outside_err
 use Rattle.vk_io.specs.Files.{Files, Told}
+use Rattle.vk_io.proofs.WritingLemmas.{told_chain, told_same}
 use Rattle.vk_lines.specs.Gives.{Gives}
 use Rattle.vk_lines.specs.Lines.{LinesValue, rest_of}
 use Rattle.vk_keeper.specs.Ledgers.{Ledger}
@@ -77,7 +78,7 @@ begun_ceremony script lines (Some files) now ledger taken answer new same is end
     subst (λ r. IfSome (ceremony_behind script (stores (Some files) ledger) r) (λ whole. EndsAll answer whole (outside (stores (Some files) ledger) taken) new)) (sym is) here
 
 -- it wasn't, and this was said of it
-unread_said : (script : List ℕ) (unread : Unread) (said : SaidValue) (files : Files) → Ok said ≡ said_or_stopped unread → Gives {T = LinesValue} said_of_unread (λ l. rest_of l files) (Err unread) (script_begun files script) → script_begun files script ≡ Err said
+pub unread_said : (script : List ℕ) (unread : Unread) (said : SaidValue) (files : Files) → Ok said ≡ said_or_stopped unread → Gives {T = LinesValue} said_of_unread (λ l. rest_of l files) (Err unread) (script_begun files script) → script_begun files script ≡ Err said
 unread_said script (Said other) said files is gives = gives ∙ ap Err (same_Ok {E = OutsideErr} other said (sym is))
 unread_said script Failed said files is gives = cc
 unread_said script NoMemory said files is gives = cc
@@ -103,11 +104,7 @@ causes_since answer start shelf first keeper begin out now then_ last a b c caus
 -- ---- what the house keeps
 
 pub keeps_told : (ledger : Option Ledger) → Told KeepsAnswers ledger ledger
-keeps_told None = refl
-keeps_told (Some kept) = keeps_same kept
+keeps_told = told_same KeepsAnswers keeps_same
 
 pub keeps_further : (old between new : Option Ledger) → Told KeepsAnswers old between → Told KeepsAnswers between new → Told KeepsAnswers old new
-keeps_further None between new first second = subst (λ l. Told KeepsAnswers l new) first second
-keeps_further (Some old) None new first second = absurd first
-keeps_further (Some old) (Some between) None first second = absurd second
-keeps_further (Some old) (Some between) (Some new) first second = keeps_on old between new first second
+keeps_further = told_chain KeepsAnswers KeepsAnswers KeepsAnswers keeps_on

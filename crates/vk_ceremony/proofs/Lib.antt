@@ -9,3 +9,4 @@ mod Running
 pub mod Whole
 pub mod Performing
 pub mod Standing
+mod Leaving

@@ -19,7 +19,7 @@ use Rattle.vk_house.specs.Steps.{house_step}
 use Rattle.vk_house.proofs.Once.{call_keeps, keeps_on, keeps_same}
 use Rattle.vk_house.proofs.Rights.{call_right}
 use Rattle.vk_effect.specs.Effects.{Effect, SaidValue}
-use Rattle.vk_words.specs.Orders.{HouseWords, Announce, Submit, Prove, Answer, Show}
+use Rattle.vk_words.specs.Orders.{HouseWords, Announce, AnnounceReserve, Submit, Prove, Answer, Show}
 use Rattle.vk_words.specs.Scripts.{line_words, script_words}
 use Rattle.vk_auctioneer.specs.Effects.{house_effect}
 use Rattle.vk_auctioneer.specs.Inputs.{challenge_in, row_in}
@@ -53,7 +53,7 @@ act_steps act command is asks =
 refusal_said : (command : HouseCommand) (reply : HouseReply) → (reply_said command reply).status ≢ 0 → (refusal : HouseErr) × (reply ≡ Refused refusal)
 refusal_said command Done other = absurd (other refl)
 refusal_said command (Position position) other = absurd (other refl)
-refusal_said command (Work auction outcome) other = absurd (other refl)
+refusal_said command (Work auction sale) other = absurd (other refl)
 refusal_said command (Stands standing) other = absurd (other refl)
 refusal_said command (Refused refusal) other = (refusal, refl)
 
@@ -68,7 +68,7 @@ same_by (Some command) files ledger effect reaches (inr other) =
 status_said : (command : HouseCommand) (reply : HouseReply) → ((reply_said command reply).status ≡ 0) ⊎ ((reply_said command reply).status ≡ 8)
 status_said command Done = inl refl
 status_said command (Position position) = inl refl
-status_said command (Work auction outcome) = inl refl
+status_said command (Work auction sale) = inl refl
 status_said command (Stands standing) = inl refl
 status_said command (Refused refusal) = inr refl
 
@@ -147,6 +147,7 @@ read_asks f (Err said) each = tt
 -- such words ask what a house may be asked
 asks_right : (files : Files) (order : HouseWords) → AreHouseWords order → IfSome (asked_in files order) IsHouseCommand
 asks_right files (Announce id width lanes) are = are
+asks_right files (AnnounceReserve id width lanes reserve) are = are
 asks_right files (Submit id seal secret) are =
     read_asks (λ (row : SealRow). house.Submit id row.seal row.secret) (row_in files seal secret) (λ row read. let texts = ((reads_row files seal secret).read row).0 read in (are, texts.seal, texts.secret))
 asks_right files (Prove id seed board) are = are

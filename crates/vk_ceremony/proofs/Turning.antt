@@ -104,7 +104,7 @@ command_ended effect status old new is =
     (is.status_is, done_is status effect old new is ∙ ap (λ taken. record { files = (done effect old).files; ledger = effect.ledger; taken = taken }) (sym (puts_none (puts effect.text old.taken))))
 
 -- the reader stands where it stood
-rest_stays : (script : List ℕ) (lines : LinesValue) (files other : Files) → lines.name ≡ script → bytes_of other script ≡ bytes_of files script → rest_of lines other ≡ rest_of lines files
+pub rest_stays : (script : List ℕ) (lines : LinesValue) (files other : Files) → lines.name ≡ script → bytes_of other script ≡ bytes_of files script → rest_of lines other ≡ rest_of lines files
 unfolding rest_of
 rest_stays script lines files other named same = ap (rest_in lines) (subst (λ name. bytes_of other name ≡ bytes_of files name) (sym named) same)
 

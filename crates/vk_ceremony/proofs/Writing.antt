@@ -17,7 +17,7 @@ use Rattle.vk_house.specs.Commands as house
 use Rattle.vk_house.specs.Replies.{HouseReply, Done, Position, Work, Stands, Refused}
 use Rattle.vk_house.specs.Steps.{house_step}
 use Rattle.vk_words.specs.Commands.{house_words}
-use Rattle.vk_words.specs.Orders.{HouseWords, Announce, Submit, Prove, Answer, Show}
+use Rattle.vk_words.specs.Orders.{HouseWords, Announce, AnnounceReserve, Submit, Prove, Answer, Show}
 use Rattle.vk_words.specs.Scripts.{leaves_name, script_words, written_name_of}
 use Rattle.vk_effect.specs.Effects.{Effect, SaidValue}
 use Rattle.vk_auctioneer.specs.Effects.{Writes, asked, board_file, house_effect, if_read, no_file, reply_file}
@@ -31,14 +31,14 @@ OnlyWrites name [] = Unit {0}
 OnlyWrites name (file ∷ files) = (name ≡ Some file.0) × OnlyWrites name files
 
 board_writes : (board : List ℕ) (reply : HouseReply) → OnlyWrites (Some board) (board_file board reply)
-board_writes board (Work auction outcome) = (refl, tt)
+board_writes board (Work auction sale) = (refl, tt)
 board_writes board Done = tt
 board_writes board (Position position) = tt
 board_writes board (Stands standing) = tt
 board_writes board (Refused refusal) = tt
 
 reply_writes : (name : List ℕ) (challenge : Challenge) (reply : HouseReply) → OnlyWrites (Some name) (reply_file name challenge reply)
-reply_writes name challenge (Work auction outcome) = (refl, tt)
+reply_writes name challenge (Work auction sale) = (refl, tt)
 reply_writes name challenge Done = tt
 reply_writes name challenge (Position position) = tt
 reply_writes name challenge (Stands standing) = tt
@@ -51,6 +51,8 @@ read_writes name ledger effect (Err said) each = tt
 command_writes : (files : Option Files) (ledger : Option Ledger) (order : HouseWords) → IfSome (house_effect files ledger order) (λ effect. OnlyWrites (written_name_of order) effect.writes)
 command_writes files None (Announce id width lanes) = tt
 command_writes files (Some ledger) (Announce id width lanes) = tt
+command_writes files None (AnnounceReserve id width lanes reserve) = tt
+command_writes files (Some ledger) (AnnounceReserve id width lanes reserve) = tt
 command_writes None ledger (Submit id seal secret) = tt
 command_writes (Some files) None (Submit id seal secret) = tt
 command_writes (Some files) (Some ledger) (Submit id seal secret) = read_writes None ledger (λ row. asked no_file ledger (house.Submit id row.seal row.secret)) (row_in files seal secret) (λ row. tt)
@@ -76,7 +78,7 @@ other_name name other true is differs =
     cc
 other_name name other false is differs = refl
 
-insert_leaves : (files : Files) (name other text : List ℕ) → bytes_eq other name ≡ false → bytes_of (insert files other text) name ≡ bytes_of files name
+pub insert_leaves : (files : Files) (name other text : List ℕ) → bytes_eq other name ≡ false → bytes_of (insert files other text) name ≡ bytes_of files name
 insert_leaves files name other text differs =
     let test : bytes_eq name other ≡ false = other_name name other (bytes_eq name other) refl differs in
     ap (λ (found : Option (List ℕ)). unwrap_or found []) (get_inserted files other text name ∙ ap (λ same. cond same (Some text) (get files name)) test)
@@ -104,7 +106,7 @@ meets_shows : (name : List ℕ) (found : Option HouseWords) (order : HouseWords)
 meets_shows name None order is = cc
 meets_shows name (Some other) order is = met_shows name other order (leaves_name name other) refl is
 
-order_leaves : (name : List ℕ) (words : List (List ℕ)) (order : HouseWords) → script_words name words ≡ Some order → IsOther name (written_name_of order)
+pub order_leaves : (name : List ℕ) (words : List (List ℕ)) (order : HouseWords) → script_words name words ≡ Some order → IsOther name (written_name_of order)
 unfolding script_words
 order_leaves name words order is = leaves_other name order (written_name_of order) refl (meets_shows name (house_words words) order is)
 

@@ -24,7 +24,7 @@ pub record Ceremony : Type 0 where
 abbrev pub end_said : Bool → SaidValue
 end_said refused = record { status = if refused then 8 else 0; text = line (codes "end") }
 
--- the same, or a line of another form
+-- what is said of a script that was read to its end, or whose line of that number is of another form
 abbrev pub closing_said : List ℕ → Option ℕ → Bool → SaidValue
 closing_said script None refused = end_said refused
 closing_said script (Some number) refused = malformed_said script number

@@ -4,3 +4,4 @@ pub mod Ceremonies
 pub mod Turns
 pub mod Runs
 pub mod Acts
+pub mod Leaving

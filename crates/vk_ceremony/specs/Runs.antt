@@ -10,7 +10,7 @@ use Rattle.vk_house.specs.Commands as house
 use Rattle.vk_house.specs.Runs.{Event, HouseRun}
 use Rattle.vk_effect.specs.Effects.{Effect, SaidValue, said_of}
 use Rattle.vk_effect.specs.Sequences.{last_ledger}
-use Rattle.vk_words.specs.Orders.{HouseWords, Announce, Submit, Prove, Answer, Show}
+use Rattle.vk_words.specs.Orders.{HouseWords, Announce, AnnounceReserve, Submit, Prove, Answer, Show}
 use Rattle.vk_auctioneer.specs.Inputs.{challenge_in, row_in}
 use Rattle.vk_auctioneer.specs.Lines.{reply_said}
 use Rattle.vk_ceremony.specs.Scripts.{script_at, script_begun}
@@ -18,6 +18,7 @@ use Rattle.vk_ceremony.specs.Scripts.{script_at, script_begun}
 -- what a command asks the house, where the files that it names can be read
 abbrev pub asked_in : Files → HouseWords → Option HouseCommand
 asked_in files (Announce id width lanes) = Some (house.Announce id width lanes)
+asked_in files (AnnounceReserve id width lanes reserve) = Some (house.AnnounceReserve id width lanes reserve)
 asked_in files (Submit id seal secret) = option_map (λ row. house.Submit id row.seal row.secret) (result_ok (row_in files seal secret))
 asked_in files (Prove id seed board) = Some (house.Prove id seed)
 asked_in files (Answer id challenge reply) = option_map (house.Answer id) (result_ok (challenge_in files challenge))

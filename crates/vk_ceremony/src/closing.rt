@@ -44,7 +44,7 @@ fn closing(alloc: Global, script: &str, fault: Option<u64>, refused: bool) -> Re
     }
 }
 
-/// Of one that was read to its end.
+/// What is said of one that was read to its end.
 fn end(alloc: Global, refused: bool) -> Result<Said, NoMemory>
     ensures { IfOk result (λ said. said ≡ end_said refused) }
 {

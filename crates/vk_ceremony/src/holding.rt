@@ -1,14 +1,17 @@
 //! The commands of a script, one after another.
 
 ghost use Rattle.std.specs.Prelude.{◌≡◌, ◌≤◌, ◌+◌, ◌^◌, false, IfOk, IfSome};
-ghost use Rattle.vk_lines.specs.Lines.{KeepsFile};
+ghost use Rattle.vk_lines.specs.Lines.{KeepsFile, rest_of};
 ghost use Rattle.vk_words.specs.Orders.{IsHouseOrder, house_seen};
 ghost use Rattle.vk_effect.specs.Counts.{CausesThree};
 ghost use Rattle.vk_effect.specs.Effects.{IsEnd, outside};
 ghost use Rattle.vk_effect.specs.Ends.{Ends};
 ghost use Rattle.vk_auctioneer.specs.Common.{KeepsAnswers, Told, stores};
 ghost use Rattle.vk_auctioneer.specs.Effects.{house_effect};
+ghost use Rattle.vk_auctioneer.specs.Leaving.{LeavesFiles};
 ghost use Rattle.vk_ceremony.specs.Ceremonies.{EndsAll, ceremony_on};
+ghost use Rattle.vk_ceremony.specs.Leaving.{CeremonyLeaves, ScriptLeaves, TurnLeaves};
+ghost use Rattle.vk_ceremony.specs.Scripts.{script_at};
 ghost use Rattle.vk_ceremony.specs.Turns.{EndsWell, IsNextTurn, Turns, left_of, turn_by};
 
 use crate::closing::{close, say};
@@ -43,6 +46,7 @@ pub fn ceremony<S: Shelf, K: Keeper + Drop, W: Sink>(
         (λ whole. EndsAll result whole (outside (stores (S.held shelf.old) (K.ledger keeper.old)) (W.taken out.old))
         (outside (stores (S.held shelf.new) (K.ledger keeper.new)) (W.taken out.new))) }
     ensures end { IfOk result IsEnd }
+    ensures files { Told (λ old new. IfOk result (λ status. CeremonyLeaves script.now status old new)) (S.held shelf.old) (S.held shelf.new) }
     ensures once { Told KeepsAnswers (K.ledger keeper.old) (K.ledger keeper.new) }
     ensures causes { CausesThree OutsideErr.Failed result (S.Shelf.faults shelf.old) (S.Shelf.faults shelf.new)
         (K.faults keeper.old) (K.faults keeper.new) (W.Sink.faults out.old) (W.Sink.faults out.new) }
@@ -74,6 +78,8 @@ fn hold<S: Shelf, K: Keeper + Drop, W: Sink>(
         (λ whole. EndsAll result whole (outside (stores (S.held shelf.old) (K.ledger keeper.old)) (W.taken out.old))
         (outside (stores (S.held shelf.new) (K.ledger keeper.new)) (W.taken out.new))) }
     ensures end { IfOk result IsEnd }
+    ensures files { Told (λ old new. IfOk result (λ status. ScriptLeaves script.now false (script_at script.now (rest_of lines old)) status old new))
+        (S.held shelf.old) (S.held shelf.new) }
     ensures once { Told KeepsAnswers (K.ledger keeper.old) (K.ledger keeper.new) }
     ensures causes { CausesThree OutsideErr.Failed result (S.Shelf.faults shelf.old) (S.Shelf.faults shelf.new)
         (K.faults keeper.old) (K.faults keeper.new) (W.Sink.faults out.old) (W.Sink.faults out.new) }
@@ -103,6 +109,7 @@ fn next<S: Shelf, K: Keeper + Drop, W: Sink>(
         (λ whole. Turns script.now lines.new result whole (outside (stores (S.held shelf.old) (K.ledger keeper.old)) (W.taken out.old))
         (outside (stores (S.held shelf.new) (K.ledger keeper.new)) (W.taken out.new))) }
     ensures end { IfOk result (λ turn. EndsWell turn) }
+    ensures files { Told (TurnLeaves script.now refused lines.old lines.new result) (S.held shelf.old) (S.held shelf.new) }
     ensures file { KeepsFile lines.old lines.new }
     ensures taken { IfOk result (λ turn. IsNextTurn turn → (lines.new.taken ≡ lines.old.taken + 1) × (lines.new.taken ≤ 2 ^ 30)) }
     ensures once { Told KeepsAnswers (K.ledger keeper.old) (K.ledger keeper.new) }
@@ -132,7 +139,7 @@ fn next<S: Shelf, K: Keeper + Drop, W: Sink>(
     }
 }
 
-/// After a command of that status.
+/// Where a ceremony stands after a command of that status.
 fn turn_by(refused: bool, status: u8) -> Turn
     requires { IsEnd status }
     ensures value { result ≡ turn_by refused status }
@@ -147,6 +154,7 @@ fn turn_by(refused: bool, status: u8) -> Turn
 }
 
 /// Does a command, and prints what it says. Answers its status.
+#[tactic(auto, using(vk_effect::proofs::Acting::stopped_printing))]
 fn command<S: Shelf, K: Keeper + Drop, W: Sink>(
     alloc: Global,
     shelf: &mut S,
@@ -159,6 +167,7 @@ fn command<S: Shelf, K: Keeper + Drop, W: Sink>(
         (λ effect. Ends result effect (outside (stores (S.held shelf.old) (K.ledger keeper.old)) (W.taken out.old))
         (outside (stores (S.held shelf.new) (K.ledger keeper.new)) (W.taken out.new))) }
     ensures end { IfOk result IsEnd }
+    ensures files { Told (λ old new. IfOk result (λ status. LeavesFiles (house_seen order.now) status old new)) (S.held shelf.old) (S.held shelf.new) }
     ensures once { Told KeepsAnswers (K.ledger keeper.old) (K.ledger keeper.new) }
     ensures causes { CausesThree OutsideErr.Failed result (S.Shelf.faults shelf.old) (S.Shelf.faults shelf.new)
         (K.faults keeper.old) (K.faults keeper.new) (W.Sink.faults out.old) (W.Sink.faults out.new) }

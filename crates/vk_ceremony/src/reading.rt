@@ -74,7 +74,7 @@ fn line_of(alloc: Global, step: Step, before: u64, text: &[u8]) -> Result<Line, 
     }
 }
 
-/// Of the line of that number.
+/// What stands next, by the line of that number.
 fn text_line(alloc: Global, number: u64, text: &[u8]) -> Result<Line, NoMemory>
     ensures { IfOk result (λ line. (script : List ℕ) (rest behind : Rest) → text_at rest ≡ Ok (text.now, behind) → number ≡ behind.taken
         → Stands script line rest behind) }

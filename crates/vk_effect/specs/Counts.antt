@@ -8,7 +8,7 @@ CausesTwo fault (Ok value) old new before after = (new ≡ old) × (after ≡ be
 CausesTwo fault (Err refusal) old new before after =
     (refusal ≡ fault → Rose old new ⊎ Rose before after) × (refusal ≢ fault → (new ≡ old) × (after ≡ before))
 
--- the same of three counts
+-- a call that answers this error raised one of three counts, and any other left all of them as they were
 abbrev pub CausesThree : {T E : Type 0} → E → Result T E → ℕ → ℕ → ℕ → ℕ → ℕ → ℕ → Type 0
 CausesThree fault (Ok value) old new before after first last = (new ≡ old) × (after ≡ before) × (last ≡ first)
 CausesThree fault (Err refusal) old new before after first last =

@@ -7,7 +7,7 @@ use crate::said::Said;
 use std::alloc::Global;
 use vk_residue::NoMemory;
 
-/// Of a file that isn't held.
+/// The line of a file that isn't held.
 pub fn missing(alloc: Global, name: &str) -> Result<Said, NoMemory>
     ensures { IfOk result (λ said. said ≡ missing_said name.now) }
 {
@@ -16,7 +16,7 @@ pub fn missing(alloc: Global, name: &str) -> Result<Said, NoMemory>
     Ok(said)
 }
 
-/// Of a file that has too many bytes.
+/// The line of a file that has too many bytes.
 pub fn too_long(alloc: Global, name: &str) -> Result<Said, NoMemory>
     ensures { IfOk result (λ said. said ≡ too_long_said name.now) }
 {
@@ -25,7 +25,7 @@ pub fn too_long(alloc: Global, name: &str) -> Result<Said, NoMemory>
     Ok(said)
 }
 
-/// Of a file whose line of that number, from 1, is the first that isn't what its place demands.
+/// The line of a file whose line of that number, from 1, is the first that isn't what its place demands.
 pub fn malformed(alloc: Global, name: &str, line: u64) -> Result<Said, NoMemory>
     ensures { IfOk result (λ said. said ≡ malformed_said name.now line) }
 {
@@ -34,7 +34,7 @@ pub fn malformed(alloc: Global, name: &str, line: u64) -> Result<Said, NoMemory>
     Ok(said)
 }
 
-/// Of a file of its form that is refused, for this.
+/// The line of a file of its form that is refused, and for what.
 pub fn refused(alloc: Global, name: &str, cause: &str) -> Result<Said, NoMemory>
     ensures { IfOk result (λ said. said ≡ refused_said name.now cause.now) }
 {

@@ -4,7 +4,7 @@ use Rattle.vk_io.specs.declared.errors.OutsideErr.TheVariants.{Failed, NoMemory}
 use Rattle.vk_keeper.specs.Ledgers.{Ledger}
 use Rattle.vk_effect.specs.Effects.{Outside, outside, stores}
 use Rattle.vk_app.specs.Commands.{DoesWork, work_on}
-use Rattle.vk_app.proofs.Audited.{told_audits, told_headline}
+use Rattle.vk_app.proofs.Audited.{told_audits, told_claim_headline, told_claims, told_headline}
 use Rattle.vk_app.proofs.Kept.{told_ceremony, told_house, told_seal, told_usage, unended_house}
 use Rattle.vk_app.proofs.command.run.Given.{Over}
 use Rattle.vk_app.proofs.command.run.Goals.{In-Ok}
@@ -23,6 +23,12 @@ returns-in-Ok-clause-headline g c = by_end g (goal.at.returns-in-Ok-clause-headl
 
 pub returns-in-Ok-clause-audits : goal.returns-in-Ok-clause-audits
 returns-in-Ok-clause-audits g c = by_end g (goal.at.returns-in-Ok-clause-audits g c).In-Ok told_audits
+
+pub returns-in-Ok-clause-claim_headline : goal.returns-in-Ok-clause-claim_headline
+returns-in-Ok-clause-claim_headline g c = by_end g (goal.at.returns-in-Ok-clause-claim_headline g c).In-Ok told_claim_headline
+
+pub returns-in-Ok-clause-claims : goal.returns-in-Ok-clause-claims
+returns-in-Ok-clause-claims g c = by_end g (goal.at.returns-in-Ok-clause-claims g c).In-Ok told_claims
 
 pub returns-in-Ok-clause-seals : goal.returns-in-Ok-clause-seals
 returns-in-Ok-clause-seals g c = by_end g (goal.at.returns-in-Ok-clause-seals g c).In-Ok told_seal

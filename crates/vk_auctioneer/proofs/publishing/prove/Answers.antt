@@ -3,6 +3,7 @@ use Rattle.vk_house.specs.Answers.{as_reply, work_of}
 use Rattle.vk_house.specs.Commands.{Prove}
 use Rattle.vk_auctioneer.specs.Effects.{board_file}
 use Rattle.vk_auctioneer.proofs.Asking.{asked_acts, calls_keep}
+use Rattle.vk_auctioneer.proofs.Leaving.{board_left}
 use Rattle.vk_auctioneer.proofs.publishing.prove.Goals as goal
 
 pub returns-clause-acts : goal.returns-clause-acts
@@ -13,3 +14,8 @@ returns-clause-acts g c =
 pub returns-clause-once : goal.returns-clause-once
 returns-clause-once g c =
     calls_keep (Prove c.args.id.now c.args.seed.now) (as_reply work_of c.prove-answer.result) _ _ (search rules)
+
+pub returns-clause-files : goal.returns-clause-files
+returns-clause-files g c =
+    board_left c.args.id.now c.args.seed.now c.args.board.now c.prove-answer.result c.proved-said.result (g.S.Shelf.held c.args.shelf.now) (g.S.Shelf.held c.proved-said.new.shelf)
+    (c.proved-said.ensures.said c.args.id.now c.args.seed.now) c.proved-said.ensures.written c.prove-answer.ensures.id c.prove-answer.ensures.seed c.proved-said.ensures.proved

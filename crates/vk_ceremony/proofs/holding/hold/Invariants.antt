@@ -2,6 +2,7 @@ use Rattle.std.proofs.Common.{◌≡◌, ◌-◌, ◌^◌, false, IfSome}
 use Rattle.vk_io.specs.Files.{Told}
 use Rattle.vk_house.specs.Once.{KeepsAnswers}
 use Rattle.vk_effect.specs.Effects.{outside, stores}
+use Rattle.vk_ceremony.specs.Leaving.{Continues}
 use Rattle.vk_ceremony.specs.Turns.{left_of}
 use Rattle.vk_ceremony.proofs.Leading.{Leads}
 use Rattle.vk_ceremony.proofs.holding.hold.Given as goal
@@ -13,6 +14,7 @@ invariant-lines g l = record {
       (λ whole. Leads whole (outside (stores (g.S.Shelf.held l.fn.shelf) (g.K.Keeper.ledger l.fn.keeper)) (g.W.Sink.taken l.fn.out))
       (left_of l.fn.script l.refused l.lines (stores (g.S.Shelf.held l.shelf) (g.K.Keeper.ledger l.keeper)))
       (outside (stores (g.S.Shelf.held l.shelf) (g.K.Keeper.ledger l.keeper)) (g.W.Sink.taken l.out)));
+  files : Told (Continues l.fn.script false l.fn.lines l.refused l.lines) (g.S.Shelf.held l.fn.shelf) (g.S.Shelf.held l.shelf);
   named : l.lines.name ≡ l.fn.script;
   once : Told KeepsAnswers (g.K.Keeper.ledger l.fn.keeper) (g.K.Keeper.ledger l.keeper);
   shelf : g.S.Shelf.faults l.shelf ≡ g.S.Shelf.faults l.fn.shelf;
