@@ -1,1 +1,3 @@
 pub mod AtOnce
+pub mod Lists
+pub mod Shapes

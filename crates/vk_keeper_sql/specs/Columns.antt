@@ -1,5 +1,5 @@
 -- An auction as rows: one of the table `auction`, and one of the table `seal` for each seal.
-use Rattle.std.specs.Prelude.{◌≡◌, ◌==◌, if◌then◌else◌, ℕ, pos, List, [], ◌∷◌, Option, Some, None}
+use Rattle.std.specs.Prelude.{◌≡◌, ◌==◌, if◌then◌else◌, ℕ, ◌+◌, pos, List, [], ◌∷◌, map, Option, Some, None, option_map}
 use Rattle.sqlite.specs.Order.{Row}
 use Rattle.sqlite.specs.declared.types.Value.{Value}
 use Rattle.sqlite.specs.declared.types.Value.TheVariants.{Int, Text, Blob}
@@ -11,6 +11,8 @@ use Rattle.vk_keeper.specs.declared.auction.Phase.TheVariants.{Taking, Proved, A
 use Rattle.vk_keeper.specs.declared.auction.SealRow.{SealRow}
 use Rattle.vk_keeper.specs.declared.auction.Auction.{Auction}
 use Rattle.vk_keeper.specs.Auctions.{seed_of, challenge_of}
+use Rattle.vk_keeper_sql.specs.declared.texts.SealTexts.{SealTexts}
+use Rattle.vk_keeper_sql.specs.declared.texts.Texts.{Texts}
 pub use Rattle.sqlite.specs.Order.{column}
 pub use Rattle.sqlite.specs.Values.{or_null}
 
@@ -30,18 +32,30 @@ phase_of number (Some seed) (Some challenge) = if number == 2 then Some (Answere
 abbrev pub bits_value : Challenge → Value
 bits_value challenge = Text (bits_text challenge.bits)
 
+-- the characters of the challenge that was answered
+abbrev pub bits_in : Phase → Option (List ℕ)
+bits_in phase = option_map (λ challenge. bits_text challenge.bits) (challenge_of phase)
+
 -- the row of an auction; the seed and the bits are NULL where the phase has none
 abbrev pub auction_row : Auction → Row
 auction_row auction =
     Blob auction.id ∷ Int (pos auction.width) ∷ Int (pos auction.lanes) ∷ Int (pos (phase_number auction.phase))
-    ∷ or_null Blob (seed_of auction.phase) ∷ or_null bits_value (challenge_of auction.phase) ∷ []
+    ∷ or_null Blob (seed_of auction.phase) ∷ or_null Text (bits_in auction.phase) ∷ []
 
--- the row of a seal, whose texts are those of its files
-abbrev pub seal_row : List ℕ → ℕ → SealRow → Row
-seal_row id position row =
-    Blob id ∷ Int (pos position) ∷ Int (pos row.seal.seat) ∷ Text (seal_text row.seal) ∷ Text (secret_text row.secret) ∷ []
+-- the row of its terms
+abbrev pub terms_row : Auction → Row
+terms_row auction = Blob auction.id ∷ Int (pos auction.version) ∷ Int (pos auction.reserve) ∷ []
 
--- a row that was read shows an auction, but for its id and its seals
+-- what stands in the row of a seal beside the id and the position: the seat, and the texts of its files
+abbrev pub seal_texts : SealRow → SealTexts
+seal_texts row = record { seat = row.seal.seat; seal = seal_text row.seal; secret = secret_text row.secret }
+
+-- the row of the seal with these texts
+abbrev pub seal_row : List ℕ → ℕ → SealTexts → Row
+seal_row id position texts =
+    Blob id ∷ Int (pos position) ∷ Int (pos texts.seat) ∷ Text texts.seal ∷ Text texts.secret ∷ []
+
+-- a row that was read shows an auction, but for its id, its terms and its seals
 pub record ShowsAuction (row : Row) (auction : Auction) : Type 0 where
   pub width : column row 0 ≡ Int (pos auction.width)
   pub lanes : column row 1 ≡ Int (pos auction.lanes)
@@ -49,9 +63,32 @@ pub record ShowsAuction (row : Row) (auction : Auction) : Type 0 where
   pub seed : column row 3 ≡ or_null Blob (seed_of auction.phase)
   pub bits : column row 4 ≡ or_null bits_value (challenge_of auction.phase)
 
--- a row that was read shows the seal at a position, but for the auction's id
-pub record ShowsSeal (row : Row) (place : ℕ) (kept : SealRow) : Type 0 where
+-- a row that was read shows the terms of an auction
+pub record ShowsTerms (row : Row) (auction : Auction) : Type 0 where
+  pub version : column row 0 ≡ Int (pos auction.version)
+  pub reserve : column row 1 ≡ Int (pos auction.reserve)
+
+-- a row that was read shows the seal with these texts at a position, but for the auction's id
+pub record ShowsSeal (row : Row) (place : ℕ) (texts : SealTexts) : Type 0 where
   pub position : column row 0 ≡ Int (pos place)
-  pub seat : column row 1 ≡ Int (pos kept.seal.seat)
-  pub seal : column row 2 ≡ Text (seal_text kept.seal)
-  pub secret : column row 3 ≡ Text (secret_text kept.secret)
+  pub seat : column row 1 ≡ Int (pos texts.seat)
+  pub seal : column row 2 ≡ Text texts.seal
+  pub secret : column row 3 ≡ Text texts.secret
+
+-- rows that were read show these seals, one each, at the positions behind so many
+abbrev pub ShowSeals : ℕ → List Row → List SealTexts → Type 0
+ShowSeals before [] [] = Unit {0}
+ShowSeals before [] (seal ∷ seals) = ⊥
+ShowSeals before (row ∷ rows) [] = ⊥
+ShowSeals before (row ∷ rows) (seal ∷ seals) = ShowsSeal row (before + 1) seal × ShowSeals (before + 1) rows seals
+
+-- the row of an auction, that of its terms and those of its seals show all of it but for its id: its seals
+-- are those of the rows from position 1 on, one by one and equally many
+pub record ShowsWhole (row terms_row : Row) (rows : List Row) (auction : Auction) : Type 0 where
+  pub head : ShowsAuction row auction
+  pub terms : ShowsTerms terms_row auction
+  pub seals : ShowSeals 0 rows (map seal_texts auction.seals)
+
+-- what stands in the rows of an auction beside what it has itself
+abbrev pub texts_of : Auction → Texts
+texts_of auction = record { bits = bits_in auction.phase; seals = map seal_texts auction.seals }

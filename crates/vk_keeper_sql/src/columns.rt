@@ -22,6 +22,22 @@ pub fn number_at(row: &Row, at: usize) -> Result<u32, OutsideErr>
     Ok(number)
 }
 
+/// A whole number below 2^64.
+pub fn amount_at(row: &Row, at: usize) -> Result<u64, OutsideErr>
+    ensures { IfOk result (λ amount. column row.now at ≡ Int (pos amount)) }
+{
+    let amount = row.get(at).map_err(refused_statement)?;
+    Ok(amount)
+}
+
+/// A whole number.
+pub fn count_at(row: &Row, at: usize) -> Result<i64, OutsideErr>
+    ensures { IfOk result (λ count. column row.now at ≡ Int count) }
+{
+    let count = row.get(at).map_err(refused_statement)?;
+    Ok(count)
+}
+
 /// A text, as its bytes.
 pub fn text_at(row: &Row, at: usize) -> Result<&[u8], OutsideErr>
     ensures { IfOk result (λ text. column row.now at ≡ Text text.now) }

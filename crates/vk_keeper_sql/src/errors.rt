@@ -1,7 +1,7 @@
 //! What a refused statement, or a stored text that isn't one, is to the caller of a keeper.
 
 ghost use Rattle.std.specs.Prelude.{◌≡◌};
-ghost use Rattle.vk_keeper_sql.specs.Refusals.{open_refusal, statement_refusal, start_refusal, text_refusal};
+ghost use Rattle.vk_keeper_sql.specs.Refusals.{statement_refusal, start_refusal, text_refusal};
 
 use sqlite::{Error, ErrorCode};
 use vk_io::OutsideErr;
@@ -10,22 +10,27 @@ use vk_lines::{ReadErr, StartErr};
 /// Why no keeper was made over a store.
 #[derive(Clone, Copy, Debug, PartialEq, Eq)]
 pub enum OpenErr {
-    /// The table `about` doesn't hold one row with the number 1, but so many rows, and this number in
-    /// the first of them. 0 where there is none.
+    /// The table `about` doesn't hold one row with the number 1 or 2, but so many rows, and this number
+    /// in the first of them. 0 where there is none.
     Version { rows: u64, number: i64 },
-    /// A statement, or the reading of its row, was refused.
+    /// The tables aren't those of the number that `about` holds; or a statement, or the reading of its
+    /// row, was refused.
     Refused,
     /// Want of memory.
     NoMemory,
 }
 
-/// What a fault is as a store is opened.
-pub fn refused_open(refused: OutsideErr) -> OpenErr
-    ensures { result ≡ open_refusal refused }
-{
-    match refused {
-        OutsideErr::NoMemory => OpenErr::NoMemory,
-        OutsideErr::Failed => OpenErr::Refused,
+impl From<OutsideErr> for OpenErr {
+    ghost use Rattle.std.specs.Prelude.{◌≡◌};
+    ghost use Rattle.vk_keeper_sql.specs.Refusals.{open_refusal};
+
+    ghost from_gives = { λ refused e. e ≡ open_refusal refused };
+
+    fn from(refused: OutsideErr) -> OpenErr {
+        match refused {
+            OutsideErr::NoMemory => OpenErr::NoMemory,
+            OutsideErr::Failed => OpenErr::Refused,
+        }
     }
 }
 

@@ -2,11 +2,13 @@
 
 ghost use Rattle.std.specs.Prelude.{◌≡◌, false, IfOk, IfSome};
 ghost use Rattle.sqlite.specs.Held.{state};
+ghost use Rattle.sqlite.specs.State.{HasCleanDisk};
 ghost use Rattle.vk_keeper.specs.Auctions.{IsAuction};
+ghost use Rattle.vk_keeper_sql.specs.Reading.{Finds, Reads, ShowFound};
 ghost use Rattle.vk_keeper_sql.specs.Transactions.{CommitsNothing};
 
-use crate::queries::{AUCTION, SEALS, rows_under};
 use crate::rows::auction_from;
+use crate::statements::{AUCTION, SEALS, TERMS, rows_under};
 use sqlite::{Alter, Connection, Row};
 use std::alloc::Global;
 use vk_io::OutsideErr;
@@ -21,28 +23,38 @@ pub fn find<S: Alter>(
 ) -> Result<Option<Auction>, OutsideErr>
     ensures id { IfOk result (λ found. IfSome found (λ auction. auction.id ≡ id.now)) }
     ensures right { IfOk result (λ found. IfSome found IsAuction) }
+    ensures shown { HasCleanDisk (state S.Store connection.new) → IfOk result (Finds S.Store id.now connection.old) }
     ensures crash { CommitsNothing (state S.Store connection.old) (state S.Store connection.new) }
 {
     if !connection.is_autocommit() {
         return Err(OutsideErr::Failed);
     }
-    let (heads, seals) = rows_of(connection, id)?;
-    let found = found_in(alloc, id, heads.as_slice(), seals.as_slice())?;
+    let (heads, terms, seals) = rows_of(connection, id)?;
+    let found = found_in(
+        alloc,
+        id,
+        heads.as_slice(),
+        terms.as_slice(),
+        seals.as_slice(),
+    )?;
     Ok(found)
 }
 
-/// The rows of an auction and those of its seals.
+/// The rows of an auction, of its terms and of its seals.
 fn rows_of<S: Alter>(
     connection: &mut Connection<S>,
     id: &[u8; 16],
-) -> Result<(Vec<Row>, Vec<Row>), OutsideErr>
+) -> Result<(Vec<Row>, Vec<Row>, Vec<Row>), OutsideErr>
     requires { connection.old.in_transaction ≡ false }
+    ensures read { HasCleanDisk (state S.Store connection.new) → IfOk result (λ rows.
+        Reads S.Store id.now connection.old rows.0.items rows.1.items rows.2.items) }
     ensures crash { CommitsNothing (state S.Store connection.old) (state S.Store connection.new) }
 {
     let mut transaction = connection.transaction();
     let heads = rows_under(&mut transaction, AUCTION, id)?;
+    let terms = rows_under(&mut transaction, TERMS, id)?;
     let seals = rows_under(&mut transaction, SEALS, id)?;
-    Ok((heads, seals))
+    Ok((heads, terms, seals))
 }
 
 /// The auction that the rows are, or none where there are no rows.
@@ -50,15 +62,17 @@ fn found_in(
     alloc: Global,
     id: &[u8; 16],
     heads: &[Row],
+    terms: &[Row],
     seals: &[Row],
 ) -> Result<Option<Auction>, OutsideErr>
     ensures id { IfOk result (λ found. IfSome found (λ auction. auction.id ≡ id.now)) }
     ensures right { IfOk result (λ found. IfSome found IsAuction) }
+    ensures shown { IfOk result (ShowFound heads.now terms.now seals.now) }
 {
-    match heads {
-        [] if seals.is_empty() => Ok(None),
-        [head] => {
-            let auction = auction_from(alloc, id, head, seals)?;
+    match (heads, terms) {
+        ([], []) if seals.is_empty() => Ok(None),
+        ([head], [terms]) => {
+            let auction = auction_from(alloc, id, head, terms, seals)?;
             Ok(Some(auction))
         }
         _ => Err(OutsideErr::Failed),

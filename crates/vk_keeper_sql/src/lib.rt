@@ -6,10 +6,14 @@ mod columns;
 mod errors;
 mod finding;
 mod keeping;
-mod queries;
+mod layout;
+mod lifting;
 mod rows;
+mod seals;
 mod sql_keeper;
+mod statements;
 mod tables;
+mod texts;
 
 pub use errors::OpenErr;
 pub use sql_keeper::SqlKeeper;

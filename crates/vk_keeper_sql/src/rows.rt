@@ -1,20 +1,20 @@
 //! Rows as an auction, where they are one.
 
-ghost use Rattle.std.specs.Prelude.{◌≡◌, pos, IfOk, IfSome, OnOk};
+ghost use Rattle.std.specs.Prelude.{◌≡◌, ◌≤◌, pos, [], map, IsTrue, IfOk, IfSome, OnOk};
 ghost use Rattle.vk_commit.specs.Values.{AreBytes};
 ghost use Rattle.vk_reply.specs.Values.{IsChallenge};
 ghost use Rattle.vk_lines.specs.Lines.{rest_of};
 ghost use Rattle.vk_seal.specs.Texts as text;
 ghost use Rattle.vk_seal.specs.Values.{IsSeal, IsSecret};
-ghost use Rattle.vk_keeper.specs.Auctions.{IsAuction, seed_of, challenge_of};
+ghost use Rattle.vk_keeper.specs.Auctions.{IsAuction, IsTerms, seed_of, challenge_of};
 ghost use Rattle.vk_keeper.specs.Joining.{with_last};
 ghost use Rattle.vk_keeper.specs.declared.auction.Phase.TheVariants.{Taking};
 ghost use Rattle.sqlite.specs.Order.{column};
 ghost use Rattle.sqlite.specs.Values.{or_null};
 ghost use Rattle.sqlite.specs.declared.types.Value.TheVariants.{Int, Blob};
-ghost use Rattle.vk_keeper_sql.specs.Columns.{ShowsAuction, ShowsSeal, bits_value, phase_number, phase_of};
+ghost use Rattle.vk_keeper_sql.specs.Columns.{ShowSeals, ShowsSeal, ShowsTerms, ShowsWhole, bits_value, phase_number, phase_of, seal_texts};
 
-use crate::columns::{challenge_at, number_at, seed_at, text_at};
+use crate::columns::{amount_at, challenge_at, number_at, seed_at, text_at};
 use crate::errors::{refused_start, refused_text};
 use sqlite::Row;
 use std::alloc::Global;
@@ -28,31 +28,34 @@ use vk_seq::Seq;
 /// The name of a stored text on the shelf that it is read from.
 const STORED: &str = "stored";
 
-/// The auction of that id that the rows are: its own row, and those of its seals by their positions.
-/// Errs where they aren't one, and for want of memory.
+/// The auction of that id that the rows are: its own row, that of its terms, and those of its seals by
+/// their positions. Errs where they aren't one, and for want of memory.
 pub fn auction_from(
     alloc: Global,
     id: &[u8; 16],
     head: &Row,
+    terms: &Row,
     seals: &[Row],
 ) -> Result<Auction, OutsideErr>
     ensures id { IfOk result (λ auction. auction.id ≡ id.now) }
-    ensures shown { IfOk result (ShowsAuction head.now) }
+    ensures shown { IfOk result (ShowsWhole head.now terms.now seals.now) }
     ensures right { IfOk result IsAuction }
 {
-    let taking = taking_from(alloc, id, head)?;
+    let taking = taking_from(alloc, id, head, terms)?;
     let phase = phase_from(alloc, head)?;
     let joined = with_seals(alloc, taking, seals)?;
     let auction = in_phase(joined, phase).ok_or(OutsideErr::Failed)?;
     Ok(auction)
 }
 
-/// The auction of that id, width and number of lanes before it has a seal.
-fn taking_from(alloc: Global, id: &[u8; 16], head: &Row) -> Result<Auction, OutsideErr>
+/// The auction of that id, width and number of lanes, on its terms, before it has a seal.
+fn taking_from(alloc: Global, id: &[u8; 16], head: &Row, terms: &Row) -> Result<Auction, OutsideErr>
     ensures id { IfOk result (λ auction. auction.id ≡ id.now) }
     ensures width { IfOk result (λ auction. column head.now 0 ≡ Int (pos auction.width)) }
     ensures lanes { IfOk result (λ auction. column head.now 1 ≡ Int (pos auction.lanes)) }
+    ensures terms { IfOk result (ShowsTerms terms.now) }
     ensures taking { IfOk result (λ auction. auction.phase ≡ Taking) }
+    ensures none { IfOk result (λ auction. auction.seals ≡ []) }
     ensures right { IfOk result IsAuction }
 {
     let width = number_at(head, 0)?;
@@ -60,14 +63,33 @@ fn taking_from(alloc: Global, id: &[u8; 16], head: &Row) -> Result<Auction, Outs
     if !(1..=40).contains(&width) || !(1..=64).contains(&lanes) {
         return Err(OutsideErr::Failed);
     }
+    let version = number_at(terms, 0)?;
+    let reserve = amount_at(terms, 1)?;
+    if !are_terms(version, width, reserve) {
+        return Err(OutsideErr::Failed);
+    }
     let (phase, seals) = (Phase::Taking, Seq::new(alloc));
     Ok(Auction {
         id: *id,
+        version,
         width,
         lanes,
+        reserve,
         phase,
         seals,
     })
+}
+
+/// Whether an auction of that width may have these terms.
+fn are_terms(version: u32, width: u32, reserve: u64) -> bool
+    requires { width ≤ 40 }
+    ensures { IsTrue result → IsTerms version width reserve }
+{
+    match version {
+        1 => reserve == 0,
+        2 => reserve < 1 << width,
+        _ => false,
+    }
 }
 
 /// The phase, by its number and what is kept with it.
@@ -124,10 +146,12 @@ fn in_phase(mut auction: Auction, phase: Phase) -> Option<Auction>
     Some(auction)
 }
 
-/// The auction with the seals of these rows, which stand at the next positions. Errs where one may
+/// The auction with the seals of these rows, which stand at the positions from 1 on. Errs where one may
 /// not join.
 fn with_seals(alloc: Global, mut auction: Auction, rows: &[Row]) -> Result<Auction, OutsideErr>
     requires auction { IsAuction auction }
+    requires none { auction.seals ≡ [] }
+    ensures shown { IfOk result (λ joined. ShowSeals 0 rows.now (map seal_texts joined.seals)) }
     ensures same { IfOk result (λ joined. joined ≡ record auction { seals = joined.seals }) }
     ensures right { IfOk result IsAuction }
 {
@@ -156,7 +180,7 @@ fn join(auction: &mut Auction, row: SealRow) -> Result<(), OutsideErr>
 
 /// The seal of a row and its secret. Errs where the row isn't that of the position, or of another seat.
 fn seal_row_from(alloc: Global, row: &Row, position: usize) -> Result<SealRow, OutsideErr>
-    ensures shown { IfOk result (ShowsSeal row.now position) }
+    ensures shown { IfOk result (λ kept. ShowsSeal row.now position (seal_texts kept)) }
     ensures seal { IfOk result (λ row. IsSeal row.seal) }
     ensures secret { IfOk result (λ row. IsSecret row.secret) }
 {

@@ -1,11 +1,16 @@
 //! A keeper over an SQLite store.
 
-ghost use Rattle.std.specs.Prelude.{◌≡◌, IfOk, IfSome};
+ghost use Rattle.std.specs.Prelude.{◌≡◌, IfOk, IfSome, MatchResult};
 ghost use Rattle.sqlite.specs.Held.{state};
+ghost use Rattle.sqlite.specs.State.{HasCleanDisk};
 ghost use Rattle.vk_io.specs.Faults.{Causes};
 ghost use Rattle.vk_keeper.specs.Auctions.{IsAuction};
 ghost use Rattle.vk_keeper.specs.Turns.{AfterGet, AfterPut};
+ghost use Rattle.vk_keeper_sql.specs.Opening.{Prepares};
+ghost use Rattle.vk_keeper_sql.specs.Reading.{Finds};
 ghost use Rattle.vk_keeper_sql.specs.Transactions.{CommitsNothing, CommitsAtOnce};
+ghost use Rattle.vk_keeper_sql.specs.declared.errors.OpenErr.{OpenErr as Refusal};
+ghost use Rattle.vk_keeper_sql.specs.Writing.{Keeps};
 
 use crate::errors::OpenErr;
 use crate::finding::find;
@@ -28,11 +33,16 @@ pub struct SqlKeeper<S: Alter> {
 
 impl<S: Alter> SqlKeeper<S> {
     /// A keeper over this store, with no faults yet, which makes what it answers with this allocator.
-    /// A store without tables gets them. Refused, the connection comes back.
+    /// A store without tables gets them, and one of the version before gets what it lacks, in one
+    /// transaction. Refused, the connection comes back.
     pub fn over(
         alloc: Global,
         mut connection: Connection<S>,
-    ) -> Result<SqlKeeper<S>, (OpenErr, Connection<S>)> {
+    ) -> Result<SqlKeeper<S>, (OpenErr, Connection<S>)>
+        ensures crash { MatchResult result
+            (λ keeper. CommitsAtOnce {E = Refusal} (Prepares S.Store connection) (state S.Store connection) (state S.Store keeper.connection) (Ok tt))
+            (λ refused. CommitsAtOnce (Prepares S.Store connection) (state S.Store connection) (state S.Store refused.1) (Err refused.0)) }
+    {
         match prepare(&mut connection) {
             Ok(()) => Ok(SqlKeeper {
                 connection,
@@ -81,6 +91,7 @@ impl<S: Alter> Keeper for SqlKeeper<S> {
     fn get(&mut self, id: &[u8; 16]) -> Result<Option<Auction>, OutsideErr>
         ensures id { IfOk result (λ found. IfSome found (λ auction. auction.id ≡ id.now)) }
         ensures right { IfOk result (λ found. IfSome found IsAuction) }
+        ensures shown { HasCleanDisk (state S.Store self.new.connection) → IfOk result (Finds S.Store id.now self.old.connection) }
         ensures crash { CommitsNothing (state S.Store self.old.connection) (state S.Store self.new.connection) }
         ensures turn { AfterGet self.old.turns self.new.turns }
         ensures causes { Causes OutsideErr.Failed result self.old.faults self.new.faults }
@@ -92,7 +103,8 @@ impl<S: Alter> Keeper for SqlKeeper<S> {
 
     fn put(&mut self, auction: Auction) -> Result<(), OutsideErr>
         requires { IsAuction auction }
-        ensures crash { CommitsAtOnce (state S.Store self.old.connection) (state S.Store self.new.connection) result }
+        ensures crash { CommitsAtOnce (Keeps S.Store auction self.old.connection)
+            (state S.Store self.old.connection) (state S.Store self.new.connection) result }
         ensures turn { AfterPut self.old.turns self.new.turns }
         ensures causes { Causes OutsideErr.Failed result self.old.faults self.new.faults }
     {

@@ -1,16 +1,22 @@
-//! The tables of a store, and the number of their version.
+//! The tables of a store as it is opened, and the number of their version.
 
-ghost use Rattle.std.specs.Prelude.{◌≡◌};
+ghost use Rattle.std.specs.Prelude.{◌≡◌, pos, false, [], ◌∷◌, IfOk, OnOk};
+ghost use Rattle.sqlite.specs.Held.{state};
+ghost use Rattle.sqlite.specs.State.{HasCleanDisk};
+ghost use Rattle.sqlite.specs.declared.types.Value.TheVariants.{Int};
+ghost use Rattle.vk_keeper_sql.specs.Layouts.{HasLayout};
+ghost use Rattle.vk_keeper_sql.specs.Opening.{IsNumbered, MakesTables, Prepares, PreparesFrom, ShowNumber};
+ghost use Rattle.vk_keeper_sql.specs.Transactions.{CommitsNothing, CommitsAtOnce};
 ghost use Rattle.vk_keeper_sql.specs.Versions.{version_of};
 
-use crate::errors::{OpenErr, refused_open, refused_statement};
-use sqlite::{Alter, Connection, Transaction, params};
+use crate::columns::{amount_at, count_at};
+use crate::errors::{OpenErr, refused_statement};
+use crate::layout::{Layout, layout_of};
+use crate::lifting::lift;
+use crate::statements::{ask, run};
+use sqlite::types::ValueRef;
+use sqlite::{Alter, Connection, Row, Transaction};
 use vk_io::OutsideErr;
-
-/// The number of the version of these tables.
-const VERSION: i64 = 1;
-
-const COUNT_TABLES: &str = "SELECT count(*) FROM sqlite_schema WHERE type = 'table'";
 
 const MAKE_ABOUT: &str = "CREATE TABLE about (version INTEGER NOT NULL)";
 
@@ -20,83 +26,131 @@ const MAKE_AUCTIONS: &str =
 const MAKE_SEALS: &str =
     "CREATE TABLE seal (id BLOB NOT NULL, position INTEGER NOT NULL, seat INTEGER NOT NULL, seal TEXT NOT NULL, secret TEXT NOT NULL, PRIMARY KEY (id, position), UNIQUE (id, seat))";
 
-const SET_VERSION: &str = "INSERT INTO about (version) VALUES (?1)";
+pub const MAKE_TERMS: &str =
+    "CREATE TABLE terms (id BLOB PRIMARY KEY NOT NULL, version INTEGER NOT NULL, reserve INTEGER NOT NULL)";
 
-const COUNT_VERSIONS: &str = "SELECT count(*) FROM about";
+const FIRST_NUMBER: &str = "INSERT INTO about (version) VALUES (?1)";
 
-const FIRST_VERSION: &str = "SELECT version FROM about LIMIT 1";
+const NUMBER: &str = "SELECT (SELECT count(*) FROM about), version FROM about LIMIT 1";
 
-/// Makes the tables where the store has none, and errs where they are of another version.
-pub fn prepare<S: Alter>(connection: &mut Connection<S>) -> Result<(), OpenErr> {
-    let (rows, number) = version_in(connection).map_err(refused_open)?;
-    is_version(rows, number)
-}
+/// The number of the version of these tables.
+pub const VERSION: i64 = 2;
 
-/// How many rows the table `about` has, and the number in the first of them. The tables are made where
-/// the store has none, in one transaction.
-fn version_in<S: Alter>(connection: &mut Connection<S>) -> Result<(u64, i64), OutsideErr> {
-    if !connection.is_autocommit() {
-        return Err(OutsideErr::Failed);
-    }
-    let mut transaction = connection.transaction();
-    let is_new = number_of(&mut transaction, COUNT_TABLES)? == 0;
-    if is_new {
-        make_tables(&mut transaction)?;
-    }
-    let version = version_of(&mut transaction)?;
-    if is_new {
-        transaction.commit().map_err(refused_statement)?;
-    }
-    Ok(version)
-}
-
-/// The number in the first column of a query's first row.
-fn number_of<S: Alter>(
-    transaction: &mut Transaction<'_, S>,
-    query: &str,
-) -> Result<i64, OutsideErr> {
-    let row = transaction
-        .query_row(query, &[])
-        .map_err(refused_statement)?;
-    let number = row.get(0).map_err(refused_statement)?;
-    Ok(number)
-}
-
-/// How many rows the table `about` has, and the number in the first of them. 0 where there is none.
-fn version_of<S: Alter>(transaction: &mut Transaction<'_, S>) -> Result<(u64, i64), OutsideErr> {
-    let rows = number_of(transaction, COUNT_VERSIONS)?.unsigned_abs();
-    if rows == 0 {
-        return Ok((0, 0));
-    }
-    let number = number_of(transaction, FIRST_VERSION)?;
-    Ok((rows, number))
-}
-
-/// Errs unless there is one row, with the number of this version.
-fn is_version(rows: u64, number: i64) -> Result<(), OpenErr>
-    ensures { result ≡ version_of rows number }
+/// Makes the tables where the store has none, and gives those of the number 1 what they lack, in one
+/// transaction. Errs where they are of another version, or aren't those of their number.
+#[tactic(auto, using(crate::proofs::AtOnce::untouched_at_once))]
+pub fn prepare<S: Alter>(connection: &mut Connection<S>) -> Result<(), OpenErr>
+    ensures crash { CommitsAtOnce (Prepares S.Store connection.old)
+        (state S.Store connection.old) (state S.Store connection.new) result }
 {
-    if rows == 1 && number == VERSION {
-        return Ok(());
+    if !connection.is_autocommit() {
+        return Err(OpenErr::Refused);
     }
-    Err(OpenErr::Version { rows, number })
-}
-
-/// Makes the three tables, and says their version.
-fn make_tables<S: Alter>(transaction: &mut Transaction<'_, S>) -> Result<(), OutsideErr> {
-    run(transaction, MAKE_ABOUT)?;
-    run(transaction, MAKE_AUCTIONS)?;
-    run(transaction, MAKE_SEALS)?;
-    transaction
-        .execute(SET_VERSION, params![VERSION])
-        .map_err(refused_statement)?;
+    let layout = layout_of(connection.schema());
+    prepare_at_once(connection, layout)?;
     Ok(())
 }
 
-/// Runs a statement without parameters.
-fn run<S: Alter>(transaction: &mut Transaction<'_, S>, statement: &str) -> Result<(), OutsideErr> {
-    transaction
-        .execute(statement, &[])
-        .map_err(refused_statement)?;
+/// The same of a store with these tables.
+fn prepare_at_once<S: Alter>(connection: &mut Connection<S>, layout: Layout) -> Result<(), OpenErr>
+    requires alone { connection.old.in_transaction ≡ false }
+    requires layout { HasLayout layout connection.old.schema }
+    ensures crash { CommitsAtOnce (Prepares S.Store connection.old)
+        (state S.Store connection.old) (state S.Store connection.new) result }
+{
+    let mut transaction = connection.transaction();
+    prepare_within(&mut transaction, layout)?;
+    match transaction.commit() {
+        Ok(()) => Ok(()),
+        Err(error) => Err(OpenErr::from(refused_statement(error))),
+    }
+}
+
+/// The same, within a transaction.
+fn prepare_within<S: Alter>(
+    transaction: &mut Transaction<'_, S>,
+    layout: Layout,
+) -> Result<(), OpenErr>
+    ensures same_reference { transaction.new.conn.ghost_name ≡ transaction.old.conn.ghost_name }
+    ensures prepared { HasCleanDisk (state S.Store transaction.new.conn.now) → OnOk result
+        (PreparesFrom S.Store layout transaction.old.conn.now transaction.new.conn.now) }
+    ensures crash { CommitsNothing (state S.Store transaction.old.conn.now) (state S.Store transaction.new.conn.now) }
+{
+    match layout {
+        Layout::Blank => make_tables(transaction)?,
+        Layout::First => {
+            check_number(transaction, 1)?;
+            lift(transaction)?;
+        }
+        Layout::Second => check_number(transaction, 2)?,
+        Layout::Other => {
+            let _number = number_in(transaction)?;
+            return Err(OpenErr::Refused);
+        }
+    }
+    Ok(())
+}
+
+/// Errs unless the tables have that number.
+fn check_number<S: Alter>(transaction: &mut Transaction<'_, S>, number: u32) -> Result<(), OpenErr>
+    ensures same_reference { transaction.new.conn.ghost_name ≡ transaction.old.conn.ghost_name }
+    ensures numbered { HasCleanDisk (state S.Store transaction.new.conn.now) → OnOk result
+        (IsNumbered S.Store number transaction.old.conn.now transaction.new.conn.now) }
+    ensures crash { CommitsNothing (state S.Store transaction.old.conn.now) (state S.Store transaction.new.conn.now) }
+{
+    if number_in(transaction)? != number {
+        return Err(OpenErr::Refused);
+    }
+    Ok(())
+}
+
+/// The number of the tables. Errs where it is of another version.
+fn number_in<S: Alter>(transaction: &mut Transaction<'_, S>) -> Result<u32, OpenErr>
+    ensures same_reference { transaction.new.conn.ghost_name ≡ transaction.old.conn.ghost_name }
+    ensures numbered { HasCleanDisk (state S.Store transaction.new.conn.now) → IfOk result (λ number.
+        IsNumbered S.Store number transaction.old.conn.now transaction.new.conn.now) }
+    ensures crash { CommitsNothing (state S.Store transaction.old.conn.now) (state S.Store transaction.new.conn.now) }
+{
+    let rows = ask(transaction, NUMBER, &[])?;
+    let number = number_from(rows.as_slice())?;
+    Ok(number)
+}
+
+/// The number that the table `about` shows. Errs unless it has one row, with the number 1 or 2.
+fn number_from(rows: &[Row]) -> Result<u32, OpenErr>
+    ensures { IfOk result (ShowNumber rows.now) }
+{
+    let Some(row) = rows.first() else {
+        return Err(OpenErr::Version { rows: 0, number: 0 });
+    };
+    let count = amount_at(row, 0)?;
+    let number = count_at(row, 1)?;
+    let number = version_of(count, number)?;
+    Ok(number)
+}
+
+/// The number, where it is 1 or 2 and stands in one row.
+fn version_of(rows: u64, number: i64) -> Result<u32, OpenErr>
+    ensures { result ≡ version_of rows number }
+{
+    match (rows, number) {
+        (1, 1) => Ok(1),
+        (1, 2) => Ok(2),
+        _ => Err(OpenErr::Version { rows, number }),
+    }
+}
+
+/// Makes the four tables, and says their version.
+fn make_tables<S: Alter>(transaction: &mut Transaction<'_, S>) -> Result<(), OutsideErr>
+    ensures same_reference { transaction.new.conn.ghost_name ≡ transaction.old.conn.ghost_name }
+    ensures made { HasCleanDisk (state S.Store transaction.new.conn.now) → OnOk result
+        (MakesTables S.Store transaction.old.conn.now transaction.new.conn.now) }
+    ensures crash { CommitsNothing (state S.Store transaction.old.conn.now) (state S.Store transaction.new.conn.now) }
+{
+    run(transaction, MAKE_ABOUT, &[])?;
+    run(transaction, MAKE_AUCTIONS, &[])?;
+    run(transaction, MAKE_SEALS, &[])?;
+    run(transaction, MAKE_TERMS, &[])?;
+    run(transaction, FIRST_NUMBER, &[ValueRef::Int(VERSION)])?;
     Ok(())
 }

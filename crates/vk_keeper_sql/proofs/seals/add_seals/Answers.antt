@@ -1,0 +1,20 @@
+use Rattle.std.proofs.Common.{◌∙◌, arith}
+use Rattle.sqlite.specs.Held.{state}
+use Rattle.sqlite.specs.State.{HasCleanDisk}
+use Rattle.sqlite.proofs.StateLemmas.{survives_then}
+use Rattle.vk_keeper_sql.proofs.Lists.{add_next}
+use Rattle.vk_keeper_sql.proofs.seals.add_seals.Goals as goal
+
+pub loop-i-preserved : goal.loop-i-preserved
+loop-i-preserved g c =
+    let first = c.args.transaction.now.conn.now in
+    let mid = c.loop-i.transaction.conn.now in
+    let last = c.add_seal.new.transaction.conn.now in
+    record {
+      same_reference = c.add_seal.ensures.same_reference ∙ c.loop-i.invariant.same_reference;
+      added = λ clean.
+          let was : HasCleanDisk (state g.S.Store mid) = omega (arith, c.add_seal.ensures.crash.clean) in
+          add_next g.S.Store c.args.id.now c.args.before c.args.seals.now c.loop-i.i c.index-seals-i.result first mid last c.loop-i-test.true c.index-seals-i.is
+          (c.loop-i.invariant.added was) (c.in_ok-add_seal.ensures.ran clean);
+      crash = survives_then (state g.S.Store first) (state g.S.Store mid) (state g.S.Store last) _ _ _ (λ _ db no. no) (λ _ db no. no) c.loop-i.invariant.crash c.add_seal.ensures.crash;
+    }

@@ -1,0 +1,7 @@
+use Rattle.std.proofs.Common.{take}
+use Rattle.vk_keeper_sql.specs.Columns.{ShowSeals}
+use Rattle.vk_keeper_sql.proofs.seals.count_standing.Given as goal
+
+-- the rows so far are those of the seals
+abbrev pub invariant-loop-i : goal.invariant-loop-i
+invariant-loop-i l = ShowSeals 0 (take l.i l.held) (take l.i l.seals)

@@ -1,0 +1,34 @@
+-- What a keeper answers is what the rows of its store show.
+use Rattle.std.specs.Prelude.{◌≡◌, ℕ, true, List, [], ◌∷◌, Option, Some, None}
+use Rattle.sqlite.specs.Store.{Ghosts}
+use Rattle.sqlite.specs.Order.{Row}
+use Rattle.sqlite.specs.Held.{Held}
+use Rattle.sqlite.specs.declared.types.Value.TheVariants.{Blob}
+use Rattle.vk_keeper.specs.declared.auction.Auction.{Auction}
+use Rattle.vk_keeper_sql.specs.Columns.{ShowsWhole}
+use Rattle.vk_keeper_sql.specs.Statements.{auction_query, terms_query, seals_query}
+use Rattle.vk_keeper_sql.specs.Transactions.{Answers}
+
+-- one row shows an auction with one of its terms and those of its seals, and no rows show that there is none
+abbrev pub ShowFound : List Row → List Row → List Row → Option Auction → Type 0
+ShowFound heads terms rows None = (heads ≡ []) × (terms ≡ []) × (rows ≡ [])
+ShowFound heads terms rows (Some auction) =
+    (head : Row) × (term : Row) × (heads ≡ head ∷ []) × (terms ≡ term ∷ []) × ShowsWhole head term rows auction
+
+module _ {S : Type 0} (g : Ghosts S) (id : List ℕ) where
+  -- the rows that stand under an id, which are asked for in one transaction
+  pub record Reads (old : Held S) (heads terms rows : List Row) : Type 0 where
+    pub one : Held S
+    pub two : Held S
+    pub last : Held S
+    pub head : Answers g auction_query (Blob id ∷ []) (record old { in_transaction = true }) one heads
+    pub term : Answers g terms_query (Blob id ∷ []) one two terms
+    pub seals : Answers g seals_query (Blob id ∷ []) two last rows
+
+  -- what was found under an id is what the rows of the store show
+  pub record Finds (old : Held S) (found : Option Auction) : Type 0 where
+    pub heads : List Row
+    pub terms : List Row
+    pub rows : List Row
+    pub read : Reads old heads terms rows
+    pub shown : ShowFound heads terms rows found

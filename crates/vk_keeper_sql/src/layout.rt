@@ -1,0 +1,186 @@
+//! Whether the tables of a store are a keeper's, by their names, columns, types and keys.
+
+ghost use Rattle.std.specs.Prelude.{◌≡◌, None, false, [], ◌∷◌, map, Contains, IsTrue, IfSome};
+ghost use Rattle.vk_keeper_sql.specs.Layouts.{AreFirst, Has, HasLayout, HasShape, about_shape, auction_shape, seal_shape, shape_of, terms_shape};
+
+use sqlite_schema::schema::{Column, Kind, Schema, Table};
+
+/// Which tables a store has.
+#[derive(Clone, Copy)]
+pub enum Layout {
+    /// None at all.
+    Blank,
+    /// Those of the number 1.
+    First,
+    /// Those of the number 2, which has terms beside.
+    Second,
+    Other,
+}
+
+/// Which tables are there. Indexes and views of others count as other tables.
+pub fn layout_of(schema: &Schema) -> Layout
+    ensures { HasLayout result schema.now }
+{
+    let tables = schema.tables.as_slice();
+    if !schema.views.is_empty() {
+        return Layout::Other;
+    }
+    match (tables.len(), schema.indexes.len()) {
+        (0, _) => Layout::Blank,
+        (3, 3) if are_first(tables) => Layout::First,
+        (4, 4) if are_first(tables) && has_terms(tables) => Layout::Second,
+        _ => Layout::Other,
+    }
+}
+
+/// Whether the tables of the number 1 are there.
+fn are_first(tables: &[Table]) -> bool
+    ensures { IsTrue result → AreFirst tables.now }
+{
+    match (
+        named(tables, "about"),
+        named(tables, "auction"),
+        named(tables, "seal"),
+    ) {
+        (Some(about), Some(auction), Some(seal)) => {
+            is_about(about) && is_auction(auction) && is_seal(seal)
+        }
+        _ => false,
+    }
+}
+
+/// Whether the terms of auctions are there.
+fn has_terms(tables: &[Table]) -> bool
+    ensures { IsTrue result → Has terms_shape tables.now }
+{
+    match named(tables, "terms") {
+        Some(terms) => is_terms(terms),
+        None => false,
+    }
+}
+
+/// The first table of that name.
+fn named<'a>(tables: &'a [Table], name: &str) -> Option<&'a Table>
+    ensures { IfSome result (λ table. Contains tables.now table.now) }
+{
+    for table in tables {
+        if table.name.as_slice() == name.as_bytes() {
+            return Some(table);
+        }
+    }
+    None
+}
+
+fn is_about(table: &Table) -> bool
+    ensures { IsTrue result → HasShape about_shape table.now }
+{
+    let columns = [("version", Kind::Integer, true)];
+    is_plain(table, "about")
+        && are_columns(table.columns.as_slice(), &columns)
+        && table.uniques.is_empty()
+}
+
+fn is_auction(table: &Table) -> bool
+    ensures { IsTrue result → HasShape auction_shape table.now }
+{
+    let columns = [
+        ("id", Kind::Any, true),
+        ("width", Kind::Integer, true),
+        ("lanes", Kind::Integer, true),
+        ("phase", Kind::Integer, true),
+        ("seed", Kind::Any, false),
+        ("bits", Kind::Text, false),
+    ];
+    is_plain(table, "auction") && are_columns(table.columns.as_slice(), &columns) && is_by_id(table)
+}
+
+fn is_seal(table: &Table) -> bool
+    ensures { IsTrue result → HasShape seal_shape table.now }
+{
+    let columns = [
+        ("id", Kind::Any, true),
+        ("position", Kind::Integer, true),
+        ("seat", Kind::Integer, true),
+        ("seal", Kind::Text, true),
+        ("secret", Kind::Text, true),
+    ];
+    is_plain(table, "seal") && are_columns(table.columns.as_slice(), &columns) && is_by_place(table)
+}
+
+fn is_terms(table: &Table) -> bool
+    ensures { IsTrue result → HasShape terms_shape table.now }
+{
+    let columns = [
+        ("id", Kind::Any, true),
+        ("version", Kind::Integer, true),
+        ("reserve", Kind::Integer, true),
+    ];
+    is_plain(table, "terms") && are_columns(table.columns.as_slice(), &columns) && is_by_id(table)
+}
+
+/// Whether the table has that name, and no rule but its columns and keys.
+fn is_plain(table: &Table, name: &str) -> bool
+    ensures name { IsTrue result → table.now.name ≡ name.now }
+    ensures rowid { IsTrue result → table.now.key ≡ None }
+    ensures checks { IsTrue result → table.now.checks ≡ [] }
+    ensures references { IsTrue result → table.now.references ≡ [] }
+{
+    table.name.as_slice() == name.as_bytes()
+        && table.key.is_none()
+        && table.checks.roots.is_empty()
+        && table.references.is_empty()
+}
+
+/// Whether the one key is the first column.
+fn is_by_id(table: &Table) -> bool
+    ensures { IsTrue result → table.now.uniques ≡ (1 ∷ []) ∷ [] }
+{
+    match table.uniques.as_slice() {
+        [id] => are(id.as_slice(), &[1]),
+        _ => false,
+    }
+}
+
+/// Whether the keys are the first column with the second, and with the third.
+fn is_by_place(table: &Table) -> bool
+    ensures { IsTrue result → table.now.uniques ≡ (1 ∷ 2 ∷ []) ∷ (1 ∷ 3 ∷ []) ∷ [] }
+{
+    match table.uniques.as_slice() {
+        [position, seat] => are(position.as_slice(), &[1, 2]) && are(seat.as_slice(), &[1, 3]),
+        _ => false,
+    }
+}
+
+/// Whether these are the places.
+fn are(places: &[usize], wanted: &[usize]) -> bool
+    ensures { IsTrue result → places.now ≡ wanted.now }
+{
+    places == wanted
+}
+
+/// Whether these are the columns, each by its name and type, and whether it takes no NULL.
+fn are_columns(columns: &[Column], wanted: &[(&str, Kind, bool)]) -> bool
+    ensures { IsTrue result → map shape_of columns.now
+        ≡ map (λ w. record { name = w.0.now; kind = w.1; not_null = w.2; is_strict = false }) wanted.now }
+{
+    if columns.len() != wanted.len() {
+        return false;
+    }
+    for (i, column) in columns.iter().enumerate() {
+        if !is_column(column, &wanted[i]) {
+            return false;
+        }
+    }
+    true
+}
+
+fn is_column(column: &Column, wanted: &(&str, Kind, bool)) -> bool
+    ensures { IsTrue result → shape_of column.now
+        ≡ record { name = wanted.now.0.now; kind = wanted.now.1; not_null = wanted.now.2; is_strict = false } }
+{
+    let (name, kind, not_null) = wanted;
+    column.name.as_slice() == name.as_bytes()
+        && column.kind == *kind
+        && column.not_null == *not_null
+        && !column.is_strict
+}

@@ -1,0 +1,73 @@
+//! Gives auctions that were kept before auctions had terms those of version 1.
+
+ghost use Rattle.std.specs.Prelude.{◌≡◌, IfOk, OnOk};
+ghost use Rattle.sqlite.specs.Held.{state};
+ghost use Rattle.sqlite.specs.State.{HasCleanDisk};
+ghost use Rattle.sqlite.specs.Value.{owned};
+ghost use Rattle.sqlite.specs.Values.{bound};
+ghost use Rattle.vk_keeper_sql.specs.Columns.{column};
+ghost use Rattle.vk_keeper_sql.specs.Opening.{AddsTerms, LiftsTables, first_terms};
+ghost use Rattle.vk_keeper_sql.specs.Statements.{keep_terms};
+ghost use Rattle.vk_keeper_sql.specs.Transactions.{CommitsNothing, Ran};
+
+use crate::errors::refused_statement;
+use crate::statements::{KEEP_TERMS, ask, run};
+use crate::tables::{MAKE_TERMS, VERSION};
+use sqlite::types::ValueRef;
+use sqlite::{Alter, Row, Transaction};
+use vk_io::OutsideErr;
+
+const IDS: &str = "SELECT id FROM auction";
+
+const NEXT_NUMBER: &str = "UPDATE about SET version = ?1";
+
+/// Makes the table of terms, puts those of version 1 with no reserve for each auction, and says the
+/// version of the tables.
+pub fn lift<S: Alter>(transaction: &mut Transaction<'_, S>) -> Result<(), OutsideErr>
+    ensures same_reference { transaction.new.conn.ghost_name ≡ transaction.old.conn.ghost_name }
+    ensures lifted { HasCleanDisk (state S.Store transaction.new.conn.now) → OnOk result
+        (LiftsTables S.Store transaction.old.conn.now transaction.new.conn.now) }
+    ensures crash { CommitsNothing (state S.Store transaction.old.conn.now) (state S.Store transaction.new.conn.now) }
+{
+    run(transaction, MAKE_TERMS, &[])?;
+    let ids = ask(transaction, IDS, &[])?;
+    add_terms(transaction, ids.as_slice())?;
+    run(transaction, NEXT_NUMBER, &[ValueRef::Int(VERSION)])?;
+    Ok(())
+}
+
+/// Puts the terms for each of these ids.
+fn add_terms<S: Alter>(transaction: &mut Transaction<'_, S>, ids: &[Row]) -> Result<(), OutsideErr>
+    ensures same_reference { transaction.new.conn.ghost_name ≡ transaction.old.conn.ghost_name }
+    ensures added { HasCleanDisk (state S.Store transaction.new.conn.now) → OnOk result
+        (AddsTerms S.Store ids.now transaction.old.conn.now transaction.new.conn.now) }
+    ensures crash { CommitsNothing (state S.Store transaction.old.conn.now) (state S.Store transaction.new.conn.now) }
+{
+    for row in ids {
+        add_first_terms(transaction, row)?;
+    }
+    Ok(())
+}
+
+/// Puts the terms for the id of this row.
+fn add_first_terms<S: Alter>(
+    transaction: &mut Transaction<'_, S>,
+    row: &Row,
+) -> Result<(), OutsideErr>
+    ensures same_reference { transaction.new.conn.ghost_name ≡ transaction.old.conn.ghost_name }
+    ensures ran { HasCleanDisk (state S.Store transaction.new.conn.now) → OnOk result
+        (Ran S.Store keep_terms (first_terms (column row.now 0)) transaction.old.conn.now transaction.new.conn.now) }
+    ensures crash { CommitsNothing (state S.Store transaction.old.conn.now) (state S.Store transaction.new.conn.now) }
+{
+    let id = row.get_ref(0).map_err(refused_statement)?;
+    let columns = first_columns(id);
+    run(transaction, KEEP_TERMS, &columns)?;
+    Ok(())
+}
+
+/// This id, whatever it is, with the version 1 and no reserve.
+fn first_columns(id: ValueRef<'_>) -> [ValueRef<'_>; 3]
+    ensures { bound result ≡ first_terms (owned id.entry) }
+{
+    [id, ValueRef::Int(1), ValueRef::Int(0)]
+}

@@ -1,0 +1,147 @@
+//! Keeps the seals of an auction in the store.
+
+ghost use Rattle.std.specs.Prelude.{◌≡◌, ◌+◌, ◌≤◌, pos, [], ◌∷◌, length, take, IsTrue, OnOk};
+ghost use Rattle.sqlite.specs.Held.{state};
+ghost use Rattle.sqlite.specs.State.{HasCleanDisk};
+ghost use Rattle.sqlite.specs.Values.{bound};
+ghost use Rattle.sqlite.specs.declared.types.Value.TheVariants.{Int, Blob};
+ghost use Rattle.vk_keeper_sql.specs.Columns.{ShowSeals, ShowsSeal, seal_row};
+ghost use Rattle.vk_keeper_sql.specs.Statements.{drop_seals, keep_seal};
+ghost use Rattle.vk_keeper_sql.specs.Transactions.{CommitsNothing, Ran};
+ghost use Rattle.vk_keeper_sql.specs.Writing.{AddsSeals, WritesSeals};
+
+use crate::columns::{number_at, text_at};
+use crate::statements::{SEALS, rows_under, run};
+use crate::texts::SealTexts;
+use sqlite::types::ValueRef;
+use sqlite::{Alter, Row, Transaction};
+use vk_io::OutsideErr;
+
+const DROP_SEALS: &str = "DELETE FROM seal WHERE id = ?1 AND position NOT BETWEEN 1 AND ?2";
+
+const KEEP_SEAL: &str =
+    "INSERT INTO seal (id, position, seat, seal, secret) VALUES (?1, ?2, ?3, ?4, ?5)";
+
+/// Writes the rows of the seals. Those that stand from the first position on as they are to be are
+/// left alone, and all others are written anew.
+pub fn write_seals<S: Alter>(
+    transaction: &mut Transaction<'_, S>,
+    id: &[u8; 16],
+    seals: &[SealTexts],
+) -> Result<(), OutsideErr>
+    requires { length seals.now ≤ 64 }
+    ensures same_reference { transaction.new.conn.ghost_name ≡ transaction.old.conn.ghost_name }
+    ensures wrote { HasCleanDisk (state S.Store transaction.new.conn.now) → OnOk result
+        (WritesSeals S.Store id.now seals.now transaction.old.conn.now transaction.new.conn.now) }
+    ensures crash { CommitsNothing (state S.Store transaction.old.conn.now) (state S.Store transaction.new.conn.now) }
+{
+    let held = rows_under(transaction, SEALS, id)?;
+    let standing = count_standing(held.as_slice(), seals);
+    clear_seals(transaction, id, standing as u32)?;
+    let (_, more) = seals.split_at(standing);
+    add_seals(transaction, id, standing as u32, more)?;
+    Ok(())
+}
+
+/// How many rows from the first on are those of the seals at the same places.
+fn count_standing(held: &[Row], seals: &[SealTexts]) -> usize
+    requires { length seals.now ≤ 64 }
+    ensures within { result ≤ length seals.now }
+    ensures stand { ShowSeals 0 (take result held.now) (take result seals.now) }
+{
+    for (i, seal) in seals.iter().enumerate() {
+        let stands = match held.get(i) {
+            Some(row) => is_row_of(row, i as u32 + 1, seal),
+            None => false,
+        };
+        if !stands {
+            return i;
+        }
+    }
+    seals.len()
+}
+
+/// Whether a row is that of the seal at this position.
+fn is_row_of(row: &Row, position: u32, seal: &SealTexts) -> bool
+    ensures { IsTrue result → ShowsSeal row.now position seal.now }
+{
+    number_at(row, 0) == Ok(position)
+        && number_at(row, 1) == Ok(u32::from(seal.seat))
+        && text_at(row, 2) == Ok(seal.seal.as_slice())
+        && text_at(row, 3) == Ok(seal.secret.as_slice())
+}
+
+/// Drops the rows of the seals but for so many from the first position on.
+fn clear_seals<S: Alter>(
+    transaction: &mut Transaction<'_, S>,
+    id: &[u8; 16],
+    standing: u32,
+) -> Result<(), OutsideErr>
+    ensures same_reference { transaction.new.conn.ghost_name ≡ transaction.old.conn.ghost_name }
+    ensures ran { HasCleanDisk (state S.Store transaction.new.conn.now) → OnOk result
+        (Ran S.Store drop_seals (Blob id.now ∷ Int (pos standing) ∷ []) transaction.old.conn.now transaction.new.conn.now) }
+    ensures crash { CommitsNothing (state S.Store transaction.old.conn.now) (state S.Store transaction.new.conn.now) }
+{
+    let columns = clear_columns(id, standing);
+    run(transaction, DROP_SEALS, &columns)?;
+    Ok(())
+}
+
+/// The id, and how many rows of seals are left alone.
+fn clear_columns(id: &[u8; 16], standing: u32) -> [ValueRef<'_>; 2]
+    ensures { bound result ≡ Blob id.now ∷ Int (pos standing) ∷ [] }
+{
+    [
+        ValueRef::Blob(id.as_slice()),
+        ValueRef::Int(i64::from(standing)),
+    ]
+}
+
+/// Writes the rows of these seals at the positions behind so many.
+fn add_seals<S: Alter>(
+    transaction: &mut Transaction<'_, S>,
+    id: &[u8; 16],
+    before: u32,
+    seals: &[SealTexts],
+) -> Result<(), OutsideErr>
+    requires { before + length seals.now ≤ 64 }
+    ensures same_reference { transaction.new.conn.ghost_name ≡ transaction.old.conn.ghost_name }
+    ensures added { HasCleanDisk (state S.Store transaction.new.conn.now) → OnOk result
+        (AddsSeals S.Store id.now before seals.now transaction.old.conn.now transaction.new.conn.now) }
+    ensures crash { CommitsNothing (state S.Store transaction.old.conn.now) (state S.Store transaction.new.conn.now) }
+{
+    for (i, seal) in seals.iter().enumerate() {
+        add_seal(transaction, id, before + i as u32 + 1, seal)?;
+    }
+    Ok(())
+}
+
+/// Writes the row of one seal.
+fn add_seal<S: Alter>(
+    transaction: &mut Transaction<'_, S>,
+    id: &[u8; 16],
+    position: u32,
+    seal: &SealTexts,
+) -> Result<(), OutsideErr>
+    ensures same_reference { transaction.new.conn.ghost_name ≡ transaction.old.conn.ghost_name }
+    ensures ran { HasCleanDisk (state S.Store transaction.new.conn.now) → OnOk result
+        (Ran S.Store keep_seal (seal_row id.now position seal.now) transaction.old.conn.now transaction.new.conn.now) }
+    ensures crash { CommitsNothing (state S.Store transaction.old.conn.now) (state S.Store transaction.new.conn.now) }
+{
+    let columns = seal_columns(id, position, seal);
+    run(transaction, KEEP_SEAL, &columns)?;
+    Ok(())
+}
+
+/// The row of a seal.
+fn seal_columns<'a>(id: &'a [u8; 16], position: u32, seal: &'a SealTexts) -> [ValueRef<'a>; 5]
+    ensures { bound result ≡ seal_row id.now position seal.now }
+{
+    [
+        ValueRef::Blob(id.as_slice()),
+        ValueRef::Int(i64::from(position)),
+        ValueRef::Int(i64::from(seal.seat)),
+        ValueRef::Text(seal.seal.as_slice()),
+        ValueRef::Text(seal.secret.as_slice()),
+    ]
+}
