@@ -1,0 +1,283 @@
+-- What each statement of `put` makes of the tables.
+use Rattle.std.proofs.Common.{◌≡◌, ℕ, ◌+◌, pos, Bool, true, false, cond, not, List, [], ◌∷◌, ◌++◌, map, filter, refl, ap, sym, subst, ◌∙◌, inl, inr, Ordering, Less, Equal, Greater}
+use Rattle.std.specs.Prelude.{None, Some, Option, ◌&&◌, ◌||◌, IsPermutation}
+use Rattle.std.specs.Ordering.{match_ordering}
+use Rattle.std.specs.List.{list_all}
+use Rattle.std.proofs.lemmas.Bool.{cases_Bool, and_parts}
+use Rattle.std.proofs.lemmas.List.Sorted.{IsPermutation-cons, IsPermutation-trans, IsPermutation-map, IsPermutation-sym, IsPermutation-middle, IsPermutation-append_right}
+use Rattle.sqlite_value.specs.declared.value.Value.TheVariants.{Int, Text, Blob}
+use Rattle.sqlite_value.specs.declared.keys.Key.{Key}
+use Rattle.sqlite_value.specs.Order.{Row, column, value_cmp}
+use Rattle.sqlite_value.proofs.KeyLemmas.{first_key-plain}
+use Rattle.sqlite_trees.specs.Tree.{rowid, put_row}
+use Rattle.sqlite_trees.proofs.ListLemmas.{filter_none, IsPermutation-same}
+use Rattle.sqlite_schema.specs.Rules.{equal}
+use Rattle.sqlite_sql.specs.Term.{holds}
+use Rattle.sqlite_rules.specs.Cast.{as_text}
+use Rattle.sqlite_rules.specs.Edit.{is_taken}
+use Rattle.sqlite_rules.proofs.ListLemmas.{all_from, has_filtered}
+use Rattle.sqlite_catalog.specs.Listing.{IsSound}
+use Rattle.sqlite.specs.Values.{or_null}
+use Rattle.sqlite.specs.Store.{Ghosts}
+use Rattle.sqlite.specs.Held.{Held, state}
+use Rattle.sqlite.specs.Effect.{Database}
+use Rattle.sqlite.specs.Listing.{understood}
+use Rattle.sqlite.proofs.Callers.{statement_of, runs_as}
+use Rattle.vk_keeper.specs.declared.auction.Auction.{Auction}
+use Rattle.vk_keeper_sql.specs.declared.texts.SealTexts.{SealTexts}
+use Rattle.vk_keeper_sql.specs.Columns.{auction_row, terms_row, seal_row, bits_in}
+use Rattle.vk_keeper_sql.specs.Statements.{keep_auction, keep_terms, drop_seals, keep_seal}
+use Rattle.vk_keeper_sql.specs.Transactions.{Ran}
+use Rattle.vk_keeper_sql.specs.Writing.{AddsSeals}
+use Rattle.vk_store_laws.specs.Tables.{store_schema, placed, auctions, seals, terms}
+use Rattle.vk_store_laws.specs.Rows.{has_id, under, head_columns, term_columns, seal_columns, IsTableOfRows, PutsRow}
+use Rattle.vk_store_laws.specs.Holding.{IsStore, IsStep, head_row, term_row, seal_rows}
+use Rattle.vk_store_laws.proofs.Texts.{of_id, is_behind, auction_terms, seal_terms, keep_auction_is, keep_auction_plain, terms_terms, keep_terms_is, keep_terms_plain, keep_seal_is, keep_seal_plain, drop_seals_is, drop_seals_plain}
+use Rattle.vk_store_laws.proofs.Selects.{is_id}
+use Rattle.vk_store_laws.proofs.Finds.{and_true}
+use Rattle.vk_store_laws.proofs.Tables.{cast_null, cast_int, deletes, inserts, replaces}
+use Rattle.vk_store_laws.proofs.Under.{own_id, others_after_put, others_after_delete, table_after_put, table_after_delete}
+
+pub apart_13 : ◌≡◌ {A = ℕ} 1 3 → ⊥
+apart_13 e = absurd (let f = e in cc)
+
+apart_31 : ◌≡◌ {A = ℕ} 3 1 → ⊥
+apart_31 e = absurd (let f = e in cc)
+
+apart_61 : ◌≡◌ {A = ℕ} 6 1 → ⊥
+apart_61 e = absurd (let f = e in cc)
+
+apart_63 : ◌≡◌ {A = ℕ} 6 3 → ⊥
+apart_63 e = absurd (let f = e in cc)
+
+pub apart_16 : ◌≡◌ {A = ℕ} 1 6 → ⊥
+apart_16 e = absurd (let f = e in cc)
+
+pub apart_36 : ◌≡◌ {A = ℕ} 3 6 → ⊥
+apart_36 e = absurd (let f = e in cc)
+
+pub or_false : (b : Bool) → b || false ≡ b
+or_false true = refl
+or_false false = refl
+
+text_stays : (text : Option (List ℕ)) → as_text (or_null Text text) ≡ or_null Text text
+text_stays None = refl
+text_stays (Some text) = refl
+
+-- a row that the test passes, where it passes no other
+pub put_alone : (p : Row → Bool) (new : Row) (rows : List Row) → p new ≡ true → filter p rows ≡ [] → is_taken rows new ≡ false → filter p (put_row new rows) ≡ new ∷ []
+put_alone p new rows passes none free = alone_from rows none free
+  where
+    tail : (b : Bool) (r : Row) (more : List Row) → cond b (r ∷ more) more ≡ [] → (b ≡ false) × (more ≡ [])
+    tail true r more is = absurd (let e = is in cc)
+    tail false r more is = (refl, is)
+
+    alone_from : (rs : List Row) → filter p rs ≡ [] → is_taken rs new ≡ false → filter p (put_row new rs) ≡ new ∷ []
+    alone_from [] empty untaken = rw passes refl
+    alone_from (r ∷ rs) empty untaken = go (value_cmp (rowid r) (rowid new)) refl (alone_from rs)
+      where
+        split : (p r ≡ false) × (filter p rs ≡ [])
+        split = tail (p r) r (filter p rs) empty
+
+        go : (o : Ordering) → value_cmp (rowid r) (rowid new) ≡ o → (filter p rs ≡ [] → is_taken rs new ≡ false → filter p (put_row new rs) ≡ new ∷ []) → filter p (put_row new (r ∷ rs)) ≡ new ∷ []
+        go Less e later =
+            let more_free : is_taken rs new ≡ false = rw e at untaken in
+            subst (λ o. filter p (match_ordering o (r ∷ put_row new rs) (new ∷ rs) (new ∷ r ∷ rs)) ≡ new ∷ []) (sym e)
+            (ap (λ b. cond b (r ∷ filter p (put_row new rs)) (filter p (put_row new rs))) split.0 ∙ later split.1 more_free)
+        go Equal e later = absurd (let f = rw e at untaken in cc)
+        go Greater e later =
+            subst (λ o. filter p (match_ordering o (r ∷ put_row new rs) (new ∷ rs) (new ∷ r ∷ rs)) ≡ new ∷ []) (sym e)
+            (ap (λ b. cond b (new ∷ filter p (r ∷ rs)) (filter p (r ∷ rs))) passes ∙ ap (λ more. new ∷ more) empty)
+
+pub none_left : (p : Row → Bool) (rows : List Row) → filter p (filter (λ r. not (p r)) rows) ≡ []
+none_left p rows = filter_none p (filter (λ r. not (p r)) rows) (all_from _ (filter (λ r. not (p r)) rows) (λ r h.
+    let kept = (has_filtered (λ x. not (p x)) rows r h).1 in
+    elim (cases_Bool (p r)) [ inl passes ↦ absurd (let e = rw passes at kept in cc) | inr fails ↦ fails ]))
+
+-- the rows that the statement drops
+abbrev pub goes : List ℕ → ℕ → Row → Bool
+goes id standing r = list_all (holds ((Blob id ∷ Int (pos standing) ∷ []) ∷ r ∷ [])) (of_id ∷ is_behind ∷ [])
+
+module _ {S : Type 0} (g : Ghosts S) (old new : Held S) (store : IsStore (state g old).now) where
+  -- the row of the auction is the only one of its id, and nothing else is changed
+  pub keeps_row : (auction : Auction) → Ran g keep_auction (auction_row auction) old new
+      → IsStep auction.id (state g old).now (state g new).now × (map head_columns (under auction.id ((state g new).now.trees 1)) ≡ head_row auction ∷ [])
+  unfolding Ran
+  keeps_row auction ran =
+      let id = auction.id in
+      let params = auction_row auction in
+      let before = (state g old).now.trees 1 in
+      let w = runs_as keep_auction params (state g old) (state g new) store_schema store.schema _ keep_auction_is keep_auction_plain ran.0 ran.1.0 in
+      let text = statement_of keep_auction (understood store_schema keep_auction) in
+      let done = replaces store_schema 1 (placed auctions 1) refl (λ keys db edit. refl) (state g old) (state g new) store.schema text params ran.0
+      (has_id id) refl (λ n. rw (cast_int n, cast_int (pos auction.width), cast_int (pos auction.lanes), cast_int _, text_stays (bits_in auction.phase)) refl)
+      (λ n r. subst (λ (k : Key). ((equal k.collation (column r 1) (Blob id) && true) || false) ≡ has_id id r) (sym first_key-plain) (or_false _ ∙ (and_true _ ∙ is_id (column r 1) id)))
+      auction_terms 7 refl refl refl (rw (cast_null, cast_int (pos auction.width), cast_int (pos auction.lanes), cast_int _, text_stays (bits_in auction.phase)) refl) store.auctions w in
+      let left = filter (λ r. not (has_id id r)) before in
+      let put = done.1 in
+      let row = Int put.number ∷ params in
+      let alone : under id ((state g new).now.trees 1) ≡ row ∷ [] = ap (under id) put.rows ∙ put_alone (has_id id) row left (own_id id) (none_left (has_id id) before) put.free in
+      let same : (state g new).now.trees 3 ≡ (state g old).now.trees 3 = done.0.tables.1.1.0 apart_31 in
+      let terms : (state g new).now.trees 6 ≡ (state g old).now.trees 6 = done.0.tables.1.1.1.0 apart_61 in (
+        record {
+          store = record { schema = done.0.schema; auctions = table_after_put params left _ (table_after_delete _ before store.auctions) put; terms = subst IsTableOfRows (sym terms) store.terms; seals = subst IsTableOfRows (sym same) store.seals };
+          others = record {
+            auctions = λ other apart. others_after_put other id _ left _ apart put ∙ others_after_delete other id (has_id id) before apart (λ r h. h);
+            terms = λ other apart. ap (under other) terms;
+            seals = λ other apart. ap (under other) same;
+          };
+        },
+        ap (map head_columns) alone,
+      )
+
+  -- the row of its terms is the only one of its id, and nothing else is changed
+  pub keeps_terms : (auction : Auction) → Ran g keep_terms (terms_row auction) old new
+      → IsStep auction.id (state g old).now (state g new).now × (map term_columns (under auction.id ((state g new).now.trees 6)) ≡ term_row auction ∷ [])
+      × ((state g new).now.trees 1 ≡ (state g old).now.trees 1) × IsSound store_schema (state g new).now.trees
+  unfolding Ran
+  keeps_terms auction ran =
+      let id = auction.id in
+      let params = terms_row auction in
+      let before = (state g old).now.trees 6 in
+      let w = runs_as keep_terms params (state g old) (state g new) store_schema store.schema _ keep_terms_is keep_terms_plain ran.0 ran.1.0 in
+      let text = statement_of keep_terms (understood store_schema keep_terms) in
+      let done = replaces store_schema 3 (placed terms 6) refl (λ keys db edit. refl) (state g old) (state g new) store.schema text params ran.0
+      (has_id id) refl (λ n. rw (cast_int n, cast_int (pos auction.version), cast_int (pos auction.reserve)) refl)
+      (λ n r. subst (λ (k : Key). ((equal k.collation (column r 1) (Blob id) && true) || false) ≡ has_id id r) (sym first_key-plain) (or_false _ ∙ (and_true _ ∙ is_id (column r 1) id)))
+      terms_terms 4 refl refl refl (rw (cast_null, cast_int (pos auction.version), cast_int (pos auction.reserve)) refl) store.terms w in
+      let left = filter (λ r. not (has_id id r)) before in
+      let put = done.1 in
+      let row = Int put.number ∷ params in
+      let alone : under id ((state g new).now.trees 6) ≡ row ∷ [] = ap (under id) put.rows ∙ put_alone (has_id id) row left (own_id id) (none_left (has_id id) before) put.free in
+      let heads : (state g new).now.trees 1 ≡ (state g old).now.trees 1 = done.0.tables.1.0 apart_16 in
+      let same : (state g new).now.trees 3 ≡ (state g old).now.trees 3 = done.0.tables.1.1.0 apart_36 in (
+        record {
+          store = record { schema = done.0.schema; auctions = subst IsTableOfRows (sym heads) store.auctions; terms = table_after_put params left _ (table_after_delete _ before store.terms) put; seals = subst IsTableOfRows (sym same) store.seals };
+          others = record {
+            auctions = λ other apart. ap (under other) heads;
+            terms = λ other apart. others_after_put other id _ left _ apart put ∙ others_after_delete other id (has_id id) before apart (λ r h. h);
+            seals = λ other apart. ap (under other) same;
+          };
+        },
+        ap (map term_columns) alone,
+        heads,
+        subst (λ s. IsSound s (state g new).now.trees) done.0.schema w.sound,
+      )
+
+  -- one more seal's row, and nothing else is changed
+  pub keeps_seal : (id : List ℕ) (position : ℕ) (texts : SealTexts) → Ran g keep_seal (seal_row id position texts) old new
+      → IsStep id (state g old).now (state g new).now × PutsRow (seal_row id position texts) ((state g old).now.trees 3) ((state g new).now.trees 3)
+      × ((state g new).now.trees 1 ≡ (state g old).now.trees 1) × ((state g new).now.trees 6 ≡ (state g old).now.trees 6)
+  unfolding Ran
+  keeps_seal id position texts ran =
+      let params = seal_row id position texts in
+      let before = (state g old).now.trees 3 in
+      let w = runs_as keep_seal params (state g old) (state g new) store_schema store.schema _ keep_seal_is keep_seal_plain ran.0 ran.1.0 in
+      let text = statement_of keep_seal (understood store_schema keep_seal) in
+      let done = inserts store_schema 2 (placed seals 3) refl (λ keys db edit. refl) (state g old) (state g new) store.schema text params ran.0
+      seal_terms 6 refl refl refl (rw (cast_null, cast_int (pos position), cast_int (pos texts.seat)) refl) w in
+      let same : (state g new).now.trees 1 ≡ (state g old).now.trees 1 = done.0.tables.1.0 apart_13 in
+      let terms : (state g new).now.trees 6 ≡ (state g old).now.trees 6 = done.0.tables.1.1.1.0 apart_63 in (
+        record {
+          store = record { schema = done.0.schema; auctions = subst IsTableOfRows (sym same) store.auctions; terms = subst IsTableOfRows (sym terms) store.terms; seals = table_after_put params before _ store.seals done.1 };
+          others = record {
+            auctions = λ other apart. ap (under other) same;
+            terms = λ other apart. ap (under other) terms;
+            seals = λ other apart. others_after_put other id _ before _ apart done.1;
+          };
+        },
+        done.1,
+        same,
+        terms,
+      )
+
+  -- the rows of the id's seals go but for so many from the first position on, and nothing else is changed
+  pub clears_seals : (id : List ℕ) (standing : ℕ) → Ran g drop_seals (Blob id ∷ Int (pos standing) ∷ []) old new
+      → IsStep id (state g old).now (state g new).now × ((state g new).now.trees 3 ≡ filter (λ r. not (goes id standing r)) ((state g old).now.trees 3))
+      × ((state g new).now.trees 1 ≡ (state g old).now.trees 1) × ((state g new).now.trees 6 ≡ (state g old).now.trees 6)
+  unfolding Ran
+  clears_seals id standing ran =
+      let params = Blob id ∷ Int (pos standing) ∷ [] in
+      let before = (state g old).now.trees 3 in
+      let w = runs_as drop_seals params (state g old) (state g new) store_schema store.schema _ drop_seals_is drop_seals_plain ran.0 ran.1.0 in
+      let text = statement_of drop_seals (understood store_schema drop_seals) in
+      let done = deletes store_schema 2 (placed seals 3) refl (λ keys db edit. refl) (state g old) (state g new) store.schema text params ran.0
+      (of_id ∷ is_behind ∷ []) (λ db. refl) store.seals w in
+      let same : (state g new).now.trees 1 ≡ (state g old).now.trees 1 = done.0.tables.1.0 apart_13 in
+      let terms : (state g new).now.trees 6 ≡ (state g old).now.trees 6 = done.0.tables.1.1.1.0 apart_63 in (
+        record {
+          store = record { schema = done.0.schema; auctions = subst IsTableOfRows (sym same) store.auctions; terms = subst IsTableOfRows (sym terms) store.terms; seals = subst IsTableOfRows (sym done.1) (table_after_delete _ before store.seals) };
+          others = record {
+            auctions = λ other apart. ap (under other) same;
+            terms = λ other apart. ap (under other) terms;
+            seals = λ other apart. ap (under other) done.1 ∙ others_after_delete other id (goes id standing) before apart (λ r gone. sym (is_id (column r 1) id) ∙ (and_parts _ _ gone).0);
+          };
+        },
+        done.1,
+        same,
+        terms,
+      )
+
+pub then_step : (id : List ℕ) (a b c : Database) → IsStep id a b → IsStep id b c → IsStep id a c
+then_step id a b c one two = record {
+  store = two.store;
+  others = record {
+    auctions = λ other apart. two.others.auctions other apart ∙ one.others.auctions other apart;
+    terms = λ other apart. two.others.terms other apart ∙ one.others.terms other apart;
+    seals = λ other apart. two.others.seals other apart ∙ one.others.seals other apart;
+  };
+}
+
+pub no_step : (id : List ℕ) (db : Database) → IsStore db → IsStep id db db
+no_step id db store = record { store = store; others = record { auctions = λ other apart. refl; terms = λ other apart. refl; seals = λ other apart. refl } }
+
+-- a row that the test passes comes beside the others
+put_beside : (p : Row → Bool) (new : Row) (rows : List Row) → p new ≡ true → is_taken rows new ≡ false → IsPermutation (new ∷ filter p rows) (filter p (put_row new rows))
+put_beside p new [] passes free = IsPermutation-same _ _ (rw passes refl)
+put_beside p new (r ∷ rows) passes free = go (value_cmp (rowid r) (rowid new)) refl (put_beside p new rows passes)
+  where
+    swapped : (b : Bool) → IsPermutation (new ∷ filter p rows) (filter p (put_row new rows)) → IsPermutation (new ∷ cond b (r ∷ filter p rows) (filter p rows)) (cond b (r ∷ filter p (put_row new rows)) (filter p (put_row new rows)))
+    swapped true more = IsPermutation-trans _ (r ∷ new ∷ filter p rows) _ (IsPermutation-middle (new ∷ []) r (filter p rows)) (IsPermutation-cons r _ _ more)
+    swapped false more = more
+
+    go : (o : Ordering) → value_cmp (rowid r) (rowid new) ≡ o → (is_taken rows new ≡ false → IsPermutation (new ∷ filter p rows) (filter p (put_row new rows))) → IsPermutation (new ∷ filter p (r ∷ rows)) (filter p (put_row new (r ∷ rows)))
+    go Less e later =
+        let more_free : is_taken rows new ≡ false = rw e at free in
+        subst (λ o. IsPermutation (new ∷ filter p (r ∷ rows)) (filter p (match_ordering o (r ∷ put_row new rows) (new ∷ rows) (new ∷ r ∷ rows)))) (sym e) (swapped (p r) (later more_free))
+    go Equal e later = absurd (let f = rw e at free in cc)
+    go Greater e later =
+        subst (λ o. IsPermutation (new ∷ filter p (r ∷ rows)) (filter p (match_ordering o (r ∷ put_row new rows) (new ∷ rows) (new ∷ r ∷ rows)))) (sym e)
+        (IsPermutation-same _ _ (sym (ap (λ b. cond b (new ∷ filter p (r ∷ rows)) (filter p (r ∷ rows))) passes)))
+
+-- the rows of the seals' id, as they are shown
+abbrev pub shown_seals : List ℕ → Database → List Row
+shown_seals id db = map seal_columns (under id (db.trees 3))
+
+-- the seals' rows come beside those that were there
+pub adds_seals : {S : Type 0} (g : Ghosts S) (id : List ℕ) (before : ℕ) (texts : List SealTexts) (old new : Held S) → IsStore (state g old).now → AddsSeals g id before texts old new
+    → IsStep id (state g old).now (state g new).now × IsPermutation (seal_rows before texts ++ shown_seals id (state g old).now) (shown_seals id (state g new).now)
+    × ((state g new).now.trees 1 ≡ (state g old).now.trees 1) × ((state g new).now.trees 6 ≡ (state g old).now.trees 6)
+adds_seals g id before [] old new store same =
+    let is : (state g new).now ≡ (state g old).now = ap (λ h. (state g h).now) same in (
+      subst (IsStep id (state g old).now) (sym is) (no_step id _ store),
+      IsPermutation-same _ _ (ap (shown_seals id) (sym is)),
+      ap (λ (d : Database). d.trees 1) is,
+      ap (λ (d : Database). d.trees 6) is,
+    )
+adds_seals g id before (seal ∷ texts) old new store it =
+    let mid = it.0 in
+    let first = keeps_seal g old mid store id (before + 1) seal it.1 in
+    let rest = adds_seals g id (before + 1) texts mid new first.0.store it.2 in
+    let put = first.1 in
+    let row = Int put.number ∷ seal_row id (before + 1) seal in
+    let now = shown_seals id (state g old).now in
+    let beside : IsPermutation (row ∷ under id ((state g old).now.trees 3)) (under id ((state g mid).now.trees 3)) =
+    subst (λ rows. IsPermutation (row ∷ under id ((state g old).now.trees 3)) (under id rows)) (sym put.rows) (put_beside (has_id id) row ((state g old).now.trees 3) (own_id id) put.free) in
+    let shown : IsPermutation (seal_columns row ∷ now) (shown_seals id (state g mid).now) = IsPermutation-map seal_columns _ _ beside in (
+      then_step id _ _ _ first.0 rest.0,
+      IsPermutation-trans _ (seal_rows (before + 1) texts ++ (seal_columns row ∷ now)) _
+          (IsPermutation-sym _ _ (IsPermutation-middle (seal_rows (before + 1) texts) (seal_columns row) now))
+          (IsPermutation-trans _ (seal_rows (before + 1) texts ++ shown_seals id (state g mid).now) _ (IsPermutation-append_right (seal_rows (before + 1) texts) _ _ shown) rest.1),
+      rest.2 ∙ first.2,
+      rest.3 ∙ first.3,
+    )

@@ -1,0 +1,5 @@
+pub mod Tables
+pub mod Rows
+pub mod Holding
+pub mod Telling
+pub mod Former
