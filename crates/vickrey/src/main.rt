@@ -1,20 +1,11 @@
 //! `vickrey`: a sealed-bid second-price auction whose auctioneer proves the outcome.
 #![tactic(auto)]
 
-mod ending;
-mod house;
-mod performing;
-mod settling;
-#[cfg(test)]
-mod tests;
-
-use crate::ending::end;
-use crate::house::{STORE, StoreHouse};
-use crate::performing::program;
 use std::fs::File;
 use std::io;
 use std::process::ExitCode;
 use vk_files::{FileShelf, OutSink};
+use vk_program::{STORE, StoreHouse, end, program};
 
 /// A handle of the root folder, which can't be written.
 fn open_root(rt: &HostRuntime) -> io::Result<File> {

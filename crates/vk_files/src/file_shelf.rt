@@ -4,6 +4,7 @@ ghost use Rattle.std.specs.Io.KnownBytes.{Appends};
 ghost use Rattle.vk_io.specs.Faults.{Causes};
 ghost use Rattle.vk_files.specs.Identity.{HasName, is_named_otherwise};
 
+use crate::faults::FaultCount;
 use crate::file_id::FileId;
 use crate::links::end_of_links;
 use crate::moves::{put_counted, read_counted};
@@ -18,6 +19,7 @@ use std::io::ErrorKind;
 use std::rt::Files;
 use vk_io::{OutsideErr, Shelf};
 use vk_residue::NoMemory;
+use vk_text::ShortText;
 
 /// How many files are kept open, at most: those that a command reads side by side, and a few more.
 const MOST_OPEN: usize = 8;
@@ -27,6 +29,15 @@ const MOST_OPEN: usize = 8;
 struct NamedFile<F> {
     name: String,
     file: F,
+}
+
+/// What went wrong with a file, for a person.
+#[derive(Clone, Copy, Debug)]
+pub struct NamedFault<'a> {
+    /// The name that the file was asked for by.
+    pub name: &'a [u8],
+    /// What the system said.
+    pub reason: &'static str,
 }
 
 /// The real file system. A name is a path from the current folder. It tells nothing of content, and
@@ -45,8 +56,9 @@ pub struct FileShelf<'a, R: Files> {
     opened: Vec<NamedId>,
     kept: Vec<NamedFile<R::File>>,
     written: Option<NamedFile<R::File>>,
-    faults: u64,
+    faults: FaultCount,
     wants: u64,
+    faulty: Option<ShortText>,
 }
 
 impl<'a, R: Files> FileShelf<'a, R> {
@@ -63,8 +75,9 @@ impl<'a, R: Files> FileShelf<'a, R> {
             opened: Vec::new(alloc),
             kept: Vec::new(alloc),
             written: None,
-            faults: 0,
+            faults: FaultCount::new(),
             wants: 0,
+            faulty: None,
         }
     }
 }
@@ -154,7 +167,10 @@ impl<R: Files> FileShelf<'_, R> {
     {
         match self.written.take() {
             None => Ok(()),
-            Some(written) => counted(synced(&written.file), &mut self.faults),
+            Some(written) => {
+                let settled = counted(synced(&written.file), &mut self.faults);
+                self.noted(written.name.as_str(), settled)
+            }
         }
     }
 
@@ -277,6 +293,28 @@ impl<R: Files> FileShelf<'_, R> {
         Ok(())
     }
 
+    /// The same answer. Which file a fault is of is noted, and want of memory is counted.
+    fn noted<T>(&mut self, name: &str, answer: Result<T, OutsideErr>) -> Result<T, OutsideErr>
+        ensures same { result ≡ answer }
+        ensures written { self.new.written ≡ self.old.written }
+        ensures faults { self.new.faults ≡ self.old.faults }
+        ensures wants { Causes OutsideErr.NoMemory result self.old.wants self.new.wants }
+    {
+        if matches!(answer, Err(OutsideErr::Failed)) && name.len() <= 400 {
+            self.faulty = Some(ShortText::new().word(name));
+        }
+        with_want(answer, &mut self.wants)
+    }
+
+    /// The last fault, and the file that it is of. None where there was none, or its name is longer than any that a command takes.
+    pub fn last_fault(&self) -> Option<NamedFault<'_>> {
+        let name = self.faulty.as_ref()?;
+        Some(NamedFault {
+            name: name.as_bytes(),
+            reason: self.faults.reason(),
+        })
+    }
+
     /// Reads from the file under that name as a shelf does.
     fn read_part(&mut self, name: &str, at: u64, into: &mut [u8]) -> Result<usize, OutsideErr>
         ensures bound { IfOk result (λ n. n ≤ length into.old) }
@@ -294,7 +332,7 @@ impl<R: Files> FileShelf<'_, R> {
 }
 
 /// A file that may not be written is a fault.
-fn refused<T>(faults: &mut u64) -> Result<T, OutsideErr>
+fn refused<T>(faults: &mut FaultCount) -> Result<T, OutsideErr>
     ensures fault { result ≡ Err OutsideErr.Failed }
     ensures causes { Causes OutsideErr.Failed result faults.old faults.new }
 {
@@ -314,22 +352,22 @@ impl<R: Files> Shelf for FileShelf<'_, R> {
 
     fn length(&mut self, name: &str) -> Result<Option<u64>, OutsideErr> {
         self.close(name);
-        let length = counted(length_of(self.rt, name), &mut self.faults)?;
-        Ok(length)
+        let length = counted(length_of(self.rt, name), &mut self.faults);
+        self.noted(name, length)
     }
 
     fn read_at(&mut self, name: &str, at: u64, into: &mut [u8]) -> Result<usize, OutsideErr> {
         let answer = self.read_part(name, at, into);
-        with_want(answer, &mut self.wants)
+        self.noted(name, answer)
     }
 
     fn create(&mut self, name: &str) -> Result<(), OutsideErr> {
         let answer = self.begin(name);
-        with_want(answer, &mut self.wants)
+        self.noted(name, answer)
     }
 
     fn append(&mut self, name: &str, piece: &[u8]) -> Result<(), OutsideErr> {
         let answer = self.add(name, piece);
-        with_want(answer, &mut self.wants)
+        self.noted(name, answer)
     }
 }

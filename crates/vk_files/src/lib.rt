@@ -2,6 +2,7 @@
 //! the system is counted as a fault.
 #![tactic(auto)]
 
+mod faults;
 mod file_id;
 mod file_shelf;
 mod links;
@@ -14,5 +15,6 @@ mod pieces;
 mod store;
 mod store_names;
 
-pub use file_shelf::FileShelf;
+pub use faults::FaultCount;
+pub use file_shelf::{FileShelf, NamedFault};
 pub use out_sink::OutSink;

@@ -5,6 +5,7 @@ ghost use Rattle.std.specs.Io.KnownBytes.{Appends};
 ghost use Rattle.vk_io.specs.Faults.{Causes, one_more};
 ghost use Rattle.vk_files.specs.Moves.{GivesFrom};
 
+use crate::faults::FaultCount;
 use crate::outcome::counted;
 use crate::pieces::{read_fully, write_fully};
 use std::io;
@@ -15,7 +16,7 @@ use vk_io::OutsideErr;
 pub fn put_counted<W: Write>(
     writer: &mut W,
     piece: &[u8],
-    faults: &mut u64,
+    faults: &mut FaultCount,
 ) -> Result<(), OutsideErr>
     ensures put { OnOk result (Appends (W.contents writer.old) (W.contents writer.new) piece.now) }
     ensures causes { Causes OutsideErr.Failed result faults.old faults.new }
@@ -32,7 +33,7 @@ pub fn read_counted<F: Read + Seek>(
     file: &mut F,
     at: u64,
     into: &mut [u8],
-    faults: &mut u64,
+    faults: &mut FaultCount,
 ) -> Result<usize, OutsideErr>
     ensures bound { IfOk result (λ n. n ≤ length into.old) }
     ensures bytes { IfOk result

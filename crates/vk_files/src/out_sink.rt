@@ -1,5 +1,6 @@
 ghost use Rattle.std.specs.Prelude.{◌≡◌};
 
+use crate::faults::FaultCount;
 use crate::moves::put_counted;
 use std::io;
 use vk_io::{OutsideErr, Sink};
@@ -9,7 +10,7 @@ use vk_io::{OutsideErr, Sink};
 #[derive(Drop)]
 pub struct OutSink<'a, P: Print> {
     to: &'a P,
-    faults: u64,
+    faults: FaultCount,
 }
 
 impl<'a, P: Print> OutSink<'a, P> {
@@ -18,7 +19,15 @@ impl<'a, P: Print> OutSink<'a, P> {
     pub fn new(rt: &'a P) -> OutSink<'a, P>
         ensures { result.faults ≡ 0 }
     {
-        OutSink { to: rt, faults: 0 }
+        OutSink {
+            to: rt,
+            faults: FaultCount::new(),
+        }
+    }
+
+    /// What the last error was, for a person.
+    pub fn reason(&self) -> &'static str {
+        self.faults.reason()
     }
 }
 

@@ -1,11 +1,12 @@
 ghost use Rattle.std.specs.Prelude.{◌≡◌, Ok, Err, IfOk, OnErr};
 ghost use Rattle.vk_io.specs.Faults.{Causes, one_more};
 
+use crate::faults::FaultCount;
 use std::io;
 use vk_io::OutsideErr;
 
 /// What an outcome of the system is to its caller: an error is counted, and nothing else is.
-pub fn counted<T>(outcome: io::Result<T>, faults: &mut u64) -> Result<T, OutsideErr>
+pub fn counted<T>(outcome: io::Result<T>, faults: &mut FaultCount) -> Result<T, OutsideErr>
     ensures value { IfOk outcome (λ value. result ≡ Ok value) }
     ensures kept { IfOk outcome (λ value. faults.new ≡ faults.old) }
     ensures fault { OnErr outcome (result ≡ Err OutsideErr.Failed) }
@@ -13,8 +14,8 @@ pub fn counted<T>(outcome: io::Result<T>, faults: &mut u64) -> Result<T, Outside
 {
     match outcome {
         Ok(value) => Ok(value),
-        Err(_) => {
-            *faults = faults.saturating_add(1);
+        Err(error) => {
+            faults.count(&error);
             Err(OutsideErr::Failed)
         }
     }

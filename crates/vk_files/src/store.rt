@@ -1,6 +1,7 @@
 ghost use Rattle.std.specs.Prelude.{◌≡◌};
 ghost use Rattle.vk_io.specs.Faults.{Causes};
 
+use crate::faults::FaultCount;
 use crate::file_id::{FileId, are_same};
 use crate::opening::{found, id_at};
 use crate::outcome::counted;
@@ -29,7 +30,7 @@ impl<'a, R: Files> Store<'a, R> {
 
 impl<R: Files> Store<'_, R> {
     /// Whether that file is one of the store's.
-    pub fn has(&self, id: FileId, faults: &mut u64) -> Result<bool, OutsideErr>
+    pub fn has(&self, id: FileId, faults: &mut FaultCount) -> Result<bool, OutsideErr>
         ensures causes { Causes OutsideErr.Failed result faults.old faults.new }
     {
         let mut ids = Vec::new(self.alloc);
@@ -41,7 +42,7 @@ impl<R: Files> Store<'_, R> {
     }
 
     /// Whether a file that was made at that path would be one of the store's, where nothing is there.
-    pub fn awaits(&self, path: &str, faults: &mut u64) -> Result<bool, OutsideErr>
+    pub fn awaits(&self, path: &str, faults: &mut FaultCount) -> Result<bool, OutsideErr>
         ensures causes { Causes OutsideErr.Failed result faults.old faults.new }
     {
         if self.awaits_beside(self.path, path, faults)? {
@@ -59,7 +60,7 @@ impl<R: Files> Store<'_, R> {
         &self,
         store: &str,
         ids: &mut Vec<FileId>,
-        faults: &mut u64,
+        faults: &mut FaultCount,
     ) -> Result<(), OutsideErr>
         ensures causes { Causes OutsideErr.Failed result faults.old faults.new }
     {
@@ -73,7 +74,12 @@ impl<R: Files> Store<'_, R> {
     }
 
     /// Whether a file that was made at that path would be one of a store's at the other.
-    fn awaits_beside(&self, store: &str, path: &str, faults: &mut u64) -> Result<bool, OutsideErr>
+    fn awaits_beside(
+        &self,
+        store: &str,
+        path: &str,
+        faults: &mut FaultCount,
+    ) -> Result<bool, OutsideErr>
         ensures causes { Causes OutsideErr.Failed result faults.old faults.new }
     {
         if !shares_store_name(path, store) {
@@ -85,7 +91,7 @@ impl<R: Files> Store<'_, R> {
     }
 
     /// The path of the store with no link in it. None where nothing is there.
-    fn real_path(&self, faults: &mut u64) -> Result<Option<String>, OutsideErr>
+    fn real_path(&self, faults: &mut FaultCount) -> Result<Option<String>, OutsideErr>
         ensures causes { Causes OutsideErr.Failed result faults.old faults.new }
     {
         match found(self.rt.canonicalize(self.alloc, self.path)) {

@@ -2,12 +2,11 @@ mod house;
 mod standing_in;
 mod statuses;
 
-use crate::house::{STORE, StoreHouse};
-use crate::performing::program;
 use std::env::FillError;
 use std::process::ExitCode;
 use std::rt::Env;
 use vk_files::{FileShelf, OutSink};
+use vk_program::{STORE, StoreHouse, program};
 
 const ID: &str = "000102030405060708090a0b0c0d0e0f";
 

@@ -3,7 +3,7 @@
 ghost use Rattle.vk_io.specs.Faults.{Causes};
 
 use std::rt::Files;
-use vk_files::FileShelf;
+use vk_files::{FileShelf, NamedFault};
 use vk_io::{OutsideErr, Shelf};
 
 /// A shelf whose last written file is settled when it is asked: only then is its last error told.
@@ -11,10 +11,17 @@ pub trait Settle: Shelf {
     /// Sees that what was written last is where it belongs. Errs where it isn't.
     fn settle(&mut self) -> Result<(), OutsideErr>
         ensures causes { Causes OutsideErr.Failed result (Self.faults self.old) (Self.faults self.new) };
+
+    /// The last fault, and the file that it is of, for a person. None where there was none.
+    fn last_fault(&self) -> Option<NamedFault<'_>>;
 }
 
 impl<R: Files> Settle for FileShelf<'_, R> {
     fn settle(&mut self) -> Result<(), OutsideErr> {
         FileShelf::settle(self)
+    }
+
+    fn last_fault(&self) -> Option<NamedFault<'_>> {
+        FileShelf::last_fault(self)
     }
 }

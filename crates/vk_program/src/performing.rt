@@ -9,11 +9,12 @@ ghost use Rattle.vk_words.specs.Commands.{AsksNoKeeper, Seal, command_words};
 ghost use Rattle.vk_words.specs.Orders.{SealWords};
 ghost use Rattle.vk_effect.specs.Effects.{outside, stores};
 ghost use Rattle.vk_app.specs.Commands.{DoesWork, StopsWork, work_on};
-ghost use Rattle.vk_app.specs.Promises.{Audits, Headline, HoldsCeremony, KeepsHouse, TellsUsage};
+ghost use Rattle.vk_app.specs.Promises.{Audits, Headline, HoldsCeremony, KeepsHouse, RunLeaves, TellsUsage};
 ghost use Rattle.vk_app.specs.Sealing.{Seals};
 
-use crate::ending::{end, refuse, with_fault};
-use crate::house::House;
+use crate::ending::{advise, end, explain, refuse, with_fault};
+use crate::house::{House, Unopened};
+use crate::late::LateKeeper;
 use crate::settling::Settle;
 use std::env;
 use std::io::ErrorKind;
@@ -70,6 +71,8 @@ fn perform<R: Eprint + AllocGlobal, S: Shelf, K: Keeper + Drop, W: Sink>(
         KeepsHouse files ledger (map string_bytes words.now) (exit_status result) (S.held shelf.new) (K.ledger keeper.new) (W.taken out.old) (W.taken out.new))) }
     ensures ceremony { IfSome (S.held shelf.old) (λ files. IfSome (K.ledger keeper.old) (λ ledger.
         HoldsCeremony files ledger (map string_bytes words.now) (exit_status result) (S.held shelf.new) (K.ledger keeper.new) (W.taken out.old) (W.taken out.new))) }
+    ensures files { exit_status result ≢ 6 → exit_status result ≢ 9
+        → RunLeaves (map string_bytes words.now) (exit_status result) (S.held shelf.old) (S.held shelf.new) }
     ensures usage { IfSome (S.held shelf.old) (λ files. IfSome (K.ledger keeper.old) (λ ledger.
         TellsUsage (map string_bytes words.now) (exit_status result) (W.taken out.old) (W.taken out.new))) }
     ensures once { Told KeepsAnswers (K.ledger keeper.old) (K.ledger keeper.new) }
@@ -84,7 +87,7 @@ fn perform<R: Eprint + AllocGlobal, S: Shelf, K: Keeper + Drop, W: Sink>(
     end(rt, status)
 }
 
-/// Does the same, and sees that what was written last is where it belongs.
+/// Does the same, sees that what was written last is where it belongs, and says what a person can mend.
 fn perform_settled<R: Eprint + AllocGlobal, S: Settle, K: Keeper + Drop, W: Sink>(
     rt: &R,
     words: &[String],
@@ -97,7 +100,9 @@ fn perform_settled<R: Eprint + AllocGlobal, S: Settle, K: Keeper + Drop, W: Sink
 {
     let code = perform(rt, words, shelf, keeper, out);
     let is_faulty = shelf.settle().is_err();
-    with_fault(rt, code, is_faulty)
+    let code = with_fault(rt, code, is_faulty);
+    advise(rt, code, words, shelf.last_fault());
+    code
 }
 
 /// Does what words say that ask no keeper, so that an empty one is as good as any.
@@ -114,7 +119,7 @@ fn perform_alone<R: Eprint + AllocGlobal, S: Settle, W: Sink>(
     perform_settled(rt, words, shelf, &mut MemKeeper::new(rt.alloc()), out)
 }
 
-/// Does what the words say over the auctions of the house, which is opened before and closed behind it.
+/// Does what the words say over the auctions of the house, which is closed behind it where it was opened.
 fn perform_in<R: Eprint + AllocGlobal, H: House, S: Settle, W: Sink>(
     rt: &R,
     words: &[String],
@@ -122,17 +127,50 @@ fn perform_in<R: Eprint + AllocGlobal, H: House, S: Settle, W: Sink>(
     shelf: &mut S,
     out: &mut W,
 ) -> ExitCode {
-    match house.open() {
-        Ok(mut kept) => {
-            let code = perform_settled(rt, words, shelf, &mut kept, out);
+    let mut kept = None;
+    let mut keeper = LateKeeper::over(house, &mut kept);
+    let code = perform_asking(rt, words, house, shelf, &mut keeper, out);
+    match kept {
+        Some(kept) => {
             let is_faulty = house.close(kept).is_err();
             with_fault(rt, code, is_faulty)
         }
-        Err(refusal) => refuse(rt, refusal),
+        None => code,
     }
 }
 
-/// Does what the words of `env` say. The house is opened where they may ask it.
+/// Opens the house, where something is kept in it already.
+fn open_made<H: House>(house: &H, keeper: &mut LateKeeper<'_, H>) -> Result<(), Unopened>
+    ensures faults { keeper.new.faults ≡ keeper.old.faults }
+    ensures turns { keeper.new.turns ≡ keeper.old.turns }
+{
+    if house.is_made()? {
+        keeper.open()?;
+    }
+    Ok(())
+}
+
+/// Does what the words say over the keeper of the house. A house in which something is kept is opened before, and no other one
+/// unless the keeper is asked: so words that are no command, and files that are missing, leave no store.
+fn perform_asking<R: Eprint + AllocGlobal, H: House, S: Settle, W: Sink>(
+    rt: &R,
+    words: &[String],
+    house: &H,
+    shelf: &mut S,
+    keeper: &mut LateKeeper<'_, H>,
+    out: &mut W,
+) -> ExitCode {
+    if let Err(refusal) = open_made(house, keeper) {
+        return refuse(rt, refusal);
+    }
+    let code = perform_settled(rt, words, shelf, keeper, out);
+    if let Some(refusal) = keeper.refusal() {
+        explain(rt, refusal);
+    }
+    code
+}
+
+/// Does what the words of `env` say. Where they may ask the house its keeper is theirs, and else an empty one.
 pub fn program<E: Env + AllocGlobal, R: Eprint + AllocGlobal, H: House, S: Settle, W: Sink>(
     env: &E,
     rt: &R,

@@ -1,4 +1,4 @@
-use Rattle.vickrey.proofs.performing.perform.Goals as goal
+use Rattle.vk_program.proofs.performing.perform.Goals as goal
 
 pub returns-clause-done : goal.returns-clause-done
 returns-clause-done g c = rw c.end.ensures c.run-status.ensures.done
@@ -23,3 +23,6 @@ returns-clause-ceremony g c = rw c.end.ensures c.run-status.ensures.ceremony
 
 pub returns-clause-usage : goal.returns-clause-usage
 returns-clause-usage g c = rw c.end.ensures c.run-status.ensures.usage
+
+pub returns-clause-files : goal.returns-clause-files
+returns-clause-files g c = rw c.end.ensures c.run-status.ensures.files

@@ -1,13 +1,13 @@
 // The house of a folder is one file, so one test has all that is tried over it.
 use super::{ID, SEED, status_of};
-use crate::house::{House, StoreHouse};
-use std::fs;
+use std::fs::{self, Permissions};
 use std::os::unix::fs::{PermissionsExt, symlink};
 use std::process::{Abort, ExitCode};
 use std::test::Fail;
+use vk_program::{House, StoreHouse};
 
 /// What the commands of the test leave in the current folder.
-const LEFT: [&str; 13] = [
+const LEFT: [&str; 14] = [
     "house.sqlite",
     "house.sqlite-wal",
     "house.sqlite-shm",
@@ -21,6 +21,7 @@ const LEFT: [&str; 13] = [
     "none",
     "script",
     "link",
+    "elsewhere",
 ];
 
 /// Written names that lead to the store, to its log or to a side file of it.
@@ -46,6 +47,9 @@ fn clear(rt: &HostRuntime) {
 #[test]
 fn the_house_is_kept_in_its_file(rt: HostRuntime) -> Result<(), Fail> {
     clear(&rt);
+    nothing_is_made(&rt, &rt)?;
+    others_may_read_no_store(&rt, &rt)?;
+    clear(&rt);
     fs::write(&rt, "first", "vickrey-challenge 1\nbits 01\nend\n")?;
     fs::write(&rt, "other", "vickrey-challenge 1\nbits 11\nend\n")?;
     proved(&rt, &rt)?;
@@ -53,6 +57,39 @@ fn the_house_is_kept_in_its_file(rt: HostRuntime) -> Result<(), Fail> {
     answered(&rt, &rt)?;
     one_keeper_at_a_time(&rt, &rt, &StoreHouse::of(&rt))?;
     clear(&rt);
+    Ok(())
+}
+
+/// Words that are no command, a script that is missing, and a command whose files are missing make no store.
+fn nothing_is_made(stop: &impl Abort, rt: &HostRuntime) -> Result<(), Fail> {
+    let table: [(&[&str], u8); 3] = [
+        (&["announce", ID, "4"], 2),
+        (&["ceremony", "none"], 5),
+        (&["submit", ID, "none", "none"], 5),
+    ];
+    for (words, status) in table {
+        assert!(stop; status_of(rt, words) == ExitCode::from(status));
+    }
+    assert!(stop; fs::metadata(rt, "house.sqlite").is_err());
+    Ok(())
+}
+
+/// An empty file that others may read becomes no store, nor does a link make one elsewhere; once it is its owner's
+/// alone it does.
+fn others_may_read_no_store(stop: &impl Abort, rt: &HostRuntime) -> Result<(), Fail> {
+    let announce = ["announce", ID, "4", "2"];
+    symlink(rt, "elsewhere", "house.sqlite")?;
+    assert!(stop; status_of(rt, &announce) == ExitCode::from(6));
+    assert!(stop; fs::metadata(rt, "elsewhere").is_err());
+    fs::remove_file(rt, "house.sqlite")?;
+    fs::write(rt, "house.sqlite", "")?;
+    for (mode, status, is_empty) in [(0o644, 6, true), (0o620, 6, true), (0o600, 0, false)] {
+        fs::set_permissions(rt, "house.sqlite", Permissions::from_mode(mode))?;
+        assert!(stop; status_of(rt, &announce) == ExitCode::from(status));
+        let metadata = fs::metadata(rt, "house.sqlite")?;
+        assert!(stop; (metadata.len() == 0) == is_empty);
+        assert!(stop; metadata.permissions().mode() & 0o777 == mode);
+    }
     Ok(())
 }
 
