@@ -1,0 +1,206 @@
+-- The forms of the plan: how many there are, which wires they name, and what they come to in whole numbers.
+use Rattle.std.specs.Prelude.{ℕ, ◌+◌, ◌-◌, ◌*◌, ◌%◌, ◌^◌, ◌<◌, ◌≤◌, ◌≡◌, Bool, true, false, nat_lt, List, [], ◌∷◌, ◌++◌, All, Contains, flat_map, length, map, slice_index, slice_index_or}
+use Rattle.std.proofs.Common.{refl, sym, ◌∙◌, subst, arith, length-append, suc-mul}
+use Rattle.std.proofs.lemmas.List.{length-map, get_or-map}
+use Rattle.std.proofs.lemmas.List.Elements.{All-nil, All-cons, All-head, All-tail, All-append, All-map, All-contains, Contains-get_or}
+use Rattle.std.proofs.lemmas.Bool.{false≢true, lt-ltb, ltb-true}
+use Rattle.std.proofs.Math.Pow.{pow_mono}
+use Rattle.vk_residue.specs.Residue.{modulus, sum, difference}
+use Rattle.vk_plan.specs.declared.form.Form.{Form}
+use Rattle.vk_plan.specs.Forms.{linear_part, form_value}
+use Rattle.vk_range.specs.Sets.{IsOfWidth}
+use Rattle.vk_range.specs.Forms.{less_one}
+use Rattle.vk_range.specs.SetLaws.{length_listed, All-listed}
+use Rattle.vk_range.specs.Laws.{difference_value}
+use Rattle.vk_range.specs.RangedLaws.{All-front, All-back, listed_each}
+use Rattle.vk_uniform.specs.UniformPlans.{price_of, winners_of, losers_of, copy_at, bid_form, win_form, price_form, bid_forms, win_forms, price_forms, uniform_forms}
+
+-- what is so of each list of a series is so of all that it joins, and back
+module _ (P : Form → Type 0) (f : ℕ → List Form) where
+  All-flat_map : (xs : List ℕ) → All (λ x. All P (f x)) xs → All P (flat_map f xs)
+  All-flat_map [] each = All-nil P
+  All-flat_map (x ∷ xs) each =
+      All-append P (f x) (flat_map f xs) (All-head (λ y. All P (f y)) x xs each)
+      (All-flat_map xs (All-tail (λ y. All P (f y)) x xs each))
+
+  flat_map-All : (xs : List ℕ) → All P (flat_map f xs) → All (λ x. All P (f x)) xs
+  flat_map-All [] all = All-nil (λ y. All P (f y))
+  flat_map-All (x ∷ xs) all =
+      All-cons (λ y. All P (f y)) x xs (All-front P (f x) (flat_map f xs) all)
+      (flat_map-All xs (All-back P (f x) (flat_map f xs) all))
+
+length_joined : (f : ℕ → List Form) (each : ℕ) (xs : List ℕ) → ((x : ℕ) → length (f x) ≡ each)
+    → length (flat_map f xs) ≡ length xs * each
+length_joined f each [] same = omega arith
+length_joined f each (x ∷ xs) same =
+    omega (
+      arith,
+      length-append (f x) (flat_map f xs),
+      same x,
+      length_joined f each xs same,
+      suc-mul (length xs) each,
+    )
+
+map-All : (P : Form → Type 0) (f : ℕ → Form) (xs : List ℕ) → All P (map f xs) → All (λ x. P (f x)) xs
+map-All P f xs all k d h = subst P (get_or-map f xs k d (f d) h) (all k (f d) (omega (arith, length-map xs f)))
+
+-- from each element to all
+each-All : (P : ℕ → Type 0) (xs : List ℕ) → ((x : ℕ) → Contains xs x → P x) → All P xs
+each-All P xs each k d h = each (slice_index_or xs k d) (Contains-get_or xs k d h)
+
+module _ (inputs : ℕ) (numbers : List ℕ) where
+  pub length_forms : length (uniform_forms inputs numbers)
+      ≡ inputs + length (winners_of numbers) * length (losers_of inputs numbers) + length (losers_of inputs numbers)
+  length_forms =
+      let outside = losers_of inputs numbers in
+      length-append (bid_forms inputs ++ win_forms inputs numbers) (price_forms inputs numbers)
+      ∙ omega (
+        arith,
+        length-append (bid_forms inputs) (win_forms inputs numbers),
+        length_listed (bid_form inputs) inputs,
+        length_joined (λ winner. map (win_form inputs winner) outside) (length outside) (winners_of numbers)
+            (λ winner. length-map outside (win_form inputs winner)),
+        length-map outside (price_form inputs (price_of numbers)),
+      )
+
+  -- what is so of the forms of each kind is so of all, and back
+  pub record AreForms (P : Form → Type 0) : Type 0 where
+    pub of_bids : (place : ℕ) → place < inputs → P (bid_form inputs place)
+    pub of_wins : (winner loser : ℕ) → Contains (winners_of numbers) winner
+        → Contains (losers_of inputs numbers) loser → P (win_form inputs winner loser)
+    pub of_prices : (loser : ℕ) → Contains (losers_of inputs numbers) loser
+        → P (price_form inputs (price_of numbers) loser)
+
+  module _ (P : Form → Type 0) where
+    pub All-forms : AreForms P → All P (uniform_forms inputs numbers)
+    All-forms each =
+        let outside = losers_of inputs numbers in
+        let wins : (winner : ℕ) → Contains (winners_of numbers) winner
+        → All P (map (win_form inputs winner) outside) =
+        λ winner wins. All-map P (win_form inputs winner) outside
+        (each-All (λ loser. P (win_form inputs winner loser)) outside
+        (λ loser loses. each.of_wins winner loser wins loses)) in
+        All-append P (bid_forms inputs ++ win_forms inputs numbers) (price_forms inputs numbers)
+        (All-append P (bid_forms inputs) (win_forms inputs numbers)
+        (All-listed P (bid_form inputs) inputs each.of_bids)
+        (All-flat_map P (λ winner. map (win_form inputs winner) outside) (winners_of numbers)
+        (each-All (λ winner. All P (map (win_form inputs winner) outside)) (winners_of numbers) wins)))
+        (All-map P (price_form inputs (price_of numbers)) outside
+        (each-All (λ loser. P (price_form inputs (price_of numbers) loser)) outside each.of_prices))
+
+    pub forms-All : All P (uniform_forms inputs numbers) → AreForms P
+    forms-All all =
+        let outside = losers_of inputs numbers in
+        let front =
+        All-front P (bid_forms inputs ++ win_forms inputs numbers) (price_forms inputs numbers) all in
+        let each =
+        flat_map-All P (λ winner. map (win_form inputs winner) outside) (winners_of numbers)
+        (All-back P (bid_forms inputs) (win_forms inputs numbers) front) in
+        let wins : (winner : ℕ) → Contains (winners_of numbers) winner
+        → All P (map (win_form inputs winner) outside) =
+        λ winner wins. All-contains (λ one. All P (map (win_form inputs one) outside))
+        (winners_of numbers) winner each wins in
+        record {
+          of_bids =
+              listed_each P (bid_form inputs) inputs
+              (All-front P (bid_forms inputs) (win_forms inputs numbers) front);
+          of_wins = λ winner loser is loses.
+              All-contains (λ one. P (win_form inputs winner one)) outside loser
+              (map-All P (win_form inputs winner) outside (wins winner is)) loses;
+          of_prices = λ loser loses.
+              All-contains (λ one. P (price_form inputs (price_of numbers) one)) outside loser
+              (map-All P (price_form inputs (price_of numbers)) outside
+              (All-back P (bid_forms inputs ++ win_forms inputs numbers)
+              (price_forms inputs numbers) all)) loses;
+        }
+
+-- the bid at a position, as its copy has it
+abbrev pub copied : ℕ → List ℕ → ℕ → ℕ
+copied inputs values position = slice_index values (copy_at inputs position)
+
+-- of numbers of at most 40 bits: a difference is of the width exactly where the one isn't above the other, and where it
+-- is below it for a difference less 1
+pub width_small : (width : ℕ) → width ≤ 40 → 2 ^ width ≤ 1099511627776
+width_small width most = pow_mono {i = width} {j = 40} most
+
+win_shows : (a b bound : ℕ) (strict : Bool) → a < bound → b < bound → bound ≤ 1099511627776
+    → (a + (modulus - 1) * b + less_one strict) % modulus < bound → (b ≤ a) × (strict ≡ true → b < a)
+win_shows a b bound true ha hb small h = (omega (arith, h), λ _. omega (arith, h))
+win_shows a b bound false ha hb small h = (omega (arith, h), λ e. absurd (false≢true e))
+
+win_fits : (a b bound : ℕ) (strict : Bool) → a < bound → bound ≤ 1099511627776 → b ≤ a → (strict ≡ true → b < a)
+    → (a + (modulus - 1) * b + less_one strict) % modulus < bound
+win_fits a b bound true ha small le more = omega (arith, more refl)
+win_fits a b bound false ha small le more = omega arith
+
+price_shows : (b price bound : ℕ) → b < bound → price < bound → bound ≤ 1099511627776
+    → ((modulus - 1) * b + price) % modulus < bound → b ≤ price
+price_shows b price bound hb hp small h = omega arith
+
+price_fits : (b price bound : ℕ) → price < bound → bound ≤ 1099511627776 → b ≤ price
+    → ((modulus - 1) * b + price) % modulus < bound
+price_fits b price bound hp small h = omega arith
+
+-- and a number that isn't above the price is selected exactly where it is the price
+pub selected_shows : (b price bound : ℕ) → b ≤ price → price < bound → bound ≤ 1099511627776
+    → difference b price < bound → b ≡ price
+selected_shows b price bound le hp small h = omega arith
+
+pub selected_fits : (b price bound : ℕ) → b ≡ price → price < bound → bound ≤ 1099511627776
+    → difference b price < bound
+selected_fits b price bound same hp small = omega arith
+
+pub unselected_fits : (b price bound : ℕ) → b ≤ price → price < bound → bound ≤ 1099511627776
+    → sum b (difference (bound - 1) price) < bound
+unselected_fits b price bound le hp small = omega arith
+
+module _ (inputs : ℕ) (values : List ℕ) where
+  pub bid_value : (place : ℕ) → slice_index values (inputs + place) < modulus
+      → form_value (bid_form inputs place) values ≡ slice_index values (inputs + place)
+  unfolding form_value linear_part
+  bid_value place small = omega arith
+
+  price_value : (price loser : ℕ) → form_value (price_form inputs price loser) values
+      ≡ ((modulus - 1) * copied inputs values loser + price) % modulus
+  unfolding form_value linear_part
+  price_value price loser = omega arith
+
+  module _ (width : ℕ) (most : width ≤ 40) where
+    pub win_shown : (winner loser : ℕ) → IsOfWidth width (copied inputs values winner)
+        → IsOfWidth width (copied inputs values loser)
+        → IsOfWidth width (form_value (win_form inputs winner loser) values)
+        → (copied inputs values loser ≤ copied inputs values winner)
+        × (loser < winner → copied inputs values loser < copied inputs values winner)
+    win_shown winner loser of_winner of_loser within =
+        let strict = nat_lt loser winner in
+        let shown =
+        win_shows (copied inputs values winner) (copied inputs values loser)
+        (2 ^ width) strict of_winner of_loser (width_small width most)
+        (subst (IsOfWidth width)
+        (difference_value (copy_at inputs winner) (copy_at inputs loser) strict values) within) in
+        (shown.0, λ before. shown.1 (lt-ltb loser winner before))
+
+    pub win_within : (winner loser : ℕ) → IsOfWidth width (copied inputs values winner)
+        → copied inputs values loser ≤ copied inputs values winner
+        → (loser < winner → copied inputs values loser < copied inputs values winner)
+        → IsOfWidth width (form_value (win_form inputs winner loser) values)
+    win_within winner loser of_winner low more =
+        let strict = nat_lt loser winner in
+        subst (IsOfWidth width)
+        (sym (difference_value (copy_at inputs winner) (copy_at inputs loser) strict values))
+        (win_fits (copied inputs values winner) (copied inputs values loser) (2 ^ width) strict of_winner
+        (width_small width most) low
+        (λ test. more (ltb-true loser winner test)))
+
+    pub price_shown : (price loser : ℕ) → IsOfWidth width price → IsOfWidth width (copied inputs values loser)
+        → IsOfWidth width (form_value (price_form inputs price loser) values)
+        → copied inputs values loser ≤ price
+    price_shown price loser of_price of_loser within =
+        price_shows (copied inputs values loser) price (2 ^ width) of_loser of_price (width_small width most)
+        (subst (IsOfWidth width) (price_value price loser) within)
+
+    pub price_within : (price loser : ℕ) → IsOfWidth width price → copied inputs values loser ≤ price
+        → IsOfWidth width (form_value (price_form inputs price loser) values)
+    price_within price loser of_price low =
+        subst (IsOfWidth width) (sym (price_value price loser))
+        (price_fits (copied inputs values loser) price (2 ^ width) of_price (width_small width most) low)
