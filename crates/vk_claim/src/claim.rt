@@ -1,0 +1,67 @@
+// What the lanes of a claim file are to show.
+ghost use Rattle.std.specs.Prelude.{◌≡◌, IfOk, IfSome};
+ghost use Rattle.vk_lines.specs.Lines.{OnlyReads, rest_of};
+ghost use Rattle.vk_verifier.specs.Behind.{and_rest};
+ghost use Rattle.vk_claim.specs.Values.{IsClaimFront, plan_for};
+ghost use Rattle.vk_claim.specs.Verdicts.{IsClaim, claim_at, claim_with};
+
+use crate::circuits::Circuits;
+use crate::front::{ClaimFront, read_claim_front};
+use crate::head::ClaimHead;
+use crate::verdict::ClaimVerdict;
+use std::alloc::Global;
+use vk_io::{OutsideErr, Shelf};
+use vk_lines::Lines;
+use vk_residue::NoMemory;
+use vk_verifier::{Part, Statement, in_part, known};
+
+/// A claim: the head of its file, and what the lanes are to show, whose circuit is that of the public part.
+#[derive(Debug, Drop)]
+pub struct Claim {
+    pub head: ClaimHead,
+    pub statement: Statement,
+}
+
+/// Reads a claim file before its first lane. The verdict on it is known where a line isn't what its place demands,
+/// and then where the public part isn't admitted.
+#[tactic(auto, unfolding(crate::specs::Verdicts::claim_at))]
+pub fn read_claim<S: Shelf, Q: Circuits>(
+    alloc: Global,
+    shelf: &mut S,
+    circuits: &Q,
+    lines: &mut Lines,
+) -> Result<Result<Claim, ClaimVerdict>, OutsideErr>
+    ensures told { IfSome (S.held shelf.old) (λ files. IfOk result (λ claim.
+        claim_at (Q.admitted circuits.now) (rest_of lines.old files) ≡ and_rest claim (rest_of lines.new files))) }
+    ensures right { IfOk result (λ claim. IfOk claim (IsClaim (Q.admitted circuits.now))) }
+    ensures shelf { OnlyReads S.held S.Shelf.faults OutsideErr.Failed result shelf.old shelf.new }
+{
+    let read = in_part(Part::Board, read_claim_front(alloc, shelf, lines));
+    match known(read)? {
+        Err(fault) => Ok(Err(ClaimVerdict::from(fault))),
+        Ok(front) => {
+            let claim = claim_with(alloc, circuits, front)?;
+            Ok(claim)
+        }
+    }
+}
+
+/// The claim with this front, where its public part is admitted.
+fn claim_with<Q: Circuits>(
+    alloc: Global,
+    circuits: &Q,
+    front: ClaimFront,
+) -> Result<Result<Claim, ClaimVerdict>, NoMemory>
+    requires { IsClaimFront front }
+    ensures value { IfOk result (λ claim. claim ≡ claim_with front (plan_for (Q.admitted circuits.now) front.head)) }
+    ensures right { IfOk result (λ claim. IfOk claim (IsClaim (Q.admitted circuits.now))) }
+{
+    let ClaimFront { head, seals } = front;
+    match circuits.plan(alloc, head.kind, head.inputs, head.numbers.as_slice())? {
+        None => Ok(Err(ClaimVerdict::Public)),
+        Some(plan) => {
+            let statement = Statement::of(alloc, head.auction, head.lanes, seals, plan)?;
+            Ok(Ok(Claim { head, statement }))
+        }
+    }
+}

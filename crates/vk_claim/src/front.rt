@@ -1,0 +1,38 @@
+// What stands in a claim file before its first lane.
+ghost use Rattle.std.specs.Prelude.{◌≡◌, IfOk};
+ghost use Rattle.vk_lines.specs.Lines.{KeepsFile, OnlyReads, ReadsPart};
+ghost use Rattle.vk_claim.specs.Values.{IsClaimFront};
+ghost use Rattle.vk_claim.specs.Reading.{claim_front_at};
+
+use crate::head::{ClaimHead, read_claim_head};
+use std::alloc::Global;
+use vk_board::{SealLines, read_seal_lines};
+use vk_io::Shelf;
+use vk_lines::{Lines, ReadErr};
+use vk_seq::Seq;
+
+/// What stands in a claim file before its first lane.
+#[derive(Debug, Drop)]
+pub struct ClaimFront {
+    pub head: ClaimHead,
+    /// A seal for each input.
+    pub seals: Seq<SealLines>,
+}
+
+/// Reads the lines of a claim file before its first lane. Malformed carries the number of the first line that
+/// isn't what its place demands; a seat that an earlier seal has is a fault at its line.
+#[tactic(auto, unfolding(crate::specs::Reading::claim_front_at))]
+pub fn read_claim_front<S: Shelf>(
+    alloc: Global,
+    shelf: &mut S,
+    lines: &mut Lines,
+) -> Result<ClaimFront, ReadErr>
+    ensures told { ReadsPart claim_front_at (S.held shelf.old) lines.old lines.new result }
+    ensures right { IfOk result IsClaimFront }
+    ensures file { KeepsFile lines.old lines.new }
+    ensures shelf { OnlyReads S.held S.Shelf.faults ReadErr.Failed result shelf.old shelf.new }
+{
+    let head = read_claim_head(alloc, shelf, lines)?;
+    let seals = read_seal_lines(alloc, shelf, lines, head.inputs, head.lanes)?;
+    Ok(ClaimFront { head, seals })
+}
