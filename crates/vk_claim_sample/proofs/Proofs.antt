@@ -1,0 +1,116 @@
+-- The proof of a sample's claim is an honest one whose rows are sealed.
+use Rattle.std.proofs.Common.{◌≡◌, ℕ, ◌-◌, List, [], length, map, take, Option, Some, None, Result, Ok, Err, refl, sym, ap, subst, ◌∙◌}
+use Rattle.std.proofs.lemmas.List.Elements.{All-weaker}
+use Rattle.vk_residue.specs.Steps.{◌>>=◌}
+use Rattle.vk_plan.specs.Plans.{PlanValue}
+use Rattle.vk_lines.specs.Gives.{Refuses}
+use Rattle.vk_board.specs.Values.{AreSealsOf}
+use Rattle.vk_verifier.proofs.Steps.{bind_ok}
+use Rattle.vk_keeper.specs.declared.auction.SealRow.{SealRow}
+use Rattle.vk_keeper.specs.Auctions.{IsSealRow}
+use Rattle.vk_job.specs.declared.errors.JobErr.{JobErr}
+use Rattle.vk_job.specs.declared.errors.JobErr.TheVariants as job
+use Rattle.vk_job.specs.Answers.{dry_refusal}
+use Rattle.vk_job.specs.Proofs.{Dry, HasTapesFor, IsProof, ProofValue, TapeSource, first_dry_in, seal_lines_of, source_of}
+use Rattle.vk_job.specs.Published.{head_of}
+use Rattle.vk_job.proofs.Drawing.{lanes_of}
+use Rattle.vk_job.proofs.Parts as job_parts
+use Rattle.vk_honest.specs.Answers.{IsSealedProof}
+use Rattle.vk_uniform.specs.UniformPlans.{IsUniformCase, IsUniformClaim, uniform_plan, uniform_values}
+use Rattle.vk_uniform.specs.UniformLaws.{uniform_begins, uniform_complete, uniform_inputs, uniform_is_plan}
+use Rattle.vk_report.specs.declared.sample.SampleCase.{SampleCase}
+use Rattle.vk_report.specs.Samples.{IsCase}
+use Rattle.vk_sample.specs.Auctions.{DrySeed, OfHouse, auction_with, dry_of, of_job, rows_onto, unless_dry}
+use Rattle.vk_sample.proofs.Auctions.{AllRows, all_rows, is_auction, none_dry}
+use Rattle.vk_claim_sample.specs.Claims.{proof_by, proof_unless_dry, proof_with}
+
+module _ (case : SampleCase) (is : IsCase case) (numbers : List ℕ) (uniform : IsUniformCase (length case.seats) numbers) (claim : IsUniformClaim (length case.seats) numbers case.bids)
+    (rows : List SealRow) (all : AllRows case rows) (none : first_dry_in (source_of (proof_with case numbers rows)) ≡ None) where
+  pub is_proof : IsProof (proof_with case numbers rows)
+  is_proof = record {
+    plan = uniform_is_plan (length case.seats) numbers uniform;
+    one_input_each = all.count ∙ sym (uniform_inputs (length case.seats) numbers);
+    values = uniform_complete (length case.seats) numbers case.bids uniform claim;
+    count = is.size.lanes;
+    secrets = All-weaker (IsSealRow case.auction case.width case.lanes) (HasTapesFor case.lanes)
+        (λ row right. record { count = lanes_of case.auction case.width case.lanes row right; each = right.secret.tapes }) rows all.right;
+    none_dry = none;
+  }
+
+  pub is_sealed : IsSealedProof case.width (proof_with case numbers rows)
+  is_sealed = record {
+    right = is_proof;
+    rows = all.right;
+    inputs =
+        ap (λ n. take n (uniform_values (length case.seats) numbers case.bids)) all.count
+        ∙ uniform_begins (length case.seats) numbers case.bids uniform claim ∙ sym all.bids_are;
+  }
+
+-- the seals may stand in a claim file
+pub seals_may_stand : (case : SampleCase) → IsCase case → (rows : List SealRow) → AllRows case rows → AreSealsOf (length rows) case.lanes (map seal_lines_of rows)
+unfolding head_of
+seals_may_stand case is rows all = job_parts.seals_are (auction_with case rows) (is_auction case is rows all)
+
+-- ---- what was made
+
+pub record IsMadeOf (case : SampleCase) (numbers : List ℕ) (proof : ProofValue) : Type 0 where
+  pub rows : List SealRow
+  pub all : AllRows case rows
+  pub none : first_dry_in (source_of (proof_with case numbers rows)) ≡ None
+  pub same : proof_with case numbers rows ≡ proof
+
+pub made_of : (case : SampleCase) → IsCase case → (numbers : List ℕ) (proof : ProofValue) → proof_by case numbers ≡ Ok proof → IsMadeOf case numbers proof
+unfolding proof_by
+made_of case is numbers proof made =
+    let given = bind_ok (rows_onto case [] (length case.seats)) (proof_unless_dry case numbers) proof made in
+    let rows = given.0 in
+    let passed = none_dry (proof_with case numbers rows) proof (first_dry_in (source_of (proof_with case numbers rows))) given.2 in
+    record { rows = rows; all = all_rows case is rows given.1; none = passed.0; same = passed.1 }
+
+-- of a case whose numbers are right, it is honest
+pub is_honest : (case : SampleCase) → IsCase case → (numbers : List ℕ) → IsUniformCase (length case.seats) numbers → IsUniformClaim (length case.seats) numbers case.bids
+    → (proof : ProofValue) → proof_by case numbers ≡ Ok proof → IsProof proof
+is_honest case is numbers uniform claim proof made =
+    let of = made_of case is numbers proof made in
+    subst (λ p. IsProof p) of.same (is_proof case is numbers uniform claim of.rows of.all of.none)
+
+-- ---- what refuses it
+
+dry_refuses : (proof : ProofValue) (dry : Option Dry) (refused : JobErr) → Err refused ≡ dry_refusal dry → Refuses (dry_of (of_job refused)) (unless_dry proof dry)
+dry_refuses proof None refused is = cc
+dry_refuses proof (Some dry) (job.DrySeed lane wire) is =
+    let lanes : lane ≡ dry.lane = cc in
+    let wires : wire ≡ dry.wire = cc in
+    let of : ℕ → ℕ → Result ProofValue DrySeed = λ l w. Err (OfHouse (record { lane = l; wire = w })) in
+    ap (λ l. of l dry.wire) (sym lanes) ∙ ap (of lane) (sym wires)
+dry_refuses proof (Some dry) job.NoMemory is = tt
+
+dry_passes : (proof : ProofValue) (dry : Option Dry) → Ok tt ≡ dry_refusal dry → unless_dry proof dry ≡ Ok proof
+dry_passes proof None is = refl
+dry_passes proof (Some dry) is = cc
+
+-- what the tapes come from, with so many wires after the inputs
+abbrev pub source_with : SampleCase → List SealRow → ℕ → TapeSource
+source_with case rows further = record { id = case.auction; rows = rows; lanes = case.lanes; seed = case.seed; further = further }
+
+module _ (case : SampleCase) (numbers : List ℕ) (rows : List SealRow) (rows_are : rows_onto case [] (length case.seats) ≡ Ok rows)
+    (plan : PlanValue) (plan_is : plan ≡ uniform_plan (length case.seats) numbers) (further : ℕ) (further_is : further ≡ length plan.kinds - plan.inputs) where
+  of_proof : (answer : Result Unit JobErr) → answer ≡ dry_refusal (first_dry_in (source_with case rows further)) → answer ≡ dry_refusal (first_dry_in (source_of (proof_with case numbers rows)))
+  of_proof answer is =
+      is ∙ ap (λ f. dry_refusal (first_dry_in (source_with case rows f))) (further_is ∙ ap (λ (p : PlanValue). length p.kinds - p.inputs) plan_is)
+
+  pub tapes_refuse : (refused : JobErr) → Err refused ≡ dry_refusal (first_dry_in (source_with case rows further)) → Refuses (dry_of (of_job refused)) (proof_by case numbers)
+  unfolding proof_by
+  tapes_refuse refused is =
+      subst (λ r. Refuses (dry_of (of_job refused)) (r >>= proof_unless_dry case numbers)) (sym rows_are)
+      (dry_refuses (proof_with case numbers rows) (first_dry_in (source_of (proof_with case numbers rows))) refused (of_proof (Err refused) is))
+
+  pub tapes_pass : (values : List ℕ) → values ≡ uniform_values (length case.seats) numbers case.bids → Ok tt ≡ dry_refusal (first_dry_in (source_with case rows further))
+      → proof_by case numbers ≡ Ok (record { id = case.auction; rows = rows; lanes = case.lanes; seed = case.seed; plan = plan; values = values })
+  unfolding proof_by
+  tapes_pass values values_are is =
+      let made : PlanValue → List ℕ → Result ProofValue DrySeed = λ p vs. Ok (record { id = case.auction; rows = rows; lanes = case.lanes; seed = case.seed; plan = p; values = vs }) in
+      ap (λ r. r >>= proof_unless_dry case numbers) rows_are
+      ∙ dry_passes (proof_with case numbers rows) (first_dry_in (source_of (proof_with case numbers rows))) (of_proof (Ok tt) is)
+      ∙ ap (λ p. made p (uniform_values (length case.seats) numbers case.bids)) (sym plan_is)
+      ∙ ap (made plan) (sym values_are)

@@ -1,0 +1,110 @@
+-- The numbers of a sample's claim, and that its bids are as they claim.
+use Rattle.std.proofs.Common.{◌≡◌, ℕ, ◌-◌, ◌^◌, ◌<◌, ◌≤◌, List, ◌∷◌, length, refl, sym, ap, subst, ◌∙◌, arith, inl, inr}
+use Rattle.std.specs.Prelude.{All, slice_index}
+use Rattle.std.proofs.lemmas.Bool.{cases_lt}
+use Rattle.std.proofs.Math.Nat.{pow-le-pow_right}
+use Rattle.std.proofs.lemmas.List.Elements.{All-weaker, recursion_from_All}
+use Rattle.std.proofs.lemmas.Nat.{pow_pos}
+use Rattle.vk_uniform.specs.Outcomes.{IsLoser, IsPosition, IsUniformOutcome, bid_at}
+use Rattle.vk_uniform.specs.Losers.{loser_listed, losers, losers_lose}
+use Rattle.vk_uniform.specs.OutcomeLaws.{outcome_exists, outcome_is_one}
+use Rattle.vk_uniform.specs.UniformPlans.{IsUniformCase, IsUniformClaim, width_of, winners_of}
+use Rattle.vk_claim.specs.Values.{AreNumbers}
+use Rattle.vk_report.specs.declared.sample.SampleCase.{SampleCase}
+use Rattle.vk_report.proofs.Samples.{is_case as case_of_sizes}
+use Rattle.vk_report.specs.Samples.{AreSizes, IsCaseOf}
+use Rattle.vk_claim_sample.specs.Claims.{IsSaleOf, claim_case, claim_sizes, enough_bids, numbers_of, some_unit, units}
+
+-- the price is a loser's bid, or 0
+price_small : (width : ℕ) (bids winners : List ℕ) (price : ℕ) → All (λ bid. bid < 2 ^ width) bids → IsUniformOutcome bids winners price → price < 2 ^ width
+price_small width bids winners price small is =
+    let outside = losers (length bids) winners in
+    elim (cases_lt 0 (length outside)) [
+      | inl some ↦
+          (let held = is.price_is_bid (slice_index outside 0) (losers_lose (length bids) winners 0 0 some) in
+          let at = held.is_loser.is_position in
+          let below : bid_at bids held.holder < 2 ^ width = small (held.holder - 1) 0 (omega (arith, at.some, at.within)) in
+          omega (arith, held.bids_price, below))
+      | inr none ↦
+          (let nobody : (position : ℕ) → ¬ IsLoser (length bids) winners position =
+          λ position loses. absurd (omega (arith, none, (loser_listed (length bids) winners position loses).1)) in
+          omega (arith, is.all_win_for_0 nobody, pow_pos width))
+    ]
+
+module _ (case : SampleCase) (is : IsCaseOf claim_sizes case) (winners : List ℕ) (price : ℕ) (sale : IsUniformOutcome case.bids winners price) (count : length winners ≡ units) where
+  pub sale_case : IsUniformCase (length case.seats) (case.width ∷ price ∷ winners)
+  sale_case = record {
+    limits = record {
+      some_inputs = is.right.some_seal;
+      most_inputs = omega (arith, is.right.few_seals);
+      enough = omega (arith, count);
+      wide = is.right.size.width;
+      within_width = price_small case.width case.bids winners price is.right.bids sale;
+      are_positions = subst (λ n. All (IsPosition n) winners) is.right.bid_count sale.are_positions;
+      ascending = sale.ascending;
+    };
+    all_win_for_0 = subst (λ n. ((position : ℕ) → ¬ IsLoser n winners position) → price ≡ 0) is.right.bid_count sale.all_win_for_0;
+  }
+
+  pub sale_claim : IsUniformClaim (length case.seats) (case.width ∷ price ∷ winners) case.bids
+  sale_claim = record { one_each = is.right.bid_count; within_width = is.right.bids; outcome = sale }
+
+  pub sale_numbers : AreNumbers (case.width ∷ price ∷ winners)
+  sale_numbers =
+      let widest : 2 ^ case.width ≤ 2 ^ 40 = pow-le-pow_right {n = 2} (omega arith) is.right.size.width.most in
+      let small = price_small case.width case.bids winners price is.right.bids sale in
+      let within : All (λ number. number < 2 ^ 64) winners =
+      All-weaker (IsPosition (length case.bids)) (λ number. number < 2 ^ 64)
+      (λ position at. omega (arith, at.within, is.right.bid_count, is.right.few_seals)) winners sale.are_positions in
+      record {
+        some = omega arith;
+        few = omega (arith, count);
+        small = (omega (arith, is.right.size.width.most), (omega (arith, small, widest), recursion_from_All (λ number. number < 2 ^ 64) winners within));
+      }
+
+-- ---- of numbers that are those of an outcome
+
+module _ (case : SampleCase) (is : IsCaseOf claim_sizes case) (numbers : List ℕ) (of : IsSaleOf case numbers) where
+  pub is_case : IsUniformCase (length case.seats) numbers
+  is_case = subst (IsUniformCase (length case.seats)) (sym of.numbers_are) (sale_case case is of.winners of.price of.outcome of.count)
+
+  pub is_claim : IsUniformClaim (length case.seats) numbers case.bids
+  is_claim = subst (λ ns. IsUniformClaim (length case.seats) ns case.bids) (sym of.numbers_are) (sale_claim case is of.winners of.price of.outcome of.count)
+
+  pub are_numbers : AreNumbers numbers
+  are_numbers = subst (λ ns. AreNumbers ns) (sym of.numbers_are) (sale_numbers case is of.winners of.price of.outcome of.count)
+
+  pub three_win : length (winners_of numbers) ≡ units
+  three_win = ap (λ ns. length (winners_of ns)) of.numbers_are ∙ of.count
+
+  pub width_is : width_of numbers ≡ case.width
+  width_is = ap (λ ns. width_of ns) of.numbers_are
+
+-- they are those of the number
+pub numbers_are : (number : ℕ) (case : SampleCase) (numbers : List ℕ) → case ≡ claim_case number → IsSaleOf case numbers → numbers ≡ numbers_of number
+unfolding numbers_of
+numbers_are number case numbers is of =
+    let sale = outcome_exists (claim_case number).bids units some_unit (enough_bids number) in
+    let P : SampleCase → Type 0 = λ c. IsSaleOf c numbers in
+    let here : IsSaleOf (claim_case number) numbers = subst P is of in
+    let one = outcome_is_one (claim_case number).bids here.winners sale.0 here.price sale.1 here.outcome sale.2 (here.count ∙ sym sale.3) in
+    here.numbers_are
+    ∙ (ap (λ p. (claim_case number).width ∷ p ∷ here.winners) one.1 ∙ ap (λ ws. (claim_case number).width ∷ sale.1 ∷ ws) one.0)
+
+pub sale_is : (number : ℕ) → IsSaleOf (claim_case number) (numbers_of number)
+unfolding numbers_of
+sale_is number =
+    let sale = outcome_exists (claim_case number).bids units some_unit (enough_bids number) in
+    record { winners = sale.0; price = sale.1; outcome = sale.2; count = sale.3; numbers_are = refl }
+
+claim_are : AreSizes claim_sizes
+claim_are = record {
+  letters = refl;
+  some_seal = omega arith;
+  few_seals = omega arith;
+  width = inl refl;
+  lanes = record { least = omega arith; most = omega arith };
+}
+
+pub case_is : (number : ℕ) → IsCaseOf claim_sizes (claim_case number)
+case_is number = case_of_sizes claim_sizes claim_are number

@@ -1,0 +1,4 @@
+pub mod Claims
+pub mod Texts
+pub mod ClaimSamples
+pub mod Laws

@@ -1,0 +1,89 @@
+// The files of a sample's claim.
+ghost use Rattle.std.specs.Prelude.{◌≡◌, ◌≤◌, length, IfOk};
+ghost use Rattle.vk_io.specs.Faults.{Causes};
+ghost use Rattle.vk_io.specs.Files.{Told};
+ghost use Rattle.vk_io.specs.Writing.{WritesAll};
+ghost use Rattle.vk_words.specs.Names.{extract_seen};
+ghost use Rattle.vk_claim.specs.Texts.{claim_head_text};
+ghost use Rattle.vk_job.specs.Proofs.{IsProof};
+ghost use Rattle.vk_claim_sample.specs.Claims.{head_with, proof_in};
+ghost use Rattle.vk_claim_sample.specs.Texts.{claim_names, files_of};
+
+use crate::making::Made;
+use std::alloc::Global;
+use vk_claim::{ClaimHead, Kind, claim_head_text};
+use vk_io::{OutsideErr, Shelf, write_files};
+use vk_job::HonestProof;
+use vk_report::SampleCase;
+use vk_residue::NoMemory;
+use vk_sample::ProofFiles;
+use vk_seq::Seq;
+use vk_words::{AttemptNames, ExtractNames};
+
+/// The names of the files.
+pub fn claim_names() -> ExtractNames<'static>
+    ensures { extract_seen result ≡ claim_names }
+{
+    ExtractNames {
+        board: "claim-board",
+        first: AttemptNames {
+            challenge: "claim-challenge-1",
+            reply: "claim-reply-1",
+        },
+        second: AttemptNames {
+            challenge: "claim-challenge-2",
+            reply: "claim-reply-2",
+        },
+    }
+}
+
+/// The text of the head of the claim file.
+fn head_of(alloc: Global, case: &SampleCase, numbers: &[u64]) -> Result<Vec<u8>, NoMemory>
+    requires { length case.now.seats ≤ 64 }
+    ensures { IfOk result (λ text. text.items ≡ claim_head_text (head_with case.now numbers.now)) }
+{
+    let head = ClaimHead {
+        auction: case.auction,
+        kind: Kind::Uniform,
+        lanes: case.lanes,
+        inputs: case.seats.len() as u32,
+        numbers: Seq::from_vec(Vec::from_slice(alloc, numbers)?),
+    };
+    let text = claim_head_text(alloc, &head)?;
+    Ok(text)
+}
+
+/// Writes the claim file, both challenges and the replies to them, lane by lane. Files that stand there are replaced.
+pub fn write_claim<S: Shelf>(
+    alloc: Global,
+    shelf: &mut S,
+    case: &SampleCase,
+    numbers: &[u64],
+    made: &Made,
+) -> Result<(), OutsideErr>
+    requires few { length case.now.seats ≤ 64 }
+    requires right { IsProof (proof_in case.now made.now) }
+    requires first { length case.now.first.bits ≡ case.now.lanes }
+    requires second { length case.now.second.bits ≡ case.now.lanes }
+    ensures written { Told (WritesAll (files_of case.now numbers.now (proof_in case.now made.now)) result) (S.held shelf.old) (S.held shelf.new) }
+    ensures causes { Causes OutsideErr.Failed result (S.Shelf.faults shelf.old) (S.Shelf.faults shelf.new) }
+{
+    let head = head_of(alloc, case, numbers)?;
+    let proof = HonestProof::of(
+        &case.auction,
+        made.rows.as_slice(),
+        case.lanes,
+        case.seed,
+        &made.plan,
+        made.values.as_slice(),
+    );
+    let files = ProofFiles {
+        names: claim_names(),
+        head: head.as_slice(),
+        proof: &proof,
+        first: &case.first,
+        second: &case.second,
+    };
+    write_files(alloc, shelf, &files)?;
+    Ok(())
+}

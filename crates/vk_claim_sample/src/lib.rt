@@ -1,0 +1,14 @@
+//! `claim-sample`: a claim from one number, three equal units that are sold to ten bidders at one price. Its seals, its
+//! file and both replies are made, written, read back, judged and extracted.
+#![tactic(auto)]
+
+mod files;
+mod laws;
+mod making;
+mod numbers;
+mod reading;
+mod sampling;
+mod summary;
+
+pub use laws::a_claim_sample_is_accepted_and_opened;
+pub use sampling::claim_sample;

@@ -1,0 +1,62 @@
+ghost use Rattle.std.specs.Prelude.{◌≡◌, ℕ, IfSome, Ok, Option};
+ghost use Rattle.vk_io.specs.Faults.{Causes};
+ghost use Rattle.vk_keeper.specs.Ledgers.{Ledger};
+ghost use Rattle.vk_report.specs.Samples.{IsCaseOf};
+ghost use Rattle.vk_effect.specs.Effects.{stores};
+ghost use Rattle.vk_sample.specs.Samples.{Acts};
+ghost use Rattle.vk_claim_sample.specs.Claims.{IsSaleOf, claim_sizes, proof_by, proof_in};
+ghost use Rattle.vk_claim_sample.specs.ClaimSamples.{claim_sample_on, effect_by};
+
+use crate::files::write_claim;
+use crate::making::{Made, make_claim};
+use crate::numbers::{claim_sizes, numbers_of};
+use crate::reading::read_back;
+use crate::summary::made_lines;
+use std::alloc::Global;
+use vk_effect::Said;
+use vk_io::{OutsideErr, Shelf};
+use vk_report::{SampleCase, case_of};
+
+/// Makes the claim of a number with its file and two replies, writes them, reads them back, and says what they come to.
+/// Files that stand under their names are replaced; where a seed is dry none is written.
+pub fn claim_sample<S: Shelf>(alloc: Global, shelf: &mut S, number: u64) -> Result<Said, OutsideErr>
+    ensures acts { (ledger : Option Ledger) → IfSome (claim_sample_on (S.held shelf.old) ledger number)
+        (λ effect. Acts result effect (stores (S.held shelf.old) ledger) (stores (S.held shelf.new) ledger)) }
+    ensures causes { Causes OutsideErr.Failed result (S.Shelf.faults shelf.old) (S.Shelf.faults shelf.new) }
+{
+    let case = case_of(alloc, &claim_sizes(), number)?;
+    let published = numbers_of(alloc, &case)?;
+    let numbers = published.as_slice();
+    match make_claim(alloc, &case, numbers) {
+        Ok(made) => {
+            let said = hold(alloc, shelf, number, &case, numbers, &made);
+            said
+        }
+        Err(dry) => {
+            let said = dry.said()?;
+            Ok(said)
+        }
+    }
+}
+
+/// Writes the files of the claim, and reads them back.
+fn hold<S: Shelf>(
+    alloc: Global,
+    shelf: &mut S,
+    number: u64,
+    case: &SampleCase,
+    numbers: &[u64],
+    made: &Made,
+) -> Result<Said, OutsideErr>
+    requires right { IsCaseOf claim_sizes case.now }
+    requires sale { IsSaleOf case.now numbers.now }
+    requires made { proof_by case.now numbers.now ≡ Ok (proof_in case.now made.now) }
+    ensures acts { (ledger : Option Ledger) → IfSome (effect_by (S.held shelf.old) ledger number case.now numbers.now (Ok (proof_in case.now made.now)))
+        (λ effect. Acts result effect (stores (S.held shelf.old) ledger) (stores (S.held shelf.new) ledger)) }
+    ensures causes { Causes OutsideErr.Failed result (S.Shelf.faults shelf.old) (S.Shelf.faults shelf.new) }
+{
+    let lines = made_lines(alloc, number, case.lanes, &made.plan)?;
+    write_claim(alloc, shelf, case, numbers, made)?;
+    let said = read_back(alloc, shelf, lines)?;
+    Ok(said)
+}

@@ -1,0 +1,156 @@
+-- What `claim-extract` says holds of the files: of two replies that are accepted for different challenges, values or a clash, and of no others.
+use Rattle.std.proofs.Common.{◌≡◌, ◌≢◌, ℕ, ◌<◌, Bool, true, false, List, Option, Some, Result, Ok, Err, refl, sym, ap, subst, ◌∙◌, arith, inl, inr}
+use Rattle.vk_io.specs.Files.{Files}
+use Rattle.vk_verifier.specs.declared.answers.Part.{Part}
+use Rattle.vk_verifier.specs.declared.answers.VErr.{VErr}
+use Rattle.vk_verifier.specs.declared.answers.VErr.TheVariants.{Missing, TooLong, Failed, NoMemory}
+use Rattle.vk_bids.specs.declared.extraction.Extraction.TheVariants.{Refused, Same, Clash, Bids}
+use Rattle.vk_bids.specs.Headline.{IsClashBehind}
+use Rattle.vk_bids.specs.Texts.{clash_text}
+use Rattle.vk_claim.specs.declared.verdict.ClaimVerdict.{ClaimVerdict}
+use Rattle.vk_claim.specs.declared.verdict.ClaimVerdict.TheVariants.{Accepted}
+use Rattle.vk_claim.specs.Extraction.{ClaimExtraction, claim_extraction, claim_extraction_in, claim_extraction_on}
+use Rattle.vk_claim.specs.Headline.{IsClaimOpened, IsOfClaim, TwoClaimsAccepted}
+use Rattle.vk_claim.specs.Printing.{claim_extraction_text}
+use Rattle.vk_claim.proofs.Headlines.{claim_files_are_extracted, claims_open}
+use Rattle.vk_words.specs.Names.{ExtractWords}
+use Rattle.vk_effect.specs.Effects.{SaidValue, puts}
+use Rattle.vk_audit.specs.Answers.{SettlesExtract}
+use Rattle.vk_audit.specs.Inputs.{HoldsFiles}
+use Rattle.vk_audit.specs.Verdicts.{answer_said, name_of, unread_said}
+use Rattle.vk_audit.proofs.Answered.{answered_holds, answered_settled, extract_parts, files_held, files_unread}
+use Rattle.vk_audit.proofs.Extracting.{put_told, told_apart}
+use Rattle.vk_audit.proofs.Inputs.{fault_of, first_unread}
+use Rattle.vk_audit.proofs.Telling.{tells}
+use Rattle.vk_claims.specs.Circuits.{admitted_plan, claimed, claims_are_sound, plans_are_right}
+use Rattle.vk_claims.specs.Extractions.{claim_extraction_said, claim_extract_said}
+use Rattle.vk_claims.specs.Findings.{ClaimExtractionHolds}
+use Rattle.vk_claims.specs.Statuses.{AcceptsSameClaims, AcceptsTwoClaims, ClaimExtractHolds, ExtractsClaimsExactly, HasClaimExtraction, IsClaimExtracted, PutsText, TellsClaimExtractions, TellsSameClaimsExactly}
+use Rattle.vk_claims.proofs.Findings.{extraction_holds, second_accepted, unfound_found}
+use Rattle.vk_claims.proofs.Verifying.{status_accepted, status_within}
+
+-- ---- the answer
+
+module _ (files : Files) (names : ExtractWords) where
+  abbrev answer : Result ClaimExtraction VErr
+  answer = claim_extraction_on admitted_plan files names.board names.first.challenge names.first.reply names.second.challenge names.second.reply
+
+  abbrev of_held : HoldsFiles files names → ClaimExtraction
+  of_held held =
+      claim_extraction_in admitted_plan held.board_bytes held.first.challenge_bytes held.first.reply_bytes held.second.challenge_bytes held.second.reply_bytes
+
+  answer_unread : (unread : Part × Bool) → first_unread files (name_of names) extract_parts ≡ Some unread → answer ≡ Err (fault_of unread)
+  unfolding claim_extraction_on
+  answer_unread unread is = files_unread (claim_extraction admitted_plan) files names unread is
+
+  answer_read : (held : HoldsFiles files names) → answer ≡ Ok (of_held held)
+  answer_read held =
+      (claim_files_are_extracted admitted_plan files names.board names.first.challenge names.first.reply names.second.challenge names.second.reply (of_held held)).1
+      (record { held = held; is = refl })
+
+  answer_holds : ClaimExtractHolds files names answer
+  answer_holds =
+      answered_holds files names extract_parts (HasClaimExtraction files names) answer answer_unread (λ read.
+      let held : HoldsFiles files names = files_held read in
+      subst (ClaimExtractHolds files names) (sym (answer_read held)) (record {
+        held = held;
+        holds = extraction_holds admitted_plan claimed plans_are_right claims_are_sound
+            held.board_bytes held.first.challenge_bytes held.first.reply_bytes held.second.challenge_bytes held.second.reply_bytes;
+      }))
+
+  abbrev said_of : Result ClaimExtraction VErr → SaidValue
+  said_of answered = answer_said (claim_extraction_said names) (unread_said names) answered
+
+  answer_settled : (other : Result ClaimExtraction VErr) → SettlesExtract other → ClaimExtractHolds files names other → said_of answer ≡ said_of other
+  answer_settled =
+      answered_settled files names extract_parts (HasClaimExtraction files names) answer answer_unread (claim_extraction_said names) SettlesExtract
+      (λ extraction settles has.
+      let held = has.held in
+      answer_read held ∙ ap (λ e. Ok e)
+      (unfound_found admitted_plan claimed plans_are_right claims_are_sound
+      held.board_bytes held.first.challenge_bytes held.first.reply_bytes held.second.challenge_bytes held.second.reply_bytes extraction settles has.holds))
+
+pub tells_claim_extractions : TellsClaimExtractions
+tells_claim_extractions files names taken =
+    tells (ClaimExtractHolds files names) SettlesExtract (said_of files names) (answer files names) taken
+    (answer_holds files names) (answer_settled files names)
+
+-- ---- the status and the text
+
+-- what is said of values of the replies, or of a clash of them
+module _ {file challenge reply other second : List ℕ} (two : TwoClaimsAccepted admitted_plan file challenge reply other second) (names : ExtractWords) (taken : Option (List ℕ)) where
+  abbrev Puts : {X : Type 0} → (X → Type 0) → (X → List ℕ) → List ℕ → List ℕ → Type 0
+  Puts IsSuch text = PutsText IsSuch text
+
+  said_extracted : (extraction : ClaimExtraction) → IsOfClaim admitted_plan claimed two extraction
+      → let said = claim_extraction_said names extraction in IsClaimExtracted two said.status taken (puts said.text taken)
+  said_extracted (Refused of_second refused) is = absurd is
+  said_extracted Same is = absurd is
+  said_extracted (Clash clash) is =
+      inr (refl, put_told (Puts (IsClashBehind two.behind) clash_text) (clash_text clash) (λ before. record { found = clash; is = is; put = refl }) taken)
+  said_extracted (Bids found) is =
+      inl (
+        refl,
+        put_told (Puts (IsClaimOpened admitted_plan claimed two) claim_extraction_text) (claim_extraction_text found)
+            (λ before. record { found = found; is = is; put = refl }) taken,
+      )
+
+said_of_accepted : (files : Files) (names : ExtractWords) (taken : Option (List ℕ)) (accepted : AcceptsTwoClaims files names)
+    → let said = claim_extract_said files names in IsClaimExtracted accepted.two said.status taken (puts said.text taken)
+said_of_accepted files names taken accepted =
+    let held = accepted.held in
+    let P : Result ClaimExtraction VErr → Type 0 = λ answer. let said = said_of files names answer in IsClaimExtracted accepted.two said.status taken
+    (puts said.text taken) in
+    subst P (sym (answer_read files names held))
+    (said_extracted accepted.two names taken (of_held files names held)
+    (claims_open admitted_plan claimed plans_are_right claims_are_sound accepted.two))
+
+-- ---- only such files
+
+-- no reply is refused by the verdict that it is accepted
+refused_never : (of_second : Bool) (refused : ClaimVerdict) (file challenge reply other second : List ℕ)
+    → ClaimExtractionHolds admitted_plan claimed (Refused of_second refused) file challenge reply other second → refused ≢ Accepted
+refused_never false refused file challenge reply other second holds = holds.0
+refused_never true refused file challenge reply other second holds =
+    let fails = holds.1 in
+    λ same. fails.refuses (second_accepted fails.fault (sym fails.verdict_is ∙ same))
+
+only_said : (files : Files) (names : ExtractWords) (answered : Result ClaimExtraction VErr) → ClaimExtractHolds files names answered
+    → (said_of files names answered).status ≢ 1 → (said_of files names answered).status < 4 → AcceptsTwoClaims files names
+only_said files names (Err (Missing part)) holds other small = absurd (omega arith)
+only_said files names (Err (TooLong part)) holds other small = absurd (omega arith)
+only_said files names (Err Failed) holds other small = absurd holds
+only_said files names (Err NoMemory) holds other small = absurd holds
+only_said files names (Ok (Refused of_second refused)) holds other small =
+    let held = holds.held in
+    absurd (refused_never of_second refused held.board_bytes held.first.challenge_bytes held.first.reply_bytes held.second.challenge_bytes held.second.reply_bytes holds.holds
+    (status_accepted names of_second refused other small))
+only_said files names (Ok Same) holds other small = absurd (omega arith)
+only_said files names (Ok (Clash clash)) holds other small = record { held = holds.held; two = holds.holds.0 }
+only_said files names (Ok (Bids found)) holds other small = record { held = holds.held; two = holds.holds.0 }
+
+pub extracts_claims_exactly : ExtractsClaimsExactly
+extracts_claims_exactly files names taken = (
+  said_of_accepted files names taken,
+  λ found. let apart = told_apart (claim_extract_said files names).status found in only_said files names (answer files names)
+      (answer_holds files names) apart.0 apart.1,
+)
+
+-- ---- equal challenges
+
+same_shown : (files : Files) (names : ExtractWords) (answered : Result ClaimExtraction VErr) → ClaimExtractHolds files names answered
+    → (said_of files names answered).status ≡ 7 → AcceptsSameClaims files names
+same_shown files names (Err (Missing part)) holds seven = absurd (omega arith)
+same_shown files names (Err (TooLong part)) holds seven = absurd (omega arith)
+same_shown files names (Err Failed) holds seven = absurd holds
+same_shown files names (Err NoMemory) holds seven = absurd holds
+same_shown files names (Ok (Refused of_second refused)) holds seven = let within = status_within names of_second refused in absurd (omega arith)
+same_shown files names (Ok Same) holds seven = holds
+same_shown files names (Ok (Clash clash)) holds seven = absurd (omega arith)
+same_shown files names (Ok (Bids found)) holds seven = absurd (omega arith)
+
+pub tells_same_claims_exactly : TellsSameClaimsExactly
+tells_same_claims_exactly files names = record {
+  only = λ seven. same_shown files names (answer files names) (answer_holds files names) seven;
+  always = λ same _ _. ap (λ (said : SaidValue). said.status) (answer_settled files names (Ok Same) (λ found. found) same);
+}

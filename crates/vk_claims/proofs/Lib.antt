@@ -1,0 +1,4 @@
+pub mod Findings
+pub mod Verifying
+pub mod Extracting
+pub mod Parts

@@ -1,0 +1,98 @@
+-- What `claim-verify` says holds of the files, and status 0 comes exactly where the reply is accepted.
+use Rattle.std.proofs.Common.{◌≡◌, ◌≢◌, ℕ, ◌<◌, ◌≤◌, Bool, false, List, Some, Result, Ok, Err, refl, sym, ap, subst, ◌∙◌, arith}
+use Rattle.vk_io.specs.Files.{Files}
+use Rattle.vk_verifier.specs.declared.answers.Part.{Part}
+use Rattle.vk_verifier.specs.declared.answers.VErr.{VErr}
+use Rattle.vk_verifier.specs.declared.answers.VErr.TheVariants.{Missing, TooLong, Failed, NoMemory}
+use Rattle.vk_bids.specs.Headline.{HeldAttempt, IsHeld}
+use Rattle.vk_claim.specs.declared.verdict.ClaimVerdict.{ClaimVerdict}
+use Rattle.vk_claim.specs.declared.verdict.ClaimVerdict.TheVariants.{Accepted, Malformed, Public, Lanes, Wire, Row}
+use Rattle.vk_claim.specs.Verdicts.{claim_judged, claim_verdict_of, claim_verdict_on}
+use Rattle.vk_words.specs.Names.{ExtractWords, VerifyWords}
+use Rattle.vk_effect.specs.Effects.{SaidValue}
+use Rattle.vk_audit.specs.Verdicts.{answer_said, name_of, unread_said, verified_words}
+use Rattle.vk_audit.proofs.Answered.{answered_holds, answered_settled, attempt_held, attempt_read, attempt_unread, verify_parts}
+use Rattle.vk_audit.proofs.Inputs.{fault_of, first_unread}
+use Rattle.vk_audit.proofs.Telling.{tells}
+use Rattle.vk_claims.specs.Circuits.{admitted_plan, plans_are_right}
+use Rattle.vk_claims.specs.Statuses.{AcceptsClaim, ClaimVerifyHolds, HasClaimVerdict, TellsClaimVerdicts, VerifiesClaimsExactly}
+use Rattle.vk_claims.specs.Verdicts.{claim_judged_said}
+use Rattle.vk_claims.proofs.Findings.{verdict_given, verdict_shown}
+
+-- ---- verdicts
+
+-- only that a reply is accepted has a status below 4 other than 1
+pub status_accepted : (names : ExtractWords) (second : Bool) (verdict : ClaimVerdict) → (claim_judged_said names second verdict).status ≢ 1
+    → (claim_judged_said names second verdict).status < 4 → verdict ≡ Accepted
+status_accepted names second Accepted other small = refl
+status_accepted names second (Malformed part line) other small = absurd (omega arith)
+status_accepted names second Public other small = absurd (other refl)
+status_accepted names second Lanes other small = absurd (other refl)
+status_accepted names second (Wire lane wire fault) other small = absurd (other refl)
+status_accepted names second (Row lane row) other small = absurd (other refl)
+
+pub status_within : (names : ExtractWords) (second : Bool) (verdict : ClaimVerdict) → (claim_judged_said names second verdict).status ≤ 4
+status_within names second Accepted = omega arith
+status_within names second (Malformed part line) = omega arith
+status_within names second Public = omega arith
+status_within names second Lanes = omega arith
+status_within names second (Wire lane wire fault) = omega arith
+status_within names second (Row lane row) = omega arith
+
+-- ---- the answer
+
+module _ (files : Files) (names : VerifyWords) where
+  abbrev answer : Result ClaimVerdict VErr
+  answer = claim_verdict_on admitted_plan files names.board names.attempt.challenge names.attempt.reply
+
+  answer_unread : (unread : Part × Bool) → first_unread files (name_of (verified_words names)) verify_parts ≡ Some unread → answer ≡ Err (fault_of unread)
+  unfolding claim_verdict_on
+  answer_unread unread is = attempt_unread (claim_judged admitted_plan) files names unread is
+
+  answer_read : (board : List ℕ) → IsHeld files names.board board → (attempt : HeldAttempt files names.attempt.challenge names.attempt.reply)
+      → answer ≡ Ok (claim_verdict_of admitted_plan board attempt.challenge_bytes attempt.reply_bytes)
+  unfolding claim_verdict_on
+  answer_read board is attempt = attempt_read (claim_judged admitted_plan) files names board is attempt
+
+  answer_holds : ClaimVerifyHolds files names answer
+  answer_holds =
+      answered_holds files (verified_words names) verify_parts (HasClaimVerdict files names) answer answer_unread (λ read.
+      let attempt : HeldAttempt files names.attempt.challenge names.attempt.reply = attempt_held read in
+      subst (ClaimVerifyHolds files names) (sym (answer_read read.0.0 read.0.1 attempt)) (record {
+        board = read.0.0;
+        board_is = read.0.1;
+        attempt = attempt;
+        holds = verdict_shown admitted_plan plans_are_right read.0.0 attempt.challenge_bytes attempt.reply_bytes _ refl;
+      }))
+
+  abbrev said_of : Result ClaimVerdict VErr → SaidValue
+  said_of answered = answer_said (claim_judged_said (verified_words names) false) (unread_said (verified_words names)) answered
+
+  answer_settled : (other : Result ClaimVerdict VErr) → ClaimVerifyHolds files names other → said_of answer ≡ said_of other
+  answer_settled other holds =
+      answered_settled files (verified_words names) verify_parts (HasClaimVerdict files names) answer answer_unread
+      (claim_judged_said (verified_words names) false) (λ _. Unit {0}) (λ verdict _ has.
+      answer_read has.board has.board_is has.attempt
+      ∙ ap (λ v. Ok v) (verdict_given admitted_plan plans_are_right has.board has.attempt.challenge_bytes has.attempt.reply_bytes verdict has.holds)) other tt holds
+
+pub tells_claim_verdicts : TellsClaimVerdicts
+tells_claim_verdicts files names taken =
+    tells (ClaimVerifyHolds files names) (λ _. Unit {0}) (said_of files names) (answer files names) taken
+    (answer_holds files names) (λ other settles holds. answer_settled files names other holds)
+
+-- ---- status 0
+
+only_accepted : (files : Files) (names : VerifyWords) (answered : Result ClaimVerdict VErr) → ClaimVerifyHolds files names answered
+    → (said_of files names answered).status ≡ 0 → AcceptsClaim files names
+only_accepted files names (Ok answered) holds zero_is =
+    subst (HasClaimVerdict files names) (status_accepted (verified_words names) false answered (λ one. omega arith) (omega arith)) holds
+only_accepted files names (Err (Missing file)) holds zero_is = absurd (omega arith)
+only_accepted files names (Err (TooLong file)) holds zero_is = absurd (omega arith)
+only_accepted files names (Err Failed) holds zero_is = absurd holds
+only_accepted files names (Err NoMemory) holds zero_is = absurd holds
+
+pub verifies_claims_exactly : VerifiesClaimsExactly
+verifies_claims_exactly files names = record {
+  only = λ zero_is. only_accepted files names (answer files names) (answer_holds files names) zero_is;
+  always = λ accepts _ _. ap (λ (said : SaidValue). said.status) (answer_settled files names (Ok Accepted) accepts);
+}

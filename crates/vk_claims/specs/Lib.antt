@@ -1,0 +1,6 @@
+pub mod Circuits
+pub mod Verdicts
+pub mod Extractions
+pub mod Orders
+pub mod Findings
+pub mod Statuses

@@ -1,0 +1,122 @@
+-- What the statuses of `claim-verify` and `claim-extract` mean, by the bytes of the named files alone.
+use Rattle.std.specs.Prelude.{◌≡◌, ◌⊎◌, ◌↔◌, ℕ, false, List, ◌++◌, Option, Some, None, Result}
+use Rattle.vk_io.specs.Files.{Files, Told}
+use Rattle.vk_verifier.specs.declared.answers.VErr.{VErr}
+use Rattle.vk_bids.specs.declared.extraction.Extraction.TheVariants.{Same}
+use Rattle.vk_bids.specs.Headline.{HeldAttempt, IsClashBehind, IsHeld}
+use Rattle.vk_bids.specs.Texts.{clash_text}
+use Rattle.vk_uniform.specs.UniformPlans.{IsUniformCase, IsUniformClaim, uniform_plan}
+use Rattle.vk_claim.specs.declared.head.Kind.TheVariants.{Uniform}
+use Rattle.vk_claim.specs.declared.verdict.ClaimVerdict.{ClaimVerdict}
+use Rattle.vk_claim.specs.declared.verdict.ClaimVerdict.TheVariants.{Accepted}
+use Rattle.vk_claim.specs.Extraction.{ClaimExtraction}
+use Rattle.vk_claim.specs.Headline.{IsClaimOpened, TwoClaimsAccepted}
+use Rattle.vk_claim.specs.Printing.{claim_extraction_text}
+use Rattle.vk_words.specs.Names.{ExtractWords, VerifyWords}
+use Rattle.vk_effect.specs.Effects.{puts}
+use Rattle.vk_audit.specs.Answers.{AnswerHolds, SettlesExtract, Tells}
+use Rattle.vk_audit.specs.Inputs.{HoldsFiles, extract_inputs, verify_inputs}
+use Rattle.vk_audit.specs.Statuses.{ComesExactly}
+use Rattle.vk_audit.specs.Verdicts.{answer_said, unread_said, verified_words}
+use Rattle.vk_claims.specs.Circuits.{admitted_plan, claimed}
+use Rattle.vk_claims.specs.Extractions.{claim_extraction_said, claim_extract_said}
+use Rattle.vk_claims.specs.Findings.{ClaimExtractionHolds, ClaimVerdictHolds}
+use Rattle.vk_claims.specs.Verdicts.{claim_judged_said, claim_verify_said}
+
+-- ---- public parts
+
+-- a sale of equal units is admitted exactly where it may have these numbers, by its plan, and claims the outcome
+pub record AdmitsUniform (inputs : ℕ) (numbers : List ℕ) : Type 0 where
+  pub admitted : IsUniformCase inputs numbers → admitted_plan Uniform inputs numbers ≡ Some (uniform_plan inputs numbers)
+  pub other : ¬ IsUniformCase inputs numbers → admitted_plan Uniform inputs numbers ≡ None
+  pub claims : (bids : List ℕ) → claimed Uniform inputs numbers bids ↔ IsUniformClaim inputs numbers bids
+
+-- ---- `claim-verify`
+
+-- the named files are held, and the verdict holds of their bytes
+pub record HasClaimVerdict (files : Files) (names : VerifyWords) (verdict : ClaimVerdict) : Type 0 where
+  pub board : List ℕ
+  pub board_is : IsHeld files names.board board
+  pub attempt : HeldAttempt files names.attempt.challenge names.attempt.reply
+  pub holds : ClaimVerdictHolds admitted_plan verdict board attempt.challenge_bytes attempt.reply_bytes
+
+-- the reply is accepted with the claim file and the challenge
+abbrev pub AcceptsClaim : Files → VerifyWords → Type 0
+AcceptsClaim files names = HasClaimVerdict files names Accepted
+
+-- status 0 comes exactly where the reply is accepted
+abbrev pub IsClaimVerified : Files → VerifyWords → ℕ → Type 0
+IsClaimVerified files names status = ComesExactly 0 (AcceptsClaim files names) status
+
+-- every end says what holds, and every answer that holds is what is said
+abbrev pub ClaimVerifyHolds : Files → VerifyWords → Result ClaimVerdict VErr → Type 0
+ClaimVerifyHolds files names = AnswerHolds files (verified_words names) (verify_inputs names) (HasClaimVerdict files names)
+
+abbrev pub TellsClaimVerdict : Files → VerifyWords → ℕ → Option (List ℕ) → Option (List ℕ) → Type 0
+TellsClaimVerdict files names status old new =
+    Tells (ClaimVerifyHolds files names) (λ _. Unit {0}) (answer_said (claim_judged_said (verified_words names) false) (unread_said (verified_words names))) status old new
+
+-- ---- `claim-extract`
+
+-- the named files are held, and both replies are accepted with the claim file, for challenges that differ
+pub record AcceptsTwoClaims (files : Files) (names : ExtractWords) : Type 0 where
+  pub held : HoldsFiles files names
+  pub two : TwoClaimsAccepted admitted_plan held.board_bytes held.first.challenge_bytes held.first.reply_bytes held.second.challenge_bytes held.second.reply_bytes
+
+-- they are held, and the extraction holds of their bytes
+pub record HasClaimExtraction (files : Files) (names : ExtractWords) (extraction : ClaimExtraction) : Type 0 where
+  pub held : HoldsFiles files names
+  pub holds : ClaimExtractionHolds admitted_plan claimed extraction
+      held.board_bytes held.first.challenge_bytes held.first.reply_bytes held.second.challenge_bytes held.second.reply_bytes
+
+-- both replies are accepted, for challenges that don't differ
+abbrev pub AcceptsSameClaims : Files → ExtractWords → Type 0
+AcceptsSameClaims files names = HasClaimExtraction files names Same
+
+-- status 7 comes exactly where both are accepted and the challenges don't differ
+abbrev pub IsSameClaim : Files → ExtractWords → ℕ → Type 0
+IsSameClaim files names status = ComesExactly 7 (AcceptsSameClaims files names) status
+
+-- the text of such a thing is put
+pub record PutsText {X : Type 0} (IsSuch : X → Type 0) (text : X → List ℕ) (old new : List ℕ) : Type 0 where
+  pub found : X
+  pub is : IsSuch found
+  pub put : new ≡ old ++ text found
+
+-- the status is 0, and the text of values is put: of every lane whose bits differ, opened by what the replies show of it,
+-- which open the lane's seals, and of which the file's claim holds; or it is 3, and two openings of one commitment are put
+abbrev pub IsClaimExtracted : {file challenge reply other second : List ℕ}
+    → TwoClaimsAccepted admitted_plan file challenge reply other second → ℕ → Option (List ℕ) → Option (List ℕ) → Type 0
+IsClaimExtracted two status old new =
+    ((status ≡ 0) × Told (PutsText (IsClaimOpened admitted_plan claimed two) claim_extraction_text) old new)
+    ⊎ ((status ≡ 3) × Told (PutsText (IsClashBehind two.behind) clash_text) old new)
+
+-- every end says what holds, and every answer that holds is what is said, but for values and a clash
+abbrev pub ClaimExtractHolds : Files → ExtractWords → Result ClaimExtraction VErr → Type 0
+ClaimExtractHolds files names = AnswerHolds files names (extract_inputs names) (HasClaimExtraction files names)
+
+abbrev pub TellsClaimExtraction : Files → ExtractWords → ℕ → Option (List ℕ) → Option (List ℕ) → Type 0
+TellsClaimExtraction files names status old new =
+    Tells (ClaimExtractHolds files names) SettlesExtract (answer_said (claim_extraction_said names) (unread_said names)) status old new
+
+-- ---- the laws
+
+abbrev pub VerifiesClaimsExactly : Type 0
+VerifiesClaimsExactly = (files : Files) (names : VerifyWords) → IsClaimVerified files names (claim_verify_said files names).status
+
+-- two replies that are accepted for different challenges give the values or a clash, and only such replies do
+abbrev pub ExtractsClaimsExactly : Type 0
+ExtractsClaimsExactly = (files : Files) (names : ExtractWords) (taken : Option (List ℕ)) → let said = claim_extract_said files names in
+    ((accepted : AcceptsTwoClaims files names) → IsClaimExtracted accepted.two said.status taken (puts said.text taken))
+    × ((said.status ≡ 0) ⊎ (said.status ≡ 3) → AcceptsTwoClaims files names)
+
+abbrev pub TellsSameClaimsExactly : Type 0
+TellsSameClaimsExactly = (files : Files) (names : ExtractWords) → IsSameClaim files names (claim_extract_said files names).status
+
+abbrev pub TellsClaimVerdicts : Type 0
+TellsClaimVerdicts = (files : Files) (names : VerifyWords) (taken : Option (List ℕ)) → let said = claim_verify_said files names in
+    TellsClaimVerdict files names said.status taken (puts said.text taken)
+
+abbrev pub TellsClaimExtractions : Type 0
+TellsClaimExtractions = (files : Files) (names : ExtractWords) (taken : Option (List ℕ)) → let said = claim_extract_said files names in
+    TellsClaimExtraction files names said.status taken (puts said.text taken)

@@ -1,0 +1,89 @@
+//! A command on claims over a shelf of files.
+
+ghost use Rattle.std.specs.Prelude.{◌≡◌, IfOk, IfSome};
+ghost use Rattle.vk_io.specs.Reads.{OnlyReads};
+ghost use Rattle.vk_words.specs.Names.{extract_seen, verify_seen};
+ghost use Rattle.vk_claims.specs.Extractions.{claim_extract_said};
+ghost use Rattle.vk_claims.specs.Orders.{claim_order_seen, claim_said};
+ghost use Rattle.vk_claims.specs.Verdicts.{claim_verify_said};
+
+use crate::circuits::ClaimCircuits;
+use crate::extractions::claim_extracted;
+use crate::verdicts::claim_judged;
+use std::alloc::Global;
+use vk_audit::{replies_of, unread, verified_names};
+use vk_claim::{claim_verdict, extract_claim};
+use vk_effect::Said;
+use vk_io::{OutsideErr, Shelf};
+use vk_words::{ExtractNames, VerifyNames};
+
+/// What is to be done with a claim file: the names of the files.
+#[derive(Clone, Copy, Debug)]
+pub enum ClaimOrder<'a> {
+    Verify(VerifyNames<'a>),
+    Extract(ExtractNames<'a>),
+}
+
+/// What is said of a reply to a claim file.
+fn claim_verified<S: Shelf>(
+    alloc: Global,
+    shelf: &mut S,
+    names: &VerifyNames<'_>,
+) -> Result<Said, OutsideErr>
+    ensures said { IfSome (S.held shelf.old) (λ files. IfOk result (λ said. said ≡ claim_verify_said files (verify_seen names.now))) }
+    ensures shelf { OnlyReads S.held S.Shelf.faults OutsideErr.Failed result shelf.old shelf.new }
+{
+    let VerifyNames { board, attempt } = *names;
+    let names = verified_names(names);
+    let circuits = ClaimCircuits;
+    let said = match claim_verdict(
+        alloc,
+        shelf,
+        &circuits,
+        board,
+        attempt.challenge,
+        attempt.reply,
+    ) {
+        Ok(verdict) => claim_judged(alloc, &names, false, verdict)?,
+        Err(fault) => unread(alloc, &names, fault)?,
+    };
+    Ok(said)
+}
+
+/// What is said of two replies to a claim file.
+fn claim_answered<S: Shelf>(
+    alloc: Global,
+    shelf: &mut S,
+    names: &ExtractNames<'_>,
+) -> Result<Said, OutsideErr>
+    ensures said { IfSome (S.held shelf.old) (λ files. IfOk result (λ said. said ≡ claim_extract_said files (extract_seen names.now))) }
+    ensures shelf { OnlyReads S.held S.Shelf.faults OutsideErr.Failed result shelf.old shelf.new }
+{
+    let circuits = ClaimCircuits;
+    let said = match extract_claim(alloc, shelf, &circuits, &replies_of(names)) {
+        Ok(extraction) => claim_extracted(alloc, names, &extraction)?,
+        Err(fault) => unread(alloc, names, fault)?,
+    };
+    Ok(said)
+}
+
+/// Reads the named files, and says what they come to.
+pub fn audit_claim<S: Shelf>(
+    alloc: Global,
+    shelf: &mut S,
+    order: &ClaimOrder<'_>,
+) -> Result<Said, OutsideErr>
+    ensures said { IfSome (S.held shelf.old) (λ files. IfOk result (λ said. said ≡ claim_said files (claim_order_seen order.now))) }
+    ensures shelf { OnlyReads S.held S.Shelf.faults OutsideErr.Failed result shelf.old shelf.new }
+{
+    match order {
+        ClaimOrder::Verify(names) => {
+            let said = claim_verified(alloc, shelf, names)?;
+            Ok(said)
+        }
+        ClaimOrder::Extract(names) => {
+            let said = claim_answered(alloc, shelf, names)?;
+            Ok(said)
+        }
+    }
+}

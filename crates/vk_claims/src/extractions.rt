@@ -1,0 +1,41 @@
+//! What is said of what two replies to a claim file come to.
+
+ghost use Rattle.std.specs.Prelude.{◌≡◌, IfOk, Ok};
+ghost use Rattle.vk_commit.specs.Commitment.{TwoOpeningsSeen};
+ghost use Rattle.vk_bids.specs.Texts.{clash_text};
+ghost use Rattle.vk_bids.specs.declared.extraction.Extraction.TheVariants as comes;
+ghost use Rattle.vk_words.specs.Names.{extract_seen};
+ghost use Rattle.vk_claims.specs.Extractions.{claim_extraction_said};
+
+use crate::verdicts::claim_judged;
+use std::alloc::Global;
+use vk_audit::same_challenge;
+use vk_bids::{Extraction, clash_line};
+use vk_claim::{ClaimExtraction, claim_extraction_lines};
+use vk_effect::Said;
+use vk_residue::NoMemory;
+use vk_words::ExtractNames;
+
+/// What is said of a reply that isn't accepted, or of what two accepted replies come to. A clash takes no memory.
+pub fn claim_extracted(
+    alloc: Global,
+    names: &ExtractNames<'_>,
+    extraction: &ClaimExtraction,
+) -> Result<Said, NoMemory>
+    ensures said { IfOk result (λ said. said ≡ claim_extraction_said (extract_seen names.now) extraction.now) }
+    ensures clash { (two : TwoOpeningsSeen) → extraction.now ≡ comes.Clash two
+        → result ≡ Ok (record { status = 3; text = clash_text two }) }
+{
+    match extraction {
+        Extraction::Refused { second, verdict } => {
+            let said = claim_judged(alloc, names, *second, *verdict)?;
+            Ok(said)
+        }
+        Extraction::Same => Ok(same_challenge()),
+        Extraction::Clash(two) => Ok(Said::of_short(3, clash_line(two))),
+        Extraction::Bids(found) => {
+            let lines = claim_extraction_lines(alloc, found)?;
+            Ok(Said::of_lines(0, lines))
+        }
+    }
+}
