@@ -53,22 +53,21 @@ impl Stage {
         self.shelf.file(name).unwrap_or(&[]).len() as u64
     }
 
-    /// Runs the command of these words, and puts the changed lines back. Answers its status and
-    /// what it printed.
-    pub fn run(&mut self, line: &[u8]) -> Tried<(u8, MemSink)> {
+    /// Runs the command of these words, which prints there, and puts the changed lines back.
+    /// Answers its status.
+    pub fn run(&mut self, line: &[u8], out: &mut MemSink) -> Tried<u8> {
         let words = words_of(self.alloc, line)?;
-        let mut out = MemSink::new(self.alloc);
         self.shelf.watch(words.as_slice())?;
         let status = run(
             self.alloc,
             words.as_slice(),
             &mut self.shelf,
             &mut self.keeper,
-            &mut out,
+            out,
         );
         put_back(&mut self.shelf, self.replaced.as_slice())?;
         self.replaced.clear();
-        Ok((status, out))
+        Ok(status)
     }
 }
 

@@ -4,7 +4,7 @@ use crate::stage::Stage;
 use std::alloc::Global;
 use vk_cases::{Tried, Unreplayed, behind, number_at, read_cases, text_of, word_at};
 use vk_dice::{ListWords, draw_residue};
-use vk_io::Shelf;
+use vk_io::{MemSink, Shelf};
 use vk_lines::{end_line, push_decimal, push_line};
 
 /// Takes a step, and tells what came of it. A line that begins with another word is a comment.
@@ -52,7 +52,8 @@ fn take<S: Shelf>(alloc: Global, stage: &mut Stage, folder: &mut S, name: &[u8])
 
 /// Runs a command, and tells of it where it wasn't done.
 fn done(alloc: Global, stage: &mut Stage, line: &[u8]) -> Tried<Vec<u8>> {
-    let (status, out) = stage.run(line)?;
+    let mut out = MemSink::new(alloc);
+    let status = stage.run(line, &mut out)?;
     if status == 0 {
         return Ok(Vec::new(alloc));
     }
@@ -61,7 +62,8 @@ fn done(alloc: Global, stage: &mut Stage, line: &[u8]) -> Tried<Vec<u8>> {
 
 /// Runs a command, and tells of it.
 fn said(alloc: Global, stage: &mut Stage, line: &[u8]) -> Tried<Vec<u8>> {
-    let (status, out) = stage.run(line)?;
+    let mut out = MemSink::new(alloc);
+    let status = stage.run(line, &mut out)?;
     run_text(alloc, line, status, out.bytes())
 }
 

@@ -159,17 +159,41 @@ pub fn try_auctions<W: Sink>(alloc: Global, out: &mut W) -> Tried<()> {
 /// How large the auction's files are, and what the program says of them.
 fn auction_text(alloc: Global, auction: &Auction) -> Tried<Vec<u8>> {
     let honest = Honest::of(alloc, auction.bids, auction.terms)?;
-    let mut shelf = PieceShelf::over(MemShelf::new(alloc));
-    honest.write(alloc, &mut shelf)?;
     let mut text = Vec::new(alloc);
-    push_sizes(&mut text, auction, &honest, shelf.inner())?;
-    for asked in [Asked::Zeros, Asked::Ones, Asked::Last] {
-        push_verified(alloc, &mut text, &mut shelf, asked)?;
-    }
-    push_extracted(alloc, &mut text, &mut shelf, auction, Asked::Ones)?;
-    push_extracted(alloc, &mut text, &mut shelf, auction, Asked::Last)?;
-    push_reported(alloc, &mut text, &mut shelf, auction, &honest)?;
+    push_auction(alloc, &mut text, auction, &honest)?;
     Ok(text)
+}
+
+/// The same of an auction that is made.
+fn push_auction(
+    alloc: Global,
+    text: &mut Vec<u8>,
+    auction: &Auction,
+    honest: &Honest,
+) -> Tried<()> {
+    let mut shelf = PieceShelf::over(MemShelf::new(alloc));
+    let pushed = push_files(alloc, text, &mut shelf, auction, honest);
+    pushed
+}
+
+// What follows borrows text, files and auction: what an error drops takes seconds to prove.
+
+/// Writes the auction's files, and tells how large they are and what the program says of them.
+fn push_files(
+    alloc: Global,
+    text: &mut Vec<u8>,
+    shelf: &mut PieceShelf,
+    auction: &Auction,
+    honest: &Honest,
+) -> Tried<()> {
+    honest.write(alloc, shelf)?;
+    push_sizes(text, auction, honest, shelf.inner())?;
+    for asked in [Asked::Zeros, Asked::Ones, Asked::Last] {
+        push_verified(alloc, text, shelf, asked)?;
+    }
+    push_extracted(alloc, text, shelf, auction, Asked::Ones)?;
+    push_extracted(alloc, text, shelf, auction, Asked::Last)?;
+    push_reported(alloc, text, shelf, auction, honest)
 }
 
 /// The counts of the auction, of its wires and rows in a lane, and of the lines of its files.
@@ -242,12 +266,23 @@ pub fn push_run<S: Shelf>(
     shelf: &mut S,
     line: &[u8],
 ) -> Tried<MemSink> {
-    let words = words_of(alloc, line)?;
     let mut out = MemSink::new(alloc);
-    let mut keeper = MemKeeper::new(alloc);
-    let status = run(alloc, words.as_slice(), shelf, &mut keeper, &mut out);
+    let status = status_of(alloc, shelf, &mut out, line)?;
     push_status(text, line, status)?;
     Ok(out)
+}
+
+/// The status of a command over no auction.
+pub fn status_of<S: Shelf>(
+    alloc: Global,
+    shelf: &mut S,
+    out: &mut MemSink,
+    line: &[u8],
+) -> Tried<u8> {
+    let words = words_of(alloc, line)?;
+    let mut keeper = MemKeeper::new(alloc);
+    let status = run(alloc, words.as_slice(), shelf, &mut keeper, out);
+    Ok(status)
 }
 
 /// A command and its status.
@@ -271,11 +306,21 @@ fn push_extracted(
 ) -> Tried<()> {
     let line = words_with(alloc, "extract board zeros reply-zeros", asked)?;
     let out = push_run(alloc, text, shelf, line.as_bytes())?;
-    let said = without_openings(alloc, out.bytes())?;
-    let sale = sale_line(alloc, auction)?;
+    push_bare(alloc, text, auction, asked, out.bytes())
+}
+
+/// The same of what it printed.
+fn push_bare(
+    alloc: Global,
+    text: &mut Vec<u8>,
+    auction: &Auction,
+    asked: Asked,
+    printed: &[u8],
+) -> Tried<()> {
+    let said = without_openings(alloc, printed)?;
     if said.as_slice() == expected(alloc, auction, asked)?.as_slice() {
         text.extend_from_slice(b"bids as given\n")?;
-        text.extend_from_slice(sale.as_bytes())?;
+        text.extend_from_slice(sale_line(alloc, auction)?.as_bytes())?;
         text.extend_from_slice(b"all seats same\n")?;
     } else {
         text.extend_from_slice(said.as_slice())?;
@@ -315,17 +360,21 @@ fn push_before_openings(text: &mut Vec<u8>, line: &[u8]) -> Tried<()> {
 /// zeros is asked for, the sale, and that each seat's bids are the same.
 fn expected(alloc: Global, auction: &Auction, asked: Asked) -> Tried<Vec<u8>> {
     let mut text = Vec::new(alloc);
+    push_expected(alloc, &mut text, auction, asked)?;
+    Ok(text)
+}
+
+fn push_expected(alloc: Global, text: &mut Vec<u8>, auction: &Auction, asked: Asked) -> Tried<()> {
     let lanes = auction.terms.lanes;
     for lane in 1..=lanes {
         if asked.bit(u32::from(lane), u32::from(lanes)) {
-            push_bids(alloc, &mut text, auction, lane)?;
+            push_bids(alloc, text, auction, lane)?;
         }
     }
-    let sale = sale_line(alloc, auction)?;
-    text.extend_from_slice(sale.as_bytes())?;
-    push_same(alloc, &mut text, auction)?;
+    text.extend_from_slice(sale_line(alloc, auction)?.as_bytes())?;
+    push_same(alloc, text, auction)?;
     text.extend_from_slice(b"end\n")?;
-    Ok(text)
+    Ok(())
 }
 
 /// The line of each bid in a lane.
@@ -341,20 +390,32 @@ fn push_bids(alloc: Global, text: &mut Vec<u8>, auction: &Auction, lane: u16) ->
 
 /// The line of the sale that is known.
 fn sale_line(alloc: Global, auction: &Auction) -> Tried<String> {
-    let mut line = match auction.sale {
+    let mut line = sold_words(alloc, auction.sale)?;
+    push_reserve(alloc, &mut line, auction.terms)?;
+    line.push_str("\n")?;
+    Ok(line)
+}
+
+/// The winner and the price, or that nothing is sold.
+fn sold_words(alloc: Global, sale: Sale) -> Tried<String> {
+    let words = match sale {
         Sale::Sold { position, price } => {
             let seat = seat_at(position);
             format!(in alloc; "winner {seat} price {price}")?
         }
         Sale::Unsold => String::from_str(alloc, "unsold")?,
     };
-    if auction.terms.version == 2 {
-        let reserve = auction.terms.reserve;
+    Ok(words)
+}
+
+/// The reserve, which version 2 has.
+fn push_reserve(alloc: Global, line: &mut String, terms: Terms) -> Tried<()> {
+    if terms.version == 2 {
+        let reserve = terms.reserve;
         let more = format!(in alloc; " reserve {reserve}")?;
         line.push_str(more.as_str())?;
     }
-    line.push_str("\n")?;
-    Ok(line)
+    Ok(())
 }
 
 /// The line of each seat whose bids are the same in all lanes.
@@ -387,20 +448,25 @@ fn push_reported(
 /// What a report has to be.
 fn reported(alloc: Global, auction: &Auction, honest: &Honest) -> Tried<Vec<u8>> {
     let mut text = Vec::new(alloc);
-    text.extend_from_slice(b"auction 000102030405060708090a0b0c0d0e0f\n")?;
-    push_number(&mut text, b"width", u64::from(auction.terms.width))?;
-    push_number(&mut text, b"lanes", u64::from(auction.terms.lanes))?;
-    push_number(&mut text, b"seals", auction.bids.len() as u64)?;
-    push_published(&mut text, auction)?;
-    for (_bid, position) in auction.bids.iter().zip(1u32..=64) {
-        push_number(&mut text, b"seat", u64::from(seat_at(position)))?;
-    }
-    push_number(&mut text, b"wires", u64::from(honest.wires))?;
-    push_number(&mut text, b"rows", u64::from(honest.rows))?;
-    let commitments = 2 * u64::from(honest.wires) * u64::from(auction.terms.lanes);
-    push_number(&mut text, b"commitments", commitments)?;
-    text.extend_from_slice(b"end\n")?;
+    push_report(&mut text, auction, honest)?;
     Ok(text)
+}
+
+fn push_report(text: &mut Vec<u8>, auction: &Auction, honest: &Honest) -> Tried<()> {
+    text.extend_from_slice(b"auction 000102030405060708090a0b0c0d0e0f\n")?;
+    push_number(text, b"width", u64::from(auction.terms.width))?;
+    push_number(text, b"lanes", u64::from(auction.terms.lanes))?;
+    push_number(text, b"seals", auction.bids.len() as u64)?;
+    push_published(text, auction)?;
+    for (_bid, position) in auction.bids.iter().zip(1u32..=64) {
+        push_number(text, b"seat", u64::from(seat_at(position)))?;
+    }
+    push_number(text, b"wires", u64::from(honest.wires))?;
+    push_number(text, b"rows", u64::from(honest.rows))?;
+    let commitments = 2 * u64::from(honest.wires) * u64::from(auction.terms.lanes);
+    push_number(text, b"commitments", commitments)?;
+    text.extend_from_slice(b"end\n")?;
+    Ok(())
 }
 
 /// The lines of the reserve, which version 2 has, of the winner and of the price.

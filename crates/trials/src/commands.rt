@@ -46,6 +46,9 @@ pub const VERIFY: &str = "verify board challenge-0 reply-0";
 
 const ANNOUNCE: &str = "announce 000102030405060708090a0b0c0d0e0f 4 2";
 
+/// The same with a reserve that is above both bids.
+const ANNOUNCE_RESERVE: &str = "announce 000102030405060708090a0b0c0d0e0f 4 2 10";
+
 const SUBMIT_7: &str = "submit 000102030405060708090a0b0c0d0e0f seal-7 secret-7";
 
 const SUBMIT_8: &str = "submit 000102030405060708090a0b0c0d0e0f seal-8 secret-8";
@@ -79,7 +82,7 @@ const HOUSES: Command = Command {
 };
 
 /// The commands, in the order in which they are told of.
-pub const COMMANDS: [Command; 9] = [
+pub const COMMANDS: [Command; 11] = [
     READS,
     Command {
         name: "extract",
@@ -107,6 +110,11 @@ end
     },
     HOUSES,
     Command {
+        name: "announce with a reserve",
+        words: ANNOUNCE_RESERVE,
+        ..HOUSES
+    },
+    Command {
         name: "submit",
         before: &[ANNOUNCE],
         words: SUBMIT_7,
@@ -118,6 +126,15 @@ end
         before: &[ANNOUNCE, SUBMIT_7, SUBMIT_8],
         words: PROVE,
         whole: "proved winner 8 price 5\n",
+        writes: &["old"],
+        outsides: &[Outside::Shelf, Outside::Keeper, Outside::Sink],
+        ..HOUSES
+    },
+    Command {
+        name: "prove, unsold",
+        before: &[ANNOUNCE_RESERVE, SUBMIT_7, SUBMIT_8],
+        words: PROVE,
+        whole: "proved unsold\n",
         writes: &["old"],
         outsides: &[Outside::Shelf, Outside::Keeper, Outside::Sink],
         ..HOUSES

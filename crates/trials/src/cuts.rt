@@ -11,18 +11,24 @@ use vk_lines::{end_line, push_decimal};
 pub fn try_cuts<S: Shelf, W: Sink>(alloc: Global, shelf: &mut S, out: &mut W) -> Tried<()> {
     for name in ["board", "challenge-0", "reply-0"] {
         let mut text = Vec::new(alloc);
-        text.extend_from_slice(b"cuts of ")?;
-        text.extend_from_slice(name.as_bytes())?;
-        match first_untold(alloc, shelf, name)? {
-            None => text.extend_from_slice(b": every line told")?,
-            Some(kept) => {
-                text.extend_from_slice(b": untold behind bytes ")?;
-                push_decimal(&mut text, kept)?;
-            }
-        }
-        end_line(&mut text)?;
+        push_cuts(alloc, &mut text, shelf, name)?;
         out.put(text.as_slice())?;
     }
+    Ok(())
+}
+
+/// The line of a file.
+fn push_cuts<S: Shelf>(alloc: Global, text: &mut Vec<u8>, shelf: &mut S, name: &str) -> Tried<()> {
+    text.extend_from_slice(b"cuts of ")?;
+    text.extend_from_slice(name.as_bytes())?;
+    match first_untold(alloc, shelf, name)? {
+        None => text.extend_from_slice(b": every line told")?,
+        Some(kept) => {
+            text.extend_from_slice(b": untold behind bytes ")?;
+            push_decimal(text, kept)?;
+        }
+    }
+    end_line(text)?;
     Ok(())
 }
 
@@ -30,10 +36,20 @@ pub fn try_cuts<S: Shelf, W: Sink>(alloc: Global, shelf: &mut S, out: &mut W) ->
 fn first_untold<S: Shelf>(alloc: Global, shelf: &mut S, name: &str) -> Tried<Option<u64>> {
     let mut world = World::of(alloc, shelf, SMALLEST, &[])?;
     let whole = Vec::from_slice(alloc, world.files.file(name).ok_or(Unreplayed::NoCase)?)?;
+    let kept = first_untold_in(alloc, &mut world, name, whole.as_slice());
+    kept
+}
+
+fn first_untold_in(
+    alloc: Global,
+    world: &mut World,
+    name: &str,
+    whole: &[u8],
+) -> Tried<Option<u64>> {
     let mut kept = Vec::new(alloc);
-    for byte in whole.as_slice() {
+    for byte in whole {
         world.files.put_file(name, kept.as_slice())?;
-        if !is_told(alloc, &mut world, name)? {
+        if !is_told(alloc, world, name)? {
             return Ok(Some(kept.len() as u64));
         }
         kept.push(*byte)?;

@@ -11,6 +11,7 @@ use vk_lines::{end_line, push_decimal};
 const MOST_CALLS: u64 = 100;
 
 /// What became of a command of which one call was to fail.
+#[derive(Clone, Copy)]
 enum Fault {
     /// The status was 6, and the command was stopped. The same words again did the whole command.
     Told,
@@ -24,12 +25,24 @@ enum Fault {
 pub fn try_faults<S: Shelf, W: Sink>(alloc: Global, shelf: &mut S, out: &mut W) -> Tried<()> {
     for command in &COMMANDS {
         let mut text = Vec::new(alloc);
-        text.extend_from_slice(b"faults of ")?;
-        text.extend_from_slice(command.name.as_bytes())?;
-        push_told(alloc, &mut text, shelf, command)?;
-        end_line(&mut text)?;
+        push_faults(alloc, &mut text, shelf, command)?;
         out.put(text.as_slice())?;
     }
+    Ok(())
+}
+
+/// The line of the command.
+fn push_faults<S: Shelf>(
+    alloc: Global,
+    text: &mut Vec<u8>,
+    shelf: &mut S,
+    command: &Command,
+) -> Tried<()> {
+    text.extend_from_slice(b"faults of ")?;
+    text.extend_from_slice(command.name.as_bytes())?;
+    let effect = Effect::of(alloc, shelf, command)?;
+    push_told(alloc, text, shelf, command, &effect)?;
+    end_line(text)?;
     Ok(())
 }
 
@@ -39,18 +52,23 @@ fn push_told<S: Shelf>(
     text: &mut Vec<u8>,
     shelf: &mut S,
     command: &Command,
+    effect: &Effect,
 ) -> Tried<()> {
-    let effect = Effect::of(alloc, shelf, command)?;
     for outside in command.outsides {
-        if let Some(call) = first_untold(alloc, shelf, command, &effect, *outside)? {
-            text.extend_from_slice(b": untold at ")?;
-            text.extend_from_slice(word_of(*outside))?;
-            text.extend_from_slice(b" call ")?;
-            push_decimal(text, call)?;
-            return Ok(());
+        if let Some(call) = first_untold(alloc, shelf, command, effect, *outside)? {
+            return push_untold(text, *outside, call);
         }
     }
     text.extend_from_slice(b": every call told")?;
+    Ok(())
+}
+
+/// The call whose fault was not told.
+fn push_untold(text: &mut Vec<u8>, outside: Outside, call: u64) -> Tried<()> {
+    text.extend_from_slice(b": untold at ")?;
+    text.extend_from_slice(word_of(outside))?;
+    text.extend_from_slice(b" call ")?;
+    push_decimal(text, call)?;
     Ok(())
 }
 
@@ -71,9 +89,7 @@ fn first_untold<S: Shelf>(
     outside: Outside,
 ) -> Tried<Option<u64>> {
     for call in 1..=MOST_CALLS {
-        let mut world = World::of(alloc, shelf, command.given, command.before)?;
-        world.fail_at(outside, call)?;
-        match fault_in(alloc, &mut world, command, effect, outside)? {
+        match fault_at(alloc, shelf, command, effect, outside, call)? {
             Fault::Told => {}
             Fault::Unmet if 1 < call => return Ok(None),
             Fault::Unmet | Fault::Untold => return Ok(Some(call)),
@@ -82,29 +98,51 @@ fn first_untold<S: Shelf>(
     Ok(Some(MOST_CALLS))
 }
 
-/// What becomes of the command where a call fails.
+/// What becomes of the command where the call of that number fails.
+fn fault_at<S: Shelf>(
+    alloc: Global,
+    shelf: &mut S,
+    command: &Command,
+    effect: &Effect,
+    outside: Outside,
+    call: u64,
+) -> Tried<Fault> {
+    let mut world = World::of(alloc, shelf, command.given, command.before)?;
+    let fault = fault_in(alloc, &mut world, command, effect, outside, call);
+    fault
+}
+
+/// The same in a world where no call has failed yet.
 fn fault_in(
     alloc: Global,
     world: &mut World,
     command: &Command,
     effect: &Effect,
     outside: Outside,
+    call: u64,
 ) -> Tried<Fault> {
+    world.fail_at(outside, call)?;
     let first = world.run(alloc, command.words)?;
-    if first.said(0, command.whole) {
-        let second = world.run(alloc, command.words)?;
-        let kept = world.kept(alloc)?;
-        if second.said(6, "") && effect.is_done(command, &world.files, kept.as_str()) {
-            return Ok(Fault::Unmet);
-        }
-        return Ok(Fault::Untold);
-    }
-    if is_stopped(alloc, world, command, effect, outside, &first)?
-        && is_done_again(alloc, world, command, effect)?
-    {
-        return Ok(Fault::Told);
-    }
-    Ok(Fault::Untold)
+    let (told, fault) = if first.said(0, command.whole) {
+        (is_met_next(alloc, world, command, effect)?, Fault::Unmet)
+    } else {
+        let told = is_stopped(alloc, world, command, effect, outside, &first)?
+            && is_done_again(alloc, world, command, effect)?;
+        (told, Fault::Told)
+    };
+    Ok(if told { fault } else { Fault::Untold })
+}
+
+/// Whether the same words meet the fault at their first call, after the whole command was done.
+fn is_met_next(
+    alloc: Global,
+    world: &mut World,
+    command: &Command,
+    effect: &Effect,
+) -> Tried<bool> {
+    let second = world.run(alloc, command.words)?;
+    let kept = world.kept(alloc)?;
+    Ok(second.said(6, "") && effect.is_done(command, &world.files, kept.as_str()))
 }
 
 /// Whether the command was stopped for a fault of this. Only a sink's fault comes behind printed text.
@@ -125,6 +163,22 @@ fn is_stopped(
     Ok(ran.status == 6 && printed && effect.is_stopped(command, &world.files, kept.as_str(), text))
 }
 
+/// Whether what is refused once the auction is kept as the command leaves it is refused, where it is kept so.
+fn is_refused_once_kept(
+    alloc: Global,
+    world: &mut World,
+    command: &Command,
+    effect: &Effect,
+) -> Tried<bool> {
+    let Some((words, said)) = command.refused else {
+        return Ok(true);
+    };
+    if !effect.keeps(world.kept(alloc)?.as_str()) {
+        return Ok(true);
+    }
+    Ok(world.run(alloc, words)?.said(8, said))
+}
+
 /// Whether the same words do the whole command, and what is refused once it is kept was refused before them.
 fn is_done_again(
     alloc: Global,
@@ -132,11 +186,8 @@ fn is_done_again(
     command: &Command,
     effect: &Effect,
 ) -> Tried<bool> {
-    let kept = world.kept(alloc)?;
-    if let Some((words, said)) = command.refused {
-        if effect.keeps(kept.as_str()) && !world.run(alloc, words)?.said(8, said) {
-            return Ok(false);
-        }
+    if !is_refused_once_kept(alloc, world, command, effect)? {
+        return Ok(false);
     }
     let again = world.run(alloc, command.words)?;
     let kept = world.kept(alloc)?;

@@ -12,7 +12,7 @@ use vk_residue::{NoMemory, Residue};
 use vk_seal::{Seal, Secret, make_seal};
 use vk_seq::Seq;
 use vk_vickrey::{BoardPlan, Sale, sale_of};
-use vk_wire::Shown;
+use vk_wire::{Shown, WireTape};
 
 pub const ID: [u8; 16] = [0, 1, 2, 3, 4, 5, 6, 7, 8, 9, 10, 11, 12, 13, 14, 15];
 
@@ -73,18 +73,39 @@ impl Honest {
         if bids.is_empty() || 64 < bids.len() || 40 < terms.width {
             return Err(Unreplayed::NoCase);
         }
-        let lanes = terms.lanes;
         let (plan, values) = plan_of_bids(alloc, bids, terms)?;
-        let (secrets, seals) = sealed_bids(alloc, bids, terms.width, lanes)?;
-        let made = honest_lanes(alloc, &plan, values.as_slice(), secrets.as_slice(), lanes)?;
-        let sale = sale_of(bids, terms.reserve);
-        Ok(Honest {
-            head: head_of(terms, plan.inputs(), sale),
+        let mut honest = Honest {
+            head: head_of(terms, plan.inputs(), sale_of(bids, terms.reserve)),
             wires: plan.wires(),
             rows: plan.rows(),
-            seals,
-            lanes: made,
-        })
+            seals: Vec::new(alloc),
+            lanes: Vec::new(alloc),
+        };
+        honest.fill(alloc, bids, terms, &plan, values.as_slice())?;
+        Ok(honest)
+    }
+
+    /// Makes its seals and its lanes. The values hold for the plan.
+    fn fill(
+        &mut self,
+        alloc: Global,
+        bids: &[u64],
+        terms: Terms,
+        plan: &Plan,
+        values: &[Residue],
+    ) -> Tried<()>
+        requires { Holds plan.now values.now }
+    {
+        let mut secrets = Vec::new(alloc);
+        push_sealed(alloc, &mut secrets, &mut self.seals, bids, terms)?;
+        push_lanes(
+            alloc,
+            &mut self.lanes,
+            plan,
+            values,
+            secrets.as_slice(),
+            terms.lanes,
+        )
     }
 }
 
@@ -106,22 +127,22 @@ fn head_of(terms: Terms, seals: u32, sale: Sale) -> Head {
     }
 }
 
-/// All lanes. The values hold for the plan.
-fn honest_lanes(
+/// Makes that many lanes. The values hold for the plan.
+fn push_lanes(
     alloc: Global,
+    made: &mut Vec<HonestLane>,
     plan: &Plan,
     values: &[Residue],
     secrets: &[Secret],
     lanes: u16,
-) -> Tried<Vec<HonestLane>>
+) -> Tried<()>
     requires { Holds plan.now values.now }
 {
-    let mut all = Vec::new(alloc);
     for lane in 1..=lanes {
         let tape = lane_tape(alloc, plan, secrets, lane)?;
-        all.push(honest_lane(alloc, lane, plan, values, &tape)?)?;
+        made.push(honest_lane(alloc, lane, plan, values, &tape)?)?;
     }
-    Ok(all)
+    Ok(())
 }
 
 /// One lane, from 1. The values hold for the plan.
@@ -146,15 +167,7 @@ fn lane_tape(alloc: Global, plan: &Plan, secrets: &[Secret], lane: u16) -> Tried
     ensures { IfOk result (λ tape. length tape.wires ≡ length plan.now.kinds) }
 {
     let mut given = Vec::new(alloc);
-    for secret in secrets {
-        let index = usize::from(lane.saturating_sub(1));
-        let tape = secret
-            .lanes
-            .as_slice()
-            .get(index)
-            .ok_or(Unreplayed::NoCase)?;
-        given.push(tape.wire())?;
-    }
+    push_wires(&mut given, secrets, lane)?;
     if given.len() != plan.inputs() as usize {
         return Err(Unreplayed::NoCase);
     }
@@ -165,24 +178,38 @@ fn lane_tape(alloc: Global, plan: &Plan, secrets: &[Secret], lane: u16) -> Tried
     Ok(tape)
 }
 
+/// The tapes of the bids in a lane, from 1.
+fn push_wires(given: &mut Vec<WireTape>, secrets: &[Secret], lane: u16) -> Tried<()> {
+    let index = usize::from(lane.saturating_sub(1));
+    for secret in secrets {
+        let tape = secret
+            .lanes
+            .as_slice()
+            .get(index)
+            .ok_or(Unreplayed::NoCase)?;
+        given.push(tape.wire())?;
+    }
+    Ok(())
+}
+
 /// What each bidder keeps and hands in.
-fn sealed_bids(
+fn push_sealed(
     alloc: Global,
+    secrets: &mut Vec<Secret>,
+    seals: &mut Vec<SealLines>,
     bids: &[u64],
-    width: u32,
-    lanes: u16,
-) -> Tried<(Vec<Secret>, Vec<SealLines>)> {
-    let mut secrets = Vec::new(alloc);
-    let mut seals = Vec::new(alloc);
+    terms: Terms,
+) -> Tried<()> {
+    let lanes = u32::from(terms.lanes);
     for (bid, position) in bids.iter().zip(1u32..=64) {
-        let (secret, seal) = sealed_bid(alloc, *bid, seat_at(position), width, u32::from(lanes))?;
+        let (secret, seal) = sealed_bid(alloc, *bid, seat_at(position), terms.width, lanes)?;
         secrets.push(secret)?;
         seals.push(SealLines {
             seat: seal.seat,
             coms: seal.lanes,
         })?;
     }
-    Ok((secrets, seals))
+    Ok(())
 }
 
 /// What one bidder keeps and hands in.

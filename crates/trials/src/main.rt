@@ -7,6 +7,7 @@ mod asked;
 mod auctions;
 mod commands;
 mod cuts;
+mod dry;
 mod faults;
 mod honest;
 mod samples;
@@ -25,7 +26,8 @@ struct Trials;
 impl Replay for Trials {
     fn replay<S: Shelf, W: Sink>(&self, alloc: Global, shelf: &mut S, out: &mut W) -> Replayed {
         auctions::try_auctions(alloc, out)?;
-        samples::try_samples(alloc, out)?;
+        samples::try_samples(alloc, shelf, out)?;
+        dry::try_dry(out)?;
         cuts::try_cuts(alloc, shelf, out)?;
         faults::try_faults(alloc, shelf, out)?;
         Ok(())

@@ -23,25 +23,20 @@ impl Left {
     fn of(alloc: Global, world: World) -> Tried<Left> {
         let mut world = world;
         let kept = world.kept(alloc)?;
-        Ok(Left {
-            files: world.files,
-            kept,
-        })
+        let files = world.files;
+        Ok(Left { files, kept })
     }
 }
 
 impl Effect {
     /// Of a command of which no call fails.
     pub fn of<S: Shelf>(alloc: Global, shelf: &mut S, command: &Command) -> Tried<Effect> {
-        let old = World::of(alloc, shelf, command.given, command.before)?;
-        let mut new = World::of(alloc, shelf, command.given, command.before)?;
-        if !new.run(alloc, command.words)?.said(0, command.whole) {
-            return Err(Unreplayed::NoCase);
-        }
-        Ok(Effect {
-            old: Left::of(alloc, old)?,
-            new: Left::of(alloc, new)?,
-        })
+        let old = Left::of(
+            alloc,
+            World::of(alloc, shelf, command.given, command.before)?,
+        )?;
+        let new = left_by(alloc, shelf, command)?;
+        Ok(Effect { old, new })
     }
 
     /// Whether that auction is kept which the whole command leaves.
@@ -79,6 +74,21 @@ impl Effect {
         }
         are_given(command, files, &self.old.files)
     }
+}
+
+/// What the whole of it leaves.
+fn left_by<S: Shelf>(alloc: Global, shelf: &mut S, command: &Command) -> Tried<Left> {
+    let mut world = World::of(alloc, shelf, command.given, command.before)?;
+    do_whole(alloc, &mut world, command)?;
+    Left::of(alloc, world)
+}
+
+/// Does the command, of which no call fails.
+fn do_whole(alloc: Global, world: &mut World, command: &Command) -> Tried<()> {
+    if !world.run(alloc, command.words)?.said(0, command.whole) {
+        return Err(Unreplayed::NoCase);
+    }
+    Ok(())
 }
 
 /// Whether the file holds a part of this text.

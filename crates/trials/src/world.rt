@@ -47,17 +47,30 @@ impl World {
         before: &[&str],
     ) -> Tried<World> {
         let mut world = World {
-            files: given_files(alloc, shelf, given)?,
+            files: MemShelf::new(alloc),
             keeper: MemKeeper::new(alloc),
             turns: 0,
             out: MemSink::new(alloc),
         };
-        for line in before {
-            world.do_before(alloc, line)?;
-        }
-        world.files = given_files(alloc, shelf, given)?;
-        world.out = MemSink::new(alloc);
+        world.begin(alloc, shelf, given, before)?;
         Ok(world)
+    }
+
+    /// Does these commands over the files, which stand as they were after that.
+    fn begin<S: Shelf>(
+        &mut self,
+        alloc: Global,
+        shelf: &mut S,
+        given: &[&str],
+        before: &[&str],
+    ) -> Tried<()> {
+        put_given(alloc, shelf, &mut self.files, given)?;
+        for line in before {
+            self.do_before(alloc, line)?;
+        }
+        self.files = MemShelf::new(alloc);
+        self.out = MemSink::new(alloc);
+        put_given(alloc, shelf, &mut self.files, given)
     }
 
     /// Does a command of a house, which gets an auction once and puts it once.
@@ -82,8 +95,15 @@ impl World {
 
     /// Runs the command, which prints behind what was printed before.
     pub fn run(&mut self, alloc: Global, line: &str) -> Tried<Ran> {
-        let words = words_of(alloc, line.as_bytes())?;
         let before = self.out.bytes().len();
+        let status = self.status_of(alloc, line)?;
+        let text = Vec::from_slice(alloc, behind(self.out.bytes(), before))?;
+        Ok(Ran { status, text })
+    }
+
+    /// Runs the command.
+    fn status_of(&mut self, alloc: Global, line: &str) -> Tried<u8> {
+        let words = words_of(alloc, line.as_bytes())?;
         let status = run(
             alloc,
             words.as_slice(),
@@ -91,8 +111,7 @@ impl World {
             &mut self.keeper,
             &mut self.out,
         );
-        let text = Vec::from_slice(alloc, behind(self.out.bytes(), before))?;
-        Ok(Ran { status, text })
+        Ok(status)
     }
 
     /// All that is kept of the auction, as text.
@@ -103,12 +122,16 @@ impl World {
     }
 }
 
-/// The files of these names, in memory.
-fn given_files<S: Shelf>(alloc: Global, shelf: &mut S, given: &[&str]) -> Tried<MemShelf> {
-    let mut files = MemShelf::new(alloc);
+/// Puts the files of these names into memory.
+fn put_given<S: Shelf>(
+    alloc: Global,
+    shelf: &mut S,
+    files: &mut MemShelf,
+    given: &[&str],
+) -> Tried<()> {
     for name in given {
         let bytes = read_cases(alloc, shelf, name)?;
         files.put_file(name, bytes.as_slice())?;
     }
-    Ok(files)
+    Ok(())
 }

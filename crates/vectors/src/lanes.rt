@@ -36,25 +36,43 @@ struct Seen {
 
 /// The case with the values of both lists of bids behind these, and what is seen of the lane.
 pub fn lane_text(alloc: Global, case: &[u8]) -> Tried<Vec<u8>> {
+    let mut text = Vec::new(alloc);
+    push_case(alloc, &mut text, case)?;
+    Ok(text)
+}
+
+fn push_case(alloc: Global, text: &mut Vec<u8>, case: &[u8]) -> Tried<()> {
     let mut parts = case.split(|byte| *byte == b'|');
     let plan = parts.next().ok_or(Unreplayed::NoCase)?;
     let bids = parts.next().ok_or(Unreplayed::NoCase)?;
     let others = parts.next().ok_or(Unreplayed::NoCase)?;
-    let tape = tape_in(alloc, case)?;
-    let lane = lane_of(alloc, &circuit_of(plan)?, bids, others, tape)?;
-    let mut text = Vec::new(alloc);
-    push_line(&mut text, plan)?;
-    push_line(&mut text, bids)?;
-    push_line(&mut text, others)?;
-    push_values(&mut text, b"values", lane.values.as_slice())?;
-    push_values(&mut text, b"other-values", lane.others.as_slice())?;
-    for tape in parts {
-        push_line(&mut text, tape)?;
+    for part in [plan, bids, others] {
+        push_line(text, part)?;
     }
-    let first = looked_at(alloc, &lane, false)?;
-    let second = looked_at(alloc, &lane, true)?;
-    push_seen(&mut text, &lane.tape, &[first, second])?;
-    Ok(text)
+    let lane = lane_of(
+        alloc,
+        &circuit_of(plan)?,
+        bids,
+        others,
+        tape_in(alloc, case)?,
+    )?;
+    push_lane(alloc, text, &lane, case)
+}
+
+/// The values of both lists of bids, the tape of the case, and what is seen of the lane.
+fn push_lane(alloc: Global, text: &mut Vec<u8>, lane: &Lane, case: &[u8]) -> Tried<()>
+    requires values { Holds lane.now.plan lane.now.values.items }
+    requires others { Holds lane.now.plan lane.now.others.items }
+    requires one_each { length lane.now.tape.wires ≡ length lane.now.plan.kinds }
+{
+    push_values(text, b"values", lane.values.as_slice())?;
+    push_values(text, b"other-values", lane.others.as_slice())?;
+    for tape in case.split(|byte| *byte == b'|').skip(3) {
+        push_line(text, tape)?;
+    }
+    let first = looked_at(alloc, lane, false)?;
+    let second = looked_at(alloc, lane, true)?;
+    push_seen(text, &lane.tape, &first, &second)
 }
 
 /// The circuit of `plan seals N width T winner W price P`.
@@ -92,13 +110,11 @@ fn lane_of(
     ensures one_each { IfOk result (λ lane. length lane.tape.wires ≡ length lane.plan.kinds) }
 {
     let plan = circuit.plan(alloc)?;
-    let bids = bids_of(alloc, bids, b"bids")?;
-    let values = values_of(alloc, circuit, bids.as_slice())?;
-    let bids = bids_of(alloc, others, b"others")?;
-    let others = values_of(alloc, circuit, bids.as_slice())?;
     if tape.wires.len() != plan.wires() as usize {
         return Err(Unreplayed::NoCase);
     }
+    let values = values_in(alloc, circuit, bids, b"bids")?;
+    let others = values_in(alloc, circuit, others, b"others")?;
     Ok(Lane {
         plan,
         values,
@@ -115,6 +131,16 @@ fn bids_of(alloc: Global, part: &[u8], word: &[u8]) -> Tried<Vec<u64>> {
         bids.push(read_decimal(number, u64::MAX).ok_or(Unreplayed::NoCase)?)?;
     }
     Ok(bids)
+}
+
+/// The values of all wires for the bids behind that word.
+fn values_in(alloc: Global, circuit: &VickreyPlan, part: &[u8], word: &[u8]) -> Tried<Vec<Residue>>
+    ensures { IfOk result (λ values. Holds
+        (vickrey_plan circuit.now.seals circuit.now.width circuit.now.position circuit.now.price) values.items) }
+{
+    let bids = bids_of(alloc, part, word)?;
+    let values = values_of(alloc, circuit, bids.as_slice())?;
+    Ok(values)
 }
 
 /// The values of all wires for these bids. An error where they are not of the circuit's width and outcome.
@@ -167,8 +193,7 @@ fn looked_at(alloc: Global, lane: &Lane, bit: bool) -> Tried<Seen>
 }
 
 /// Where a moved tape is another one, what is posted, and what is shown for either bit.
-fn push_seen(text: &mut Vec<u8>, tape: &LaneTape, seen: &[Seen; 2]) -> Tried<()> {
-    let [first, second] = seen;
+fn push_seen(text: &mut Vec<u8>, tape: &LaneTape, first: &Seen, second: &Seen) -> Tried<()> {
     push_moves(text, b"moved0", tape, &first.moved)?;
     push_moves(text, b"moved1", tape, &second.moved)?;
     push_values(text, b"posted", first.view.posted.as_slice())?;

@@ -8,6 +8,7 @@ mod lanes;
 mod lists;
 mod sales;
 mod streams;
+mod units;
 mod views;
 mod wires;
 
@@ -33,6 +34,8 @@ enum Cases {
     Sales,
     /// `BIDS RESERVE WIDTH POSITION PRICE`, or `BIDS RESERVE WIDTH unsold`.
     Rows,
+    /// `BIDS UNITS WIDTH`.
+    Units,
     /// `wire KIND value NUMBER other NUMBER tape MASK SWAP KEY KEY`, where a kind is `split` or the `I` of a pair.
     Views,
     /// `plan seals N width T winner W price P|bids ..|others ..`, and behind it for each wire
@@ -50,6 +53,7 @@ impl Form for Cases {
             Cases::Bids => "bids",
             Cases::Sales => "sales",
             Cases::Rows => "rows",
+            Cases::Units => "units",
             Cases::Views => "views",
             Cases::Lanes => "lanes",
         }
@@ -64,6 +68,7 @@ impl Form for Cases {
             Cases::Bids => bids::outcome_text(alloc, case),
             Cases::Sales => sales::sale_text(alloc, case),
             Cases::Rows => sales::rows_text(alloc, case),
+            Cases::Units => units::units_text(alloc, case),
             Cases::Views => views::view_text(alloc, case),
             Cases::Lanes => lanes::lane_text(alloc, case),
         }
@@ -71,7 +76,7 @@ impl Form for Cases {
 }
 
 /// All forms, in the order in which they are replayed.
-const FORMS: [Cases; 9] = [
+const FORMS: [Cases; 10] = [
     Cases::Streams,
     Cases::Lists,
     Cases::Wires,
@@ -79,6 +84,7 @@ const FORMS: [Cases; 9] = [
     Cases::Bids,
     Cases::Sales,
     Cases::Rows,
+    Cases::Units,
     Cases::Views,
     Cases::Lanes,
 ];

@@ -11,43 +11,55 @@ use vk_vickrey::{BoardPlan, Sale, sale_of};
 
 /// The case, its sale, and how many wires and rows the plan has.
 pub fn sale_text(alloc: Global, case: &[u8]) -> Tried<Vec<u8>> {
+    let mut text = Vec::from_slice(alloc, case)?;
     let bids = bids_in(alloc, case)?;
+    push_sale_of(alloc, &mut text, case, bids.as_slice())?;
+    Ok(text)
+}
+
+/// The sale of the bids, and how many wires and rows its plan has.
+fn push_sale_of(alloc: Global, text: &mut Vec<u8>, case: &[u8], bids: &[u64]) -> Tried<()> {
     if bids.is_empty() || 64 < bids.len() {
         return Err(Unreplayed::NoCase);
     }
     let reserve = number_at(case, 1, u64::MAX)?;
-    let sale = sale_of(bids.as_slice(), reserve);
-    let plan = plan_of(alloc, case, bids.len(), sale)?;
-    let mut text = Vec::from_slice(alloc, case)?;
+    let sale = sale_of(bids, reserve);
     text.extend_from_slice(b" | ")?;
-    push_sale(&mut text, sale)?;
-    push_counts(&mut text, &plan)?;
-    end_line(&mut text)?;
-    if only_sale(bids.as_slice(), reserve) != Some(sale) {
-        push_line(&mut text, b"the definition gives another sale")?;
+    push_sale(text, sale)?;
+    let plan = plan_of(alloc, case, bids.len(), sale)?;
+    push_counts(text, &plan)?;
+    end_line(text)?;
+    if only_sale(bids, reserve) != Some(sale) {
+        push_line(text, b"the definition gives another sale")?;
     }
-    Ok(text)
+    Ok(())
 }
 
 /// The case, how many wires and rows its plan has, and the value of each row where the inputs and their copies are the
 /// bids, and all other wires are 0.
 pub fn rows_text(alloc: Global, case: &[u8]) -> Tried<Vec<u8>> {
+    let mut text = Vec::from_slice(alloc, case)?;
     let bids = bids_in(alloc, case)?;
     let plan = plan_of(alloc, case, bids.len(), sale_in(case)?)?;
-    let values = values_of(alloc, bids.as_slice(), plan.wires())?;
-    if values.len() != plan.wires() as usize {
-        return Err(Unreplayed::NoCase);
-    }
-    let mut text = Vec::from_slice(alloc, case)?;
-    push_counts(&mut text, &plan)?;
-    text.extend_from_slice(b" |")?;
-    push_rows(&mut text, &plan, values.as_slice())?;
-    end_line(&mut text)?;
+    push_plan(alloc, &mut text, &plan, bids.as_slice())?;
     Ok(text)
 }
 
+/// How many wires and rows the plan has, and the value of each row at these bids.
+fn push_plan(alloc: Global, text: &mut Vec<u8>, plan: &Plan, bids: &[u64]) -> Tried<()> {
+    let values = values_of(alloc, bids, plan.wires())?;
+    if values.len() != plan.wires() as usize {
+        return Err(Unreplayed::NoCase);
+    }
+    push_counts(text, plan)?;
+    text.extend_from_slice(b" |")?;
+    push_rows(text, plan, values.as_slice())?;
+    end_line(text)?;
+    Ok(())
+}
+
 /// The bids of a case.
-fn bids_in(alloc: Global, case: &[u8]) -> Tried<Vec<u64>> {
+pub fn bids_in(alloc: Global, case: &[u8]) -> Tried<Vec<u64>> {
     let bids = word_at(case, 0)?;
     numbers_in(alloc, bids)
 }
@@ -91,7 +103,7 @@ fn push_sale(text: &mut Vec<u8>, sale: Sale) -> Tried<()> {
 }
 
 /// How many wires and rows the plan has.
-fn push_counts(text: &mut Vec<u8>, plan: &Plan) -> Tried<()> {
+pub fn push_counts(text: &mut Vec<u8>, plan: &Plan) -> Tried<()> {
     text.extend_from_slice(b" | ")?;
     push_decimal(text, u64::from(plan.wires()))?;
     push_space(text)?;

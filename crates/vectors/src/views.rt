@@ -8,30 +8,35 @@ use vk_wire::{WireTape, show};
 
 /// The case, the tape moved for either bit, and what the wire shows for either bit.
 pub fn view_text(alloc: Global, case: &[u8]) -> Tried<Vec<u8>> {
+    let mut text = Vec::new(alloc);
+    push_view(&mut text, case)?;
+    Ok(text)
+}
+
+fn push_view(text: &mut Vec<u8>, case: &[u8]) -> Tried<()> {
     let kind = kind_of(case, 1)?;
     let value = value_at(case, 3, kind)?;
     let other = value_at(case, 5, kind)?;
     let tape = tape_of(case, 6)?;
-    let mut text = Vec::new(alloc);
-    push_words(&mut text, case, 0, 6)?;
-    push_words(&mut text, case, 6, 11)?;
+    push_words(text, case, 0, 6)?;
+    push_words(text, case, 6, 11)?;
     for bit in [false, true] {
         text.extend_from_slice(if bit { b"moved1" } else { b"moved0" })?;
-        push_moved(&mut text, &moved_wire(kind, value, other, bit, tape))?;
+        push_moved(text, &moved_wire(kind, value, other, bit, tape))?;
     }
     for bit in [false, true] {
         let shown = show(kind, value, &tape, bit);
         text.extend_from_slice(if bit { b"shown1" } else { b"shown0" })?;
-        push_shown(&mut text, &shown)?;
+        push_shown(text, &shown)?;
         let moved = moved_wire(kind, value, other, bit, tape);
         if show(kind, other, &moved, bit) != shown {
-            push_line(&mut text, b"the other value shows otherwise")?;
+            push_line(text, b"the other value shows otherwise")?;
         }
         if moved_wire(kind, other, value, bit, moved) != tape {
-            push_line(&mut text, b"the tape does not move back")?;
+            push_line(text, b"the tape does not move back")?;
         }
     }
-    Ok(text)
+    Ok(())
 }
 
 /// The mask of a tape, and whether it swaps, behind a space each.

@@ -12,25 +12,30 @@ use vk_wire::{Shown, WireTape, make, read, show};
 
 /// The case, its commitments, and for each bit what is shown and read.
 pub fn wire_text(alloc: Global, case: &[u8]) -> Tried<Vec<u8>> {
+    let mut text = Vec::new(alloc);
+    push_wire(&mut text, case)?;
+    Ok(text)
+}
+
+fn push_wire(text: &mut Vec<u8>, case: &[u8]) -> Tried<()> {
     let kind = kind_of(case, 2)?;
     let at = place_word(kind);
     let value = value_of(case, kind)?;
     let place = place_of(case, at)?;
     let tape = tape_of(case, at + 5)?;
     let coms = make(kind, &place, value, &tape);
-    let mut text = Vec::new(alloc);
-    push_words(&mut text, case, 0, at)?;
-    push_words(&mut text, case, at, at + 5)?;
-    push_words(&mut text, case, at + 5, at + 10)?;
-    push_digests_line(&mut text, b"coms", &coms.first, &coms.second)?;
+    push_words(text, case, 0, at)?;
+    push_words(text, case, at, at + 5)?;
+    push_words(text, case, at + 5, at + 10)?;
+    push_digests_line(text, b"coms", &coms.first, &coms.second)?;
     for bit in [false, true] {
         let shown = show(kind, value, &tape, bit);
         text.extend_from_slice(if bit { b"show1" } else { b"show0" })?;
-        push_shown(&mut text, &shown)?;
+        push_shown(text, &shown)?;
         let half = read(kind, &place, &coms, &shown, bit).map_err(|_fault| Unreplayed::NoCase)?;
-        push_number_line(&mut text, half_word(bit), half.get())?;
+        push_number_line(text, half_word(bit), half.get())?;
     }
-    Ok(text)
+    Ok(())
 }
 
 /// The place of the case's wire, and what is shown of it for the bit.

@@ -6,3 +6,4 @@ mod output;
 mod plan;
 mod real;
 mod refusals;
+mod trial;

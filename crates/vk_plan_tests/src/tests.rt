@@ -2,4 +2,5 @@ mod numbers;
 mod plan;
 mod range;
 mod reserve;
+mod uniform;
 mod vickrey;

@@ -15,36 +15,65 @@ fn words(alloc: Global, line: &str) -> Result<Vec<String>, Fail> {
 #[test]
 fn every_form_of_a_house_command_is_read(rt: HostRuntime) -> Result<(), Fail> {
     let alloc = rt.alloc();
-    let found = words(alloc, &format!(in alloc; "announce {ID} 40 64")?)?;
-    let Some(HouseOrder::Announce { id, width, lanes }) = house_order_of(&found) else {
-        return Err(Fail::from("an announce"));
-    };
-    assert_eq!(rt; (id[15], width, lanes), (15, 40, 64));
-    let found = words(alloc, &format!(in alloc; "submit {ID} seal-3 secret-3")?)?;
-    let Some(HouseOrder::Submit { seal, secret, .. }) = house_order_of(&found) else {
-        return Err(Fail::from("a submit"));
-    };
-    assert_eq!(rt; (seal, secret), ("seal-3", "secret-3"));
-    let found = words(alloc, &format!(in alloc; "prove {ID} {SEED} board")?)?;
-    let Some(HouseOrder::Prove { seed, board, .. }) = house_order_of(&found) else {
-        return Err(Fail::from("a prove"));
-    };
-    assert_eq!(rt; (seed[31], board), (31, "board"));
-    let found = words(alloc, &format!(in alloc; "answer {ID} challenge reply")?)?;
-    let Some(
-        HouseOrder::Answer {
-            challenge,
-            reply,
-            ..
-        },
-    ) = house_order_of(&found)
-    else {
-        return Err(Fail::from("an answer"));
-    };
-    assert_eq!(rt; (challenge, reply), ("challenge", "reply"));
-    let found = words(alloc, &format!(in alloc; "show {ID}")?)?;
-    assert!(rt; matches!(house_order_of(&found), Some(HouseOrder::Show { id }) if id[1] == 1));
+    assert!(rt; is_announce(&words(alloc, &format!(in alloc; "announce {ID} 40 64")?)?));
+    assert!(rt; is_reserve(&words(alloc, &format!(in alloc; "announce {ID} 4 2 15")?)?));
+    assert!(rt; is_submit(&words(alloc, &format!(in alloc; "submit {ID} seal-3 secret-3")?)?));
+    assert!(rt; is_prove(&words(alloc, &format!(in alloc; "prove {ID} {SEED} board")?)?));
+    assert!(rt; is_answer(&words(alloc, &format!(in alloc; "answer {ID} challenge reply")?)?));
+    assert!(rt; is_show(&words(alloc, &format!(in alloc; "show {ID}")?)?));
     Ok(())
+}
+
+fn is_announce(found: &[String]) -> bool {
+    match house_order_of(found) {
+        Some(HouseOrder::Announce { id, width, lanes }) => (id[15], width, lanes) == (15, 40, 64),
+        _ => false,
+    }
+}
+
+fn is_reserve(found: &[String]) -> bool {
+    match house_order_of(found) {
+        Some(
+            HouseOrder::AnnounceReserve {
+                id,
+                width,
+                lanes,
+                reserve,
+            },
+        ) => (id[15], width, lanes, reserve) == (15, 4, 2, 15),
+        _ => false,
+    }
+}
+
+fn is_submit(found: &[String]) -> bool {
+    match house_order_of(found) {
+        Some(HouseOrder::Submit { seal, secret, .. }) => (seal, secret) == ("seal-3", "secret-3"),
+        _ => false,
+    }
+}
+
+fn is_prove(found: &[String]) -> bool {
+    match house_order_of(found) {
+        Some(HouseOrder::Prove { seed, board, .. }) => (seed[31], board) == (31, "board"),
+        _ => false,
+    }
+}
+
+fn is_answer(found: &[String]) -> bool {
+    match house_order_of(found) {
+        Some(
+            HouseOrder::Answer {
+                challenge,
+                reply,
+                ..
+            },
+        ) => (challenge, reply) == ("challenge", "reply"),
+        _ => false,
+    }
+}
+
+fn is_show(found: &[String]) -> bool {
+    matches!(house_order_of(found), Some(HouseOrder::Show { id }) if id[1] == 1)
 }
 
 // More of them are replayed by the program `conformance`.

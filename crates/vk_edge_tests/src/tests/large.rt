@@ -1,12 +1,12 @@
 //! Large files, and names that end one another.
 
 use crate::tests::folder::{Folder, try_byte};
+use crate::tests::trial::{Trial, in_folder};
 use std::fs;
 use std::fs::{OpenFile, OpenOptions};
 use std::io::{self, Seek, SeekFrom, Write};
 use std::process::Abort;
 use std::test::Fail;
-use vk_files::FileShelf;
 use vk_io::Shelf;
 
 /// A file of that length, which holds nothing but zeros and these bytes at a place.
@@ -31,15 +31,25 @@ fn fill<F: OpenFile + Seek + Write>(
     Ok(())
 }
 
+struct LargeFile;
+
+impl Trial for LargeFile {
+    fn on<A: Abort, S: Shelf>(
+        &self,
+        stop: &A,
+        rt: &HostRuntime,
+        folder: &Folder,
+        shelf: &mut S,
+    ) -> Result<(), Fail> {
+        let path = folder.at("a")?;
+        put_at(rt, path.as_str(), 1073741825, 16777221, b"far")?;
+        try_large(stop, shelf, path.as_str())
+    }
+}
+
 #[test]
 fn a_large_file_has_its_length_and_its_bytes(rt: HostRuntime) -> Result<(), Fail> {
-    let folder = Folder::new(&rt)?;
-    let path = folder.at("a")?;
-    put_at(&rt, path.as_str(), 1073741825, 16777221, b"far")?;
-    let mut shelf = FileShelf::new(&rt, rt.alloc(), "house.sqlite");
-    try_large(&rt, &mut shelf, path.as_str())?;
-    folder.remove(&rt)?;
-    Ok(())
+    in_folder(&rt, &rt, &LargeFile)
 }
 
 fn try_large<S: Shelf>(rt: &impl Abort, shelf: &mut S, path: &str) -> Result<(), Fail> {
@@ -53,15 +63,25 @@ fn try_large<S: Shelf>(rt: &impl Abort, shelf: &mut S, path: &str) -> Result<(),
     Ok(())
 }
 
+struct LargePiece;
+
+impl Trial for LargePiece {
+    fn on<A: Abort, S: Shelf>(
+        &self,
+        stop: &A,
+        rt: &HostRuntime,
+        folder: &Folder,
+        shelf: &mut S,
+    ) -> Result<(), Fail> {
+        let path = folder.at("a")?;
+        let piece = vec![in rt.alloc(); 7u8; 1048579]?;
+        try_piece(stop, shelf, path.as_str(), piece.as_slice())
+    }
+}
+
 #[test]
 fn a_large_piece_is_written_whole(rt: HostRuntime) -> Result<(), Fail> {
-    let folder = Folder::new(&rt)?;
-    let path = folder.at("a")?;
-    let piece = vec![in rt.alloc(); 7u8; 1048579]?;
-    let mut shelf = FileShelf::new(&rt, rt.alloc(), "house.sqlite");
-    try_piece(&rt, &mut shelf, path.as_str(), piece.as_slice())?;
-    folder.remove(&rt)?;
-    Ok(())
+    in_folder(&rt, &rt, &LargePiece)
 }
 
 fn try_piece<S: Shelf>(
@@ -79,17 +99,27 @@ fn try_piece<S: Shelf>(
     Ok(())
 }
 
+struct NameInName;
+
+impl Trial for NameInName {
+    fn on<A: Abort, S: Shelf>(
+        &self,
+        stop: &A,
+        rt: &HostRuntime,
+        folder: &Folder,
+        shelf: &mut S,
+    ) -> Result<(), Fail> {
+        fs::create_dir(rt, folder.at("tmp")?.as_str())?;
+        fs::create_dir(rt, folder.at(folder.path())?.as_str())?;
+        let short = folder.at("a")?;
+        let long = folder.at(short.as_str())?;
+        try_two(stop, shelf, long.as_str(), short.as_str())
+    }
+}
+
 #[test]
 fn a_name_that_ends_another_name_is_another_file(rt: HostRuntime) -> Result<(), Fail> {
-    let folder = Folder::new(&rt)?;
-    let short = folder.at("a")?;
-    let long = folder.at(short.as_str())?;
-    fs::create_dir(&rt, folder.at("tmp")?.as_str())?;
-    fs::create_dir(&rt, folder.at(folder.path())?.as_str())?;
-    let mut shelf = FileShelf::new(&rt, rt.alloc(), "house.sqlite");
-    try_two(&rt, &mut shelf, long.as_str(), short.as_str())?;
-    folder.remove(&rt)?;
-    Ok(())
+    in_folder(&rt, &rt, &NameInName)
 }
 
 /// The two paths have a file each.

@@ -1,19 +1,21 @@
 use crate::tests::folder::{Folder, mode_of, put};
+use crate::tests::trial::{Trial, in_folder};
 use std::alloc::Global;
 use std::fs;
 use std::process::Abort;
 use std::test::Fail;
-use vk_files::FileShelf;
 use vk_io::{Content, OutsideErr, Shelf, read_whole};
 
-// What follows borrows shelf and paths: nothing is dropped where an assertion ends it, and so it is proved fast.
-
-/// What `read_whole` found: the bytes, or a word for why there are none.
-fn found<S: Shelf>(alloc: Global, shelf: &mut S, name: &str) -> Result<Vec<u8>, Fail> {
+/// Whether `read_whole` finds those bytes.
+fn holds<S: Shelf>(
+    alloc: Global,
+    shelf: &mut S,
+    name: &str,
+    bytes: &[u8],
+) -> Result<bool, OutsideErr> {
     match read_whole(alloc, shelf, name, 6)? {
-        Content::Missing => Ok(b"missing".to_vec(alloc)?),
-        Content::TooLong => Ok(b"too long".to_vec(alloc)?),
-        Content::Held(bytes) => Ok(bytes.into_vec()),
+        Content::Held(held) => Ok(held.as_slice() == bytes),
+        _ => Ok(false),
     }
 }
 
@@ -30,53 +32,107 @@ fn count_at<S: Shelf>(shelf: &mut S, name: &str, at: u64) -> Result<usize, Outsi
     Ok(count)
 }
 
-fn try_put<S: Shelf>(
+/// Nothing is at the path.
+fn try_missing<S: Shelf>(rt: &impl Abort, shelf: &mut S, name: &str) -> Result<(), Fail> {
+    assert!(rt; shelf.length(name)? == None);
+    assert!(rt; count_at(shelf, name, 0)? == 0);
+    Ok(())
+}
+
+/// Makes a file at the path that holds three bytes, and reads it between the two pieces.
+fn put_three<S: Shelf>(rt: &impl Abort, shelf: &mut S, name: &str) -> Result<(), Fail> {
+    shelf.create(name)?;
+    shelf.append(name, b"ab")?;
+    assert!(rt; count_at(shelf, name, 1)? == 1);
+    shelf.append(name, b"c")?;
+    Ok(())
+}
+
+/// The file at the path holds the three bytes.
+fn try_three<S: Shelf>(
     rt: &impl Abort,
     alloc: Global,
     shelf: &mut S,
     name: &str,
 ) -> Result<(), Fail> {
-    assert!(rt; shelf.length(name)? == None);
-    assert!(rt; count_at(shelf, name, 0)? == 0);
-    shelf.create(name)?;
-    shelf.append(name, b"ab")?;
-    assert!(rt; count_at(shelf, name, 1)? == 1);
-    shelf.append(name, b"c")?;
     assert!(rt; shelf.length(name)? == Some(3));
-    let (count, into) = read_four(shelf, name, 1)?;
-    assert!(rt; count == 2);
-    assert!(rt; into == *b"bc\0\0");
-    assert!(rt; found(alloc, shelf, name)?.as_slice() == b"abc".as_slice());
-    shelf.create(name)?;
-    assert!(rt; count_at(shelf, name, 0)? == 0);
+    assert!(rt; read_four(shelf, name, 1)? == (2, *b"bc\0\0"));
+    assert!(rt; holds(alloc, shelf, name, b"abc")?);
     Ok(())
+}
+
+/// A file is made, and made anew.
+struct Made;
+
+impl Trial for Made {
+    fn on<A: Abort, S: Shelf>(
+        &self,
+        stop: &A,
+        rt: &HostRuntime,
+        folder: &Folder,
+        shelf: &mut S,
+    ) -> Result<(), Fail> {
+        let path = folder.at("made")?;
+        let name = path.as_str();
+        try_missing(stop, shelf, name)?;
+        put_three(stop, shelf, name)?;
+        try_three(stop, rt.alloc(), shelf, name)?;
+        try_create(stop, shelf, name)?;
+        assert!(stop; count_at(shelf, name, 0)? == 0);
+        Ok(())
+    }
 }
 
 #[test]
 fn real_files_hold_what_is_put(rt: HostRuntime) -> Result<(), Fail> {
-    let folder = Folder::new(&rt)?;
-    let name = folder.at("made")?;
-    let mut shelf = FileShelf::new(&rt, rt.alloc(), "house.sqlite");
-    try_put(&rt, rt.alloc(), &mut shelf, name.as_str())?;
-    folder.remove(&rt)?;
-    Ok(())
+    in_folder(&rt, &rt, &Made)
+}
+
+/// More files than are kept open.
+struct Many;
+
+impl Trial for Many {
+    fn on<A: Abort, S: Shelf>(
+        &self,
+        stop: &A,
+        rt: &HostRuntime,
+        folder: &Folder,
+        shelf: &mut S,
+    ) -> Result<(), Fail> {
+        append_to_each(rt.alloc(), folder, shelf)?;
+        for at in 0..2u8 {
+            try_each(stop, rt.alloc(), folder, shelf, at)?;
+        }
+        Ok(())
+    }
 }
 
 #[test]
 fn more_files_than_are_kept_open_are_read_side_by_side(rt: HostRuntime) -> Result<(), Fail> {
-    let folder = Folder::new(&rt)?;
-    let mut shelf = FileShelf::new(&rt, rt.alloc(), "house.sqlite");
+    in_folder(&rt, &rt, &Many)
+}
+
+/// Each file holds its own number and the one that follows it.
+fn append_to_each<S: Shelf>(alloc: Global, folder: &Folder, shelf: &mut S) -> Result<(), Fail> {
     for file in 0..10u8 {
-        let name = numbered(rt.alloc(), &folder, file)?;
+        let name = numbered(alloc, folder, file)?;
         shelf.append(name.as_str(), &[file, file + 1])?;
     }
-    for at in 0..2u8 {
-        for file in 0..10u8 {
-            let name = numbered(rt.alloc(), &folder, file)?;
-            try_byte(&rt, &mut shelf, name.as_str(), at, file + at)?;
-        }
+    Ok(())
+}
+
+/// The byte of that place in each file.
+fn try_each<S: Shelf>(
+    rt: &impl Abort,
+    alloc: Global,
+    folder: &Folder,
+    shelf: &mut S,
+    at: u8,
+) -> Result<(), Fail> {
+    for file in 0..10u8 {
+        let name = numbered(alloc, folder, file)?;
+        try_byte(rt, shelf, name.as_str(), at, file.saturating_add(at))?;
     }
-    folder.remove(&rt)?;
     Ok(())
 }
 
@@ -122,24 +178,32 @@ fn try_below<S: Shelf>(
     below: &str,
 ) -> Result<(), Fail> {
     shelf.create(file)?;
-    assert!(rt; shelf.length(below)? == None);
-    assert!(rt; count_at(shelf, below, 0)? == 0);
-    Ok(())
+    try_missing(rt, shelf, below)
+}
+
+/// Paths that lead to no file.
+struct NoFile;
+
+impl Trial for NoFile {
+    fn on<A: Abort, S: Shelf>(
+        &self,
+        stop: &A,
+        rt: &HostRuntime,
+        folder: &Folder,
+        shelf: &mut S,
+    ) -> Result<(), Fail> {
+        let inner = folder.at("folder")?;
+        fs::create_dir(rt, inner.as_str())?;
+        try_faults(stop, shelf, inner.as_str());
+        try_devices(stop, shelf);
+        let (file, below) = (folder.at("file")?, folder.at("file/below")?);
+        try_below(stop, shelf, file.as_str(), below.as_str())
+    }
 }
 
 #[test]
 fn what_is_no_file_is_a_fault_and_what_is_not_there_is_none(rt: HostRuntime) -> Result<(), Fail> {
-    let folder = Folder::new(&rt)?;
-    let inner = folder.at("folder")?;
-    fs::create_dir(&rt, inner.as_str())?;
-    let file = folder.at("file")?;
-    let below = folder.at("file/below")?;
-    let mut shelf = FileShelf::new(&rt, rt.alloc(), "house.sqlite");
-    try_faults(&rt, &mut shelf, inner.as_str());
-    try_devices(&rt, &mut shelf);
-    try_below(&rt, &mut shelf, file.as_str(), below.as_str())?;
-    folder.remove(&rt)?;
-    Ok(())
+    in_folder(&rt, &rt, &NoFile)
 }
 
 /// A file that is made anew holds nothing.
@@ -154,20 +218,31 @@ fn try_mode(stop: &impl Abort, rt: &HostRuntime, path: &str, mode: u32) -> Resul
     Ok(())
 }
 
+/// A file that is there, one that is created, and one that is made by a piece.
+struct Modes;
+
+impl Trial for Modes {
+    fn on<A: Abort, S: Shelf>(
+        &self,
+        stop: &A,
+        rt: &HostRuntime,
+        folder: &Folder,
+        shelf: &mut S,
+    ) -> Result<(), Fail> {
+        let (old, new, added) = (folder.at("old")?, folder.at("new")?, folder.at("added")?);
+        put(rt, old.as_str(), "abc")?;
+        try_create(stop, shelf, new.as_str())?;
+        try_create(stop, shelf, old.as_str())?;
+        shelf.append(added.as_str(), b"d")?;
+        try_mode(stop, rt, new.as_str(), 0o600)?;
+        try_mode(stop, rt, old.as_str(), 0o644)?;
+        try_mode(stop, rt, added.as_str(), 0o600)
+    }
+}
+
 #[test]
 fn a_new_file_is_its_owners_alone_and_an_old_one_keeps_its_mode(
     rt: HostRuntime,
 ) -> Result<(), Fail> {
-    let folder = Folder::new(&rt)?;
-    let (old, new, added) = (folder.at("old")?, folder.at("new")?, folder.at("added")?);
-    put(&rt, old.as_str(), "abc")?;
-    let mut shelf = FileShelf::new(&rt, rt.alloc(), "house.sqlite");
-    try_create(&rt, &mut shelf, new.as_str())?;
-    try_create(&rt, &mut shelf, old.as_str())?;
-    shelf.append(added.as_str(), b"d")?;
-    try_mode(&rt, &rt, new.as_str(), 0o600)?;
-    try_mode(&rt, &rt, old.as_str(), 0o644)?;
-    try_mode(&rt, &rt, added.as_str(), 0o600)?;
-    folder.remove(&rt)?;
-    Ok(())
+    in_folder(&rt, &rt, &Modes)
 }

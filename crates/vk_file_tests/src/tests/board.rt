@@ -2,6 +2,7 @@
 // that are refused are replayed by the program `conformance`.
 use super::files::board;
 use std::alloc::Global;
+use std::process::Abort;
 use std::test::Fail;
 use vk_board::{
     Head, LaneLines, SealLines, head_text, lane_text, read_front, read_head, read_lane, read_seals,
@@ -47,6 +48,18 @@ fn the_smallest_board_is_read_and_written_back(rt: HostRuntime) -> Result<(), Fa
     let mut shelf = MemShelf::new(rt.alloc());
     shelf.put_file("board", board())?;
     let (head, seals, lane) = parts_in(rt.alloc(), &mut shelf)?;
+    try_smallest(&rt, rt.alloc(), &head, seals.as_slice(), &lane)
+}
+
+// What is tried below is borrowed: nothing is dropped where an assertion ends it, and so it is proved fast.
+
+fn try_smallest(
+    rt: &impl Abort,
+    alloc: Global,
+    head: &Head,
+    seals: &[SealLines],
+    lane: &LaneLines,
+) -> Result<(), Fail> {
     let expected = Head {
         auction: ID,
         version: 1,
@@ -57,8 +70,8 @@ fn the_smallest_board_is_read_and_written_back(rt: HostRuntime) -> Result<(), Fa
         winner: Some(7),
         price: 0,
     };
-    assert!(rt; head == expected);
-    let written = text_of(rt.alloc(), &head, seals.as_slice(), &lane)?;
+    assert!(rt; *head == expected);
+    let written = text_of(alloc, head, seals, lane)?;
     assert!(rt; written.as_slice() == board());
     Ok(())
 }
@@ -88,17 +101,33 @@ fn heads_with_a_reserve_are_written_and_read_back(rt: HostRuntime) -> Result<(),
             winner,
             price,
         };
-        let mut text = Vec::from_slice(alloc, RESERVED)?;
-        text.extend_from_slice(end.as_bytes())?;
-        let written = head_text(alloc, &head)?;
-        assert!(rt; written.as_slice() == text.as_slice());
-        let mut shelf = MemShelf::new(alloc);
-        shelf.put_file("board", text.as_slice())?;
-        let mut lines = Lines::start(alloc, &mut shelf, "board")?;
-        let read = read_head(&mut shelf, &mut lines)?;
-        assert!(rt; read == head);
+        try_head(&rt, alloc, &head, reserved(alloc, end)?.as_slice())?;
     }
     Ok(())
+}
+
+/// The head's lines, of which these are the last two.
+fn reserved(alloc: Global, end: &str) -> Result<Vec<u8>, Fail> {
+    let mut text = Vec::from_slice(alloc, RESERVED)?;
+    text.extend_from_slice(end.as_bytes())?;
+    Ok(text)
+}
+
+/// The head has this text, and is read from it.
+fn try_head(rt: &impl Abort, alloc: Global, head: &Head, text: &[u8]) -> Result<(), Fail> {
+    let written = head_text(alloc, head)?;
+    assert!(rt; written.as_slice() == text);
+    assert!(rt; head_in(alloc, text)? == *head);
+    Ok(())
+}
+
+/// The head that a board of these bytes begins with.
+fn head_in(alloc: Global, bytes: &[u8]) -> Result<Head, Fail> {
+    let mut shelf = MemShelf::new(alloc);
+    shelf.put_file("board", bytes)?;
+    let mut lines = Lines::start(alloc, &mut shelf, "board")?;
+    let head = read_head(&mut shelf, &mut lines)?;
+    Ok(head)
 }
 
 /// A board of three seals, up to its first lane.
@@ -118,11 +147,14 @@ x 95dd93ea8976343596b4ec8e4bda5a20fa7abd4c09a635cd4d6a1ad16a135aa6 b6c14358a32a1
 
 #[test]
 fn the_winner_of_three_seals_is_found(rt: HostRuntime) -> Result<(), Fail> {
-    let alloc = rt.alloc();
-    let mut shelf = MemShelf::new(alloc);
+    let mut shelf = MemShelf::new(rt.alloc());
     shelf.put_file("board", THREE)?;
-    let mut lines = Lines::start(alloc, &mut shelf, "board")?;
-    let front = read_front(alloc, &mut shelf, &mut lines)?;
+    try_three(&rt, rt.alloc(), &mut shelf)
+}
+
+fn try_three<S: Shelf>(rt: &impl Abort, alloc: Global, shelf: &mut S) -> Result<(), Fail> {
+    let mut lines = Lines::start(alloc, shelf, "board")?;
+    let front = read_front(alloc, shelf, &mut lines)?;
     assert!(rt; front.position == Some(3));
     let seats = seats_of(alloc, front.seals.as_slice())?;
     assert!(rt; seats.as_slice() == [7, 65535, 500].as_slice());

@@ -3,6 +3,7 @@ ghost use Rattle.std.specs.Prelude.{IfOk};
 ghost use Rattle.vk_seal.specs.Values.{IsSeal, IsSecret};
 
 use std::alloc::Global;
+use std::process::Abort;
 use std::test::Fail;
 use vk_dice::{ChaChaWords, ListWords, Words};
 use vk_io::{MemShelf, Shelf};
@@ -43,8 +44,14 @@ end\n\
 fn a_seal_is_made_and_written_as_elsewhere(rt: HostRuntime) -> Result<(), Fail> {
     let mut words = ChaChaWords::of(&SEED, &ID, 65543);
     let (secret, seal) = make_seal(rt.alloc(), 15, 7, &ID, 4, 2, &mut words)?;
-    assert!(rt; secret_text(rt.alloc(), &secret)?.as_slice() == SECRET);
-    assert!(rt; seal_text(rt.alloc(), &seal)?.as_slice() == SEAL);
+    try_texts(&rt, rt.alloc(), &secret, &seal)
+}
+
+// What is tried is borrowed: nothing is dropped where an assertion ends it, and so it is proved fast.
+
+fn try_texts(rt: &impl Abort, alloc: Global, secret: &Secret, seal: &Seal) -> Result<(), Fail> {
+    assert!(rt; secret_text(alloc, secret)?.as_slice() == SECRET);
+    assert!(rt; seal_text(alloc, seal)?.as_slice() == SEAL);
     Ok(())
 }
 
@@ -71,8 +78,12 @@ fn what_was_written_is_read_and_matches(rt: HostRuntime) -> Result<(), Fail> {
     let mut shelf = MemShelf::new(rt.alloc());
     shelf.put_file("a", SECRET)?;
     shelf.put_file("b", SEAL)?;
-    let secret = secret_in(rt.alloc(), &mut shelf)?;
-    let (mut seal, _lines) = seal_in(rt.alloc(), &mut shelf)?;
+    try_match(&rt, rt.alloc(), &mut shelf)
+}
+
+fn try_match<S: Shelf>(rt: &impl Abort, alloc: Global, shelf: &mut S) -> Result<(), Fail> {
+    let secret = secret_in(alloc, shelf)?;
+    let (mut seal, _lines) = seal_in(alloc, shelf)?;
     assert!(rt; secret.bid == 15);
     assert!(rt; matches(&secret, &seal) == Ok(()));
     seal.seat = 8;
@@ -86,10 +97,20 @@ fn a_seal_of_64_lanes_is_read_back(rt: HostRuntime) -> Result<(), Fail> {
     let mut words = ChaChaWords::of(&SEED, &ID, 65543);
     let (secret, seal) = make_seal(rt.alloc(), 15, 7, &ID, 4, 64, &mut words)?;
     let mut shelf = MemShelf::new(rt.alloc());
-    shelf.put_file("a", secret_text(rt.alloc(), &secret)?.as_slice())?;
-    shelf.put_file("b", seal_text(rt.alloc(), &seal)?.as_slice())?;
-    let secret = secret_in(rt.alloc(), &mut shelf)?;
-    let (seal, lines) = seal_in(rt.alloc(), &mut shelf)?;
+    put_both(rt.alloc(), &mut shelf, &secret, &seal)?;
+    try_long(&rt, rt.alloc(), &mut shelf)
+}
+
+/// The secret as the file `a`, and the seal as the file `b`.
+fn put_both(alloc: Global, shelf: &mut MemShelf, secret: &Secret, seal: &Seal) -> Result<(), Fail> {
+    shelf.put_file("a", secret_text(alloc, secret)?.as_slice())?;
+    shelf.put_file("b", seal_text(alloc, seal)?.as_slice())?;
+    Ok(())
+}
+
+fn try_long<S: Shelf>(rt: &impl Abort, alloc: Global, shelf: &mut S) -> Result<(), Fail> {
+    let secret = secret_in(alloc, shelf)?;
+    let (seal, lines) = seal_in(alloc, shelf)?;
     assert!(rt; (lines, matches(&secret, &seal)) == (69, Ok(())));
     Ok(())
 }

@@ -1,6 +1,10 @@
 // Two replies to the smallest board, side by side; and a file that isn't held.
+ghost use Rattle.std.specs.Prelude.{◌≡◌, IfOk, false};
+ghost use Rattle.vk_verifier.specs.TwoBoards.{IsBoardOver};
+
 use super::files::shelf_of_files;
 use std::alloc::Global;
+use std::process::Abort;
 use std::test::Fail;
 use vk_io::MemShelf;
 use vk_verifier::{BoardVerdict, Part, TwoChecker, TwoVerdict, VErr};
@@ -23,33 +27,26 @@ fn the_first_missing_file_is_named(rt: HostRuntime) -> Result<(), Fail> {
     Ok(())
 }
 
-/// What is found where no lane is given any more.
-fn last_finding(
+/// The checker behind the next lane, and whether there was one.
+fn stepped(
     alloc: Global,
     shelf: &mut MemShelf,
     checker: TwoChecker,
-) -> Result<TwoVerdict, Fail> {
+) -> Result<(TwoChecker, bool), Fail>
+    ensures { IfOk result (λ next. next.1 ≡ false → IsBoardOver next.0) }
+{
     let (checker, lane) = checker.next_lane(alloc, shelf)?;
-    match lane {
-        None => Ok(checker.finding()),
-        Some(_lane) => Err(Fail::from("two lanes of one")),
-    }
+    Ok((checker, lane.is_some()))
 }
 
-/// How many lanes are given, one at most, and what is found then.
-fn lanes_and_finding(
-    alloc: Global,
-    shelf: &mut MemShelf,
-    checker: TwoChecker,
-) -> Result<(u32, TwoVerdict), Fail> {
-    let (checker, lane) = checker.next_lane(alloc, shelf)?;
-    match lane {
-        None => Ok((0, checker.finding())),
-        Some(_lane) => Ok((1, last_finding(alloc, shelf, checker)?)),
-    }
+/// What is found once no lane is given any more.
+fn finding(checker: TwoChecker) -> TwoVerdict
+    requires { IsBoardOver checker }
+{
+    checker.finding()
 }
 
-/// The same of two replies to a board of one lane, each to its challenge.
+/// Of two replies to a board of one lane, each to its challenge: how many lanes are given, and what is found then.
 fn found(
     alloc: Global,
     shelf: &mut MemShelf,
@@ -58,8 +55,15 @@ fn found(
     second: (&'static str, &'static str),
 ) -> Result<(u32, TwoVerdict), Fail> {
     let checker = TwoChecker::start(alloc, shelf, board, first.0, first.1, second.0, second.1)?;
-    let found = lanes_and_finding(alloc, shelf, checker)?;
-    Ok(found)
+    let (checker, some) = stepped(alloc, shelf, checker)?;
+    if !some {
+        return Ok((0, finding(checker)));
+    }
+    let (checker, more) = stepped(alloc, shelf, checker)?;
+    if more {
+        return Err(Fail::from("two lanes of one"));
+    }
+    Ok((1, finding(checker)))
 }
 
 /// The first wire after the inputs is opened with another value than its second entry has.
@@ -117,10 +121,13 @@ const FOUND: [(&str, (&str, &str), (&str, &str), u32, TwoVerdict); 8] = [
 
 #[test]
 fn two_replies_give_their_lanes_and_come_to_a_verdict(rt: HostRuntime) -> Result<(), Fail> {
-    let alloc = rt.alloc();
-    let mut shelf = shelf_of_files(alloc)?;
+    let mut shelf = shelf_of_files(rt.alloc())?;
+    try_found(&rt, rt.alloc(), &mut shelf)
+}
+
+fn try_found(rt: &impl Abort, alloc: Global, shelf: &mut MemShelf) -> Result<(), Fail> {
     for (board, first, second, lanes, finding) in FOUND {
-        assert!(rt; found(alloc, &mut shelf, board, first, second)? == (lanes, finding));
+        assert!(rt; found(alloc, shelf, board, first, second)? == (lanes, finding));
     }
     Ok(())
 }

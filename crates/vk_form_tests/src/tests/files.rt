@@ -34,6 +34,13 @@ struct Lane {
 /// to the first by a prover who drew other keys.
 pub fn shelf_of_files(alloc: Global) -> Result<MemShelf, Fail> {
     let mut shelf = MemShelf::new(alloc);
+    put_files(alloc, &mut shelf)?;
+    Ok(shelf)
+}
+
+// What is written and tried below is borrowed: no error drops it, and so it is proved fast.
+
+fn put_files(alloc: Global, shelf: &mut MemShelf) -> Result<(), Fail> {
     shelf.put_file("01", b"vickrey-challenge 1\nbits 01\nend\n")?;
     shelf.put_file("10", b"vickrey-challenge 1\nbits 10\nend\n")?;
     let numbers = [
@@ -43,15 +50,8 @@ pub fn shelf_of_files(alloc: Global) -> Result<MemShelf, Fail> {
     ];
     let circuit = SumPlan::of(&numbers).ok_or("not three numbers below 8")?;
     let (plan, values) = plan_and_values(alloc, &circuit, &numbers)?;
-    let secrets = put_front(alloc, &mut shelf, circuit.total)?;
-    put_lanes(
-        alloc,
-        &mut shelf,
-        &plan,
-        values.as_slice(),
-        secrets.as_slice(),
-    )?;
-    Ok(shelf)
+    let secrets = put_front(alloc, shelf, circuit.total)?;
+    put_lanes(alloc, shelf, &plan, values.as_slice(), secrets.as_slice())
 }
 
 fn residue(number: u64) -> Result<Residue, Fail> {
@@ -106,6 +106,17 @@ fn put_lanes(
     let first = lane_of(alloc, plan, values, secrets, 1, 8)?;
     let second = lane_of(alloc, plan, values, secrets, 2, 8)?;
     let other = lane_of(alloc, plan, values, secrets, 1, 9)?;
+    put_made(alloc, shelf, &first, &second, &other)
+}
+
+/// The same of lanes that are made, the third by another prover.
+fn put_made(
+    alloc: Global,
+    shelf: &mut MemShelf,
+    first: &Lane,
+    second: &Lane,
+    other: &Lane,
+) -> Result<(), Fail> {
     shelf.append("file", lane_text(alloc, 1, &first.lines)?.as_slice())?;
     shelf.append("file", lane_text(alloc, 2, &second.lines)?.as_slice())?;
     shelf.append("file", b"end\n")?;

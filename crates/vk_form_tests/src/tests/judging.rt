@@ -1,6 +1,8 @@
 // Replies to a sum file that an honest prover made, and what isn't accepted.
 use super::files::{NUMBERS, shelf_of_files};
 use crate::{extract, judge};
+use std::alloc::Global;
+use std::process::Abort;
 use std::test::Fail;
 use vk_bids::{Extraction, LaneBids};
 use vk_io::MemShelf;
@@ -27,10 +29,13 @@ fn named<'a>(file: &'a str, challenge: &'a str, reply: &'a str) -> AttemptNames<
 
 #[test]
 fn accepted_replies_open_the_numbers_in_both_lanes(rt: HostRuntime) -> Result<(), Fail> {
-    let alloc = rt.alloc();
-    let mut shelf = shelf_of_files(alloc)?;
-    assert!(rt; judge(alloc, &mut shelf, &named("file", "01", "to 01"))?.is_ok());
-    assert!(rt; judge(alloc, &mut shelf, &named("file", "10", "to 10"))?.is_ok());
+    let mut shelf = shelf_of_files(rt.alloc())?;
+    try_accepted(&rt, rt.alloc(), &mut shelf)
+}
+
+fn try_accepted(rt: &impl Abort, alloc: Global, shelf: &mut MemShelf) -> Result<(), Fail> {
+    assert!(rt; judge(alloc, shelf, &named("file", "01", "to 01"))?.is_ok());
+    assert!(rt; judge(alloc, shelf, &named("file", "10", "to 10"))?.is_ok());
     let names = TwoReplies {
         board: "file",
         challenge1: "01",
@@ -38,15 +43,18 @@ fn accepted_replies_open_the_numbers_in_both_lanes(rt: HostRuntime) -> Result<()
         challenge2: "10",
         reply2: "to 10",
     };
-    match extract(alloc, &mut shelf, &names)? {
+    match extract(alloc, shelf, &names)? {
         Extraction::Bids(opened) => {
-            let lanes = opened.lanes.as_slice();
-            assert!(rt; lanes.len() == 2);
-            assert!(rt; opens(&lanes[0], &NUMBERS) && opens(&lanes[1], &NUMBERS));
+            try_opened(rt, opened.lanes.as_slice());
             Ok(())
         }
         _ => Err("no lanes".into()),
     }
+}
+
+fn try_opened(rt: &impl Abort, lanes: &[LaneBids]) {
+    assert!(rt; lanes.len() == 2);
+    assert!(rt; opens(&lanes[0], &NUMBERS) && opens(&lanes[1], &NUMBERS));
 }
 
 #[test]

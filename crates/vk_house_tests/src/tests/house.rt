@@ -13,6 +13,7 @@ use vk_keeper::{Keeper, MemKeeper, Phase};
 use vk_reply::Challenge;
 use vk_seal::{Mismatch, Seal, Secret, make_seal};
 use vk_seq::Seq;
+use vk_vickrey::Sale;
 
 const ID: [u8; 16] = [0, 1, 2, 3, 4, 5, 6, 7, 8, 9, 10, 11, 12, 13, 14, 15];
 
@@ -38,8 +39,8 @@ fn sealed(alloc: Global, seed: u8, seat: u16, bid: u64, lanes: u32) -> Result<(S
 enum Said {
     Done,
     Position(u32),
-    /// The winner's position, the price, and the first two bits of the challenge that is kept.
-    Work(u32, u64, Bits),
+    /// The sale, and the first two bits of the challenge that is kept.
+    Work(Sale, Bits),
     Phase(PhaseName),
     OtherAuction([u8; 16]),
     Length(u32, u32),
@@ -85,9 +86,8 @@ fn refused(refusal: HouseErr) -> Said {
 fn worked(answer: Result<Job, HouseErr>) -> Said {
     match answer {
         Ok(job) => {
-            let outcome = job.outcome();
             let bits = kept_bits(&job.auction().phase);
-            Said::Work(outcome.position, outcome.price, bits)
+            Said::Work(job.sale(), bits)
         }
         Err(refusal) => refused(refusal),
     }
@@ -164,6 +164,12 @@ fn with_seals<K: Keeper + Drop>(alloc: Global, house: &mut House<'_, K>) -> Resu
 
 const NO_BITS: Bits = (None, None);
 
+/// The bids 7, 9 and 9, with no reserve or with one that is no greater.
+const AT_NINE: Sale = Sale::Sold {
+    position: 2,
+    price: 9,
+};
+
 const FIRST: Bits = (Some(false), Some(true));
 
 const SECOND: Bits = (Some(true), Some(true));
@@ -180,17 +186,18 @@ fn try_once<K: Keeper + Drop>(
     house: &mut House<'_, K>,
 ) -> Result<(), Fail> {
     assert!(rt; with_seals(alloc, house)? == Said::Position(3));
-    assert!(rt; prove(alloc, house, &SEED) == Said::Work(2, 9, NO_BITS));
-    assert!(rt; answer(alloc, house, &[false, true])? == Said::Work(2, 9, FIRST));
+    assert!(rt; prove(alloc, house, &SEED) == Said::Work(AT_NINE, NO_BITS));
+    assert!(rt; answer(alloc, house, &[false, true])? == Said::Work(AT_NINE, FIRST));
     assert!(rt; answer(alloc, house, &[true, true])? == Said::OtherChallenge(FIRST));
-    assert!(rt; answer(alloc, house, &[false, true])? == Said::Work(2, 9, FIRST));
-    assert!(rt; prove(alloc, house, &SEED) == Said::Work(2, 9, FIRST));
+    assert!(rt; answer(alloc, house, &[false, true])? == Said::Work(AT_NINE, FIRST));
+    assert!(rt; prove(alloc, house, &SEED) == Said::Work(AT_NINE, FIRST));
     let phase = PhaseName::Answered;
     let standing = Standing {
         width: 4,
         lanes: 2,
         seals: 3,
         phase,
+        reserve: None,
     };
     assert!(rt; show(house) == Ok(standing));
     Ok(())
@@ -227,7 +234,7 @@ fn try_proved<K: Keeper + Drop>(
     house: &mut House<'_, K>,
 ) -> Result<(), Fail> {
     assert!(rt; with_seals(alloc, house)? == Said::Position(3));
-    assert!(rt; prove(alloc, house, &SEED) == Said::Work(2, 9, NO_BITS));
+    assert!(rt; prove(alloc, house, &SEED) == Said::Work(AT_NINE, NO_BITS));
     assert!(rt; prove(alloc, house, &[1; 32]) == Said::OtherSeed(SEED));
     assert!(rt; hand_in(alloc, house, 8, 3, 2)? == Said::Phase(PhaseName::Proved));
     assert!(rt; answer(alloc, house, &[true])? == Said::Length(2, 1));
@@ -309,8 +316,87 @@ fn try_unkept<K: Keeper + Drop>(
     house: &mut House<'_, K>,
 ) -> Result<(), Fail> {
     assert!(rt; with_seals(alloc, house)? == Said::Position(3));
-    assert!(rt; prove(alloc, house, &SEED) == Said::Work(2, 9, NO_BITS));
+    assert!(rt; prove(alloc, house, &SEED) == Said::Work(AT_NINE, NO_BITS));
     assert!(rt; answer(alloc, house, &[false, true])? == Said::Other("keeper failed"));
-    assert!(rt; answer(alloc, house, &[true, true])? == Said::Work(2, 9, SECOND));
+    assert!(rt; answer(alloc, house, &[true, true])? == Said::Work(AT_NINE, SECOND));
+    Ok(())
+}
+
+fn announce_reserve<K: Keeper + Drop>(
+    alloc: Global,
+    house: &mut House<'_, K>,
+    reserve: u64,
+) -> Said {
+    if 15 < reserve {
+        return Said::Other("no reserve");
+    }
+    match house.announce_reserve(alloc, &ID, 4, 2, reserve) {
+        Ok(()) => Said::Done,
+        Err(refusal) => refused(refusal),
+    }
+}
+
+/// Announces the auction with the reserve, hands in the bids 5 and 9, and proves it.
+fn reserved<K: Keeper + Drop>(
+    alloc: Global,
+    house: &mut House<'_, K>,
+    reserve: u64,
+) -> Result<Said, Fail> {
+    let _done = announce_reserve(alloc, house, reserve);
+    let _first = hand_in(alloc, house, 300, 5, 2)?;
+    let _second = hand_in(alloc, house, 7, 9, 2)?;
+    Ok(prove(alloc, house, &SEED))
+}
+
+#[test]
+fn a_reserve_is_the_least_price(rt: HostRuntime) -> Result<(), Fail> {
+    for (reserve, sale) in [
+        (
+            4,
+            Sale::Sold {
+                position: 2,
+                price: 5,
+            },
+        ),
+        (
+            8,
+            Sale::Sold {
+                position: 2,
+                price: 8,
+            },
+        ),
+        (9, AT_NINE),
+        (10, Sale::Unsold),
+    ] {
+        let mut keeper = MemKeeper::new(rt.alloc());
+        try_reserve(
+            &rt,
+            rt.alloc(),
+            &mut House::over(&mut keeper),
+            reserve,
+            sale,
+        )?;
+    }
+    Ok(())
+}
+
+fn try_reserve<K: Keeper + Drop>(
+    rt: &impl Abort,
+    alloc: Global,
+    house: &mut House<'_, K>,
+    reserve: u64,
+    sale: Sale,
+) -> Result<(), Fail> {
+    assert!(rt; reserved(alloc, house, reserve)? == Said::Work(sale, NO_BITS));
+    assert!(rt; announce_reserve(alloc, house, 0) == Said::Other("known"));
+    assert!(rt; answer(alloc, house, &[false, true])? == Said::Work(sale, FIRST));
+    let standing = Standing {
+        width: 4,
+        lanes: 2,
+        seals: 2,
+        phase: PhaseName::Answered,
+        reserve: Some(reserve),
+    };
+    assert!(rt; show(house) == Ok(standing));
     Ok(())
 }

@@ -7,11 +7,13 @@ ghost use Rattle.vk_reply.specs.Values.{IsChallenge};
 use super::auctions::joined;
 use sha2::{Digest, Sha256};
 use std::alloc::Global;
+use std::process::Abort;
 use std::test::Fail;
 use vk_job::Job;
 use vk_keeper::{Auction, Phase};
 use vk_reply::{Challenge, reply_lane_text};
 use vk_seq::Seq;
+use vk_vickrey::Sale;
 
 const ID: [u8; 16] = [0, 1, 2, 3, 4, 5, 6, 7, 8, 9, 10, 11, 12, 13, 14, 15];
 
@@ -38,8 +40,10 @@ fn with_seals(alloc: Global) -> Result<Auction, Fail>
 {
     let opened = Auction {
         id: ID,
+        version: 1,
         width: 3,
         lanes: 3,
+        reserve: 0,
         phase: Phase::Taking,
         seals: Seq::new(alloc),
     };
@@ -78,11 +82,21 @@ fn answered(alloc: Global, seed: &[u8; 32], bits: &[bool; 3]) -> Result<Auction,
 fn the_kept_challenge_is_replied_to(rt: HostRuntime) -> Result<(), Fail> {
     let auction = answered(rt.alloc(), &SEED, &[false, true, false])?;
     let job = Job::of(rt.alloc(), auction)?;
-    let outcome = job.outcome();
-    assert!(rt; (outcome.position, outcome.price) == (3, 6));
-    assert!(rt; (job.head().winner, job.board_pieces()) == (Some(1), 8));
-    let shown = job.reply(rt.alloc(), 2)?;
-    let text = reply_lane_text(rt.alloc(), 2, shown.as_slice())?;
+    try_job(&rt, rt.alloc(), &job)
+}
+
+fn try_job(rt: &impl Abort, alloc: Global, job: &Job) -> Result<(), Fail>
+    requires answered { IsSome (challenge_of job.now.auction.phase) }
+    requires lanes { job.now.auction.lanes ≡ 3 }
+{
+    let sold = Sale::Sold {
+        position: 3,
+        price: 6,
+    };
+    assert!(rt; job.sale() == sold);
+    assert!(rt; (job.winner(), job.head().winner, job.board_pieces()) == (Some(1), Some(1), 8));
+    let shown = job.reply(alloc, 2)?;
+    let text = reply_lane_text(alloc, 2, shown.as_slice())?;
     assert!(rt; Sha256::digest(text.as_slice()) == SECOND_LANE);
     Ok(())
 }

@@ -1,13 +1,14 @@
 ghost use Rattle.std.specs.Prelude.{◌≡◌, ◌≤◌, [], length, IfOk};
 ghost use Rattle.vk_reply.specs.Values.{IsChallenge};
 ghost use Rattle.vk_keeper.specs.Auctions.{IsAuction};
+ghost use Rattle.vk_keeper.specs.First.{IsFirstAuction};
 
 use super::auctions::joined;
 use std::alloc::Global;
 use std::process::Abort;
 use std::test::Fail;
 use vk_io::OutsideErr;
-use vk_keeper::{Auction, Keeper, MemKeeper, Phase};
+use vk_keeper::{Auction, FirstAuction, Keeper, MemKeeper, Phase};
 use vk_reply::Challenge;
 use vk_seq::Seq;
 
@@ -27,12 +28,14 @@ fn opened(alloc: Global, id: &[u8; 16], width: u32) -> Auction
     requires some_width { 1 ≤ width }
     requires last_width { width ≤ 40 }
     ensures right { IsAuction result }
-    ensures made { result ≡ record { id = id.now; width = width; lanes = 2; phase = Phase.Taking; seals = [] } }
+    ensures made { result ≡ record { id = id.now; version = 1; width = width; lanes = 2; reserve = 0; phase = Phase.Taking; seals = [] } }
 {
     Auction {
         id: *id,
+        version: 1,
         width,
         lanes: 2,
+        reserve: 0,
         phase: Phase::Taking,
         seals: Seq::new(alloc),
     }
@@ -159,14 +162,16 @@ fn check_copy(rt: &impl Abort, copy: &Auction) -> Result<(), Fail> {
 
 #[test]
 fn three_auctions_with_seals_are_kept(rt: HostRuntime) -> Result<(), Fail> {
-    let alloc = rt.alloc();
-    let mut keeper = MemKeeper::new(alloc);
+    try_three(&rt, rt.alloc(), &mut MemKeeper::new(rt.alloc()))
+}
+
+fn try_three<K: Keeper>(rt: &impl Abort, alloc: Global, keeper: &mut K) -> Result<(), Fail> {
     keeper.put(with_seals(alloc, &ONE)?)?;
     keeper.put(answered(alloc, &TWO, &SEED)?)?;
     keeper.put(proved(alloc, &ID, &SEED)?)?;
-    check_proved(&rt, &found(&mut keeper, &ID)?)?;
-    check_answered(&rt, &found(&mut keeper, &TWO)?);
-    check_taking(&rt, &found(&mut keeper, &ONE)?);
+    check_proved(rt, &found(keeper, &ID)?)?;
+    check_answered(rt, &found(keeper, &TWO)?);
+    check_taking(rt, &found(keeper, &ONE)?);
     Ok(())
 }
 
@@ -192,4 +197,39 @@ fn check_answered(rt: &impl Abort, found: &Auction) {
 fn check_taking(rt: &impl Abort, found: &Auction) {
     assert!(rt; found.seals.len() == 3);
     assert!(rt; matches!(found.phase, Phase::Taking));
+}
+
+/// The auction as it was kept before auctions had a version and a reserve.
+fn first_of(auction: Auction) -> FirstAuction
+    requires { IsAuction auction }
+    ensures { IsFirstAuction result }
+{
+    let Auction {
+        id,
+        width,
+        lanes,
+        phase,
+        seals,
+        ..
+    } = auction;
+    FirstAuction {
+        id,
+        width,
+        lanes,
+        phase,
+        seals,
+    }
+}
+
+#[test]
+fn an_auction_from_before_is_kept_in_version_1(rt: HostRuntime) -> Result<(), Fail> {
+    let first = first_of(answered(rt.alloc(), &ID, &SEED)?);
+    let firsts = Vec::from_array(rt.alloc(), [first])?;
+    let mut keeper = MemKeeper::lifted(rt.alloc(), firsts)?;
+    check_lifted(&rt, &found(&mut keeper, &ID)?)
+}
+
+fn check_lifted(rt: &impl Abort, found: &Auction) -> Result<(), Fail> {
+    assert!(rt; (found.version, found.reserve) == (1, 0));
+    check_copy(rt, found)
 }

@@ -4,7 +4,7 @@ ghost use Rattle.vk_row.specs.Lanes.{HasCounts};
 ghost use Rattle.vk_plan.specs.Plans.{HasWeight, MayHave};
 ghost use Rattle.vk_plan.specs.declared.wire.WireKind.TheVariants.{Pair};
 
-use super::numbers::{half, residue};
+use super::numbers::{BID, COPY, half, has_counts, residue};
 use std::alloc::Global;
 use std::process::Abort;
 use std::test::Fail;
@@ -18,32 +18,6 @@ use vk_seq::Seq;
 use vk_wire::{Shown, WireCom, WireTape, make, show, wire_place};
 
 const AUCTION: [u8; 16] = [0, 1, 2, 3, 4, 5, 6, 7, 8, 9, 10, 11, 12, 13, 14, 15];
-
-const BID: WireCom = WireCom {
-    first: [
-        0x02, 0x3d, 0xd1, 0xcc, 0x99, 0x17, 0x7a, 0xec, 0x8e, 0x6b, 0x75, 0xb8, 0x47, 0x22, 0x7f,
-        0xf4, 0xa8, 0xdd, 0x6e, 0x23, 0x28, 0x31, 0x0f, 0x0f, 0xfa, 0x91, 0xf2, 0xd6, 0x0a, 0xec,
-        0xd4, 0x26,
-    ],
-    second: [
-        0x7d, 0x27, 0xf5, 0xe5, 0xfa, 0x17, 0x02, 0x02, 0x34, 0xfa, 0xfc, 0x9b, 0x72, 0x35, 0xc8,
-        0x4f, 0x4b, 0x92, 0xbb, 0x9a, 0xbc, 0x75, 0x4d, 0x2a, 0x12, 0xe1, 0x8a, 0x0b, 0x24, 0xec,
-        0x8e, 0x75,
-    ],
-};
-
-const COPY: WireCom = WireCom {
-    first: [
-        0x3e, 0x08, 0x1a, 0x82, 0x00, 0x47, 0xb9, 0x42, 0xfb, 0x53, 0xd6, 0x4c, 0xc4, 0x8e, 0x73,
-        0x07, 0x2c, 0x8b, 0xab, 0x60, 0x33, 0x81, 0x22, 0xa8, 0xb6, 0xcc, 0x7d, 0x25, 0x74, 0x47,
-        0x82, 0x94,
-    ],
-    second: [
-        0xc5, 0x91, 0x4c, 0x57, 0x5c, 0xec, 0xb2, 0x1a, 0x7d, 0x48, 0x84, 0xfb, 0xba, 0x3c, 0xb9,
-        0x14, 0x24, 0x52, 0x9f, 0x83, 0x68, 0x90, 0xe5, 0xb3, 0xc8, 0x35, 0x8d, 0x4e, 0x3c, 0xc6,
-        0xa5, 0x3c,
-    ],
-};
 
 /// One input, a wire of the kind, and the row that the two have one value.
 fn plan_of_two(alloc: Global, kind: WireKind) -> Result<Plan, Fail>
@@ -120,10 +94,19 @@ fn values_of_lane(
 fn a_lane_made_elsewhere_gives_its_bid(rt: HostRuntime) -> Result<(), Fail> {
     let plan = plan_of_two(rt.alloc(), WireKind::Split)?;
     let case = case_of_two(rt.alloc(), BID, COPY, 2305843009213693944)?;
+    try_elsewhere(&rt, rt.alloc(), &plan, &case)
+}
+
+// What is tried is borrowed: nothing is dropped where an assertion ends it, and so it is proved fast.
+
+fn try_elsewhere(rt: &impl Abort, alloc: Global, plan: &Plan, case: &LaneCase) -> Result<(), Fail> {
     let zero = [half(0x11, 3)?, half(0x33, 10)?];
     let one = [half(0x22, 2)?, half(0x44, 2305843009213693946)?];
-    let values = values_of_lane(rt.alloc(), &plan, &case, &zero, &one)?;
-    assert!(rt; values.as_slice() == [residue(5)?, residue(5)?].as_slice());
+    let five = residue(5)?;
+    assert!(rt; has_counts(plan, case, &zero));
+    assert!(rt; has_counts(plan, case, &one));
+    let values = values_of_lane(alloc, plan, case, &zero, &one)?;
+    assert!(rt; values.as_slice() == [five, five].as_slice());
     Ok(())
 }
 
@@ -256,27 +239,35 @@ fn shown_of_many(alloc: Global, plan: &Plan, bit: bool) -> Result<Vec<Shown>, Fa
     Ok(all)
 }
 
-/// Whether there is one of each for the plan.
-fn has_counts(plan: &Plan, case: &LaneCase, shown: &[Shown]) -> bool
-    ensures { IsTrue result → HasCounts plan.now case.now shown.now }
-{
-    case.seats.as_slice().len() == plan.inputs() as usize
-        && case.coms.as_slice().len() == plan.wires() as usize
-        && case.posted.as_slice().len() == plan.rows() as usize
-        && shown.len() == plan.wires() as usize
-}
-
 #[test]
 fn many_wires_of_lane_2_give_their_values(rt: HostRuntime) -> Result<(), Fail> {
     let plan = plan_of_many(rt.alloc())?;
     let case = case_of_many(rt.alloc(), &plan)?;
     let zero = shown_of_many(rt.alloc(), &plan, false)?;
     let one = shown_of_many(rt.alloc(), &plan, true)?;
-    assert!(rt; has_counts(&plan, &case, zero.as_slice()));
-    assert!(rt; has_counts(&plan, &case, one.as_slice()));
-    let values = values_of_lane(rt.alloc(), &plan, &case, zero.as_slice(), one.as_slice())?;
+    try_many(
+        &rt,
+        rt.alloc(),
+        &plan,
+        &case,
+        zero.as_slice(),
+        one.as_slice(),
+    )
+}
+
+fn try_many(
+    rt: &impl Abort,
+    alloc: Global,
+    plan: &Plan,
+    case: &LaneCase,
+    zero: &[Shown],
+    one: &[Shown],
+) -> Result<(), Fail> {
+    assert!(rt; has_counts(plan, case, zero));
+    assert!(rt; has_counts(plan, case, one));
+    let values = values_of_lane(alloc, plan, case, zero, one)?;
     assert!(rt; values.len() == 102);
-    try_values(&rt, &plan, values.as_slice())
+    try_values(rt, plan, values.as_slice())
 }
 
 fn try_values(rt: &impl Abort, plan: &Plan, values: &[Residue]) -> Result<(), Fail> {

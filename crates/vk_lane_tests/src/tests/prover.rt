@@ -3,7 +3,7 @@
 ghost use Rattle.std.specs.Prelude.{◌≡◌, ◌<◌, ◌≤◌, IfOk, length};
 ghost use Rattle.vk_plan.specs.Plans.{Holds};
 
-use super::numbers::{half, inputs_of, opening, residue};
+use super::numbers::{accepted_halves, half, inputs_of, opening, residue};
 use std::alloc::Global;
 use std::process::Abort;
 use std::test::Fail;
@@ -12,7 +12,7 @@ use vk_dice::{ChaChaWords, ListWords, Words};
 use vk_plan::{Circuit, Plan, WireKind};
 use vk_prover::{DrawErr, LaneTape, answer_lane, draw_tape, make_lane};
 use vk_residue::{NoMemory, Residue};
-use vk_row::{LaneCase, check_lane};
+use vk_row::LaneCase;
 use vk_seq::Seq;
 use vk_vickrey::{VickreyPlan, outcome};
 use vk_wire::{Shown, WireTape, make, wire_place};
@@ -119,15 +119,20 @@ fn halves_of_a_bit(bit: bool) -> Result<[Residue; 3], Fail> {
 }
 
 #[test]
-fn lines_are_published(rt: HostRuntime) -> Result<(), Fail> {
+fn a_lane_of_a_bit_is_published_and_answered(rt: HostRuntime) -> Result<(), Fail> {
     let lane = lane_of_a_bit(rt.alloc())?;
     let values = lane.values.as_slice();
     assert!(rt; values == [Residue::ZERO; 3].as_slice());
     let lines = make_lane(rt.alloc(), &lane.plan, &AUCTION, 1, values, &lane.tape)?;
-    try_lines(&rt, &lines)
+    lines_are_published(&rt, &lines)?;
+    both_replies_show_their_halves(&rt, rt.alloc(), &lane)?;
+    let case = case_of_a_bit(rt.alloc(), lines)?;
+    both_replies_are_accepted(&rt, rt.alloc(), &lane.plan, &case)
 }
 
-fn try_lines(rt: &impl Abort, lines: &LaneLines) -> Result<(), Fail> {
+// What is tried is borrowed: nothing is dropped where an assertion ends it, and so it is proved fast.
+
+fn lines_are_published(rt: &impl Abort, lines: &LaneLines) -> Result<(), Fail> {
     let posted = [residue(2305843009213693944)?, residue(6)?];
     assert!(rt; lines.posted.as_slice() == posted.as_slice());
     let copy = lines.coms.as_slice().first().ok_or("no commitment")?;
@@ -135,26 +140,27 @@ fn try_lines(rt: &impl Abort, lines: &LaneLines) -> Result<(), Fail> {
     Ok(())
 }
 
-#[test]
-fn both_replies_show_their_halves(rt: HostRuntime) -> Result<(), Fail> {
-    let lane = lane_of_a_bit(rt.alloc())?;
+fn both_replies_show_their_halves(rt: &impl Abort, alloc: Global, lane: &Lane) -> Result<(), Fail>
+    requires holds { Holds lane.now.plan lane.now.values.items }
+    requires one_each { length lane.now.tape.wires ≡ length lane.now.plan.kinds }
+{
     for bit in [false, true] {
         let values = lane.values.as_slice();
-        let shown = answer_lane(rt.alloc(), &lane.plan, values, &lane.tape, bit)?;
+        let shown = answer_lane(alloc, &lane.plan, values, &lane.tape, bit)?;
         let expected = shown_of_a_bit(bit)?;
         assert!(rt; shown.as_slice() == expected.as_slice());
     }
     Ok(())
 }
 
-#[test]
-fn both_replies_are_accepted(rt: HostRuntime) -> Result<(), Fail> {
-    let lane = lane_of_a_bit(rt.alloc())?;
-    let values = lane.values.as_slice();
-    let lines = make_lane(rt.alloc(), &lane.plan, &AUCTION, 1, values, &lane.tape)?;
-    let case = case_of_a_bit(rt.alloc(), lines)?;
-    try_reply(&rt, rt.alloc(), &lane.plan, &case, false)?;
-    try_reply(&rt, rt.alloc(), &lane.plan, &case, true)
+fn both_replies_are_accepted(
+    rt: &impl Abort,
+    alloc: Global,
+    plan: &Plan,
+    case: &LaneCase,
+) -> Result<(), Fail> {
+    try_reply(rt, alloc, plan, case, false)?;
+    try_reply(rt, alloc, plan, case, true)
 }
 
 /// The reply for the bit is accepted with the halves that it is known to have.
@@ -187,13 +193,24 @@ const KEY: [u8; 32] = [
 ];
 
 #[test]
-fn a_residue_a_bit_and_two_keys_are_drawn(rt: HostRuntime) -> Result<(), Fail> {
+fn tapes_of_three_wires_are_drawn(rt: HostRuntime) -> Result<(), Fail> {
     let plan = plan_of_three(rt.alloc())?;
+    a_residue_a_bit_and_two_keys_are_drawn(&rt, rt.alloc(), &plan)?;
+    a_wire_that_is_dry_is_named(&rt, rt.alloc(), &plan)
+}
+
+fn a_residue_a_bit_and_two_keys_are_drawn(
+    rt: &impl Abort,
+    alloc: Global,
+    plan: &Plan,
+) -> Result<(), Fail>
+    requires { plan.now.inputs ≡ 1 }
+{
     let given = wire_tape(3, 0x11)?;
     let most = 18446744073709551615;
     let ahead = [most, 5, 7, 256, 1, 2, 3, 0, 0, 0, 0, 8, 2];
-    let mut words = ListWords::of(rt.alloc(), &ahead)?;
-    let tape = draw_tape(rt.alloc(), &plan, &[given], &mut words)?;
+    let mut words = ListWords::of(alloc, &ahead)?;
+    let tape = draw_tape(alloc, plan, &[given], &mut words)?;
     let first = WireTape {
         mask: residue(5)?,
         swap: true,
@@ -210,14 +227,14 @@ fn a_residue_a_bit_and_two_keys_are_drawn(rt: HostRuntime) -> Result<(), Fail> {
     Ok(())
 }
 
-#[test]
-fn a_wire_that_is_dry_is_named(rt: HostRuntime) -> Result<(), Fail> {
-    let plan = plan_of_three(rt.alloc())?;
+fn a_wire_that_is_dry_is_named(rt: &impl Abort, alloc: Global, plan: &Plan) -> Result<(), Fail>
+    requires { plan.now.inputs ≡ 1 }
+{
     let given = wire_tape(3, 0x11)?;
     let most = 18446744073709551615;
     let ahead = [5, 7, 0, 0, 0, 0, 0, 0, 0, 0, most, most, most, most];
-    let mut words = ListWords::of(rt.alloc(), &ahead)?;
-    let refused = draw_tape(rt.alloc(), &plan, &[given], &mut words).err();
+    let mut words = ListWords::of(alloc, &ahead)?;
+    let refused = draw_tape(alloc, plan, &[given], &mut words).err();
     assert!(rt; refused == Some(DrawErr::DrySeed { wire: 2 }));
     Ok(())
 }
@@ -285,25 +302,6 @@ fn case_of_seals(
         coms,
         posted: lines.posted,
     })
-}
-
-/// The halves of an accepted lane.
-fn accepted_halves(
-    alloc: Global,
-    plan: &Plan,
-    case: &LaneCase,
-    bit: bool,
-    shown: &[Shown],
-) -> Result<Vec<Residue>, Fail> {
-    let wires = plan.wires() as usize;
-    if case.coms.len() != wires || shown.len() != wires {
-        return Err("not one for each wire".into());
-    }
-    if case.seats.len() != plan.inputs() as usize || case.posted.len() != plan.rows() as usize {
-        return Err("not one for each input or row".into());
-    }
-    let halves = check_lane(alloc, plan, case, bit, shown)?;
-    Ok(halves)
 }
 
 /// The value of a wire by its two halves.

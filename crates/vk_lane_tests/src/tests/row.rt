@@ -2,7 +2,7 @@
 ghost use Rattle.std.specs.Prelude.{◌≡◌, IfOk, length};
 ghost use Rattle.vk_plan.specs.Forms.{NamesBelow};
 
-use super::numbers::{half, residue};
+use super::numbers::{BID, COPY, accepted_halves, half, has_counts, residue};
 use std::alloc::Global;
 use std::process::Abort;
 use std::test::Fail;
@@ -13,32 +13,6 @@ use vk_seq::Seq;
 use vk_wire::{WireCom, WireFault};
 
 const MINUS_ONE: u64 = 2305843009213693950;
-
-const BID: WireCom = WireCom {
-    first: [
-        0x02, 0x3d, 0xd1, 0xcc, 0x99, 0x17, 0x7a, 0xec, 0x8e, 0x6b, 0x75, 0xb8, 0x47, 0x22, 0x7f,
-        0xf4, 0xa8, 0xdd, 0x6e, 0x23, 0x28, 0x31, 0x0f, 0x0f, 0xfa, 0x91, 0xf2, 0xd6, 0x0a, 0xec,
-        0xd4, 0x26,
-    ],
-    second: [
-        0x7d, 0x27, 0xf5, 0xe5, 0xfa, 0x17, 0x02, 0x02, 0x34, 0xfa, 0xfc, 0x9b, 0x72, 0x35, 0xc8,
-        0x4f, 0x4b, 0x92, 0xbb, 0x9a, 0xbc, 0x75, 0x4d, 0x2a, 0x12, 0xe1, 0x8a, 0x0b, 0x24, 0xec,
-        0x8e, 0x75,
-    ],
-};
-
-const COPY: WireCom = WireCom {
-    first: [
-        0x3e, 0x08, 0x1a, 0x82, 0x00, 0x47, 0xb9, 0x42, 0xfb, 0x53, 0xd6, 0x4c, 0xc4, 0x8e, 0x73,
-        0x07, 0x2c, 0x8b, 0xab, 0x60, 0x33, 0x81, 0x22, 0xa8, 0xb6, 0xcc, 0x7d, 0x25, 0x74, 0x47,
-        0x82, 0x94,
-    ],
-    second: [
-        0xc5, 0x91, 0x4c, 0x57, 0x5c, 0xec, 0xb2, 0x1a, 0x7d, 0x48, 0x84, 0xfb, 0xba, 0x3c, 0xb9,
-        0x14, 0x24, 0x52, 0x9f, 0x83, 0x68, 0x90, 0xe5, 0xb3, 0xc8, 0x35, 0x8d, 0x4e, 0x3c, 0xc6,
-        0xa5, 0x3c,
-    ],
-};
 
 const POSTED: u64 = 2305843009213693944;
 
@@ -96,15 +70,30 @@ fn case_of_a_copy(alloc: Global, number: u64) -> Result<LaneCase, Fail>
 }
 
 #[test]
-fn both_replies_are_accepted(rt: HostRuntime) -> Result<(), Fail> {
+fn replies_to_a_lane_made_elsewhere_are_checked(rt: HostRuntime) -> Result<(), Fail> {
     let plan = plan_of_a_copy(rt.alloc())?;
-    let case = case_of_a_copy(rt.alloc(), POSTED)?;
+    let table = RowTable::of(rt.alloc(), &plan)?;
+    let right = case_of_a_copy(rt.alloc(), POSTED)?;
+    let wrong = case_of_a_copy(rt.alloc(), 7)?;
+    both_replies_are_accepted(&rt, rt.alloc(), &plan, &right)?;
+    another_posted_number_is_refused(&rt, rt.alloc(), &plan, &table, &wrong)?;
+    the_first_wire_that_reads_nothing_is_named(&rt, rt.alloc(), &plan, &wrong)
+}
+
+// What is tried borrows the plan and the lane: nothing is dropped where an assertion ends it, and so it is proved fast.
+
+fn both_replies_are_accepted(
+    rt: &impl Abort,
+    alloc: Global,
+    plan: &Plan,
+    case: &LaneCase,
+) -> Result<(), Fail> {
     let zero = [half(0x11, 3)?, half(0x33, 10)?];
-    let halves = check_lane(rt.alloc(), &plan, &case, false, &zero)?;
-    assert!(rt; are(halves.as_slice(), 3, 10));
     let one = [half(0x22, 2)?, half(0x44, 2305843009213693946)?];
-    let halves = check_lane(rt.alloc(), &plan, &case, true, &one)?;
-    assert!(rt; are(halves.as_slice(), 2, 2305843009213693946));
+    let firsts = accepted_halves(alloc, plan, case, false, &zero)?;
+    assert!(rt; are(firsts.as_slice(), 3, 10));
+    let seconds = accepted_halves(alloc, plan, case, true, &one)?;
+    assert!(rt; are(seconds.as_slice(), 2, 2305843009213693946));
     Ok(())
 }
 
@@ -116,26 +105,35 @@ fn are(halves: &[Residue], first: u64, second: u64) -> bool {
     }
 }
 
-#[test]
-fn another_posted_number_is_refused(rt: HostRuntime) -> Result<(), Fail> {
-    let plan = plan_of_a_copy(rt.alloc())?;
-    let case = case_of_a_copy(rt.alloc(), 7)?;
-    let table = RowTable::of(rt.alloc(), &plan)?;
+fn another_posted_number_is_refused(
+    rt: &impl Abort,
+    alloc: Global,
+    plan: &Plan,
+    table: &RowTable,
+    case: &LaneCase,
+) -> Result<(), Fail>
+    requires { table.now ≡ plan.now.rows }
+{
     let zero = [half(0x11, 3)?, half(0x33, 10)?];
     let one = [half(0x22, 2)?, half(0x44, 2305843009213693946)?];
-    for (bit, shown) in [(false, &zero), (true, &one)] {
-        let refused = check_lane_with(rt.alloc(), &plan, &table, &case, bit, shown);
-        assert!(rt; refused.err() == Some(LaneFault::Row { row: 0 }));
-    }
+    assert!(rt; has_counts(plan, case, &zero));
+    assert!(rt; has_counts(plan, case, &one));
+    let first = check_lane_with(alloc, plan, table, case, false, &zero);
+    assert!(rt; first.err() == Some(LaneFault::Row { row: 0 }));
+    let second = check_lane_with(alloc, plan, table, case, true, &one);
+    assert!(rt; second.err() == Some(LaneFault::Row { row: 0 }));
     Ok(())
 }
 
-#[test]
-fn the_first_wire_that_reads_nothing_is_named(rt: HostRuntime) -> Result<(), Fail> {
-    let plan = plan_of_a_copy(rt.alloc())?;
-    let case = case_of_a_copy(rt.alloc(), 7)?;
+fn the_first_wire_that_reads_nothing_is_named(
+    rt: &impl Abort,
+    alloc: Global,
+    plan: &Plan,
+    case: &LaneCase,
+) -> Result<(), Fail> {
     let shown = [half(0x11, 3)?, half(0x33, 11)?];
-    let refused = check_lane(rt.alloc(), &plan, &case, false, &shown);
+    assert!(rt; has_counts(plan, case, &shown));
+    let refused = check_lane(alloc, plan, case, false, &shown);
     let fault = WireFault::Digest { second: false };
     assert!(rt; refused.err() == Some(LaneFault::Wire { wire: 1, fault }));
     Ok(())

@@ -1,0 +1,161 @@
+// Commands of a house over a keeper of one auction.
+ghost use Rattle.std.specs.Prelude.{IfOk};
+ghost use Rattle.vk_residue.specs.Limits.{IsSize};
+ghost use Rattle.vk_reply.specs.Values.{IsChallenge};
+ghost use Rattle.vk_keeper.specs.Auctions.{IsAuction};
+
+use crate::texts::{answered_text, found_text, proved_text, refused_text};
+use std::alloc::Global;
+use vk_cases::{Tried, Unreplayed, number_at, word_at};
+use vk_dice::ChaChaWords;
+use vk_house::House;
+use vk_keeper::{Auction, Keeper, MemKeeper};
+use vk_reply::{Challenge, bits_of};
+use vk_seal::make_seal;
+
+/// The auction that all commands are of.
+const ID: [u8; 16] = [0, 1, 2, 3, 4, 5, 6, 7, 8, 9, 10, 11, 12, 13, 14, 15];
+
+/// The seed of the auctioneer and of all bidders.
+const SEED: [u8; 32] = [0x5a; 32];
+
+/// What is done over a store.
+#[derive(Clone, Copy)]
+pub enum Task<'a> {
+    /// Statements are run, with no keeper.
+    Run(&'a str),
+    /// The auction is found, kept anew and found again.
+    Find,
+    /// `announce WIDTH LANES`, `announce WIDTH LANES RESERVE`, `submit SEAT BID`, `prove`, `answer BITS`, `find`; or
+    /// `keep COMMAND, ..`, which keeps the auction that these make in the place of the one that is kept.
+    Command(&'a [u8]),
+}
+
+impl Task<'_> {
+    /// What the keeper answers.
+    pub fn done<K: Keeper + Drop>(&self, alloc: Global, keeper: &mut K) -> Tried<String> {
+        match self {
+            Task::Run(_) => Err(Unreplayed::NoCase),
+            Task::Find => kept_anew(alloc, keeper),
+            Task::Command(command) => commanded(alloc, keeper, command),
+        }
+    }
+}
+
+/// The auction that is found before it is kept anew, and whether it is the same after.
+fn kept_anew<K: Keeper + Drop>(alloc: Global, keeper: &mut K) -> Tried<String> {
+    let before = found_text(alloc, &keeper.get(&ID))?;
+    if let Ok(Some(auction)) = keeper.get(&ID) {
+        let kept = keeper.put(auction);
+        let after = found_text(alloc, &keeper.get(&ID))?;
+        if kept.is_err() || after.as_str() != before.as_str() {
+            return Ok(format!(in alloc; "{before}, then {after}")?);
+        }
+    }
+    Ok(before)
+}
+
+fn commanded<K: Keeper + Drop>(alloc: Global, keeper: &mut K, command: &[u8]) -> Tried<String> {
+    if word_at(command, 0)? != b"keep".as_slice() {
+        return housed(alloc, keeper, command);
+    }
+    let auction = made(alloc, behind_word(command))?;
+    let text = match keeper.put(auction) {
+        Ok(()) => "kept",
+        Err(_) => "fault",
+    };
+    Ok(String::from_str(alloc, text)?)
+}
+
+/// What stands behind the first word.
+fn behind_word(command: &[u8]) -> &[u8] {
+    for (i, byte) in command.iter().enumerate() {
+        if *byte == b' ' {
+            let (_word, behind) = command.split_at(i);
+            return behind;
+        }
+    }
+    &[]
+}
+
+/// The auction that these commands, with commas between them, make in memory.
+fn made(alloc: Global, commands: &[u8]) -> Tried<Auction>
+    ensures { IfOk result IsAuction }
+{
+    let mut keeper = MemKeeper::new(alloc);
+    for command in commands.split(|byte| *byte == b',') {
+        let _said = housed(alloc, &mut keeper, command.trim_ascii())?;
+    }
+    let made = keeper.get(&ID)?.ok_or(Unreplayed::NoCase)?;
+    Ok(made)
+}
+
+/// What a house answers to a command.
+fn housed<K: Keeper + Drop>(alloc: Global, keeper: &mut K, command: &[u8]) -> Tried<String> {
+    match word_at(command, 0)? {
+        b"announce" => announced(alloc, keeper, command),
+        b"submit" => submitted(alloc, keeper, command),
+        b"prove" => {
+            let proved = House::over(keeper).prove(alloc, &ID, &SEED);
+            proved_text(alloc, &proved)
+        }
+        b"answer" => {
+            let challenge = challenge_of(alloc, word_at(command, 1)?)?;
+            let answered = House::over(keeper).answer(alloc, &ID, &challenge);
+            answered_text(alloc, &answered)
+        }
+        b"find" => found_text(alloc, &keeper.get(&ID)),
+        _ => Err(Unreplayed::NoCase),
+    }
+}
+
+fn announced<K: Keeper + Drop>(alloc: Global, keeper: &mut K, command: &[u8]) -> Tried<String> {
+    let width = number_at(command, 1, 40)? as u32;
+    let lanes = number_at(command, 2, 64)? as u32;
+    if width == 0 || lanes == 0 {
+        return Err(Unreplayed::NoCase);
+    }
+    let mut house = House::over(keeper);
+    let announced = if word_at(command, 3).is_err() {
+        house.announce(alloc, &ID, width, lanes)
+    } else {
+        let reserve = number_at(command, 3, (1 << width) - 1)?;
+        house.announce_reserve(alloc, &ID, width, lanes, reserve)
+    };
+    match announced {
+        Ok(()) => Ok(String::from_str(alloc, "announced")?),
+        Err(refusal) => refused_text(alloc, &refusal),
+    }
+}
+
+/// The seal of the seat and its secret, made for the auction that is kept, are handed in.
+fn submitted<K: Keeper + Drop>(alloc: Global, keeper: &mut K, command: &[u8]) -> Tried<String> {
+    let seat = number_at(command, 1, 65535)? as u16;
+    let bid = number_at(command, 2, u64::MAX)?;
+    let (width, lanes) = size_of(keeper)?;
+    if seat == 0 {
+        return Err(Unreplayed::NoCase);
+    }
+    let mut words = ChaChaWords::of(&SEED, &ID, 65536 + u64::from(seat));
+    let made = make_seal(alloc, bid, seat, &ID, width, lanes, &mut words);
+    let (secret, seal) = made.map_err(|_refused| Unreplayed::NoCase)?;
+    match House::over(keeper).submit(&ID, seal, secret) {
+        Ok(position) => Ok(format!(in alloc; "position {position}")?),
+        Err(refusal) => refused_text(alloc, &refusal),
+    }
+}
+
+/// The width and the number of lanes of the auction that is kept.
+fn size_of<K: Keeper + Drop>(keeper: &mut K) -> Tried<(u32, u32)>
+    ensures { IfOk result (λ size. IsSize size.0 size.1) }
+{
+    let auction = keeper.get(&ID)?.ok_or(Unreplayed::NoCase)?;
+    Ok((auction.width, auction.lanes))
+}
+
+fn challenge_of(alloc: Global, bits: &[u8]) -> Tried<Challenge>
+    ensures { IfOk result IsChallenge }
+{
+    let bits = bits_of(alloc, bits)?.ok_or(Unreplayed::NoCase)?;
+    Ok(Challenge { bits })
+}
