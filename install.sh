@@ -1,5 +1,5 @@
 #!/usr/bin/env bash
-# install.sh PREFIX [PROGRAM]: puts the built program, its manual page and its completion for bash under PREFIX, a folder such as
+# install.sh PREFIX [PROGRAM]: puts the built program, its manual page and its completions for bash and zsh under PREFIX, a folder such as
 #   ~/.local or /usr/local. PROGRAM is crates/vickrey/out/vickrey where none is named. Where it would have to write over a file
 #   that it did not put there, or that was changed since, it does nothing. It may be run again, for another build.
 # install.sh --undo PREFIX: takes away just what it put there. A file that was changed since is left, and named.
@@ -9,7 +9,7 @@ fail() { echo "install.sh: $*" >&2; exit 1; }
 here=$(realpath "$(dirname "$0")")
 
 # Where the files go, under PREFIX; and what was put there, in lines `folder PATH` and `file DIGEST PATH`
-places=(bin/vickrey share/man/man1/vickrey.1 share/bash-completion/completions/vickrey)
+places=(bin/vickrey share/man/man1/vickrey.1 share/bash-completion/completions/vickrey share/zsh/site-functions/_vickrey)
 record=share/vickrey/installed
 
 digest() { sha256sum <"$1" | cut -d ' ' -f 1; }
@@ -29,7 +29,8 @@ folder() {
 }
 
 put() {
-  local place index sources=("$program" "$here/docs/vickrey.1" "$here/docs/vickrey.bash-completion") folders=() files=()
+  local place index folders=() files=()
+  local sources=("$program" "$here/docs/vickrey.1" "$here/docs/vickrey.bash-completion" "$here/docs/vickrey.zsh-completion")
   [ -f "$program" ] || fail "there is no program $program: build it first, as README.md says"
   if [ ! -d "$prefix" ]; then
     mkdir -m 755 "$prefix" || exit 1

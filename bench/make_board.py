@@ -1,12 +1,13 @@
 #!/usr/bin/env python3
 """Makes a board with random bids, two challenges that differ in every lane, and the honest replies to them.
 
-    make_board.py SEALS WIDTH LANES NUMBER FOLDER [RESERVE]
+    make_board.py SEALS WIDTH LANES NUMBER FOLDER [RESERVE | units:UNITS]
 
 writes FOLDER/board, challenge-1, reply-1, challenge-2 and reply-2. The same words make the same files. With a RESERVE the board
 is of version 2, of the same bids. It is a number, or one of the words `above`, `at` and `unsold`: then a reserve is drawn with
-which the bids are sold above it, sold at it, or not sold. It is written from docs/FORMATS.md alone, and shares nothing with the
-program: what it makes is what `verify` is to accept.
+which the bids are sold above it, sold at it, or not sold. With `units:UNITS` it writes FOLDER/claim in place of the board: a
+claim file of so many equal units that are sold to the same bids at one price. It is written from docs/FORMATS.md alone, and
+shares nothing with the program: what it makes is what is to be accepted.
 """
 import hashlib
 import os
@@ -46,34 +47,26 @@ def reserve_of(word, bids, width, draw):
     return draw.choice(reserves[word])
 
 
-class Circuit:
-    """The wires, each a weight or None for a split one; the rows, each a form of (factor, wire) and a constant."""
+def uniform(bids, units):
+    """The winners' places, ascending, and the price, of so many equal units."""
+    order = sorted(range(len(bids)), key=lambda place: (-bids[place], place))
+    return sorted(order[:units]), max((bids[place] for place in order[units:]), default=0)
 
-    def __init__(self, bids, width, reserve=None):
-        self.width = width
+
+class Circuit:
+    """The wires, each a weight or None for a split one; the rows, each a form of (factor, wire) and a constant. It begins with
+    the copies of the bids, which are in range."""
+
+    def __init__(self, bids, width):
+        self.bids, self.width = bids, width
         self.kinds = [None] * (2 * len(bids))
         self.values = bids + bids
-        self.rows = []
-        seals = len(bids)
-        winner, price = outcome(bids, reserve)
-        others = [j for j in range(seals) if j != winner]
-        copy = lambda j: seals + j
-        for j in range(seals):
-            self.rows.append(([(1, j), (-1, copy(j))], 0))
-        for j in range(seals):
-            self.in_range([(1, copy(j))], 0)
-        if winner is None:
-            for j in range(seals):
-                self.in_range([(-1, copy(j))], reserve - 1)
-            return
-        for j in others:
-            self.in_range([(1, copy(winner)), (-1, copy(j))], -1 if j < winner else 0)
-        for j in others:
-            self.in_range([(-1, copy(j))], price)
-        if price == reserve:
-            self.in_range([(1, copy(winner))], -reserve)
-        elif others:
-            self.select(others, bids, price, copy)
+        self.rows = [([(1, j), (-1, self.copy(j))], 0) for j in range(len(bids))]
+        for j in range(len(bids)):
+            self.in_range([(1, self.copy(j))], 0)
+
+    def copy(self, j):
+        return len(self.bids) + j
 
     def value(self, form, constant):
         return sum(factor * self.values[wire] for factor, wire in form) + constant
@@ -89,9 +82,25 @@ class Circuit:
             self.values.append(number & 2**i)
         self.rows.append((form + pairs, constant))
 
-    def select(self, others, bids, price, copy):
-        """The selectors, of which the first other bid at the price has 1, and their rows."""
-        chosen = next(j for j in others if bids[j] == price)
+    def unsold(self, reserve):
+        for j in range(len(self.bids)):
+            self.in_range([(-1, self.copy(j))], reserve - 1)
+
+    def sold(self, winners, price):
+        """That the winners bid most, and the others no more than the price. The others' places."""
+        others = [j for j in range(len(self.bids)) if j not in winners]
+        for winner in winners:
+            for j in others:
+                self.in_range([(1, self.copy(winner)), (-1, self.copy(j))], -1 if j < winner else 0)
+        for j in others:
+            self.in_range([(-1, self.copy(j))], price)
+        return others
+
+    def select(self, others, price):
+        """The selectors, of which the first other bid at the price has 1, and their rows; none without others."""
+        if not others:
+            return
+        chosen = next(j for j in others if self.bids[j] == price)
         selectors = {}
         for j in others:
             selectors[j] = len(self.kinds)
@@ -100,7 +109,30 @@ class Circuit:
         self.rows.append(([(1, selectors[j]) for j in others], -1))
         most = 2**self.width - 1
         for j in others:
-            self.in_range([(-most, selectors[j]), (1, copy(j))], most - price)
+            self.in_range([(-most, selectors[j]), (1, self.copy(j))], most - price)
+
+
+def board_circuit(bids, width, reserve=None):
+    """The circuit of a board. There is a reserve in version 2."""
+    circuit = Circuit(bids, width)
+    winner, price = outcome(bids, reserve)
+    if winner is None:
+        circuit.unsold(reserve)
+        return circuit
+    others = circuit.sold([winner], price)
+    if price == reserve:
+        circuit.in_range([(1, circuit.copy(winner))], -reserve)
+    else:
+        circuit.select(others, price)
+    return circuit
+
+
+def claim_circuit(bids, width, units):
+    """The circuit of so many equal units."""
+    circuit = Circuit(bids, width)
+    winners, price = uniform(bids, units)
+    circuit.select(circuit.sold(winners, price), price)
+    return circuit
 
 
 class Wire:
@@ -144,34 +176,56 @@ def head_lines(auction, width, lanes, seats, sale, reserve=None):
     return lines + ["unsold" if winner is None else f"winner {seats[winner]}", f"price {price}"]
 
 
+def claim_lines(auction, width, lanes, seats, sale):
+    """What stands in a claim file of equal units before its seals."""
+    winners, price = sale
+    numbers = [width, price, *(winner + 1 for winner in winners)]
+    lines = ["vickrey-claim 1", f"auction {auction.hex()}", "kind uniform", f"lanes {lanes}", f"inputs {len(seats)}"]
+    return lines + [f"numbers {len(numbers)}"] + [f"n {number}" for number in numbers]
+
+
+def write_published(folder, name, head, auction, seats, circuit, wires):
+    """The head with the seals and lanes of a board or a claim file."""
+    lines, seals = list(head), len(seats)
+    for place, seat in enumerate(seats):
+        lines.append(f"seal {seat}")
+        lines += [f"x {lane_wires[place].digests(auction, seat, lane, 0)}" for lane, lane_wires in enumerate(wires, 1)]
+    for lane, lane_wires in enumerate(wires, 1):
+        lines.append(f"lane {lane}")
+        lines += [f"w {lane_wires[wire].digests(auction, 0, lane, 2 * wire)}" for wire in range(seals, len(lane_wires))]
+        lines += [f"d {sum(factor * lane_wires[wire].mask for factor, wire in form) % M}" for form, _ in circuit.rows]
+    write(folder, name, lines + ["end"])
+
+
+def write_attempt(folder, attempt, asked, wires):
+    """A challenge and the reply to it."""
+    write(folder, f"challenge-{attempt}", ["vickrey-challenge 1", "bits " + "".join(map(str, asked)), "end"])
+    reply = ["vickrey-reply 1", f"lanes {len(wires)}"]
+    for lane, (lane_wires, bit) in enumerate(zip(wires, asked), 1):
+        reply.append(f"lane {lane}")
+        reply += [wire.shown(bit) for wire in lane_wires]
+    write(folder, f"reply-{attempt}", reply + ["end"])
+
+
 def main(seals, width, lanes, number, folder, word=None):
     draw = random.Random(number)
     auction = draw.getrandbits(128).to_bytes(16, "big")
     bids = [draw.randrange(2**width) for _ in range(seals)]
     seats = draw.sample(range(1, 65536), seals)
-    reserve = None if word is None else reserve_of(word, bids, width, random.Random(f"{word} {number}"))
-    circuit = Circuit(bids, width, reserve)
+    if word and word.startswith("units:"):
+        units = int(word.removeprefix("units:"))
+        name, circuit = "claim", claim_circuit(bids, width, units)
+        head = claim_lines(auction, width, lanes, seats, uniform(bids, units))
+    else:
+        reserve = None if word is None else reserve_of(word, bids, width, random.Random(f"{word} {number}"))
+        name, circuit = "board", board_circuit(bids, width, reserve)
+        head = head_lines(auction, width, lanes, seats, outcome(bids, reserve), reserve)
     bits = [draw.randrange(2) for _ in range(lanes)]
     wires = [[Wire(kind, value, draw) for kind, value in zip(circuit.kinds, circuit.values)] for _ in range(lanes)]
     os.makedirs(folder, exist_ok=True)
-    board = head_lines(auction, width, lanes, seats, outcome(bids, reserve), reserve)
-    for seat, place in zip(seats, range(seals)):
-        board.append(f"seal {seat}")
-        board += [f"x {wires[lane][place].digests(auction, seat, lane + 1, 0)}" for lane in range(lanes)]
-    for lane, lane_wires in enumerate(wires, 1):
-        board.append(f"lane {lane}")
-        later = range(seals, len(lane_wires))
-        board += [f"w {lane_wires[wire].digests(auction, 0, lane, 2 * wire)}" for wire in later]
-        board += [f"d {sum(factor * lane_wires[wire].mask for factor, wire in form) % M}" for form, _ in circuit.rows]
-    write(folder, "board", board + ["end"])
+    write_published(folder, name, head, auction, seats, circuit, wires)
     for attempt in (1, 2):
-        asked = [bit ^ (attempt - 1) for bit in bits]
-        write(folder, f"challenge-{attempt}", ["vickrey-challenge 1", "bits " + "".join(map(str, asked)), "end"])
-        reply = ["vickrey-reply 1", f"lanes {lanes}"]
-        for lane, (lane_wires, bit) in enumerate(zip(wires, asked), 1):
-            reply.append(f"lane {lane}")
-            reply += [wire.shown(bit) for wire in lane_wires]
-        write(folder, f"reply-{attempt}", reply + ["end"])
+        write_attempt(folder, attempt, [bit ^ (attempt - 1) for bit in bits], wires)
 
 
 if __name__ == "__main__":

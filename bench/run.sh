@@ -4,10 +4,11 @@
 # `sample 1` of the program makes the board of 20 seals and 40 lanes that the first rows judge. bench/baseline/verify.c does
 # the least that a verdict takes; it is built without hashing, with a scalar SHA-256, and, where its headers are installed,
 # with OpenSSL's. bench/make_board.py, which is written from docs/FORMATS.md alone, makes the boards of other sizes
-# (seals:width:lanes), and one of each version of the same bids, of which that of version 2 has a reserve below its price, and so
-# the same circuit. The last rows are of a house of 64 seals with 64 lanes at width 40, over a real file. Each round
-# runs every row once, so that all meet the same noise; the best of each counts. ROUNDS (5) says how many rounds, CPU the
-# processor that the runs are pinned to, CC the compiler. It takes 500 MB of disk, and some minutes.
+# (seals:width:lanes), one of each version of the same bids, of which that of version 2 has a reserve below its price, and so
+# the same circuit, and claim files of 64 inputs with one, some and many winners. The last rows are of a house of 64 seals with
+# 64 lanes at width 40, over a real file, alone and beside 200 auctions of 20 seals with 40 lanes. Each round runs every row
+# once, so that all meet the same noise; the best of each counts. ROUNDS (5) says how many rounds, CPU the processor that the
+# runs are pinned to, CC the compiler. It takes 1 GB of disk, and minutes.
 set -eu
 [ $# -eq 1 ] || { sed -n '2,11p' "$0"; exit 2; }
 program=$(realpath "$1")
@@ -65,6 +66,16 @@ version_rows() {
   done
 }
 
+claim_rows() {
+  local units
+  row 'claim-sample uniform 1' end "$program claim-sample uniform 1"
+  for units in 1 8 32; do
+    python3 "$here/make_board.py" 64 40 2 1 "units-$units" "units:$units"
+    row "claim-verify 64:40:2, $units won" accepted \
+      "$program claim-verify units-$units/claim units-$units/challenge-1 units-$units/reply-1"
+  done
+}
+
 # state NAME: keeps the store as it is, to be put back before each run
 state() {
   cp house.sqlite "$1"
@@ -90,7 +101,56 @@ house_rows() {
   row 'answer 64:40:64' answered "$program answer $id challenge reply" 'restore proved'
   "$program" answer $id challenge reply >said
   row 'verify 64:40:64' accepted "$program verify board challenge reply"
+  restore proved
+  row 'show' "$("$program" show $id)" "$program show $id" 'restore proved'
 }
+
+# many_rows: the rows of the house over stores that keep 200 auctions more
+many_rows() {
+  local name
+  restore proved
+  announce_other
+  state proved-other
+  for name in taken full proved; do
+    restore $name
+    add_others
+    state "many-$name"
+  done
+  row 'show, of 201' "$("$program" show $id)" "$program show $id" 'restore many-proved'
+  row 'submit the 64th, of 201' 'taken seat 64 position 64' "$program submit $id seal-64 secret-64" 'restore many-taken'
+  row 'prove 64:40:64, of 201' "$("$program" prove $id "$(printf '%064d' 7)" board)" "$program prove $id $(printf '%064d' 7) board" 'restore many-full'
+  row 'answer 64:40:64, of 201' answered "$program answer $id challenge reply" 'restore many-proved'
+}
+
+# announce_other: one more auction, of 20 seals with 40 lanes
+announce_other() {
+  local seat other=101112131415161718191a1b1c1d1e1f
+  "$program" announce $other 40 40 500 >said
+  for seat in $(seq 20); do
+    "$program" seal $other "$seat" $((seat * 1000000007)) 40 40 "$(printf '%064d' "$seat")" other-secret other-seal >said
+    "$program" submit $other other-seal other-secret >said
+  done
+}
+
+# add_others: puts 200 copies of that auction, each under an id of its own, into the store that is there
+add_others() {
+  python3 - <<'COPIES'
+import sqlite3
+
+other = bytes(range(16, 32))
+store = sqlite3.connect("house.sqlite")
+store.execute("ATTACH 'proved-other' AS source")
+for table in ("auction", "terms", "seal"):
+    rest = ", ".join(row[1] for row in store.execute(f"PRAGMA table_info({table})") if row[1] != "id")
+    for number in range(200):
+        words = f"INSERT INTO main.{table} (id, {rest}) SELECT ?, {rest} FROM source.{table} WHERE id = ?"
+        store.execute(words, (number.to_bytes(16, "little"), other))
+store.commit()
+COPIES
+}
+
+# size NAME: of a store that was kept as it was, with its log, in megabytes
+size() { awk '{ printf "%.1f", $1 / 1000000 }' < <(cat "$1" "$1-wal" | wc -c); }
 
 restore() {
   cp "$1" house.sqlite
@@ -120,7 +180,9 @@ ratio() {
 sample_rows
 size_rows
 version_rows
+claim_rows
 house_rows
+many_rows
 for name in "${names[@]}"; do
   ${before[$name]}
   # shellcheck disable=SC2086 # the words of a command
@@ -131,8 +193,9 @@ for _ in $(seq "${ROUNDS:-5}"); do
 done
 
 echo "$(sed -n 's/^model name[^:]*: //p' /proc/cpuinfo | head -n 1), best of ${ROUNDS:-5} rounds"
-printf '%-26s %9s %9s %9s %10s\n' '' seconds 'peak MB' '/ scalar' '/ OpenSSL'
+printf '%-30s %9s %9s %9s %10s\n' '' seconds 'peak MB' '/ scalar' '/ OpenSSL'
 for name in "${names[@]}"; do
-  printf '%-26s %5d.%03d %9s %9s %10s\n' "$name" $((best[$name] / 1000000)) $((best[$name] % 1000000 / 1000)) \
+  printf '%-30s %5d.%03d %9s %9s %10s\n' "$name" $((best[$name] / 1000000)) $((best[$name] % 1000000 / 1000)) \
     "$((peak[$name] / 1024)).$((peak[$name] % 1024 * 10 / 1024))" "$(ratio "$name" 'C, scalar SHA-256')" "$(ratio "$name" 'C, OpenSSL')"
 done
+echo "the store of that house: $(size proved) MB alone, $(size many-proved) MB beside 200 auctions"

@@ -1,7 +1,8 @@
 #!/usr/bin/env python3
-"""check.py verify BOARD CHALLENGE REPLY: a second checker of a reply to a board, for auditors who would rather not trust one
-program. It is written from docs/FORMATS.md alone, and needs nothing but Python 3. What it prints, and its statuses, are
-those of `vickrey verify`. Nothing of it is proved.
+"""check.py verify BOARD CHALLENGE REPLY, check.py claim-verify BOARD CHALLENGE REPLY: a second checker of a reply to a board, or
+to a claim file, for auditors who would rather not trust one program. It is written from docs/FORMATS.md alone, and needs
+nothing but Python 3. What it prints, and its statuses, are those of `vickrey verify` and `vickrey claim-verify`. Nothing of it
+is proved.
 """
 import hashlib
 import os
@@ -12,7 +13,10 @@ import sys
 MODULUS = 2**61 - 1
 LONGEST_FILE = 2**30
 LONGEST_LINE = 256
-USAGE = b"usage: vickrey seal|announce|submit|prove|answer|show|verify|extract|confront|report|sample|ceremony"
+USAGE = (
+    b"usage: vickrey seal|announce|submit|prove|answer|show|verify|extract|confront|report|sample|ceremony"
+    b"|claim-verify|claim-extract|claim-sample"
+)
 
 
 class Verdict(Exception):
@@ -106,31 +110,18 @@ bytes32 = digits(32)
 # -------------------------------------------------------------------------------------------------------------- circuit
 
 class Circuit:
-    """The wires of an auction, each None for a split wire or the weight of a pair; and the rows, each a list of (factor,
-    wire) with a constant. The winner is None where nothing is sold, and the reserve where the board can't name one."""
+    """The wires, each None for a split wire or the weight of a pair; and the rows, each a list of (factor, wire) with a
+    constant. It begins with what every circuit shows of its inputs: each has a copy, which is in range."""
 
-    def __init__(self, seals, width, reserve, winner, price):
-        self.width = width
-        self.wires = [None] * (2 * seals)
-        self.rows = []
-        others = [j for j in range(seals) if j != winner]
-        copies = range(seals, 2 * seals)
-        for j in range(seals):
-            self.rows.append(([(1, j), (-1, copies[j])], 0))
-        for j in range(seals):
-            self.in_range([(1, copies[j])], 0)
-        if winner is None:
-            for j in range(seals):
-                self.in_range([(-1, copies[j])], reserve - 1)
-            return
-        for j in others:
-            self.in_range([(1, copies[winner]), (-1, copies[j])], -1 if j < winner else 0)
-        for j in others:
-            self.in_range([(-1, copies[j])], price)
-        if price == reserve:
-            self.in_range([(1, copies[winner])], -reserve)
-        elif others:
-            self.select(others, copies, price)
+    def __init__(self, inputs, width):
+        self.inputs, self.width = inputs, width
+        self.wires = [None] * (2 * inputs)
+        self.rows = [([(1, j), (-1, self.copy(j))], 0) for j in range(inputs)]
+        for j in range(inputs):
+            self.in_range([(1, self.copy(j))], 0)
+
+    def copy(self, j):
+        return self.inputs + j
 
     def in_range(self, terms, constant):
         """The row of a form that is in range: the pairs of its test set are taken away from it."""
@@ -140,43 +131,81 @@ class Circuit:
             self.wires.append(2**i)
         self.rows.append((terms + pairs, constant))
 
-    def select(self, others, copies, price):
-        """The selectors with the rows E and F."""
-        selectors = []
-        for _ in others:
-            selectors.append(len(self.wires))
-            self.wires.append(1)
-        self.rows.append(([(1, selector) for selector in selectors], -1))
+    def unsold(self, reserve):
+        for j in range(self.inputs):
+            self.in_range([(-1, self.copy(j))], reserve - 1)
+
+    def sold(self, winners, price):
+        """Each winner is above each loser, or as high and in front; the price is no less than what the losers bid."""
+        losers = self.losers(winners)
+        for w in winners:
+            for j in losers:
+                self.in_range([(1, self.copy(w)), (-1, self.copy(j))], -1 if j < w else 0)
+        for j in losers:
+            self.in_range([(-1, self.copy(j))], price)
+
+    def losers(self, winners):
+        return [j for j in range(self.inputs) if j not in winners]
+
+    def select(self, losers, price):
+        """One of them bids the price: the selectors with the rows E and F. Where there is none, nothing."""
+        selectors = range(len(self.wires), len(self.wires) + len(losers))
+        self.wires += [1] * len(losers)
+        if losers:
+            self.rows.append(([(1, selector) for selector in selectors], -1))
         most = 2**self.width - 1
-        for selector, j in zip(selectors, others):
-            self.in_range([(-most, selector), (1, copies[j])], most - price)
+        for selector, j in zip(selectors, losers):
+            self.in_range([(-most, selector), (1, self.copy(j))], most - price)
 
 
-# ---------------------------------------------------------------------------------------------------------------- board
+def board_circuit(seals, width, reserve, winner, price):
+    """The circuit of an auction. The winner is None where nothing is sold, and the reserve where the board can't name one."""
+    circuit = Circuit(seals, width)
+    if winner is None:
+        circuit.unsold(reserve)
+        return circuit
+    circuit.sold([winner], price)
+    if price == reserve:
+        circuit.in_range([(1, circuit.copy(winner))], -reserve)
+    else:
+        circuit.select(circuit.losers([winner]), price)
+    return circuit
 
-class Board:
-    """What stands on a board before its first lane. The winner is None where nothing is sold, and the reserve on a board of
-    version 1."""
+
+def uniform_circuit(inputs, numbers):
+    """The circuit of a sale of equal units at one price, or None where the public part isn't admitted."""
+    if inputs > 64 or len(numbers) < 3 or not 1 <= numbers[0] <= 40:
+        return None
+    width, price, *positions = numbers
+    ascend = all(one < other for one, other in zip(positions, positions[1:]))
+    if price >= 2**width or not ascend or positions[0] < 1 or positions[-1] > inputs:
+        return None
+    if len(positions) == inputs and price > 0:
+        return None
+    winners = [position - 1 for position in positions]
+    circuit = Circuit(inputs, width)
+    circuit.sold(winners, price)
+    circuit.select(circuit.losers(winners), price)
+    return circuit
+
+
+KINDS = {b"uniform": uniform_circuit}
+
+
+# ---------------------------------------------------------------------------------------------------- boards and claims
+
+class Front:
+    """What stands in a board or a claim file before its first lane: the auction, how many lanes there are, the seats and the
+    seals, and the circuit of what is published."""
 
     def __init__(self, lines):
         self.lines = lines
-        [version] = lines.next(b"vickrey-board", number(1, 2))
-        [self.auction] = lines.next(b"auction", bytes16)
-        [self.width] = lines.next(b"width", number(1, 40))
-        [self.lanes] = lines.next(b"lanes", lane_count)
-        [count] = lines.next(b"seals", number(1, 64))
-        self.reserve, sales = None, [(b"winner", seat_number)]
-        if version == 2:
-            [self.reserve] = lines.next(b"reserve", number(0, 2**64 - 1))
-            sales.append((b"unsold",))
-        [self.winner] = lines.next_of(*sales) or [None]  # `unsold` has no field
-        [self.price] = lines.next(b"price", number(0, 2**64 - 1))
+        self.auction, self.lanes, self.circuit = None, 0, None
         self.seats, self.seals = [], []
+
+    def read_seals(self, count):
         for _ in range(count):
             self.read_seal()
-        self.test_outcome()
-        winner = None if self.winner is None else self.seats.index(self.winner)
-        self.circuit = Circuit(count, self.width, self.reserve, winner, self.price)
 
     def read_seal(self):
         [seat] = self.lines.next(b"seal", seat_number)
@@ -184,19 +213,6 @@ class Board:
             raise self.lines.malformed()
         self.seats.append(seat)
         self.seals.append([self.lines.next(b"x", bytes32, bytes32) for _ in range(self.lanes)])
-
-    def test_outcome(self):
-        if not self.price_stands():
-            raise Verdict(1, b"refused %s price" % self.lines.name)
-        if self.winner is not None and self.winner not in self.seats:
-            raise Verdict(1, b"refused %s winner" % self.lines.name)
-
-    def price_stands(self):
-        """Whether bids of this width can come to this price, by what the head says alone."""
-        least = self.reserve or 0
-        if self.winner is None:
-            return 0 < least < 2**self.width and self.price == 0
-        return least <= self.price < 2**self.width and (len(self.seals) > 1 or self.price == least)
 
     def read_lane(self, lane):
         """The two digests of each wire in this lane, and the posted number of each row."""
@@ -209,7 +225,63 @@ class Board:
 
     def place(self, wire):
         """The seat and the first slot of a wire's commitments."""
-        return (self.seats[wire], 0) if wire < len(self.seats) else (0, 2 * wire)
+        return (self.seats[wire], 0) if wire < len(self.seals) else (0, 2 * wire)
+
+    def refused(self, why):
+        return Verdict(1, b"refused %s %s" % (self.lines.name, why))
+
+
+class Board(Front):
+    """A board. The winner is None where nothing is sold, and the reserve on a board of version 1."""
+
+    def __init__(self, lines):
+        super().__init__(lines)
+        [version] = lines.next(b"vickrey-board", number(1, 2))
+        [self.auction] = lines.next(b"auction", bytes16)
+        [self.width] = lines.next(b"width", number(1, 40))
+        [self.lanes] = lines.next(b"lanes", lane_count)
+        [count] = lines.next(b"seals", number(1, 64))
+        self.reserve, sales = None, [(b"winner", seat_number)]
+        if version == 2:
+            [self.reserve] = lines.next(b"reserve", number(0, 2**64 - 1))
+            sales.append((b"unsold",))
+        [self.winner] = lines.next_of(*sales) or [None]  # `unsold` has no field
+        [self.price] = lines.next(b"price", number(0, 2**64 - 1))
+        self.read_seals(count)
+        self.test_outcome()
+        winner = None if self.winner is None else self.seats.index(self.winner)
+        self.circuit = board_circuit(count, self.width, self.reserve, winner, self.price)
+
+    def test_outcome(self):
+        if not self.price_stands():
+            raise self.refused(b"price")
+        if self.winner is not None and self.winner not in self.seats:
+            raise self.refused(b"winner")
+
+    def price_stands(self):
+        """Whether bids of this width can come to this price, by what the head says alone."""
+        least = self.reserve or 0
+        if self.winner is None:
+            return 0 < least < 2**self.width and self.price == 0
+        return least <= self.price < 2**self.width and (len(self.seals) > 1 or self.price == least)
+
+
+class Claim(Front):
+    """A claim file."""
+
+    def __init__(self, lines):
+        super().__init__(lines)
+        lines.next(b"vickrey-claim", b"1")
+        [self.auction] = lines.next(b"auction", bytes16)
+        [circuit_of] = lines.next(b"kind", KINDS.get)
+        [self.lanes] = lines.next(b"lanes", lane_count)
+        [inputs] = lines.next(b"inputs", number(1, 512))
+        [count] = lines.next(b"numbers", number(1, 128))
+        numbers = [lines.next(b"n", number(0, 2**64 - 1))[0] for _ in range(count)]
+        self.read_seals(inputs)
+        self.circuit = circuit_of(inputs, numbers)
+        if self.circuit is None:
+            raise self.refused(b"public")
 
 
 # ---------------------------------------------------------------------------------------------------------------- reply
@@ -253,19 +325,19 @@ def row_stands(row, bit, halves, posted):
     return (form - posted if bit == 0 else form + constant + posted) % MODULUS == 0
 
 
-def check_lane(board, lane, digests, posted, bit, shown, reply):
+def check_lane(front, lane, digests, posted, bit, shown, reply):
     """The tests of one lane: its wires in order, then its rows in order."""
     halves = []
-    for wire, (weight, openings) in enumerate(zip(board.circuit.wires, shown)):
-        seat, slot = board.place(wire)
+    for wire, (weight, openings) in enumerate(zip(front.circuit.wires, shown)):
+        seat, slot = front.place(wire)
         for which, key, value in openings:
-            if digest(board.auction, seat, lane, slot + which, key, value) != digests[wire][which]:
+            if digest(front.auction, seat, lane, slot + which, key, value) != digests[wire][which]:
                 raise Verdict(1, b"refused %s lane %d wire %d digest %d" % (reply, lane, wire, which))
         half = half_of(weight, bit, openings)
         if half is None:
             raise Verdict(1, b"refused %s lane %d wire %d set" % (reply, lane, wire))
         halves.append(half)
-    for index, row in enumerate(board.circuit.rows):
+    for index, row in enumerate(front.circuit.rows):
         if not row_stands(row, bit, halves, posted[index]):
             raise Verdict(1, b"refused %s lane %d row %d" % (reply, lane, index))
 
@@ -279,22 +351,25 @@ def read_challenge(lines):
     return challenge
 
 
-def verify(names):
+def verify(front_of, names):
     """Every test, in order; the first that fails is raised."""
-    board_lines, challenge_lines, reply_lines = [Lines(name) for name in names]
-    board = Board(board_lines)
+    front_lines, challenge_lines, reply_lines = [Lines(name) for name in names]
+    front = front_of(front_lines)
     challenge = read_challenge(challenge_lines)
     reply_lines.next(b"vickrey-reply", b"1")
     [lanes] = reply_lines.next(b"lanes", lane_count)
-    if not len(challenge) == lanes == board.lanes:
+    if not len(challenge) == lanes == front.lanes:
         raise Verdict(1, b"refused %s lanes" % reply_lines.name)
     for lane, bit in enumerate(challenge, 1):
-        digests, posted = board.read_lane(lane)
+        digests, posted = front.read_lane(lane)
         reply_lines.next(b"lane", b"%d" % lane)
-        shown = read_shown(reply_lines, board.circuit.wires, bit)
-        check_lane(board, lane, digests, posted, bit, shown, reply_lines.name)
-    board_lines.end()
+        shown = read_shown(reply_lines, front.circuit.wires, bit)
+        check_lane(front, lane, digests, posted, bit, shown, reply_lines.name)
+    front_lines.end()
     reply_lines.end()
+
+
+COMMANDS = {b"verify": Board, b"claim-verify": Claim}
 
 
 def is_name(word):
@@ -308,11 +383,11 @@ def is_name(word):
 
 def verdict_of(words):
     """The status and the line of a command line."""
-    if len(words) != 4 or words[0] != b"verify" or not all(map(is_name, words)):
-        sys.stderr.write("check.py has `verify BOARD CHALLENGE REPLY` alone\n")
+    if len(words) != 4 or words[0] not in COMMANDS or not all(map(is_name, words)):
+        sys.stderr.write("check.py has `verify BOARD CHALLENGE REPLY` and `claim-verify BOARD CHALLENGE REPLY` alone\n")
         return 2, USAGE
     try:
-        verify(words[1:])
+        verify(COMMANDS[words[0]], words[1:])
     except Verdict as verdict:
         return verdict.status, verdict.line
     return 0, b"accepted"

@@ -1,7 +1,7 @@
 #!/usr/bin/env bash
-# checker/compare.sh PROGRAM: runs `verify` of the program and of checker/check.py on auctions that the program makes, on boards
-# with a reserve that bench/make_board.py makes, and on damaged copies of their files, and compares status and text. The last
-# line says how many of the runs agree.
+# checker/compare.sh PROGRAM: runs `verify` of the program and of checker/check.py on auctions that the program makes, with and
+# without a reserve, on boards with a reserve that bench/make_board.py makes, and on damaged copies of their files, and compares
+# status and text; and in the same way `claim-verify` on claim files. The last line says how many of the runs agree.
 set -u
 [ $# -eq 1 ] || { sed -n '2,4p' "$0"; exit 2; }
 program=$(realpath "$1")
@@ -14,11 +14,15 @@ id=000102030405060708090a0b0c0d0e0f
 runs=0
 agreed=0
 
-# compare BOARD CHALLENGE REPLY: one run of each
+# Which command is run, and the name of its first file
+command=verify
+published=board
+
+# compare FILE CHALLENGE REPLY: one run of each
 compare() {
   local ours theirs
-  ours=$("$program" verify "$@" 2>/dev/null; echo "status $?")
-  theirs=$("$python" -IS "$checker" verify "$@" 2>/dev/null; echo "status $?")
+  ours=$("$program" "$command" "$@" 2>/dev/null; echo "status $?")
+  theirs=$("$python" -IS "$checker" "$command" "$@" 2>/dev/null; echo "status $?")
   runs=$((runs + 1))
   if [ "$ours" = "$theirs" ]; then
     agreed=$((agreed + 1))
@@ -27,12 +31,13 @@ compare() {
   fi
 }
 
-# answered BITS WIDTH LANES BID..: an auction of these bids in a folder of its own, answered for these bits
+# answered BITS WIDTH LANES BID..: an auction of these bids in a folder of its own, with the reserve where there is one, answered
+# for these bits
 answered() {
   local bits=$1 width=$2 lanes=$3 seat=0 seed
   shift 3
   mkdir "$bits" && cd "$bits" || exit 1
-  printf 'vickrey-script 1\nannounce %s %s %s\n' $id "$width" "$lanes" >day
+  printf 'vickrey-script 1\nannounce %s %s %s%s\n' $id "$width" "$lanes" "${reserve:+ $reserve}" >day
   for bid in "$@"; do
     seat=$((seat + 1))
     seed=$(printf '%064d' $seat)
@@ -54,11 +59,11 @@ damages() {
         's/ [^ ]*$//' 's/\(.*\) \(.*\)/\2 \1/' 's/ [^ ]*\([^ ]\)/ \1/'; do
       case="$file, line $line, $way"
       sed "$line$way" whole >"$file"
-      cmp -s "$file" whole || compare board "challenge-$bits" "reply-$bits"
+      cmp -s "$file" whole || compare "$published" "challenge-$bits" "reply-$bits"
     done
     case="$file, cut in line $line"
     { head -n $((line - 1)) whole; sed -n "${line}p" whole | head -c 20; } >"$file"
-    compare board "challenge-$bits" "reply-$bits"
+    compare "$published" "challenge-$bits" "reply-$bits"
   done
   mv whole "$file"
 }
@@ -83,15 +88,15 @@ heads() {
   mv whole board
 }
 
-# compared EACH: both replies to a board, and damages to the files of each
+# compared EACH: both replies to a board or a claim file, and damages to the files of each
 compared() {
   local each=$1
   case=honest
-  compare board "challenge-$bits" "reply-$bits"
-  compare board "challenge-$other" "reply-$other"
+  compare "$published" "challenge-$bits" "reply-$bits"
+  compare "$published" "challenge-$other" "reply-$other"
   case='the reply to the other challenge'
-  compare board "challenge-$bits" "reply-$other"
-  damages board "$each"
+  compare "$published" "challenge-$bits" "reply-$other"
+  damages "$published" "$each"
   damages "challenge-$bits" 1
   damages "reply-$bits" "$each"
   bits=$other
@@ -119,21 +124,66 @@ reserved() {
   compared "$each"
 }
 
+# numbers: the claim file with each price, and each two winners or none, that are near to what stands there or to a limit
+numbers() {
+  local width inputs count price one other near said
+  cp claim whole
+  width=$(sed -n '7s/^n //p' whole)
+  inputs=$(sed -n 's/^inputs //p' whole)
+  count=$(sed -n 's/^numbers //p' whole)
+  price=$(sed -n '8s/^n //p' whole)
+  mapfile -t near < <(printf '%s\n' 0 $((price + 1)) "$price" $(((1 << width) - 1)) $((1 << width)) | sort -nu)
+  for price in "${near[@]}"; do
+    for one in '' $(seq 0 $((inputs + 1))); do
+      for other in '' $(seq 0 $((inputs + 1))); do
+        case="numbers $width $price $one $other"
+        said=("$width" "$price" ${one:+"$one"} ${other:+"$other"})
+        { head -n 5 whole; printf 'numbers %s\n' ${#said[@]}; printf 'n %s\n' "${said[@]}"; tail -n +$((7 + count)) whole; } >claim
+        compare claim "challenge-$bits" "reply-$bits"
+      done
+    done
+  done
+  mv whole claim
+}
+
+# claimed EACH SEALS WIDTH LANES NUMBER UNITS: what both say of a claim file
+claimed() {
+  local each=$1 bits=1 other=2 command=claim-verify published=claim
+  cd "$(mktemp -d -p "$top")" || exit 1
+  "$python" -IS "$maker" "${@:2:4}" . "units:$6" || exit 1
+  numbers
+  compared "$each"
+}
+
 auction 1 1 1 0
 auction 12 2 2 1 3 1
 auction 60 5 3 9 9 30 31 2
+reserve=2 auction 30 4 2 9 3
+reserve=9 auction 30 4 2 9 3
+reserve=10 auction 30 4 2 9 3
 reserved 1 1 2 1 3 unsold
 reserved 7 1 2 1 3 at
 reserved 40 2 2 3 8 unsold
 reserved 40 2 2 3 3 at
 reserved 40 2 2 3 3 above
 reserved 400 5 40 2 1 above
+claimed 1 1 1 1 3 1
+claimed 20 3 2 2 5 2
+claimed 60 5 4 2 1 4
+claimed 20 2 3 2 3 2
 cd "$(mktemp -d -p "$top")" || exit 1
 case=sample
 if "$program" sample 1 >/dev/null; then
   compare sample-board sample-challenge-1 sample-reply-1
   compare sample-board sample-challenge-2 sample-reply-2
   compare sample-board sample-challenge-1 sample-reply-2
+fi
+case=claim-sample
+command=claim-verify
+if "$program" claim-sample uniform 1 >/dev/null; then
+  compare claim-board claim-challenge-1 claim-reply-1
+  compare claim-board claim-challenge-2 claim-reply-2
+  compare claim-board claim-challenge-1 claim-reply-2
 fi
 echo "$agreed of $runs agree"
 [ "$agreed" = "$runs" ]

@@ -12,19 +12,20 @@ cd "$folder" || exit 1
 passed=0
 failed=0
 id=000102030405060708090a0b0c0d0e0f
+options=()
 bits=0110100110
 other=1001011001
 lanes=${#bits}
 
 failed_case() { failed=$((failed + 1)); echo "FAILED: $*"; }
 
-# tried NAME FOLDER STATUS WORDS FAILURE..: the audit with these words in that folder ends so, and just these lines FAILED,
-# each told by a part of it
+# tried NAME FOLDER STATUS WORDS FAILURE..: the audit with the options and these words in that folder ends so, and just these
+# lines FAILED, each told by a part of it
 tried() {
   local name=$1 where=$2 status=$3 got failure lines each
   read -ra each <<<"$4"
   shift 4
-  (cd "$where" && "$audit" "$program" "${each[@]}") >said 2>errors
+  (cd "$where" && "$audit" "${options[@]}" "$program" "${each[@]}") >said 2>errors
   got=$?
   [ "$got" = "$status" ] || { failed_case "$name: status $got, not $status: $(cat said errors)"; return; }
   lines=$(grep -c '^FAILED ' said)
@@ -44,12 +45,14 @@ run() {
   [ $? = "$status" ] || { failed_case "vickrey $*: $(cat said)"; exit 1; }
 }
 
-# auction FOLDER SEED BITS SEAT..: a board of these seats' seals by an honest auctioneer, and the reply to these bits
+# auction FOLDER SEED BITS SEAT..: a board of these seats' seals by an honest auctioneer, and the reply to these bits; with the
+# reserve, where there is one
 auction() {
   local where=$1 seed=$2 asked=$3 seat
   shift 3
   mkdir "$where" "$where.house" && cd "$where.house" || exit 1
-  run 0 announce $id 4 "$lanes"
+  # shellcheck disable=SC2086 # the reserve is a word or none
+  run 0 announce $id 4 "$lanes" ${reserve:-}
   for seat in "$@"; do
     run 0 submit $id "../seal-$seat" "../secret-$seat"
   done
@@ -129,10 +132,34 @@ copy gone
 rm gone/seal-9
 tried 'a seal that is not at hand' gone 1 "$words" 'seat 9 .*no file seal-9'
 
-# a reserve on the board, below the price, so that both checkers accept it
-copy reserved
-sed -i 's/^vickrey-board 1$/vickrey-board 2/; 6i reserve 8' reserved/board
-tried 'a reserve that nobody told of' reserved 1 "$(digest reserved) $id 4 $lanes 7,9,300 $bits" 'it names a reserve'
+# reserves: above the price without one, below it, and above all bids
+reserve=12 auction at "$one" $bits 7 9 300
+reserve=8 auction above "$one" $bits 7 9 300
+reserve=10 auction unsold "$one" $bits 9 300
+rm unsold/seal-7
+tried 'a reserve that nobody told of' above 1 "$(digest above) $id 4 $lanes 7,9,300 $bits" 'it names a reserve'
+for seat in 300 9 7; do
+  options=(--reserve 12)
+  tried "sold at the reserve, seat $seat" at 0 "$(digest at) $id 4 $lanes 7,9,300 $bits ../secret-$seat"
+  options=(--reserve 8)
+  tried "sold above the reserve, seat $seat" above 0 "$(digest above) $id 4 $lanes 7,9,300 $bits ../secret-$seat"
+done
+tried 'an announced reserve that the board has not' honest 1 "$words" 'reserve is the announced one: not 8'
+tried 'another reserve' at 1 "$(digest at) $id 4 $lanes 7,9,300 $bits" 'reserve is the announced one: not 8, but .12'
+options=(--reserve 10)
+for seat in 300 9; do
+  tried "unsold, seat $seat" unsold 0 "$(digest unsold) $id 4 $lanes 9,300 $bits ../secret-$seat"
+done
+python3 "$here/foreseen.py" $bits kept-back "$lanes" reserve=10 secret-7=3 secret-9=9 secret-300=4
+cp seal-* kept-back
+tried 'not sold, though a bid is above the reserve' kept-back 1 "$(digest kept-back) $id 4 $lanes 7,9,300 $bits ../secret-7" \
+  'my bid is below the reserve'
+tried 'the same, by one who did not bid as much' kept-back 0 "$(digest kept-back) $id 4 $lanes 7,9,300 $bits ../secret-300"
+options=(--reserve)
+tried 'a word too few behind the option' honest 2 "$words"
+options=(--reserve 08)
+tried 'a reserve of another form' honest 2 "$words"
+options=()
 
 # another challenge, and a reply to another one
 auction asked "$one" $other 7 9 300

@@ -11,7 +11,18 @@ import sys
 TOP = os.path.join(os.path.dirname(os.path.abspath(__file__)), "..")
 PAGE = os.path.join(TOP, "docs", "DEFINITIONS.md")
 HEADING = "## The other definitions, by file\n"
-DEFINED = re.compile(r"^(?:abbrev |unfoldable |opaque )*pub (?:record |data )?(?!use |mod )(\S+)", re.MULTILINE)
+DEFINED = re.compile(r"(?:abbrev |unfoldable |opaque )*pub (?:record |data )?(?!use |mod )(\S+)")
+
+
+def names_in(text):
+    """The public definitions of a text, those among them that stand in a `module` with its parameters, two columns in."""
+    inside = False
+    for line in text.split("\n"):
+        if line and not line.startswith((" ", "--")):
+            inside = line.startswith("module ")
+        found = DEFINED.match(line[2:] if inside and line.startswith("  ") else line)
+        if found:
+            yield found.group(1)
 
 
 def defined():
@@ -23,7 +34,7 @@ def defined():
             if not name.endswith(".antt"):
                 continue
             with open(os.path.join(specs, name), encoding="utf-8") as file:
-                names = list(dict.fromkeys(DEFINED.findall(file.read())))
+                names = list(dict.fromkeys(names_in(file.read())))
             if names:
                 found[f"{crate}/specs/{name.removesuffix('.antt')}"] = names
     return found

@@ -1,17 +1,18 @@
 #!/usr/bin/env python3
-"""foreseen.py BITS OUT LANES SECRET=BID..: a board that an auctioneer makes who knows the bits of the challenge beforehand.
+"""foreseen.py BITS OUT LANES [reserve=RESERVE] SECRET=BID..: a board that an auctioneer makes who knows the bits of the
+challenge beforehand.
 
 It takes the bidders' secrets, in the order of the seats, and proves another outcome than that of their bids: the one of the bids
 that are given here, over the bidders' own seals. It writes OUT/board, challenge and reply, which every checker of a reply accepts.
-The width is 4. LANES may be less than the secrets have. It is for checks/audit.sh: only a digest that was public before the draw
-tells such a board from an honest one.
+The width is 4. LANES may be less than the secrets have. With a RESERVE the board is of version 2. It is for checks/audit.sh: only
+a digest that was public before the draw tells such a board from an honest one.
 """
 import os
 import random
 import sys
 
 sys.path.insert(0, os.path.join(os.path.dirname(os.path.abspath(__file__)), "..", "bench"))
-from make_board import M, Circuit, Wire, head_lines, outcome, write  # noqa: E402
+from make_board import M, Wire, board_circuit, head_lines, outcome, write  # noqa: E402
 
 WIDTH = 4
 
@@ -41,17 +42,19 @@ def posted(form, constant, wires, bit):
 
 
 def main(bits, out, lanes, *bidders):
-    draw = random.Random(bits)
+    draw, reserve = random.Random(bits), None
+    if bidders[0].startswith("reserve="):
+        reserve, bidders = int(bidders[0].removeprefix("reserve=")), bidders[1:]
     secrets, false_bids = zip(*((read_secret(name), int(bid)) for name, bid in (word.split("=") for word in bidders)))
     auction, seats = secrets[0][0], [seat for _, seat, _, _ in secrets]
-    circuit = Circuit(list(false_bids), WIDTH)
+    circuit = board_circuit(list(false_bids), WIDTH, reserve)
     lanes = int(lanes)
     wires = []
     for lane in range(lanes):
         inputs = [input_wire(bid, masks[lane], draw) for _, _, bid, masks in secrets]
         others = list(zip(circuit.kinds, circuit.values))[len(seats):]
         wires.append(inputs + [Wire(kind, value, draw) for kind, value in others])
-    board = head_lines(auction, WIDTH, lanes, seats, outcome(list(false_bids)))
+    board = head_lines(auction, WIDTH, lanes, seats, outcome(list(false_bids), reserve), reserve)
     for place, seat in enumerate(seats):
         board.append(f"seal {seat}")
         board += [f"x {wires[lane][place].digests(auction, seat, lane + 1, 0)}" for lane in range(lanes)]

@@ -23,10 +23,24 @@ def read(place):
         return file.read().split("\n")
 
 
-def parts_of(place):
-    """The definitions of a file with their texts, and what its `use` lines bring in: name to (module, name)."""
-    texts, uses, name, fields = {}, {}, None, {}
+def lines_of(place):
+    """The lines of a file, and of each that stands in a `module`, two columns in, the lines of that one's parameters."""
+    head, is_open = [], False
     for line in read(place):
+        if line and not line.startswith((" ", "--")):
+            head, is_open = [], line.startswith("module ")
+        if is_open:
+            head.append(line)
+            is_open = not line.rstrip().endswith(" where")
+        else:
+            yield (line[2:], head) if head and line.startswith("  ") else (line, [])
+
+
+def parts_of(place):
+    """The definitions of a file with their texts and the parameters of their modules, and what its `use` lines bring in: name to
+    (module, name)."""
+    texts, heads, uses, name, fields = {}, {}, {}, None, {}
+    for line, head in lines_of(place):
         used = USE.match(line)
         if used:
             module, names, other = used.groups()
@@ -42,16 +56,14 @@ def parts_of(place):
         started = START.match(line) if not line.startswith(" ") else None
         if started and re.match(r"(abbrev |unfoldable |opaque |pub |record |data )", line):
             name = started.group(1)
-            texts[name] = []
+            texts[name], heads[name] = [], head
             if " data " in f" {line}":
                 fields[name] = name
         elif name and line.startswith("  ") and texts[name] and re.match(r"  \w+ :", line) and name in fields:
             fields[line.split()[0]] = name
         if name:
             texts[name].append(line)
-    return texts, uses, fields
-
-
+    return texts, heads, uses, fields
 def place_of(module):
     """The file of a module of the repository, or None where it is the kit's."""
     parts = module.split(".")
@@ -65,12 +77,12 @@ def closure():
         place, name = todo.pop()
         if name in needed.get(place, {}):
             continue
-        texts, uses, fields = known.setdefault(place, parts_of(place))
+        texts, heads, uses, fields = known.setdefault(place, parts_of(place))
         name = fields.get(name, name)
         if name not in texts or name in needed.get(place, {}):
             continue
         needed.setdefault(place, {})[name] = len(texts[name])
-        text = re.sub(r"--.*", "", "\n".join(texts[name]))
+        text = re.sub(r"--.*", "", "\n".join(heads[name] + texts[name]))
         for match in WORD.finditer(text):
             word = match.group(0)
             around = {word, f"◌{word}◌"}

@@ -72,8 +72,6 @@ def set_out(arguments, folder):
 def say_skipped(attack):
     if not attack.made.calls(attack.on.small()[0], OUTSIDE):
         print("skipped: memory, calls, interrupted and kills before a call, since the program loads no library")
-    if attack.on.sample is None:
-        print("skipped: sample, which the program hasn't")
     if not any(scenario.name == "prove" for scenario in attack.on.writing):
         print("skipped: the house's commands one by one, since auctions aren't kept between runs")
     if not may_mount(attack.made):

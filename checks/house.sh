@@ -1,7 +1,7 @@
 #!/usr/bin/env bash
-# checks/house.sh PROGRAM: an auction of three bidders with the built program, in an empty folder and every command a process
-# of its own, from `seal` to `verify`, and what is said of a store that is in use, damaged or of another version. It wants
-# the tool sqlite3. It is no part of the gate. The last line says how many cases passed and failed.
+# checks/house.sh PROGRAM: auctions with and without a reserve with the built program, in an empty folder and every command a
+# process of its own, from `seal` to `verify`, and what is said of a store that is in use, damaged, of number 1 or of another
+# number. It wants the tool sqlite3. It is no part of the gate. The last line says how many cases passed and failed.
 set -u
 [ $# -eq 1 ] || { sed -n '2,4p' "$0"; exit 2; }
 program=$(realpath "$1")
@@ -11,14 +11,16 @@ cd "$folder" || exit 1
 passed=0
 failed=0
 id=000102030405060708090a0b0c0d0e0f
+usage='usage: vickrey seal|announce|submit|prove|answer|show|verify|extract|confront|report|sample|ceremony|claim-verify|claim-extract|claim-sample'
 
-# case STATUS TEXT ERROR WORD..: the program with these words ends so, prints the text, and says the error
+# case STATUS TEXT ERROR WORD..: the program with these words ends so, prints the text, and says the error; what it says for a person
+# in lines behind that is looked at apart, where it tells of the store
 case_of() {
   local status=$1 text=$2 error=$3
   shift 3
   "$program" "$@" >out 2>err
   local got=$?
-  if [ "$got" = "$status" ] && [ "$(cat out)" = "$text" ] && [ "$(cat err)" = "$error" ]; then
+  if [ "$got" = "$status" ] && [ "$(cat out)" = "$text" ] && [ "$(head -n 1 err)" = "$error" ]; then
     passed=$((passed + 1))
   else
     failed=$((failed + 1))
@@ -67,12 +69,14 @@ ln -s house.sqlite link
 mkdir there
 for name in house.sqlite ./house.sqlite-wal there/../house.sqlite-journal "$folder/house.sqlite" link; do
   case_of 6 '' 'outside fault' prove $id "$seed" "$name"
+  holds "$name: it may not be read or written here" sed -n 2p err
   case_of 6 '' 'outside fault' answer $id challenge "$name"
   case_of 6 '' 'outside fault' seal $id 7 1 8 4 "$seed" "$name" none
   printf 'vickrey-script 1\nanswer %s challenge %s\nend\n' $id "${name/#$folder/.}" >script
   case_of 6 '' 'outside fault' ceremony script
 done
 case_of 6 '' 'outside fault' seal $id 7 1 8 4 "$seed" none ./none
+holds './none: it may not be read or written here' sed -n 2p err
 holds '' find . -name 'house.sqlite-journal' -o -name reply
 case_of 0 'answered' '' answer $id challenge reply
 case_of 0 'accepted' '' verify board challenge reply
@@ -84,11 +88,36 @@ holds '' find . -name reply-2
 case_of 0 'answered' '' answer $id challenge reply-2
 holds '' cmp reply reply-2
 
+# auctions with a reserve, over the same bids: unsold, and sold at it; the reserve is shown, and never another one kept
+for reserved in 'ffffffffffffffffffffffffffffffff 91 unsold' 'eeeeeeeeeeeeeeeeeeeeeeeeeeeeeeee 75 winner 103 price 75'; do
+  read -r other reserve sale <<<"$reserved"
+  case_of 0 "announced $other" '' announce "$other" 8 4 "$reserve"
+  case_of 8 'house known' '' announce "$other" 8 4
+  case_of 8 'house known' '' announce "$other" 8 4 $((reserve + 1))
+  for bidder in 1 2 3; do
+    case_of 0 "sealed seat 10$bidder lanes 4" '' seal "$other" 10$bidder $((bidder * 30)) 8 4 "$(printf '%064d' $bidder)" secret seal
+    case_of 0 "taken seat 10$bidder position $bidder" '' submit "$other" seal secret
+  done
+  case_of 0 "proved $sale" '' prove "$other" "$seed" "board-$reserve"
+  case_of 0 'answered' '' answer "$other" challenge "reply-$reserve"
+  case_of 0 'accepted' '' verify "board-$reserve" challenge "reply-$reserve"
+  case_of 0 "auction $other width 8 lanes 4 seals 3 phase answered reserve $reserve" '' show "$other"
+  holds "reserve $reserve" sed -n 6p "board-$reserve"
+done
+unfit="vickrey: word 4 behind the command's name has to be a reserve, a whole number below 2^WIDTH with no 0 in front; see \`man vickrey\`"
+case_of 2 "$usage" "$unfit" announce dddddddddddddddddddddddddddddddd 8 4 256
+case_of 2 "$usage" "$unfit" announce dddddddddddddddddddddddddddddddd 8 4 075
+case_of 8 'house unknown' '' show dddddddddddddddddddddddddddddddd
+holds '2|75
+2|91
+1|0' sqlite3 house.sqlite 'SELECT version, reserve FROM terms JOIN auction USING (id) ORDER BY version DESC, reserve'
+holds "$id" sqlite3 house.sqlite 'SELECT lower(hex(id)) FROM terms WHERE version = 1'
+
 # the tool reads what is kept
-holds '3|answered|0110' sqlite3 house.sqlite "SELECT count(*), CASE phase WHEN 2 THEN 'answered' END, bits FROM auction JOIN seal USING (id)"
+holds '3|answered|0110' sqlite3 house.sqlite "SELECT count(*), CASE phase WHEN 2 THEN 'answered' END, bits FROM auction JOIN seal USING (id) WHERE id = x'$id'"
 holds 'ok' sqlite3 house.sqlite 'PRAGMA integrity_check'
-holds "$(cat seal-2)" sqlite3 house.sqlite 'SELECT seal FROM seal WHERE seat = 102'
-holds "$(cat secret-3)" sqlite3 house.sqlite 'SELECT secret FROM seal WHERE position = 3'
+holds "$(cat seal-2)" sqlite3 house.sqlite "SELECT seal FROM seal WHERE seat = 102 AND id = x'$id'"
+holds "$(cat secret-3)" sqlite3 house.sqlite "SELECT secret FROM seal WHERE position = 3 AND id = x'$id'"
 case_of 0 'answered' '' answer $id challenge reply-2
 holds '' cmp reply reply-2
 
@@ -108,6 +137,7 @@ while read -r damage; do
   case_of 6 '' 'outside fault' show $id
 done <<'DAMAGES'
 UPDATE auction SET width = 41
+UPDATE auction SET width = 6
 UPDATE auction SET lanes = 3
 UPDATE auction SET phase = 3
 UPDATE auction SET phase = 0
@@ -124,18 +154,43 @@ DELETE FROM seal WHERE position = 2
 DELETE FROM seal
 DELETE FROM auction
 DROP TABLE seal
+UPDATE terms SET version = 3
+UPDATE terms SET version = 0
+UPDATE terms SET reserve = 1
+UPDATE terms SET reserve = 256, version = 2
+UPDATE terms SET reserve = -1, version = 2
+UPDATE terms SET reserve = 'a', version = 2
+DELETE FROM terms
+DROP TABLE terms
 DAMAGES
 
-# another version
+# a store of number 1, as it was before auctions had a version and a reserve, becomes one of number 2 and goes on as before
+cp sound.sqlite house.sqlite
+rm -f house.sqlite-wal house.sqlite-shm
+sqlite3 house.sqlite "PRAGMA journal_mode = delete" "DELETE FROM auction WHERE id <> x'$id'" "DELETE FROM seal WHERE id <> x'$id'" \
+  'DROP TABLE terms' 'UPDATE about SET version = 1' VACUUM >said
+case_of 0 "auction $id width 8 lanes 4 seals 3 phase answered" '' show $id
+holds '2' sqlite3 house.sqlite 'SELECT * FROM about'
+holds "$id|1|0" sqlite3 house.sqlite 'SELECT lower(hex(id)), version, reserve FROM terms'
+case_of 8 'house other challenge kept 0110' '' answer $id other reply-3
+case_of 0 'answered' '' answer $id challenge reply-3
+holds '' cmp reply reply-3
+case_of 0 'proved winner 103 price 60' '' prove $id "$seed" board-3
+holds '' cmp board board-3
+
+# another number
 while read -r change; do
   cp sound.sqlite house.sqlite
   rm -f house.sqlite-wal house.sqlite-shm
-  sqlite3 house.sqlite "PRAGMA journal_mode = delete" "$change" >said
+  sqlite3 house.sqlite "PRAGMA journal_mode = delete" "${change%:*}" >said
   case_of 6 '' 'other store' show $id
+  holds "house.sqlite:${change##*:}" sed -n 2p err
 done <<'CHANGES'
-UPDATE about SET version = 2
-DELETE FROM about
-INSERT INTO about VALUES (1)
+UPDATE about SET version = 0: version 0
+UPDATE about SET version = 3: version 3
+DELETE FROM about: 0 versions
+INSERT INTO about VALUES (1): 2 versions
+INSERT INTO about VALUES (2): 2 versions
 CHANGES
 rm -f house.sqlite*
 head -c 4096 /dev/zero >house.sqlite

@@ -1,7 +1,7 @@
 #!/usr/bin/env bash
-# checks/pages.sh PROGRAM: runs the commands of README.md, docs/AUCTION.md, docs/METHOD.md and of the manual page exactly as they are
-# written, each page in a new copy of this folder, with nothing on PATH but the system. Only `rt` is stood in for: `rt run` and `rt try`
-# run the program, and `rt ci` does nothing. It is no part of the gate, and wants sqlite3. The last line says how many passed and failed.
+# checks/pages.sh PROGRAM: runs the commands of README.md, of AUCTION.md, CLAIMS.md and METHOD.md in docs, and of the manual page exactly as
+# they are written, each page in a new copy of this folder, with nothing on PATH but the system. Only `rt` is stood in for: `rt run` and
+# `rt try` run the program, and `rt ci` does nothing. It is no part of the gate, and wants sqlite3. The last line says how many passed and failed.
 set -u
 [ $# -eq 1 ] || { sed -n '2,4p' "$0"; exit 2; }
 program=$(realpath "$1")
@@ -78,7 +78,10 @@ vickrey answer "$(sed -n 's/^auction //p' board)" other other-reply || [ $? = 8 
 END
 
 begin AUCTION
-page docs/AUCTION.md "$system" '21 ok, 0 FAILED' 'taken seat 3 position 1' < <(blocks docs/AUCTION.md)
+page docs/AUCTION.md "$system" '21 ok, 0 FAILED' 'proved unsold' '12 ok, 0 FAILED' 'taken seat 3 position 1' < <(blocks docs/AUCTION.md)
+begin CLAIMS
+page docs/CLAIMS.md "$system" 'claim-sample uniform 1' 'inputs 10 lanes 8 wires 747 rows 56' accepted 'refused claim-reply-1 lane 2 row 41' \
+  'refused turned public' < <(blocks docs/CLAIMS.md)
 begin METHOD
 page docs/METHOD.md "$system" crates.svg < <(blocks docs/METHOD.md)
 begin manual

@@ -1,8 +1,9 @@
 #!/usr/bin/env bash
 # checks/program.sh PROGRAM: the built program over real files, in an empty folder: each status that it can end with, what
-# it prints, and what it leaves. It is no part of the gate. The last line says how many cases passed and failed.
+# it prints, what it says on standard error, the lines for a person among it, and what it leaves. It is no part of the gate. The
+# last line says how many cases passed and failed.
 set -u
-[ $# -eq 1 ] || { sed -n '2,3p' "$0"; exit 2; }
+[ $# -eq 1 ] || { sed -n '2,4p' "$0"; exit 2; }
 program=$(realpath "$1")
 data=$(realpath "$(dirname "$0")/../crates/vickrey/data")
 folder=$(mktemp -d)
@@ -40,7 +41,8 @@ holds() {
   fi
 }
 
-usage='usage: vickrey seal|announce|submit|prove|answer|show|verify|extract|confront|report|sample|ceremony'
+usage='usage: vickrey seal|announce|submit|prove|answer|show|verify|extract|confront|report|sample|ceremony|claim-verify|claim-extract|claim-sample'
+page="see \`man vickrey\`"
 umask 022
 
 case_of 0 accepted '' verify board challenge-0 reply-0
@@ -55,9 +57,36 @@ sed 's/^s 0 5/s 0 6/' reply-1 >other
 case_of 1 'refused other lane 1 wire 2 digest 0' '' extract board challenge-0 reply-0 challenge-1 other
 case_of 4 'malformed reply-0 line 6' '' extract board challenge-0 reply-0 challenge-1 reply-0
 case_of 5 'missing nothing' '' extract board challenge-0 reply-0 challenge-1 nothing
-case_of 2 "$usage" '' verify
-case_of 2 "$usage" '' frobnicate
-case_of 2 "$usage" '' verify board challenge-0 "$(printf '\377')"
+{ printf '%s\n' 'vickrey-claim 1' "auction $id" 'kind uniform' 'lanes 1' 'inputs 1' 'numbers 3' 'n 1' 'n 0' 'n 1'; tail -n +8 board; } >claim
+case_of 0 accepted '' claim-verify claim challenge-0 reply-0
+sed '8s/0/1/' claim >public
+case_of 1 'refused public public' '' claim-verify public board reply-0
+case_of 0 'lane 1 seat 7 value 0 u 1111111111111111111111111111111111111111111111111111111111111111 3 v 2222222222222222222222222222222222222222222222222222222222222222 2305843009213693948
+kind uniform
+seat 7 same
+end' '' claim-extract claim challenge-1 reply-1 challenge-0 reply-0
+case_of 7 'same challenge' '' claim-extract claim challenge-1 reply-1 challenge-1 reply-1
+case_of 1 'refused other lane 1 wire 2 digest 0' '' claim-extract claim challenge-0 reply-0 challenge-1 other
+case_of 4 'malformed board line 1' '' claim-verify board challenge-0 reply-0
+case_of 4 'malformed claim line 1' '' verify claim challenge-0 reply-0
+case_of 5 'missing nothing' '' claim-verify claim nothing reply-0
+case_of 0 'claim-sample uniform 1
+inputs 10 lanes 8 wires 747 rows 56
+verify 1 accepted
+verify 2 accepted
+extract lanes 8 same 10
+end' '' claim-sample uniform 1
+case_of 0 accepted '' claim-verify claim-board claim-challenge-2 claim-reply-2
+case_of 2 "$usage" "vickrey: word 1 behind the command's name has to be a kind of claims, which is uniform; $page" claim-sample vickrey 1
+case_of 2 "$usage" "vickrey: the first word names no command; $page" frobnicate
+case_of 2 "$usage" "vickrey: the first word names no command; $page"
+case_of 2 "$usage" "vickrey: this command has 3 or 4 words behind its name, and 2 are given; $page" announce $id 4
+case_of 2 "$usage" "vickrey: word 4 behind the command's name has to be a reserve, a whole number below 2^WIDTH with no 0 in front; $page" announce $id 4 2 16
+case_of 2 "$usage" "vickrey: word 2 behind the command's name has to be a seat, a whole number from 1 to 65535 with no 0 in front; $page" \
+  seal $id 0 15 4 2 "$seed" none none-either
+case_of 2 "$usage" "vickrey: word 8 behind the command's name has to be the name of a file, of 1 to 255 bytes, and not the word before it; $page" \
+  seal $id 7 15 4 2 "$seed" none none
+case_of 2 "$usage" "vickrey: the first word names no command; $page" verify board challenge-0 "$(printf '\377')"
 head -n 14 board >"cut"
 case_of 4 'malformed cut line 15' '' verify cut challenge-0 reply-0
 truncate -s 1073741825 huge
@@ -65,7 +94,8 @@ case_of 4 'too long huge' '' verify huge challenge-0 reply-0
 case_of 5 'missing nothing' '' verify board nothing reply-0
 case_of 5 'missing cut/below' '' verify board cut/below reply-0
 mkdir inner
-case_of 6 '' 'outside fault' verify inner challenge-0 reply-0
+case_of 6 '' 'outside fault
+inner: it is no file whose bytes can be read' verify inner challenge-0 reply-0
 case_of 0 'sealed seat 7 lanes 2' '' seal $id 7 15 4 2 "$seed" secret seal
 case_of 8 'seal bid too large' '' seal $id 7 16 4 2 "$seed" none none-either
 holds '' ls -A inner
@@ -79,9 +109,11 @@ chmod 644 secret
 case_of 0 'sealed seat 7 lanes 2' '' seal $id 7 15 4 2 "$seed" secret seal
 holds '644' stat -c %a secret
 holds '' cmp secret first
-case_of 6 '' 'outside fault' seal $id 7 15 4 2 "$seed" inner seal-2
+case_of 6 '' 'outside fault
+inner: it is a folder' seal $id 7 15 4 2 "$seed" inner seal-2
 holds '' ls -A inner
-case_of 6 '' 'outside fault' seal $id 7 15 4 2 "$seed" secret-3 /dev/full
+case_of 6 '' 'outside fault
+/dev/full: the disk is full' seal $id 7 15 4 2 "$seed" secret-3 /dev/full
 holds '' cmp secret-3 first
 
 # a full output: what was to be written is written, nothing is claimed to be printed

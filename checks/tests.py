@@ -6,11 +6,14 @@ The page begins with the table of them, which --write writes anew.
 import os
 import re
 import sys
+from collections import Counter
 
 TOP = os.path.join(os.path.dirname(os.path.abspath(__file__)), "..")
 PAGE = os.path.join(TOP, "docs", "TESTING.md")
 HEADING, NEXT = "## In the gate\n", "\n## Outside of the gate\n"
 TEST = re.compile(r"^\s*#\[test\]", re.MULTILINE)
+COMMANDS = ("seal announce submit prove answer show verify extract confront report sample ceremony "
+            "claim-verify claim-extract claim-sample").split()
 
 
 def below(*parts):
@@ -48,13 +51,30 @@ def cases(program, **words):
     return ", ".join(f"{lines(program, 'data', file)} {what}" for file, what in words.items())
 
 
+def data(program, name):
+    """The lines of a file of cases, each as its parts: the case's name, its files, and the words of its commands."""
+    with open(os.path.join(TOP, "crates", program, "data", name), encoding="utf-8") as file:
+        return [re.split(r" \|(?: |$)", line.rstrip("\n")) for line in file]
+
+
+def by_command(runs):
+    """How many runs there are of each command, the most first, and of words that name none."""
+    counts = Counter(run[2].split(" ")[0] for run in runs)
+    named = [(count, name) for name, count in counts.items() if name in COMMANDS]
+    return ", ".join(f"{count} of `{name}`" for count, name in sorted(named, key=lambda row: (-row[0], row[1]))
+                     ) + f", {len(runs) - sum(count for count, _ in named)} of words that name none"
+
+
 def rows():
     yield ("Must-fail edits: a change of the code, or of a definition, that the check has to refuse, named for what it breaks",
            by_crate(edits), "`rt must-fail NAME..`")
     yield "Tests (`#[test]`)", by_crate(tests), "`rt test` in the crate"
     parts = cases("vectors", streams="streams of words", lists="lists of draws", wires="wires", fours="times four wires", bids="outcomes",
-                  sales="sales", rows="plans with their rows", views="views of wires", lanes="views of auctions")
-    wholes = cases("conformance", files="seals and secrets", runs="runs of the program", houses="houses")
+                  sales="sales", rows="plans with their rows", units="sales of several equal units",
+                  views="views of wires", lanes="views of auctions")
+    runs, houses = data("conformance", "runs"), data("conformance", "houses")
+    wholes = (f"{cases('conformance', files='seals and secrets')}, {len(runs)} runs of the program ({by_command(runs)}), "
+              f"{len(houses)} houses with {sum(len(house) - 2 for house in houses)} commands")
     for program, what in (("vectors", parts), ("conformance", wholes)):
         yield (f"`{program}`, a program that replays what independent implementations worked out",
                f"{what}; {lines(program, 'stdout')} lines", "`rt run` in the crate")

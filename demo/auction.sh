@@ -1,9 +1,10 @@
 #!/usr/bin/env bash
-# demo/auction.sh PROGRAM: a whole auction in a new folder, every command shown before it runs. Three bidders seal and publish
-# their seals, and then hand in their secrets; the auctioneer proves the outcome and publishes the board's digest, a challenge
-# is drawn in view and answered, and demo/audit.sh checks all. It takes a few seconds, and wants python3. The status is the audit's.
+# demo/auction.sh PROGRAM: a whole auction with a reserve in a new folder, every command shown before it runs. Three bidders
+# seal and publish their seals, and then hand in their secrets; the auctioneer proves the outcome and publishes the board's
+# digest, a challenge is drawn in view and answered, and demo/audit.sh checks all. It takes a few seconds, and wants python3.
+# The status is the audit's.
 set -u
-[ $# -eq 1 ] || { sed -n '2,4p' "$0"; exit 2; }
+[ $# -eq 1 ] || { sed -n '2,5p' "$0"; exit 2; }
 program=$(realpath "$1")
 audit=$(realpath "$(dirname "$0")/audit.sh")
 folder=$(mktemp -d "${TMPDIR:-/tmp}/vickrey-auction.XXXXXX")
@@ -11,6 +12,7 @@ cd "$folder" || exit 1
 umask 077
 width=4
 lanes=16
+reserve=5
 
 say() { printf '\n# %s\n' "$*"; }
 
@@ -35,9 +37,9 @@ seed() { od -An -v -tx1 -N32 /dev/urandom | tr -d ' \n'; }
 # write_challenge FILE BITS
 write_challenge() { printf 'vickrey-challenge 1\nbits %s\nend\n' "$2" >"$1"; }
 
-say "The auction has an id of 32 digits. A bid is below 2^$width = $((1 << width)), and there are $lanes lanes."
+say "The auction has an id of 32 digits. A bid is below 2^$width = $((1 << width)), there are $lanes lanes, and below $reserve nothing is sold."
 id=$(seed | head -c 32)
-vickrey 0 announce "$id" $width $lanes
+vickrey 0 announce "$id" $width $lanes $reserve
 
 say 'Three bidders seal 15, 9 and 4, each with a secret seed. Each keeps the secret, and publishes the seal.'
 for bidder in '7 15' '9 9' '300 4'; do
@@ -51,7 +53,7 @@ for seat in 7 9 300; do
   vickrey 0 submit "$id" "seal-$seat" "secret-$seat"
 done
 
-say 'The auctioneer takes no more seals, and makes the board. Seat 7 wins, and pays the second highest bid.'
+say 'The auctioneer takes no more seals, and makes the board. Seat 7 wins, and pays the second highest bid, which is above the reserve.'
 vickrey 0 prove "$id" "$(seed)" board
 vickrey 0 report board
 
@@ -83,7 +85,7 @@ shown "$program extract sample-board sample-challenge-1 sample-reply-1 sample-ch
 shown "head -n 3 revealed | cut -d ' ' -f 1-6"
 
 say 'The whole audit, with a second checker and what no checker of a reply can see. Here seat 9 makes it, with its own secret.'
-shown "$(printf '%q %q' "$audit" "$program") $digest $id $width $lanes 7,9,300 $bits secret-9"
+shown "$(printf '%q --reserve %s %q' "$audit" $reserve "$program") $digest $id $width $lanes 7,9,300 $bits secret-9"
 audited=$?
 
 say "Look at the files, in $folder:"

@@ -1,18 +1,19 @@
 #!/usr/bin/env bash
-# demo/audit.sh PROGRAM DIGEST ID WIDTH LANES SEATS BITS [SECRET]: the whole audit of an auction, in the folder that has its
-# `board`, `challenge` and `reply`, and each public seal as `seal-SEAT`. It says `ok` or `FAILED` line by line, and ends with
-# status 0 only if all is ok. It wants python3, for the second checker.
+# demo/audit.sh [--reserve RESERVE] PROGRAM DIGEST ID WIDTH LANES SEATS BITS [SECRET]: the whole audit of an auction, in the
+# folder that has its `board`, `challenge` and `reply`, and each public seal as `seal-SEAT`. It says `ok` or `FAILED` line by
+# line, and ends with status 0 only if all is ok. It wants python3, for the second checker.
+#   RESERVE           as it was announced; without it none was, and a board that names one FAILED
 #   PROGRAM           the program, by its path or as a command
 #   DIGEST            of the board: what `sha256sum board` said when the board became public, before the draw
 #   ID, WIDTH, LANES  as they were announced
 #   SEATS             the seats whose seals are public, in the announced order, with commas: 7,9,300
 #   BITS              of the challenge, as the challenger published them
-#   SECRET            the file of a bidder's own secret: is its bid above the price? The bid itself isn't printed
+#   SECRET            the file of a bidder's own secret: can the outcome be right for its bid? The bid itself isn't printed
 set -u
 checker=$(realpath "$(dirname "$0")/../checker/check.py")
 
 usage() {
-  sed -n '2,10p' "$0" >&2
+  sed -n '2,11p' "$0" >&2
   echo "audit: $*" >&2
   exit 2
 }
@@ -20,6 +21,12 @@ usage() {
 # word NAME FORM TEXT: ends where a word has another form
 word() { [[ $3 =~ ^($2)$ ]] || usage "$1 isn't of its form"; }
 
+reserve=
+if [ "${1:-}" = --reserve ]; then
+  word RESERVE '0|[1-9][0-9]{0,12}' "${2:-}"
+  reserve=$2
+  shift 2
+fi
 [ $# -eq 7 ] || [ $# -eq 8 ] || usage "$# words"
 program=$(command -v -- "$1") || usage "no program '$1'"
 word DIGEST '[0-9a-f]{64}' "$2"
@@ -86,17 +93,19 @@ accepts() {
   fi
 }
 
-# own_bid SECRET: whether the outcome can be right for this bid
+# own_bid SECRET: whether the outcome can be right for this bid. With a reserve the winner stands one line further down
 own_bid() {
-  local seat bid winner price
+  local seat bid winner price line=$((reserved ? 7 : 6))
   seat=$(head_line "$1" 3 seat)
   bid=$(head_line "$1" 4 bid)
-  winner=$(head_line board 6 winner)
-  price=$(head_line board 7 price)
+  winner=$(head_line board $line winner)
+  price=$(head_line board $((line + 1)) price)
   if [ "$(head_line "$1" 2 auction)" != "$id" ] || [[ ",$seats," != *",$seat,"* ]] || ! [[ $bid =~ ^[0-9]{1,13}$ ]]; then
     wrong "my bid and the price: '$1' is no secret of this auction and of one of these seats"
   elif ! [[ $price =~ ^[0-9]{1,13}$ ]]; then
     wrong 'my bid and the price: the board has no such price'
+  elif [ $reserved -eq 1 ] && start board | sed -n "${line}p" | LC_ALL=C grep -aqx unsold; then
+    if [ "$bid" -lt "$reserve" ]; then ok 'nothing was sold, and my bid is below the reserve'; else wrong "nothing was sold, and my bid is below the reserve: it isn't"; fi
   elif [ "$seat" = "$winner" ]; then
     if [ "$price" -le "$bid" ]; then ok "I won, and the price isn't above my bid"; else wrong "I won, and the price isn't above my bid: it is"; fi
   elif [ "$bid" -le "$price" ]; then
@@ -112,8 +121,12 @@ same "the board's id is the announced one" "$id" "$(head_line board 2 auction)"
 same "the board's width is the announced one" "$width" "$(head_line board 3 width)"
 same "the board's lanes are the announced ones" "$lanes" "$(head_line board 4 lanes)"
 same "the board's seats are the announced ones, in their order" "$seats" "$(board_seats)"
-# Both checkers accept a board with a reserve, and this audit is of an auction without one.
-if start board | head -n 1 | LC_ALL=C grep -aqx 'vickrey-board 2'; then
+# Both checkers accept a board with any reserve, or with none.
+reserved=0
+if [ -n "$reserve" ]; then
+  reserved=1
+  same "the board's reserve is the announced one" "$reserve" "$(head_line board 6 reserve)"
+elif start board | head -n 1 | LC_ALL=C grep -aqx 'vickrey-board 2'; then
   wrong 'the board has the announced terms: it names a reserve, and none was announced'
 fi
 IFS=, read -ra each <<<"$seats"

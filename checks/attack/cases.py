@@ -9,7 +9,7 @@ from collections import Counter
 from dataclasses import dataclass, field
 
 from attack import mutations
-from attack.defined import ERRORS, Scenario, fault_of
+from attack.defined import ERRORS, Scenario, fault_of, is_said
 from attack.runs import KILLED, STORE, Ended, Folder, read
 
 NOBODY = 65534
@@ -201,7 +201,6 @@ class Told:
 
     def run(self):
         status, text = self.end
-        error = ERRORS.get(status, (b"",))[0]
         with Folder(program, self.files) as folder:
             subprocess.run(["sh", "-c", self.lay], cwd=folder.path, check=True)
             how = {}
@@ -212,7 +211,8 @@ class Told:
             ended = program.run(self.words, folder.path, **how)
             os.chmod(folder.path, 0o755)
             new = {name for name in os.listdir(folder.path) if not name.startswith(STORE)} - before
-            fault = None if ended == Ended(status, text, error) else f"{ended}, not status {status}, {text[-160:]!r}"
+            is_so = (ended.status, ended.text) == (status, text) and is_said(status, ended.error, ERRORS.get(status, ())[:1])
+            fault = None if is_so else f"{ended}, not status {status}, {text[-160:]!r}"
             if not fault and new != set(self.made):
                 fault = f"{ended}: made {sorted(new)}, not {sorted(self.made)}"
             subprocess.run(["sh", "-c", "chmod -R u+rwx . 2>/dev/null"], cwd=folder.path, check=False)
@@ -256,7 +256,7 @@ class Spelled:
         return {at: data for at, data in found.items() if not at.endswith("-wal")}
 
     def judge(self, ended, before, after):
-        if ended != Ended(6, b"", ERRORS[6][0]):
+        if (ended.status, ended.text) != (6, b"") or not is_said(6, ended.error, ERRORS[6][:1]):
             return f"{ended}: not a fault of the outside"
         made = {name: data for name, data in after.items() if name not in before}
         if set(made) != set(self.made):

@@ -7,6 +7,15 @@ ERRORS = {6: (b"outside fault\n", b"other store\n"), 9: (b"no memory\n",)}
 EFFECT = "effect"
 
 
+def is_said(status, error, texts=None):
+    """Whether a run of this status says on standard error what it has to: one of the texts that are defined of it, and behind that
+    whatever a person is told. Words that are no command have a line for a person alone."""
+    texts = texts or ERRORS.get(status)
+    if texts:
+        return error.startswith(texts)
+    return error.startswith(b"vickrey: ") if status == 2 else not error
+
+
 @dataclass
 class Step:
     """What one command prints; what it writes, in order: pairs of a name and a text; and what it prints instead where it
@@ -88,7 +97,7 @@ def fault_of(scenario, ended, files, may, silent=False):
         return None
     if ended.status not in may:
         return f"{ended}: the status may be {', '.join(map(str, may))}"
-    if ended.error not in ERRORS.get(ended.status, (b"",)) and not (silent and not ended.error):
+    if not is_said(ended.status, ended.error) and not (silent and not ended.error):
         return f"{ended}: said on standard error"
     if not scenario.is_stopped(ended.text, files):
         sizes = {name: len(data) for name, data in files.items()}

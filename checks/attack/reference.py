@@ -1,8 +1,8 @@
 """What a command has to say of given files: its status and its text, by docs/FORMATS.md alone. It shares nothing with the
 program, and reads whole files with regular expressions, slowly.
 
-A file is bytes, or None where nothing is there. `verify`, `extract`, `confront`, `report` and `ceremony` take a dictionary
-of files and the words behind the command, and answer (status, text).
+A file is bytes, or None where nothing is there. `said` takes a dictionary of files and the words of a command that reads, and
+answers (status, text); `ceremony` takes the name of a script.
 """
 import hashlib
 import re
@@ -93,17 +93,18 @@ class Circuit:
             self.in_range([(-1, self.seals + j)], reserve - 1)
         return self
 
-    def sold(self, winner, price, at_reserve):
-        seals = self.seals
-        others = [j for j in range(seals) if j != winner]
-        for j in others:
-            self.in_range([(1, seals + winner), (-1, seals + j)], -1 if j < winner else 0)
-        for j in others:
-            self.in_range([(-1, seals + j)], price)
-        if at_reserve:
-            self.in_range([(1, seals + winner)], -price)
-        elif others:
-            self.select(others, seals, price)
+    def sold(self, winners, price):
+        """The positions of those who don't win."""
+        losers = [j for j in range(self.seals) if j not in winners]
+        for winner in winners:
+            for j in losers:
+                self.in_range([(1, self.seals + winner), (-1, self.seals + j)], -1 if j < winner else 0)
+        for j in losers:
+            self.in_range([(-1, self.seals + j)], price)
+        return losers
+
+    def reach(self, winner, reserve):
+        self.in_range([(1, self.seals + winner)], -reserve)
         return self
 
     def in_range(self, form, constant):
@@ -111,12 +112,14 @@ class Circuit:
         self.kinds += [2**i for i in range(self.width)]
         self.rows.append((form + [(-1, first + i) for i in range(self.width)], constant))
 
-    def select(self, others, seals, price):
+    def select(self, losers, price):
         first, most = len(self.kinds), 2**self.width - 1
-        self.kinds += [1] * len(others)
-        self.rows.append(([(1, first + i) for i in range(len(others))], -1))
-        for i, j in enumerate(others):
-            self.in_range([(-most, first + i), (1, seals + j)], most - price)
+        self.kinds += [1] * len(losers)
+        if losers:
+            self.rows.append(([(1, first + i) for i in range(len(losers))], -1))
+        for i, j in enumerate(losers):
+            self.in_range([(-most, first + i), (1, self.seals + j)], most - price)
+        return self
 
 
 # ----------------------------------------------------------------------------------------------------------------------
@@ -142,8 +145,11 @@ class Front:
         circuit = Circuit(self.seals, self.width)
         if self.winner is None:
             return circuit.unsold(self.reserve)
-        at_reserve = self.version == 2 and self.price == self.reserve
-        return circuit.sold(self.seats.index(self.winner), self.price, at_reserve)
+        winner = self.seats.index(self.winner)
+        losers = circuit.sold([winner], self.price)
+        if self.version == 2 and self.price == self.reserve:
+            return circuit.reach(winner, self.reserve)
+        return circuit.select(losers, self.price)
 
     def refusal(self):
         """The word for what can't stand in this head, or None."""
@@ -155,6 +161,31 @@ class Front:
         if self.winner is not None and (self.price < self.reserve or self.seals == 1 and self.price != self.reserve):
             return "price"
         return None if self.winner in (None, *self.seats) else "winner"
+
+
+@dataclass
+class ClaimFront:
+    """A claim file before its first lane: what it says, and the seats and seals of its inputs as on a board."""
+
+    auction: str
+    lanes: int
+    seals: int
+    numbers: list
+    seats: list = field(default_factory=list)
+    inputs: list = field(default_factory=list)
+
+    def refusal(self):
+        """The word for what can't stand in this head, or None."""
+        if self.seals > 64 or len(self.numbers) < 3:
+            return "public"
+        width, price, *winners = self.numbers
+        may_be = 1 <= width <= 40 and price < 2**width and winners == sorted(set(winners) & set(range(1, self.seals + 1)))
+        return None if may_be and (price == 0 or len(winners) < self.seals) else "public"
+
+    def circuit(self):
+        width, price, *winners = self.numbers
+        circuit = Circuit(self.seals, width)
+        return circuit.select(circuit.sold([winner - 1 for winner in winners], price), price)
 
 
 def text_of(groups):
@@ -173,13 +204,26 @@ def read_front(lines):
         (seat,) = lines.take(rb"unsold|winner " + NUMBER)
         front.winner = None if seat is None else lines.within(seat, 1, 65535)
     front.price = lines.whole(b"price", 0, 2**64 - 1)
-    for _ in range(seals):
+    return with_seals(lines, front)
+
+
+def with_seals(lines, front):
+    for _ in range(front.seals):
         seat = lines.whole(b"seal", 1, 65535)
         if seat in front.seats:
             raise Malformed(lines.number)
         front.seats.append(seat)
-        front.inputs.append([text_of(lines.take(rb"x " + DIGITS_32 + rb" " + DIGITS_32)) for _ in range(lanes)])
+        front.inputs.append([text_of(lines.take(rb"x " + DIGITS_32 + rb" " + DIGITS_32)) for _ in range(front.lanes)])
     return front
+
+
+def read_claim_front(lines):
+    lines.take(rb"vickrey-claim 1")
+    (auction,) = text_of(lines.take(rb"auction " + DIGITS_16))
+    lines.take(rb"kind uniform")
+    lanes, inputs = lines.whole(b"lanes", 1, 64), lines.whole(b"inputs", 1, 512)
+    numbers = [lines.whole(b"n", 0, 2**64 - 1) for _ in range(lines.whole(b"numbers", 1, 128))]
+    return with_seals(lines, ClaimFront(auction, lanes, inputs, numbers))
 
 
 def read_board_lane(lines, front, circuit, lane):
@@ -287,8 +331,8 @@ def part(name, read, *given):
         raise Ends(4, f"malformed {name} line {fault.line}\n") from None
 
 
-def read_judged_front(name, lines):
-    front = part(name, read_front, lines)
+def read_judged_front(name, lines, read=read_front):
+    front = part(name, read, lines)
     refused = front.refusal()
     if refused:
         raise Ends(1, f"refused {name} {refused}\n")
@@ -332,18 +376,19 @@ def judge_lane(front, circuit, lane, bit, digests, posted, shown):
 
 @dataclass
 class Accepted:
-    """What an accepted reply shows: the board's front, the bits, and of each lane its shown wires and digests."""
+    """What an accepted reply shows: the front of the board or the claim file, the bits, and of each lane its shown wires and
+    digests."""
 
-    front: Front
+    front: object
     bits: str
     shown: list
     digests: list
 
 
-def judge(names, datas):
-    """The first fault of a board, a challenge and a reply, or what the reply shows."""
+def judge(names, datas, read=read_front):
+    """The first fault of a board or a claim file, a challenge and a reply, or what the reply shows."""
     board, reply = Lines(datas[0]), Lines(datas[2])
-    front = read_judged_front(names[0], board)
+    front = read_judged_front(names[0], board, read)
     bits = part(names[1], read_challenge, datas[1])
     part(names[2], reply.take, rb"vickrey-reply 1")
     lanes = part(names[2], reply.whole, b"lanes", 1, 64)
@@ -364,10 +409,10 @@ def judge(names, datas):
     return accepted
 
 
-def judge_two(names, datas):
-    """Two accepted replies to one board, and the lanes whose bits differ, each with its openings by bit."""
-    first = judge(names[:3], datas[:3])
-    second = judge([names[0], *names[3:5]], [datas[0], *datas[3:5]])
+def judge_two(names, datas, read=read_front):
+    """Two accepted replies to one file, and the lanes whose bits differ, each with its openings by bit."""
+    first = judge(names[:3], datas[:3], read)
+    second = judge([names[0], *names[3:5]], [datas[0], *datas[3:5]], read)
     if first.bits == second.bits:
         raise Ends(7, "same challenge\n")
     differing = {}
@@ -379,19 +424,23 @@ def judge_two(names, datas):
 
 
 # No file can show a clash: it would be two messages with one digest. So no test for one stands here.
-def extraction(first, differing):
-    lines, bids = [], {seat: set() for seat in first.front.seats}
+def extraction(first, differing, word, outcome):
+    """What is printed of these lanes, where `word` stands before each value and `outcome` behind all of them."""
+    lines, found = [], {seat: set() for seat in first.front.seats}
     for lane, (zero, one) in differing.items():
         for place, seat in enumerate(first.front.seats):
             (_, key, value), (_, other_key, other) = zero[place][0], one[place][0]
-            bid = (value + other) % MODULUS
-            bids[seat].add(bid)
-            lines.append(f"lane {lane} seat {seat} bid {bid} u {key} {value} v {other_key} {other}")
-    priced = f" price {first.front.price}" if first.front.winner else ""
-    reserved = f" reserve {first.front.reserve}" if first.front.version == 2 else ""
-    lines.append(sale_of(first.front) + priced + reserved)
-    lines += [f"seat {seat} {'same' if len(bids[seat]) == 1 else 'differs'}" for seat in first.front.seats]
+            found[seat].add((value + other) % MODULUS)
+            lines.append(f"lane {lane} seat {seat} {word} {(value + other) % MODULUS} u {key} {value} v {other_key} {other}")
+    lines.append(outcome)
+    lines += [f"seat {seat} {'same' if len(found[seat]) == 1 else 'differs'}" for seat in first.front.seats]
     return "".join(f"{line}\n" for line in [*lines, "end"])
+
+
+def outcome_of(front):
+    priced = f" price {front.price}" if front.winner else ""
+    reserved = f" reserve {front.reserve}" if front.version == 2 else ""
+    return sale_of(front) + priced + reserved
 
 
 def mismatch(auction, digests, secret):
@@ -420,13 +469,28 @@ def answer(command, files, *words):
         return ends.status, ends.text
 
 
+def said(files, words):
+    """The same by its words."""
+    return answer(COMMANDS[words[0]], files, *words[1:])
+
+
 def verify(files, *names):
     judge(names, held(files, names))
     return "accepted\n"
 
 
 def extract(files, *names):
-    return extraction(*judge_two(names, held(files, names)))
+    first, differing = judge_two(names, held(files, names))
+    return extraction(first, differing, "bid", outcome_of(first.front))
+
+
+def claim_verify(files, *names):
+    judge(names, held(files, names), read_claim_front)
+    return "accepted\n"
+
+
+def claim_extract(files, *names):
+    return extraction(*judge_two(names, held(files, names), read_claim_front), "value", "kind uniform")
 
 
 def confront(files, *names):
@@ -457,6 +521,10 @@ def report(files, name):
     return "".join(f"{line}\n" for line in said)
 
 
+COMMANDS = {"verify": verify, "extract": extract, "confront": confront, "report": report}
+COMMANDS |= {"claim-verify": claim_verify, "claim-extract": claim_extract}
+
+
 # ----------------------------------------------------------------------------------------------------------------------
 # The house and its scripts
 
@@ -465,6 +533,7 @@ def report(files, name):
 class Auction:
     width: int
     lanes: int
+    reserve: int = None  # none where it was announced without one
     seals: list = field(default_factory=list)  # of each its seat and bid
     seed: str = None
     bits: str = None
@@ -472,10 +541,16 @@ class Auction:
     def phase(self):
         return "taking" if self.seed is None else "proved" if self.bits is None else "answered"
 
-    def outcome(self):
-        bids = [bid for _, bid in self.seals]
+    def version(self):
+        return 1 if self.reserve is None else 2
+
+    def sale(self):
+        bids, least = [bid for _, bid in self.seals], self.reserve or 0
         winner = bids.index(max(bids))
-        return self.seals[winner][0], max(bids[:winner] + bids[winner + 1 :], default=0)
+        if bids[winner] < least:
+            return "unsold"
+        price = max(bids[:winner] + bids[winner + 1 :] + [least])
+        return f"winner {self.seals[winner][0]} price {price}"
 
 
 class House:
@@ -490,10 +565,10 @@ class House:
             raise Ends(8, "house unknown\n")
         return self.auctions[auction]
 
-    def announce(self, auction, width, lanes):
+    def announce(self, auction, *terms):
         if auction in self.auctions:
             raise Ends(8, "house known\n")
-        self.auctions[auction] = Auction(int(width), int(lanes))
+        self.auctions[auction] = Auction(*map(int, terms))
         return f"announced {auction}\n"
 
     def submit(self, auction, seal_name, secret_name):
@@ -534,8 +609,8 @@ class House:
             raise Ends(8, f"house other seed kept {kept.seed}\n")
         kept.seed = seed
         may_be_asked(board_name)
-        self.files[board_name] = b"vickrey-board 1\n"
-        return "proved winner %d price %d\n" % kept.outcome()
+        self.files[board_name] = b"vickrey-board %d\n" % kept.version()
+        return f"proved {kept.sale()}\n"
 
     def answer(self, auction, challenge_name, reply_name):
         bits = part(challenge_name, read_challenge, held(self.files, [challenge_name])[0])
@@ -554,12 +629,13 @@ class House:
     def show(self, auction):
         kept = self.known(auction)
         numbers = f"width {kept.width} lanes {kept.lanes} seals {len(kept.seals)}"
-        return f"auction {auction} {numbers} phase {kept.phase()}\n"
+        reserve = "" if kept.reserve is None else f" reserve {kept.reserve}"
+        return f"auction {auction} {numbers} phase {kept.phase()}{reserve}\n"
 
 
 NAME = rb"([^ ]{1,255})"
 ORDERS = {
-    "announce": rb"announce " + DIGITS_16 + rb" " + NUMBER + rb" " + NUMBER,
+    "announce": rb"announce " + DIGITS_16 + rb" " + NUMBER + rb" " + NUMBER + rb"(?: " + NUMBER + rb")?",
     "submit": rb"submit " + DIGITS_16 + rb" " + NAME + rb" " + NAME,
     "prove": rb"prove " + DIGITS_16 + rb" " + DIGITS_32 + rb" " + NAME,
     "answer": rb"answer " + DIGITS_16 + rb" " + NAME + rb" " + NAME,
@@ -573,7 +649,7 @@ def order_of(line, script):
         found = re.fullmatch(form, line)
         if found:
             try:
-                words = text_of(found.groups())
+                words = text_of(group for group in found.groups() if group is not None)
             except UnicodeDecodeError:
                 return None
             return (order, words) if fits(order, words, script) else None
@@ -583,8 +659,8 @@ def order_of(line, script):
 def fits(order, words, script):
     """Whether the numbers are within their limits, and no name is written that stands elsewhere."""
     if order == "announce":
-        width, lanes = words[1:]
-        return len(width) < 3 and 1 <= int(width) <= 40 and len(lanes) < 3 and 1 <= int(lanes) <= 64
+        width, lanes, *reserve = map(int, words[1:])
+        return 1 <= width <= 40 and 1 <= lanes <= 64 and all(number < 2**width for number in reserve)
     if order == "answer" and words[1] == words[2]:
         return False
     return order not in ("prove", "answer") or words[2] != script

@@ -1,12 +1,14 @@
 """What is attacked: commands over small files, of which all that they do is known."""
 import os
+import sqlite3
 import subprocess
 import sys
+import tempfile
 from dataclasses import dataclass
 
 from attack import reference
 from attack.defined import Scenario, Step
-from attack.runs import Ended, Folder, read
+from attack.runs import STORE, Ended, Folder, read
 
 REPOSITORY = os.path.join(os.path.dirname(os.path.abspath(__file__)), "..", "..")
 AUCTION = "000102030405060708090a0b0c0d0e0f"
@@ -21,12 +23,18 @@ def secret_of_the_smallest_board():
 def smallest_files():
     data = os.path.join(REPOSITORY, "crates", "vickrey", "data")
     files = {name: read(os.path.join(data, name)) for name in sorted(os.listdir(data))}
-    return files | {"secret": secret_of_the_smallest_board()}
+    return files | {"secret": secret_of_the_smallest_board(), "claim": claim_of_the_smallest_board(files["board"])}
+
+
+def claim_of_the_smallest_board(board):
+    """The claim file of one unit that is sold to the same one bid."""
+    head = ["vickrey-claim 1", f"auction {AUCTION}", "kind uniform", "lanes 1", "inputs 1", "numbers 3", "n 1", "n 0", "n 1"]
+    return "".join(f"{line}\n" for line in head).encode() + board[board.index(b"seal ") :]
 
 
 def reading_scenarios(files, unsold):
-    """The commands that write nothing, over the smallest board, and two of them over a board that is unsold; what they say is
-    the reference's."""
+    """The commands that write nothing, over the smallest board and the smallest claim file, and two of them over a board that
+    is unsold; what they say is the reference's."""
     replies = ["challenge-0", "reply-0", "challenge-1", "reply-1"]
     table = [
         ("verify", files, ["verify", "board", *replies[:2]]),
@@ -35,9 +43,11 @@ def reading_scenarios(files, unsold):
         ("report", files, ["report", "board"]),
         ("verify, unsold", unsold, ["verify", "board", "challenge-1", "reply-1"]),
         ("report, unsold", unsold, ["report", "board"]),
+        ("claim-verify", files, ["claim-verify", "claim", *replies[:2]]),
+        ("claim-extract", files, ["claim-extract", "claim", *replies]),
     ]
     for name, held, words in table:
-        status, text = reference.answer(getattr(reference, words[0]), held, *words[1:])
+        status, text = reference.said(held, words)
         yield Scenario(name, words, held, [Step(text.encode())], status)
 
 
@@ -69,18 +79,18 @@ def handed_in(made, bids, lanes):
         return files | folder.files()
 
 
-def ceremony_scenario(made, name, bids, lanes):
+def ceremony_scenario(made, name, bids, lanes, reserve=None):
     """A whole auction by a script, and its board and reply, which the reference accepts."""
-    script = [f"announce {AUCTION} 4 {lanes}"]
+    terms = "" if reserve is None else f" {reserve}"
+    script = [f"announce {AUCTION} 4 {lanes}{terms}"]
     texts = [f"announced {AUCTION}"]
     for position, seat in enumerate(bids, 1):
         script.append(f"submit {AUCTION} seal-{seat} secret-{seat}")
         texts.append(f"taken seat {seat} position {position}")
     script += [f"prove {AUCTION} {seed_of(1)} board", f"answer {AUCTION} challenge reply", f"show {AUCTION}"]
-    winner = max(bids, key=bids.get)
-    price = sorted(bids.values())[-2]
-    texts += [f"proved winner {winner} price {price}", "answered"]
-    texts.append(f"auction {AUCTION} width 4 lanes {lanes} seals {len(bids)} phase answered")
+    texts += [f"proved {sale_of(bids, reserve or 0)}", "answered"]
+    shown = "" if reserve is None else f" reserve {reserve}"
+    texts.append(f"auction {AUCTION} width 4 lanes {lanes} seals {len(bids)} phase answered{shown}")
     lines = ["vickrey-script 1", *script, "end"]
     files = handed_in(made, bids, lanes) | {"script": "".join(f"{line}\n" for line in lines).encode()}
     steps = {text: Step(f"{text}\n".encode(), again=said_again(text)) for text in [*texts, "end"]}
@@ -94,6 +104,12 @@ def ceremony_scenario(made, name, bids, lanes):
     return Scenario(name, ["ceremony", "script"], files, list(steps.values()))
 
 
+def sale_of(bids, reserve):
+    """What is said of the sale of bids, no two of which are equal, under a reserve, 0 where there is none."""
+    winner, (second, best) = max(bids, key=bids.get), sorted(bids.values())[-2:]
+    return "unsold" if best < reserve else f"winner {winner} price {max(second, reserve)}"
+
+
 def said_again(text):
     """What a house that keeps its auctions says where the command was done before."""
     word, *rest = text.split(" ")
@@ -102,7 +118,7 @@ def said_again(text):
     return (b"house known\n",) if word == "announced" else ()
 
 
-def house_scenarios(made, ceremony):
+def house_scenarios(made, ceremony, label=""):
     """The house's commands one by one over a store that is kept between them; none where auctions aren't kept."""
     lines = ceremony.files["script"].decode().splitlines()[1:-1]
     found = {}
@@ -110,21 +126,51 @@ def house_scenarios(made, ceremony):
         for line, step in zip(lines, ceremony.steps):
             files = {name: read(os.path.join(folder.path, name)) for name in sorted(os.listdir(folder.path))}
             words = line.split(" ")
-            found[words[0]] = Scenario(words[0], words, files, [step])
+            found[words[0]] = Scenario(words[0] + label, words, files, [step])
             if made.run(words, folder.path).status != 0:
                 return []
     return list(found.values())
 
 
-def sample_scenario(made):
-    """`sample 1`, or None where the program hasn't the command."""
+def first_scenarios(house):
+    """Two of the house's commands over a store of number 1, as it was before auctions had a version and a reserve."""
+    for scenario in house:
+        if scenario.name in ("prove", "show"):
+            store = first_store({name: data for name, data in scenario.files.items() if name.startswith(STORE)})
+            files = {name: data for name, data in scenario.files.items() if not name.startswith(STORE)}
+            yield Scenario(f"{scenario.name}, store of number 1", scenario.words, files | {STORE: store}, scenario.steps)
+
+
+def first_store(files):
+    """A store, by its files, without the table of terms and with the number 1. Its auctions were announced without a reserve."""
+    with tempfile.TemporaryDirectory() as folder:
+        for name, data in files.items():
+            with open(os.path.join(folder, name), "wb") as file:
+                file.write(data)
+        store = sqlite3.connect(os.path.join(folder, STORE), isolation_level=None)
+        for text in ("DROP TABLE terms", "UPDATE about SET version = 1", "VACUUM", "PRAGMA wal_checkpoint(TRUNCATE)"):
+            store.execute(text).fetchall()
+        store.close()
+        return read(os.path.join(folder, STORE))
+
+
+def sample_scenario(made, words, prefix):
+    """A sample by these words, whose files are so called."""
     with Folder(made, {}) as folder:
-        ended = made.run(["sample", "1"], folder.path, seconds=600)
-        if ended.status == 2:
-            return None
+        ended = made.run(words, folder.path, seconds=600)
         names = ["board", "challenge-1", "reply-1", "challenge-2", "reply-2"]
-        written = [(f"sample-{name}", read(os.path.join(folder.path, f"sample-{name}"))) for name in names]
-    return Scenario("sample", ["sample", "1"], {}, [Step(ended.text, written)])
+        written = [(f"{prefix}-{name}", read(os.path.join(folder.path, f"{prefix}-{name}"))) for name in names]
+    assert ended.status == 0, ended
+    return Scenario(words[0], words, {}, [Step(ended.text, written)])
+
+
+def claim_sample_scenario(made):
+    """The sample of a claim, whose replies the reference accepts, and whose values it extracts."""
+    scenario = sample_scenario(made, ["claim-sample", "uniform", "1"], "claim")
+    files = dict(scenario.steps[0].written)
+    status, text = reference.said(files, ["claim-extract", *files])
+    assert status == 0 and text.count(" same\n") == 10, text[-200:]
+    return scenario
 
 
 @dataclass
@@ -133,25 +179,32 @@ class Attacked:
 
     files: dict
     boards: dict
+    claims: dict
     reading: list
     writing: list
     large: list
-    sample: Scenario
+    samples: list
 
     def small(self):
         return self.reading + self.writing
 
 
 def attacked(made):
-    files, made_boards = smallest_files(), boards(made)
+    files, made_boards = smallest_files(), published(made, BOARDS)
     ceremony = ceremony_scenario(made, "ceremony", {7: 15, 9: 9}, 2)
     old = {"secret-7": b"an older secret\n", "seal-7": b"an older seal\n"}
     seals = [seal_scenario(made, "seal", 2, {}), seal_scenario(made, "seal over files", 2, old)]
     three = {7: 15, 9: 9, 300: 4}
     large = [seal_scenario(made, "seal of 64 lanes", 64, {}), ceremony_scenario(made, "ceremony of 8 lanes", three, 8)]
+    reserved = [ceremony_scenario(made, f"ceremony, {label}", bids, 2, reserve)
+                for label, bids, reserve in (("at the reserve", {7: 15, 9: 9}, 12), ("unsold", {7: 5, 9: 9}, 10))]
     house = house_scenarios(made, ceremony)
+    first = list(first_scenarios(house))
+    house += [scenario for scenario in house_scenarios(made, reserved[1], ", unsold") if scenario.words[0] != "submit"]
     reading = list(reading_scenarios(files, made_boards["unsold, one seal"]))
-    return Attacked(files, made_boards, reading, [*seals, ceremony, *house], large, sample_scenario(made))
+    writing = [*seals, ceremony, *reserved, *house, *first]
+    samples = [sample_scenario(made, ["sample", "1"], "sample"), claim_sample_scenario(made)]
+    return Attacked(files, made_boards, published(made, CLAIMS), reading, writing, large, samples)
 
 
 # Of each board the seals, the width, the lanes, a number whose bids have such a reserve, and what is said of the reserve.
@@ -166,11 +219,19 @@ BOARDS = {
 }
 
 
-def boards(made):
-    """Boards of both versions with two replies to each, which bench/make_board.py makes."""
+# The same of claim files, and how many units are sold.
+CLAIMS = {
+    "one unit": ("3", "2", "2", "4", "units:1"),
+    "two units": ("3", "2", "3", "5", "units:2"),
+    "all win": ("2", "2", "1", "3", "units:2"),
+}
+
+
+def published(made, table):
+    """Boards of both versions, or claim files, with two replies to each, which bench/make_board.py makes."""
     script = os.path.join(REPOSITORY, "bench", "make_board.py")
     found = {}
-    for label, words in BOARDS.items():
+    for label, words in table.items():
         with Folder(made, {}) as folder:
             subprocess.run([sys.executable, script, *words[:4], folder.path, *words[4:]], check=True)
             found[label] = folder.files()

@@ -6,6 +6,7 @@ import shutil
 import subprocess
 import time
 from dataclasses import dataclass
+from itertools import product
 
 from attack import mutations, reference
 from attack.cases import Batch, KilledLater, Limited, LimitedOutput, Output, Refused, SmallDisk, Spelled, Told
@@ -16,7 +17,8 @@ from attack.subjects import AUCTION, Attacked, seed_of
 EVER = 2**62  # a number of calls that no run comes to
 OUTSIDE = "osrwlycCfn"  # the letters of faults.c of all calls but those for memory
 USAGE = (
-    b"usage: vickrey seal|announce|submit|prove|answer|show|verify|extract|confront|report|sample|ceremony\n"
+    b"usage: vickrey seal|announce|submit|prove|answer|show|verify|extract|confront|report|sample|ceremony"
+    b"|claim-verify|claim-extract|claim-sample\n"
 )
 
 HOUSE = {"announce", "submit", "prove", "answer", "show", "ceremony"}  # the commands that open the store
@@ -54,13 +56,13 @@ class Attack:
     def scenarios(self):
         if self.quick:
             return self.on.small()
-        return self.on.small() + self.on.large + ([self.on.sample] if self.on.sample else [])
+        return self.on.small() + self.on.large + self.on.samples
 
     def most(self, scenario, quick, full):
         """How many cases of a scenario: of a sample, which takes a second or more for each, few."""
         if self.quick:
             return quick
-        return 40 if scenario is self.on.sample else min(full, 300) if scenario in self.on.large else full
+        return 40 if scenario in self.on.samples else min(full, 300) if scenario in self.on.large else full
 
 
 def memory(attack):
@@ -73,19 +75,21 @@ def memory(attack):
             yield Refused(scenario, label, (9, EFFECT), "m", first, last, errno.ENOMEM)
 
 
-def may_of(letter):
+def may_of(letter, is_look):
     """How a run may end where such a call fails. The close of a file that was only read, or was synced, has nothing to
-    tell; a lock may be asked for in vain, and a name that is taken away may be gone."""
-    return (6, EFFECT) if letter in "cfn" else (6,)
+    tell; a lock may be asked for in vain, and a name that is taken away may be gone. Whether the store is there is looked
+    for once, and told anew where it is opened."""
+    return (6, EFFECT) if is_look or letter in "cfn" else (6,)
 
 
 def calls(attack):
     """Each call of the outside fails, with each error, alone and with all that follow."""
     for scenario in attack.scenarios():
         letters = attack.made.calls(scenario, OUTSIDE)
+        look = letters.find("s") + 1 if scenario.words[0] in HOUSE else 0
         ends = []
         for number, letter in enumerate(letters, 1):
-            may = may_of(letter)
+            may = may_of(letter, number == look)
             ends += [(number, number, letter, error, may) for error in FAULTS[letter]]
             ends.append((number, EVER, letter, errno.EIO, (6, EFFECT) if letter in "cC" else may))
         for first, last, letter, error, may in attack.some(ends, attack.most(scenario, 30, 10000)):
@@ -104,7 +108,7 @@ def interrupted(attack):
                 count = len(attack.made.calls(scenario, kinds))
                 for number in attack.some(range(1, count + 1), attack.most(scenario, 10, 10000)):
                     yield Refused(scenario, f"call {number} of {count} ({kinds}) {name}", may, kinds, number, number, what)
-            if scenario is not attack.on.sample:
+            if scenario not in attack.on.samples:
                 yield Refused(scenario, f"each call ({whose} rw) moves one byte", may, f"{whose} rw", 1, EVER, "short")
 
 
@@ -348,24 +352,44 @@ def sizes_of_verify(words, files):
 
 
 def heads(attack):
-    """Heads of boards of both versions: each of their lines at fault, and each sale, reserve and price that is near to what
-    stands there or to a limit. What is said of them is the reference's."""
+    """Heads of boards of both versions, and of claim files: each of their lines at fault, and each sale, reserve and price, or
+    each number, that is near to what stands there or to a limit. What is said of them is the reference's."""
     cases = []
     for label, files in attack.on.boards.items():
         lines = files["board"].split(b"\n")
         for change, head in (*bad_heads(lines), *heads_near(lines)):
             changed_files = files | {"board": b"\n".join(head)}
             cases += [(f"{label}, {change}", words, changed_files) for words in (["report", "board"], VERIFY)]
-    for label, words, files in attack.some(cases, 300 if attack.quick else 10000):
-        status, text = reference.answer(getattr(reference, words[0]), files, *words[1:])
+    for label, files in attack.on.claims.items():
+        lines = files["claim"].split(b"\n")
+        for change, head in (*bad_heads(lines), *numbers_near(lines)):
+            cases.append((f"{label}, {change}", CLAIM_VERIFY, files | {"claim": b"\n".join(head)}))
+    for label, words, files in attack.some(cases, 300 if attack.quick else 15000):
+        status, text = reference.said(files, words)
         yield Told(f"{words[0]}, {label}", words, (status, text.encode()), files)
 
 
+def reserves(attack):
+    """`announce` with each reserve that is near to a limit, in a command line and in a script; what a script says is the
+    reference's."""
+    for width in (1, 4, 40):
+        near = [str(2**width + step) for step in (-2, -1, 0, 1)]
+        for reserve in (*mutations.NUMBERS, *near, "", "a", "0x1", "1 1", "reserve 1", "1.0", "1\t", "²"):
+            line = f"announce {AUCTION} {width} 2 {reserve}"
+            files = {"script": script(line, f"show {AUCTION}")}
+            status, text = reference.ceremony(files, "script")
+            alone = (0, f"announced {AUCTION}\n".encode()) if status == 0 else (2, USAGE)
+            yield Told(f"announce with width {width} and reserve {reserve!r}", line.split(" "), alone, {})
+            yield Told(f"a script's announce with width {width} and reserve {reserve!r}", ["ceremony", "script"],
+                       (status, text.encode()), files)
+
+
 VERIFY = ["verify", "board", "challenge-1", "reply-1"]
+CLAIM_VERIFY = ["claim-verify", "claim", *VERIFY[2:]]
 
 
 def bad_heads(lines):
-    """Boards, by their lines, of which one line of the head is at fault."""
+    """Boards or claim files, by their lines, of which one line of the head is at fault."""
     for at in range(first_seal(lines)):
         line, behind = lines[at], lines[at + 1]
         word, _, rest = line.partition(b" ")
@@ -399,8 +423,31 @@ def heads_near(lines):
                 yield f"a head with {b', '.join(head).decode()}", lines[:5] + head + lines[first:]
 
 
+def numbers_near(lines):
+    """Claim files, by their lines, with other numbers: each width and price, and winners in any order, one or two of them or
+    too many or few; and with the numbers of inputs that are near to a limit."""
+    first = first_seal(lines)
+    width, price = (int(line.split()[1]) for line in lines[6:8])
+    inputs = int(lines[4].split()[1])
+    winners = [places for count in range(3) for places in product(range(inputs + 2), repeat=count)]
+    winners += [range(1, inputs + 1), range(2, inputs + 2), range(1, inputs + 2), range(1, 120), (2**64 - 1,)]
+    prices = sorted({near for number in (price, 2**width) for near in (number - 1, number, number + 1) if near >= 0} | {0})
+    for other in sorted({0, 1, width, width + 1, 40, 41, 64}):
+        for paid in prices:
+            for places in winners:
+                numbers = [other, paid, *places]
+                head = [b"numbers %d" % len(numbers)] + [b"n %d" % number for number in numbers]
+                yield f"numbers {', '.join(map(str, numbers))}", lines[:5] + head + lines[first:]
+    for count in (65, 511, 512):
+        seals = [line for seat in range(1, count + 1) for line in (b"seal %d" % seat, *[SEALED] * int(lines[3].split()[1]))]
+        yield f"{count} inputs", [*lines[:4], b"inputs %d" % count, *lines[5:first], *seals, b"end", b""]
+
+
+SEALED = b"x " + b"0" * 64 + b" " + b"0" * 64
+
+
 def first_seal(lines):
-    """How many lines the head of a board has."""
+    """How many lines the head of a board or a claim file has."""
     return next(at for at, line in enumerate(lines) if line[:5] == b"seal ")
 
 
@@ -412,6 +459,18 @@ def changed(attack):
         yield Batch(subjects, f"{attack.draw.getrandbits(64):016x}", batch)
 
 
+def cuts(attack):
+    """Claim files, challenges and replies to them, cut at each byte. What is said of them is the reference's."""
+    whole = [(label, files, CLAIM_VERIFY) for label, files in attack.on.claims.items()]
+    whole.append(("the smallest", attack.on.files, ["claim-verify", "claim", "challenge-0", "reply-0"]))
+    cases = [(label, files, words, name, kept) for label, files, words in whole for name in words[1:]
+             for kept in range(len(files[name]))]
+    for label, files, words, name, kept in attack.some(cases, 300 if attack.quick else 10000):
+        files = files | {name: files[name][:kept]}
+        status, text = reference.said(files, words)
+        yield Told(f"claim-verify, {label}, {name} cut after {kept} bytes", words, (status, text.encode()), files)
+
+
 def changed_subjects(attack):
     smallest, subjects, names = attack.on.files, [], ["challenge-1", "reply-1", "challenge-2", "reply-2"]
     two = [(attack.on.boards[label], names) for label in ("no reserve", "above the reserve", "at the reserve", "unsold")]
@@ -420,10 +479,15 @@ def changed_subjects(attack):
             subjects.append(mutations.Subject(["verify", "board", *names[at : at + 2]], files, ("board", names[at + 1])))
         subjects.append(mutations.Subject(["extract", "board", *names], files, ("board", names[3])))
         subjects.append(mutations.Subject(["report", "board"], files))
+    for files in attack.on.claims.values():
+        claim = files | {"board": attack.on.boards["no reserve"]["board"]}  # which may come in the place of another file
+        for at in (0, 2):
+            subjects.append(mutations.Subject(["claim-verify", "claim", *names[at : at + 2]], claim, ("claim", names[at + 1])))
+        subjects.append(mutations.Subject(["claim-extract", "claim", *names], claim, ("claim", names[3])))
     words = attack.on.reading[2].words
     subjects.append(mutations.Subject(words, smallest))
-    ceremony = next(scenario for scenario in attack.on.writing if scenario.name == "ceremony")
-    return subjects + [mutations.Subject(ceremony.words, ceremony.files)] * 2
+    scripts = [scenario for scenario in attack.on.writing if scenario.words[0] == "ceremony"]
+    return subjects + [mutations.Subject(scenario.words, scenario.files) for scenario in scripts]
 
 
-TABLES = [memory, calls, interrupted, killed, disk, output, places, spellings, sizes, heads, changed]
+TABLES = [memory, calls, interrupted, killed, disk, output, places, spellings, sizes, heads, reserves, cuts, changed]
