@@ -274,24 +274,24 @@ def crates(_auction):
     """The crates, each box on those to which its arrows point. It has no number of the auction."""
     figure = Figure("The crates", 780, 560)
     boxes = {
-        "app": (20, 12, 740, 44, "the program and its top call", "vickrey, vk_app"),
-        "audit": (270, 80, 240, 44, "the auditor's commands", "vk_audit"),
-        "office": (530, 80, 230, 62, "the auctioneer's commands", "vk_auctioneer, vk_ceremony,|vk_sample"),
+        "app": (20, 12, 740, 44, "the program and its top call", "vickrey, vk_program, vk_app"),
+        "audit": (270, 80, 240, 44, "the auditor's commands", "vk_audit, vk_claims"),
+        "office": (530, 80, 230, 62, "the auctioneer's commands", "vk_auctioneer, vk_ceremony,|vk_sample, vk_claim_sample"),
         "words": (20, 80, 230, 44, "words and effects", "vk_words, vk_effect"),
         "forms": (20, 250, 230, 62, "forms of files", "vk_board, vk_reply,|vk_seal"),
         "lines": (20, 345, 230, 44, "lines and tokens", "vk_lines"),
         "files": (20, 420, 230, 44, "files and output", "vk_io, vk_files"),
-        "bids": (270, 160, 240, 62, "two replies; reports", "vk_bids, vk_extractor,|vk_report"),
+        "bids": (270, 160, 240, 62, "two replies; claims; reports", "vk_bids, vk_extractor,|vk_claim, vk_report"),
         "verdict": (270, 255, 240, 44, "verdict", "vk_verifier"),
         "lane": (270, 330, 115, 44, "lane", "vk_row"),
-        "circuit": (395, 330, 115, 62, "circuit", "vk_vickrey,|vk_range"),
+        "circuit": (395, 324, 115, 80, "circuits", "vk_vickrey,|vk_uniform,|vk_range"),
         "wire": (270, 420, 240, 44, "wire; plan", "vk_wire; vk_plan"),
         "house": (530, 175, 230, 62, "house", "vk_house, vk_honest,|vk_job, vk_views"),
-        "keeper": (650, 270, 110, 62, "keeper", "vk_keeper,|vk_keeper_sql"),
-        "prover": (530, 270, 110, 44, "prover", "vk_prover"),
+        "keeper": (640, 270, 120, 80, "keeper", "vk_keeper,|vk_keeper_sql,|vk_store_laws"),
+        "prover": (530, 270, 100, 44, "prover", "vk_prover"),
         "dice": (530, 420, 230, 44, "words of a seed", "vk_dice"),
         "commit": (270, 496, 240, 44, "commitment", "vk_commit, vk_digests"),
-        "numbers": (20, 496, 230, 44, "numbers and lists", "vk_residue, vk_seq"),
+        "numbers": (20, 496, 230, 44, "numbers, lists, short texts", "vk_residue, vk_seq, vk_text"),
     }
     for x, y, width, height, name, names in boxes.values():
         figure.box(x, y, width, height, [(name, "s"), *((line, "n") for line in names.split("|"))])
@@ -316,7 +316,7 @@ def machine(_auction):
     figure.text(300, 30, "the same for all", "s")
     figure.text(560, 30, "what comes of it", "s")
     figure.box(20, 44, 220, 62, [("a board’s front", "b"), "head, price, winner", ("vk_board", "n")])
-    figure.box(20, 126, 220, 44, [("another form’s front", "s"), ("its head, its circuit", "s")], "shut")
+    figure.box(20, 126, 220, 62, [("a claim’s front", "b"), "its head, its circuits", ("vk_claim", "n")])
     figure.box(300, 44, 220, 80, [("a statement", "b"), "auction, lanes,", "seals, circuit", ("Statement", "n")], "open")
     figure.box(300, 152, 220, 62, [("lanes, one at a time", "b"), "a challenge and a reply", ("judge_behind", "n")], "open")
     figure.box(300, 234, 220, 62, [("two replies side by side", "b"), "each lane once for each", ("LaneChecker", "n")], "open")
@@ -325,7 +325,7 @@ def machine(_auction):
     figure.box(560, 234, 200, 62, [("both, or whose fault", "b"), "a board’s finding", ("TwoChecker", "n")])
     figure.box(560, 316, 200, 62, [("values, or a clash", "b"), "a board’s outcome", ("extract", "n")])
     figure.arrow((240, 75), (300, 75))
-    figure.arrow((240, 148), (270, 148), (270, 105), (300, 105))
+    figure.arrow((240, 157), (270, 157), (270, 105), (300, 105))
     for top, low in ((124, 152), (214, 234), (296, 316)):
         figure.arrow((410, top), (410, low))
     for y in (183, 265, 347):
@@ -341,7 +341,7 @@ def who(_auction):
         figure.text(x, 26, name, "m b")
     figure.text(470, 26, "public, in one place", "m b")
     posts = [
-        ("", "auctioneer", ["id, width, lanes, seats", ("unit, rules, deadlines, the draw", "s")]),
+        ("", "auctioneer", ["id, width, lanes, seats", ("reserve, unit, deadlines, draw", "s")]),
         ("seals", "bidders", ["every seal", ("signed by its bidder", "s")]),
         ("secrets", "", []),
         ("board", "auctioneer", ["the board and its digest", ("seats, winner, price", "s")]),
