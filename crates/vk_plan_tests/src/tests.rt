@@ -1,3 +1,4 @@
+mod matching;
 mod numbers;
 mod plan;
 mod range;

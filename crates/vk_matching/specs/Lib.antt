@@ -1,0 +1,10 @@
+pub mod Stability
+pub mod Courting
+pub mod Couples
+pub mod Eithers
+pub mod EitherLaws
+pub mod Blocks
+pub mod MatchingPlans
+pub mod Pairs
+pub mod MatchingLaws
+pub mod Circuits
