@@ -1,5 +1,5 @@
 -- What the sample of every number has.
-use Rattle.std.proofs.Common.{◌≡◌, ◌≢◌, ◌⊎◌, ℕ, ◌+◌, ◌*◌, ◌^◌, ◌<◌, ◌≤◌, not, List, [], ◌∷◌, length, map, take, slice_index, arith, refl, subst, sym, ◌∙◌, length-append, flat_map, inl, inr}
+use Rattle.std.proofs.Common.{◌≡◌, ◌≢◌, ◌⊎◌, ℕ, ◌+◌, ◌^◌, ◌<◌, ◌≤◌, not, List, length, map, take, slice_index, arith, refl, subst, sym, ◌∙◌, inl, inr}
 use Rattle.std.specs.List.{All, AllPairs}
 use Rattle.std.specs.Int.{w16, w32, from_be_bytes}
 use Rattle.std.proofs.lemmas.Bool.{cases_lt}
@@ -8,9 +8,10 @@ use Rattle.std.proofs.lemmas.List.FromFn.{length-map-range_with_len, get_or-map-
 use Rattle.vk_residue.specs.Limits.{IsWidth}
 use Rattle.vk_commit.specs.Values.{AreBytes}
 use Rattle.vk_commit.proofs.Digests.{digest_is_bytes}
+use Rattle.vk_report.proofs.BitCounts.{leading_count}
 use Rattle.vk_report.specs.declared.sample.SampleCase.{SampleCase}
 use Rattle.vk_report.specs.declared.sample.Sizes.{Sizes}
-use Rattle.vk_report.specs.Samples.{AreSizes, IsCaseOf, IsSampleCase, auction_sizes, bid_of, bidder_seed, bits_of, case_of, digest_at, first_bits, front_number, of_each_seal, sample_of, seat_of}
+use Rattle.vk_report.specs.Samples.{AreSizes, IsCaseOf, IsSampleCase, auction_sizes, bid_of, bidder_seed, case_of, digest_at, first_bits, front_number, of_each_seal, sample_of, seat_of}
 
 -- the first of so many bytes
 first_bytes : (count most : ℕ) (bytes : List ℕ) → count ≤ most → AreBytes most bytes → AreBytes count (take count bytes)
@@ -33,16 +34,12 @@ half_is_small bytes small =
     omega (arith, small 0, small 1)
 
 -- the first bytes of a digest are a number below 2^width
-front_is_small : (width : ℕ) (digest : List ℕ) → AreBytes 32 digest → (width ≡ 16) ⊎ (width ≡ 32) → front_number width digest < 2 ^ width
+front_is_small : (width : ℕ) (digest : List ℕ) → AreBytes 32 digest → (width ≡ 8) ⊎ (width ≡ 16) ⊎ (width ≡ 32) → front_number width digest < 2 ^ width
 front_is_small width digest are wide = elim wide [
-  | inl is ↦ rw is (half_is_small (take 2 digest) (first_bytes 2 32 digest (omega arith) are).1)
-  | inr is ↦ rw is (word_is_small (take 4 digest) (first_bytes 4 32 digest (omega arith) are).1)
+  | inl is ↦ rw is (are.1 0)
+  | inr (inl is) ↦ rw is (half_is_small (take 2 digest) (first_bytes 2 32 digest (omega arith) are).1)
+  | inr (inr is) ↦ rw is (word_is_small (take 4 digest) (first_bytes 4 32 digest (omega arith) are).1)
 ]
-
--- the bits of so many bytes
-bit_count : (bytes : List ℕ) → length (flat_map bits_of bytes) ≡ 8 * length bytes
-bit_count [] = refl
-bit_count (byte ∷ bytes) = omega (arith, bit_count bytes, length-append (bits_of byte) (flat_map bits_of bytes))
 
 -- so many bits as lanes
 first_count : (sizes : Sizes) (number : ℕ) → AreSizes sizes → length (first_bits sizes number) ≡ sizes.lanes
@@ -50,7 +47,7 @@ unfolding first_bits digest_at
 first_count sizes number are =
     let digest = digest_at sizes.letters number 2 in
     let bytes : length digest ≡ 32 = (digest_is_bytes _).0 in
-    length-take-le sizes.lanes (flat_map bits_of digest) (omega (arith, bit_count digest, bytes, are.lanes.most))
+    leading_count sizes.lanes digest bytes (omega (arith, are.lanes.most))
 
 -- what is true of each seal's is true of all of them
 of_all : {X : Type 0} (P : X → Type 0) (seals : ℕ) (of_seal : ℕ → X) → ((seal : ℕ) → 1 ≤ seal → seal ≤ seals → P (of_seal seal)) → All P (of_each_seal seals of_seal)
@@ -66,10 +63,11 @@ seats_differ seals i j d before within =
     (rw (get_or-map-range_with_len seat_of 1 seals j (1 + j) d inside refl) (λ same. omega (arith, same)))
 
 -- the width is one that bids may have
-wide_enough : (width : ℕ) → (width ≡ 16) ⊎ (width ≡ 32) → IsWidth width
+wide_enough : (width : ℕ) → (width ≡ 8) ⊎ (width ≡ 16) ⊎ (width ≡ 32) → IsWidth width
 wide_enough width wide = elim wide [
   | inl is ↦ record { least = omega (arith, is); most = omega (arith, is) }
-  | inr is ↦ record { least = omega (arith, is); most = omega (arith, is) }
+  | inr (inl is) ↦ record { least = omega (arith, is); most = omega (arith, is) }
+  | inr (inr is) ↦ record { least = omega (arith, is); most = omega (arith, is) }
 ]
 
 pub is_case : (sizes : Sizes) → AreSizes sizes → (number : ℕ) → IsCaseOf sizes (case_of sizes number)
@@ -114,7 +112,7 @@ auction_are = record {
   letters = refl;
   some_seal = omega arith;
   few_seals = omega arith;
-  width = inr refl;
+  width = inr (inr refl);
   lanes = record { least = omega arith; most = omega arith };
 }
 

@@ -1,11 +1,12 @@
 -- The sample of a number: an auction with all its bids and seeds and with two challenges, made of the number alone.
-use Rattle.std.specs.Prelude.{◌≡◌, ◌≢◌, ◌⊎◌, ℕ, ◌+◌, ◌^◌, ◌<◌, ◌≤◌, ◌==◌, if◌then◌else◌, Bool, not, List, [], ◌∷◌, ◌++◌, length, map, take, codes, All, AllPairs}
-use Rattle.std.specs.Int.{w16, w32, w64, to_be_bytes, from_be_bytes, bit_at}
-use Rattle.std.specs.List.{flat_map, range_with_len}
+use Rattle.std.specs.Prelude.{◌≡◌, ◌≢◌, ◌⊎◌, ℕ, ◌+◌, ◌^◌, ◌<◌, ◌≤◌, ◌==◌, if◌then◌else◌, Bool, not, List, [], ◌∷◌, ◌++◌, length, map, slice_index, take, codes, All, AllPairs}
+use Rattle.std.specs.Int.{w16, w32, w64, to_be_bytes, from_be_bytes}
+use Rattle.std.specs.List.{range_with_len}
 use Rattle.sha2.specs.Sha256.{sha256}
 use Rattle.vk_residue.specs.Limits.{IsLaneCount, IsSize}
 use Rattle.vk_commit.specs.Values.{AreBytes}
 use Rattle.vk_reply.specs.Values.{IsChallenge}
+use Rattle.vk_report.specs.Bits.{leading_bits}
 use Rattle.vk_report.specs.declared.sample.SampleCase.{SampleCase}
 use Rattle.vk_report.specs.declared.sample.Sizes.{Sizes}
 
@@ -21,12 +22,12 @@ digest_at letters number byte = sha256 (message_of letters number byte)
 
 -- ---- which samples there are
 
--- letters that are hashed with the number, 1 to 48 seals, bids of 16 or of 32 bits, and lanes
+-- letters that are hashed with the number, 1 to 48 seals, bids of 8, of 16 or of 32 bits, and lanes
 pub record AreSizes (sizes : Sizes) : Type 0 where
   pub letters : length sizes.letters ≡ 4
   pub some_seal : 1 ≤ sizes.seals
   pub few_seals : sizes.seals ≤ 48
-  pub width : (sizes.width ≡ 16) ⊎ (sizes.width ≡ 32)
+  pub width : (sizes.width ≡ 8) ⊎ (sizes.width ≡ 16) ⊎ (sizes.width ≡ 32)
   pub lanes : IsLaneCount sizes.lanes
 
 -- those of an auction's sample: its letters are `VKS1`
@@ -51,22 +52,19 @@ seat_of seal = 100 + seal
 abbrev pub bidder_seed : Sizes → ℕ → ℕ → List ℕ
 bidder_seed sizes number seal = digest_at sizes.letters number (16 + seal)
 
--- the number of the first bytes of a digest, big-endian: of 2 where the width is 16, and else of 4
+-- the number of the first bytes of a digest, big-endian: of 1 where the width is 8, of 2 where it is 16, and else of 4
 abbrev pub front_number : ℕ → List ℕ → ℕ
-front_number width digest = if width == 16 then from_be_bytes w16 (take 2 digest) else from_be_bytes w32 (take 4 digest)
+front_number width digest =
+    if width == 8 then slice_index digest 0 else if width == 16 then from_be_bytes w16 (take 2 digest) else from_be_bytes w32 (take 4 digest)
 
 unfoldable pub bid_of : Sizes → ℕ → ℕ → ℕ
 bid_of sizes number seal = front_number sizes.width (digest_at sizes.letters number (64 + seal))
 
 -- ---- the challenges
 
--- the bits of a byte, the most significant first
-abbrev pub bits_of : ℕ → List Bool
-bits_of byte = map (λ place. bit_at byte place == 1) (7 ∷ 6 ∷ 5 ∷ 4 ∷ 3 ∷ 2 ∷ 1 ∷ 0 ∷ [])
-
 -- the first bits of a digest, one for each lane, that of lane 1 first
 unfoldable pub first_bits : Sizes → ℕ → List Bool
-first_bits sizes number = take sizes.lanes (flat_map bits_of (digest_at sizes.letters number 2))
+first_bits sizes number = leading_bits sizes.lanes (digest_at sizes.letters number 2)
 
 -- ---- the whole
 

@@ -1,12 +1,14 @@
 //! What a board publishes, as a report that is made with its whole file read; and the sample of a number.
 #![tactic(auto)]
 
+mod bits;
 mod laws;
 mod reading;
 mod report;
 mod sample;
 mod writing;
 
+pub use bits::leading_bits;
 pub use laws::{
     a_file_is_refused_for_what_fails_first, a_file_is_reported_on_where_it_is_a_board,
     each_number_has_a_sample,

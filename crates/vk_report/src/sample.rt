@@ -1,7 +1,8 @@
-ghost use Rattle.std.specs.Prelude.{◌≡◌, ◌==◌, ◌+◌, ◌++◌, ◌<◌, ◌≤◌, length, map, not, take, IfOk};
-ghost use Rattle.std.specs.Int.{bit_at, from_be_bytes, w16, w32};
-ghost use Rattle.vk_report.specs.Samples.{AreSizes, IsCaseOf, IsSampleCase, auction_sizes, bid_of, bidder_seed, bits_of, case_of, digest_at, first_bits, front_number, id_of, message_of, sample_of, seat_of};
+ghost use Rattle.std.specs.Prelude.{◌≡◌, ◌+◌, ◌++◌, ◌≤◌, length, map, not, take, IfOk};
+ghost use Rattle.std.specs.Int.{from_be_bytes, w16, w32};
+ghost use Rattle.vk_report.specs.Samples.{AreSizes, IsCaseOf, IsSampleCase, auction_sizes, bid_of, bidder_seed, case_of, digest_at, first_bits, front_number, id_of, message_of, sample_of, seat_of};
 
+use crate::bits::leading_bits;
 use sha2::{Digest, Sha256};
 use std::alloc::Global;
 use vk_reply::Challenge;
@@ -15,7 +16,7 @@ pub struct Sizes {
     pub letters: [u8; 4],
     /// How many seals, 1 to 48.
     pub seals: u32,
-    /// How many bits a bid has: 16 or 32.
+    /// How many bits a bid has: 8, 16 or 32.
     pub width: u32,
     /// How many lanes, 1 to 64.
     pub lanes: u32,
@@ -164,10 +165,13 @@ fn bid_of(sizes: &Sizes, number: u64, seal: u8) -> u64
     front_number(sizes.width, &digest)
 }
 
-/// The first 2 bytes of a digest, big-endian, where the width is 16, and else the first 4.
+/// The first byte of a digest where the width is 8, the first 2 bytes, big-endian, where it is 16, and else the first 4.
 fn front_number(width: u32, digest: &[u8; 32]) -> u64
     ensures { result ≡ front_number width digest.now }
 {
+    if width == 8 {
+        return u64::from(digest[0]);
+    }
     if width == 16 {
         return u64::from(first_half(digest));
     }
@@ -198,37 +202,8 @@ fn first_bits(alloc: Global, sizes: &Sizes, number: u64) -> Result<Seq<bool>, No
     ensures { IfOk result (λ bits. bits ≡ first_bits sizes.now number) }
 {
     let digest = digest_at(sizes.letters, number, 2);
-    let bytes = digest.as_slice();
-    let mut bits = Vec::new(alloc);
-    for byte in bytes {
-        bits.extend_from_slice(&bits_of(*byte))?;
-    }
-    bits.truncate(sizes.lanes as usize);
-    Ok(Seq::from_vec(bits))
-}
-
-/// The bits of a byte, the most significant first.
-fn bits_of(byte: u8) -> [bool; 8]
-    ensures { result ≡ bits_of byte }
-{
-    [
-        bit_at(byte, 7),
-        bit_at(byte, 6),
-        bit_at(byte, 5),
-        bit_at(byte, 4),
-        bit_at(byte, 3),
-        bit_at(byte, 2),
-        bit_at(byte, 1),
-        bit_at(byte, 0),
-    ]
-}
-
-/// The bit at a place of a byte, the least significant at 0.
-fn bit_at(byte: u8, place: u32) -> bool
-    requires { place < 8 }
-    ensures { result ≡ (bit_at byte place == 1) }
-{
-    (byte >> place) % 2 == 1
+    let bits = leading_bits(alloc, &digest, sizes.lanes)?;
+    Ok(bits)
 }
 
 /// The other bit of each.

@@ -1,6 +1,6 @@
 use Rattle.std.proofs.Common.{◌≡◌, take, flat_map}
-use Rattle.vk_report.specs.Samples.{bits_of}
-use Rattle.vk_report.proofs.sample.first_bits.Given as goal
+use Rattle.vk_report.specs.Bits.{bits_of}
+use Rattle.vk_report.proofs.bits.leading_bits.Given as goal
 
 -- the bits so far are those of the bytes so far
 abbrev pub invariant-loop-byte : goal.invariant-loop-byte
