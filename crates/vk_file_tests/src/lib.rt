@@ -1,4 +1,5 @@
-//! Seals, boards and replies both ways, two replies side by side, bids, and files that are too long or fail.
+//! Seals, boards and replies both ways, two replies side by side, bids, files that are too long or fail, and the challenge of
+//! a file that comes in short pieces.
 #![tactic(auto)]
 
 #[cfg(test)]

@@ -1,5 +1,6 @@
 mod bids;
 mod board;
+mod coin;
 mod files;
 mod long;
 mod reply;

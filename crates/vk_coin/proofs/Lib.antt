@@ -1,0 +1,9 @@
+pub mod Xors
+pub mod Hashing
+pub mod Deriving
+pub mod Shown
+pub mod Forms
+pub mod Faults
+pub mod Unmet
+pub mod Joined
+pub mod Messages

@@ -1,0 +1,14 @@
+use Rattle.std.proofs.Common.{take, drop, ◌∙◌, arith}
+use Rattle.std.proofs.lemmas.Grind.{common_steps}
+use Rattle.vk_coin.proofs.Hashing.{hashed_more}
+use Rattle.vk_coin.proofs.derived.digest_behind.Goals as goal
+
+pub loop-at-preserved : goal.loop-at-preserved
+loop-at-preserved g c = record {
+  held = c.in_ok-count.ensures.shelf.held ∙ c.loop-at.invariant.held;
+  kept = c.in_ok-count.ensures.shelf.causes ∙ c.loop-at.invariant.kept;
+  wants = c.in_ok-count.ensures.wants ∙ c.loop-at.invariant.wants;
+  told = hashed_more (g.S.Shelf.held c.args.shelf.now) (g.S.Shelf.held c.loop-at.shelf) c.args.name.now (take c.min-room.result c.loop-at.piece) c.read_at.new.into (drop c.min-room.result c.loop-at.piece) c.loop-at.hasher c.update.new.self c.loop-at.at c.in_ok-count.count c.loop-at.invariant.held c.loop-at.invariant.told c.in_ok-count.ensures.count c.in_ok-count.ensures.bytes c.update.ensures;
+  within = grind (arith, common_steps);
+  room = grind (arith, common_steps);
+}
