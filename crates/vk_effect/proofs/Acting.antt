@@ -4,7 +4,7 @@ use Rattle.std.specs.Prelude.{option_map, IfSome, IfOk}
 use Rattle.vk_io.specs.Files.{Files, Told, Takes}
 use Rattle.vk_io.specs.declared.errors.OutsideErr.{OutsideErr}
 use Rattle.vk_keeper.specs.Ledgers.{Ledger}
-use Rattle.vk_effect.specs.Effects.{Effect, SaidValue, Stores, outside, says, stores}
+use Rattle.vk_effect.specs.Effects.{DeedValue, Effect, SaidValue, Stores, does, outside, says, stores}
 use Rattle.vk_effect.specs.Ends.{Acts, Ends, TakesPrefix}
 
 -- ---- what is told
@@ -28,6 +28,13 @@ read_and_said said (Some files) new ledger (Err stop) same is = inl (ap (λ left
 -- a command that was stopped where nothing had changed
 pub stopped_before : (effect : Effect) (old : Stores) (stop : OutsideErr) → Acts (Err stop) effect old old
 stopped_before effect old stop = inl refl
+
+-- a deed that was made ready by reading, and then done
+pub deed_acts : (found : Option DeedValue) (deed : DeedValue) (held between now : Option Files) (ledger : Option Ledger) (answer : Result SaidValue OutsideErr) → between ≡ held → IfSome found (λ expected. deed ≡ expected)
+    → Acts answer (does ledger deed) (stores between ledger) (stores now ledger) → IfSome (option_map (does ledger) found) (λ effect. Acts answer effect (stores held ledger) (stores now ledger))
+deed_acts None deed held between now ledger answer same is acts = tt
+deed_acts (Some expected) deed held between now ledger answer same is acts =
+    subst (λ files. Acts answer (does ledger expected) (stores files ledger) (stores now ledger)) same (subst (λ d. Acts answer (does ledger d) (stores between ledger) (stores now ledger)) is acts)
 
 -- ---- a whole command
 

@@ -2,3 +2,4 @@ pub mod PrintingLemmas
 pub mod Acting
 pub mod Sequences
 pub mod NamedFiles
+pub mod NamedValues

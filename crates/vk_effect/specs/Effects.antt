@@ -1,5 +1,5 @@
 -- What a command does where nothing outside fails and memory is given.
-use Rattle.std.specs.Prelude.{◌≡◌, ◌≢◌, ℕ, List, [], ◌++◌, Option, option_map}
+use Rattle.std.specs.Prelude.{◌≡◌, ◌≢◌, ℕ, List, [], ◌∷◌, ◌++◌, Option, option_map}
 use Rattle.vk_io.specs.Files.{Files}
 use Rattle.vk_io.specs.Writing.{written}
 use Rattle.vk_keeper.specs.Ledgers.{Ledger}
@@ -48,6 +48,24 @@ writes_and_says ledger writes said = record { status = said.status; text = said.
 -- the effect of saying this alone
 abbrev pub says : Option Ledger → SaidValue → Effect
 says ledger said = writes_and_says ledger [] said
+
+-- what a command does that leaves the ledger: the names and whole texts of the files that it writes, in order, and what it
+-- says then
+pub record DeedValue : Type 0 where
+  pub said : SaidValue
+  pub writes : List (List ℕ × List ℕ)
+
+-- it says this alone
+abbrev pub only_says : SaidValue → DeedValue
+only_says said = record { said = said; writes = [] }
+
+-- it writes this file, and says this
+abbrev pub writes_one : (name text : List ℕ) → SaidValue → DeedValue
+writes_one name text said = record { said = said; writes = (name, text) ∷ [] }
+
+-- its effect
+abbrev pub does : Option Ledger → DeedValue → Effect
+does ledger deed = writes_and_says ledger deed.writes deed.said
 
 -- a command that came to its end has no status of one that was stopped
 abbrev pub IsEnd : ℕ → Type 0

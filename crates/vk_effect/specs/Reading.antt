@@ -2,6 +2,7 @@
 use Rattle.std.specs.Prelude.{◌≡◌, ℕ, ◌^◌, ◌≤◌, nat_lt, if◌then◌else◌, List, length, Option, Some, None, option_map, Result, Ok, Err}
 use Rattle.std.specs.FinMap.{get}
 use Rattle.std.specs.Result.{result_err}
+use Rattle.vk_residue.specs.Steps.{◌>>=◌}
 use Rattle.vk_io.specs.declared.errors.OutsideErr.TheVariants as outside
 use Rattle.vk_io.specs.declared.errors.OutsideErr.{OutsideErr}
 use Rattle.vk_io.specs.Files.{Files}
@@ -28,6 +29,11 @@ abbrev pub value_in : {X : Type 0} → List ℕ → Result (X × Rest) ℕ → R
 value_in name (Ok read) = Ok read.0
 value_in name (Err number) = Err (malformed_said name number)
 
+-- the value that the file of that name is read as; or what is said of the first of these tests that fails: it is held and not
+-- too long, and then it is of its form
+unfoldable pub named_in : {X : Type 0} → (Rest → Result (X × Rest) ℕ) → Files → List ℕ → Result X SaidValue
+named_in read files name = begun_in name (get files name) >>= λ file. value_in name (read file)
+
 -- ---- what is answered of a file
 
 -- what is said of a file that can't be worked on. After a failure of the outside or want of memory nothing is said
@@ -48,6 +54,11 @@ said_or_stopped NoMemory = Err outside.NoMemory
 pub record IsFile (files : Files) (name text : List ℕ) : Type 0 where
   pub held : get files name ≡ Some text
   pub short : length text ≤ 2 ^ 30
+
+-- the file of that name holds the text of this value
+pub record IsFileOf {X : Type 0} (IsValue : X → Type 0) (text : X → List ℕ) (files : Files) (name : List ℕ) (value : X) : Type 0 where
+  pub right : IsValue value
+  pub file : IsFile files name (text value)
 
 -- what is said of a file that isn't held or is too long
 abbrev pub unheld_said : List ℕ → Option (List ℕ) → Option SaidValue

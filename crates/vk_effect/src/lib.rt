@@ -1,6 +1,7 @@
 //! What a command does to what is outside of it, and what it says.
 #![tactic(auto)]
 
+mod deed;
 mod dry;
 mod laws;
 mod named;
@@ -9,6 +10,7 @@ mod printing;
 mod reading;
 mod said;
 
+pub use deed::Deed;
 pub use dry::{bidder_dry_line, house_dry_line};
 pub use laws::{a_stop_is_after_some_of_the_commands, commands_one_after_another_are_one};
 pub use named::{malformed, missing, refused, too_long};
