@@ -5,8 +5,10 @@ use Rattle.std.specs.List.{AllByRecursion}
 use Rattle.std.specs.Option.{option_map_or}
 use Rattle.std.specs.Str.{bytes_eq}
 use Rattle.vk_residue.specs.Steps.{◌>>?◌}
-use Rattle.vk_words.specs.Commands.{AsksNoKeeper, CommandWords, Seal, Verify, Extract, Confront, Report, Sample, ClaimVerify, ClaimExtract, ClaimSample, command_by, command_words, first_asks, may_have}
+use Rattle.vk_words.specs.Commands.{AsksNoKeeper, CommandWords, Seal, Verify, Extract, Confront, Report, Sample, ClaimVerify, ClaimExtract, ClaimSample, Coin, command_by, command_words, first_asks, may_have}
+use Rattle.vk_words.specs.declared.table.Verb.TheVariants as verbs
 use Rattle.vk_words.specs.Claims.{kind_named}
+use Rattle.vk_words.specs.Coins.{coin_by}
 use Rattle.vk_words.specs.Names.{confront_in, extract_in, name_at, verify_in, word_at}
 use Rattle.vk_words.specs.Orders.{seal_in}
 use Rattle.vk_words.specs.Table.{Row, commands, row_of}
@@ -44,6 +46,9 @@ each_row =
     & (λ is words. made ClaimVerify (λ names. tt) (verify_in words))
     & (λ is words. made ClaimExtract (λ names. tt) (extract_in words))
     & (λ is words. made_behind (kind_named (word_at words 1)) _ (λ kind. made (ClaimSample kind) (λ number. tt) _))
+    & (λ is words. made Coin (λ order. tt) (coin_by verbs.CoinPart words))
+    & (λ is words. made Coin (λ order. tt) (coin_by verbs.CoinJoin words))
+    & (λ is words. made Coin (λ order. tt) (coin_by verbs.CoinBoard words))
     & tt
 
 of_word : (word : List ℕ) → IfSome (row_of word) AsksAsItSays

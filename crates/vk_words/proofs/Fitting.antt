@@ -11,6 +11,7 @@ use Rattle.vk_words.specs.declared.kinds.WordKind.TheVariants.{Width, Lanes, Res
 use Rattle.vk_words.specs.declared.table.Verb.{Verb}
 use Rattle.vk_words.specs.declared.table.Verb.TheVariants as verbs
 use Rattle.vk_words.specs.Claims.{kind_named}
+use Rattle.vk_words.specs.Coins.{challenge_in, part_in}
 use Rattle.vk_words.specs.Commands.{command_by, command_words, may_have}
 use Rattle.vk_words.specs.Hints.{first_unfit, hint_by, hint_in, is_of_kind, kinds_of}
 use Rattle.vk_words.specs.Names.{AttemptWords, attempt_at, confront_in, extract_in, is_name, name_at, verify_in, word_at}
@@ -136,6 +137,18 @@ announce_fits id words =
     of_then (number_token 1 40 (word_at words 2)) _ _ (λ width is.
     of_then (number_token 1 64 (word_at words 3)) _ _ (λ lanes _. reserve_fits id width lanes words is))
 
+part_fits : (words : List (List ℕ)) → is_some (part_in words) ≡ fit (kinds_of verbs.CoinPart) words 1
+unfolding part_in
+part_fits words =
+    of_then (id_at words 1) _ _ (λ auction _.
+    of_then (number_token 1 16 (word_at words 2)) _ _ (λ auditor _.
+    of_then (number_token 1 64 (word_at words 3)) _ _ (λ lanes _.
+    of_then (seed_at words 4) _ _ (λ seed _. named words 5 _ true (λ share. refl)))))
+
+challenge_fits : (words : List (List ℕ)) → is_some (challenge_in words) ≡ fit (kinds_of verbs.CoinJoin) words 1
+unfolding challenge_in
+challenge_fits words = others (is_name (word_at words 1)) (is_name (word_at words 2)) (word_at words 1) (word_at words 2) _
+
 fits : (verb : Verb) (words : List (List ℕ)) → is_some (command_by verb words) ≡ fit (kinds_of verb) words 1
 unfolding attempt_at
 fits verbs.Seal words = of_map _ (seal_in words) ∙ seal_fits words
@@ -155,6 +168,9 @@ fits verbs.ClaimVerify words = of_map _ (verify_in words) ∙ verify_fits words
 fits verbs.ClaimExtract words = of_map _ (extract_in words) ∙ extract_fits words
 fits verbs.ClaimSample words =
     of_then (kind_named (word_at words 1)) _ _ (λ kind _. of_map _ (decimal_of (2 ^ 64 - 1) (word_at words 2)) ∙ and_true _)
+fits verbs.CoinPart words = of_map _ _ ∙ of_map _ (part_in words) ∙ part_fits words
+fits verbs.CoinJoin words = of_map _ _ ∙ of_map _ (challenge_in words) ∙ challenge_fits words
+fits verbs.CoinBoard words = of_map _ _ ∙ of_map _ (challenge_in words) ∙ challenge_fits words
 
 -- ---- hints
 

@@ -24,12 +24,12 @@ pub usage_text-listed : usage_text ≡ all_listed ++ 10 ∷ []
 unfolding commands usage_text all_listed
 usage_text-listed = refl
 
-length-all_listed : length all_listed ≡ 140
+length-all_listed : length all_listed ≡ 171
 unfolding commands all_listed
 length-all_listed = refl
 
 -- a part of the line fits
-pub part_fits : (text rest : List ℕ) → text ++ rest ≡ all_listed → length text ≤ 140
+pub part_fits : (text rest : List ℕ) → text ++ rest ≡ all_listed → length text ≤ 171
 part_fits text rest is = omega (arith, ap length is, length-append text rest, length-all_listed)
 
 -- one row more

@@ -18,7 +18,7 @@ first & others = (first, others)
 pub each_is_found : All (λ row. row_of row.name ≡ Some row) commands
 unfolding commands row_of
 each_is_found =
-    All-from_recursion (λ row. row_of row.name ≡ Some row) commands (refl & refl & refl & refl & refl & refl & refl & refl & refl & refl & refl & refl & refl & refl & refl & tt)
+    All-from_recursion (λ row. row_of row.name ≡ Some row) commands (refl & refl & refl & refl & refl & refl & refl & refl & refl & refl & refl & refl & refl & refl & refl & refl & refl & refl & tt)
 
 -- whether a row has that name
 abbrev has_name : List ℕ → CommandRow → Bool

@@ -9,6 +9,7 @@ use Rattle.vk_words.specs.declared.table.Verb.{Verb}
 use Rattle.vk_words.specs.declared.table.Verb.TheVariants as verbs
 use Rattle.vk_words.specs.Claims.{kind_named}
 use Rattle.vk_words.specs.declared.claim.ClaimKind.{ClaimKind}
+use Rattle.vk_words.specs.Coins.{CoinWords, IsCoinOrder, coin_by, coin_seen}
 use Rattle.vk_words.specs.Names.{ConfrontWords, ExtractWords, VerifyWords, confront_in, confront_seen, extract_in, extract_seen, name_at, verify_in, verify_seen, word_at}
 use Rattle.vk_words.specs.Orders.{HouseWords, IsHouseOrder, IsSealOrder, SealWords, house_by, house_seen, seal_in, seal_seen}
 use Rattle.vk_words.specs.Table.{Row, row_of}
@@ -26,6 +27,7 @@ pub data CommandWords : Type 0 where
   ClaimVerify : VerifyWords → CommandWords
   ClaimExtract : ExtractWords → CommandWords
   ClaimSample : ClaimKind → ℕ → CommandWords
+  Coin : CoinWords → CommandWords
 
 abbrev pub command_seen : Command → CommandWords
 command_seen (commands.Seal order) = Seal (seal_seen order)
@@ -39,11 +41,13 @@ command_seen (commands.Ceremony script) = Ceremony script.now
 command_seen (commands.ClaimVerify names) = ClaimVerify (verify_seen names)
 command_seen (commands.ClaimExtract names) = ClaimExtract (extract_seen names)
 command_seen (commands.ClaimSample kind number) = ClaimSample kind number
+command_seen (commands.Coin order) = Coin (coin_seen order)
 
--- its numbers are those that making a seal, and the house, ask for
+-- its numbers are those that making a seal, the house, and drawing a share ask for
 abbrev pub IsCommand : Command → Type 0
 IsCommand (commands.Seal order) = IsSealOrder (seal_seen order)
 IsCommand (commands.House order) = IsHouseOrder order
+IsCommand (commands.Coin order) = IsCoinOrder order
 IsCommand command = Unit {0}
 
 -- KIND NUMBER behind the first word
@@ -62,6 +66,9 @@ command_by verbs.Ceremony words = option_map Ceremony (name_at words 1)
 command_by verbs.ClaimVerify words = option_map ClaimVerify (verify_in words)
 command_by verbs.ClaimExtract words = option_map ClaimExtract (extract_in words)
 command_by verbs.ClaimSample words = claim_sample_in words
+command_by verbs.CoinPart words = option_map Coin (coin_by verbs.CoinPart words)
+command_by verbs.CoinJoin words = option_map Coin (coin_by verbs.CoinJoin words)
+command_by verbs.CoinBoard words = option_map Coin (coin_by verbs.CoinBoard words)
 command_by verb words = option_map House (house_by verb words)
 
 -- whether a command may have that many words

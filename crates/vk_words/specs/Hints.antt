@@ -5,7 +5,7 @@ use Rattle.vk_lines.specs.Tokens.{decimal_of, number_token}
 use Rattle.vk_words.specs.declared.hints.Hint.{Hint}
 use Rattle.vk_words.specs.declared.hints.Hint.TheVariants.{Command, Count, Word}
 use Rattle.vk_words.specs.declared.kinds.WordKind.{WordKind}
-use Rattle.vk_words.specs.declared.kinds.WordKind.TheVariants.{Id, Seed, Seat, Width, Lanes, Number, Reserve, Name, OtherName, Kind}
+use Rattle.vk_words.specs.declared.kinds.WordKind.TheVariants.{Id, Seed, Seat, Auditor, Width, Lanes, Number, Reserve, Name, OtherName, Kind}
 use Rattle.vk_words.specs.declared.table.Verb.{Verb}
 use Rattle.vk_words.specs.declared.table.Verb.TheVariants as verbs
 use Rattle.vk_words.specs.Claims.{kind_named}
@@ -31,6 +31,9 @@ kinds_of verbs.Ceremony = Name ∷ []
 kinds_of verbs.ClaimVerify = Name ∷ Name ∷ Name ∷ []
 kinds_of verbs.ClaimExtract = Name ∷ Name ∷ Name ∷ Name ∷ Name ∷ []
 kinds_of verbs.ClaimSample = Kind ∷ Number ∷ []
+kinds_of verbs.CoinPart = Id ∷ Auditor ∷ Lanes ∷ Seed ∷ Name ∷ []
+kinds_of verbs.CoinJoin = Name ∷ OtherName ∷ []
+kinds_of verbs.CoinBoard = Name ∷ OtherName ∷ []
 
 -- the greatest reserve under the width that stands in the third word, 0 where no width stands there
 abbrev pub most_reserve : List (List ℕ) → ℕ
@@ -41,6 +44,7 @@ abbrev pub is_of_kind : WordKind → List (List ℕ) → ℕ → Bool
 is_of_kind Id words place = is_some (id_at words place)
 is_of_kind Seed words place = is_some (seed_at words place)
 is_of_kind Seat words place = is_some (number_token 1 65535 (word_at words place))
+is_of_kind Auditor words place = is_some (number_token 1 16 (word_at words place))
 is_of_kind Width words place = is_some (number_token 1 40 (word_at words place))
 is_of_kind Lanes words place = is_some (number_token 1 64 (word_at words place))
 is_of_kind Number words place = is_some (decimal_of (2 ^ 64 - 1) (word_at words place))
@@ -74,13 +78,14 @@ abbrev pub kind_text : WordKind → List ℕ
 kind_text Id = codes "an id, 32 hexadecimal digits in lower case"
 kind_text Seed = codes "a seed, 64 hexadecimal digits in lower case"
 kind_text Seat = codes "a seat, a whole number from 1 to 65535 with no 0 in front"
+kind_text Auditor = codes "an auditor's number, from 1 to 16 with no 0 in front"
 kind_text Width = codes "a width, a whole number from 1 to 40 with no 0 in front"
 kind_text Lanes = codes "a number of lanes, from 1 to 64 with no 0 in front"
 kind_text Number = codes "a whole number below 2^64 with no 0 in front"
 kind_text Reserve = codes "a reserve, a whole number below 2^WIDTH with no 0 in front"
 kind_text Name = codes "the name of a file, of 1 to 255 bytes"
 kind_text OtherName = codes "the name of a file, of 1 to 255 bytes, and not the word before it"
-kind_text Kind = codes "a kind of claims, which is uniform"
+kind_text Kind = codes "a kind of claims, which is uniform or matching"
 
 -- how many words stand behind a command's name
 abbrev pub many_text : (fewest most : ℕ) → List ℕ

@@ -3,6 +3,7 @@ pub mod Table
 pub mod Usage
 pub mod Orders
 pub mod Claims
+pub mod Coins
 pub mod Commands
 pub mod Scripts
 pub mod Hints

@@ -4,7 +4,7 @@ use Rattle.std.specs.List.{find}
 use Rattle.std.specs.Str.{bytes_eq}
 use Rattle.vk_words.specs.declared.table.CommandRow.{CommandRow}
 use Rattle.vk_words.specs.declared.table.Verb.{Verb}
-use Rattle.vk_words.specs.declared.table.Verb.TheVariants.{Seal, Announce, Submit, Prove, Answer, Show, Verify, Extract, Confront, Report, Sample, Ceremony, ClaimVerify, ClaimExtract, ClaimSample}
+use Rattle.vk_words.specs.declared.table.Verb.TheVariants.{Seal, Announce, Submit, Prove, Answer, Show, Verify, Extract, Confront, Report, Sample, Ceremony, ClaimVerify, ClaimExtract, ClaimSample, CoinPart, CoinJoin, CoinBoard}
 
 -- a command: the word that names it, the fewest and the most words that it has, that one included, and whether it asks
 -- the keeper of the house, as the commands of the house do and a ceremony of such
@@ -33,6 +33,9 @@ commands =
     ∷ record { name = codes "claim-verify"; verb = ClaimVerify; words = 4; most = 4; asks_house = false }
     ∷ record { name = codes "claim-extract"; verb = ClaimExtract; words = 6; most = 6; asks_house = false }
     ∷ record { name = codes "claim-sample"; verb = ClaimSample; words = 3; most = 3; asks_house = false }
+    ∷ record { name = codes "coin-part"; verb = CoinPart; words = 6; most = 6; asks_house = false }
+    ∷ record { name = codes "coin-join"; verb = CoinJoin; words = 3; most = 3; asks_house = false }
+    ∷ record { name = codes "coin-board"; verb = CoinBoard; words = 3; most = 3; asks_house = false }
     ∷ []
 
 -- the first command of that name

@@ -17,13 +17,14 @@ fn kind_text(kind: WordKind) -> &'static str
         WordKind::Id => "an id, 32 hexadecimal digits in lower case",
         WordKind::Seed => "a seed, 64 hexadecimal digits in lower case",
         WordKind::Seat => "a seat, a whole number from 1 to 65535 with no 0 in front",
+        WordKind::Auditor => "an auditor's number, from 1 to 16 with no 0 in front",
         WordKind::Width => "a width, a whole number from 1 to 40 with no 0 in front",
         WordKind::Lanes => "a number of lanes, from 1 to 64 with no 0 in front",
         WordKind::Number => "a whole number below 2^64 with no 0 in front",
         WordKind::Reserve => "a reserve, a whole number below 2^WIDTH with no 0 in front",
         WordKind::Name => "the name of a file, of 1 to 255 bytes",
         WordKind::OtherName => "the name of a file, of 1 to 255 bytes, and not the word before it",
-        WordKind::Kind => "a kind of claims, which is uniform",
+        WordKind::Kind => "a kind of claims, which is uniform or matching",
     }
 }
 

@@ -8,6 +8,8 @@ ghost use Rattle.vk_words.specs.Claims.{kind_named};
 pub enum ClaimKind {
     /// One price for several equal units.
     Uniform,
+    /// A matching without a blocking pair.
+    Matching,
 }
 
 /// The kind that the word names.
@@ -16,6 +18,8 @@ pub fn claim_kind(word: &str) -> Option<ClaimKind>
 {
     if word == "uniform" {
         Some(ClaimKind::Uniform)
+    } else if word == "matching" {
+        Some(ClaimKind::Matching)
     } else {
         None
     }

@@ -5,6 +5,7 @@ ghost use Rattle.vk_words.specs.Commands.{AsksNoKeeper, IsCommand, command_by, c
 ghost use Rattle.vk_words.specs.Orders.{IsHouseOrder, house_seen};
 
 use crate::claim::{ClaimKind, claim_kind};
+use crate::coins::{CoinOrder, coin_order};
 use crate::names::{
     ConfrontNames, ExtractNames, VerifyNames, confront_names, extract_names, verify_names,
 };
@@ -32,6 +33,8 @@ pub enum Command<'a> {
     ClaimExtract(ExtractNames<'a>),
     /// The kind of the sample's claim, and its number.
     ClaimSample { kind: ClaimKind, number: u64 },
+    /// A challenge that the auctioneer doesn't choose, or a share of one.
+    Coin(CoinOrder<'a>),
 }
 
 /// The command of that first word, by the words behind it.
@@ -56,6 +59,9 @@ fn command_by(verb: Verb, words: &[String]) -> Option<Command<'_>>
             let kind = claim_kind(word(words, 1))?;
             let number = read_decimal(word(words, 2).as_bytes(), u64::MAX)?;
             Command::ClaimSample { kind, number }
+        }
+        Verb::CoinPart | Verb::CoinJoin | Verb::CoinBoard => {
+            Command::Coin(coin_order(verb, words)?)
         }
     };
     Some(command)

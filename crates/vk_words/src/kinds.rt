@@ -17,6 +17,8 @@ pub enum WordKind {
     Seed,
     /// 1 to 65535.
     Seat,
+    /// 1 to 16.
+    Auditor,
     /// 1 to 40.
     Width,
     /// 1 to 64.
@@ -38,7 +40,7 @@ pub fn kinds_of(verb: Verb) -> &'static [WordKind]
     ensures kinds { result.now ≡ kinds_of verb }
     ensures few { length result.now ≤ 8 }
 {
-    use WordKind::{Id, Kind, Lanes, Name, Number, OtherName, Reserve, Seat, Seed, Width};
+    use WordKind::{Auditor, Id, Kind, Lanes, Name, Number, OtherName, Reserve, Seat, Seed, Width};
     match verb {
         Verb::Seal => &[Id, Seat, Number, Width, Lanes, Seed, Name, OtherName],
         Verb::Announce => &[Id, Width, Lanes, Reserve],
@@ -52,6 +54,8 @@ pub fn kinds_of(verb: Verb) -> &'static [WordKind]
         Verb::Report | Verb::Ceremony => &[Name],
         Verb::Sample => &[Number],
         Verb::ClaimSample => &[Kind, Number],
+        Verb::CoinPart => &[Id, Auditor, Lanes, Seed, Name],
+        Verb::CoinJoin | Verb::CoinBoard => &[Name, OtherName],
     }
 }
 
@@ -75,6 +79,7 @@ pub fn is_of_kind(kind: WordKind, words: &[String], place: usize) -> bool
         WordKind::Id => read_hex16(text.as_bytes()).is_some(),
         WordKind::Seed => read_hex32(text.as_bytes()).is_some(),
         WordKind::Seat => count(text, 65535).is_some(),
+        WordKind::Auditor => count(text, 16).is_some(),
         WordKind::Width => count(text, 40).is_some(),
         WordKind::Lanes => count(text, 64).is_some(),
         WordKind::Number => read_decimal(text.as_bytes(), u64::MAX).is_some(),

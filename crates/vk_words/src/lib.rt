@@ -3,6 +3,7 @@
 
 mod advice;
 mod claim;
+mod coins;
 mod command;
 mod hints;
 mod kinds;
@@ -16,6 +17,7 @@ mod word;
 
 pub use advice::hint_line;
 pub use claim::ClaimKind;
+pub use coins::{ChallengeNames, CoinOrder, PartOrder};
 pub use command::{Command, command_of, house_order_of, may_ask_house};
 pub use hints::{Hint, hint_of};
 pub use kinds::WordKind;

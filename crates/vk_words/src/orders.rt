@@ -67,7 +67,7 @@ pub enum HouseOrder<'a> {
 }
 
 /// The id at that place.
-fn id(words: &[String], place: usize) -> Option<[u8; 16]>
+pub fn id(words: &[String], place: usize) -> Option<[u8; 16]>
     ensures { result ≡ id_at (map string_bytes words.now) place }
 {
     let id = read_hex16(word(words, place).as_bytes());
@@ -75,7 +75,7 @@ fn id(words: &[String], place: usize) -> Option<[u8; 16]>
 }
 
 /// The seed at that place.
-fn seed(words: &[String], place: usize) -> Option<[u8; 32]>
+pub fn seed(words: &[String], place: usize) -> Option<[u8; 32]>
     ensures { result ≡ seed_at (map string_bytes words.now) place }
 {
     let seed = read_hex32(word(words, place).as_bytes());

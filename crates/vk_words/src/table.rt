@@ -24,6 +24,9 @@ pub enum Verb {
     ClaimVerify,
     ClaimExtract,
     ClaimSample,
+    CoinPart,
+    CoinJoin,
+    CoinBoard,
 }
 
 /// What is asked of the words of a command.
@@ -41,7 +44,7 @@ pub struct CommandRow {
 }
 
 /// The commands, in the order of the usage line.
-static COMMANDS: [CommandRow; 15] = [
+static COMMANDS: [CommandRow; 18] = [
     CommandRow {
         name: "seal",
         verb: Verb::Seal,
@@ -143,6 +146,27 @@ static COMMANDS: [CommandRow; 15] = [
     CommandRow {
         name: "claim-sample",
         verb: Verb::ClaimSample,
+        words: 3,
+        most: 3,
+        asks_house: false,
+    },
+    CommandRow {
+        name: "coin-part",
+        verb: Verb::CoinPart,
+        words: 6,
+        most: 6,
+        asks_house: false,
+    },
+    CommandRow {
+        name: "coin-join",
+        verb: Verb::CoinJoin,
+        words: 3,
+        most: 3,
+        asks_house: false,
+    },
+    CommandRow {
+        name: "coin-board",
+        verb: Verb::CoinBoard,
         words: 3,
         most: 3,
         asks_house: false,
