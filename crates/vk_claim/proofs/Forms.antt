@@ -1,12 +1,14 @@
 -- Claim files are read from their texts alone.
-use Rattle.std.proofs.Common.{◌≡◌, ℕ, ◌^◌, ◌-◌, ◌≤◌, ◌<◌, List, [], ◌∷◌, ◌++◌, length, codes, decimal, flat_map, true, Option, Some, None, option_map, Result, Ok, refl, ap, arith}
+use Rattle.std.proofs.Common.{◌≡◌, ℕ, ◌^◌, ◌-◌, ◌≤◌, ◌<◌, if◌then◌else◌, List, [], ◌∷◌, ◌++◌, length, codes, decimal, flat_map, Bool, true, false, Some, None, Result, Ok, refl, ap, arith}
 use Rattle.std.specs.List.{AllByRecursion}
+use Rattle.std.specs.Str.{bytes_eq}
+use Rattle.std.proofs.lemmas.Slice.Eq.{bytes_eq-Decides}
 use Rattle.hex.specs.Hex.{IsBytes}
 use Rattle.vk_residue.specs.Steps.{◌>>=◌}
 use Rattle.vk_lines.specs.Lines.{Rest, line_by}
 use Rattle.vk_lines.specs.Forms.{line, spaced, is_word, EachAfter, IsLine, IsPart, IsToken, IsWhole}
-use Rattle.vk_lines.specs.Tokens.{hex_text, id_line, number_line, word_of}
-use Rattle.vk_lines.proofs.Words.{below_from, below_to, from_test, id_line_is, number_line_is, one_line, to_test, word_shown, InRange}
+use Rattle.vk_lines.specs.Tokens.{hex_text, id_line, number_line}
+use Rattle.vk_lines.proofs.Words.{below_from, below_to, from_test, id_line_is, number_line_is, one_line, to_test, InRange}
 use Rattle.vk_lines.proofs.Parts.{all_from_each, each_from_all, line_part, many_part, part_headed, part_last, part_same, part_then, whole_same, whole_then}
 use Rattle.vk_board.specs.Values.{AreSealsOf, Shape}
 use Rattle.vk_board.specs.Texts.{behind_text, seal_lines_text}
@@ -14,7 +16,7 @@ use Rattle.vk_board.proofs.Boards.{BehindOf, behind_is_whole}
 use Rattle.vk_board.proofs.Forms.{seal_lines_are_part}
 use Rattle.vk_claim.specs.declared.head.ClaimHead.{ClaimHead}
 use Rattle.vk_claim.specs.declared.head.Kind.{Kind}
-use Rattle.vk_claim.specs.declared.head.Kind.TheVariants.{Uniform}
+use Rattle.vk_claim.specs.declared.head.Kind.TheVariants.{Uniform, Matching}
 use Rattle.vk_claim.specs.Values.{AreNumbers, IsClaimFile, IsClaimFront, IsClaimHead, claim_frame}
 use Rattle.vk_claim.specs.Texts.{claim_front_text, claim_head_text, claim_text, kind_word, numbers_text}
 use Rattle.vk_claim.specs.Reading.{claim_file_at, claim_file_with, claim_front_at, claim_front_with, claim_head_at, head_with, kind_line, kind_of, n_line, numbers_at}
@@ -23,22 +25,41 @@ use Rattle.vk_claim.specs.Reading.{claim_file_at, claim_file_with, claim_front_a
 
 kind_found : (kind : Kind) → kind_of (kind_word kind) ≡ Some kind
 kind_found Uniform = refl
+kind_found Matching = refl
 
-kind_shown : (word : List ℕ) (read : Option Unit) (kind : Kind) → word_of (codes "uniform") word ≡ read
-    → ◌≡◌ {A = Option Kind} (option_map (λ _. Uniform) read) (Some kind) → word ≡ kind_word kind
-kind_shown word (Some tt) Uniform is some = word_shown (codes "uniform") word is
-kind_shown word None kind is some = cc
+-- which of the two tests a kind passes
+abbrev IsTested : Bool → Bool → Kind → Type 0
+IsTested uniform matching Uniform = uniform ≡ true
+IsTested uniform matching Matching = matching ≡ true
+
+kind_tested : (uniform matching : Bool) (kind : Kind)
+    → (if uniform then Some Uniform else if matching then Some Matching else None) ≡ Some kind → IsTested uniform matching kind
+kind_tested true matching Uniform some = refl
+kind_tested true matching Matching some = cc
+kind_tested false true Uniform some = cc
+kind_tested false true Matching some = refl
+kind_tested false false kind some = cc
+
+kind_shown : (word : List ℕ) (kind : Kind) → kind_of word ≡ Some kind → word ≡ kind_word kind
+kind_shown word Uniform some =
+    (bytes_eq-Decides word (codes "uniform")).0
+    (kind_tested (bytes_eq word (codes "uniform")) (bytes_eq word (codes "matching")) Uniform some)
+kind_shown word Matching some =
+    (bytes_eq-Decides word (codes "matching")).0
+    (kind_tested (bytes_eq word (codes "uniform")) (bytes_eq word (codes "matching")) Matching some)
 
 kind_plain : (kind : Kind) → is_word (kind_word kind) ≡ true
 kind_plain Uniform = refl
+kind_plain Matching = refl
 
-kind_short : (kind : Kind) → length (kind_word kind) ≤ 7
+kind_short : (kind : Kind) → length (kind_word kind) ≤ 8
 kind_short Uniform = omega arith
+kind_short Matching = omega arith
 
-kind_token : IsToken 7 (λ kind. Unit {0}) kind_word kind_of
+kind_token : IsToken 8 (λ kind. Unit {0}) kind_word kind_of
 kind_token = record {
   found = λ kind is. kind_found kind;
-  shown = λ word kind some. (tt, kind_shown word (word_of (codes "uniform") word) kind refl some);
+  shown = λ word kind some. (tt, kind_shown word kind some);
   word = λ kind is. kind_plain kind;
   short = λ kind is. kind_short kind;
 }

@@ -27,9 +27,9 @@ pub fn read_claim_front<S: Shelf>(
     shelf: &mut S,
     lines: &mut Lines,
 ) -> Result<ClaimFront, ReadErr>
+    ensures file { KeepsFile lines.old lines.new }
     ensures told { ReadsPart claim_front_at (S.held shelf.old) lines.old lines.new result }
     ensures right { IfOk result IsClaimFront }
-    ensures file { KeepsFile lines.old lines.new }
     ensures shelf { OnlyReads S.held S.Shelf.faults ReadErr.Failed result shelf.old shelf.new }
 {
     let head = read_claim_head(alloc, shelf, lines)?;

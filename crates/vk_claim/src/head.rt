@@ -5,7 +5,7 @@ ghost use Rattle.vk_lines.specs.Forms.{line, spaced};
 ghost use Rattle.vk_lines.specs.Lines.{KeepsFile, OnlyReads, ReadsPart, line_by};
 ghost use Rattle.vk_claim.specs.Values.{AreNumbers, IsClaimHead};
 ghost use Rattle.vk_claim.specs.Texts.{claim_head_text, kind_word, numbers_text};
-ghost use Rattle.vk_claim.specs.Reading.{claim_head_at, kind_line, numbers_at};
+ghost use Rattle.vk_claim.specs.Reading.{claim_head_at, kind_line, kind_of, numbers_at};
 
 use std::alloc::Global;
 use vk_io::Shelf;
@@ -21,6 +21,8 @@ use vk_seq::Seq;
 pub enum Kind {
     /// Several equal units are sold at one price.
     Uniform,
+    /// No man and woman who aren't matched rank each other better than their own.
+    Matching,
 }
 
 /// What a claim file says before its first seal: the auction, and the public part, which is the kind, the number of
@@ -29,12 +31,12 @@ pub enum Kind {
 pub struct ClaimHead {
     pub auction: [u8; 16],
     pub kind: Kind,
-    /// 1 to 64.
-    pub lanes: u32,
-    /// How many seals there are, 1 to 512.
-    pub inputs: u32,
     /// What the circuit is of, 1 to 128 numbers.
     pub numbers: Seq<u64>,
+    /// How many seals there are, 1 to 512.
+    pub inputs: u32,
+    /// 1 to 64.
+    pub lanes: u32,
 }
 
 /// Reads the head of a claim file. Malformed carries the number of the first line that isn't what its
@@ -45,10 +47,10 @@ pub fn read_claim_head<S: Shelf>(
     shelf: &mut S,
     lines: &mut Lines,
 ) -> Result<ClaimHead, ReadErr>
+    ensures shelf { OnlyReads S.held S.Shelf.faults ReadErr.Failed result shelf.old shelf.new }
     ensures told { ReadsPart claim_head_at (S.held shelf.old) lines.old lines.new result }
     ensures right { IfOk result IsClaimHead }
     ensures file { KeepsFile lines.old lines.new }
-    ensures shelf { OnlyReads S.held S.Shelf.faults ReadErr.Failed result shelf.old shelf.new }
 {
     lines.read_fixed(shelf, b"vickrey-claim 1")?;
     let auction = lines.read_id(shelf, b"auction")?;
@@ -82,8 +84,21 @@ fn kind_of(text: &[u8]) -> Option<Kind>
     ensures { result ≡ kind_line text.now }
 {
     let word = one_field(behind_word(text, b"kind")?)?;
-    read_word(word, b"uniform")?;
-    Some(Kind::Uniform)
+    let kind = kind_named(word)?;
+    Some(kind)
+}
+
+/// The kind that a word names.
+fn kind_named(word: &[u8]) -> Option<Kind>
+    ensures { result ≡ kind_of word.now }
+{
+    if read_word(word, b"uniform").is_some() {
+        Some(Kind::Uniform)
+    } else if read_word(word, b"matching").is_some() {
+        Some(Kind::Matching)
+    } else {
+        None
+    }
 }
 
 /// Reads how many numbers there are, and then each.
@@ -145,6 +160,10 @@ fn push_kind(out: &mut Vec<u8>, kind: Kind) -> Result<(), NoMemory>
     match kind {
         Kind::Uniform => {
             push_line(out, b"kind uniform")?;
+            Ok(())
+        }
+        Kind::Matching => {
+            push_line(out, b"kind matching")?;
             Ok(())
         }
     }

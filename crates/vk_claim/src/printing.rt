@@ -33,6 +33,7 @@ fn kind_line(kind: Kind) -> &'static str
 {
     match kind {
         Kind::Uniform => "kind uniform\n",
+        Kind::Matching => "kind matching\n",
     }
 }
 

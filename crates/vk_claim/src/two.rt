@@ -59,12 +59,12 @@ impl ClaimChecker {
         challenge2: &str,
         reply2: &str,
     ) -> Result<Self, VErr>
+        ensures shelf { OnlyReads S.held S.Shelf.faults VErr.Failed result shelf.old shelf.new }
         ensures told { IfSome (S.held shelf.old) (λ files. Gives unread_file (λ checker. claim_ahead checker files) result
             (two_claims_on (Q.admitted circuits.now) files board.now challenge1.now reply1.now challenge2.now reply2.now)) }
         ensures base { IfSome (S.held shelf.old) (λ files. Gives unread_file (λ checker. claim_base checker) result
             (claim_base_on (Q.admitted circuits.now) files board.now challenge1.now reply1.now challenge2.now reply2.now)) }
         ensures none_given { IfOk result (λ checker. claim_given checker ≡ 0) }
-        ensures shelf { OnlyReads S.held S.Shelf.faults VErr.Failed result shelf.old shelf.new }
     {
         let two = begin_two(
             alloc,
@@ -177,7 +177,7 @@ fn check_claim<S: Shelf, Q: Circuits>(
     let mut two = two;
     match read_claim(alloc, shelf, circuits, &mut two.readers.pair.board)? {
         Ok(claim) => {
-            let course = begin_course(alloc, shelf, claim, two)?;
+            let course = begin_course(alloc, claim, shelf, two)?;
             Ok(ClaimChecker { course: Ok(course) })
         }
         Err(verdict) => Ok(ClaimChecker {
@@ -189,8 +189,8 @@ fn check_claim<S: Shelf, Q: Circuits>(
 /// Reads both challenges and the heads of both replies, behind the front of this claim.
 fn begin_course<S: Shelf>(
     alloc: Global,
-    shelf: &mut S,
     claim: Claim,
+    shelf: &mut S,
     two: TwoAttempts,
 ) -> Result<ClaimCourse, OutsideErr>
     requires { IsOfHead claim.head claim.statement }

@@ -21,8 +21,6 @@ pub enum ClaimVerdict {
     Accepted,
     /// The public part is not admitted.
     Public,
-    /// The challenge's bits, or the reply's lanes, aren't as many as the claim file's lanes.
-    Lanes,
     /// The file is not of its form. The line, counted from 1, is the first that isn't what its place demands.
     Malformed {
         part: Part,
@@ -40,6 +38,8 @@ pub enum ClaimVerdict {
         wire: u32,
         fault: WireFault,
     },
+    /// The challenge's bits, or the reply's lanes, aren't as many as the claim file's lanes.
+    Lanes,
 }
 
 impl From<Fault> for ClaimVerdict {
@@ -47,10 +47,10 @@ impl From<Fault> for ClaimVerdict {
 
     fn from(fault: Fault) -> ClaimVerdict {
         match fault {
-            Fault::Lanes => ClaimVerdict::Lanes,
             Fault::Malformed { part, line } => ClaimVerdict::Malformed { part, line },
             Fault::Row { lane, row } => ClaimVerdict::Row { lane, row },
             Fault::Wire { lane, wire, fault } => ClaimVerdict::Wire { lane, wire, fault },
+            Fault::Lanes => ClaimVerdict::Lanes,
         }
     }
 }
