@@ -250,16 +250,7 @@ only_held files names (Ok (Clash clash)) holds zero_is = absurd (omega arith)
 only_held files names (Ok (Held seat)) holds zero_is =
     let comes = holds.holds in
     record {
-      confronts = record {
-        held = holds.held;
-        two = comes.two;
-        agree = comes.bids.agree;
-        file = holds.file;
-        file_is = holds.file_is;
-        secret = comes.secret;
-        right = comes.right;
-        text = comes.text;
-      };
+      confronts = record { held = holds.held; two = comes.two; agree = comes.bids.agree; file = holds.file; file_is = holds.file_is; secret = comes.secret; right = comes.right; text = comes.text };
       found = comes.found;
       bids = comes.bids;
       held = comes.comes.1;

@@ -7,7 +7,6 @@ use Rattle.vk_verifier.specs.declared.answers.Part.{Part}
 use Rattle.vk_verifier.specs.declared.answers.BoardVerdict.{BoardVerdict}
 use Rattle.vk_verifier.specs.declared.answers.BoardVerdict.TheVariants as verdict
 use Rattle.vk_verifier.specs.declared.answers.VErr.{VErr}
-use Rattle.vk_verifier.specs.declared.answers.VErr.TheVariants.{Missing, TooLong, Failed, NoMemory}
 use Rattle.vk_verifier.specs.TwoBoards.{ahead_at, base_on, two_on}
 use Rattle.vk_bids.specs.declared.extraction.Extraction.TheVariants.{Refused, Same, Clash, Bids}
 use Rattle.vk_bids.specs.Extraction.{Extraction, extraction_of, extraction_on}
@@ -20,13 +19,13 @@ use Rattle.vk_effect.specs.Effects.{SaidValue, puts}
 use Rattle.vk_audit.specs.Answers.{ExtractHolds, SettlesExtract, TellsExtractions}
 use Rattle.vk_audit.specs.Extractions.{extraction_said, extract_said}
 use Rattle.vk_audit.specs.Findings.{ExtractionHolds}
-use Rattle.vk_audit.specs.Inputs.{HoldsFiles}
+use Rattle.vk_audit.specs.Inputs.{HoldsFiles, extract_inputs}
 use Rattle.vk_audit.specs.Statuses.{AcceptsTwoFiles, AcceptsSameFiles, ExtractsExactly, HasExtraction, IsExtracted, PutsExtraction, PutsClash, TellsSameExactly}
 use Rattle.vk_audit.specs.Verdicts.{answer_said, name_of, unread_said}
 use Rattle.vk_audit.proofs.Findings.{extraction_holds, second_accepted, unfound_found}
 use Rattle.vk_audit.proofs.Answered.{answered_holds, answered_settled, extract_parts, files_held, files_unread}
 use Rattle.vk_audit.proofs.Inputs.{fault_of, first_unread}
-use Rattle.vk_audit.proofs.Telling.{tells}
+use Rattle.vk_audit.proofs.Telling.{only_found, only_same, second_refused, tells}
 use Rattle.vk_audit.proofs.Verifying.{status_accepted, status_within}
 
 -- ---- the answer
@@ -109,22 +108,18 @@ pub refused_never : (second : Bool) (refused : BoardVerdict) (board first_challe
     → ExtractionHolds (Refused second refused) board first_challenge first_reply second_challenge second_reply → refused ≢ verdict.Accepted
 refused_never false refused board first_challenge first_reply second_challenge second_reply holds = holds.0
 refused_never true refused board first_challenge first_reply second_challenge second_reply holds =
-    let fails = holds.1 in
-    λ same. fails.refuses (second_accepted fails.fault (sym fails.verdict_is ∙ same))
+    second_refused second_accepted holds.1
 
 only_said : (files : Files) (names : ExtractWords) (answered : Result Extraction VErr) → ExtractHolds files names answered
     → (said_of files names answered).status ≢ 1 → (said_of files names answered).status < 4 → AcceptsTwoFiles files names
-only_said files names (Err (Missing file)) holds other small = absurd (omega arith)
-only_said files names (Err (TooLong file)) holds other small = absurd (omega arith)
-only_said files names (Err Failed) holds other small = absurd holds
-only_said files names (Err NoMemory) holds other small = absurd holds
-only_said files names (Ok (Refused second refused)) holds other small =
+only_said files names =
+    only_found files names (extract_inputs names) (HasExtraction files names) (extraction_said names) refl (λ _. refl) (λ _. refl) (status_within names)
+    (AcceptsTwoFiles files names)
+    (λ second refused holds other small.
     let held = holds.held in
-    absurd (refused_never second refused held.board_bytes held.first.challenge_bytes held.first.reply_bytes held.second.challenge_bytes held.second.reply_bytes holds.holds
+    refused_never second refused held.board_bytes held.first.challenge_bytes held.first.reply_bytes held.second.challenge_bytes held.second.reply_bytes holds.holds
     (status_accepted names second refused other small))
-only_said files names (Ok Same) holds other small = absurd (omega arith)
-only_said files names (Ok (Clash clash)) holds other small = record { held = holds.held; two = holds.holds.0 }
-only_said files names (Ok (Bids found)) holds other small = record { held = holds.held; two = holds.holds.0 }
+    (λ clash holds. record { held = holds.held; two = holds.holds.0 }) (λ found holds. record { held = holds.held; two = holds.holds.0 })
 
 -- 0 and 3 are told from all other statuses that end a command
 pub told_apart : (status : ℕ) → (status ≡ 0) ⊎ (status ≡ 3) → (status ≢ 1) × (status < 4)
@@ -142,14 +137,8 @@ extracts_exactly files names taken = (
 
 same_shown : (files : Files) (names : ExtractWords) (answered : Result Extraction VErr) → ExtractHolds files names answered
     → (said_of files names answered).status ≡ 7 → AcceptsSameFiles files names
-same_shown files names (Err (Missing file)) holds seven = absurd (omega arith)
-same_shown files names (Err (TooLong file)) holds seven = absurd (omega arith)
-same_shown files names (Err Failed) holds seven = absurd holds
-same_shown files names (Err NoMemory) holds seven = absurd holds
-same_shown files names (Ok (Refused second refused)) holds seven = let within = status_within names second refused in absurd (omega arith)
-same_shown files names (Ok Same) holds seven = holds
-same_shown files names (Ok (Clash clash)) holds seven = absurd (omega arith)
-same_shown files names (Ok (Bids found)) holds seven = absurd (omega arith)
+same_shown files names =
+    only_same files names (extract_inputs names) (HasExtraction files names) (extraction_said names) refl (λ _. refl) (λ _. refl) (status_within names)
 
 pub tells_same_exactly : TellsSameExactly
 tells_same_exactly files names = record {

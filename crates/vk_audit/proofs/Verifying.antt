@@ -6,18 +6,18 @@ use Rattle.vk_verifier.specs.declared.answers.Part.{Part}
 use Rattle.vk_verifier.specs.declared.answers.BoardVerdict.{BoardVerdict}
 use Rattle.vk_verifier.specs.declared.answers.BoardVerdict.TheVariants as verdict
 use Rattle.vk_verifier.specs.declared.answers.VErr.{VErr}
-use Rattle.vk_verifier.specs.declared.answers.VErr.TheVariants.{Missing, TooLong, Failed, NoMemory}
 use Rattle.vk_verifier.specs.Verdicts.{judged, verdict_by, verdict_of, verdict_on}
 use Rattle.vk_verifier.proofs.Verdicts.{verdict_holds, verdicts_exact}
 use Rattle.vk_bids.specs.Headline.{HeldAttempt, IsHeld}
 use Rattle.vk_words.specs.Names.{ExtractWords, VerifyWords}
 use Rattle.vk_effect.specs.Effects.{SaidValue}
 use Rattle.vk_audit.specs.Answers.{TellsVerdicts, VerifyHolds}
+use Rattle.vk_audit.specs.Inputs.{verify_inputs}
 use Rattle.vk_audit.specs.Statuses.{AcceptsFiles, HasVerdict, VerifiesExactly}
 use Rattle.vk_audit.specs.Verdicts.{answer_said, judged_said, name_of, unread_said, verified_words}
 use Rattle.vk_audit.proofs.Answered.{answered_holds, answered_settled, attempt_held, attempt_read, attempt_unread, verify_parts}
 use Rattle.vk_audit.proofs.Inputs.{fault_of, first_unread}
-use Rattle.vk_audit.proofs.Telling.{tells}
+use Rattle.vk_audit.proofs.Telling.{only_value, tells}
 
 -- ---- verdicts
 
@@ -85,12 +85,9 @@ tells_verdicts files names taken =
 
 only_accepted : (files : Files) (names : VerifyWords) (answered : Result BoardVerdict VErr) → VerifyHolds files names answered
     → (said_of files names answered).status ≡ 0 → AcceptsFiles files names
-only_accepted files names (Ok answered) holds zero_is =
-    subst (HasVerdict files names) (status_accepted (verified_words names) false answered (λ one. omega arith) (omega arith)) holds
-only_accepted files names (Err (Missing file)) holds zero_is = absurd (omega arith)
-only_accepted files names (Err (TooLong file)) holds zero_is = absurd (omega arith)
-only_accepted files names (Err Failed) holds zero_is = absurd holds
-only_accepted files names (Err NoMemory) holds zero_is = absurd holds
+only_accepted files names =
+    only_value files (verified_words names) (verify_inputs names) (HasVerdict files names) (judged_said (verified_words names) false) (AcceptsFiles files names)
+    (λ answered holds zero_is. subst (HasVerdict files names) (status_accepted (verified_words names) false answered (λ one. omega arith) (omega arith)) holds)
 
 pub verifies_exactly : VerifiesExactly
 verifies_exactly files names = record {

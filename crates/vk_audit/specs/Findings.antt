@@ -20,12 +20,15 @@ use Rattle.vk_bids.specs.Binding.{IsConfrontationOf}
 
 -- ---- two replies
 
--- the verdict on this reply is another than that it is accepted, with the parts of the second reply
-pub record SecondFails (verdict : BoardVerdict) (board challenge reply : List ℕ) : Type 0 where
-  pub fault : BoardVerdict
-  pub refuses : fault ≢ Accepted
-  pub holds : VerdictHolds fault board challenge reply
-  pub verdict_is : verdict ≡ as_second fault
+-- a verdict that holds of a reply, and is another than that it is accepted, with the parts of the second reply
+pub record RefusesSecond {V : Type 0} (accepted : V) (of_second : V → V) (Holds : V → Type 0) (verdict : V) : Type 0 where
+  pub fault : V
+  pub refuses : fault ≢ accepted
+  pub holds : Holds fault
+  pub verdict_is : verdict ≡ of_second fault
+
+abbrev pub SecondFails : BoardVerdict → List ℕ → List ℕ → List ℕ → Type 0
+SecondFails verdict board challenge reply = RefusesSecond Accepted as_second (λ fault. VerdictHolds fault board challenge reply) verdict
 
 -- the first reply is refused; or it is accepted, and the second is refused; or both are accepted, and the challenges
 -- are the same, one commitment is opened with two values, or there are the bids

@@ -56,24 +56,6 @@ pub fn replies_of<'a>(names: &ExtractNames<'a>) -> TwoReplies<'a>
     }
 }
 
-/// What the secret comes to against the two replies.
-fn confronted_in<S: Shelf>(
-    alloc: Global,
-    shelf: &mut S,
-    names: &ConfrontNames<'_>,
-) -> Result<Confrontation, ConfrontErr>
-    ensures told { IfSome (S.held shelf.old) (λ files.
-        Gives fault_of (λ confrontation. confrontation) result (confrontation_in files (confront_seen names.now))) }
-    ensures shelf { OnlyReads S.held S.Shelf.faults (ConfrontErr.Unread VErr.Failed) result shelf.old shelf.new }
-{
-    let files = vk_bids::ConfrontNames {
-        replies: replies_of(&names.replies),
-        secret: names.secret,
-    };
-    let answer = confront(alloc, shelf, &files);
-    answer
-}
-
 /// Reads the named files, and says what they come to.
 pub fn audit<S: Shelf>(
     alloc: Global,
@@ -111,4 +93,22 @@ pub fn audit<S: Shelf>(
             Ok(said)
         }
     }
+}
+
+/// What the secret comes to against the two replies.
+fn confronted_in<S: Shelf>(
+    alloc: Global,
+    shelf: &mut S,
+    names: &ConfrontNames<'_>,
+) -> Result<Confrontation, ConfrontErr>
+    ensures told { IfSome (S.held shelf.old) (λ files.
+        Gives fault_of (λ confrontation. confrontation) result (confrontation_in files (confront_seen names.now))) }
+    ensures shelf { OnlyReads S.held S.Shelf.faults (ConfrontErr.Unread VErr.Failed) result shelf.old shelf.new }
+{
+    let files = vk_bids::ConfrontNames {
+        replies: replies_of(&names.replies),
+        secret: names.secret,
+    };
+    let answer = confront(alloc, shelf, &files);
+    answer
 }

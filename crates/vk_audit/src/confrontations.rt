@@ -1,6 +1,8 @@
 //! What is said of what a bidder's secret comes to against two replies to a board.
 
 ghost use Rattle.std.specs.Prelude.{◌≡◌, ℕ, Err, IfOk, IsOk, Ok, OnOk, Result};
+ghost use Rattle.vk_audit.specs.Confrontations.{IsOfNamedFile, NamesNoFile, confrontation_said, unconfronted_said};
+ghost use Rattle.vk_audit.specs.Verdicts.{answer_said};
 ghost use Rattle.vk_commit.specs.Commitment.{TwoOpeningsSeen};
 ghost use Rattle.vk_io.specs.Faults.{Causes};
 ghost use Rattle.vk_lines.specs.Gives.{Gives};
@@ -11,8 +13,6 @@ ghost use Rattle.vk_bids.specs.ConfrontTexts.{confrontation_text};
 ghost use Rattle.vk_bids.specs.Texts.{clash_text};
 ghost use Rattle.vk_words.specs.Names.{confront_seen};
 ghost use Rattle.vk_effect.specs.Effects.{IsEnd};
-ghost use Rattle.vk_audit.specs.Confrontations.{IsOfNamedFile, NamesNoFile, confrontation_said, unconfronted_said};
-ghost use Rattle.vk_audit.specs.Verdicts.{answer_said};
 
 use crate::verdicts::{judged, same_challenge, unread};
 use std::alloc::Global;
@@ -38,10 +38,10 @@ pub fn confronted(
     names: &ConfrontNames<'_>,
     confrontation: &Confrontation,
 ) -> Result<Said, NoMemory>
+    ensures no_file { NamesNoFile confrontation.now → IsOk result }
     ensures said { IfOk result (λ said. said ≡ confrontation_said (confront_seen names.now) confrontation.now) }
     ensures clash { (two : TwoOpeningsSeen) → confrontation.now ≡ Confrontation.Clash two
         → result ≡ Ok (record { status = 3; text = clash_text two }) }
-    ensures no_file { NamesNoFile confrontation.now → IsOk result }
 {
     let replies = &names.replies;
     match confrontation {
@@ -85,19 +85,19 @@ pub fn confront_answered(
     names: &ConfrontNames<'_>,
     answer: Result<Confrontation, ConfrontErr>,
 ) -> Result<Said, OutsideErr>
-    ensures said { (expected : Result Confrontation ConfrontErr) → Gives fault_of (λ confrontation. confrontation) answer expected
-        → IfOk result (λ said. said ≡ answer_said (confrontation_said (confront_seen names.now)) (unconfronted_said (confront_seen names.now)) expected) }
     ensures clash { (two : TwoOpeningsSeen) → answer ≡ Ok (Confrontation.Clash two)
         → result ≡ Ok (record { status = 3; text = clash_text two }) }
+    ensures said { (expected : Result Confrontation ConfrontErr) → Gives fault_of (λ confrontation. confrontation) answer expected
+        → IfOk result (λ said. said ≡ answer_said (confrontation_said (confront_seen names.now)) (unconfronted_said (confront_seen names.now)) expected) }
     ensures causes { (before after : ℕ) → Causes (ConfrontErr.Unread VErr.Failed) answer before after → Causes OutsideErr.Failed result before after }
 {
     match answer {
-        Ok(confrontation) => {
-            let said = confronted(alloc, names, &confrontation)?;
-            Ok(said)
-        }
         Err(fault) => {
             let said = unconfronted(alloc, names, fault)?;
+            Ok(said)
+        }
+        Ok(confrontation) => {
+            let said = confronted(alloc, names, &confrontation)?;
             Ok(said)
         }
     }

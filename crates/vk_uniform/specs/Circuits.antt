@@ -1,6 +1,7 @@
 -- The plan as a circuit: its numbers, and its laws.
-use Rattle.std.specs.Prelude.{ℕ, ◌≡◌, ◌≢◌, List, [], ◌∷◌, length, take}
+use Rattle.std.specs.Prelude.{ℕ, ◌≡◌, ◌≢◌, Bool, true, false, List, [], ◌∷◌, length, take}
 use Rattle.std.proofs.Common.{sym, subst, ap, ◌∙◌}
+use Rattle.std.proofs.lemmas.Bool.{both_ways}
 use Rattle.std.proofs.lemmas.List.{nil_from_length}
 use Rattle.vk_plan.specs.Plans.{IsPlan, Holds}
 use Rattle.vk_uniform.specs.declared.plan.UniformPlan.{UniformPlan}
@@ -46,3 +47,7 @@ module _ (c : UniformPlan) where
 
   pub some_loses : (c.losers ≡ [] → ⊥) → length (losers_of (inputs_of c) (numbers_of c)) ≢ 0
   some_loses some none = some (c.outside ∙ nil_from_length (losers_of (inputs_of c) (numbers_of c)) none)
+
+  -- by a test of whether nobody does
+  pub tested_loses : (nobody : Bool) → (c.losers ≡ [] → nobody ≡ true) → nobody ≡ false → length (losers_of (inputs_of c) (numbers_of c)) ≢ 0
+  tested_loses nobody tests somebody = some_loses (λ none. both_ways nobody somebody (tests none))

@@ -266,22 +266,21 @@ module _ (less more : List ℕ) (less_ascends : IsAscending less) (more_ascends 
         | inr late ↦ absurd (omega (arith, not_below more more_ascends k at.0 late at.1, at.2))
       ]
 
+-- a winner of the one outcome beats whoever wins in the other alone
+beats_other : (bids winners others : List ℕ) (price other : ℕ) → IsUniformOutcome bids winners price → IsUniformOutcome bids others other
+    → (w v : ℕ) → Contains winners w → Contains others v → ¬ Contains winners v → Beats bids w v
+beats_other bids winners others price other is too w v in_winners in_others not_winners =
+    is.winners_beat w v in_winners (record {
+      is_position = All-contains (IsPosition (length bids)) others v too.are_positions in_others;
+      loses = not_winners;
+    })
+
 module _ (bids winners others : List ℕ) (price other : ℕ) (is : IsUniformOutcome bids winners price) (too : IsUniformOutcome bids others other) where
   -- no two bidders beat each other
   clash : (w v : ℕ) → Contains winners w → ¬ Contains others w → Contains others v → ¬ Contains winners v → ⊥
   clash w v in_winners not_others in_others not_winners =
-      let beaten =
-      is.winners_beat w v in_winners
-      (record {
-        is_position = All-contains (IsPosition (length bids)) others v too.are_positions in_others;
-        loses = not_winners;
-      }) in
-      let back =
-      too.winners_beat v w in_others
-      (record {
-        is_position = All-contains (IsPosition (length bids)) winners w is.are_positions in_winners;
-        loses = not_others;
-      }) in
+      let beaten = beats_other bids winners others price other is too w v in_winners in_others not_winners in
+      let back = beats_other bids others winners other price too is v w in_others in_winners not_others in
       elim (cases_order v w) [
         | inl e ↦ not_others (subst (Contains others) e in_others)
         | inr (inl before) ↦ absurd (omega (arith, beaten.bids_more_behind before, back.bids_no_less))

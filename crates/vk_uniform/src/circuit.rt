@@ -14,13 +14,13 @@ use vk_seq::Seq;
 impl Circuit for UniformPlan {
     ghost plan_of = { λ c. uniform_plan (inputs_of c) (numbers_of c) };
 
-    ghost claim = { λ c bids. IsUniformClaim (inputs_of c) (numbers_of c) bids };
-
-    ghost filled = { λ c bids. uniform_values (inputs_of c) (numbers_of c) bids };
-
     ghost is_plan = { circuit_is_plan };
 
     ghost begins = { circuit_begins };
+
+    ghost claim = { λ c bids. IsUniformClaim (inputs_of c) (numbers_of c) bids };
+
+    ghost filled = { λ c bids. uniform_values (inputs_of c) (numbers_of c) bids };
 
     ghost sound = { circuit_sound };
 
@@ -87,7 +87,7 @@ impl UniformPlan {
             losers,
             &mut forms,
         )?;
-        push_prices(alloc, self.inputs, self.price, losers, &mut forms)?;
+        push_prices(alloc, self.inputs, losers, self.price, &mut forms)?;
         Ok(Ranges {
             forms: Seq::from_vec(forms),
             width: self.width,

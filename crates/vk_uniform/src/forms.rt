@@ -92,8 +92,8 @@ pub(crate) fn push_wins(
 pub(crate) fn push_prices(
     alloc: Global,
     inputs: u32,
-    price: Residue,
     losers: &[u32],
+    price: Residue,
     forms: &mut Vec<Form>,
 ) -> Result<(), NoMemory>
     requires few { inputs ≤ 64 }

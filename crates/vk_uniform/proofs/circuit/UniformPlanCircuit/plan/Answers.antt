@@ -1,11 +1,10 @@
 use Rattle.std.proofs.Common.{◌≡◌, length, sym, ap, ◌∙◌, arith}
-use Rattle.std.proofs.lemmas.Bool.{both_ways}
 use Rattle.vk_plan.specs.Plans.{PlanValue}
 use Rattle.vk_range.specs.Ranged.{ranged_plan}
 use Rattle.vk_range.specs.RangedLaws.{ranged_wires}
 use Rattle.vk_uniform.specs.UniformPlans.{price_selection, uniform_plan, uniform_ranges, with_selection}
 use Rattle.vk_uniform.specs.UniformLaws.{plan_alone, plan_many, uniform_ranged, selection_fits, selection_room, uniform_wires, uniform_rows}
-use Rattle.vk_uniform.specs.Circuits.{inputs_of, numbers_of, none_loses, some_loses}
+use Rattle.vk_uniform.specs.Circuits.{inputs_of, numbers_of, none_loses, tested_loses}
 use Rattle.vk_uniform.proofs.circuit.UniformPlanCircuit.plan.Goals as goal
 use Rattle.vk_uniform.proofs.circuit.UniformPlanCircuit.plan.Goals.{After-drop-ranges-then-is_empty, After-drop-ranges-2}
 
@@ -37,8 +36,7 @@ returns-then-is_empty-clause-rows c =
 pub add-requires-clause-fits : goal.add-requires-clause-fits
 add-requires-clause-fits c =
     let s = c.args.self.now in
-    let some =
-    some_loses s (λ none. both_ways c.is_empty.result c.if-is_empty.false (c.is_empty.ensures.1 none)) in
+    let some = tested_loses s c.is_empty.result c.is_empty.ensures.1 c.if-is_empty.false in
     rw (c.in_ok-selection.ensures, c.in_ok-plan.ensures, c.in_ok-ranges.ensures)
     (selection_fits (inputs_of s) (numbers_of s) s.in_limits _
     (omega (arith, ranged_wires s.inputs (uniform_ranges (inputs_of s) (numbers_of s)))) some)
@@ -46,8 +44,7 @@ add-requires-clause-fits c =
 pub add-requires-clause-room : goal.add-requires-clause-room
 add-requires-clause-room c =
     let s = c.args.self.now in
-    let some =
-    some_loses s (λ none. both_ways c.is_empty.result c.if-is_empty.false (c.is_empty.ensures.1 none)) in
+    let some = tested_loses s c.is_empty.result c.is_empty.ensures.1 c.if-is_empty.false in
     rw (c.in_ok-selection.ensures, c.in_ok-plan.ensures, c.in_ok-ranges.ensures)
     (selection_room (inputs_of s) (numbers_of s) s.in_limits some)
 
@@ -55,8 +52,7 @@ many : (c : After-drop-ranges-2) → c.add.new.plan
     ≡ uniform_plan (inputs_of c.args.self.now) (numbers_of c.args.self.now)
 many c =
     let s = c.args.self.now in
-    let some =
-    some_loses s (λ none. both_ways c.is_empty.result c.if-is_empty.false (c.is_empty.ensures.1 none)) in
+    let some = tested_loses s c.is_empty.result c.is_empty.ensures.1 c.if-is_empty.false in
     let added : c.add.new.plan ≡ with_selection
     (ranged_plan s.inputs (uniform_ranges (inputs_of s) (numbers_of s)))
     (price_selection (inputs_of s) (numbers_of s)) =
