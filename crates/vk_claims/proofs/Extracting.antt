@@ -3,7 +3,6 @@ use Rattle.std.proofs.Common.{◌≡◌, ◌≢◌, ℕ, ◌<◌, Bool, true, fa
 use Rattle.vk_io.specs.Files.{Files}
 use Rattle.vk_verifier.specs.declared.answers.Part.{Part}
 use Rattle.vk_verifier.specs.declared.answers.VErr.{VErr}
-use Rattle.vk_verifier.specs.declared.answers.VErr.TheVariants.{Missing, TooLong, Failed, NoMemory}
 use Rattle.vk_bids.specs.declared.extraction.Extraction.TheVariants.{Refused, Same, Clash, Bids}
 use Rattle.vk_bids.specs.Headline.{IsClashBehind}
 use Rattle.vk_bids.specs.Texts.{clash_text}
@@ -16,12 +15,12 @@ use Rattle.vk_claim.proofs.Headlines.{claim_files_are_extracted, claims_open}
 use Rattle.vk_words.specs.Names.{ExtractWords}
 use Rattle.vk_effect.specs.Effects.{SaidValue, puts}
 use Rattle.vk_audit.specs.Answers.{SettlesExtract}
-use Rattle.vk_audit.specs.Inputs.{HoldsFiles}
+use Rattle.vk_audit.specs.Inputs.{HoldsFiles, extract_inputs}
 use Rattle.vk_audit.specs.Verdicts.{answer_said, name_of, unread_said}
 use Rattle.vk_audit.proofs.Answered.{answered_holds, answered_settled, extract_parts, files_held, files_unread}
 use Rattle.vk_audit.proofs.Extracting.{put_told, told_apart}
 use Rattle.vk_audit.proofs.Inputs.{fault_of, first_unread}
-use Rattle.vk_audit.proofs.Telling.{tells}
+use Rattle.vk_audit.proofs.Telling.{only_found, only_same, second_refused, tells}
 use Rattle.vk_claims.specs.Circuits.{admitted_plan, claimed, claims_are_sound, plans_are_right}
 use Rattle.vk_claims.specs.Extractions.{claim_extraction_said, claim_extract_said}
 use Rattle.vk_claims.specs.Findings.{ClaimExtractionHolds}
@@ -52,11 +51,10 @@ module _ (files : Files) (names : ExtractWords) where
   answer_holds =
       answered_holds files names extract_parts (HasClaimExtraction files names) answer answer_unread (λ read.
       let held : HoldsFiles files names = files_held read in
-      subst (ClaimExtractHolds files names) (sym (answer_read held)) (record {
-        held = held;
-        holds = extraction_holds admitted_plan claimed plans_are_right claims_are_sound
-            held.board_bytes held.first.challenge_bytes held.first.reply_bytes held.second.challenge_bytes held.second.reply_bytes;
-      }))
+      let holds =
+      extraction_holds admitted_plan claimed plans_are_right claims_are_sound
+      held.board_bytes held.first.challenge_bytes held.first.reply_bytes held.second.challenge_bytes held.second.reply_bytes in
+      subst (ClaimExtractHolds files names) (sym (answer_read held)) (record { held = held; holds = holds }))
 
   abbrev said_of : Result ClaimExtraction VErr → SaidValue
   said_of answered = answer_said (claim_extraction_said names) (unread_said names) answered
@@ -98,11 +96,10 @@ module _ {file challenge reply other second : List ℕ} (two : TwoClaimsAccepted
 said_of_accepted : (files : Files) (names : ExtractWords) (taken : Option (List ℕ)) (accepted : AcceptsTwoClaims files names)
     → let said = claim_extract_said files names in IsClaimExtracted accepted.two said.status taken (puts said.text taken)
 said_of_accepted files names taken accepted =
-    let held = accepted.held in
     let P : Result ClaimExtraction VErr → Type 0 = λ answer. let said = said_of files names answer in IsClaimExtracted accepted.two said.status taken
     (puts said.text taken) in
-    subst P (sym (answer_read files names held))
-    (said_extracted accepted.two names taken (of_held files names held)
+    subst P (sym (answer_read files names accepted.held))
+    (said_extracted accepted.two names taken (of_held files names accepted.held)
     (claims_open admitted_plan claimed plans_are_right claims_are_sound accepted.two))
 
 -- ---- only such files
@@ -111,46 +108,27 @@ said_of_accepted files names taken accepted =
 refused_never : (of_second : Bool) (refused : ClaimVerdict) (file challenge reply other second : List ℕ)
     → ClaimExtractionHolds admitted_plan claimed (Refused of_second refused) file challenge reply other second → refused ≢ Accepted
 refused_never false refused file challenge reply other second holds = holds.0
-refused_never true refused file challenge reply other second holds =
-    let fails = holds.1 in
-    λ same. fails.refuses (second_accepted fails.fault (sym fails.verdict_is ∙ same))
-
-only_said : (files : Files) (names : ExtractWords) (answered : Result ClaimExtraction VErr) → ClaimExtractHolds files names answered
-    → (said_of files names answered).status ≢ 1 → (said_of files names answered).status < 4 → AcceptsTwoClaims files names
-only_said files names (Err (Missing part)) holds other small = absurd (omega arith)
-only_said files names (Err (TooLong part)) holds other small = absurd (omega arith)
-only_said files names (Err Failed) holds other small = absurd holds
-only_said files names (Err NoMemory) holds other small = absurd holds
-only_said files names (Ok (Refused of_second refused)) holds other small =
-    let held = holds.held in
-    absurd (refused_never of_second refused held.board_bytes held.first.challenge_bytes held.first.reply_bytes held.second.challenge_bytes held.second.reply_bytes holds.holds
-    (status_accepted names of_second refused other small))
-only_said files names (Ok Same) holds other small = absurd (omega arith)
-only_said files names (Ok (Clash clash)) holds other small = record { held = holds.held; two = holds.holds.0 }
-only_said files names (Ok (Bids found)) holds other small = record { held = holds.held; two = holds.holds.0 }
+refused_never true refused file challenge reply other second holds = second_refused second_accepted holds.1
 
 pub extracts_claims_exactly : ExtractsClaimsExactly
 extracts_claims_exactly files names taken = (
   said_of_accepted files names taken,
-  λ found. let apart = told_apart (claim_extract_said files names).status found in only_said files names (answer files names)
-      (answer_holds files names) apart.0 apart.1,
+  λ found. let apart = told_apart (claim_extract_said files names).status found in
+      only_found files names (extract_inputs names) (HasClaimExtraction files names) (claim_extraction_said names) refl (λ _. refl) (λ _. refl) (status_within names) (AcceptsTwoClaims files names)
+      (λ of_second refused holds other small.
+      let held = holds.held in
+      refused_never of_second refused held.board_bytes held.first.challenge_bytes held.first.reply_bytes held.second.challenge_bytes held.second.reply_bytes holds.holds
+      (status_accepted names of_second refused other small))
+      (λ clash holds. record { held = holds.held; two = holds.holds.0 }) (λ values holds. record { held = holds.held; two = holds.holds.0 })
+      (answer files names) (answer_holds files names) apart.0 apart.1,
 )
 
 -- ---- equal challenges
 
-same_shown : (files : Files) (names : ExtractWords) (answered : Result ClaimExtraction VErr) → ClaimExtractHolds files names answered
-    → (said_of files names answered).status ≡ 7 → AcceptsSameClaims files names
-same_shown files names (Err (Missing part)) holds seven = absurd (omega arith)
-same_shown files names (Err (TooLong part)) holds seven = absurd (omega arith)
-same_shown files names (Err Failed) holds seven = absurd holds
-same_shown files names (Err NoMemory) holds seven = absurd holds
-same_shown files names (Ok (Refused of_second refused)) holds seven = let within = status_within names of_second refused in absurd (omega arith)
-same_shown files names (Ok Same) holds seven = holds
-same_shown files names (Ok (Clash clash)) holds seven = absurd (omega arith)
-same_shown files names (Ok (Bids found)) holds seven = absurd (omega arith)
-
 pub tells_same_claims_exactly : TellsSameClaimsExactly
 tells_same_claims_exactly files names = record {
-  only = λ seven. same_shown files names (answer files names) (answer_holds files names) seven;
+  only =
+      only_same files names (extract_inputs names) (HasClaimExtraction files names) (claim_extraction_said names) refl (λ _. refl) (λ _. refl) (status_within names)
+      (answer files names) (answer_holds files names);
   always = λ same _ _. ap (λ (said : SaidValue). said.status) (answer_settled files names (Ok Same) (λ found. found) same);
 }

@@ -1,6 +1,6 @@
 -- The verdicts on claims hold of the bytes of the files, and so does what two replies come to, and no other that settles it.
 use Rattle.std.proofs.Common.{◌≡◌, ◌≢◌, ℕ, Bool, true, false, if◌then◌else◌, List, refl, sym, ap, subst, ◌∙◌, inl, inr}
-use Rattle.std.specs.Prelude.{◌⊎◌, Decides}
+use Rattle.std.specs.Prelude.{◌⊎◌, ◌↔◌, Decides}
 use Rattle.std.specs.Cmp.{booleans_Decides}
 use Rattle.std.proofs.lemmas.Slice.Eq.{slice_eq-Decides}
 use Rattle.vk_reply.proofs.Challenges.{challenge_is_whole}
@@ -81,21 +81,19 @@ module _ (plans : Plans) (right : AreRight plans) (file challenge reply : List �
   abbrev Holds : ClaimVerdict → Type 0
   Holds verdict = ClaimVerdictHolds plans verdict file challenge reply
 
+  verdict_exact : (verdict : ClaimVerdict) → (claim_verdict_of plans file challenge reply ≡ verdict) ↔ Holds verdict
+  verdict_exact Accepted = (verdicts_exact plans right file challenge reply).accepted
+  verdict_exact Public = (verdicts_exact plans right file challenge reply).public
+  verdict_exact (Malformed part line) = (verdicts_exact plans right file challenge reply).fault (behind.Malformed part line)
+  verdict_exact Lanes = (verdicts_exact plans right file challenge reply).fault behind.Lanes
+  verdict_exact (Wire lane wire fault) = (verdicts_exact plans right file challenge reply).fault (behind.Wire lane wire fault)
+  verdict_exact (Row lane row) = (verdicts_exact plans right file challenge reply).fault (behind.Row lane row)
+
   pub verdict_shown : (verdict : ClaimVerdict) → claim_verdict_of plans file challenge reply ≡ verdict → Holds verdict
-  verdict_shown Accepted is = (verdicts_exact plans right file challenge reply).accepted.0 is
-  verdict_shown Public is = (verdicts_exact plans right file challenge reply).public.0 is
-  verdict_shown (Malformed part line) is = ((verdicts_exact plans right file challenge reply).fault (behind.Malformed part line)).0 is
-  verdict_shown Lanes is = ((verdicts_exact plans right file challenge reply).fault behind.Lanes).0 is
-  verdict_shown (Wire lane wire fault) is = ((verdicts_exact plans right file challenge reply).fault (behind.Wire lane wire fault)).0 is
-  verdict_shown (Row lane row) is = ((verdicts_exact plans right file challenge reply).fault (behind.Row lane row)).0 is
+  verdict_shown verdict is = (verdict_exact verdict).0 is
 
   pub verdict_given : (verdict : ClaimVerdict) → Holds verdict → claim_verdict_of plans file challenge reply ≡ verdict
-  verdict_given Accepted holds = (verdicts_exact plans right file challenge reply).accepted.1 holds
-  verdict_given Public holds = (verdicts_exact plans right file challenge reply).public.1 holds
-  verdict_given (Malformed part line) holds = ((verdicts_exact plans right file challenge reply).fault (behind.Malformed part line)).1 holds
-  verdict_given Lanes holds = ((verdicts_exact plans right file challenge reply).fault behind.Lanes).1 holds
-  verdict_given (Wire lane wire fault) holds = ((verdicts_exact plans right file challenge reply).fault (behind.Wire lane wire fault)).1 holds
-  verdict_given (Row lane row) holds = ((verdicts_exact plans right file challenge reply).fault (behind.Row lane row)).1 holds
+  verdict_given verdict holds = (verdict_exact verdict).1 holds
 
 -- ---- two replies
 

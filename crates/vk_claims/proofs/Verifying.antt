@@ -3,17 +3,17 @@ use Rattle.std.proofs.Common.{◌≡◌, ◌≢◌, ℕ, ◌<◌, ◌≤◌, Boo
 use Rattle.vk_io.specs.Files.{Files}
 use Rattle.vk_verifier.specs.declared.answers.Part.{Part}
 use Rattle.vk_verifier.specs.declared.answers.VErr.{VErr}
-use Rattle.vk_verifier.specs.declared.answers.VErr.TheVariants.{Missing, TooLong, Failed, NoMemory}
 use Rattle.vk_bids.specs.Headline.{HeldAttempt, IsHeld}
 use Rattle.vk_claim.specs.declared.verdict.ClaimVerdict.{ClaimVerdict}
 use Rattle.vk_claim.specs.declared.verdict.ClaimVerdict.TheVariants.{Accepted, Malformed, Public, Lanes, Wire, Row}
 use Rattle.vk_claim.specs.Verdicts.{claim_judged, claim_verdict_of, claim_verdict_on}
 use Rattle.vk_words.specs.Names.{ExtractWords, VerifyWords}
 use Rattle.vk_effect.specs.Effects.{SaidValue}
+use Rattle.vk_audit.specs.Inputs.{verify_inputs}
 use Rattle.vk_audit.specs.Verdicts.{answer_said, name_of, unread_said, verified_words}
 use Rattle.vk_audit.proofs.Answered.{answered_holds, answered_settled, attempt_held, attempt_read, attempt_unread, verify_parts}
 use Rattle.vk_audit.proofs.Inputs.{fault_of, first_unread}
-use Rattle.vk_audit.proofs.Telling.{tells}
+use Rattle.vk_audit.proofs.Telling.{only_value, tells}
 use Rattle.vk_claims.specs.Circuits.{admitted_plan, plans_are_right}
 use Rattle.vk_claims.specs.Statuses.{AcceptsClaim, ClaimVerifyHolds, HasClaimVerdict, TellsClaimVerdicts, VerifiesClaimsExactly}
 use Rattle.vk_claims.specs.Verdicts.{claim_judged_said}
@@ -82,17 +82,11 @@ tells_claim_verdicts files names taken =
 
 -- ---- status 0
 
-only_accepted : (files : Files) (names : VerifyWords) (answered : Result ClaimVerdict VErr) → ClaimVerifyHolds files names answered
-    → (said_of files names answered).status ≡ 0 → AcceptsClaim files names
-only_accepted files names (Ok answered) holds zero_is =
-    subst (HasClaimVerdict files names) (status_accepted (verified_words names) false answered (λ one. omega arith) (omega arith)) holds
-only_accepted files names (Err (Missing file)) holds zero_is = absurd (omega arith)
-only_accepted files names (Err (TooLong file)) holds zero_is = absurd (omega arith)
-only_accepted files names (Err Failed) holds zero_is = absurd holds
-only_accepted files names (Err NoMemory) holds zero_is = absurd holds
-
 pub verifies_claims_exactly : VerifiesClaimsExactly
 verifies_claims_exactly files names = record {
-  only = λ zero_is. only_accepted files names (answer files names) (answer_holds files names) zero_is;
+  only =
+      only_value files (verified_words names) (verify_inputs names) (HasClaimVerdict files names) (claim_judged_said (verified_words names) false) (AcceptsClaim files names)
+      (λ answered holds zero_is. subst (HasClaimVerdict files names) (status_accepted (verified_words names) false answered (λ one. omega arith) (omega arith)) holds)
+      (answer files names) (answer_holds files names);
   always = λ accepts _ _. ap (λ (said : SaidValue). said.status) (answer_settled files names (Ok Accepted) accepts);
 }

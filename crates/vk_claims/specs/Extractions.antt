@@ -10,7 +10,7 @@ use Rattle.vk_audit.specs.Verdicts.{answer_said, same_said, unread_said}
 use Rattle.vk_claims.specs.Circuits.{admitted_plan}
 use Rattle.vk_claims.specs.Verdicts.{claim_judged_said}
 
--- the verdict on a reply that isn't accepted, or what two accepted replies come to
+-- of a reply to a claim file that isn't accepted the verdict on it, else what the two come to
 abbrev pub claim_extraction_said : ExtractWords → ClaimExtraction → SaidValue
 claim_extraction_said names (Refused second verdict) = claim_judged_said names second verdict
 claim_extraction_said names Same = same_said

@@ -11,6 +11,7 @@ use Rattle.vk_claim.specs.Extraction.{ClaimExtraction}
 use Rattle.vk_claim.specs.Headline.{IsClaimOpened, TwoClaimsAccepted}
 use Rattle.vk_claim.specs.TwoLaw.{told_of_second}
 use Rattle.vk_claim.specs.Values.{Claims, Plans}
+use Rattle.vk_audit.specs.Findings.{RefusesSecond}
 
 module _ (plans : Plans) where
   -- the reply is accepted, the public part isn't admitted, or there is this fault
@@ -28,12 +29,9 @@ module _ (plans : Plans) where
     pub again : ClaimAccepts plans file other second
     pub same : first.behind.challenge.bits ≡ again.behind.challenge.bits
 
-  -- the verdict on this reply is another than that it is accepted, with the parts of the second reply
-  pub record SecondClaimFails (verdict : ClaimVerdict) (file challenge reply : List ℕ) : Type 0 where
-    pub fault : ClaimVerdict
-    pub refuses : fault ≢ Accepted
-    pub holds : ClaimVerdictHolds fault file challenge reply
-    pub verdict_is : verdict ≡ told_of_second fault
+  abbrev pub SecondClaimFails : ClaimVerdict → List ℕ → List ℕ → List ℕ → Type 0
+  SecondClaimFails verdict file challenge reply =
+      RefusesSecond Accepted told_of_second (λ fault. ClaimVerdictHolds fault file challenge reply) verdict
 
   -- the first reply is refused; or it is accepted, and the second is refused; or both are accepted, and the challenges
   -- are the same, one commitment is opened with two values, or there are values of which the claim holds

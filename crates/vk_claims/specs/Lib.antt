@@ -1,3 +1,4 @@
+pub mod Cases
 pub mod Circuits
 pub mod Verdicts
 pub mod Extractions

@@ -5,8 +5,11 @@ use Rattle.vk_verifier.specs.declared.answers.VErr.{VErr}
 use Rattle.vk_bids.specs.declared.extraction.Extraction.TheVariants.{Same}
 use Rattle.vk_bids.specs.Headline.{HeldAttempt, IsClashBehind, IsHeld}
 use Rattle.vk_bids.specs.Texts.{clash_text}
+use Rattle.vk_plan.specs.Plans.{PlanValue}
 use Rattle.vk_uniform.specs.UniformPlans.{IsUniformCase, IsUniformClaim, uniform_plan}
-use Rattle.vk_claim.specs.declared.head.Kind.TheVariants.{Uniform}
+use Rattle.vk_matching.specs.MatchingPlans.{IsMatchingCase, IsMatchingClaim, matching_plan}
+use Rattle.vk_claim.specs.declared.head.Kind.{Kind}
+use Rattle.vk_claim.specs.declared.head.Kind.TheVariants.{Uniform, Matching}
 use Rattle.vk_claim.specs.declared.verdict.ClaimVerdict.{ClaimVerdict}
 use Rattle.vk_claim.specs.declared.verdict.ClaimVerdict.TheVariants.{Accepted}
 use Rattle.vk_claim.specs.Extraction.{ClaimExtraction}
@@ -25,11 +28,21 @@ use Rattle.vk_claims.specs.Verdicts.{claim_judged_said, claim_verify_said}
 
 -- ---- public parts
 
--- a sale of equal units is admitted exactly where it may have these numbers, by its plan, and claims the outcome
-pub record AdmitsUniform (inputs : ℕ) (numbers : List ℕ) : Type 0 where
-  pub admitted : IsUniformCase inputs numbers → admitted_plan Uniform inputs numbers ≡ Some (uniform_plan inputs numbers)
-  pub other : ¬ IsUniformCase inputs numbers → admitted_plan Uniform inputs numbers ≡ None
-  pub claims : (bids : List ℕ) → claimed Uniform inputs numbers bids ↔ IsUniformClaim inputs numbers bids
+-- a part of this kind is admitted exactly in such a case, by this plan, and this is what it claims
+pub record Admits (kind : Kind) (inputs : ℕ) (numbers : List ℕ) (IsCase : Type 0) (plan : PlanValue) (IsClaim : List ℕ → Type 0) : Type 0 where
+  pub admitted : IsCase → admitted_plan kind inputs numbers ≡ Some plan
+  pub other : ¬ IsCase → admitted_plan kind inputs numbers ≡ None
+  pub claims : (values : List ℕ) → claimed kind inputs numbers values ↔ IsClaim values
+
+-- a sale of equal units, where it may have these numbers, which claims the outcome of the bids
+abbrev pub AdmitsUniform : ℕ → List ℕ → Type 0
+AdmitsUniform inputs numbers =
+    Admits Uniform inputs numbers (IsUniformCase inputs numbers) (uniform_plan inputs numbers) (IsUniformClaim inputs numbers)
+
+-- a matching, where it may have these numbers, which claims that no pair blocks it by the ranks
+abbrev pub AdmitsMatching : ℕ → List ℕ → Type 0
+AdmitsMatching inputs numbers =
+    Admits Matching inputs numbers (IsMatchingCase inputs numbers) (matching_plan inputs numbers) (IsMatchingClaim inputs numbers)
 
 -- ---- `claim-verify`
 
@@ -104,18 +117,19 @@ TellsClaimExtraction files names status old new =
 abbrev pub VerifiesClaimsExactly : Type 0
 VerifiesClaimsExactly = (files : Files) (names : VerifyWords) → IsClaimVerified files names (claim_verify_said files names).status
 
+abbrev pub TellsClaimVerdicts : Type 0
+TellsClaimVerdicts = (files : Files) (names : VerifyWords) (taken : Option (List ℕ)) → let said = claim_verify_said files names in
+    TellsClaimVerdict files names said.status taken (puts said.text taken)
+
 -- two replies that are accepted for different challenges give the values or a clash, and only such replies do
 abbrev pub ExtractsClaimsExactly : Type 0
-ExtractsClaimsExactly = (files : Files) (names : ExtractWords) (taken : Option (List ℕ)) → let said = claim_extract_said files names in
+ExtractsClaimsExactly = (files : Files) (names : ExtractWords) (taken : Option (List ℕ)) →
+    let said = claim_extract_said files names in
     ((accepted : AcceptsTwoClaims files names) → IsClaimExtracted accepted.two said.status taken (puts said.text taken))
     × ((said.status ≡ 0) ⊎ (said.status ≡ 3) → AcceptsTwoClaims files names)
 
 abbrev pub TellsSameClaimsExactly : Type 0
 TellsSameClaimsExactly = (files : Files) (names : ExtractWords) → IsSameClaim files names (claim_extract_said files names).status
-
-abbrev pub TellsClaimVerdicts : Type 0
-TellsClaimVerdicts = (files : Files) (names : VerifyWords) (taken : Option (List ℕ)) → let said = claim_verify_said files names in
-    TellsClaimVerdict files names said.status taken (puts said.text taken)
 
 abbrev pub TellsClaimExtractions : Type 0
 TellsClaimExtractions = (files : Files) (names : ExtractWords) (taken : Option (List ℕ)) → let said = claim_extract_said files names in

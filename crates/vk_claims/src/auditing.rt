@@ -28,13 +28,13 @@ pub enum ClaimOrder<'a> {
 fn claim_verified<S: Shelf>(
     alloc: Global,
     shelf: &mut S,
-    names: &VerifyNames<'_>,
+    names: VerifyNames<'_>,
 ) -> Result<Said, OutsideErr>
-    ensures said { IfSome (S.held shelf.old) (λ files. IfOk result (λ said. said ≡ claim_verify_said files (verify_seen names.now))) }
+    ensures said { IfSome (S.held shelf.old) (λ files. IfOk result (λ said. said ≡ claim_verify_said files (verify_seen names.entry))) }
     ensures shelf { OnlyReads S.held S.Shelf.faults OutsideErr.Failed result shelf.old shelf.new }
 {
-    let VerifyNames { board, attempt } = *names;
-    let names = verified_names(names);
+    let VerifyNames { board, attempt } = names;
+    let names = verified_names(&names);
     let circuits = ClaimCircuits;
     let said = match claim_verdict(
         alloc,
@@ -54,15 +54,15 @@ fn claim_verified<S: Shelf>(
 fn claim_answered<S: Shelf>(
     alloc: Global,
     shelf: &mut S,
-    names: &ExtractNames<'_>,
+    names: ExtractNames<'_>,
 ) -> Result<Said, OutsideErr>
-    ensures said { IfSome (S.held shelf.old) (λ files. IfOk result (λ said. said ≡ claim_extract_said files (extract_seen names.now))) }
     ensures shelf { OnlyReads S.held S.Shelf.faults OutsideErr.Failed result shelf.old shelf.new }
+    ensures said { IfSome (S.held shelf.old) (λ files. IfOk result (λ said. said ≡ claim_extract_said files (extract_seen names.entry))) }
 {
     let circuits = ClaimCircuits;
-    let said = match extract_claim(alloc, shelf, &circuits, &replies_of(names)) {
-        Ok(extraction) => claim_extracted(alloc, names, &extraction)?,
-        Err(fault) => unread(alloc, names, fault)?,
+    let said = match extract_claim(alloc, shelf, &circuits, &replies_of(&names)) {
+        Ok(extraction) => claim_extracted(alloc, &names, &extraction)?,
+        Err(fault) => unread(alloc, &names, fault)?,
     };
     Ok(said)
 }
@@ -73,16 +73,16 @@ pub fn audit_claim<S: Shelf>(
     shelf: &mut S,
     order: &ClaimOrder<'_>,
 ) -> Result<Said, OutsideErr>
-    ensures said { IfSome (S.held shelf.old) (λ files. IfOk result (λ said. said ≡ claim_said files (claim_order_seen order.now))) }
     ensures shelf { OnlyReads S.held S.Shelf.faults OutsideErr.Failed result shelf.old shelf.new }
+    ensures said { IfSome (S.held shelf.old) (λ files. IfOk result (λ said. said ≡ claim_said files (claim_order_seen order.now))) }
 {
     match order {
         ClaimOrder::Verify(names) => {
-            let said = claim_verified(alloc, shelf, names)?;
+            let said = claim_verified(alloc, shelf, *names)?;
             Ok(said)
         }
         ClaimOrder::Extract(names) => {
-            let said = claim_answered(alloc, shelf, names)?;
+            let said = claim_answered(alloc, shelf, *names)?;
             Ok(said)
         }
     }

@@ -22,20 +22,20 @@ pub fn claim_extracted(
     names: &ExtractNames<'_>,
     extraction: &ClaimExtraction,
 ) -> Result<Said, NoMemory>
-    ensures said { IfOk result (λ said. said ≡ claim_extraction_said (extract_seen names.now) extraction.now) }
     ensures clash { (two : TwoOpeningsSeen) → extraction.now ≡ comes.Clash two
         → result ≡ Ok (record { status = 3; text = clash_text two }) }
+    ensures said { IfOk result (λ said. said ≡ claim_extraction_said (extract_seen names.now) extraction.now) }
 {
     match extraction {
-        Extraction::Refused { second, verdict } => {
-            let said = claim_judged(alloc, names, *second, *verdict)?;
-            Ok(said)
-        }
         Extraction::Same => Ok(same_challenge()),
         Extraction::Clash(two) => Ok(Said::of_short(3, clash_line(two))),
         Extraction::Bids(found) => {
             let lines = claim_extraction_lines(alloc, found)?;
             Ok(Said::of_lines(0, lines))
+        }
+        Extraction::Refused { second, verdict } => {
+            let said = claim_judged(alloc, names, *second, *verdict)?;
+            Ok(said)
         }
     }
 }

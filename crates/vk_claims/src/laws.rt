@@ -1,12 +1,13 @@
 //! What the statuses of the commands on claims mean.
 
 ghost use Rattle.std.specs.Prelude.{ℕ, List};
-ghost use Rattle.vk_claims.specs.Statuses.{AdmitsUniform, ExtractsClaimsExactly, TellsClaimExtractions, TellsClaimVerdicts, TellsSameClaimsExactly, VerifiesClaimsExactly};
+ghost use Rattle.vk_claims.specs.Statuses.{AdmitsMatching, AdmitsUniform, ExtractsClaimsExactly, TellsClaimExtractions, TellsClaimVerdicts, TellsSameClaimsExactly, VerifiesClaimsExactly};
 
 /// A law: a public part is admitted exactly where there is a circuit of its numbers, is shown by the plan of this circuit,
 /// and claims what the circuit does.
 pub fn a_part_is_admitted_where_its_circuit_is()
-    ensures { (inputs : ℕ) (numbers : List ℕ) → AdmitsUniform inputs numbers }
+    ensures uniform { (inputs : ℕ) (numbers : List ℕ) → AdmitsUniform inputs numbers }
+    ensures matching { (inputs : ℕ) (numbers : List ℕ) → AdmitsMatching inputs numbers }
 {}
 
 /// A law, over any files and any names of them.

@@ -1,11 +1,10 @@
-use Rattle.vk_claims.proofs.Parts.{made_part, unmade_part}
+use Rattle.std.proofs.Common.{◌∙◌}
+use Rattle.vk_uniform.specs.Circuits.{inputs_of, numbers_of}
+use Rattle.vk_claim.specs.declared.head.Kind.TheVariants.{Uniform}
+use Rattle.vk_claims.proofs.Parts.{part_is}
 use Rattle.vk_claims.proofs.circuits.plan_of_units.Goals as goal
 
-pub returns-in_ok-plan-in-Some : goal.returns-in_ok-plan-in-Some
-returns-in_ok-plan-in-Some c =
-    made_part c.args.inputs c.args.numbers.now c.in_ok-circuit.field-0 c.in-Some.circuit c.in_ok-plan-in-Some.plan c.in-Some.is
-    c.in_ok-circuit.ensures.admitted c.in_ok-circuit.ensures.numbers c.in_ok-plan-in-Some.ensures.plan
-
-pub returns-in-None : goal.returns-in-None
-returns-in-None c =
-    unmade_part c.args.inputs c.args.numbers.now c.in_ok-circuit.field-0 c.in-None.is c.in_ok-circuit.ensures.admitted
+pub returns : goal.returns
+returns c =
+    let of = c.in_ok-circuit.ensures in
+    c.in_ok-plan.ensures ∙ part_is inputs_of numbers_of Uniform c.args.inputs c.args.numbers.now c.in_ok-circuit.circuit of.admitted of.numbers

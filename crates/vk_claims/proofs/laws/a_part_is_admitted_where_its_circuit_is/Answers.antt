@@ -1,5 +1,8 @@
-use Rattle.vk_claims.proofs.Parts.{admits_uniform}
+use Rattle.vk_claim.specs.declared.head.Kind.TheVariants.{Uniform, Matching}
+use Rattle.vk_claims.specs.Circuits.{claimed}
+use Rattle.vk_claims.proofs.Parts.{admits}
 use Rattle.vk_claims.proofs.laws.a_part_is_admitted_where_its_circuit_is.Goals as goal
 
 pub returns : goal.returns
-returns c = admits_uniform
+unfolding claimed
+returns c = record { uniform = admits Uniform; matching = admits Matching }
