@@ -1,4 +1,8 @@
+pub mod Cases
 pub mod Sales
+pub mod Matchings
+pub mod Shown
+pub mod Circuits
 pub mod Proofs
 pub mod Sizes
 pub mod Opened

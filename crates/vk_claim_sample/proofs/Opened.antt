@@ -1,8 +1,7 @@
 -- What a sample's claim writes is accepted, and read back it opens every value.
-use Rattle.std.proofs.Common.{◌≡◌, ◌≢◌, ℕ, ◌+◌, ◌-◌, ◌*◌, ◌≤◌, All, Bool, true, false, List, [], ◌∷◌, ◌++◌, length, map, codes, flat_map, get_or, None, Ok, refl, sym, ap, subst, ◌∙◌, append_assoc, arith}
-use Rattle.std.specs.Prelude.{◌==◌, if◌then◌else◌, slice_index_or}
+use Rattle.std.proofs.Common.{◌≡◌, ◌≢◌, ℕ, ◌+◌, ◌-◌, ◌≤◌, All, Bool, true, false, List, [], ◌∷◌, ◌++◌, length, map, codes, flat_map, get_or, None, Ok, refl, sym, ap, subst, ◌∙◌, append_assoc, arith}
+use Rattle.std.specs.Prelude.{slice_index_or}
 use Rattle.std.specs.FinMap.{insert}
-use Rattle.std.proofs.lemmas.Nat.{mul-le}
 use Rattle.std.proofs.lemmas.List.{length-map}
 use Rattle.std.proofs.lemmas.List.Elements.{All-weaker}
 use Rattle.vk_io.specs.Files.{Files}
@@ -43,18 +42,18 @@ use Rattle.vk_honest.proofs.Differing.{DiffersIn, all_differ, length-differing_t
 use Rattle.vk_honest.proofs.Extracted.{bids_same, by_number, equal_in, lane_same, of_numbers}
 use Rattle.vk_honest.proofs.Opened.{shown_agree, shown_either}
 use Rattle.vk_honest.proofs.Sizes.{challenges_are_short}
-use Rattle.vk_uniform.specs.UniformLaws.{some_loses_not_all, uniform_inputs, uniform_rows, uniform_wires}
-use Rattle.vk_uniform.specs.UniformPlans.{losers_of, row_count, uniform_plan, width_of, winners_of, wire_count}
 use Rattle.vk_report.specs.declared.sample.SampleCase.{SampleCase}
 use Rattle.vk_report.specs.Samples.{IsCaseOf}
-use Rattle.vk_claims.specs.Circuits.{admitted_plan, claimed, claims_are_sound, plans_are_right, uniform_part}
+use Rattle.vk_claims.specs.Circuits.{admitted_plan, claimed, claims_are_sound, part, plan_inputs, plan_of, plans_are_right}
 use Rattle.vk_sample.proofs.Auctions.{AllRows}
 use Rattle.vk_sample.proofs.Opened.{all_counted, held_first, none_named}
+use Rattle.vk_words.specs.declared.claim.ClaimKind.{ClaimKind}
 use Rattle.vk_words.specs.Names.{AttemptWords}
-use Rattle.vk_claim_sample.proofs.Sales.{are_numbers, is_case, is_claim, three_win, width_is}
+use Rattle.vk_claim_sample.proofs.Cases.{eight_lanes}
+use Rattle.vk_claim_sample.proofs.Shown.{IsShown, is_shown}
 use Rattle.vk_claim_sample.proofs.Proofs.{IsMadeOf, is_sealed, made_of, seals_may_stand}
 use Rattle.vk_claim_sample.proofs.Sizes.{file_is_short, reply_is_short}
-use Rattle.vk_claim_sample.specs.Claims.{IsSaleOf, claim_sizes, head_with, proof_by, proof_with}
+use Rattle.vk_claim_sample.specs.Claims.{MayPublish, head_with, kind_in, proof_by, proof_with, sizes_of}
 use Rattle.vk_claim_sample.specs.Laws.{AreAccepted, HasSize, OpensAll}
 use Rattle.vk_claim_sample.specs.Texts.{claim_names, files_of}
 
@@ -124,24 +123,24 @@ module _ (width : ℕ) (proof : ProofValue) (is : IsSealedProof width proof) (fr
 
 -- ---- the claim of a case
 
-module _ (case : SampleCase) (is : IsCaseOf claim_sizes case) (numbers : List ℕ) (sale : IsSaleOf case numbers) (rows : List SealRow) (all : AllRows case rows)
-    (none : first_dry_in (source_of (proof_with case numbers rows)) ≡ None) where
+module _ (kind : ClaimKind) (case : SampleCase) (is : IsCaseOf (sizes_of kind) case) (numbers : List ℕ) (shown : IsShown kind case numbers) (rows : List SealRow)
+    (all : AllRows case rows) (none : first_dry_in (source_of (proof_with kind case numbers rows)) ≡ None) where
   abbrev proof : ProofValue
-  proof = proof_with case numbers rows
+  proof = proof_with kind case numbers rows
 
   abbrev front : ClaimFront
-  front = record { head = head_with case numbers; seals = map seal_lines_of rows }
+  front = record { head = head_with kind case numbers; seals = map seal_lines_of rows }
 
   sealed : IsSealedProof case.width proof
-  sealed = is_sealed case is.right numbers (is_case case is numbers sale) (is_claim case is numbers sale) rows all none
+  sealed = is_sealed kind case is.right numbers shown rows all none
 
-  head_is : IsClaimHead (head_with case numbers)
+  head_is : IsClaimHead (head_with kind case numbers)
   head_is = record {
     id = is.right.id;
     lanes = is.right.size.lanes;
     some_input = is.right.some_seal;
     few_inputs = omega (arith, is.right.few_seals);
-    numbers = are_numbers case is numbers sale;
+    numbers = shown.numbers_are;
   }
 
   front_is : IsClaimFront front
@@ -154,17 +153,17 @@ module _ (case : SampleCase) (is : IsCaseOf claim_sizes case) (numbers : List �
   admitted = record {
     front = front;
     right = front_is;
-    plan = uniform_plan (length case.seats) numbers;
-    admitted = uniform_part (length case.seats) numbers (is_case case is numbers sale);
+    plan = plan_of (kind_in kind) (length case.seats) numbers;
+    admitted = part (kind_in kind) (length case.seats) numbers shown.case_is;
   }
 
   -- the claim file is its front, the lanes and the end
   abbrev file : List ℕ
-  file = file_of (claim_head_text (head_with case numbers)) proof
+  file = file_of (claim_head_text (head_with kind case numbers)) proof
 
   file_is : file ≡ file_text (claim_front_text front) (lanes_in proof)
   file_is =
-      sym (append_assoc (claim_head_text (head_with case numbers)) (flat_map seal_lines_text (map seal_lines_of rows))
+      sym (append_assoc (claim_head_text (head_with kind case numbers)) (flat_map seal_lines_text (map seal_lines_of rows))
       (lanes_text 1 (lanes_in proof) ++ line (codes "end")))
 
   accepted : (challenge : Challenge) → IsChallenge challenge → length challenge.bits ≡ case.lanes → ClaimAccepts admitted_plan file (challenge_text challenge) (reply_in proof challenge.bits)
@@ -172,7 +171,7 @@ module _ (case : SampleCase) (is : IsCaseOf claim_sizes case) (numbers : List �
       let P : List ℕ → Type 0 = λ f. ClaimAccepts admitted_plan f (challenge_text challenge) (reply_in proof challenge.bits) in
       subst P (sym file_is) (record { shown = admitted; behind = accepts_proof case.width proof sealed challenge right count (claim_front_text front) })
 
-  pub are_accepted : AreAccepted case numbers proof
+  pub are_accepted : AreAccepted kind case numbers proof
   are_accepted = record {
     first = accepted case.first is.right.first is.right.first_count;
     second = accepted case.second is.right.second is.right.second_count;
@@ -193,13 +192,13 @@ module _ (case : SampleCase) (is : IsCaseOf claim_sizes case) (numbers : List �
   given = map (rows_in_lane rows) (differing 1 case.first.bits case.second.bits)
 
   abbrev all_found : OpenedClaim
-  all_found = record { head = head_with case numbers; opened = record { statement = statement_in proof; lanes = given } }
+  all_found = record { head = head_with kind case numbers; opened = record { statement = statement_in proof; lanes = given } }
 
-  found_same : (found : OpenedClaim) → found.head ≡ head_with case numbers → found.opened.statement ≡ statement_in proof → found.opened.lanes ≡ given → found ≡ all_found
+  found_same : (found : OpenedClaim) → found.head ≡ head_with kind case numbers → found.opened.statement ≡ statement_in proof → found.opened.lanes ≡ given → found ≡ all_found
   found_same found heads statements lanes =
       let of : ClaimHead → StatementValue → List LaneBids → OpenedClaim = λ h s ls. record { head = h; opened = record { statement = s; lanes = ls } } in
       ap (λ h. of h found.opened.statement found.opened.lanes) heads
-      ∙ (ap (λ s. of (head_with case numbers) s found.opened.lanes) statements ∙ ap (of (head_with case numbers) (statement_in proof)) lanes)
+      ∙ (ap (λ s. of (head_with kind case numbers) s found.opened.lanes) statements ∙ ap (of (head_with kind case numbers) (statement_in proof)) lanes)
 
   gives : (extraction : ClaimExtraction) → IsOfClaim admitted_plan claimed claims_two extraction → extraction ≡ Bids all_found
   gives (Refused second verdict) is_of = absurd is_of
@@ -218,39 +217,14 @@ module _ (case : SampleCase) (is : IsCaseOf claim_sizes case) (numbers : List �
 
   -- ---- read back
 
-  few_losers : length (losers_of (length case.seats) numbers) + 1 ≤ 10
-  few_losers = omega (arith, some_loses_not_all (length case.seats) numbers (is_case case is numbers sale), is.seals_are)
-
-  size : HasSize case numbers proof
-  size = record {
-    inputs = uniform_inputs (length case.seats) numbers ∙ is.seals_are;
-    lanes = is.lanes_are;
-    wires = uniform_wires (length case.seats) numbers ∙ ap (λ n. wire_count n numbers) is.seals_are;
-    rows = uniform_rows (length case.seats) numbers ∙ ap (λ n. row_count n numbers) is.seals_are;
-  }
-
-  losing_few : length (losers_of 10 numbers) ≤ 9
-  losing_few = subst (λ n. length (losers_of n numbers) ≤ 9) is.seals_are (omega (arith, few_losers))
-
-  few_pairs : length (winners_of numbers) * length (losers_of 10 numbers) ≤ 27
-  few_pairs = mul-le (length (winners_of numbers)) (length (losers_of 10 numbers)) 3 9 (omega (arith, three_win case is numbers sale)) losing_few
+  size : HasSize kind case numbers proof
+  size = record { inputs = plan_inputs (kind_in kind) (length case.seats) numbers ∙ is.seals_are; lanes = is.lanes_are ∙ eight_lanes kind; wires = shown.wires; rows = shown.rows }
 
   few_wires : length proof.plan.kinds ≤ 10000
-  few_wires =
-      let losing = length (losers_of 10 numbers) in
-      let pairs = length (winners_of numbers) * losing in
-      let sets = mul-le (width_of numbers) (10 + pairs + 2 * losing) 16 55 (omega (arith, width_is case is numbers sale, is.width_is)) (omega (arith, few_pairs, losing_few)) in
-      omega (arith, size.wires, sets, losing_few)
+  few_wires = omega (arith, shown.wires, shown.few_wires)
 
   few_rows : length proof.plan.rows ≤ 1000
-  few_rows =
-      let losing = length (losers_of 10 numbers) in
-      let last : (if losing == 0 then 0 else 1) ≤ 1 = at_most_one (losing == 0) in
-      omega (arith, size.rows, few_pairs, losing_few, last)
-    where
-      at_most_one : (test : Bool) → (if test then 0 else 1) ≤ 1
-      at_most_one true = omega arith
-      at_most_one false = omega arith
+  few_rows = omega (arith, shown.rows, shown.few_rows)
 
   -- a challenge and the reply to it, which are written before others of other names
   abbrev attempt : (before : Files) (others : List (List ℕ × List ℕ)) (names : AttemptWords) (challenge : Challenge) → IsChallenge challenge → length challenge.bits ≡ case.lanes
@@ -275,7 +249,7 @@ module _ (case : SampleCase) (is : IsCaseOf claim_sizes case) (numbers : List �
   abbrev both_attempts : List (List ℕ × List ℕ)
   both_attempts = (claim_names.first.challenge, challenge_text case.first) ∷ (claim_names.first.reply, reply_in proof case.first.bits) ∷ second_attempt
 
-  abbrev held : (files : Files) → HeldFiles (written (files_of case numbers proof) files) claim_names.board claim_names.first.challenge claim_names.first.reply claim_names.second.challenge claim_names.second.reply
+  abbrev held : (files : Files) → HeldFiles (written (files_of kind case numbers proof) files) claim_names.board claim_names.first.challenge claim_names.first.reply claim_names.second.challenge claim_names.second.reply
   held files =
       let board = insert files claim_names.board file in
       let first = insert (insert board claim_names.first.challenge (challenge_text case.first)) claim_names.first.reply (reply_in proof case.first.bits) in
@@ -284,17 +258,17 @@ module _ (case : SampleCase) (is : IsCaseOf claim_sizes case) (numbers : List �
         board_bytes = file;
         board_is = record {
           is = held_first both_attempts files claim_names.board file refl;
-          short = file_is_short proof sealed.right few_wires few_rows (head_with case numbers) head_is (omega (arith, all.count, is.right.few_seals)) seals;
+          short = file_is_short proof sealed.right few_wires few_rows (head_with kind case numbers) head_is (omega (arith, all.count, is.right.few_seals)) seals;
         };
         first = attempt board second_attempt claim_names.first case.first is.right.first is.right.first_count refl refl;
         second = attempt first [] claim_names.second case.second is.right.second is.right.second_count refl refl;
       }
 
-  pub opens_all : OpensAll case numbers proof
+  pub opens_all : OpensAll kind case numbers proof
   opens_all = record {
     found = all_found;
     read = λ files.
-        (claim_files_are_extracted admitted_plan (written (files_of case numbers proof) files) claim_names.board claim_names.first.challenge claim_names.first.reply
+        (claim_files_are_extracted admitted_plan (written (files_of kind case numbers proof) files) claim_names.board claim_names.first.challenge claim_names.first.reply
         claim_names.second.challenge claim_names.second.reply (Bids all_found)).1 (record { held = held files; is = sym extracted });
     all_lanes =
         length-map (differing 1 case.first.bits case.second.bits) (rows_in_lane rows)
@@ -306,15 +280,19 @@ module _ (case : SampleCase) (is : IsCaseOf claim_sizes case) (numbers : List �
 
 -- ---- of every case and what was made of it
 
-module _ (case : SampleCase) (is : IsCaseOf claim_sizes case) (numbers : List ℕ) (sale : IsSaleOf case numbers) (proof : ProofValue) (made : proof_by case numbers ≡ Ok proof) where
-  of : IsMadeOf case numbers proof
-  of = made_of case is.right numbers proof made
+module _ (kind : ClaimKind) (case : SampleCase) (is : IsCaseOf (sizes_of kind) case) (numbers : List ℕ) (published : MayPublish kind case numbers) (proof : ProofValue)
+    (made : proof_by kind case numbers ≡ Ok proof) where
+  of : IsMadeOf kind case numbers proof
+  of = made_of kind case is.right numbers proof made
 
-  pub has_size : HasSize case numbers proof
-  has_size = subst (HasSize case numbers) of.same (size case is numbers sale of.rows of.all of.none)
+  shows : IsShown kind case numbers
+  shows = is_shown kind case is numbers published
 
-  pub accepts : AreAccepted case numbers proof
-  accepts = subst (AreAccepted case numbers) of.same (are_accepted case is numbers sale of.rows of.all of.none)
+  pub has_size : HasSize kind case numbers proof
+  has_size = subst (HasSize kind case numbers) of.same (size kind case is numbers shows of.rows of.all of.none)
 
-  pub opens : OpensAll case numbers proof
-  opens = subst (OpensAll case numbers) of.same (opens_all case is numbers sale of.rows of.all of.none)
+  pub accepts : AreAccepted kind case numbers proof
+  accepts = subst (AreAccepted kind case numbers) of.same (are_accepted kind case is numbers shows of.rows of.all of.none)
+
+  pub opens : OpensAll kind case numbers proof
+  opens = subst (OpensAll kind case numbers) of.same (opens_all kind case is numbers shows of.rows of.all of.none)

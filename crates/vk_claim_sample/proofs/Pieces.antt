@@ -6,16 +6,17 @@ use Rattle.vk_claim.specs.Texts.{claim_head_text}
 use Rattle.vk_job.specs.Proofs.{ProofValue}
 use Rattle.vk_job.proofs.Joined.{file_is_joined, shown_is_joined}
 use Rattle.vk_report.specs.declared.sample.SampleCase.{SampleCase}
+use Rattle.vk_words.specs.declared.claim.ClaimKind.{ClaimKind}
 use Rattle.vk_words.specs.Names.{ExtractWords}
 use Rattle.vk_sample.specs.Written.{written_of}
 use Rattle.vk_claim_sample.specs.Claims.{head_with}
 use Rattle.vk_claim_sample.specs.Texts.{claim_names, files_of}
 
-texts_are : (case : SampleCase) (numbers : List ℕ) (proof : ProofValue)
-    → texts_of (written_of claim_names (claim_head_text (head_with case numbers)) proof case.first case.second) ≡ files_of case numbers proof
-texts_are case numbers proof =
+texts_are : (kind : ClaimKind) (case : SampleCase) (numbers : List ℕ) (proof : ProofValue)
+    → texts_of (written_of claim_names (claim_head_text (head_with kind case numbers)) proof case.first case.second) ≡ files_of kind case numbers proof
+texts_are kind case numbers proof =
     rw (
-      file_is_joined (claim_head_text (head_with case numbers)) proof,
+      file_is_joined (claim_head_text (head_with kind case numbers)) proof,
       append-nil (challenge_text case.first),
       shown_is_joined proof case.first.bits,
       append-nil (challenge_text case.second),
@@ -23,11 +24,11 @@ texts_are case numbers proof =
     ) refl
 
 -- under these names, with this head and this proof
-pub texts_from : (names : ExtractWords) (head : List ℕ) (of proof : ProofValue) (case : SampleCase) (numbers : List ℕ)
-    → names ≡ claim_names → head ≡ claim_head_text (head_with case numbers) → of ≡ proof
-    → texts_of (written_of names head of case.first case.second) ≡ files_of case numbers proof
-texts_from names head of proof case numbers named headed proved =
+pub texts_from : (names : ExtractWords) (head : List ℕ) (of proof : ProofValue) (kind : ClaimKind) (case : SampleCase) (numbers : List ℕ)
+    → names ≡ claim_names → head ≡ claim_head_text (head_with kind case numbers) → of ≡ proof
+    → texts_of (written_of names head of case.first case.second) ≡ files_of kind case numbers proof
+texts_from names head of proof kind case numbers named headed proved =
     ap (λ n. texts_of (written_of n head of case.first case.second)) named
     ∙ ap (λ h. texts_of (written_of claim_names h of case.first case.second)) headed
-    ∙ ap (λ p. texts_of (written_of claim_names (claim_head_text (head_with case numbers)) p case.first case.second)) proved
-    ∙ texts_are case numbers proof
+    ∙ ap (λ p. texts_of (written_of claim_names (claim_head_text (head_with kind case numbers)) p case.first case.second)) proved
+    ∙ texts_are kind case numbers proof

@@ -16,34 +16,34 @@ use Rattle.vk_job.specs.Published.{head_of}
 use Rattle.vk_job.proofs.Drawing.{lanes_of}
 use Rattle.vk_job.proofs.Parts as job_parts
 use Rattle.vk_honest.specs.Answers.{IsSealedProof}
-use Rattle.vk_uniform.specs.UniformPlans.{IsUniformCase, IsUniformClaim, uniform_plan, uniform_values}
-use Rattle.vk_uniform.specs.UniformLaws.{uniform_begins, uniform_complete, uniform_inputs, uniform_is_plan}
 use Rattle.vk_report.specs.declared.sample.SampleCase.{SampleCase}
 use Rattle.vk_report.specs.Samples.{IsCase}
+use Rattle.vk_words.specs.declared.claim.ClaimKind.{ClaimKind}
 use Rattle.vk_sample.specs.Auctions.{DrySeed, OfHouse, auction_with, dry_of, of_job, rows_onto, unless_dry}
 use Rattle.vk_sample.proofs.Auctions.{AllRows, all_rows, is_auction, none_dry}
-use Rattle.vk_claim_sample.specs.Claims.{proof_by, proof_unless_dry, proof_with}
+use Rattle.vk_claims.specs.Circuits.{plan_inputs, plan_is_right, plan_of}
+use Rattle.vk_claim_sample.proofs.Shown.{IsShown}
+use Rattle.vk_claim_sample.specs.Claims.{kind_in, proof_by, proof_unless_dry, proof_with, values_of}
 
-module _ (case : SampleCase) (is : IsCase case) (numbers : List ℕ) (uniform : IsUniformCase (length case.seats) numbers) (claim : IsUniformClaim (length case.seats) numbers case.bids)
-    (rows : List SealRow) (all : AllRows case rows) (none : first_dry_in (source_of (proof_with case numbers rows)) ≡ None) where
-  pub is_proof : IsProof (proof_with case numbers rows)
+module _ (kind : ClaimKind) (case : SampleCase) (is : IsCase case) (numbers : List ℕ) (shown : IsShown kind case numbers) (rows : List SealRow) (all : AllRows case rows)
+    (none : first_dry_in (source_of (proof_with kind case numbers rows)) ≡ None) where
+  pub is_proof : IsProof (proof_with kind case numbers rows)
   is_proof = record {
-    plan = uniform_is_plan (length case.seats) numbers uniform;
-    one_input_each = all.count ∙ sym (uniform_inputs (length case.seats) numbers);
-    values = uniform_complete (length case.seats) numbers case.bids uniform claim;
+    plan = plan_is_right (kind_in kind) (length case.seats) numbers shown.case_is;
+    one_input_each = all.count ∙ sym (plan_inputs (kind_in kind) (length case.seats) numbers);
+    values = shown.holds;
     count = is.size.lanes;
     secrets = All-weaker (IsSealRow case.auction case.width case.lanes) (HasTapesFor case.lanes)
         (λ row right. record { count = lanes_of case.auction case.width case.lanes row right; each = right.secret.tapes }) rows all.right;
     none_dry = none;
   }
 
-  pub is_sealed : IsSealedProof case.width (proof_with case numbers rows)
+  pub is_sealed : IsSealedProof case.width (proof_with kind case numbers rows)
   is_sealed = record {
     right = is_proof;
     rows = all.right;
     inputs =
-        ap (λ n. take n (uniform_values (length case.seats) numbers case.bids)) all.count
-        ∙ uniform_begins (length case.seats) numbers case.bids uniform claim ∙ sym all.bids_are;
+        ap (λ n. take n (values_of kind (length case.seats) numbers case.bids)) all.count ∙ shown.begins ∙ sym all.bids_are;
   }
 
 -- the seals may stand in a claim file
@@ -53,26 +53,26 @@ seals_may_stand case is rows all = job_parts.seals_are (auction_with case rows) 
 
 -- ---- what was made
 
-pub record IsMadeOf (case : SampleCase) (numbers : List ℕ) (proof : ProofValue) : Type 0 where
+pub record IsMadeOf (kind : ClaimKind) (case : SampleCase) (numbers : List ℕ) (proof : ProofValue) : Type 0 where
   pub rows : List SealRow
   pub all : AllRows case rows
-  pub none : first_dry_in (source_of (proof_with case numbers rows)) ≡ None
-  pub same : proof_with case numbers rows ≡ proof
+  pub none : first_dry_in (source_of (proof_with kind case numbers rows)) ≡ None
+  pub same : proof_with kind case numbers rows ≡ proof
 
-pub made_of : (case : SampleCase) → IsCase case → (numbers : List ℕ) (proof : ProofValue) → proof_by case numbers ≡ Ok proof → IsMadeOf case numbers proof
+pub made_of : (kind : ClaimKind) (case : SampleCase) → IsCase case → (numbers : List ℕ) (proof : ProofValue) → proof_by kind case numbers ≡ Ok proof → IsMadeOf kind case numbers proof
 unfolding proof_by
-made_of case is numbers proof made =
-    let given = bind_ok (rows_onto case [] (length case.seats)) (proof_unless_dry case numbers) proof made in
+made_of kind case is numbers proof made =
+    let given = bind_ok (rows_onto case [] (length case.seats)) (proof_unless_dry kind case numbers) proof made in
     let rows = given.0 in
-    let passed = none_dry (proof_with case numbers rows) proof (first_dry_in (source_of (proof_with case numbers rows))) given.2 in
+    let passed = none_dry (proof_with kind case numbers rows) proof (first_dry_in (source_of (proof_with kind case numbers rows))) given.2 in
     record { rows = rows; all = all_rows case is rows given.1; none = passed.0; same = passed.1 }
 
 -- of a case whose numbers are right, it is honest
-pub is_honest : (case : SampleCase) → IsCase case → (numbers : List ℕ) → IsUniformCase (length case.seats) numbers → IsUniformClaim (length case.seats) numbers case.bids
-    → (proof : ProofValue) → proof_by case numbers ≡ Ok proof → IsProof proof
-is_honest case is numbers uniform claim proof made =
-    let of = made_of case is numbers proof made in
-    subst (λ p. IsProof p) of.same (is_proof case is numbers uniform claim of.rows of.all of.none)
+pub is_honest : (kind : ClaimKind) (case : SampleCase) → IsCase case → (numbers : List ℕ) → IsShown kind case numbers
+    → (proof : ProofValue) → proof_by kind case numbers ≡ Ok proof → IsProof proof
+is_honest kind case is numbers shown proof made =
+    let of = made_of kind case is numbers proof made in
+    subst (λ p. IsProof p) of.same (is_proof kind case is numbers shown of.rows of.all of.none)
 
 -- ---- what refuses it
 
@@ -93,24 +93,24 @@ dry_passes proof (Some dry) is = cc
 abbrev pub source_with : SampleCase → List SealRow → ℕ → TapeSource
 source_with case rows further = record { id = case.auction; rows = rows; lanes = case.lanes; seed = case.seed; further = further }
 
-module _ (case : SampleCase) (numbers : List ℕ) (rows : List SealRow) (rows_are : rows_onto case [] (length case.seats) ≡ Ok rows)
-    (plan : PlanValue) (plan_is : plan ≡ uniform_plan (length case.seats) numbers) (further : ℕ) (further_is : further ≡ length plan.kinds - plan.inputs) where
-  of_proof : (answer : Result Unit JobErr) → answer ≡ dry_refusal (first_dry_in (source_with case rows further)) → answer ≡ dry_refusal (first_dry_in (source_of (proof_with case numbers rows)))
+module _ (kind : ClaimKind) (case : SampleCase) (numbers : List ℕ) (rows : List SealRow) (rows_are : rows_onto case [] (length case.seats) ≡ Ok rows)
+    (plan : PlanValue) (plan_is : plan ≡ plan_of (kind_in kind) (length case.seats) numbers) (further : ℕ) (further_is : further ≡ length plan.kinds - plan.inputs) where
+  of_proof : (answer : Result Unit JobErr) → answer ≡ dry_refusal (first_dry_in (source_with case rows further)) → answer ≡ dry_refusal (first_dry_in (source_of (proof_with kind case numbers rows)))
   of_proof answer is =
       is ∙ ap (λ f. dry_refusal (first_dry_in (source_with case rows f))) (further_is ∙ ap (λ (p : PlanValue). length p.kinds - p.inputs) plan_is)
 
-  pub tapes_refuse : (refused : JobErr) → Err refused ≡ dry_refusal (first_dry_in (source_with case rows further)) → Refuses (dry_of (of_job refused)) (proof_by case numbers)
+  pub tapes_refuse : (refused : JobErr) → Err refused ≡ dry_refusal (first_dry_in (source_with case rows further)) → Refuses (dry_of (of_job refused)) (proof_by kind case numbers)
   unfolding proof_by
   tapes_refuse refused is =
-      subst (λ r. Refuses (dry_of (of_job refused)) (r >>= proof_unless_dry case numbers)) (sym rows_are)
-      (dry_refuses (proof_with case numbers rows) (first_dry_in (source_of (proof_with case numbers rows))) refused (of_proof (Err refused) is))
+      subst (λ r. Refuses (dry_of (of_job refused)) (r >>= proof_unless_dry kind case numbers)) (sym rows_are)
+      (dry_refuses (proof_with kind case numbers rows) (first_dry_in (source_of (proof_with kind case numbers rows))) refused (of_proof (Err refused) is))
 
-  pub tapes_pass : (values : List ℕ) → values ≡ uniform_values (length case.seats) numbers case.bids → Ok tt ≡ dry_refusal (first_dry_in (source_with case rows further))
-      → proof_by case numbers ≡ Ok (record { id = case.auction; rows = rows; lanes = case.lanes; seed = case.seed; plan = plan; values = values })
+  pub tapes_pass : (values : List ℕ) → values ≡ values_of kind (length case.seats) numbers case.bids → Ok tt ≡ dry_refusal (first_dry_in (source_with case rows further))
+      → proof_by kind case numbers ≡ Ok (record { id = case.auction; rows = rows; lanes = case.lanes; seed = case.seed; plan = plan; values = values })
   unfolding proof_by
   tapes_pass values values_are is =
       let made : PlanValue → List ℕ → Result ProofValue DrySeed = λ p vs. Ok (record { id = case.auction; rows = rows; lanes = case.lanes; seed = case.seed; plan = p; values = vs }) in
-      ap (λ r. r >>= proof_unless_dry case numbers) rows_are
-      ∙ dry_passes (proof_with case numbers rows) (first_dry_in (source_of (proof_with case numbers rows))) (of_proof (Ok tt) is)
-      ∙ ap (λ p. made p (uniform_values (length case.seats) numbers case.bids)) (sym plan_is)
+      ap (λ r. r >>= proof_unless_dry kind case numbers) rows_are
+      ∙ dry_passes (proof_with kind case numbers rows) (first_dry_in (source_of (proof_with kind case numbers rows))) (of_proof (Ok tt) is)
+      ∙ ap (λ p. made p (values_of kind (length case.seats) numbers case.bids)) (sym plan_is)
       ∙ ap (made plan) (sym values_are)

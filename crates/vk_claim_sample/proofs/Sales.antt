@@ -1,19 +1,20 @@
--- The numbers of a sample's claim, and that its bids are as they claim.
-use Rattle.std.proofs.Common.{◌≡◌, ℕ, ◌-◌, ◌^◌, ◌<◌, ◌≤◌, List, ◌∷◌, length, refl, sym, ap, subst, ◌∙◌, arith, inl, inr}
-use Rattle.std.specs.Prelude.{All, slice_index}
+-- The numbers of a sample's sale, and that its bids are as they claim.
+use Rattle.std.proofs.Common.{◌≡◌, ℕ, ◌+◌, ◌-◌, ◌*◌, ◌^◌, ◌<◌, ◌≤◌, Bool, true, false, List, ◌∷◌, length, refl, sym, ap, subst, ◌∙◌, arith, inl, inr}
+use Rattle.std.specs.Prelude.{All, ◌==◌, if◌then◌else◌, slice_index}
 use Rattle.std.proofs.lemmas.Bool.{cases_lt}
 use Rattle.std.proofs.Math.Nat.{pow-le-pow_right}
 use Rattle.std.proofs.lemmas.List.Elements.{All-weaker, recursion_from_All}
-use Rattle.std.proofs.lemmas.Nat.{pow_pos}
+use Rattle.std.proofs.lemmas.Nat.{mul-le, pow_pos}
 use Rattle.vk_uniform.specs.Outcomes.{IsLoser, IsPosition, IsUniformOutcome, bid_at}
 use Rattle.vk_uniform.specs.Losers.{loser_listed, losers, losers_lose}
 use Rattle.vk_uniform.specs.OutcomeLaws.{outcome_exists, outcome_is_one}
-use Rattle.vk_uniform.specs.UniformPlans.{IsUniformCase, IsUniformClaim, width_of, winners_of}
+use Rattle.vk_uniform.specs.UniformLaws.{some_loses_not_all, uniform_rows, uniform_wires}
+use Rattle.vk_uniform.specs.UniformPlans.{IsUniformCase, IsUniformClaim, losers_of, row_count, uniform_plan, width_of, winners_of, wire_count}
 use Rattle.vk_claim.specs.Values.{AreNumbers}
 use Rattle.vk_report.specs.declared.sample.SampleCase.{SampleCase}
-use Rattle.vk_report.proofs.Samples.{is_case as case_of_sizes}
-use Rattle.vk_report.specs.Samples.{AreSizes, IsCaseOf}
-use Rattle.vk_claim_sample.specs.Claims.{IsSaleOf, claim_case, claim_sizes, enough_bids, numbers_of, some_unit, units}
+use Rattle.vk_report.specs.Samples.{IsCaseOf}
+use Rattle.vk_words.specs.declared.claim.ClaimKind.TheVariants.{Uniform}
+use Rattle.vk_claim_sample.specs.Claims.{IsSaleOf, claim_case, enough_bids, numbers_of, sizes_of, some_unit, units}
 
 -- the price is a loser's bid, or 0
 price_small : (width : ℕ) (bids winners : List ℕ) (price : ℕ) → All (λ bid. bid < 2 ^ width) bids → IsUniformOutcome bids winners price → price < 2 ^ width
@@ -31,7 +32,7 @@ price_small width bids winners price small is =
           omega (arith, is.all_win_for_0 nobody, pow_pos width))
     ]
 
-module _ (case : SampleCase) (is : IsCaseOf claim_sizes case) (winners : List ℕ) (price : ℕ) (sale : IsUniformOutcome case.bids winners price) (count : length winners ≡ units) where
+module _ (case : SampleCase) (is : IsCaseOf (sizes_of Uniform) case) (winners : List ℕ) (price : ℕ) (sale : IsUniformOutcome case.bids winners price) (count : length winners ≡ units) where
   pub sale_case : IsUniformCase (length case.seats) (case.width ∷ price ∷ winners)
   sale_case = record {
     limits = record {
@@ -64,7 +65,7 @@ module _ (case : SampleCase) (is : IsCaseOf claim_sizes case) (winners : List �
 
 -- ---- of numbers that are those of an outcome
 
-module _ (case : SampleCase) (is : IsCaseOf claim_sizes case) (numbers : List ℕ) (of : IsSaleOf case numbers) where
+module _ (case : SampleCase) (is : IsCaseOf (sizes_of Uniform) case) (numbers : List ℕ) (of : IsSaleOf case numbers) where
   pub is_case : IsUniformCase (length case.seats) numbers
   is_case = subst (IsUniformCase (length case.seats)) (sym of.numbers_are) (sale_case case is of.winners of.price of.outcome of.count)
 
@@ -80,31 +81,53 @@ module _ (case : SampleCase) (is : IsCaseOf claim_sizes case) (numbers : List �
   pub width_is : width_of numbers ≡ case.width
   width_is = ap (λ ns. width_of ns) of.numbers_are
 
+  -- ---- how large the circuit is
+
+  pub wires_are : length (uniform_plan (length case.seats) numbers).kinds ≡ wire_count 10 numbers
+  wires_are = uniform_wires (length case.seats) numbers ∙ ap (λ n. wire_count n numbers) is.seals_are
+
+  pub rows_are : length (uniform_plan (length case.seats) numbers).rows ≡ row_count 10 numbers
+  rows_are = uniform_rows (length case.seats) numbers ∙ ap (λ n. row_count n numbers) is.seals_are
+
+  few_losers : length (losers_of (length case.seats) numbers) + 1 ≤ 10
+  few_losers = omega (arith, some_loses_not_all (length case.seats) numbers is_case, is.seals_are)
+
+  losing_few : length (losers_of 10 numbers) ≤ 9
+  losing_few = subst (λ n. length (losers_of n numbers) ≤ 9) is.seals_are (omega (arith, few_losers))
+
+  few_pairs : length (winners_of numbers) * length (losers_of 10 numbers) ≤ 27
+  few_pairs = mul-le (length (winners_of numbers)) (length (losers_of 10 numbers)) 3 9 (omega (arith, three_win)) losing_few
+
+  pub few_wires : wire_count 10 numbers ≤ 10000
+  few_wires =
+      let losing = length (losers_of 10 numbers) in
+      let pairs = length (winners_of numbers) * losing in
+      let sets = mul-le (width_of numbers) (10 + pairs + 2 * losing) 16 55 (omega (arith, width_is, is.width_is)) (omega (arith, few_pairs, losing_few)) in
+      omega (arith, sets, losing_few)
+
+  pub few_rows : row_count 10 numbers ≤ 1000
+  few_rows =
+      let losing = length (losers_of 10 numbers) in
+      let last : (if losing == 0 then 0 else 1) ≤ 1 = at_most_one (losing == 0) in
+      omega (arith, few_pairs, losing_few, last)
+    where
+      at_most_one : (test : Bool) → (if test then 0 else 1) ≤ 1
+      at_most_one true = omega arith
+      at_most_one false = omega arith
+
 -- they are those of the number
-pub numbers_are : (number : ℕ) (case : SampleCase) (numbers : List ℕ) → case ≡ claim_case number → IsSaleOf case numbers → numbers ≡ numbers_of number
+pub numbers_are : (number : ℕ) (case : SampleCase) (numbers : List ℕ) → case ≡ claim_case Uniform number → IsSaleOf case numbers → numbers ≡ numbers_of number
 unfolding numbers_of
 numbers_are number case numbers is of =
-    let sale = outcome_exists (claim_case number).bids units some_unit (enough_bids number) in
+    let sale = outcome_exists (claim_case Uniform number).bids units some_unit (enough_bids number) in
     let P : SampleCase → Type 0 = λ c. IsSaleOf c numbers in
-    let here : IsSaleOf (claim_case number) numbers = subst P is of in
-    let one = outcome_is_one (claim_case number).bids here.winners sale.0 here.price sale.1 here.outcome sale.2 (here.count ∙ sym sale.3) in
+    let here : IsSaleOf (claim_case Uniform number) numbers = subst P is of in
+    let one = outcome_is_one (claim_case Uniform number).bids here.winners sale.0 here.price sale.1 here.outcome sale.2 (here.count ∙ sym sale.3) in
     here.numbers_are
-    ∙ (ap (λ p. (claim_case number).width ∷ p ∷ here.winners) one.1 ∙ ap (λ ws. (claim_case number).width ∷ sale.1 ∷ ws) one.0)
+    ∙ (ap (λ p. (claim_case Uniform number).width ∷ p ∷ here.winners) one.1 ∙ ap (λ ws. (claim_case Uniform number).width ∷ sale.1 ∷ ws) one.0)
 
-pub sale_is : (number : ℕ) → IsSaleOf (claim_case number) (numbers_of number)
+pub sale_is : (number : ℕ) → IsSaleOf (claim_case Uniform number) (numbers_of number)
 unfolding numbers_of
 sale_is number =
-    let sale = outcome_exists (claim_case number).bids units some_unit (enough_bids number) in
+    let sale = outcome_exists (claim_case Uniform number).bids units some_unit (enough_bids number) in
     record { winners = sale.0; price = sale.1; outcome = sale.2; count = sale.3; numbers_are = refl }
-
-claim_are : AreSizes claim_sizes
-claim_are = record {
-  letters = refl;
-  some_seal = omega arith;
-  few_seals = omega arith;
-  width = inl refl;
-  lanes = record { least = omega arith; most = omega arith };
-}
-
-pub case_is : (number : ℕ) → IsCaseOf claim_sizes (claim_case number)
-case_is number = case_of_sizes claim_sizes claim_are number

@@ -9,7 +9,7 @@ use Rattle.vk_reply.specs.declared.challenge.Challenge.{Challenge}
 use Rattle.vk_reply.specs.Values.{IsChallenge}
 use Rattle.vk_claim.specs.declared.head.ClaimHead.{ClaimHead}
 use Rattle.vk_claim.specs.declared.head.Kind.{Kind}
-use Rattle.vk_claim.specs.declared.head.Kind.TheVariants.{Uniform}
+use Rattle.vk_claim.specs.declared.head.Kind.TheVariants.{Uniform, Matching}
 use Rattle.vk_claim.specs.Values.{AreNumbers, IsClaimHead}
 use Rattle.vk_claim.specs.Texts.{claim_head_text, kind_word, numbers_text}
 use Rattle.vk_job.specs.Proofs.{IsProof, ProofValue, file_of, lanes_shown_from, reply_in, seal_lines_of}
@@ -20,6 +20,7 @@ use Rattle.vk_honest.proofs.Sizes.{file_has, number_has, reply_has, short_text}
 
 kind_has : (kind : Kind) → HasLines 1 (line (spaced (codes "kind" ∷ kind_word kind ∷ [])))
 kind_has Uniform = line_has (fixed_line (codes "kind uniform") refl (omega arith)) tt tt
+kind_has Matching = line_has (fixed_line (codes "kind matching") refl (omega arith)) tt tt
 
 numbers_have : (numbers : List ℕ) → AreNumbers numbers → HasLines (1 + length numbers * 1) (numbers_text numbers)
 unfolding numbers_text

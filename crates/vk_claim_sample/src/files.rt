@@ -6,7 +6,7 @@ ghost use Rattle.vk_io.specs.Writing.{WritesAll};
 ghost use Rattle.vk_words.specs.Names.{extract_seen};
 ghost use Rattle.vk_claim.specs.Texts.{claim_head_text};
 ghost use Rattle.vk_job.specs.Proofs.{IsProof};
-ghost use Rattle.vk_claim_sample.specs.Claims.{head_with, proof_in};
+ghost use Rattle.vk_claim_sample.specs.Claims.{head_with, kind_in, proof_in};
 ghost use Rattle.vk_claim_sample.specs.Texts.{claim_names, files_of};
 
 use crate::making::Made;
@@ -18,7 +18,7 @@ use vk_report::SampleCase;
 use vk_residue::NoMemory;
 use vk_sample::ProofFiles;
 use vk_seq::Seq;
-use vk_words::{AttemptNames, ExtractNames};
+use vk_words::{AttemptNames, ClaimKind, ExtractNames};
 
 /// The names of the files.
 pub fn claim_names() -> ExtractNames<'static>
@@ -37,14 +37,29 @@ pub fn claim_names() -> ExtractNames<'static>
     }
 }
 
+/// The kind of the claim file.
+pub fn kind_in(kind: ClaimKind) -> Kind
+    ensures { result ≡ kind_in kind }
+{
+    match kind {
+        ClaimKind::Uniform => Kind::Uniform,
+        ClaimKind::Matching => Kind::Matching,
+    }
+}
+
 /// The text of the head of the claim file.
-fn head_of(alloc: Global, case: &SampleCase, numbers: &[u64]) -> Result<Vec<u8>, NoMemory>
+fn head_of(
+    alloc: Global,
+    kind: ClaimKind,
+    case: &SampleCase,
+    numbers: &[u64],
+) -> Result<Vec<u8>, NoMemory>
     requires { length case.now.seats ≤ 64 }
-    ensures { IfOk result (λ text. text.items ≡ claim_head_text (head_with case.now numbers.now)) }
+    ensures { IfOk result (λ text. text.items ≡ claim_head_text (head_with kind case.now numbers.now)) }
 {
     let head = ClaimHead {
         auction: case.auction,
-        kind: Kind::Uniform,
+        kind: kind_in(kind),
         lanes: case.lanes,
         inputs: case.seats.len() as u32,
         numbers: Seq::from_vec(Vec::from_slice(alloc, numbers)?),
@@ -57,6 +72,7 @@ fn head_of(alloc: Global, case: &SampleCase, numbers: &[u64]) -> Result<Vec<u8>,
 pub fn write_claim<S: Shelf>(
     alloc: Global,
     shelf: &mut S,
+    kind: ClaimKind,
     case: &SampleCase,
     numbers: &[u64],
     made: &Made,
@@ -65,10 +81,10 @@ pub fn write_claim<S: Shelf>(
     requires right { IsProof (proof_in case.now made.now) }
     requires first { length case.now.first.bits ≡ case.now.lanes }
     requires second { length case.now.second.bits ≡ case.now.lanes }
-    ensures written { Told (WritesAll (files_of case.now numbers.now (proof_in case.now made.now)) result) (S.held shelf.old) (S.held shelf.new) }
+    ensures written { Told (WritesAll (files_of kind case.now numbers.now (proof_in case.now made.now)) result) (S.held shelf.old) (S.held shelf.new) }
     ensures causes { Causes OutsideErr.Failed result (S.Shelf.faults shelf.old) (S.Shelf.faults shelf.new) }
 {
-    let head = head_of(alloc, case, numbers)?;
+    let head = head_of(alloc, kind, case, numbers)?;
     let proof = HonestProof::of(
         &case.auction,
         made.rows.as_slice(),

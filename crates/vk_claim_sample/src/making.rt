@@ -1,22 +1,23 @@
 // The honest proof of a sample's claim.
-ghost use Rattle.std.specs.Prelude.{◌≡◌, All, length, IfOk};
+ghost use Rattle.std.specs.Prelude.{◌≡◌, All, length, IfOk, IfSome, IsSomeAnd};
 ghost use Rattle.vk_residue.specs.Residue.{IsResidue};
 ghost use Rattle.vk_lines.specs.Gives.{Gives};
-ghost use Rattle.vk_uniform.specs.Circuits.{inputs_of as InputsOf, numbers_of as NumbersOf};
-ghost use Rattle.vk_uniform.specs.UniformPlans.{IsUniformCase, IsUniformClaim, uniform_plan, uniform_values};
 ghost use Rattle.vk_report.specs.Samples.{IsCaseOf};
+ghost use Rattle.vk_claims.specs.Circuits.{plan_of};
 ghost use Rattle.vk_sample.specs.Auctions.{dry_of};
-ghost use Rattle.vk_claim_sample.specs.Claims.{IsSaleOf, claim_sizes, proof_by, proof_in};
+ghost use Rattle.vk_claim_sample.specs.Claims.{MayPublish, kind_in, proof_by, proof_in, sizes_of, values_of};
 
 use std::alloc::Global;
 use vk_job::check_tapes;
 use vk_keeper::SealRow;
+use vk_matching::MatchingPlan;
 use vk_plan::{Circuit, Plan};
 use vk_report::SampleCase;
 use vk_residue::{NoMemory, Residue};
 use vk_sample::{SampleErr, seal_rows};
 use vk_seq::Seq;
 use vk_uniform::UniformPlan;
+use vk_words::ClaimKind;
 
 /// What the honest proof of a case is made from besides it: the seals with their secrets, the circuit, and the values of
 /// its wires.
@@ -27,56 +28,87 @@ pub struct Made {
     pub values: Seq<Residue>,
 }
 
+/// A circuit's plan, and the values of all its wires.
+#[derive(Drop)]
+struct Filled {
+    plan: Plan,
+    values: Seq<Residue>,
+}
+
 /// What the proof of the case is made from, where these numbers are published.
 #[tactic(auto, unfolding(crate::specs::Claims::proof_by))]
-pub fn make_claim(alloc: Global, case: &SampleCase, numbers: &[u64]) -> Result<Made, SampleErr>
-    requires right { IsCaseOf claim_sizes case.now }
-    requires sale { IsSaleOf case.now numbers.now }
-    ensures { Gives dry_of (proof_in case.now) result (proof_by case.now numbers.now) }
+pub fn make_claim(
+    alloc: Global,
+    kind: ClaimKind,
+    case: &SampleCase,
+    numbers: &[u64],
+) -> Result<Made, SampleErr>
+    requires right { IsCaseOf (sizes_of kind) case.now }
+    requires published { MayPublish kind case.now numbers.now }
+    ensures { Gives dry_of (proof_in case.now) result (proof_by kind case.now numbers.now) }
 {
     let rows = seal_rows(alloc, case)?;
-    let circuit = circuit_of(alloc, case.seats.len() as u32, numbers)?;
-    let plan = plan_of(alloc, &circuit)?;
-    let values = values_of(alloc, &circuit, case.bids.as_slice())?;
+    let filled = filled_by(alloc, kind, case, numbers)?;
     check_tapes(
         &case.auction,
         rows.as_slice(),
         case.lanes,
         &case.seed,
-        plan.wires() - plan.inputs(),
+        filled.plan.wires() - filled.plan.inputs(),
     )?;
-    Ok(Made { rows, plan, values })
+    Ok(Made {
+        rows,
+        plan: filled.plan,
+        values: filled.values,
+    })
 }
 
-/// The circuit of so many inputs and these numbers.
-fn circuit_of(alloc: Global, inputs: u32, numbers: &[u64]) -> Result<UniformPlan, NoMemory>
-    requires { IsUniformCase inputs numbers.now }
-    ensures inputs { IfOk result (λ circuit. InputsOf circuit ≡ inputs) }
-    ensures numbers { IfOk result (λ circuit. NumbersOf circuit ≡ numbers.now) }
+/// The plan of these numbers, filled with the case's values.
+fn filled_by(
+    alloc: Global,
+    kind: ClaimKind,
+    case: &SampleCase,
+    numbers: &[u64],
+) -> Result<Filled, NoMemory>
+    requires published { MayPublish kind case.now numbers.now }
+    requires right { IsCaseOf (sizes_of kind) case.now }
+    ensures plan { IfOk result (λ filled. filled.plan ≡ plan_of (kind_in kind) (length case.now.seats) numbers.now) }
+    ensures values { IfOk result (λ filled. filled.values ≡ values_of kind (length case.now.seats) numbers.now case.now.bids) }
 {
-    match UniformPlan::from_numbers(alloc, inputs, numbers)? {
-        Some(circuit) => Ok(circuit),
-        None => unreachable!(),
+    let inputs = case.seats.len() as u32;
+    match kind {
+        ClaimKind::Uniform => {
+            let circuit = UniformPlan::from_numbers(alloc, inputs, numbers)?;
+            let filled = fill(alloc, &circuit, case.bids.as_slice())?;
+            Ok(filled)
+        }
+        ClaimKind::Matching => {
+            let circuit = MatchingPlan::from_numbers(alloc, inputs, numbers)?;
+            let filled = fill(alloc, &circuit, case.bids.as_slice())?;
+            Ok(filled)
+        }
     }
 }
 
-/// Its plan.
-fn plan_of(alloc: Global, circuit: &UniformPlan) -> Result<Plan, NoMemory>
-    ensures { IfOk result (λ plan. plan ≡ uniform_plan (InputsOf circuit.now) (NumbersOf circuit.now)) }
+/// The plan of a circuit that was made, and the values of its wires by those of its inputs.
+fn fill<C: Circuit>(alloc: Global, made: &Option<C>, inputs: &[u64]) -> Result<Filled, NoMemory>
+    requires claim { IsSomeAnd made.now (λ circuit. C.claim circuit inputs.now) }
+    requires small { All IsResidue inputs.now }
+    ensures plan { IfOk result (λ filled. IfSome made.now (λ circuit. filled.plan ≡ C.plan_of circuit)) }
+    ensures values { IfOk result (λ filled. IfSome made.now (λ circuit. filled.values ≡ C.filled circuit inputs.now)) }
 {
-    let plan = circuit.plan(alloc)?;
-    Ok(plan)
-}
-
-/// The values of all its wires.
-fn values_of(alloc: Global, circuit: &UniformPlan, bids: &[u64]) -> Result<Seq<Residue>, NoMemory>
-    requires claim { IsUniformClaim (InputsOf circuit.now) (NumbersOf circuit.now) bids.now }
-    requires small { All IsResidue bids.now }
-    ensures { IfOk result (λ values. values ≡ uniform_values (InputsOf circuit.now) (NumbersOf circuit.now) bids.now) }
-{
-    let inputs = residues(alloc, bids)?;
-    let values = circuit.fill(alloc, inputs.as_slice())?;
-    Ok(Seq::from_vec(values))
+    match made {
+        Some(circuit) => {
+            let plan = circuit.plan(alloc)?;
+            let inputs = residues(alloc, inputs)?;
+            let values = circuit.fill(alloc, inputs.as_slice())?;
+            Ok(Filled {
+                plan,
+                values: Seq::from_vec(values),
+            })
+        }
+        None => unreachable!(),
+    }
 }
 
 /// The same numbers.

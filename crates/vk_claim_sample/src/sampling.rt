@@ -4,32 +4,40 @@ ghost use Rattle.vk_keeper.specs.Ledgers.{Ledger};
 ghost use Rattle.vk_report.specs.Samples.{IsCaseOf};
 ghost use Rattle.vk_effect.specs.Effects.{stores};
 ghost use Rattle.vk_sample.specs.Samples.{Acts};
-ghost use Rattle.vk_claim_sample.specs.Claims.{IsSaleOf, claim_sizes, proof_by, proof_in};
-ghost use Rattle.vk_claim_sample.specs.ClaimSamples.{claim_sample_on, effect_by};
+ghost use Rattle.vk_claim_sample.specs.Claims.{MayPublish, proof_by, proof_in, sizes_of};
+ghost use Rattle.vk_claim_sample.specs.ClaimSamples.{ActsFreely, claim_sample_on, effect_by};
 
 use crate::files::write_claim;
 use crate::making::{Made, make_claim};
-use crate::numbers::{claim_sizes, numbers_of};
+use crate::numbers::{numbers_of, sizes_of};
 use crate::reading::read_back;
 use crate::summary::made_lines;
 use std::alloc::Global;
 use vk_effect::Said;
 use vk_io::{OutsideErr, Shelf};
 use vk_report::{SampleCase, case_of};
+use vk_words::ClaimKind;
 
 /// Makes the claim of a number with its file and two replies, writes them, reads them back, and says what they come to.
-/// Files that stand under their names are replaced; where a seed is dry none is written.
-pub fn claim_sample<S: Shelf>(alloc: Global, shelf: &mut S, number: u64) -> Result<Said, OutsideErr>
-    ensures acts { (ledger : Option Ledger) → IfSome (claim_sample_on (S.held shelf.old) ledger number)
+/// Files that stand under their names are replaced; where a seed is dry none is written. Of the kind matching any of the
+/// matchings that are stable for the number's ranks may be published.
+pub fn claim_sample<S: Shelf>(
+    alloc: Global,
+    shelf: &mut S,
+    kind: ClaimKind,
+    number: u64,
+) -> Result<Said, OutsideErr>
+    ensures acts { (ledger : Option Ledger) → IfSome (claim_sample_on (S.held shelf.old) ledger kind number)
         (λ effect. Acts result effect (stores (S.held shelf.old) ledger) (stores (S.held shelf.new) ledger)) }
+    ensures free { (ledger : Option Ledger) → ActsFreely kind number result (stores (S.held shelf.old) ledger) (stores (S.held shelf.new) ledger) }
     ensures causes { Causes OutsideErr.Failed result (S.Shelf.faults shelf.old) (S.Shelf.faults shelf.new) }
 {
-    let case = case_of(alloc, &claim_sizes(), number)?;
-    let published = numbers_of(alloc, &case)?;
+    let case = case_of(alloc, &sizes_of(kind), number)?;
+    let published = numbers_of(alloc, kind, &case)?;
     let numbers = published.as_slice();
-    match make_claim(alloc, &case, numbers) {
+    match make_claim(alloc, kind, &case, numbers) {
         Ok(made) => {
-            let said = hold(alloc, shelf, number, &case, numbers, &made);
+            let said = hold(alloc, shelf, kind, number, &case, numbers, &made);
             said
         }
         Err(dry) => {
@@ -43,20 +51,21 @@ pub fn claim_sample<S: Shelf>(alloc: Global, shelf: &mut S, number: u64) -> Resu
 fn hold<S: Shelf>(
     alloc: Global,
     shelf: &mut S,
+    kind: ClaimKind,
     number: u64,
     case: &SampleCase,
     numbers: &[u64],
     made: &Made,
 ) -> Result<Said, OutsideErr>
-    requires right { IsCaseOf claim_sizes case.now }
-    requires sale { IsSaleOf case.now numbers.now }
-    requires made { proof_by case.now numbers.now ≡ Ok (proof_in case.now made.now) }
-    ensures acts { (ledger : Option Ledger) → IfSome (effect_by (S.held shelf.old) ledger number case.now numbers.now (Ok (proof_in case.now made.now)))
+    requires right { IsCaseOf (sizes_of kind) case.now }
+    requires published { MayPublish kind case.now numbers.now }
+    requires made { proof_by kind case.now numbers.now ≡ Ok (proof_in case.now made.now) }
+    ensures acts { (ledger : Option Ledger) → IfSome (effect_by kind (S.held shelf.old) ledger number case.now numbers.now (Ok (proof_in case.now made.now)))
         (λ effect. Acts result effect (stores (S.held shelf.old) ledger) (stores (S.held shelf.new) ledger)) }
     ensures causes { Causes OutsideErr.Failed result (S.Shelf.faults shelf.old) (S.Shelf.faults shelf.new) }
 {
-    let lines = made_lines(alloc, number, case.lanes, &made.plan)?;
-    write_claim(alloc, shelf, case, numbers, made)?;
+    let lines = made_lines(alloc, kind, number, case.lanes, &made.plan)?;
+    write_claim(alloc, shelf, kind, case, numbers, made)?;
     let said = read_back(alloc, shelf, lines)?;
     Ok(said)
 }

@@ -2,6 +2,8 @@
 ghost use Rattle.std.specs.Prelude.{◌≡◌, ◌++◌, IfOk, length, string_bytes};
 ghost use Rattle.std.specs.List.{flat_map};
 ghost use Rattle.vk_sample.specs.Texts.{found_text, same_count};
+ghost use Rattle.vk_claim.specs.Texts.{kind_word};
+ghost use Rattle.vk_claim_sample.specs.Claims.{kind_in};
 ghost use Rattle.vk_claim_sample.specs.Texts.{made_text, opened_said};
 
 use crate::files::claim_names;
@@ -13,19 +15,31 @@ use vk_effect::Said;
 use vk_plan::Plan;
 use vk_residue::NoMemory;
 use vk_sample::{found_lines, push_two, same_count};
+use vk_words::ClaimKind;
+
+/// The word that names a kind.
+fn kind_name(kind: ClaimKind) -> &'static str
+    ensures { result.now ≡ kind_word (kind_in kind) }
+{
+    match kind {
+        ClaimKind::Uniform => "uniform",
+        ClaimKind::Matching => "matching",
+    }
+}
 
 /// The lines of the claim as it was made, by its circuit and the number of its lanes.
 pub fn made_lines(
     alloc: Global,
+    kind: ClaimKind,
     number: u64,
     lanes: u32,
     plan: &Plan,
 ) -> Result<Vec<String>, NoMemory>
-    ensures { IfOk result (λ text. flat_map string_bytes text.items ≡ made_text number lanes plan.now) }
+    ensures { IfOk result (λ text. flat_map string_bytes text.items ≡ made_text kind number lanes plan.now) }
 {
     let mut text = Vec::new(alloc);
-    let (inputs, wires, rows) = (plan.inputs(), plan.wires(), plan.rows());
-    let first = format!(in alloc; "claim-sample uniform {number}\n")?;
+    let (name, inputs, wires, rows) = (kind_name(kind), plan.inputs(), plan.wires(), plan.rows());
+    let first = format!(in alloc; "claim-sample {name} {number}\n")?;
     let second = format!(in alloc; "inputs {inputs} lanes {lanes} wires {wires} rows {rows}\n")?;
     push_two(&mut text, first, second)?;
     Ok(text)

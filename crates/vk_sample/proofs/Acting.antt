@@ -20,6 +20,10 @@ use Rattle.vk_sample.specs.Laws.{IsAuctionOf, OpensAll, opened}
 use Rattle.vk_sample.specs.Samples.{effect_by, effect_unless_dry, sample_on, told_effect}
 use Rattle.vk_sample.specs.Texts.{dry_said, files_of, found_text, made_text, read_said, same_count, sample_names, summary_said}
 
+-- what is answered is what is said
+pub same_said : {E : Type 0} (said other : SaidValue) → ◌≡◌ {A = Result SaidValue E} (Ok said) (Ok other) → said ≡ other
+same_said said other is = cc
+
 -- it was stopped where nothing had changed
 pub stopped_first : (effect : Option Effect) (old : Stores) (stop : OutsideErr) → IfSome effect (λ whole. Acts (Err stop) whole old old)
 stopped_first None old stop = tt

@@ -21,7 +21,7 @@ use Rattle.vk_audit.specs.Extractions.{extraction_said}
 use Rattle.vk_audit.specs.Verdicts.{unread_said}
 use Rattle.vk_sample.specs.Auctions.{DrySeed, OfBidder, OfHouse}
 
--- ---- the files
+-- ---- the five files
 
 abbrev pub sample_names : ExtractWords
 sample_names = record {
@@ -83,8 +83,8 @@ same_count seals lanes = count_by (λ index. has_one_bid index lanes) (range_wit
 -- what is said of the files as they were read back: bids are opened only where both replies are accepted. Else what `extract` says
 abbrev pub opened_said : List ℕ → Extraction → SaidValue
 opened_said made (Bids found) = record { status = 0; text = made ++ found_text (length found.lanes) (same_count (length found.front.seals) found.lanes) }
-opened_said made (Refused second verdict) = extraction_said sample_names (Refused second verdict)
 opened_said made Same = extraction_said sample_names Same
+opened_said made (Refused second verdict) = extraction_said sample_names (Refused second verdict)
 opened_said made (Clash two) = extraction_said sample_names (Clash two)
 
 abbrev pub read_said : List ℕ → Result Extraction VErr → SaidValue

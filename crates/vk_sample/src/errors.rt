@@ -30,8 +30,8 @@ impl<T: Drop> From<AllocFailed<T>> for SampleErr {
 }
 
 impl From<NoMemory> for SampleErr {
-    ghost use Rattle.std.specs.Prelude.{◌≡◌};
     ghost use Rattle.vk_sample.specs.declared.errors.SampleErr.TheVariants.{NoMemory as OutOfMemory};
+    ghost use Rattle.std.specs.Prelude.{◌≡◌};
 
     ghost from_gives = { λ _ e. e ≡ OutOfMemory };
 

@@ -2,8 +2,8 @@
 ghost use Rattle.std.specs.Prelude.{◌≡◌, IfOk, IfSome, string_bytes};
 ghost use Rattle.std.specs.List.{flat_map};
 ghost use Rattle.vk_io.specs.Reads.{OnlyReads};
-ghost use Rattle.vk_bids.specs.Extraction.{extraction_on};
 ghost use Rattle.vk_sample.specs.Texts.{read_said, sample_names};
+ghost use Rattle.vk_bids.specs.Extraction.{extraction_on};
 
 use crate::files::sample_names;
 use crate::summary::opened;

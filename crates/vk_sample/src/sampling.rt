@@ -15,26 +15,6 @@ use vk_io::{OutsideErr, Shelf};
 use vk_job::Job;
 use vk_report::{SampleCase, sample_case};
 
-/// Makes the auction of a number with its board and two replies, writes them, reads them back, and says what they come
-/// to. Files that stand under their names are replaced; where a seed is dry none is written.
-pub fn sample<S: Shelf>(alloc: Global, shelf: &mut S, number: u64) -> Result<Said, OutsideErr>
-    ensures acts { (ledger : Option Ledger) → IfSome (sample_on (S.held shelf.old) ledger number)
-        (λ effect. Acts result effect (stores (S.held shelf.old) ledger) (stores (S.held shelf.new) ledger)) }
-    ensures causes { Causes OutsideErr.Failed result (S.Shelf.faults shelf.old) (S.Shelf.faults shelf.new) }
-{
-    let sample = sample_case(alloc, number)?;
-    match make_job(alloc, &sample) {
-        Ok(job) => {
-            let said = hold(alloc, shelf, number, &sample, &job);
-            said
-        }
-        Err(dry) => {
-            let said = dry.said()?;
-            Ok(said)
-        }
-    }
-}
-
 /// Writes the files of the sample's job, and reads them back.
 fn hold<S: Shelf>(
     alloc: Global,
@@ -53,4 +33,24 @@ fn hold<S: Shelf>(
     write_sample(alloc, shelf, sample, job)?;
     let said = read_back(alloc, shelf, made)?;
     Ok(said)
+}
+
+/// Makes the auction of a number with its board and two replies, writes them, reads them back, and says what they come
+/// to. Files that stand under their names are replaced; where a seed is dry none is written.
+pub fn sample<S: Shelf>(alloc: Global, shelf: &mut S, number: u64) -> Result<Said, OutsideErr>
+    ensures acts { (ledger : Option Ledger) → IfSome (sample_on (S.held shelf.old) ledger number)
+        (λ effect. Acts result effect (stores (S.held shelf.old) ledger) (stores (S.held shelf.new) ledger)) }
+    ensures causes { Causes OutsideErr.Failed result (S.Shelf.faults shelf.old) (S.Shelf.faults shelf.new) }
+{
+    let sample = sample_case(alloc, number)?;
+    match make_job(alloc, &sample) {
+        Ok(job) => {
+            let said = hold(alloc, shelf, number, &sample, &job);
+            said
+        }
+        Err(dry) => {
+            let said = dry.said()?;
+            Ok(said)
+        }
+    }
 }

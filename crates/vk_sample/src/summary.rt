@@ -128,7 +128,7 @@ pub fn found_lines(
 {
     let mut text = made;
     push_accepted(alloc, &mut text)?;
-    push_opened(alloc, &mut text, lanes, same)?;
+    push_opened(alloc, lanes, same, &mut text)?;
     Ok(text)
 }
 
@@ -156,9 +156,9 @@ fn push_accepted(alloc: Global, lines: &mut Vec<String>) -> Result<(), NoMemory>
 /// In how many lanes bids were opened, and of how many seals they are equal in all of these.
 fn push_opened(
     alloc: Global,
-    lines: &mut Vec<String>,
     lanes: usize,
     same: usize,
+    lines: &mut Vec<String>,
 ) -> Result<(), NoMemory>
     ensures { OnOk result (flat_map string_bytes lines.new.items ≡ flat_map string_bytes lines.old.items ++ opened_text lanes same) }
 {
@@ -174,14 +174,10 @@ pub fn opened(alloc: Global, made: Vec<String>, extraction: &Extraction) -> Resu
     ensures clash { (two : TwoOpeningsSeen) → extraction.now ≡ Extraction.Clash two
         → result ≡ Ok (record { status = 3; text = clash_text two }) }
 {
-    match extraction {
-        Extraction::Bids(found) => {
-            let lines = bids_lines(alloc, made, found)?;
-            Ok(Said::of_lines(0, lines))
-        }
-        other => {
-            let said = extracted(alloc, &sample_names(), other)?;
-            Ok(said)
-        }
-    }
+    let Extraction::Bids(found) = extraction else {
+        let said = extracted(alloc, &sample_names(), extraction)?;
+        return Ok(said);
+    };
+    let lines = bids_lines(alloc, made, found)?;
+    Ok(Said::of_lines(0, lines))
 }

@@ -1,54 +1,37 @@
-use Rattle.std.proofs.Common.{◌≡◌, ◌-◌, ℕ, List, [], length, Err, rules, ap, ◌∙◌, arith, refl}
+use Rattle.std.proofs.Common.{◌≡◌, ◌-◌, [], length, Err, rules, ap, arith, refl}
 use Rattle.vk_prover.proofs.Wires.{inputs_within}
-use Rattle.vk_uniform.specs.UniformPlans.{uniform_plan, uniform_values}
 use Rattle.vk_sample.specs.Auctions.{dry_of, of_job, rows_onto}
 use Rattle.vk_sample.proofs.Auctions.{all_rows}
 use Rattle.vk_sample.proofs.Rows.{bind_refuses}
 use Rattle.vk_claim_sample.proofs.Proofs.{tapes_pass, tapes_refuse}
-use Rattle.vk_claim_sample.proofs.Sales.{is_case}
 use Rattle.vk_claim_sample.specs.Claims.{proof_by, proof_unless_dry}
 use Rattle.vk_claim_sample.proofs.making.make_claim.Goals as goal
-
--- what follows from a number of inputs and numbers
-of_both : {X : Type 0} (of : ℕ → List ℕ → X) (n m : ℕ) (ns ms : List ℕ) → n ≡ m → ns ≡ ms → of n ns ≡ of m ms
-of_both of n m ns ms inputs numbers = ap (λ k. of k ns) inputs ∙ ap (of m) numbers
 
 pub returns-in_err-rows : goal.returns-in_err-rows
 unfolding proof_by
 returns-in_err-rows c =
     let refused = c.in_err-rows.field-0.0 in
     let is : c.from_residual.result ≡ Err refused = search rules in
-    rw is (bind_refuses (dry_of refused) (rows_onto c.args.case.now [] (length c.args.case.now.seats)) (proof_unless_dry c.args.case.now c.args.numbers.now) c.in_err-rows.ensures)
-
-pub circuit_of-requires : goal.circuit_of-requires
-circuit_of-requires c = rw (c.len.ensures) (is_case c.args.case.now c.requires.right c.args.numbers.now c.requires.sale)
+    rw is (bind_refuses (dry_of refused) (rows_onto c.args.case.now [] (length c.args.case.now.seats)) (proof_unless_dry c.args.kind c.args.case.now c.args.numbers.now) c.in_err-rows.ensures)
 
 pub overflow_sub-wires : goal.overflow_sub-wires
-overflow_sub-wires c = omega (arith, c.wires.ensures.value, c.inputs.ensures.value, inputs_within c.in_ok-plan.plan c.wires.ensures.plan)
+overflow_sub-wires c = omega (arith, c.wires.ensures.value, c.inputs.ensures.value, inputs_within c.in_ok-filled.filled.plan c.wires.ensures.plan)
 
 pub check_tapes-requires : goal.check_tapes-requires
 check_tapes-requires c =
     let all = all_rows c.args.case.now c.requires.right.right c.in_ok-rows.rows c.in_ok-rows.ensures in
-    omega (arith, ap length c.as_slice-2.ensures, all.count, c.requires.right.right.few_seals, c.wires.ensures.value, c.wires.ensures.plan.wires)
+    omega (arith, ap length c.as_slice.ensures, all.count, c.requires.right.right.few_seals, c.wires.ensures.value, c.wires.ensures.plan.wires)
 
 pub returns-in_err-check_tapes : goal.returns-in_err-check_tapes
 returns-in_err-check_tapes c =
     let refused = c.in_err-check_tapes.field-0.0 in
-    let case = c.args.case.now in
-    let plan_is = c.in_ok-plan.ensures
-    ∙ of_both uniform_plan _ (length case.seats) _ c.args.numbers.now (c.in_ok-circuit.ensures.inputs ∙ c.len.ensures) c.in_ok-circuit.ensures.numbers in
     let is : c.from_residual-in_err-check_tapes.result ≡ Err (of_job refused) = search rules in
     rw is
-    (tapes_refuse case c.args.numbers.now c.in_ok-rows.rows c.in_ok-rows.ensures c.in_ok-plan.plan plan_is (c.wires.result - c.inputs.result)
-    (rw (c.wires.ensures.value, c.inputs.ensures.value) refl) refused (rw (c.as_slice-2.ensures) at c.in_err-check_tapes.ensures))
+    (tapes_refuse c.args.kind c.args.case.now c.args.numbers.now c.in_ok-rows.rows c.in_ok-rows.ensures c.in_ok-filled.filled.plan c.in_ok-filled.ensures.plan
+    (c.wires.result - c.inputs.result) (rw (c.wires.ensures.value, c.inputs.ensures.value) refl) refused (rw (c.as_slice.ensures) at c.in_err-check_tapes.ensures))
 
 pub returns : goal.returns
 returns c =
-    let case = c.args.case.now in
-    let inputs = c.in_ok-circuit.ensures.inputs ∙ c.len.ensures in
-    let plan_is = c.in_ok-plan.ensures ∙ of_both uniform_plan _ (length case.seats) _ c.args.numbers.now inputs c.in_ok-circuit.ensures.numbers in
-    let values_are = c.in_ok-values.ensures
-    ∙ of_both (λ n ns. uniform_values n ns c.as_slice.result.now) _ (length case.seats) _ c.args.numbers.now inputs c.in_ok-circuit.ensures.numbers
-    ∙ ap (uniform_values (length case.seats) c.args.numbers.now) c.as_slice.ensures in
-    tapes_pass case c.args.numbers.now c.in_ok-rows.rows c.in_ok-rows.ensures c.in_ok-plan.plan plan_is (c.wires.result - c.inputs.result)
-    (rw (c.wires.ensures.value, c.inputs.ensures.value) refl) c.in_ok-values.values values_are (rw (c.as_slice-2.ensures) at c.in_ok-check_tapes.ensures)
+    tapes_pass c.args.kind c.args.case.now c.args.numbers.now c.in_ok-rows.rows c.in_ok-rows.ensures c.in_ok-filled.filled.plan c.in_ok-filled.ensures.plan
+    (c.wires.result - c.inputs.result) (rw (c.wires.ensures.value, c.inputs.ensures.value) refl) c.in_ok-filled.filled.values c.in_ok-filled.ensures.values
+    (rw (c.as_slice.ensures) at c.in_ok-check_tapes.ensures)

@@ -1,6 +1,6 @@
-use Rattle.std.proofs.Common.{◌≡◌, ◌∷◌, take}
+use Rattle.std.proofs.Common.{◌≡◌, ◌++◌, take}
 use Rattle.vk_claim_sample.proofs.numbers.listed.Given as goal
 
--- the numbers so far are the width, the price and the winners so far
-abbrev pub invariant-loop-winner : goal.invariant-loop-winner
-invariant-loop-winner l = l.numbers.items ≡ l.width ∷ l.price ∷ take l.winner-index l.winners
+-- the numbers so far are the front and the persons so far
+abbrev pub invariant-loop-person : goal.invariant-loop-person
+invariant-loop-person l = l.numbers.items ≡ l.fn.front ++ take l.person-index l.persons

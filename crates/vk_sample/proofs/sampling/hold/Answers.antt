@@ -11,11 +11,6 @@ use Rattle.vk_sample.proofs.Opened.{opens_all}
 use Rattle.vk_sample.specs.Texts.{files_of, made_text, read_said, sample_names, summary_said}
 use Rattle.vk_sample.proofs.sampling.hold.Goals as goal
 
-pub returns-in_err-made-clause-acts : goal.returns-in_err-made-clause-acts
-returns-in_err-made-clause-acts g c =
-    let p = err_from_is_err_and c.from_residual.result c.from_residual.ensures.1 in
-    rw p.1 (λ ledger. stopped_first _ (stores (g.S.Shelf.held c.args.shelf.now) ledger) p.0)
-
 pub returns-in_err-write_sample-clause-acts : goal.returns-in_err-write_sample-clause-acts
 returns-in_err-write_sample-clause-acts g c =
     let p = err_from_is_err_and c.from_residual-in_err-write_sample.result c.from_residual-in_err-write_sample.ensures.1 in
@@ -54,3 +49,8 @@ write_sample-requires-clause-first g c = (auction_is c.args.sample.now c.require
 
 pub write_sample-requires-clause-second : goal.write_sample-requires-clause-second
 write_sample-requires-clause-second g c = (auction_is c.args.sample.now c.requires.right c.args.job.now.auction c.requires.made).second.one_bit_each
+
+pub returns-in_err-made-clause-acts : goal.returns-in_err-made-clause-acts
+returns-in_err-made-clause-acts g c =
+    let p = err_from_is_err_and c.from_residual.result c.from_residual.ensures.1 in
+    rw p.1 (λ ledger. stopped_first _ (stores (g.S.Shelf.held c.args.shelf.now) ledger) p.0)

@@ -1,16 +1,13 @@
-use Rattle.std.proofs.Common.{◌≡◌, Result, Ok, refl}
+use Rattle.std.proofs.Common.{Ok, refl}
 use Rattle.std.proofs.lemmas.Result.{err_from_is_err_and}
 use Rattle.vk_job.specs.Published.{head_of}
-use Rattle.vk_effect.specs.Effects.{SaidValue, stores}
+use Rattle.vk_effect.specs.Effects.{stores}
 use Rattle.vk_effect.proofs.Acting.{if_some_map}
 use Rattle.vk_sample.specs.Auctions.{auction_of, dry_of}
 use Rattle.vk_sample.specs.Samples.{sample_on, told_effect}
 use Rattle.vk_sample.specs.Texts.{dry_said, files_of, summary_said}
-use Rattle.vk_sample.proofs.Acting.{dry_acts, sample_acts, stopped_first}
+use Rattle.vk_sample.proofs.Acting.{dry_acts, same_said, sample_acts, stopped_first}
 use Rattle.vk_sample.proofs.sampling.sample.Goals as goal
-
-same_said : {E : Type 0} (said other : SaidValue) → ◌≡◌ {A = Result SaidValue E} (Ok said) (Ok other) → said ≡ other
-same_said said other is = cc
 
 pub returns-in_err-sample-clause-acts : goal.returns-in_err-sample-clause-acts
 returns-in_err-sample-clause-acts g c =
@@ -22,11 +19,6 @@ returns-in-Ok-clause-acts g c = λ ledger.
     sample_acts c.args.number c.in_ok-sample.sample (Ok c.in-Ok.job.auction) (g.S.Shelf.held c.args.shelf.now) (g.S.Shelf.held c.hold-said.new.shelf) ledger c.hold-said.result
     c.in_ok-sample.ensures.sample c.in-Ok.ensures (c.hold-said.ensures.acts ledger)
 
-pub returns-in_err-said-in-Err-clause-acts : goal.returns-in_err-said-in-Err-clause-acts
-returns-in_err-said-in-Err-clause-acts g c =
-    let p = err_from_is_err_and c.from_residual-in_err-said-in-Err.result c.from_residual-in_err-said-in-Err.ensures.1 in
-    rw p.1 (λ ledger. stopped_first (sample_on (g.S.Shelf.held c.args.shelf.now) ledger c.args.number) (stores (g.S.Shelf.held c.args.shelf.now) ledger) p.0)
-
 pub returns-clause-acts : goal.returns-clause-acts
 returns-clause-acts g c = λ ledger.
     let held = g.S.Shelf.held c.args.shelf.now in
@@ -35,3 +27,8 @@ returns-clause-acts g c = λ ledger.
     (dry_acts (dry_of c.in-Err.dry) (auction_of sample) held ledger
     (λ auction. told_effect held ledger (files_of sample auction) (summary_said c.args.number (head_of auction))) c.in_ok-said-in-Err.said c.in-Err.ensures
     (if_some_map _ _ (λ dry. same_said c.in_ok-said-in-Err.said (dry_said dry)) (dry_of c.in-Err.dry) c.in_ok-said-in-Err.ensures.said) c.in_ok-said-in-Err.ensures.dry)
+
+pub returns-in_err-said-in-Err-clause-acts : goal.returns-in_err-said-in-Err-clause-acts
+returns-in_err-said-in-Err-clause-acts g c =
+    let p = err_from_is_err_and c.from_residual-in_err-said-in-Err.result c.from_residual-in_err-said-in-Err.ensures.1 in
+    rw p.1 (λ ledger. stopped_first (sample_on (g.S.Shelf.held c.args.shelf.now) ledger c.args.number) (stores (g.S.Shelf.held c.args.shelf.now) ledger) p.0)
