@@ -1,0 +1,3 @@
+mod JoinEnds
+pub mod BoardEnds
+pub mod Made

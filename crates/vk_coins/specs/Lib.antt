@@ -1,0 +1,5 @@
+pub mod Drawing
+pub mod Joining
+pub mod Boards
+pub mod Deeds
+pub mod Meaning
