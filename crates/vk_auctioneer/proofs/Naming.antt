@@ -7,8 +7,6 @@ use Rattle.vk_io.specs.Files.{Files}
 use Rattle.vk_lines.specs.declared.errors.ReadErr.{ReadErr}
 use Rattle.vk_lines.specs.Gives.{Gives, Refuses}
 use Rattle.vk_lines.specs.Lines.{LinesValue, Reads, ReadsPart, Rest, rest_of}
-use Rattle.vk_reply.specs.declared.challenge.Challenge.{Challenge}
-use Rattle.vk_reply.specs.Reading.{challenge_at}
 use Rattle.vk_seal.specs.declared.secret.Seal.{Seal}
 use Rattle.vk_seal.specs.declared.secret.Secret.{Secret}
 use Rattle.vk_seal.specs.Reading.{seal_at, secret_at}
@@ -17,8 +15,8 @@ use Rattle.vk_effect.specs.declared.reading.Unread.{Unread}
 use Rattle.vk_effect.specs.Effects.{SaidValue}
 use Rattle.vk_effect.specs.Reading.{begun_in, said_of_unread, value_in}
 use Rattle.vk_effect.proofs.NamedFiles.{part_told, same_Err}
-use Rattle.vk_auctioneer.specs.Inputs.{challenge_in, row_in}
-use Rattle.vk_auctioneer.proofs.Reading.{both_read, one_read}
+use Rattle.vk_auctioneer.specs.Inputs.{row_in}
+use Rattle.vk_auctioneer.proofs.Reading.{both_read}
 
 -- what the first step refuses all refuse
 refuses_then : {A B : Type 0} (said : Option SaidValue) (found : Result A SaidValue) (next : A → Result B SaidValue) → Refuses said found → Refuses said (found >>= next)
@@ -77,19 +75,3 @@ secret_refused held now last end seal_name secret_name one other after left read
     (told_before (λ files. value_in seal_name (seal_at (rest_of one files)) ≡ Ok seal) held last (next ∙ same) (part_told seal_name seal_at last one after read (Ok seal) reads tells))
     (told_before (λ files. Refuses (said_of_unread refusal) (value_in secret_name (secret_at (rest_of other files)))) held end (then ∙ (next ∙ same))
     (part_told secret_name secret_at end other left read_last (Err refusal) reads_last refuses))
-
--- ---- a challenge
-
-challenge_by : (held : Option Files) (name : List ℕ) (lines : LinesValue) (said : Option SaidValue) → IfSome held (IsBegun name lines) → IfSome held (λ files. Refuses said (value_in name (challenge_at (rest_of lines files))))
-    → IfSome held (λ files. Refuses said (challenge_in files name))
-unfolding challenge_in
-challenge_by None name lines said begun refuses = tt
-challenge_by (Some files) name lines said begun refuses =
-    let read : Rest → Result Challenge SaidValue = λ rest. value_in name (challenge_at rest) in
-    subst (λ b. Refuses said (one_read b read)) (sym begun) (refuses_then said (read (rest_of lines files)) (λ challenge. Ok challenge) refuses)
-
-pub challenge_refused : (held now : Option Files) (name : List ℕ) (lines after : LinesValue) (read : Result Challenge ReadErr) (refusal : Unread) → now ≡ held → IfSome held (IsBegun name lines)
-    → ReadsPart challenge_at now lines after read → Tells name read (Err refusal) → IfSome held (λ files. Refuses (said_of_unread refusal) (challenge_in files name))
-challenge_refused held now name lines after read refusal same begun reads tells =
-    challenge_by held name lines (said_of_unread refusal) begun
-    (told_before (λ files. Refuses (said_of_unread refusal) (value_in name (challenge_at (rest_of lines files)))) held now same (part_told name challenge_at now lines after read (Err refusal) reads tells))

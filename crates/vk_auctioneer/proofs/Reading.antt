@@ -23,7 +23,8 @@ use Rattle.vk_keeper.specs.declared.auction.SealRow.{SealRow}
 use Rattle.vk_keeper.specs.Joining.{first_of}
 use Rattle.vk_effect.specs.Effects.{SaidValue}
 use Rattle.vk_effect.specs.Reading.{begun_in, faulty_said, from_first, unheld_said, value_in}
-use Rattle.vk_effect.proofs.NamedFiles.{begun_says, file_begun, file_read, file_said, then_says, value_says, whole_found}
+use Rattle.vk_effect.proofs.NamedFiles.{file_begun, file_read, file_said, whole_found}
+use Rattle.vk_effect.proofs.NamedValues.{named_exactly, named_found, named_said, named_says, then_ok}
 use Rattle.vk_auctioneer.specs.Inputs.{challenge_in, row_in}
 use Rattle.vk_auctioneer.specs.Laws.{AreTexts, IsText, ReadsChallenge, ReadsRow}
 
@@ -33,10 +34,6 @@ use Rattle.vk_auctioneer.specs.Laws.{AreTexts, IsText, ReadsChallenge, ReadsRow}
 abbrev pub both_read : Result Rest SaidValue → Result Rest SaidValue → (Rest → Result Seal SaidValue) → (Rest → Result Secret SaidValue) → Result SealRow SaidValue
 both_read first second read_first read_second =
     first >>= λ one. second >>= λ other. read_first one >>= λ seal. read_second other >>= λ secret. Ok (record { seal = seal; secret = secret })
-
-then_ok : {A B : Type 0} (answer : Result A SaidValue) (next : A → Result B SaidValue) (y : B) → (answer >>= next) ≡ Ok y → (x : A) × (answer ≡ Ok x) × (next x ≡ Ok y)
-then_ok (Ok x) next y is = (x, refl, is)
-then_ok (Err said) next y is = cc
 
 both_found : (first second : Result Rest SaidValue) (read_first : Rest → Result Seal SaidValue) (read_second : Rest → Result Secret SaidValue) (one other : Rest) (seal : Seal) (secret : Secret) → first ≡ Ok one → second ≡ Ok other → read_first one ≡ Ok seal → read_second other ≡ Ok secret
     → both_read first second read_first read_second ≡ Ok (record { seal = seal; secret = secret })
@@ -100,57 +97,21 @@ reads_row files seal_name secret_name = record {
 
 -- ---- a challenge
 
-abbrev pub one_read : Result Rest SaidValue → (Rest → Result Challenge SaidValue) → Result Challenge SaidValue
-one_read file read = file >>= λ rest. read rest >>= λ challenge. Ok challenge
-
-one_said_last : (challenge : Result Challenge SaidValue) → result_err (challenge >>= λ c. Ok c) ≡ first_of (result_err challenge ∷ [])
-unfolding first_of
-one_said_last (Ok challenge) = refl
-one_said_last (Err said) = refl
-
-one_said : (file : Result Rest SaidValue) (read : Rest → Result Challenge SaidValue) (faulty : Option SaidValue) → ((rest : Rest) → file ≡ Ok rest → faulty ≡ result_err (read rest)) → result_err (one_read file read) ≡ first_of (result_err file ∷ faulty ∷ [])
-unfolding first_of
-one_said (Err said) read faulty is = refl
-one_said (Ok rest) read faulty is = one_said_last (read rest) ∙ ap (λ f. first_of (f ∷ [])) (sym (is rest refl))
-
-challenge_is : (files : Files) (name : List ℕ) → challenge_in files name ≡ one_read (begun_in name (get files name)) (λ rest. value_in name (challenge_at rest))
-unfolding challenge_in
-challenge_is files name = refl
-
-challenge_of_text : (files : Files) (name : List ℕ) (challenge : Challenge) → challenge_in files name ≡ Ok challenge → IsText files name challenge
-challenge_of_text files name challenge is =
-    let file = then_ok (begun_in name (get files name)) _ challenge (sym (challenge_is files name) ∙ is) in
-    let read = then_ok (value_in name (challenge_at file.0)) _ challenge file.2 in
-    let same : read.0 ≡ challenge = cc (read.2) in
-    let given = file_read IsChallenge challenge_text challenge_at challenge_is_whole files name file.0 read.0 file.1 read.1 in
-    subst (IsText files name) same (record { right = given.0; file = given.1 })
-
 pub challenge_found : (files : Files) (name : List ℕ) (challenge : Challenge) → IsText files name challenge → challenge_in files name ≡ Ok challenge
-challenge_found files name challenge text =
-    challenge_is files name
-    ∙ ap (λ r. one_read r (λ rest. value_in name (challenge_at rest))) (file_begun files name (challenge_text challenge) text.file)
-    ∙ ap (λ (r : Result Challenge SaidValue). r >>= λ c. Ok c) (whole_found IsChallenge challenge_text challenge_at challenge_is_whole name challenge text.right)
-
-challenge_said : (files : Files) (name : List ℕ) → result_err (challenge_in files name) ≡ first_of (unheld_said name (get files name) ∷ faulty_said challenge_table name (get files name) ∷ [])
-challenge_said files name =
-    ap result_err (challenge_is files name)
-    ∙ one_said (begun_in name (get files name)) (λ rest. value_in name (challenge_at rest)) (faulty_said challenge_table name (get files name)) (file_said challenge_table challenge_at challenge_fault name (get files name))
+challenge_found = named_found IsChallenge challenge_text challenge_at challenge_is_whole
 
 -- what is said of the file has no status 0
 abbrev Refuses : SaidValue → Type 0
 Refuses said = said.status ≢ 0
 
 challenge_says : (files : Files) (name : List ℕ) → IfErr (challenge_in files name) Refuses
-unfolding challenge_in
-challenge_says files name =
-    then_says Refuses (begun_in name (get files name)) _ (begun_says Refuses name (get files name) (λ zero. omega (arith, zero)) (λ zero. omega (arith, zero)))
-    (λ rest. then_says Refuses (value_in name (challenge_at rest)) _ (value_says Refuses name (challenge_at rest) (λ line zero. omega (arith, zero))) (λ challenge. tt))
+challenge_says = named_says Refuses (λ name zero. omega (arith, zero)) (λ name zero. omega (arith, zero)) (λ name line zero. omega (arith, zero)) challenge_at
 
 pub challenge_refused : (files : Files) (name : List ℕ) (said : SaidValue) → challenge_in files name ≡ Err said → said.status ≢ 0
 challenge_refused files name said is = subst (λ read. IfErr read Refuses) is (challenge_says files name)
 
 pub reads_challenge : (files : Files) (name : List ℕ) → ReadsChallenge files name
 reads_challenge files name = record {
-  read = λ challenge. (challenge_of_text files name challenge, challenge_found files name challenge);
-  said = challenge_said files name;
+  read = named_exactly IsChallenge challenge_text challenge_at challenge_is_whole files name;
+  said = named_said challenge_table challenge_at challenge_fault files name;
 }

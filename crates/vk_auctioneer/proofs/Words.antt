@@ -12,8 +12,9 @@ use Rattle.vk_lines.proofs.Hexadecimal.{hex_of-some}
 use Rattle.vk_lines.proofs.Words.{decimal_token, meeting_token}
 use Rattle.vk_words.specs.declared.table.Verb.{Verb}
 use Rattle.vk_words.specs.declared.table.Verb.TheVariants as verbs
-use Rattle.vk_words.specs.Commands.{CommandWords, Seal, House, Verify, Extract, Confront, Report, Sample, Ceremony, ClaimVerify, ClaimExtract, ClaimSample, command_by, command_words, house_in, house_words, may_have}
+use Rattle.vk_words.specs.Commands.{CommandWords, Seal, House, Verify, Extract, Confront, Report, Sample, Ceremony, ClaimVerify, ClaimExtract, ClaimSample, Coin, command_by, command_words, house_in, house_words, may_have}
 use Rattle.vk_words.specs.Claims.{kind_named}
+use Rattle.vk_words.specs.Coins.{coin_by}
 use Rattle.vk_words.specs.Names.{attempt_at, confront_in, extract_in, name_at, verify_in, word_at}
 use Rattle.vk_words.specs.Orders.{HouseWords, Announce, AnnounceReserve, Answer, announced_on, house_by, house_on, id_at, if_other, seal_in, seed_at}
 use Rattle.vk_words.specs.Scripts.{leaves_name, script_words}
@@ -77,16 +78,7 @@ house_each words id is verbs.Prove =
 house_each words id is verbs.Answer =
     then_each AreHouseWords (attempt_at words 2) _ (λ attempt _. other_each AreHouseWords attempt.challenge attempt.reply (Answer id attempt.challenge attempt.reply) is)
 house_each words id is verbs.Show = is
-house_each words id is verbs.Seal = tt
-house_each words id is verbs.Verify = tt
-house_each words id is verbs.Extract = tt
-house_each words id is verbs.Confront = tt
-house_each words id is verbs.Report = tt
-house_each words id is verbs.Sample = tt
-house_each words id is verbs.Ceremony = tt
-house_each words id is verbs.ClaimVerify = tt
-house_each words id is verbs.ClaimExtract = tt
-house_each words id is verbs.ClaimSample = tt
+house_each words id is verb = tt
 
 by_each : (verb : Verb) (words : List (List ℕ)) → IfSome (house_by verb words) AreHouseWords
 by_each verb words = then_each AreHouseWords (id_at words 1) _ (λ id found. house_each words id (hex_bytes 16 (word_at words 1) id found) verb)
@@ -112,6 +104,9 @@ command_each words verbs.ClaimVerify = map_each OfHouse (verify_in words) ClaimV
 command_each words verbs.ClaimExtract = map_each OfHouse (extract_in words) ClaimExtract (λ names _. tt)
 command_each words verbs.ClaimSample =
     then_each OfHouse (kind_named (word_at words 1)) _ (λ kind _. map_each OfHouse _ (ClaimSample kind) (λ number _. tt))
+command_each words verbs.CoinPart = map_each OfHouse (coin_by verbs.CoinPart words) Coin (λ order _. tt)
+command_each words verbs.CoinJoin = map_each OfHouse (coin_by verbs.CoinJoin words) Coin (λ order _. tt)
+command_each words verbs.CoinBoard = map_each OfHouse (coin_by verbs.CoinBoard words) Coin (λ order _. tt)
 
 where_each : {X : Type 0} (P : X → Type 0) (test : Bool) (found : Option X) → IfSome found P → IfSome (if test then found else None) P
 where_each P true found each = each

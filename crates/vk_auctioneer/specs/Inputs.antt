@@ -8,7 +8,7 @@ use Rattle.vk_reply.specs.Reading.{challenge_at}
 use Rattle.vk_seal.specs.Reading.{seal_at, secret_at}
 use Rattle.vk_keeper.specs.declared.auction.SealRow.{SealRow}
 use Rattle.vk_effect.specs.Effects.{SaidValue}
-use Rattle.vk_effect.specs.Reading.{begun_in, value_in}
+use Rattle.vk_effect.specs.Reading.{begun_in, named_in, value_in}
 
 -- the seal and the secret that `submit` names; or what is said of the first of these tests that fails: both files are
 -- held and not too long, then both are of their forms
@@ -21,8 +21,5 @@ row_in files seal_name secret_name = do
   Ok (record { seal = seal; secret = secret })
 
 -- the challenge that `answer` names; or what is said of its file
-unfoldable pub challenge_in : Files → List ℕ → Result Challenge SaidValue
-challenge_in files name = do
-  file ← begun_in name (get files name)
-  challenge ← value_in name (challenge_at file)
-  Ok challenge
+abbrev pub challenge_in : Files → List ℕ → Result Challenge SaidValue
+challenge_in files name = named_in challenge_at files name

@@ -21,7 +21,7 @@ use Rattle.vk_job.specs.Jobs.{IsProvedAuction}
 use Rattle.vk_job.specs.Published.{IsChallengeTo, board_of, reply_of}
 use Rattle.vk_words.specs.Orders.{HouseWords, Announce, AnnounceReserve, Submit, Prove, Answer, Show}
 use Rattle.vk_effect.specs.Effects.{Effect}
-use Rattle.vk_effect.specs.Reading.{IsFile, faulty_said, unheld_said}
+use Rattle.vk_effect.specs.Reading.{IsFile, IsFileOf, faulty_said, unheld_said}
 use Rattle.vk_auctioneer.specs.Effects.{answer_effect, prove_effect}
 use Rattle.vk_auctioneer.specs.Inputs.{challenge_in, row_in}
 
@@ -47,9 +47,8 @@ pub record AreTexts (files : Files) (seal_name secret_name : List ℕ) (row : Se
   pub secret_file : IsFile files secret_name (secret_text row.secret)
 
 -- the file of that name holds the text of the challenge
-pub record IsText (files : Files) (name : List ℕ) (challenge : Challenge) : Type 0 where
-  pub right : IsChallenge challenge
-  pub file : IsFile files name (challenge_text challenge)
+abbrev pub IsText : Files → List ℕ → Challenge → Type 0
+IsText files name challenge = IsFileOf IsChallenge challenge_text files name challenge
 
 -- a seal and a secret are read exactly where the files hold their texts. Otherwise the first of these tests that fails
 -- is said

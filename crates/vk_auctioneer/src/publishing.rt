@@ -157,7 +157,7 @@ pub fn answer<S: Shelf, K: Keeper + Drop>(
 {
     match asked_challenge(alloc, shelf, challenge) {
         Ok(challenge) => {
-            let said = answer_challenge(alloc, shelf, keeper, id, &challenge, reply);
+            let said = answer_challenge(alloc, &challenge, shelf, keeper, id, reply);
             said
         }
         Err(unread) => unread.said_or_stopped(),
@@ -165,7 +165,7 @@ pub fn answer<S: Shelf, K: Keeper + Drop>(
 }
 
 /// Reads the named challenge.
-#[tactic(auto, unfolding(crate::specs::Inputs::challenge_in))]
+#[tactic(auto, unfolding(vk_effect::specs::Reading::named_in))]
 fn asked_challenge<S: Shelf>(alloc: Global, shelf: &mut S, name: &str) -> Result<Challenge, Unread>
     ensures told { IfSome (S.held shelf.old) (λ files. Gives said_of_unread (λ challenge. challenge) result (challenge_in files name.now)) }
     ensures right { IfOk result IsChallenge }
@@ -173,17 +173,17 @@ fn asked_challenge<S: Shelf>(alloc: Global, shelf: &mut S, name: &str) -> Result
 {
     let mut lines = begin_named(alloc, shelf, name)?;
     let challenge = read_challenge(alloc, shelf, &mut lines);
-    let challenge = named_value(alloc, name, challenge)?;
-    Ok(challenge)
+    let challenge = named_value(alloc, name, challenge);
+    challenge
 }
 
 /// Answers a challenge, and writes the reply.
 fn answer_challenge<S: Shelf, K: Keeper + Drop>(
     alloc: Global,
+    challenge: &Challenge,
     shelf: &mut S,
     keeper: &mut K,
     id: &[u8; 16],
-    challenge: &Challenge,
     reply: &str,
 ) -> Result<Said, OutsideErr>
     requires { IsChallenge challenge.now }
@@ -211,18 +211,18 @@ fn answered<S: Shelf>(
     requires { IfOk answer (λ job. challenge_of job.auction.phase ≡ Some challenge.now) }
     ensures said { (id : List ℕ) → Says (Answer id challenge.now) (as_reply work_of answer) result }
     ensures written { Told (Leaves (reply_file name.now challenge.now (as_reply work_of answer)) result) (S.held shelf.old) (S.held shelf.new) }
-    ensures proved { IfOk answer (λ job. IsProvedAuction job.auction) }
     ensures told { IfErr answer (λ refusal. TakesNoMemory refusal → IsOk result) }
+    ensures proved { IfOk answer (λ job. IsProvedAuction job.auction) }
     ensures causes { (before after : ℕ) → Causes HouseErr.KeeperFailed answer before after
         → CausesTwo OutsideErr.Failed result (S.Shelf.faults shelf.old) (S.Shelf.faults shelf.new) before after }
 {
     match answer {
-        Ok(job) => {
-            let said = show_halves(alloc, shelf, name, challenge, &job);
-            said
-        }
         Err(refusal) => {
             let said = refused(alloc, 0, refusal);
+            said
+        }
+        Ok(job) => {
+            let said = show_halves(alloc, shelf, name, challenge, &job);
             said
         }
     }

@@ -163,10 +163,10 @@ fn command<S: Shelf, K: Keeper + Drop, W: Sink>(
     order: &HouseOrder<'_>,
 ) -> Result<u8, OutsideErr>
     requires { IsHouseOrder order.now }
+    ensures end { IfOk result IsEnd }
     ensures ends { IfSome (house_effect (S.held shelf.old) (K.ledger keeper.old) (house_seen order.now))
         (λ effect. Ends result effect (outside (stores (S.held shelf.old) (K.ledger keeper.old)) (W.taken out.old))
         (outside (stores (S.held shelf.new) (K.ledger keeper.new)) (W.taken out.new))) }
-    ensures end { IfOk result IsEnd }
     ensures files { Told (λ old new. IfOk result (λ status. LeavesFiles (house_seen order.now) status old new)) (S.held shelf.old) (S.held shelf.new) }
     ensures once { Told KeepsAnswers (K.ledger keeper.old) (K.ledger keeper.new) }
     ensures causes { CausesThree OutsideErr.Failed result (S.Shelf.faults shelf.old) (S.Shelf.faults shelf.new)

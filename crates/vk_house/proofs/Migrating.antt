@@ -47,19 +47,19 @@ same_sale first = sale_without (map (λ row. row.secret.bid) first.seals)
 same_refusals : (command : HouseCommand) (found : Option FirstAuction)
     → shaped.refusals_of auctions command (option_map lifted found) ≡ shaped.refusals_of first_auctions command found
 same_refusals (Announce id width lanes) None = refl
-same_refusals (AnnounceReserve id width lanes reserve) None = refl
-same_refusals (Submit id seal secret) None = refl
-same_refusals (Prove id seed) None = refl
-same_refusals (Answer id challenge) None = refl
-same_refusals (Show id) None = refl
 same_refusals (Announce id width lanes) (Some first) = refl
+same_refusals (AnnounceReserve id width lanes reserve) None = refl
 same_refusals (AnnounceReserve id width lanes reserve) (Some first) = refl
+same_refusals (Submit id seal secret) None = refl
 same_refusals (Submit id seal secret) (Some first) = refl
+same_refusals (Prove id seed) None = refl
 same_refusals (Prove id seed) (Some first) =
     ap (λ dry. None ∷ no_seals first.seals ∷ other_seed seed first.phase ∷ dry ∷ []) (same_dry first seed)
+same_refusals (Answer id challenge) None = refl
 same_refusals (Answer id challenge) (Some first) =
     ap (λ dry. None ∷ still_taking first.phase ∷ other_length challenge first.lanes ∷ other_challenge challenge first.phase ∷ dry ∷ [])
     (same_dry first (unwrap_or (seed_of first.phase) []))
+same_refusals (Show id) None = refl
 same_refusals (Show id) (Some first) = refl
 
 phased_lifted : (first : FirstAuction) (phase : Option Phase)

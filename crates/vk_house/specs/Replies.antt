@@ -15,15 +15,8 @@ pub use Rattle.vk_house.specs.Shaped.{Done, Position, Work, Stands, Refused}
 
 -- an auction that takes seals and has none, of that version and with that reserve
 abbrev pub begun : (version : ℕ) (id : List ℕ) (width lanes reserve : ℕ) → Auction
-begun version id width lanes reserve = record {
-  id = id;
-  version = version;
-  width = width;
-  lanes = lanes;
-  reserve = reserve;
-  phase = Taking;
-  seals = [];
-}
+begun version id width lanes reserve =
+    record { id = id; version = version; width = width; lanes = lanes; reserve = reserve; phase = Taking; seals = [] }
 
 -- the same auction in that phase
 abbrev pub in_phase : Auction → Phase → Auction
@@ -54,11 +47,11 @@ abbrev pub auctions : shaped.Shape Auction Sale Standing
 auctions = record {
   opened = λ id width lanes. begun 1 id width lanes 0;
   reserved = λ id width lanes reserve. Some (begun 2 id width lanes reserve);
+  with_last = with_last;
+  in_phase = in_phase;
   lanes = λ auction. auction.lanes;
   phase = λ auction. auction.phase;
   seals = λ auction. auction.seals;
-  with_last = with_last;
-  in_phase = in_phase;
   may_not_join = join_refusal;
   dry = dry_in;
   sale = sale_in;

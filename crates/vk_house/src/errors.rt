@@ -15,20 +15,31 @@ use vk_seal::Mismatch;
 /// Why a house refused a command, in the order in which it is tested. Nothing that is kept has changed.
 #[derive(Debug, Drop)]
 pub enum HouseErr {
+    /// The keeper failed. Its count of faults rose in this call.
+    KeeperFailed,
     /// An auction is held under the id.
     Known,
     /// No auction is held under the id.
     Unknown,
     /// Seals are no longer taken; or still are, and nothing was proved that could be answered.
-    Phase { kept: PhaseName },
+    Phase {
+        kept: PhaseName,
+    },
     /// 64 seals are held.
     Full,
     /// The seal is of another auction, the given one.
-    OtherAuction { given: [u8; 16] },
+    OtherAuction {
+        given: [u8; 16],
+    },
     /// A held seal has the seat.
     SeatTaken,
-    /// The auction has the kept number of lanes; the seal has lanes, or the challenge bits, in the given number.
-    Length { kept: u32, given: u32 },
+    /// The seal is of another number of lanes than the auction, or the challenge of bits.
+    Length {
+        /// How many lanes the auction has.
+        kept: u32,
+        /// How many lanes the seal has, or bits the challenge.
+        given: u32,
+    },
     /// The bid isn't below 2^width.
     BidTooLarge,
     /// The seal isn't that of the secret.
@@ -36,13 +47,20 @@ pub enum HouseErr {
     /// No seal is held.
     NoSeals,
     /// The board was made with the kept seed, and another one is given.
-    OtherSeed { kept: [u8; 32] },
+    OtherSeed {
+        kept: [u8; 32],
+    },
     /// The kept challenge was answered, and another one is given.
-    OtherChallenge { kept: Challenge },
-    /// The seed gives no tape; the first lane, from 1, and in it the first wire, from 0.
-    DrySeed { lane: u32, wire: u32 },
-    /// The keeper failed. Its count of faults rose in this call.
-    KeeperFailed,
+    OtherChallenge {
+        kept: Challenge,
+    },
+    /// The seed gives no tape.
+    DrySeed {
+        /// The first lane without a tape, from 1.
+        lane: u32,
+        /// The first such wire in it, from 0.
+        wire: u32,
+    },
     /// Want of memory.
     NoMemory,
 }
@@ -52,14 +70,6 @@ impl From<OutsideErr> for HouseErr {
 
     fn from(refused: OutsideErr) -> HouseErr {
         refused.told_as(HouseErr::KeeperFailed, HouseErr::NoMemory)
-    }
-}
-
-impl From<NoMemory> for HouseErr {
-    ghost from_gives = { λ _ e. e ≡ house.NoMemory };
-
-    fn from(_refused: NoMemory) -> HouseErr {
-        HouseErr::NoMemory
     }
 }
 
@@ -83,8 +93,16 @@ impl From<JobErr> for HouseErr {
 
     fn from(refused: JobErr) -> HouseErr {
         match refused {
-            JobErr::DrySeed { lane, wire } => HouseErr::DrySeed { lane, wire },
             JobErr::NoMemory => HouseErr::NoMemory,
+            JobErr::DrySeed { lane, wire } => HouseErr::DrySeed { lane, wire },
         }
+    }
+}
+
+impl From<NoMemory> for HouseErr {
+    ghost from_gives = { λ _ e. e ≡ house.NoMemory };
+
+    fn from(_refused: NoMemory) -> HouseErr {
+        HouseErr::NoMemory
     }
 }

@@ -132,11 +132,11 @@ impl<'a, K: Keeper + Drop> House<'a, K> {
         ensures call { Calls (Answer id.now challenge.now) (as_reply work_of result) (K.ledger self.old.keeper.now) (K.ledger self.new.keeper.now) }
         ensures refused { OnErr result (K.ledger self.new.keeper.now ≡ K.ledger self.old.keeper.now) }
         ensures reply { MayReply (Answer id.now challenge.now) (as_reply work_of result) }
-        ensures id { IfOk result (λ job. job.auction.id ≡ id.now) }
-        ensures answered { IfOk result (λ job. challenge_of job.auction.phase ≡ Some challenge.now) }
         ensures turns { GetsOnce (K.turns self.old.keeper.now) (K.turns self.new.keeper.now) }
         ensures causes { Causes HouseErr.KeeperFailed result (K.faults self.old.keeper.now) (K.faults self.new.keeper.now) }
         ensures keeper { self.new.keeper.ghost_name ≡ self.old.keeper.ghost_name }
+        ensures id { IfOk result (λ job. job.auction.id ≡ id.now) }
+        ensures answered { IfOk result (λ job. challenge_of job.auction.phase ≡ Some challenge.now) }
     {
         let found = self.keeper.get(id)?;
         let answering = decide_answer(alloc, found, challenge)?;

@@ -5,8 +5,8 @@ ghost use Rattle.std.specs.Result.{result_err};
 ghost use Rattle.vk_residue.specs.Limits.{IsSize};
 ghost use Rattle.vk_seal.specs.Values.{IsSeal, IsSecret};
 ghost use Rattle.vk_keeper.specs.Auctions.{IsAuction};
-ghost use Rattle.vk_house.specs.Deciding.{Decides};
 ghost use Rattle.vk_house.specs.Commands.{announcing, Submit};
+ghost use Rattle.vk_house.specs.Deciding.{Decides};
 ghost use Rattle.vk_house.specs.Replies.{Done, Position};
 ghost use Rattle.vk_house.specs.Tests.{not_taking};
 ghost use Rattle.vk_house.specs.Steps.{step_at};
@@ -52,9 +52,9 @@ pub fn decide_announce(
     Ok(Auction {
         id: *id,
         version,
+        reserve,
         width,
         lanes,
-        reserve,
         phase: Phase::Taking,
         seals: Seq::new(alloc),
     })

@@ -51,11 +51,11 @@ module _ {S : Type 0} (g : Ghosts S) where
   -- tables of the number 1 got terms for each of their auctions, and the number 2
   pub record LiftsTables (old new : Held S) : Type 0 where
     pub made : Held S
-    pub asked : Held S
-    pub filled : Held S
-    pub ids : List Row
     pub make : Ran g make_terms [] old made
+    pub asked : Held S
+    pub ids : List Row
     pub query : Answers g ids_query [] made asked ids
+    pub filled : Held S
     pub fill : AddsTerms ids asked filled
     pub number : Ran g next_number (Int (pos 2) ∷ []) filled new
 

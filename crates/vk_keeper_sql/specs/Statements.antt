@@ -29,13 +29,15 @@ number_query = codes "SELECT (SELECT count(*) FROM about), version FROM about LI
 
 -- ---- an auction
 
--- its row, its terms, and the rows of its seals in order
+-- its row
 unfoldable pub auction_query : List ℕ
 auction_query = codes "SELECT width, lanes, phase, seed, bits FROM auction WHERE id = ?1 LIMIT 2"
 
+-- its terms
 unfoldable pub terms_query : List ℕ
 terms_query = codes "SELECT version, reserve FROM terms WHERE id = ?1 LIMIT 2"
 
+-- the rows of its seals, in their order
 unfoldable pub seals_query : List ℕ
 seals_query = codes "SELECT position, seat, seal, secret FROM seal WHERE id = ?1 ORDER BY position LIMIT 65"
 

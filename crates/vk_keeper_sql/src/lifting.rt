@@ -1,14 +1,14 @@
 //! Gives auctions that were kept before auctions had terms those of version 1.
 
 ghost use Rattle.std.specs.Prelude.{◌≡◌, IfOk, OnOk};
+ghost use Rattle.vk_keeper_sql.specs.Columns.{column};
+ghost use Rattle.vk_keeper_sql.specs.Statements.{keep_terms};
+ghost use Rattle.vk_keeper_sql.specs.Transactions.{CommitsNothing, Ran};
+ghost use Rattle.vk_keeper_sql.specs.Opening.{AddsTerms, LiftsTables, first_terms};
 ghost use Rattle.sqlite.specs.Held.{state};
 ghost use Rattle.sqlite.specs.State.{HasCleanDisk};
 ghost use Rattle.sqlite.specs.Value.{owned};
 ghost use Rattle.sqlite.specs.Values.{bound};
-ghost use Rattle.vk_keeper_sql.specs.Columns.{column};
-ghost use Rattle.vk_keeper_sql.specs.Opening.{AddsTerms, LiftsTables, first_terms};
-ghost use Rattle.vk_keeper_sql.specs.Statements.{keep_terms};
-ghost use Rattle.vk_keeper_sql.specs.Transactions.{CommitsNothing, Ran};
 
 use crate::errors::refused_statement;
 use crate::statements::{KEEP_TERMS, ask, run};

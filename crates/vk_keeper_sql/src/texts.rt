@@ -10,20 +10,20 @@ use vk_residue::NoMemory;
 use vk_seal::{seal_text, secret_text};
 use vk_seq::Seq;
 
-/// What stands in the row of a seal, beside the auction's id and its position.
-#[derive(Drop)]
-pub struct SealTexts {
-    pub seat: u16,
-    pub seal: Seq<u8>,
-    pub secret: Seq<u8>,
-}
-
 /// What stands in the rows of an auction, beside what it has itself.
 #[derive(Drop)]
 pub struct Texts {
     /// The characters of the challenge, where one is kept.
     pub bits: Option<Seq<u8>>,
     pub seals: Seq<SealTexts>,
+}
+
+/// What stands in the row of a seal, beside the auction's id and its position.
+#[derive(Drop)]
+pub struct SealTexts {
+    pub seat: u16,
+    pub seal: Seq<u8>,
+    pub secret: Seq<u8>,
 }
 
 /// The texts of an auction's rows. Errs for want of memory alone.
@@ -49,18 +49,6 @@ fn bits_of(alloc: Global, phase: &Phase) -> Result<Option<Seq<u8>>, NoMemory>
     }
 }
 
-/// The texts of these seals' rows.
-fn seals_of(alloc: Global, seals: &[SealRow]) -> Result<Seq<SealTexts>, NoMemory>
-    ensures { IfOk result (λ texts. texts ≡ map seal_texts seals.now) }
-{
-    let mut texts = Seq::new(alloc);
-    for row in seals {
-        let one = seal_of(alloc, row)?;
-        texts.push(one)?;
-    }
-    Ok(texts)
-}
-
 /// The texts of one seal's row.
 fn seal_of(alloc: Global, row: &SealRow) -> Result<SealTexts, NoMemory>
     ensures { IfOk result (λ texts. texts ≡ seal_texts row.now) }
@@ -72,4 +60,16 @@ fn seal_of(alloc: Global, row: &SealRow) -> Result<SealTexts, NoMemory>
         seal: Seq::from_vec(seal),
         secret: Seq::from_vec(secret),
     })
+}
+
+/// The texts of these seals' rows.
+fn seals_of(alloc: Global, seals: &[SealRow]) -> Result<Seq<SealTexts>, NoMemory>
+    ensures { IfOk result (λ texts. texts ≡ map seal_texts seals.now) }
+{
+    let mut texts = Seq::new(alloc);
+    for row in seals {
+        let one = seal_of(alloc, row)?;
+        texts.push(one)?;
+    }
+    Ok(texts)
 }

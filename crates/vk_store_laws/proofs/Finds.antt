@@ -16,6 +16,7 @@ use Rattle.sqlite_value.specs.declared.value.Value.TheVariants.{Null, Blob}
 use Rattle.sqlite_value.specs.Order.{Row, column, value_cmp}
 use Rattle.sqlite_trees.proofs.ListLemmas.{map-map, all-permutation}
 use Rattle.sqlite_sql.specs.Term.{holds}
+use Rattle.sqlite.specs.Term.{Term}
 use Rattle.sqlite_sql.specs.Program.{overlay}
 use Rattle.sqlite_sql.specs.Query.{Output, output, output_cmp, IsAnswer}
 use Rattle.sqlite_resolve.specs.declared.compiled.Compiled.{Compiled}
@@ -28,7 +29,7 @@ use Rattle.sqlite.proofs.Callers.{reads_as, IsPlain}
 use Rattle.vk_keeper_sql.specs.Statements.{auction_query as find_auction, terms_query as find_terms, seals_query as find_seals}
 use Rattle.vk_store_laws.specs.Tables.{store_schema}
 use Rattle.vk_store_laws.specs.Rows.{has_id, under, head_columns, term_columns, seal_columns}
-use Rattle.vk_store_laws.proofs.Texts.{of_id, head_query, rows_query, find_auction_is, find_auction_plain, term_query, find_terms_is, find_terms_plain, find_seals_is, find_seals_plain}
+use Rattle.vk_store_laws.proofs.Texts.{of_id, two_query, head_query, rows_query, term_query, find_auction_is, find_terms_is, find_seals_is}
 use Rattle.vk_store_laws.proofs.Selects.{matches_are, filter_same, is_id}
 
 pub and_true : (b : Bool) → b && true ≡ b
@@ -41,29 +42,33 @@ tests_id id r = and_true _ ∙ is_id (column r 1) id
 pub matches_under : (id : List ℕ) (rows : List Row) → filter (λ r. list_all (holds ((Blob id ∷ []) ∷ r ∷ [])) (of_id ∷ [])) rows ≡ under id rows
 matches_under id rows = filter_same _ _ (tests_id id) rows
 
+-- a query for at most two of the rows of the id shows two of them
+shows_two : (tree : ℕ) (project : List Term) (old : State) (id : List ℕ) (rows : List Row) → overlay old.now.trees [] tree ≡ old.now.trees tree
+    → IsAnswer (two_query tree project) (overlay old.now.trees []) (Blob id ∷ []) rows
+    → (all : List Row) × IsPermutation (map (λ r. (output (two_query tree project) ((Blob id ∷ []) ∷ r ∷ [])).1) (under id (old.now.trees tree))) all × (rows ≡ take 2 all)
+shows_two tree project old id rows here a =
+    let params = Blob id ∷ [] in
+    let query = two_query tree project in
+    let found = under id (old.now.trees tree) in
+    let asked = ap (filter (λ r. list_all (holds (params ∷ r ∷ [])) (of_id ∷ []))) here ∙ matches_under id (old.now.trees tree) in
+    let staged = a.grouped ∙ (matches_are Null (overlay old.now.trees []) params tree (of_id ∷ []) ∙ ap (map (λ r. params ∷ r ∷ [])) asked) in
+    let kept = a.distinct ∙ (ap (map (output query)) staged ∙ map-map (output query) (λ r. params ∷ r ∷ []) found) in
+    let shown_rows = ap (map (λ (o : Output). o.1)) kept ∙ map-map (λ (o : Output). o.1) (λ r. output query (params ∷ r ∷ [])) found in
+    (map (λ (o : Output). o.1) a.ordered, subst (λ all. IsPermutation all (map (λ (o : Output). o.1) a.ordered)) shown_rows (IsPermutation-map (λ (o : Output). o.1) a.kept a.ordered a.same), a.shown)
+
 -- at most two of the rows of the id
 pub finds_heads : (old new : State) (id : List ℕ) (rows : List Row) → old.now.schema ≡ store_schema → Shown find_auction (Blob id ∷ []) old new rows
     → (all : List Row) × IsPermutation (map head_columns (under id (old.now.trees 1))) all × (rows ≡ take 2 all)
 finds_heads old new id rows has shown =
-    let params = Blob id ∷ [] in
-    let got = reads_as find_auction params old new store_schema has _ find_auction_is.0 find_auction_plain find_auction_is.1 rows shown in
-    let a : IsAnswer head_query (overlay old.now.trees []) params rows = got.answer Null in
-    let staged = a.grouped ∙ (matches_are Null (overlay old.now.trees []) params 1 (of_id ∷ []) ∙ ap (map (λ r. params ∷ r ∷ [])) (matches_under id (old.now.trees 1))) in
-    let kept = a.distinct ∙ (ap (map (output head_query)) staged ∙ map-map (output head_query) (λ r. params ∷ r ∷ []) (under id (old.now.trees 1))) in
-    let shown_rows = ap (map (λ (o : Output). o.1)) kept ∙ map-map (λ (o : Output). o.1) (λ r. output head_query (params ∷ r ∷ [])) (under id (old.now.trees 1)) in
-    (map (λ (o : Output). o.1) a.ordered, subst (λ all. IsPermutation all (map (λ (o : Output). o.1) a.ordered)) shown_rows (IsPermutation-map (λ (o : Output). o.1) a.kept a.ordered a.same), a.shown)
+    let got = reads_as find_auction (Blob id ∷ []) old new store_schema has _ find_auction_is.0.0 find_auction_is.1 find_auction_is.0.1 rows shown in
+    shows_two 1 head_query.project old id rows refl (got.answer Null)
 
--- at most two of the rows of its terms
+-- and of the rows of its terms
 pub finds_terms : (old new : State) (id : List ℕ) (rows : List Row) → old.now.schema ≡ store_schema → Shown find_terms (Blob id ∷ []) old new rows
     → (all : List Row) × IsPermutation (map term_columns (under id (old.now.trees 6))) all × (rows ≡ take 2 all)
 finds_terms old new id rows has shown =
-    let params = Blob id ∷ [] in
-    let got = reads_as find_terms params old new store_schema has _ find_terms_is.0 find_terms_plain find_terms_is.1 rows shown in
-    let a : IsAnswer term_query (overlay old.now.trees []) params rows = got.answer Null in
-    let staged = a.grouped ∙ (matches_are Null (overlay old.now.trees []) params 6 (of_id ∷ []) ∙ ap (map (λ r. params ∷ r ∷ [])) (matches_under id (old.now.trees 6))) in
-    let kept = a.distinct ∙ (ap (map (output term_query)) staged ∙ map-map (output term_query) (λ r. params ∷ r ∷ []) (under id (old.now.trees 6))) in
-    let shown_rows = ap (map (λ (o : Output). o.1)) kept ∙ map-map (λ (o : Output). o.1) (λ r. output term_query (params ∷ r ∷ [])) (under id (old.now.trees 6)) in
-    (map (λ (o : Output). o.1) a.ordered, subst (λ all. IsPermutation all (map (λ (o : Output). o.1) a.ordered)) shown_rows (IsPermutation-map (λ (o : Output). o.1) a.kept a.ordered a.same), a.shown)
+    let got = reads_as find_terms (Blob id ∷ []) old new store_schema has _ find_terms_is.0.0 find_terms_is.1 find_terms_is.0.1 rows shown in
+    shows_two 6 term_query.project old id rows refl (got.answer Null)
 
 far_ascending : {X : Type 0} (lt : X → X → Bool) (xs : List X) → ((i j : ℕ) (d : X) → i ≤ j → j < length xs → lt (get_or xs j d) (get_or xs i d) ≡ false) → IsAscending (λ x y. lt y x ≡ false) xs
 far_ascending lt [] far = tt
@@ -96,7 +101,7 @@ pub finds_seals : (old new : State) (id : List ℕ) (rows : List Row) → old.no
     → (all : List Row) × IsPermutation (map seal_columns (under id (old.now.trees 3))) all × (rows ≡ take 65 all) × IsAscending NotBelow all
 finds_seals old new id rows has shown =
     let params = Blob id ∷ [] in
-    let got = reads_as find_seals params old new store_schema has _ find_seals_is.0 find_seals_plain find_seals_is.1 rows shown in
+    let got = reads_as find_seals params old new store_schema has _ find_seals_is.0.0 find_seals_is.1 find_seals_is.0.1 rows shown in
     let a : IsAnswer rows_query (overlay old.now.trees []) params rows = got.answer Null in
     let staged = a.grouped ∙ (matches_are Null (overlay old.now.trees []) params 3 (of_id ∷ []) ∙ ap (map (λ r. params ∷ r ∷ [])) (matches_under id (old.now.trees 3))) in
     let kept = a.distinct ∙ (ap (map (output rows_query)) staged ∙ map-map (output rows_query) (λ r. params ∷ r ∷ []) (under id (old.now.trees 3))) in

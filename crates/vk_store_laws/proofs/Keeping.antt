@@ -32,7 +32,7 @@ use Rattle.vk_keeper_sql.specs.Writing.{AddsSeals}
 use Rattle.vk_store_laws.specs.Tables.{store_schema, placed, auctions, seals, terms}
 use Rattle.vk_store_laws.specs.Rows.{has_id, under, head_columns, term_columns, seal_columns, IsTableOfRows, PutsRow}
 use Rattle.vk_store_laws.specs.Holding.{IsStore, IsStep, head_row, term_row, seal_rows}
-use Rattle.vk_store_laws.proofs.Texts.{of_id, is_behind, auction_terms, seal_terms, keep_auction_is, keep_auction_plain, terms_terms, keep_terms_is, keep_terms_plain, keep_seal_is, keep_seal_plain, drop_seals_is, drop_seals_plain}
+use Rattle.vk_store_laws.proofs.Texts.{of_id, is_behind, auction_terms, seal_terms, keep_auction_is, terms_terms, keep_terms_is, keep_seal_is, drop_seals_is}
 use Rattle.vk_store_laws.proofs.Selects.{is_id}
 use Rattle.vk_store_laws.proofs.Finds.{and_true}
 use Rattle.vk_store_laws.proofs.Tables.{cast_null, cast_int, deletes, inserts, replaces}
@@ -94,6 +94,12 @@ none_left p rows = filter_none p (filter (λ r. not (p r)) rows) (all_from _ (fi
     let kept = (has_filtered (λ x. not (p x)) rows r h).1 in
     elim (cases_Bool (p r)) [ inl passes ↦ absurd (let e = rw passes at kept in cc) | inr fails ↦ fails ]))
 
+-- a row that takes the place of all of its id is the only one of the id
+left_alone : (id : List ℕ) (params : Row) (before after : List Row) (put : PutsRow params (filter (λ r. not (has_id id r)) before) after)
+    → has_id id (Int put.number ∷ params) ≡ true → under id after ≡ (Int put.number ∷ params) ∷ []
+left_alone id params before after put own =
+    ap (under id) put.rows ∙ put_alone (has_id id) (Int put.number ∷ params) (filter (λ r. not (has_id id r)) before) own (none_left (has_id id) before) put.free
+
 -- the rows that the statement drops
 abbrev pub goes : List ℕ → ℕ → Row → Bool
 goes id standing r = list_all (holds ((Blob id ∷ Int (pos standing) ∷ []) ∷ r ∷ [])) (of_id ∷ is_behind ∷ [])
@@ -107,7 +113,7 @@ module _ {S : Type 0} (g : Ghosts S) (old new : Held S) (store : IsStore (state 
       let id = auction.id in
       let params = auction_row auction in
       let before = (state g old).now.trees 1 in
-      let w = runs_as keep_auction params (state g old) (state g new) store_schema store.schema _ keep_auction_is keep_auction_plain ran.0 ran.1.0 in
+      let w = runs_as keep_auction params (state g old) (state g new) store_schema store.schema _ keep_auction_is.0 keep_auction_is.1 ran.0 ran.1.0 in
       let text = statement_of keep_auction (understood store_schema keep_auction) in
       let done = replaces store_schema 1 (placed auctions 1) refl (λ keys db edit. refl) (state g old) (state g new) store.schema text params ran.0
       (has_id id) refl (λ n. rw (cast_int n, cast_int (pos auction.width), cast_int (pos auction.lanes), cast_int _, text_stays (bits_in auction.phase)) refl)
@@ -115,8 +121,7 @@ module _ {S : Type 0} (g : Ghosts S) (old new : Held S) (store : IsStore (state 
       auction_terms 7 refl refl refl (rw (cast_null, cast_int (pos auction.width), cast_int (pos auction.lanes), cast_int _, text_stays (bits_in auction.phase)) refl) store.auctions w in
       let left = filter (λ r. not (has_id id r)) before in
       let put = done.1 in
-      let row = Int put.number ∷ params in
-      let alone : under id ((state g new).now.trees 1) ≡ row ∷ [] = ap (under id) put.rows ∙ put_alone (has_id id) row left (own_id id) (none_left (has_id id) before) put.free in
+      let alone = left_alone id params before _ put (own_id id) in
       let same : (state g new).now.trees 3 ≡ (state g old).now.trees 3 = done.0.tables.1.1.0 apart_31 in
       let terms : (state g new).now.trees 6 ≡ (state g old).now.trees 6 = done.0.tables.1.1.1.0 apart_61 in (
         record {
@@ -136,19 +141,18 @@ module _ {S : Type 0} (g : Ghosts S) (old new : Held S) (store : IsStore (state 
       × ((state g new).now.trees 1 ≡ (state g old).now.trees 1) × IsSound store_schema (state g new).now.trees
   unfolding Ran
   keeps_terms auction ran =
-      let id = auction.id in
-      let params = terms_row auction in
       let before = (state g old).now.trees 6 in
-      let w = runs_as keep_terms params (state g old) (state g new) store_schema store.schema _ keep_terms_is keep_terms_plain ran.0 ran.1.0 in
+      let id = auction.id in
+      let left = filter (λ r. not (has_id id r)) before in
+      let params = terms_row auction in
+      let w = runs_as keep_terms params (state g old) (state g new) store_schema store.schema _ keep_terms_is.0 keep_terms_is.1 ran.0 ran.1.0 in
       let text = statement_of keep_terms (understood store_schema keep_terms) in
       let done = replaces store_schema 3 (placed terms 6) refl (λ keys db edit. refl) (state g old) (state g new) store.schema text params ran.0
       (has_id id) refl (λ n. rw (cast_int n, cast_int (pos auction.version), cast_int (pos auction.reserve)) refl)
       (λ n r. subst (λ (k : Key). ((equal k.collation (column r 1) (Blob id) && true) || false) ≡ has_id id r) (sym first_key-plain) (or_false _ ∙ (and_true _ ∙ is_id (column r 1) id)))
       terms_terms 4 refl refl refl (rw (cast_null, cast_int (pos auction.version), cast_int (pos auction.reserve)) refl) store.terms w in
-      let left = filter (λ r. not (has_id id r)) before in
       let put = done.1 in
-      let row = Int put.number ∷ params in
-      let alone : under id ((state g new).now.trees 6) ≡ row ∷ [] = ap (under id) put.rows ∙ put_alone (has_id id) row left (own_id id) (none_left (has_id id) before) put.free in
+      let alone = left_alone id params before _ put (own_id id) in
       let heads : (state g new).now.trees 1 ≡ (state g old).now.trees 1 = done.0.tables.1.0 apart_16 in
       let same : (state g new).now.trees 3 ≡ (state g old).now.trees 3 = done.0.tables.1.1.0 apart_36 in (
         record {
@@ -172,7 +176,7 @@ module _ {S : Type 0} (g : Ghosts S) (old new : Held S) (store : IsStore (state 
   keeps_seal id position texts ran =
       let params = seal_row id position texts in
       let before = (state g old).now.trees 3 in
-      let w = runs_as keep_seal params (state g old) (state g new) store_schema store.schema _ keep_seal_is keep_seal_plain ran.0 ran.1.0 in
+      let w = runs_as keep_seal params (state g old) (state g new) store_schema store.schema _ keep_seal_is.0 keep_seal_is.1 ran.0 ran.1.0 in
       let text = statement_of keep_seal (understood store_schema keep_seal) in
       let done = inserts store_schema 2 (placed seals 3) refl (λ keys db edit. refl) (state g old) (state g new) store.schema text params ran.0
       seal_terms 6 refl refl refl (rw (cast_null, cast_int (pos position), cast_int (pos texts.seat)) refl) w in
@@ -199,7 +203,7 @@ module _ {S : Type 0} (g : Ghosts S) (old new : Held S) (store : IsStore (state 
   clears_seals id standing ran =
       let params = Blob id ∷ Int (pos standing) ∷ [] in
       let before = (state g old).now.trees 3 in
-      let w = runs_as drop_seals params (state g old) (state g new) store_schema store.schema _ drop_seals_is drop_seals_plain ran.0 ran.1.0 in
+      let w = runs_as drop_seals params (state g old) (state g new) store_schema store.schema _ drop_seals_is.0 drop_seals_is.1 ran.0 ran.1.0 in
       let text = statement_of drop_seals (understood store_schema drop_seals) in
       let done = deletes store_schema 2 (placed seals 3) refl (λ keys db edit. refl) (state g old) (state g new) store.schema text params ran.0
       (of_id ∷ is_behind ∷ []) (λ db. refl) store.seals w in

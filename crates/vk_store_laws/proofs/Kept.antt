@@ -16,7 +16,7 @@ use Rattle.vk_keeper_sql.specs.Columns.{ShowSeals, seal_texts}
 use Rattle.vk_keeper_sql.specs.Writing.{WritesAuction, Keeps}
 use Rattle.vk_store_laws.specs.Rows.{under, head_columns, term_columns, seal_columns}
 use Rattle.vk_store_laws.specs.Holding.{IsStore, IsStep, Stands, columns_of, seal_rows}
-use Rattle.vk_store_laws.proofs.Texts.{find_seals_plain}
+use Rattle.vk_store_laws.proofs.Texts.{find_seals_is}
 use Rattle.vk_store_laws.proofs.Finds.{finds_seals, shown_leaves}
 use Rattle.vk_store_laws.proofs.Standing.{IsFour, four_columns, rows_are}
 use Rattle.vk_store_laws.proofs.Keeping.{keeps_row, keeps_terms, clears_seals, adds_seals, then_step, shown_seals}
@@ -53,7 +53,7 @@ module _ {S : Type 0} (g : Ghosts S) (auction : Auction) (old new : Held S) (sto
       let head = keeps_row g (record old { in_transaction = true }) it.one store auction it.row in
       let row = keeps_terms g it.one mid head.0.store auction it.terms in
       let seals = it.seals in
-      let leaves = shown_leaves _ _ _ (state g mid) (state g seals.asked) seals.held row.0.store.schema find_seals_plain seals.query in
+      let leaves = shown_leaves _ _ _ (state g mid) (state g seals.asked) seals.held row.0.store.schema find_seals_is.1 seals.query in
       let asked : (state g seals.asked).now ≡ (state g mid).now = leaves.0.now_is in
       let found = finds_seals (state g mid) (state g seals.asked) id seals.held row.0.store.schema seals.query in
       let standing = seals.standing in

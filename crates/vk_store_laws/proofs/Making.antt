@@ -59,6 +59,7 @@ seals_is : Defines two_schema make_seals seals
 unfolding understood everything make_seals
 seals_is = record { command = refl; text = refl; plain = (refl, refl); table_is = refl; uncounted = refl }
 
+-- the terms came last: a store that was made before has the three tables above
 terms_is : Defines three_schema make_terms terms
 unfolding understood everything make_terms
 terms_is = record { command = refl; text = refl; plain = (refl, refl); table_is = refl; uncounted = refl }

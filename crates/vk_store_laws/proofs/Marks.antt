@@ -31,7 +31,7 @@ use Rattle.vk_keeper_sql.specs.Opening.{AddsTerms}
 use Rattle.vk_store_laws.specs.Tables.{store_schema, placed, terms}
 use Rattle.vk_store_laws.specs.Rows.{has_id, under, term_columns, IsTableOfRows, PutsRow}
 use Rattle.vk_store_laws.specs.Holding.{IsStore}
-use Rattle.vk_store_laws.proofs.Texts.{terms_terms, keep_terms_is, keep_terms_plain}
+use Rattle.vk_store_laws.proofs.Texts.{terms_terms, keep_terms_is}
 use Rattle.vk_store_laws.proofs.Selects.{told, is_id, filter_same}
 use Rattle.vk_store_laws.proofs.Finds.{and_true}
 use Rattle.vk_store_laws.proofs.Tables.{cast_null, cast_int, replaces}
@@ -144,7 +144,7 @@ unfolding Ran
 puts_terms g old new w store ran =
     let params = w ∷ first_row in
     let before = (state g old).now.trees 6 in
-    let run = runs_as keep_terms params (state g old) (state g new) store_schema store.schema _ keep_terms_is keep_terms_plain ran.0 ran.1.0 in
+    let run = runs_as keep_terms params (state g old) (state g new) store_schema store.schema _ keep_terms_is.0 keep_terms_is.1 ran.0 ran.1.0 in
     let text = statement_of keep_terms (understood store_schema keep_terms) in
     let done = replaces store_schema 3 (placed terms 6) refl (λ keys db edit. refl) (state g old) (state g new) store.schema text params ran.0
     (is_of w) refl (λ n. rw (cast_int n, cast_int (pos 1), cast_int (pos 0)) refl)

@@ -24,7 +24,7 @@ use Rattle.vk_keeper_sql.specs.Reading.{Finds, Reads, ShowFound}
 use Rattle.vk_store_laws.specs.Tables.{store_schema}
 use Rattle.vk_store_laws.specs.Rows.{under, head_columns, term_columns, seal_columns}
 use Rattle.vk_store_laws.specs.Holding.{head_row, term_row, seal_rows, Holds}
-use Rattle.vk_store_laws.proofs.Texts.{find_auction_plain, find_terms_plain}
+use Rattle.vk_store_laws.proofs.Texts.{find_auction_is, find_terms_is}
 use Rattle.vk_store_laws.proofs.Finds.{finds_heads, finds_terms, finds_seals, shown_leaves}
 
 abbrev pub IsFour : Row → Type 0
@@ -109,10 +109,10 @@ module _ {S : Type 0} (g : Ghosts S) (id : List ℕ) (old : Held S) (has : (stat
       let one = state g it.one in
       let two = state g it.two in
       let first = finds_heads begun one id heads has it.head in
-      let left_one : one.now ≡ begun.now = (shown_leaves _ _ _ begun one heads has find_auction_plain it.head).0.now_is in
+      let left_one : one.now ≡ begun.now = (shown_leaves _ _ _ begun one heads has find_auction_is.1 it.head).0.now_is in
       let has_one = ap (λ (d : Database). d.schema) left_one ∙ has in
       let second = finds_terms one two id terms has_one it.term in
-      let left_two : two.now ≡ begun.now = (shown_leaves _ _ _ one two terms has_one find_terms_plain it.term).0.now_is ∙ left_one in
+      let left_two : two.now ≡ begun.now = (shown_leaves _ _ _ one two terms has_one find_terms_is.1 it.term).0.now_is ∙ left_one in
       let third = finds_seals two (state g it.last) id rows (ap (λ (d : Database). d.schema) left_two ∙ has) it.seals in
       record {
         head_order = first.0;

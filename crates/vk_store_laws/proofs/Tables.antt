@@ -273,11 +273,11 @@ module _ (schema : Schema) (at : ℕ) (table : Table) (placed : slice_get schema
         let db = old.now.trees in
         let command = InsertOr at Replace (Values terms width) [] in
         let done = went (ran command w.tally (subst (λ s. Does old.step_limit (mode_of old) params (record old.now { schema = s }) text None command (Ok (w.tally, new.now))) has w.changed)) in
-        let now = ap (λ (q : Tally × Database). q.1) (same_value (went (went done.2).2).2) in
         let given = went done.1 in
         let counter = went given.2 in
         let tried = went counter.2 in
         let counted = went tried.2 in
+        let now = ap (λ (q : Tally × Database). q.1) (same_value (went (went done.2).2).2) in
         let after : done.0.trees ≡ tried.0.0.trees = ap (λ (it : Written). it.trees) (same_value counted.2) ∙ same_value (uncounts table.is_counted _ _ _ uncounted counted.1) in
         let sources : given.0 ≡ (Null ∷ params) ∷ [] = given.1.1 ∙ (ap (λ ps. value_rows ps width (length terms / width) terms) unstamped ∙ valued) in
         let each = subst (λ all. TriesEach task Replace [] all (count_of counter.0) (record { trees = db; rows = []; last = None }) (Ok tried.0)) sources tried.1 in

@@ -19,11 +19,12 @@ optional name kind = record { name = name; kind = kind; is_strict = false; not_n
 
 -- ---- the tables, each but for its tree
 
-abbrev pub about : Table
-about = record {
-  name = codes "about";
+-- a table without columns and keys, and with no rule
+abbrev pub bare : Table
+bare = record {
+  name = [];
   tree = 0;
-  columns = needed (codes "version") Integer ∷ [];
+  columns = [];
   key = None;
   primary = [];
   uniques = [];
@@ -35,52 +36,34 @@ about = record {
   is_counted = false;
 }
 
+abbrev pub about : Table
+about = record bare { name = codes "about"; columns = needed (codes "version") Integer ∷ [] }
+
 abbrev pub auctions : Table
-auctions = record {
+auctions = record bare {
   name = codes "auction";
-  tree = 0;
   columns = needed (codes "id") Any ∷ needed (codes "width") Integer ∷ needed (codes "lanes") Integer ∷ needed (codes "phase") Integer ∷ optional (codes "seed") Any ∷ optional (codes "bits") Text ∷ [];
-  key = None;
   primary = 1 ∷ [];
   uniques = (1 ∷ []) ∷ [];
   orders = plain ∷ [];
-  checks = [];
-  references = [];
-  computed = [];
-  stamps = record { places = []; terms = []; formats = [] };
-  is_counted = false;
 }
 
 abbrev pub seals : Table
-seals = record {
+seals = record bare {
   name = codes "seal";
-  tree = 0;
   columns = needed (codes "id") Any ∷ needed (codes "position") Integer ∷ needed (codes "seat") Integer ∷ needed (codes "seal") Text ∷ needed (codes "secret") Text ∷ [];
-  key = None;
   primary = 1 ∷ 2 ∷ [];
   uniques = (1 ∷ 2 ∷ []) ∷ (1 ∷ 3 ∷ []) ∷ [];
   orders = plain ∷ plain ∷ [];
-  checks = [];
-  references = [];
-  computed = [];
-  stamps = record { places = []; terms = []; formats = [] };
-  is_counted = false;
 }
 
 abbrev pub terms : Table
-terms = record {
+terms = record bare {
   name = codes "terms";
-  tree = 0;
   columns = needed (codes "id") Any ∷ needed (codes "version") Integer ∷ needed (codes "reserve") Integer ∷ [];
-  key = None;
   primary = 1 ∷ [];
   uniques = (1 ∷ []) ∷ [];
   orders = plain ∷ [];
-  checks = [];
-  references = [];
-  computed = [];
-  stamps = record { places = []; terms = []; formats = [] };
-  is_counted = false;
 }
 
 -- a table at its tree

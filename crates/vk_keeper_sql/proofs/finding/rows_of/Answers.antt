@@ -13,9 +13,9 @@ returns-clause-read g c clean =
     let one : HasCleanDisk (state g.S.Store c.rows_under.new.transaction.conn.now) = omega (arith, c.rows_under-2.ensures.crash.clean) in
     record {
       one = c.rows_under.new.transaction.conn.now;
-      two = c.rows_under-2.new.transaction.conn.now;
-      last = c.rows_under-3.new.transaction.conn.now;
       head = rw c.transaction-transaction.ensures.begun at (c.in_ok-heads.ensures.rows one);
+      two = c.rows_under-2.new.transaction.conn.now;
       term = c.in_ok-terms.ensures.rows two;
+      last = c.rows_under-3.new.transaction.conn.now;
       seals = c.in_ok-seals.ensures.rows last;
     }

@@ -10,11 +10,12 @@ loop-i-preserved g c =
     let first = c.args.transaction.now.conn.now in
     let mid = c.loop-i.transaction.conn.now in
     let last = c.add_seal.new.transaction.conn.now in
+    let store = state g.S.Store in
     record {
       same_reference = c.add_seal.ensures.same_reference ∙ c.loop-i.invariant.same_reference;
       added = λ clean.
-          let was : HasCleanDisk (state g.S.Store mid) = omega (arith, c.add_seal.ensures.crash.clean) in
+          let was : HasCleanDisk (store mid) = omega (arith, c.add_seal.ensures.crash.clean) in
           add_next g.S.Store c.args.id.now c.args.before c.args.seals.now c.loop-i.i c.index-seals-i.result first mid last c.loop-i-test.true c.index-seals-i.is
           (c.loop-i.invariant.added was) (c.in_ok-add_seal.ensures.ran clean);
-      crash = survives_then (state g.S.Store first) (state g.S.Store mid) (state g.S.Store last) _ _ _ (λ _ db no. no) (λ _ db no. no) c.loop-i.invariant.crash c.add_seal.ensures.crash;
+      crash = survives_then (store first) (store mid) (store last) _ _ _ (λ _ db no. no) (λ _ db no. no) c.loop-i.invariant.crash c.add_seal.ensures.crash;
     }

@@ -34,9 +34,9 @@ returns-in-Err g c =
 pub returns-in-Ok : goal.returns-in-Ok
 returns-in-Ok g c =
     let old = c.args.connection.now in
+    let last = c.commit.new.self.0 in
     let Makes = Prepares g.S.Store old in
     let mid = state g.S.Store c.prepare_within.new.transaction.conn.now in
-    let last = c.commit.new.self.0 in
     let inside = rw c.transaction-transaction.ensures.begun at c.prepare_within.ensures.crash in
     let made : HasCleanDisk mid → Makes mid.now.trees = λ clean. (c.args.layout, c.requires.layout, (c.prepare_within.new.transaction.conn.now, rw c.transaction-transaction.ensures.begun at (c.in_ok-prepare_within.ensures.prepared clean), refl)) in
     let whole = committed_at_once g.S.Store old mid (state g.S.Store last) inside Makes (Ok tt) made c.commit.ensures.survives (λ clean. ap (λ (d : Database). d.trees) (c.in-Ok.ensures.ok clean).1.committed_is) in
