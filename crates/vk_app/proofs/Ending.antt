@@ -1,13 +1,10 @@
 -- How a whole command line ends, from how its parts do.
-use Rattle.std.proofs.Common.{◌≡◌, ℕ, List, Option, Some, None, Ok, Err, Result, subst}
+use Rattle.std.proofs.Common.{◌≡◌, ℕ, List, Option, Some, None, Ok, Err, Result}
 use Rattle.std.specs.Prelude.{IfSome, option_map}
-use Rattle.vk_io.specs.Files.{Files, Told}
-use Rattle.vk_io.specs.Writing.{WritesAll, written}
 use Rattle.vk_io.specs.declared.errors.OutsideErr.{OutsideErr}
-use Rattle.vk_words.specs.Commands.{AsksNoKeeper, CommandWords, Seal, House, Verify, Extract, Confront, Report, Sample, Ceremony, ClaimVerify, ClaimExtract, ClaimSample}
+use Rattle.vk_words.specs.Commands.{AsksNoKeeper, CommandWords, Seal, House, Verify, Extract, Confront, Report, Sample, Ceremony, ClaimVerify, ClaimExtract, ClaimSample, Coin}
 use Rattle.vk_effect.specs.Effects.{Effect, Outside}
 use Rattle.vk_effect.specs.Ends.{Ends}
-use Rattle.vk_effect.proofs.Acting.{told_map}
 use Rattle.vk_app.specs.Commands.{Work, Command, Script, EndsWork, StopsWork, script_in}
 
 -- a command that is no ceremony
@@ -37,8 +34,5 @@ no_script (Some (Sample number)) script is = cc
 no_script (Some (ClaimVerify names)) script is = cc
 no_script (Some (ClaimExtract names)) script is = cc
 no_script (Some (ClaimSample kind number)) script is = cc
+no_script (Some (Coin order)) script is = cc
 no_script (Some (Ceremony name)) script is = λ asks. asks
-
--- files that are told hold the texts that were written
-pub files_written : (E : Type 0) (texts writes : List (List ℕ × List ℕ)) (old new : Option Files) → texts ≡ writes → Told (WritesAll {E = E} texts (Ok tt)) old new → new ≡ option_map (written writes) old
-files_written E texts writes old new same told = subst (λ t. new ≡ option_map (written t) old) same (told_map (written texts) old new told)

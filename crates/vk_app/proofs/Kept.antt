@@ -10,9 +10,10 @@ use Rattle.vk_lines.specs.Forms.{fault_line}
 use Rattle.vk_lines.specs.Lines.{Rest, line_by}
 use Rattle.vk_lines.specs.Tokens.{word_of}
 use Rattle.vk_keeper.specs.Ledgers.{Ledger}
-use Rattle.vk_words.specs.Commands.{CommandWords, Seal, command_words}
+use Rattle.vk_words.specs.Coins.{CoinWords}
+use Rattle.vk_words.specs.Commands.{Coin, CommandWords, Seal, command_words}
 use Rattle.vk_words.specs.Orders.{SealWords, HouseWords}
-use Rattle.vk_effect.specs.Effects.{Outside, outside, says, stores, SaidValue, IsSaid, Stores}
+use Rattle.vk_effect.specs.Effects.{Effect, Outside, outside, says, stores, SaidValue, IsSaid, Stores}
 use Rattle.vk_effect.specs.Ends.{Done}
 use Rattle.vk_effect.specs.NamedFiles.{missing_said, too_long_said}
 use Rattle.vk_effect.specs.Reading.{begun_in, from_first}
@@ -26,14 +27,17 @@ use Rattle.vk_ceremony.specs.Scripts.{behind_heading, heading, script_begun, scr
 use Rattle.vk_ceremony.proofs.Agreeing.{script_fault}
 use Rattle.vk_ceremony.proofs.Each.{from_each}
 use Rattle.vk_ceremony.proofs.Performing.{ceremony_performs_all}
-use Rattle.vk_app.specs.Commands.{EndsWork, Script, usage_said, work_of, work_on}
+use Rattle.vk_coins.specs.Deeds.{coin_on}
+use Rattle.vk_coins.specs.Meaning.{MakesChallenge}
+use Rattle.vk_coins.proofs.Made.{makes}
+use Rattle.vk_app.specs.Commands.{Command, CommandEndsFreely, EndsWork, Script, usage_said, work_of, work_on}
 use Rattle.vk_app.specs.Promises.{CeremonyIsDone, HoldsCeremony, KeepsHouse, TellsUsage}
 use Rattle.vk_app.specs.Sealing.{Seals, seal_effect, seal_on}
 use Rattle.vk_app.proofs.Sealing.{seals}
 use Rattle.vk_app.proofs.Served.{command_done, serves}
 use Rattle.vk_app.proofs.Statuses.{no_command}
 
-neither : (P : Type 0) (status : ℕ) → (status ≡ 6) ⊎ (status ≡ 9) → status ≢ 6 → status ≢ 9 → P
+pub neither : (P : Type 0) (status : ℕ) → (status ≡ 6) ⊎ (status ≡ 9) → status ≢ 6 → status ≢ 9 → P
 neither P status (inl failed) no_fault no_want = absurd (no_fault failed)
 neither P status (inr wanting) no_fault no_want = absurd (no_want wanting)
 
@@ -81,9 +85,12 @@ module _ (files : Files) (ledger : Ledger) (words : List (List ℕ)) (status : �
 
   -- ---- at its end
 
-  pub ended_house : EndsSo (Ok status) (command_words words) → KeepsHouse files ledger words status new.files new.ledger old new.taken
-  ended_house ends = record {
-    serves = serves files ledger (Ok status) old new words ends;
+  abbrev EndsFree : Result ℕ OutsideErr → Type 0
+  EndsFree result = CommandEndsFreely (command_words words) result (outside (stores (Some files) (Some ledger)) old) new
+
+  pub ended_house : EndsSo (Ok status) (command_words words) → EndsFree (Ok status) → KeepsHouse files ledger words status new.files new.ledger old new.taken
+  ended_house ends free = record {
+    serves = serves files ledger (Ok status) old new words ends free;
     command = λ order is _ _. command_done files ledger order status old new (subst (EndsSo (Ok status)) is ends);
   }
 
@@ -117,17 +124,17 @@ module _ (files : Files) (ledger : Ledger) (words : List (List ℕ)) (status : �
   ended_ceremony ends script is _ _ =
       held_by script (ceremony_on (Some files) (Some ledger) script) refl (subst (EndsSo (Ok status)) is ends) (ceremony_performs_all files ledger script old status new)
 
-  pub ended_usage : EndsSo (Ok status) (command_words words) → TellsUsage words status old new.taken
-  ended_usage ends = record {
-    only = no_command files ledger status old new (command_words words) ends;
+  pub ended_usage : EndsSo (Ok status) (command_words words) → EndsFree (Ok status) → TellsUsage words status old new.taken
+  ended_usage ends free = record {
+    only = no_command files ledger status old new (command_words words) ends free;
     always = λ is _ _. (let done : Done status (says (Some ledger) usage_said) (outside (stores (Some files) (Some ledger)) old) new = subst (EndsSo (Ok status)) is ends in (done.status_is, done.taken_is));
   }
 
   -- ---- after a stop
 
-  pub stopped_house : (stop : OutsideErr) → EndsSo (Err stop) (command_words words) → (status ≡ 6) ⊎ (status ≡ 9) → KeepsHouse files ledger words status new.files new.ledger old new.taken
-  stopped_house stop ends is = record {
-    serves = serves files ledger (Err stop) old new words ends;
+  pub stopped_house : (stop : OutsideErr) → EndsSo (Err stop) (command_words words) → EndsFree (Err stop) → (status ≡ 6) ⊎ (status ≡ 9) → KeepsHouse files ledger words status new.files new.ledger old new.taken
+  stopped_house stop ends free is = record {
+    serves = serves files ledger (Err stop) old new words ends free;
     command = λ order asks. neither _ status is;
   }
 
@@ -141,21 +148,29 @@ told_both P Q each (Some files) None is = tt
 told_both P Q each (Some files) (Some ledger) is = each files ledger is
 
 module _ (held : Option Files) (ledger : Option Ledger) (words : List (List ℕ)) (status : ℕ) (old : Option (List ℕ)) (new : Outside) where
-  abbrev Ends : Result ℕ OutsideErr → Option Files → Option Ledger → Type 0
+  abbrev pub Ends : Result ℕ OutsideErr → Option Files → Option Ledger → Type 0
   Ends result files kept = IfSome (work_on files kept words) (λ work. EndsWork result work (outside (stores files kept) old) new)
 
-  pub told_house : Ends (Ok status) held ledger → IfSome held (λ files. IfSome ledger (λ kept. KeepsHouse files kept words status new.files new.ledger old new.taken))
-  told_house = told_both (λ files kept. KeepsHouse files kept words status new.files new.ledger old new.taken) (Ends (Ok status)) (λ files kept. ended_house files kept words status old new) held ledger
+  -- and it ended freely where it has no single effect
+  abbrev pub AlsoFree : Result ℕ OutsideErr → Option Files → Option Ledger → Type 0
+  AlsoFree result files kept = Ends result files kept × CommandEndsFreely (command_words words) result (outside (stores files kept) old) new
+
+  pub told_house : AlsoFree (Ok status) held ledger → IfSome held (λ files. IfSome ledger (λ kept. KeepsHouse files kept words status new.files new.ledger old new.taken))
+  told_house = told_both (λ files kept. KeepsHouse files kept words status new.files new.ledger old new.taken) (AlsoFree (Ok status)) (λ files kept ends. ended_house files kept words status old new ends.0 ends.1) held ledger
 
   pub told_ceremony : Ends (Ok status) held ledger → IfSome held (λ files. IfSome ledger (λ kept. HoldsCeremony files kept words status new.files new.ledger old new.taken))
   told_ceremony = told_both (λ files kept. HoldsCeremony files kept words status new.files new.ledger old new.taken) (Ends (Ok status)) (λ files kept. ended_ceremony files kept words status old new) held ledger
 
-  pub told_usage : Ends (Ok status) held ledger → IfSome held (λ files. IfSome ledger (λ kept. TellsUsage words status old new.taken))
-  told_usage = told_both (λ files kept. TellsUsage words status old new.taken) (Ends (Ok status)) (λ files kept. ended_usage files kept words status old new) held ledger
+  pub told_usage : AlsoFree (Ok status) held ledger → IfSome held (λ files. IfSome ledger (λ kept. TellsUsage words status old new.taken))
+  told_usage = told_both (λ files kept. TellsUsage words status old new.taken) (AlsoFree (Ok status)) (λ files kept ends. ended_usage files kept words status old new ends.0 ends.1) held ledger
 
-  pub unended_house : (stop : OutsideErr) → (status ≡ 6) ⊎ (status ≡ 9) → Ends (Err stop) held ledger → IfSome held (λ files. IfSome ledger (λ kept. KeepsHouse files kept words status new.files new.ledger old new.taken))
+  pub unended_house : (stop : OutsideErr) → (status ≡ 6) ⊎ (status ≡ 9) → AlsoFree (Err stop) held ledger → IfSome held (λ files. IfSome ledger (λ kept. KeepsHouse files kept words status new.files new.ledger old new.taken))
   unended_house stop is =
-      told_both (λ files kept. KeepsHouse files kept words status new.files new.ledger old new.taken) (Ends (Err stop)) (λ files kept ends. stopped_house files kept words status old new stop ends is) held ledger
+      told_both (λ files kept. KeepsHouse files kept words status new.files new.ledger old new.taken) (AlsoFree (Err stop)) (λ files kept ends. stopped_house files kept words status old new stop ends.0 ends.1 is) held ledger
+
+  of_command : (found : Option Effect) → IfSome (option_map Command found) (λ work. EndsWork (Ok status) work (outside (stores held ledger) old) new) → IfSome found (λ effect. Done status effect (outside (stores held ledger) old) new)
+  of_command None ends = tt
+  of_command (Some effect) ends = ends
 
   sealed_by : (order : SealWords) → IfSome (work_of held ledger (Some (Seal order))) (λ work. EndsWork (Ok status) work (outside (stores held ledger) old) new) → Done status (seal_effect ledger order) (outside (stores held ledger) old) new
   unfolding seal_on
@@ -165,3 +180,8 @@ module _ (held : Option Files) (ledger : Option Ledger) (words : List (List ℕ)
   told_seal ends order is _ _ =
       seals order ledger held status old new
       (sealed_by order (subst (λ found. IfSome (work_of held ledger found) (λ work. EndsWork (Ok status) work (outside (stores held ledger) old) new)) is ends))
+
+  pub told_coin : Ends (Ok status) held ledger → (order : CoinWords) → command_words words ≡ Some (Coin order) → status ≢ 6 → status ≢ 9 → MakesChallenge order held new.files status old new.taken
+  told_coin ends order is _ _ =
+      makes ledger status old new held order
+      (of_command (coin_on held ledger order) (subst (λ found. IfSome (work_of held ledger found) (λ work. EndsWork (Ok status) work (outside (stores held ledger) old) new)) is ends))

@@ -4,5 +4,6 @@ pub mod Served
 mod Sealing
 mod Statuses
 pub mod Kept
+mod Freely
 pub mod Answering
 mod Accepted

@@ -19,7 +19,7 @@ use Rattle.vk_house.specs.Once.{KeepsAnswers}
 use Rattle.vk_house.specs.Replies.{HouseReply}
 use Rattle.vk_house.proofs.Once.{keeps_on, keeps_same}
 use Rattle.vk_honest.proofs.Accepted.{answers_are_accepted}
-use Rattle.vk_words.specs.Commands.{CommandWords, Seal, House, Verify, Extract, Confront, Report, Sample, ClaimVerify, ClaimExtract, ClaimSample, command_words}
+use Rattle.vk_words.specs.Commands.{CommandWords, Seal, House, Verify, Extract, Confront, Report, Sample, ClaimVerify, ClaimExtract, ClaimSample, Coin, command_words}
 use Rattle.vk_words.specs.Commands as commands
 use Rattle.vk_words.specs.Orders.{HouseWords, SealWords, Announce, AnnounceReserve, Submit, Prove, Answer, Show}
 use Rattle.vk_effect.specs.Effects.{Effect, Outside, SaidValue, outside, said_of, stores, says}
@@ -40,11 +40,16 @@ use Rattle.vk_sample.specs.Auctions.{DrySeed, auction_of}
 use Rattle.vk_sample.specs.Samples.{effect_by, sample_on}
 use Rattle.vk_job.specs.Proofs.{ProofValue}
 use Rattle.vk_report.specs.declared.sample.SampleCase.{SampleCase}
-use Rattle.vk_claim_sample.specs.Claims.{claim_case, numbers_of, proof_of}
-use Rattle.vk_claim_sample.specs.ClaimSamples.{claim_sample_on}
+use Rattle.vk_claim_sample.specs.Claims.{claim_case, numbers_of, proof_by}
+use Rattle.vk_words.specs.declared.claim.ClaimKind.{ClaimKind}
+use Rattle.vk_words.specs.declared.claim.ClaimKind.TheVariants.{Uniform, Matching}
+use Rattle.vk_words.specs.Coins.{CoinWords}
+use Rattle.vk_words.specs.Coins as coins
+use Rattle.vk_coins.specs.Deeds.{coin_on}
+use Rattle.vk_claim_sample.specs.ClaimSamples.{EndsFreely, claim_sample_on, effect_with}
 use Rattle.vk_claim_sample.specs.ClaimSamples as claimed
 use Rattle.vk_app.specs.Auctions.{CommandIsDone, KeepsToSteps, PerformsAt, PublishesBoard, PublishesReply, Serves, ServesHouse, orders_of, input_fault}
-use Rattle.vk_app.specs.Commands.{Command, EndsWork, Script, Work, command_effect, work_of, work_on}
+use Rattle.vk_app.specs.Commands.{Command, CommandEndsFreely, EndsWork, Script, Work, command_effect, work_of, work_on}
 use Rattle.vk_app.specs.Sealing.{seal_on}
 
 -- ---- one act
@@ -170,6 +175,7 @@ meant_words files words orders is = by_command (command_words words) refl where
   by_command (Some (ClaimVerify names)) at = (let no : orders_of files (Some (ClaimVerify names)) ≡ Some orders = ap (orders_of files) (sym at) ∙ is in cc)
   by_command (Some (ClaimExtract names)) at = (let no : orders_of files (Some (ClaimExtract names)) ≡ Some orders = ap (orders_of files) (sym at) ∙ is in cc)
   by_command (Some (ClaimSample kind number)) at = (let no : orders_of files (Some (ClaimSample kind number)) ≡ Some orders = ap (orders_of files) (sym at) ∙ is in cc)
+  by_command (Some (Coin order)) at = (let no : orders_of files (Some (Coin order)) ≡ Some orders = ap (orders_of files) (sym at) ∙ is in cc)
   by_command (Some (Sample number)) at = (let no : orders_of files (Some (Sample number)) ≡ Some orders = ap (orders_of files) (sym at) ∙ is in cc)
 
 -- what is kept after a run of which all that is kept is kept until the last ledger
@@ -228,6 +234,32 @@ ends_ledger (Ok status) effect old new ends same = ends.ledger_is ∙ same
 ends_ledger (Err stop) effect old new (inl still) same = ap (λ (left : Outside). left.ledger) still
 ends_ledger (Err stop) effect old new (inr stopped) same = stopped.0 ∙ same
 
+-- `claim-sample` leaves the ledger, whatever it publishes
+module _ (files : Files) (ledger : Ledger) where
+  abbrev StaysSo : Effect → Type 0
+  StaysSo effect = effect.ledger ≡ Some ledger
+
+  claim_still_by : (kind : ClaimKind) (number : ℕ) (case : SampleCase) (numbers : List ℕ) (made : Result ProofValue DrySeed)
+      → IsSomeAnd (claimed.effect_by kind (Some files) (Some ledger) number case numbers made) StaysSo
+  claim_still_by kind number case numbers (Ok proof) = refl
+  claim_still_by kind number case numbers (Err dry) = refl
+
+  claim_still : (kind : ClaimKind) (number : ℕ) (numbers : List ℕ) → IsSomeAnd (effect_with kind (Some files) (Some ledger) number numbers) StaysSo
+  unfolding effect_with
+  claim_still kind number numbers = claim_still_by kind number (claim_case kind number) numbers (proof_by kind (claim_case kind number) numbers)
+
+  module _ (old : Option (List ℕ)) (new : Outside) where
+    ends_so : (result : Result ℕ OutsideErr) (found : Option Effect) → IsSomeAnd found StaysSo → IfSome found (λ effect. Ends result effect (outside (stores (Some files) (Some ledger)) old) new) → new.ledger ≡ Some ledger
+    ends_so result None told ends = absurd told
+    ends_so result (Some effect) told ends = ends_ledger result effect (outside (stores (Some files) (Some ledger)) old) new ends told
+
+  matching_kept : (number : ℕ) (result : Result ℕ OutsideErr) (old : Option (List ℕ)) (new : Outside) → EndsFreely Matching number result (outside (stores (Some files) (Some ledger)) old) new → new.ledger ≡ Some ledger
+  matching_kept number (Ok status) old new (numbers, published, ends) =
+      ends_so old new (Ok status) (effect_with Matching (Some files) (Some ledger) number numbers) (claim_still Matching number numbers) ends
+  matching_kept number (Err stop) old new (inl same) = ap (λ (left : Outside). left.ledger) same
+  matching_kept number (Err stop) old new (inr (numbers, published, ends)) =
+      ends_so old new (Err stop) (effect_with Matching (Some files) (Some ledger) number numbers) (claim_still Matching number numbers) ends
+
 module _ (files : Files) (ledger : Ledger) (result : Result ℕ OutsideErr) (old : Option (List ℕ)) (new : Outside) where
   abbrev before : Outside
   before = outside (stores (Some files) (Some ledger)) old
@@ -258,15 +290,6 @@ module _ (files : Files) (ledger : Ledger) (result : Result ℕ OutsideErr) (old
   sampled number (Ok auction) = refl
   sampled number (Err dry) = refl
 
-  claim_sampled : (number : ℕ) (case : SampleCase) (numbers : List ℕ) (made : Result ProofValue DrySeed)
-      → IsSomeAnd (claimed.effect_by (Some files) (Some ledger) number case numbers made) (λ effect. effect.ledger ≡ Some ledger)
-  claim_sampled number case numbers (Ok proof) = refl
-  claim_sampled number case numbers (Err dry) = refl
-
-  claim_sample_still : (number : ℕ) → IsSomeAnd (claim_sample_on (Some files) (Some ledger) number) (λ effect. effect.ledger ≡ Some ledger)
-  unfolding claim_sample_on
-  claim_sample_still number = claim_sampled number (claim_case number) (numbers_of number) (proof_of number)
-
   sample_still : (number : ℕ) → IsSomeAnd (sample_on (Some files) (Some ledger) number) (λ effect. effect.ledger ≡ Some ledger)
   unfolding sample_on
   sample_still number = sampled number (auction_of (sample_of number))
@@ -275,25 +298,33 @@ module _ (files : Files) (ledger : Ledger) (result : Result ℕ OutsideErr) (old
   unfolding seal_on
   seal_still order = refl
 
-  performed : (command : Option CommandWords) → IfSome (work_of (Some files) (Some ledger) command) EndsSo → Performed command
-  performed None ends = still (command_effect (Some files) (Some ledger) None) refl ends
-  performed (Some (Seal order)) ends = still (seal_on (Some ledger) order) (seal_still order) ends
-  performed (Some (House order)) ends =
+  coin_still : (order : CoinWords) → IsSomeAnd (coin_on (Some files) (Some ledger) order) (λ effect. effect.ledger ≡ Some ledger)
+  coin_still (coins.Part order) = refl
+  coin_still (coins.Join names) = refl
+  coin_still (coins.Board names) = refl
+
+  performed : (command : Option CommandWords) → IfSome (work_of (Some files) (Some ledger) command) EndsSo → CommandEndsFreely command result before new → Performed command
+  performed None ends free = still (command_effect (Some files) (Some ledger) None) refl ends
+  performed (Some (Seal order)) ends free = still (seal_on (Some ledger) order) (seal_still order) ends
+  performed (Some (House order)) ends free =
       acts_of (order ∷ []) (command_performs files ledger order old result new (from_command (house_effect (Some files) (Some ledger) order) ends))
-  performed (Some (Verify names)) ends = still (command_effect (Some files) (Some ledger) (Some (Verify names))) refl ends
-  performed (Some (Extract names)) ends = still (command_effect (Some files) (Some ledger) (Some (Extract names))) refl ends
-  performed (Some (Confront names)) ends = still (command_effect (Some files) (Some ledger) (Some (Confront names))) refl ends
-  performed (Some (Report board)) ends = still (command_effect (Some files) (Some ledger) (Some (Report board))) refl ends
-  performed (Some (ClaimVerify names)) ends = still (command_effect (Some files) (Some ledger) (Some (ClaimVerify names))) refl ends
-  performed (Some (ClaimExtract names)) ends = still (command_effect (Some files) (Some ledger) (Some (ClaimExtract names))) refl ends
-  performed (Some (ClaimSample kind number)) ends = still (claim_sample_on (Some files) (Some ledger) number) (claim_sample_still number) ends
-  performed (Some (Sample number)) ends = still (sample_on (Some files) (Some ledger) number) (sample_still number) ends
-  performed (Some (commands.Ceremony script)) ends =
+  performed (Some (Verify names)) ends free = still (command_effect (Some files) (Some ledger) (Some (Verify names))) refl ends
+  performed (Some (Extract names)) ends free = still (command_effect (Some files) (Some ledger) (Some (Extract names))) refl ends
+  performed (Some (Confront names)) ends free = still (command_effect (Some files) (Some ledger) (Some (Confront names))) refl ends
+  performed (Some (Report board)) ends free = still (command_effect (Some files) (Some ledger) (Some (Report board))) refl ends
+  performed (Some (ClaimVerify names)) ends free = still (command_effect (Some files) (Some ledger) (Some (ClaimVerify names))) refl ends
+  performed (Some (ClaimExtract names)) ends free = still (command_effect (Some files) (Some ledger) (Some (ClaimExtract names))) refl ends
+  performed (Some (ClaimSample Uniform number)) ends free =
+      still (claim_sample_on (Some files) (Some ledger) Uniform number) (claim_still files ledger Uniform number (numbers_of number)) ends
+  performed (Some (ClaimSample Matching number)) ends free = ([], (refl, matching_kept files ledger number result old new free))
+  performed (Some (Coin order)) ends free = still (coin_on (Some files) (Some ledger) order) (coin_still order) ends
+  performed (Some (Sample number)) ends free = still (sample_on (Some files) (Some ledger) number) (sample_still number) ends
+  performed (Some (commands.Ceremony script)) ends free =
       acts_of (orders_in files script) (ceremony_performs files ledger script old result new (from_script (ceremony_on (Some files) (Some ledger) script) ends))
 
-  pub serves : (words : List (List ℕ)) → IfSome (work_on (Some files) (Some ledger) words) EndsSo → Serves words files ledger new.files new.ledger
-  serves words ends =
-      let acts = performed (command_words words) ends in
+  pub serves : (words : List (List ℕ)) → IfSome (work_on (Some files) (Some ledger) words) EndsSo → CommandEndsFreely (command_words words) result before new → Serves words files ledger new.files new.ledger
+  serves words ends free =
+      let acts = performed (command_words words) ends free in
       record { acts = acts.0; serves = serves_by words files ledger acts.0 new.files new.ledger acts.1 }
 
 -- ---- one command at its end

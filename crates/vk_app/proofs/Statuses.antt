@@ -35,12 +35,25 @@ use Rattle.vk_house.specs.Replies.{HouseReply}
 use Rattle.vk_house.specs.Replies as replies
 use Rattle.vk_house.specs.Steps.{house_step}
 use Rattle.vk_words.specs.Commands.{CommandWords, Seal, House, Verify, Extract, Confront, Report, Sample, Ceremony, ClaimVerify, ClaimExtract, ClaimSample}
+use Rattle.vk_words.specs.Commands as commands
+use Rattle.vk_words.specs.declared.claim.ClaimKind.{ClaimKind}
+use Rattle.vk_words.specs.declared.claim.ClaimKind.TheVariants.{Uniform, Matching}
+use Rattle.vk_words.specs.Coins.{ChallengeWords, CoinWords}
+use Rattle.vk_words.specs.Coins as coins
 use Rattle.vk_words.specs.Names.{ConfrontWords, ExtractWords}
 use Rattle.vk_words.specs.Orders.{HouseWords, SealWords, Announce, AnnounceReserve, Submit, Prove, Answer, Show}
 use Rattle.vk_effect.specs.Effects.{Effect, Outside, SaidValue, Stores, outside, stores}
 use Rattle.vk_effect.specs.Ends.{Ends}
-use Rattle.vk_effect.specs.Reading.{begun_in, value_in}
+use Rattle.vk_effect.specs.Reading.{begun_in, named_in, value_in}
 use Rattle.vk_effect.proofs.NamedFiles.{begun_says, then_says, value_says}
+use Rattle.vk_effect.proofs.NamedValues.{named_says}
+use Rattle.vk_coin.specs.declared.coin.Coin.{Coin}
+use Rattle.vk_coin.specs.Coins.{unmet_part}
+use Rattle.vk_coin.specs.Reading.{coin_at}
+use Rattle.vk_coins.specs.Boards.{derive_deed, derived_in}
+use Rattle.vk_coins.specs.Deeds.{coin_on}
+use Rattle.vk_coins.specs.Joining.{coin_deed, deed_by, joined_if}
+use Rattle.vk_reply.specs.declared.challenge.Challenge.{Challenge}
 use Rattle.vk_audit.specs.Audits.{AuditWords, audit_said}
 use Rattle.vk_audit.specs.Audits as audits
 use Rattle.vk_audit.specs.Confrontations.{confrontation_in, confrontation_said, unconfronted_said}
@@ -59,8 +72,8 @@ use Rattle.vk_sample.specs.Auctions.{DrySeed, auction_of}
 use Rattle.vk_sample.specs.Samples.{effect_by, sample_on}
 use Rattle.vk_job.specs.Proofs.{ProofValue}
 use Rattle.vk_report.specs.declared.sample.SampleCase.{SampleCase}
-use Rattle.vk_claim_sample.specs.Claims.{claim_case, numbers_of, proof_of}
-use Rattle.vk_claim_sample.specs.ClaimSamples.{claim_sample_on}
+use Rattle.vk_claim_sample.specs.Claims.{claim_case, numbers_of, proof_by}
+use Rattle.vk_claim_sample.specs.ClaimSamples.{EndsFreely, claim_sample_on, effect_with}
 use Rattle.vk_claim_sample.specs.ClaimSamples as claim_samples
 use Rattle.vk_claim.specs.declared.verdict.ClaimVerdict.{ClaimVerdict}
 use Rattle.vk_claim.specs.declared.verdict.ClaimVerdict.TheVariants as claim_verdicts
@@ -71,7 +84,7 @@ use Rattle.vk_claims.specs.Extractions.{claim_extraction_said}
 use Rattle.vk_claims.specs.Orders.{ClaimWords, claim_said}
 use Rattle.vk_claims.specs.Orders as claims
 use Rattle.vk_claims.specs.Verdicts.{claim_judged_said}
-use Rattle.vk_app.specs.Commands.{Command, EndsWork, Script, Work, audit_on, claim_on, work_of}
+use Rattle.vk_app.specs.Commands.{Command, CommandEndsFreely, EndsWork, Script, Work, audit_on, claim_on, work_of}
 use Rattle.vk_app.specs.Sealing.{made_said, seal_made, seal_on}
 
 abbrev IsOther : ℕ → Type 0
@@ -154,6 +167,20 @@ claimed files (claims.Extract names) =
     by_answer _ _ (claim_extraction_on admitted_plan files names.board names.first.challenge names.first.reply names.second.challenge names.second.reply)
     (values_told names) (unread_files names)
 
+-- ---- a challenge that is made without the auctioneer
+
+joined_or : (names : ChallengeWords) (coin : Coin) (unmet : Option ℕ) → SaysOther (joined_if names coin unmet).said
+joined_or names coin None = refl
+joined_or names coin (Some auditor) = refl
+
+joined : (names : ChallengeWords) (read : Result Coin SaidValue) → IfErr read SaysOther → SaysOther (deed_by (coin_deed names) read).said
+joined names (Ok coin) is = joined_or names coin (unmet_part coin)
+joined names (Err said) is = is
+
+derived : (names : ChallengeWords) (answer : Result Challenge ReportErr) → SaysOther (derive_deed names answer).said
+derived names (Ok challenge) = refl
+derived names (Err fault) = unreported_file names.from fault
+
 -- ---- a bidder's
 
 sealed : (order : SealWords) (made : Result (Secret × MadeSeal) SealErr) → SaysOther (made_said order made)
@@ -185,11 +212,8 @@ row_read files seal secret =
     then_says SaysOther (value_in seal (seal_at seal_file)) _ (is_value seal (seal_at seal_file)) (λ made.
     then_says SaysOther (value_in secret (secret_at secret_file)) _ (is_value secret (secret_at secret_file)) (λ known. tt))))
 
-challenge_read : (files : Files) (name : List ℕ) → IfErr (challenge_in files name) SaysOther
-unfolding challenge_in
-challenge_read files name =
-    then_says SaysOther (begun_in name (get files name)) _ (is_begun files name) (λ file.
-    then_says SaysOther (value_in name (challenge_at file)) _ (is_value name (challenge_at file)) (λ challenge. tt))
+file_read : {X : Type 0} (read : Rest → Result (X × Rest) ℕ) (files : Files) (name : List ℕ) → IfErr (named_in read files name) SaysOther
+file_read = named_says SaysOther (λ name. refl) (λ name. refl) (λ name line. refl)
 
 abbrev EndsOther : Effect → Type 0
 EndsOther effect = IsOther effect.status
@@ -214,7 +238,7 @@ served (Some files) (Some ledger) (Submit id seal secret) =
 served None kept (Answer id challenge reply) = tt
 served (Some files) None (Answer id challenge reply) = tt
 served (Some files) (Some ledger) (Answer id challenge reply) =
-    asks_read ledger (challenge_in files challenge) (reply_file reply) (house.Answer id) (challenge_read files challenge)
+    asks_read ledger (challenge_in files challenge) (reply_file reply) (house.Answer id) (file_read challenge_at files challenge)
 
 -- ---- a ceremony
 
@@ -251,10 +275,10 @@ sampled : (files : Files) (kept : Option Ledger) (number : ℕ) (made : Result A
 sampled files kept number (Ok auction) = refl
 sampled files kept number (Err dry) = refl
 
-claim_sampled : (files : Files) (kept : Option Ledger) (number : ℕ) (case : SampleCase) (numbers : List ℕ) (made : Result ProofValue DrySeed)
-    → IsSomeAnd (claim_samples.effect_by (Some files) kept number case numbers made) EndsOther
-claim_sampled files kept number case numbers (Ok proof) = refl
-claim_sampled files kept number case numbers (Err dry) = refl
+claim_sampled : (kind : ClaimKind) (files : Files) (kept : Option Ledger) (number : ℕ) (case : SampleCase) (numbers : List ℕ) (made : Result ProofValue DrySeed)
+    → IsSomeAnd (claim_samples.effect_by kind (Some files) kept number case numbers made) EndsOther
+claim_sampled kind files kept number case numbers (Ok proof) = refl
+claim_sampled kind files kept number case numbers (Err dry) = refl
 
 audited : (files : Files) (order : AuditWords) → SaysOther (audit_said files order)
 audited files (audits.Verify names) =
@@ -304,9 +328,21 @@ module _ (files : Files) (ledger : Ledger) (status : ℕ) (old : Option (List �
   unfolding sample_on
   sampled_told number = sampled files (Some ledger) number (auction_of (sample_of number))
 
-  claim_sampled_told : (number : ℕ) → IsSomeAnd (claim_sample_on (Some files) (Some ledger) number) EndsOther
-  unfolding claim_sample_on
-  claim_sampled_told number = claim_sampled files (Some ledger) number (claim_case number) (numbers_of number) (proof_of number)
+  claim_sampled_told : (kind : ClaimKind) (number : ℕ) (numbers : List ℕ) → IsSomeAnd (effect_with kind (Some files) (Some ledger) number numbers) EndsOther
+  unfolding effect_with
+  claim_sampled_told kind number numbers =
+      claim_sampled kind files (Some ledger) number (claim_case kind number) numbers (proof_by kind (claim_case kind number) numbers)
+
+  matching_other : (number : ℕ) → EndsFreely Matching number (Ok status) before new → status ≡ 2 → ⊥
+  matching_other number (numbers, published, ends) =
+      two_told (λ effect. Ends (Ok status) effect before new) (λ effect. effect.status) (effect_with Matching (Some files) (Some ledger) number numbers) status
+      (claim_sampled_told Matching number numbers) ends (λ effect done. done.status_is)
+
+  made_told : (order : CoinWords) → IsSomeAnd (coin_on (Some files) (Some ledger) order) EndsOther
+  made_told (coins.Part order) = refl
+  made_told (coins.Join names) =
+      joined names (named_in coin_at files names.from) (file_read coin_at files names.from)
+  made_told (coins.Board names) = derived names (derived_in files names.from)
 
   order_is_told : (order : HouseWords) → IsSomeAnd (house_effect (Some files) (Some ledger) order) EndsOther
   order_is_told order =
@@ -317,16 +353,19 @@ module _ (files : Files) (ledger : Ledger) (status : ℕ) (old : Option (List �
   script_is_told script =
       told_other ClosesOther _ (ceremony_on (Some files) (Some ledger) script) (ceremony_follows files ledger script) (held (Some files) (Some ledger) script)
 
-  pub no_command : (command : Option CommandWords) → IfSome (work_of (Some files) (Some ledger) command) EndsThis → status ≡ 2 → command ≡ None
-  no_command None ends two = refl
-  no_command (Some (Seal order)) ends two = absurd (command_other (seal_on (Some ledger) order) (sealed_told order) ends two)
-  no_command (Some (House order)) ends two = absurd (command_other (house_effect (Some files) (Some ledger) order) (order_is_told order) ends two)
-  no_command (Some (Verify names)) ends two = absurd (command_other (audit_on (Some files) (Some ledger) (audits.Verify names)) (audited files (audits.Verify names)) ends two)
-  no_command (Some (Extract names)) ends two = absurd (command_other (audit_on (Some files) (Some ledger) (audits.Extract names)) (audited files (audits.Extract names)) ends two)
-  no_command (Some (Confront names)) ends two = absurd (command_other (audit_on (Some files) (Some ledger) (audits.Confront names)) (audited files (audits.Confront names)) ends two)
-  no_command (Some (Report board)) ends two = absurd (command_other (audit_on (Some files) (Some ledger) (audits.Report board)) (audited files (audits.Report board)) ends two)
-  no_command (Some (ClaimVerify names)) ends two = absurd (command_other (claim_on (Some files) (Some ledger) (claims.Verify names)) (claimed files (claims.Verify names)) ends two)
-  no_command (Some (ClaimExtract names)) ends two = absurd (command_other (claim_on (Some files) (Some ledger) (claims.Extract names)) (claimed files (claims.Extract names)) ends two)
-  no_command (Some (ClaimSample kind number)) ends two = absurd (command_other (claim_sample_on (Some files) (Some ledger) number) (claim_sampled_told number) ends two)
-  no_command (Some (Sample number)) ends two = absurd (command_other (sample_on (Some files) (Some ledger) number) (sampled_told number) ends two)
-  no_command (Some (Ceremony script)) ends two = absurd (script_other (ceremony_on (Some files) (Some ledger) script) (script_is_told script) ends two)
+  pub no_command : (command : Option CommandWords) → IfSome (work_of (Some files) (Some ledger) command) EndsThis → CommandEndsFreely command (Ok status) before new → status ≡ 2 → command ≡ None
+  no_command None ends free two = refl
+  no_command (Some (Seal order)) ends free two = absurd (command_other (seal_on (Some ledger) order) (sealed_told order) ends two)
+  no_command (Some (House order)) ends free two = absurd (command_other (house_effect (Some files) (Some ledger) order) (order_is_told order) ends two)
+  no_command (Some (Verify names)) ends free two = absurd (command_other (audit_on (Some files) (Some ledger) (audits.Verify names)) (audited files (audits.Verify names)) ends two)
+  no_command (Some (Extract names)) ends free two = absurd (command_other (audit_on (Some files) (Some ledger) (audits.Extract names)) (audited files (audits.Extract names)) ends two)
+  no_command (Some (Confront names)) ends free two = absurd (command_other (audit_on (Some files) (Some ledger) (audits.Confront names)) (audited files (audits.Confront names)) ends two)
+  no_command (Some (Report board)) ends free two = absurd (command_other (audit_on (Some files) (Some ledger) (audits.Report board)) (audited files (audits.Report board)) ends two)
+  no_command (Some (ClaimVerify names)) ends free two = absurd (command_other (claim_on (Some files) (Some ledger) (claims.Verify names)) (claimed files (claims.Verify names)) ends two)
+  no_command (Some (ClaimExtract names)) ends free two = absurd (command_other (claim_on (Some files) (Some ledger) (claims.Extract names)) (claimed files (claims.Extract names)) ends two)
+  no_command (Some (ClaimSample Uniform number)) ends free two =
+      absurd (command_other (claim_sample_on (Some files) (Some ledger) Uniform number) (claim_sampled_told Uniform number (numbers_of number)) ends two)
+  no_command (Some (ClaimSample Matching number)) ends free two = absurd (matching_other number free two)
+  no_command (Some (commands.Coin order)) ends free two = absurd (command_other (coin_on (Some files) (Some ledger) order) (made_told order) ends two)
+  no_command (Some (Sample number)) ends free two = absurd (command_other (sample_on (Some files) (Some ledger) number) (sampled_told number) ends two)
+  no_command (Some (Ceremony script)) ends free two = absurd (script_other (ceremony_on (Some files) (Some ledger) script) (script_is_told script) ends two)

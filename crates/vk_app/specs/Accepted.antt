@@ -3,6 +3,7 @@ use Rattle.std.specs.Prelude.{◌≡◌, ℕ, List, [], ◌∷◌, Some}
 use Rattle.std.specs.FinMap.{get}
 use Rattle.vk_commit.specs.Values.{AreBytes}
 use Rattle.vk_io.specs.Files.{Files}
+use Rattle.vk_io.specs.Writing.{written}
 use Rattle.vk_reply.specs.declared.challenge.Challenge.{Challenge}
 use Rattle.vk_reply.specs.Texts.{challenge_text}
 use Rattle.vk_verifier.specs.Acceptance.{Accepts}
@@ -12,6 +13,7 @@ use Rattle.vk_keeper.specs.Ledgers.{Ledger, IsLedger}
 use Rattle.vk_job.specs.Jobs.{IsProvedAuction}
 use Rattle.vk_job.specs.Published.{IsChallengeTo, board_of, reply_of}
 use Rattle.vk_effect.specs.Effects.{Effect}
+use Rattle.vk_coins.specs.Boards.{board_deed}
 use Rattle.vk_auctioneer.specs.Effects.{answer_effect}
 use Rattle.vk_auctioneer.specs.Laws.{LeavesAuction}
 use Rattle.vk_auctioneer.specs.Leaving.{LeavesReply}
@@ -54,3 +56,23 @@ LeftRepliesAreAccepted =
     → LeavesReply id challenge_name reply old new auction challenge
     → (get old challenge_name ≡ Some (challenge_text challenge))
     × Accepts (board_of auction) (challenge_text challenge) (reply_of auction challenge)
+
+-- ---- a challenge that is derived
+
+-- the auction is proved and was not answered, and the named file is its board
+pub record IsPublished (files : Files) (ledger : Ledger) (id board : List ℕ) (auction : Auction) (seed : List ℕ) : Type 0 where
+  pub held : get ledger id ≡ Some auction
+  pub phase : auction.phase ≡ Proved seed
+  pub proved : IsProvedAuction auction
+  pub file : get files board ≡ Some (board_of auction)
+
+-- `coin-board` is done on it, and then `answer` with the challenge that was written
+pub record DerivesAnswered (files : Files) (ledger : Ledger) (id board challenge reply : List ℕ) : Type 0 where
+  pub derived : (board_deed (record { from = board; challenge = challenge }) files).said.status ≡ 0
+  pub answered : (answer_effect (written (board_deed (record { from = board; challenge = challenge }) files).writes files) ledger id challenge reply).status ≡ 0
+
+-- so is each such board
+abbrev pub DerivedAreAnswered : Type 0
+DerivedAreAnswered =
+    (files : Files) (ledger : Ledger) (id board challenge reply : List ℕ) (auction : Auction) (seed : List ℕ)
+    → IsPublished files ledger id board auction seed → DerivesAnswered files ledger id board challenge reply

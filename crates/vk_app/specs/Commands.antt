@@ -4,19 +4,20 @@ use Rattle.vk_io.specs.Files.{Files}
 use Rattle.vk_io.specs.declared.errors.OutsideErr.{OutsideErr}
 use Rattle.vk_io.specs.declared.errors.OutsideErr.TheVariants.{Failed}
 use Rattle.vk_keeper.specs.Ledgers.{Ledger}
-use Rattle.vk_words.specs.Commands.{CommandWords, Seal, House, Verify, Extract, Confront, Report, Sample, Ceremony, ClaimVerify, ClaimExtract, ClaimSample, command_words}
+use Rattle.vk_words.specs.Commands.{CommandWords, Seal, House, Verify, Extract, Confront, Report, Sample, Ceremony, ClaimVerify, ClaimExtract, ClaimSample, Coin, command_words}
 use Rattle.vk_words.specs.Usage.{usage_text}
-use Rattle.vk_effect.specs.Effects.{Effect, Outside, SaidValue, says}
+use Rattle.vk_effect.specs.Effects.{Effect, Outside, SaidValue, Stores, says}
 use Rattle.vk_effect.specs.Ends.{Ends}
 use Rattle.vk_audit.specs.Audits.{AuditWords, audit_said}
 use Rattle.vk_audit.specs.Audits as audits
 use Rattle.vk_claims.specs.Orders.{ClaimWords, claim_said}
 use Rattle.vk_claims.specs.Orders as claims
+use Rattle.vk_coins.specs.Deeds.{coin_on}
 use Rattle.vk_auctioneer.specs.Effects.{house_effect}
 use Rattle.vk_ceremony.specs.Ceremonies.{EndsAll, ceremony_on}
 use Rattle.vk_ceremony.specs.Ceremonies as ceremonies
 use Rattle.vk_sample.specs.Samples.{sample_on}
-use Rattle.vk_claim_sample.specs.ClaimSamples.{claim_sample_on}
+use Rattle.vk_claim_sample.specs.ClaimSamples.{ActsFreely, EndsFreely, claim_sample_on}
 use Rattle.vk_app.specs.Sealing.{seal_on}
 
 -- ---- words that are no command
@@ -35,7 +36,7 @@ abbrev pub claim_on : Option Files → Option Ledger → ClaimWords → Option E
 claim_on files ledger order = option_map (λ told. says ledger (claim_said told order)) files
 
 -- what reads nothing has its effect over any files, and what asks the house over a ledger that is told. A ceremony is
--- no single command
+-- no single command, and `claim-sample matching` has no single effect
 abbrev pub command_effect : Option Files → Option Ledger → Option CommandWords → Option Effect
 command_effect files ledger None = Some (says ledger usage_said)
 command_effect files ledger (Some (Seal order)) = seal_on ledger order
@@ -47,8 +48,21 @@ command_effect files ledger (Some (House order)) = house_effect files ledger ord
 command_effect files ledger (Some (Sample number)) = sample_on files ledger number
 command_effect files ledger (Some (ClaimVerify names)) = claim_on files ledger (claims.Verify names)
 command_effect files ledger (Some (ClaimExtract names)) = claim_on files ledger (claims.Extract names)
-command_effect files ledger (Some (ClaimSample kind number)) = claim_sample_on files ledger number
+command_effect files ledger (Some (ClaimSample kind number)) = claim_sample_on files ledger kind number
+command_effect files ledger (Some (Coin order)) = coin_on files ledger order
 command_effect files ledger (Some (Ceremony script)) = None
+
+-- ---- what is free
+
+-- what a command did that has no single effect: `claim-sample matching` did one of its effects
+abbrev pub CommandActsFreely : Option CommandWords → Result SaidValue OutsideErr → Stores → Stores → Type 0
+CommandActsFreely (Some (ClaimSample kind number)) answer old new = ActsFreely kind number answer old new
+CommandActsFreely command answer old new = Unit {0}
+
+-- the same of the whole command, with its printing
+abbrev pub CommandEndsFreely : Option CommandWords → Result ℕ OutsideErr → Outside → Outside → Type 0
+CommandEndsFreely (Some (ClaimSample kind number)) result old new = EndsFreely kind number result old new
+CommandEndsFreely command result old new = Unit {0}
 
 -- ---- a whole command line
 

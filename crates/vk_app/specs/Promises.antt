@@ -7,11 +7,13 @@ use Rattle.vk_words.specs.Commands.{CommandWords, ClaimExtract, ClaimVerify, Con
 use Rattle.vk_words.specs.Commands as commands
 use Rattle.vk_words.specs.Names.{ConfrontWords, ExtractWords, VerifyWords}
 use Rattle.vk_words.specs.Orders.{HouseWords}
-use Rattle.vk_effect.specs.Effects.{IsSaid, outside, stores}
+use Rattle.vk_effect.specs.Effects.{IsSaid, Outside, outside, stores}
+use Rattle.vk_effect.specs.Ends.{Done, Stopped}
 use Rattle.vk_effect.specs.NamedFiles.{missing_said, too_long_said}
 use Rattle.vk_audit.specs.Answers.{TellsConfrontation, TellsExtraction, TellsReport, TellsVerdict}
 use Rattle.vk_audit.specs.Statuses.{AcceptsTwoFiles, BindsSecret, IsExtracted, IsReported, IsSame, IsVerified}
 use Rattle.vk_claims.specs.Statuses.{AcceptsTwoClaims, IsClaimExtracted, IsClaimVerified, IsSameClaim, TellsClaimExtraction, TellsClaimVerdict}
+use Rattle.vk_claim_sample.specs.ClaimSamples.{OfSomeMatching}
 use Rattle.vk_auctioneer.specs.Leaving.{LeavesFiles}
 use Rattle.vk_ceremony.specs.Acts.{PerformsAll}
 use Rattle.vk_lines.specs.Forms.{fault_line}
@@ -90,6 +92,12 @@ pub record ExtractsClaim (files : Files) (names : ExtractWords) (status : ℕ) (
 pub record Claims (files : Files) (words : List (List ℕ)) (status : ℕ) (old new : Option (List ℕ)) : Type 0 where
   pub verify : (names : VerifyWords) → command_words words ≡ Some (ClaimVerify names) → VerifiesClaim files names status old new
   pub extract : (names : ExtractWords) → command_words words ≡ Some (ClaimExtract names) → ExtractsClaim files names status old new
+
+-- which stable matching `claim-sample matching` publishes is free, and nothing else is. At its end it did all that one of them
+-- comes to; stopped, nothing changed, or it was stopped doing that
+pub record SamplesMatching (number status : ℕ) (old new : Outside) : Type 0 where
+  pub done : status ≢ 6 → status ≢ 9 → OfSomeMatching old.files old.ledger number (λ effect. Done status effect old new)
+  pub stopped : (status ≡ 6) ⊎ (status ≡ 9) → (new ≡ old) ⊎ OfSomeMatching old.files old.ledger number (λ effect. Stopped effect old new)
 
 -- ---- the house's
 

@@ -12,7 +12,7 @@ use Rattle.vk_seal.specs.Texts.{secret_text, seal_text}
 use Rattle.vk_keeper.specs.Ledgers.{Ledger}
 use Rattle.vk_words.specs.Orders.{SealWords}
 use Rattle.vk_effect.specs.Dry.{bidder_dry_line}
-use Rattle.vk_effect.specs.Effects.{Effect, SaidValue, IsSaid, writes_and_says}
+use Rattle.vk_effect.specs.Effects.{DeedValue, Effect, SaidValue, IsSaid, does}
 use Rattle.vk_effect.specs.Texts.{◌+++◌, line_feed}
 
 -- the stream of the bidder at that seat
@@ -38,8 +38,11 @@ abbrev pub made_writes : SealWords → Result (Secret × Seal) SealErr → List 
 made_writes order (Ok made) = (order.secret, secret_text made.0) ∷ (order.seal, seal_text made.1) ∷ []
 made_writes order (Err refusal) = []
 
+abbrev pub made_deed : SealWords → Result (Secret × Seal) SealErr → DeedValue
+made_deed order made = record { said = made_said order made; writes = made_writes order made }
+
 abbrev pub made_effect : Option Ledger → SealWords → Result (Secret × Seal) SealErr → Effect
-made_effect ledger order made = writes_and_says ledger (made_writes order made) (made_said order made)
+made_effect ledger order made = does ledger (made_deed order made)
 
 -- what making the seal gives: it is drawn from the seed's words in the stream of the seat
 unfoldable pub seal_made : SealWords → Result (Secret × Seal) SealErr

@@ -1,10 +1,12 @@
 //! The top call.
 
-ghost use Rattle.std.specs.Prelude.{◌≡◌, ◌≢◌, ◌⊎◌, Option, IfSome, IfOk, Some, map, option_map, string_bytes};
+ghost use Rattle.std.specs.Prelude.{◌≡◌, ◌≢◌, ◌⊎◌, ℕ, Option, IfSome, IfOk, Some, map, option_map, string_bytes};
 ghost use Rattle.vk_io.specs.Faults.{Causes, Rose};
 ghost use Rattle.vk_io.specs.Files.{Told};
 ghost use Rattle.vk_keeper.specs.Ledgers.{Ledger};
-ghost use Rattle.vk_words.specs.Commands.{AsksNoKeeper, IsCommand, Seal, command_seen, command_words};
+ghost use Rattle.vk_words.specs.Commands.{AsksNoKeeper, ClaimSample, Coin, IsCommand, Seal, command_seen, command_words};
+ghost use Rattle.vk_words.specs.declared.claim.ClaimKind.TheVariants.{Matching};
+ghost use Rattle.vk_words.specs.Coins.{CoinWords};
 ghost use Rattle.vk_words.specs.Orders.{SealWords};
 ghost use Rattle.vk_effect.specs.Effects.{IsEnd, outside, stores};
 ghost use Rattle.vk_effect.specs.Ends.{Acts, Ends};
@@ -12,8 +14,9 @@ ghost use Rattle.vk_house.specs.Once.{KeepsAnswers};
 ghost use Rattle.vk_effect.specs.Counts.{CausesThree, CausesTwo};
 ghost use Rattle.vk_audit.specs.Audits.{audit_seen};
 ghost use Rattle.vk_claims.specs.Orders.{claim_order_seen};
-ghost use Rattle.vk_app.specs.Commands.{DoesWork, EndsWork, StopsWork, audit_on, claim_on, command_effect, script_in, work_on};
-ghost use Rattle.vk_app.specs.Promises.{Audits, ClaimHeadline, Claims, CommandLeaves, Headline, HoldsCeremony, KeepsHouse, RunLeaves, TellsUsage};
+ghost use Rattle.vk_coins.specs.Meaning.{MakesChallenge};
+ghost use Rattle.vk_app.specs.Commands.{CommandActsFreely, CommandEndsFreely, DoesWork, EndsWork, StopsWork, audit_on, claim_on, command_effect, script_in, work_on};
+ghost use Rattle.vk_app.specs.Promises.{Audits, ClaimHeadline, Claims, CommandLeaves, Headline, HoldsCeremony, KeepsHouse, RunLeaves, SamplesMatching, TellsUsage};
 ghost use Rattle.vk_app.specs.Sealing.{Seals};
 
 use crate::seal::seal;
@@ -24,6 +27,7 @@ use vk_audit::{AuditOrder, audit};
 use vk_ceremony::ceremony;
 use vk_claim_sample::claim_sample;
 use vk_claims::{ClaimOrder, audit_claim};
+use vk_coins::make_challenge;
 use vk_effect::Said;
 use vk_io::{OutsideErr, Shelf, Sink};
 use vk_keeper::Keeper;
@@ -65,6 +69,8 @@ fn act<S: Shelf, K: Keeper + Drop>(
     requires { IfSome command IsCommand }
     ensures acts { IfSome (command_effect (S.held shelf.old) (K.ledger keeper.old) (option_map command_seen command.entry))
         (λ effect. Acts result effect (stores (S.held shelf.old) (K.ledger keeper.old)) (stores (S.held shelf.new) (K.ledger keeper.new))) }
+    ensures free { CommandActsFreely (option_map command_seen command.entry) result
+        (stores (S.held shelf.old) (K.ledger keeper.old)) (stores (S.held shelf.new) (K.ledger keeper.new)) }
     ensures files { IfOk result (λ said. CommandLeaves (option_map command_seen command.entry) said.status (S.held shelf.old) (S.held shelf.new)) }
     ensures once { Told KeepsAnswers (K.ledger keeper.old) (K.ledger keeper.new) }
     ensures keeper { AsksNoKeeper (option_map command_seen command.entry)
@@ -109,8 +115,12 @@ fn act<S: Shelf, K: Keeper + Drop>(
             let said = read_claim(alloc, shelf, &ClaimOrder::Extract(names))?;
             Ok(said)
         }
-        Some(Command::ClaimSample { kind: _, number }) => {
-            let said = claim_sample(alloc, shelf, number)?;
+        Some(Command::ClaimSample { kind, number }) => {
+            let said = claim_sample(alloc, shelf, kind, number)?;
+            Ok(said)
+        }
+        Some(Command::Coin(order)) => {
+            let said = make_challenge(alloc, shelf, &order)?;
             Ok(said)
         }
         Some(Command::Ceremony(_)) | None => Ok(usage()),
@@ -129,6 +139,9 @@ fn answer<S: Shelf, K: Keeper + Drop, W: Sink>(
     ensures ends { IfSome (command_effect (S.held shelf.old) (K.ledger keeper.old) (option_map command_seen command.entry))
         (λ effect. Ends result effect (outside (stores (S.held shelf.old) (K.ledger keeper.old)) (W.taken out.old))
         (outside (stores (S.held shelf.new) (K.ledger keeper.new)) (W.taken out.new))) }
+    ensures free { CommandEndsFreely (option_map command_seen command.entry) result
+        (outside (stores (S.held shelf.old) (K.ledger keeper.old)) (W.taken out.old))
+        (outside (stores (S.held shelf.new) (K.ledger keeper.new)) (W.taken out.new)) }
     ensures end { IfOk result IsEnd }
     ensures files { IfOk result (λ status. CommandLeaves (option_map command_seen command.entry) status (S.held shelf.old) (S.held shelf.new)) }
     ensures once { Told KeepsAnswers (K.ledger keeper.old) (K.ledger keeper.new) }
@@ -158,6 +171,7 @@ fn script_of<'a>(command: Option<Command<'a>>) -> Option<&'a str>
         | Some(Command::ClaimVerify(_))
         | Some(Command::ClaimExtract(_))
         | Some(Command::ClaimSample { .. })
+        | Some(Command::Coin(_))
         | None => None,
     }
 }
@@ -173,6 +187,9 @@ fn perform<S: Shelf, K: Keeper + Drop, W: Sink>(
     ensures ends { IfSome (work_on (S.held shelf.old) (K.ledger keeper.old) (map string_bytes words.now))
         (λ work. EndsWork result work (outside (stores (S.held shelf.old) (K.ledger keeper.old)) (W.taken out.old))
         (outside (stores (S.held shelf.new) (K.ledger keeper.new)) (W.taken out.new))) }
+    ensures free { CommandEndsFreely (command_words (map string_bytes words.now)) result
+        (outside (stores (S.held shelf.old) (K.ledger keeper.old)) (W.taken out.old))
+        (outside (stores (S.held shelf.new) (K.ledger keeper.new)) (W.taken out.new)) }
     ensures end { IfOk result IsEnd }
     ensures files { IfOk result (λ status. RunLeaves (map string_bytes words.now) status (S.held shelf.old) (S.held shelf.new)) }
     ensures once { Told KeepsAnswers (K.ledger keeper.old) (K.ledger keeper.new) }
@@ -229,6 +246,16 @@ pub fn run<S: Shelf, K: Keeper + Drop, W: Sink>(
     // What each status of `seal` means, and which files it leaves.
     ensures seals { (order : SealWords) → command_words (map string_bytes words.now) ≡ Some (Seal order) → result ≢ 6 → result ≢ 9
         → Seals order (S.held shelf.old) (S.held shelf.new) result (W.taken out.old) (W.taken out.new) }
+
+    // Which stable matching a `claim-sample matching` publishes is free, and nothing else is.
+    ensures matching { (number : ℕ) → command_words (map string_bytes words.now) ≡ Some (ClaimSample Matching number)
+        → SamplesMatching number result (outside (stores (S.held shelf.old) (K.ledger keeper.old)) (W.taken out.old))
+        (outside (stores (S.held shelf.new) (K.ledger keeper.new)) (W.taken out.new)) }
+
+    // What each status of `coin-part`, `coin-join` and `coin-board` means, and which file it leaves: the share that is drawn; the
+    // challenge of the shown bits, each share opening its part; the challenge that a board's bytes give.
+    ensures coins { (order : CoinWords) → command_words (map string_bytes words.now) ≡ Some (Coin order) → result ≢ 6 → result ≢ 9
+        → MakesChallenge order (S.held shelf.old) (S.held shelf.new) result (W.taken out.old) (W.taken out.new) }
 
     // Whatever the words and the status, the house does what it does command by command, in a ceremony too, also where that was
     // stopped: each is a step of the house, a board is that of the auction that is kept, and a reply is accepted with it.

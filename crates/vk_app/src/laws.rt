@@ -4,7 +4,7 @@ ghost use Rattle.std.specs.Prelude.{◌≡◌, ℕ, List};
 ghost use Rattle.vk_keeper.specs.Ledgers.{IsLedger, Ledger};
 ghost use Rattle.vk_ceremony.specs.Acts.{HouseAct};
 ghost use Rattle.vk_verifier.specs.Acceptance.{Accepts};
-ghost use Rattle.vk_app.specs.Accepted.{ChallengesAreAnswered, LeftRepliesAreAccepted, RepliesAreAccepted};
+ghost use Rattle.vk_app.specs.Accepted.{ChallengesAreAnswered, DerivedAreAnswered, LeftRepliesAreAccepted, RepliesAreAccepted};
 ghost use Rattle.vk_app.specs.Auctions.{Answers, AreRuns, IsActOf, Proves, Run};
 
 /// A law of every list of runs on one keeper, whatever their words and their statuses and whatever becomes of the files
@@ -26,9 +26,10 @@ pub fn every_answer_of_an_auction_is_the_same()
 
 /// A law: what `answer` writes is accepted with the board of the ledger's auction and the challenge of the file; and where
 /// the keeper tells no ledger, with the board of the auction whose reply is left. And every challenge with a bit for each
-/// lane is answered, so there is none that the auctioneer can't answer.
+/// lane is answered, so there is none that the auctioneer can't answer: so is the one that its board's bytes give.
 pub fn what_is_answered_is_accepted()
     ensures accepted { RepliesAreAccepted }
     ensures left { LeftRepliesAreAccepted }
     ensures answered { ChallengesAreAnswered }
+    ensures derived { DerivedAreAnswered }
 {}

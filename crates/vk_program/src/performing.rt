@@ -1,15 +1,18 @@
 //! What the words of a command line do, over a house, files and an output.
 
-ghost use Rattle.std.specs.Prelude.{◌≡◌, ◌≢◌, ◌⊎◌, IfSome, Some, map, string_bytes};
+ghost use Rattle.std.specs.Prelude.{◌≡◌, ◌≢◌, ◌⊎◌, ℕ, IfSome, Some, map, string_bytes};
 ghost use Rattle.std.specs.Process.{exit_status};
 ghost use Rattle.vk_io.specs.Faults.{Rose};
 ghost use Rattle.vk_io.specs.Files.{Told};
+ghost use Rattle.vk_words.specs.declared.claim.ClaimKind.TheVariants.{Matching};
 ghost use Rattle.vk_house.specs.Once.{KeepsAnswers};
-ghost use Rattle.vk_words.specs.Commands.{AsksNoKeeper, Seal, command_words};
+ghost use Rattle.vk_words.specs.Coins.{CoinWords};
+ghost use Rattle.vk_words.specs.Commands.{AsksNoKeeper, ClaimSample, Coin, Seal, command_words};
 ghost use Rattle.vk_words.specs.Orders.{SealWords};
 ghost use Rattle.vk_effect.specs.Effects.{outside, stores};
+ghost use Rattle.vk_coins.specs.Meaning.{MakesChallenge};
 ghost use Rattle.vk_app.specs.Commands.{DoesWork, StopsWork, work_on};
-ghost use Rattle.vk_app.specs.Promises.{Audits, Headline, HoldsCeremony, KeepsHouse, RunLeaves, TellsUsage};
+ghost use Rattle.vk_app.specs.Promises.{Audits, ClaimHeadline, Claims, Headline, HoldsCeremony, KeepsHouse, RunLeaves, SamplesMatching, TellsUsage};
 ghost use Rattle.vk_app.specs.Sealing.{Seals};
 
 use crate::ending::{advise, end, explain, refuse, with_fault};
@@ -65,6 +68,13 @@ fn perform<R: Eprint + AllocGlobal, S: Shelf, K: Keeper + Drop, W: Sink>(
         (outside (stores (S.held shelf.new) (K.ledger keeper.new)) (W.taken out.new))) }
     ensures headline { IfSome (S.held shelf.old) (λ files. Headline files (map string_bytes words.now) (exit_status result) (W.taken out.old) (W.taken out.new)) }
     ensures audits { IfSome (S.held shelf.old) (λ files. Audits files (map string_bytes words.now) (exit_status result) (W.taken out.old) (W.taken out.new)) }
+    ensures claim_headline { IfSome (S.held shelf.old) (λ files. ClaimHeadline files (map string_bytes words.now) (exit_status result) (W.taken out.old) (W.taken out.new)) }
+    ensures claims { IfSome (S.held shelf.old) (λ files. Claims files (map string_bytes words.now) (exit_status result) (W.taken out.old) (W.taken out.new)) }
+    ensures matching { (number : ℕ) → command_words (map string_bytes words.now) ≡ Some (ClaimSample Matching number)
+        → SamplesMatching number (exit_status result) (outside (stores (S.held shelf.old) (K.ledger keeper.old)) (W.taken out.old))
+        (outside (stores (S.held shelf.new) (K.ledger keeper.new)) (W.taken out.new)) }
+    ensures coins { (order : CoinWords) → command_words (map string_bytes words.now) ≡ Some (Coin order) → exit_status result ≢ 6 → exit_status result ≢ 9
+        → MakesChallenge order (S.held shelf.old) (S.held shelf.new) (exit_status result) (W.taken out.old) (W.taken out.new) }
     ensures seals { (order : SealWords) → command_words (map string_bytes words.now) ≡ Some (Seal order) → exit_status result ≢ 6 → exit_status result ≢ 9
         → Seals order (S.held shelf.old) (S.held shelf.new) (exit_status result) (W.taken out.old) (W.taken out.new) }
     ensures house { IfSome (S.held shelf.old) (λ files. IfSome (K.ledger keeper.old) (λ ledger.
@@ -91,17 +101,17 @@ fn perform<R: Eprint + AllocGlobal, S: Shelf, K: Keeper + Drop, W: Sink>(
 fn perform_settled<R: Eprint + AllocGlobal, S: Settle, K: Keeper + Drop, W: Sink>(
     rt: &R,
     words: &[String],
-    shelf: &mut S,
+    files: &mut S,
     keeper: &mut K,
     out: &mut W,
 ) -> ExitCode
-    ensures no_fault { exit_status result ≢ 6 → exit_status result ≢ 9 → (S.Shelf.faults shelf.new ≡ S.Shelf.faults shelf.old)
+    ensures no_fault { exit_status result ≢ 6 → exit_status result ≢ 9 → (S.Shelf.faults files.new ≡ S.Shelf.faults files.old)
         × (K.Keeper.faults keeper.new ≡ K.Keeper.faults keeper.old) × (W.Sink.faults out.new ≡ W.Sink.faults out.old) }
 {
-    let code = perform(rt, words, shelf, keeper, out);
-    let is_faulty = shelf.settle().is_err();
+    let code = perform(rt, words, files, keeper, out);
+    let is_faulty = files.settle().is_err();
     let code = with_fault(rt, code, is_faulty);
-    advise(rt, code, words, shelf.last_fault());
+    advise(rt, code, words, files.last_fault());
     code
 }
 
