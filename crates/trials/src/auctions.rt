@@ -193,7 +193,8 @@ fn push_files(
     }
     push_extracted(alloc, text, shelf, auction, Asked::Ones)?;
     push_extracted(alloc, text, shelf, auction, Asked::Last)?;
-    push_reported(alloc, text, shelf, auction, honest)
+    let report = reported(alloc, auction, honest)?;
+    push_reported(alloc, report.as_slice(), text, shelf)
 }
 
 /// The counts of the auction, of its wires and rows in a lane, and of the lines of its files.
@@ -210,6 +211,11 @@ fn push_sizes(
     if auction.terms.version == 2 {
         push_count(text, b"reserve", auction.terms.reserve)?;
     }
+    push_lengths(text, honest, files)
+}
+
+/// The counts of the wires and rows in a lane, and of the lines of the files.
+pub fn push_lengths(text: &mut Vec<u8>, honest: &Honest, files: &MemShelf) -> Tried<()> {
     push_count(text, b"wires", u64::from(honest.wires))?;
     push_count(text, b"rows", u64::from(honest.rows))?;
     push_count(text, b"board", lines_in(files, "board"))?;
@@ -219,7 +225,7 @@ fn push_sizes(
 }
 
 /// A word and its number, each behind a space.
-fn push_count(text: &mut Vec<u8>, word: &[u8], number: u64) -> Tried<()> {
+pub fn push_count(text: &mut Vec<u8>, word: &[u8], number: u64) -> Tried<()> {
     push_space(text)?;
     text.extend_from_slice(word)?;
     push_space(text)?;
@@ -252,7 +258,7 @@ fn push_verified(
 }
 
 /// These words, and the names of what is asked and of the reply.
-fn words_with(alloc: Global, words: &str, asked: Asked) -> Tried<String> {
+pub fn words_with(alloc: Global, words: &str, asked: Asked) -> Tried<String> {
     let challenge = asked.name();
     let reply = asked.reply();
     let line = format!(in alloc; "{words} {challenge} {reply}")?;
@@ -329,7 +335,7 @@ fn push_bare(
 }
 
 /// The text of an extraction, each line as far as its openings.
-fn without_openings(alloc: Global, said: &[u8]) -> Tried<Vec<u8>> {
+pub fn without_openings(alloc: Global, said: &[u8]) -> Tried<Vec<u8>> {
     let mut text = Vec::new(alloc);
     for line in said.split(|byte| *byte == b'\n') {
         if !line.is_empty() {
@@ -368,21 +374,27 @@ fn push_expected(alloc: Global, text: &mut Vec<u8>, auction: &Auction, asked: As
     let lanes = auction.terms.lanes;
     for lane in 1..=lanes {
         if asked.bit(u32::from(lane), u32::from(lanes)) {
-            push_bids(alloc, text, auction, lane)?;
+            push_values(alloc, text, lane, "bid", auction.bids)?;
         }
     }
     text.extend_from_slice(sale_line(alloc, auction)?.as_bytes())?;
-    push_same(alloc, text, auction)?;
+    push_same(alloc, text, auction.bids)?;
     text.extend_from_slice(b"end\n")?;
     Ok(())
 }
 
-/// The line of each bid in a lane.
-fn push_bids(alloc: Global, text: &mut Vec<u8>, auction: &Auction, lane: u16) -> Tried<()> {
-    for (bid, position) in auction.bids.iter().zip(1u32..=64) {
-        let bid = *bid;
+/// The line of each value in a lane, behind that word.
+pub fn push_values(
+    alloc: Global,
+    text: &mut Vec<u8>,
+    lane: u16,
+    word: &str,
+    values: &[u64],
+) -> Tried<()> {
+    for (value, position) in values.iter().zip(1u32..=512) {
+        let value = *value;
         let seat = seat_at(position);
-        let line = format!(in alloc; "lane {lane} seat {seat} bid {bid}\n")?;
+        let line = format!(in alloc; "lane {lane} seat {seat} {word} {value}\n")?;
         text.extend_from_slice(line.as_bytes())?;
     }
     Ok(())
@@ -418,9 +430,9 @@ fn push_reserve(alloc: Global, line: &mut String, terms: Terms) -> Tried<()> {
     Ok(())
 }
 
-/// The line of each seat whose bids are the same in all lanes.
-fn push_same(alloc: Global, text: &mut Vec<u8>, auction: &Auction) -> Tried<()> {
-    for (_bid, position) in auction.bids.iter().zip(1u32..=64) {
+/// The line of each seat, whose values are the same in all lanes.
+pub fn push_same(alloc: Global, text: &mut Vec<u8>, values: &[u64]) -> Tried<()> {
+    for (_value, position) in values.iter().zip(1u32..=512) {
         let seat = seat_at(position);
         let line = format!(in alloc; "seat {seat} same\n")?;
         text.extend_from_slice(line.as_bytes())?;
@@ -428,16 +440,15 @@ fn push_same(alloc: Global, text: &mut Vec<u8>, auction: &Auction) -> Tried<()> 
     Ok(())
 }
 
-/// What `report` says of the board; or, where this is as it has to be, that it is as published.
+/// What `report` says of the board; or, where this is the wanted report, that it is as published.
 fn push_reported(
     alloc: Global,
+    wanted: &[u8],
     text: &mut Vec<u8>,
     shelf: &mut PieceShelf,
-    auction: &Auction,
-    honest: &Honest,
 ) -> Tried<()> {
     let out = push_run(alloc, text, shelf, b"report board")?;
-    if out.bytes() == reported(alloc, auction, honest)?.as_slice() {
+    if out.bytes() == wanted {
         text.extend_from_slice(b"as published\n")?;
     } else {
         text.extend_from_slice(out.bytes())?;

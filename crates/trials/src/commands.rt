@@ -81,6 +81,13 @@ const HOUSES: Command = Command {
     outsides: &[Outside::Keeper],
 };
 
+const PROVES: Command = Command {
+    words: PROVE,
+    writes: &["old"],
+    outsides: &[Outside::Shelf, Outside::Keeper, Outside::Sink],
+    ..HOUSES
+};
+
 /// The commands, in the order in which they are told of.
 pub const COMMANDS: [Command; 11] = [
     READS,
@@ -124,20 +131,14 @@ end
     Command {
         name: "prove",
         before: &[ANNOUNCE, SUBMIT_7, SUBMIT_8],
-        words: PROVE,
         whole: "proved winner 8 price 5\n",
-        writes: &["old"],
-        outsides: &[Outside::Shelf, Outside::Keeper, Outside::Sink],
-        ..HOUSES
+        ..PROVES
     },
     Command {
         name: "prove, unsold",
         before: &[ANNOUNCE_RESERVE, SUBMIT_7, SUBMIT_8],
-        words: PROVE,
         whole: "proved unsold\n",
-        writes: &["old"],
-        outsides: &[Outside::Shelf, Outside::Keeper, Outside::Sink],
-        ..HOUSES
+        ..PROVES
     },
     Command {
         name: "answer",

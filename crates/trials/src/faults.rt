@@ -41,7 +41,7 @@ fn push_faults<S: Shelf>(
     text.extend_from_slice(b"faults of ")?;
     text.extend_from_slice(command.name.as_bytes())?;
     let effect = Effect::of(alloc, shelf, command)?;
-    push_told(alloc, text, shelf, command, &effect)?;
+    push_told(alloc, shelf, text, command, &effect)?;
     end_line(text)?;
     Ok(())
 }
@@ -49,8 +49,8 @@ fn push_faults<S: Shelf>(
 /// That every call's fault was told, or else the first call whose fault was not.
 fn push_told<S: Shelf>(
     alloc: Global,
-    text: &mut Vec<u8>,
     shelf: &mut S,
+    text: &mut Vec<u8>,
     command: &Command,
     effect: &Effect,
 ) -> Tried<()> {

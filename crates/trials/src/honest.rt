@@ -1,9 +1,9 @@
-// An honest auction by the library's own parts: what its board says, and the answers to challenges.
+// An honest auction or claim by the library's own parts: what its file says, and the answers to challenges.
 ghost use Rattle.std.specs.Prelude.{◌≡◌, ◌<◌, ◌≤◌, ◌^◌, All, IfOk, IfSome, length};
 ghost use Rattle.vk_plan.specs.Plans.{Holds};
 
 use std::alloc::Global;
-use vk_board::{Head, LaneLines, SealLines};
+use vk_board::{Head, LaneLines, SealLines, head_text};
 use vk_cases::{Tried, Unreplayed};
 use vk_dice::ChaChaWords;
 use vk_plan::{Circuit, Plan};
@@ -55,10 +55,11 @@ impl HonestLane {
     }
 }
 
-/// An honest auction: what its board says, and the answer to each challenge.
+/// An honest auction, or claim: what its file says, and the answer to each challenge.
 #[derive(Drop)]
 pub struct Honest {
-    pub head: Head,
+    /// The text before the first seal.
+    pub front: Vec<u8>,
     /// How many wires a lane has.
     pub wires: u32,
     /// How many rows a lane has.
@@ -74,19 +75,26 @@ impl Honest {
             return Err(Unreplayed::NoCase);
         }
         let (plan, values) = plan_of_bids(alloc, bids, terms)?;
-        let mut honest = Honest {
-            head: head_of(terms, plan.inputs(), sale_of(bids, terms.reserve)),
-            wires: plan.wires(),
-            rows: plan.rows(),
-            seals: Vec::new(alloc),
-            lanes: Vec::new(alloc),
-        };
+        let head = head_of(terms, plan.inputs(), sale_of(bids, terms.reserve));
+        let front = head_text(alloc, &head)?;
+        let mut honest = Honest::behind(alloc, front, &plan);
         honest.fill(alloc, bids, terms, &plan, values.as_slice())?;
         Ok(honest)
     }
 
+    /// What stands behind that front, where the lanes are of that plan: no seals and no lanes yet.
+    pub fn behind(alloc: Global, front: Vec<u8>, plan: &Plan) -> Honest {
+        Honest {
+            front,
+            wires: plan.wires(),
+            rows: plan.rows(),
+            seals: Vec::new(alloc),
+            lanes: Vec::new(alloc),
+        }
+    }
+
     /// Makes its seals and its lanes. The values hold for the plan.
-    fn fill(
+    pub fn fill(
         &mut self,
         alloc: Global,
         bids: &[u64],
@@ -106,6 +114,11 @@ impl Honest {
             secrets.as_slice(),
             terms.lanes,
         )
+    }
+
+    /// How many lanes there are.
+    pub fn lane_count(&self) -> u32 {
+        u32::try_from(self.lanes.len()).unwrap_or(0)
     }
 }
 
@@ -201,7 +214,7 @@ fn push_sealed(
     terms: Terms,
 ) -> Tried<()> {
     let lanes = u32::from(terms.lanes);
-    for (bid, position) in bids.iter().zip(1u32..=64) {
+    for (bid, position) in bids.iter().zip(1u32..=512) {
         let (secret, seal) = sealed_bid(alloc, *bid, seat_at(position), terms.width, lanes)?;
         secrets.push(secret)?;
         seals.push(SealLines {
@@ -247,7 +260,7 @@ fn plan_of_bids(alloc: Global, bids: &[u64], terms: Terms) -> Tried<(Plan, Vec<R
 }
 
 /// The plan of the circuit, and the values that hold for it.
-fn plan_and_values<C: Circuit>(
+pub fn plan_and_values<C: Circuit>(
     alloc: Global,
     circuit: &C,
     inputs: &[Residue],
@@ -261,7 +274,7 @@ fn plan_and_values<C: Circuit>(
 }
 
 /// The bids as residues. None where one is not of the width.
-fn residues(alloc: Global, bids: &[u64], width: u32) -> Result<Option<Vec<Residue>>, NoMemory>
+pub fn residues(alloc: Global, bids: &[u64], width: u32) -> Result<Option<Vec<Residue>>, NoMemory>
     requires { width ≤ 40 }
     ensures same { IfOk result (λ made. IfSome made (λ inputs. inputs.items ≡ bids.now)) }
     ensures within { IfOk result (λ made. IfSome made (λ inputs. All (λ bid. bid < 2 ^ width) bids.now)) }

@@ -1,15 +1,17 @@
-//! Honest auctions, whose files the library's own parts make and the program judges and extracts from; samples over
-//! files that stay as they are; files that are cut short; and a fault at each call of a command. Of each it prints what
-//! came of it.
+//! Honest auctions and claims, whose files the library's own parts make and the program judges and extracts from;
+//! matchings that are proposed; samples over files that stay as they are; files that are cut short; and a fault at each
+//! call of a command. Of each it prints what came of it.
 #![tactic(auto)]
 
 mod asked;
 mod auctions;
+mod claims;
 mod commands;
 mod cuts;
 mod dry;
 mod faults;
 mod honest;
+mod proposals;
 mod samples;
 mod stops;
 mod world;
@@ -26,6 +28,8 @@ struct Trials;
 impl Replay for Trials {
     fn replay<S: Shelf, W: Sink>(&self, alloc: Global, shelf: &mut S, out: &mut W) -> Replayed {
         auctions::try_auctions(alloc, out)?;
+        proposals::try_proposals(alloc, out)?;
+        claims::try_claims(alloc, out)?;
         samples::try_samples(alloc, shelf, out)?;
         dry::try_dry(out)?;
         cuts::try_cuts(alloc, shelf, out)?;

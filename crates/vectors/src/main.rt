@@ -1,12 +1,15 @@
-//! Replays what independent implementations worked out of the parts: words and draws, wires, outcomes, sales, and what
-//! is seen of wires and lanes. What is printed is to be, byte for byte, what those implementations wrote.
+//! Replays what independent implementations worked out of the parts: words and draws, wires, outcomes, sales, matchings,
+//! shares of challenges, and what is seen of wires and lanes. What is printed is to be, byte for byte, what those implementations wrote.
 #![tactic(auto)]
 
 mod bids;
+mod coins;
+mod couples;
 mod fours;
 mod lanes;
 mod lists;
 mod sales;
+mod shares;
 mod streams;
 mod units;
 mod views;
@@ -36,6 +39,14 @@ enum Cases {
     Rows,
     /// `BIDS UNITS WIDTH`.
     Units,
+    /// `SIZE RANKS`, the ranks with commas between them: those of each man and then those of each woman.
+    Tables,
+    /// `WIDTH FIRST SECOND THIRD FOURTH`: the values of the four wires of a relation.
+    Eithers,
+    /// `share AUCTION AUDITOR KEY BITS`, or `draw SEED AUCTION AUDITOR LANES`.
+    Shares,
+    /// `joint BITS,BITS ..`, or `own BITS BITS,BITS ..` with `-` for none.
+    Coins,
     /// `wire KIND value NUMBER other NUMBER tape MASK SWAP KEY KEY`, where a kind is `split` or the `I` of a pair.
     Views,
     /// `plan seals N width T winner W price P|bids ..|others ..`, and behind it for each wire
@@ -54,6 +65,10 @@ impl Form for Cases {
             Cases::Sales => "sales",
             Cases::Rows => "rows",
             Cases::Units => "units",
+            Cases::Tables => "tables",
+            Cases::Eithers => "eithers",
+            Cases::Shares => "shares",
+            Cases::Coins => "coins",
             Cases::Views => "views",
             Cases::Lanes => "lanes",
         }
@@ -69,6 +84,10 @@ impl Form for Cases {
             Cases::Sales => sales::sale_text(alloc, case),
             Cases::Rows => sales::rows_text(alloc, case),
             Cases::Units => units::units_text(alloc, case),
+            Cases::Tables => couples::table_text(alloc, case),
+            Cases::Eithers => couples::either_text(alloc, case),
+            Cases::Shares => shares::share_text(alloc, case),
+            Cases::Coins => coins::bits_text(alloc, case),
             Cases::Views => views::view_text(alloc, case),
             Cases::Lanes => lanes::lane_text(alloc, case),
         }
@@ -76,7 +95,7 @@ impl Form for Cases {
 }
 
 /// All forms, in the order in which they are replayed.
-const FORMS: [Cases; 10] = [
+const FORMS: [Cases; 14] = [
     Cases::Streams,
     Cases::Lists,
     Cases::Wires,
@@ -85,6 +104,10 @@ const FORMS: [Cases; 10] = [
     Cases::Sales,
     Cases::Rows,
     Cases::Units,
+    Cases::Tables,
+    Cases::Eithers,
+    Cases::Shares,
+    Cases::Coins,
     Cases::Views,
     Cases::Lanes,
 ];

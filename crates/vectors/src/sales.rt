@@ -112,7 +112,7 @@ pub fn push_counts(text: &mut Vec<u8>, plan: &Plan) -> Tried<()> {
 }
 
 /// The bids twice, and 0 for the wires behind them.
-fn values_of(alloc: Global, bids: &[u64], wires: u32) -> Tried<Vec<Residue>> {
+pub fn values_of(alloc: Global, bids: &[u64], wires: u32) -> Tried<Vec<Residue>> {
     let mut values = Vec::new(alloc);
     for bid in bids.iter().chain(bids) {
         values.push(Residue::new(*bid).ok_or(Unreplayed::NoCase)?)?;

@@ -14,12 +14,12 @@ pub fn view_text(alloc: Global, case: &[u8]) -> Tried<Vec<u8>> {
 }
 
 fn push_view(text: &mut Vec<u8>, case: &[u8]) -> Tried<()> {
+    push_words(text, case, 0, 6)?;
+    push_words(text, case, 6, 11)?;
     let kind = kind_of(case, 1)?;
     let value = value_at(case, 3, kind)?;
     let other = value_at(case, 5, kind)?;
     let tape = tape_of(case, 6)?;
-    push_words(text, case, 0, 6)?;
-    push_words(text, case, 6, 11)?;
     for bit in [false, true] {
         text.extend_from_slice(if bit { b"moved1" } else { b"moved0" })?;
         push_moved(text, &moved_wire(kind, value, other, bit, tape))?;

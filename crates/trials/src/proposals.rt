@@ -1,0 +1,161 @@
+// Matchings that are proposed of ranks, against what it is to be blocked by a pair.
+
+use crate::auctions::push_count;
+use crate::honest::ID;
+use std::alloc::Global;
+use vk_cases::{Tried, Unreplayed};
+use vk_dice::{ChaChaWords, Words};
+use vk_io::Sink;
+use vk_lines::end_line;
+use vk_matching::propose;
+
+/// From this seed come the ranks that are drawn.
+const RANKS: [u8; 32] = [0x16; 32];
+
+/// How many tables of eight ranks below 3 there are.
+const TABLES: u64 = 6561;
+
+/// Tells how many of the matchings that are proposed a pair blocks.
+pub fn try_proposals<W: Sink>(alloc: Global, out: &mut W) -> Tried<()> {
+    let text = proposals_text(alloc)?;
+    out.put(text.as_slice())?;
+    Ok(())
+}
+
+/// How many matchings that are proposed a pair blocks: of all ranks of two men and two women that are below 3, and of some
+/// of three and of sixteen, among which there are many ties.
+fn proposals_text(alloc: Global) -> Tried<Vec<u8>> {
+    let mut text = Vec::new(alloc);
+    text.extend_from_slice(b"proposed")?;
+    push_blocked(&mut text, blocked_of_all(alloc)?, TABLES)?;
+    push_blocked(&mut text, blocked_of_drawn(alloc, 3, 1000)?, 1000)?;
+    push_blocked(&mut text, blocked_of_drawn(alloc, 16, 20)?, 20)?;
+    end_line(&mut text)?;
+    Ok(text)
+}
+
+/// How many are blocked, and of how many.
+fn push_blocked(text: &mut Vec<u8>, blocked: u64, all: u64) -> Tried<()> {
+    push_count(text, b"blocked", blocked)?;
+    push_count(text, b"of", all)?;
+    Ok(())
+}
+
+/// The same of all ranks of two men and two women that are below 3.
+fn blocked_of_all(alloc: Global) -> Tried<u64> {
+    let mut blocked = 0u64;
+    for number in 0..TABLES {
+        let ranks = digits(alloc, number)?;
+        blocked = blocked.saturating_add(blocked_count(alloc, 2, ranks.as_slice())?);
+    }
+    Ok(blocked)
+}
+
+/// The eight digits of a number to the base of three, the last first.
+fn digits(alloc: Global, number: u64) -> Tried<Vec<u64>> {
+    let mut rest = number;
+    let mut digits = Vec::new(alloc);
+    for _digit in 0..8 {
+        digits.push(rest % 3)?;
+        rest /= 3;
+    }
+    Ok(digits)
+}
+
+/// The same of ranks below 8 that are drawn so many times.
+fn blocked_of_drawn(alloc: Global, size: u32, times: u64) -> Tried<u64> {
+    let mut words = rank_words(0);
+    let mut blocked = 0u64;
+    for _time in 0..times {
+        let ranks = drawn_ranks(alloc, size, 3, &mut words)?;
+        blocked = blocked.saturating_add(blocked_count(alloc, size, ranks.as_slice())?);
+    }
+    Ok(blocked)
+}
+
+/// The words from which ranks are drawn, by a number.
+pub fn rank_words(number: u64) -> ChaChaWords {
+    ChaChaWords::of(&RANKS, &ID, number)
+}
+
+/// Ranks of a width for so many men and women.
+pub fn drawn_ranks(
+    alloc: Global,
+    size: u32,
+    width: u32,
+    words: &mut ChaChaWords,
+) -> Tried<Vec<u64>> {
+    let mut ranks = Vec::new(alloc);
+    for _rank in 0..size.saturating_mul(size).saturating_mul(2) {
+        ranks.push(words.next() >> 64u32.saturating_sub(width).min(63))?;
+    }
+    Ok(ranks)
+}
+
+/// 1 where what is proposed of the ranks is blocked by a pair or isn't a woman of his own for each man, else 0.
+fn blocked_count(alloc: Global, size: u32, ranks: &[u64]) -> Tried<u64> {
+    if size == 0 || 16 < size || ranks.len() != (2 * size * size) as usize {
+        return Err(Unreplayed::NoCase);
+    }
+    let matching = propose(alloc, size, ranks)?;
+    for man in 1..=size {
+        if !is_content(size, ranks, matching.as_slice(), man) {
+            return Ok(1);
+        }
+    }
+    Ok(0)
+}
+
+/// Whether a man has a woman of his own, and blocks with none.
+fn is_content(size: u32, ranks: &[u64], matching: &[u32], man: u32) -> bool {
+    for woman in 1..=size {
+        let Some(husband) = husband_of(matching, woman) else {
+            return false;
+        };
+        let Some(wife) = matching.get(man.saturating_sub(1) as usize) else {
+            return false;
+        };
+        let he_prefers = his_rank(size, ranks, man, woman) < his_rank(size, ranks, man, *wife);
+        if he_prefers && her_rank(size, ranks, woman, man) < her_rank(size, ranks, woman, husband) {
+            return false;
+        }
+    }
+    true
+}
+
+/// The man of a woman, from 1. None where she has no man, or more than one.
+fn husband_of(matching: &[u32], woman: u32) -> Option<u32> {
+    let mut husband = None;
+    for (wife, man) in matching.iter().zip(1u32..=16) {
+        if *wife == woman {
+            if husband.is_some() {
+                return None;
+            }
+            husband = Some(man);
+        }
+    }
+    husband
+}
+
+/// A man's rank of a woman.
+fn his_rank(size: u32, ranks: &[u64], man: u32, woman: u32) -> u64 {
+    let place = man
+        .saturating_sub(1)
+        .saturating_mul(size)
+        .saturating_add(woman);
+    rank_at(ranks, place)
+}
+
+/// A woman's rank of a man.
+fn her_rank(size: u32, ranks: &[u64], woman: u32, man: u32) -> u64 {
+    let row = size.saturating_add(woman).saturating_sub(1);
+    rank_at(ranks, row.saturating_mul(size).saturating_add(man))
+}
+
+/// The rank at a place, from 1.
+fn rank_at(ranks: &[u64], place: u32) -> u64 {
+    match ranks.get(place.saturating_sub(1) as usize) {
+        Some(rank) => *rank,
+        None => u64::MAX,
+    }
+}
