@@ -1,13 +1,14 @@
 #!/usr/bin/env python3
 """Makes a board with random bids, two challenges that differ in every lane, and the honest replies to them.
 
-    make_board.py SEALS WIDTH LANES NUMBER FOLDER [RESERVE | units:UNITS]
+    make_board.py SEALS WIDTH LANES NUMBER FOLDER [RESERVE | units:UNITS | matching]
 
 writes FOLDER/board, challenge-1, reply-1, challenge-2 and reply-2. The same words make the same files. With a RESERVE the board
 is of version 2, of the same bids. It is a number, or one of the words `above`, `at` and `unsold`: then a reserve is drawn with
 which the bids are sold above it, sold at it, or not sold. With `units:UNITS` it writes FOLDER/claim in place of the board: a
-claim file of so many equal units that are sold to the same bids at one price. It is written from docs/FORMATS.md alone, and
-shares nothing with the program: what it makes is what is to be accepted.
+claim file of so many equal units that are sold to the same bids at one price. With `matching` it writes a claim file of a stable
+matching of SEALS men and as many women, who rank each other at random, below 2^WIDTH. It is written from docs/FORMATS.md alone,
+and shares nothing with the program: what it makes is what is to be accepted.
 """
 import hashlib
 import os
@@ -53,9 +54,30 @@ def uniform(bids, units):
     return sorted(order[:units]), max((bids[place] for place in order[units:]), default=0)
 
 
+def places(size, man, woman):
+    """Where his rank of her stands among the ranks of so many men and women, and where hers of him."""
+    return man * size + woman, size * (size + woman) + man
+
+
+def matching(size, ranks):
+    """Each man's woman, by deferred acceptance: a man without one asks the next on his list, and she keeps whom she ranks better."""
+    his = lambda man, woman: ranks[places(size, man, woman)[0]]
+    hers = lambda woman, man: ranks[places(size, man, woman)[1]]
+    lists = [sorted(range(size), key=lambda woman: his(man, woman)) for man in range(size)]
+    free, kept = list(range(size)), {}
+    while free:
+        man = free.pop()
+        woman = lists[man].pop(0)
+        other = kept.get(woman)
+        if other is None or hers(woman, man) < hers(woman, other):
+            kept[woman], man = man, other
+        free += [] if man is None else [man]
+    return [woman for man in range(size) for woman in kept if kept[woman] == man]
+
+
 class Circuit:
     """The wires, each a weight or None for a split one; the rows, each a form of (factor, wire) and a constant. It begins with
-    the copies of the bids, which are in range."""
+    the copies of the bids, or of what else is sealed, which are in range."""
 
     def __init__(self, bids, width):
         self.bids, self.width = bids, width
@@ -71,16 +93,16 @@ class Circuit:
     def value(self, form, constant):
         return sum(factor * self.values[wire] for factor, wire in form) + constant
 
-    def in_range(self, form, constant):
+    def in_range(self, form, constant, width=None):
         """A test set that comes to the form, and the row that says so."""
-        number = self.value(form, constant)
-        assert 0 <= number < 2**self.width
-        pairs = []
-        for i in range(self.width):
-            pairs.append((-1, len(self.kinds)))
-            self.kinds.append(2**i)
-            self.values.append(number & 2**i)
-        self.rows.append((form + pairs, constant))
+        number, width = self.value(form, constant), width or self.width
+        assert 0 <= number < 2**width
+        self.rows.append((form + [(-1, self.pair(2**i, number & 2**i)) for i in range(width)], constant))
+
+    def pair(self, weight, value):
+        self.kinds.append(weight)
+        self.values.append(value)
+        return len(self.kinds) - 1
 
     def unsold(self, reserve):
         for j in range(len(self.bids)):
@@ -101,15 +123,18 @@ class Circuit:
         if not others:
             return
         chosen = next(j for j in others if self.bids[j] == price)
-        selectors = {}
-        for j in others:
-            selectors[j] = len(self.kinds)
-            self.kinds.append(1)
-            self.values.append(1 if j == chosen else 0)
+        selectors = {j: self.pair(1, 1 if j == chosen else 0) for j in others}
         self.rows.append(([(1, selectors[j]) for j in others], -1))
         most = 2**self.width - 1
         for j in others:
             self.in_range([(-most, selectors[j]), (1, self.copy(j))], most - price)
+
+    def either_at_least(self, first, second):
+        """That of two places in the first the left is at least the right, or in the second: the selector is 1 in the first case."""
+        difference = lambda left, right: [(1, self.copy(left)), (-1, self.copy(right))]
+        selector, most = self.pair(1, 1 if self.value(difference(*first), 0) >= 0 else 0), 2**self.width
+        self.in_range(difference(*first) + [(-most, selector)], most, self.width + 1)
+        self.in_range(difference(*second) + [(most, selector)], 0, self.width + 1)
 
 
 def board_circuit(bids, width, reserve=None):
@@ -132,6 +157,17 @@ def claim_circuit(bids, width, units):
     circuit = Circuit(bids, width)
     winners, price = uniform(bids, units)
     circuit.select(circuit.sold(winners, price), price)
+    return circuit
+
+
+def matching_circuit(size, ranks, width, women):
+    """The circuit of a matching, by each man's woman: no other two rank each other better."""
+    circuit = Circuit(ranks, width)
+    for man in range(size):
+        for woman in range(size):
+            if woman != women[man]:
+                (his, hers), his_own = places(size, man, woman), places(size, man, women[man])[0]
+                circuit.either_at_least((his, his_own), (hers, places(size, women.index(woman), woman)[1]))
     return circuit
 
 
@@ -176,11 +212,9 @@ def head_lines(auction, width, lanes, seats, sale, reserve=None):
     return lines + ["unsold" if winner is None else f"winner {seats[winner]}", f"price {price}"]
 
 
-def claim_lines(auction, width, lanes, seats, sale):
-    """What stands in a claim file of equal units before its seals."""
-    winners, price = sale
-    numbers = [width, price, *(winner + 1 for winner in winners)]
-    lines = ["vickrey-claim 1", f"auction {auction.hex()}", "kind uniform", f"lanes {lanes}", f"inputs {len(seats)}"]
+def claim_lines(auction, kind, lanes, seats, numbers):
+    """What stands in a claim file before its seals."""
+    lines = ["vickrey-claim 1", f"auction {auction.hex()}", f"kind {kind}", f"lanes {lanes}", f"inputs {len(seats)}"]
     return lines + [f"numbers {len(numbers)}"] + [f"n {number}" for number in numbers]
 
 
@@ -208,14 +242,20 @@ def write_attempt(folder, attempt, asked, wires):
 
 
 def main(seals, width, lanes, number, folder, word=None):
-    draw = random.Random(number)
+    draw, size = random.Random(number), seals
+    seals = 2 * size**2 if word == "matching" else size
     auction = draw.getrandbits(128).to_bytes(16, "big")
     bids = [draw.randrange(2**width) for _ in range(seals)]
     seats = draw.sample(range(1, 65536), seals)
-    if word and word.startswith("units:"):
+    if word == "matching":
+        women = matching(size, bids)
+        name, circuit = "claim", matching_circuit(size, bids, width, women)
+        head = claim_lines(auction, "matching", lanes, seats, [width, *(woman + 1 for woman in women)])
+    elif word and word.startswith("units:"):
         units = int(word.removeprefix("units:"))
+        winners, price = uniform(bids, units)
         name, circuit = "claim", claim_circuit(bids, width, units)
-        head = claim_lines(auction, width, lanes, seats, uniform(bids, units))
+        head = claim_lines(auction, "uniform", lanes, seats, [width, price, *(winner + 1 for winner in winners)])
     else:
         reserve = None if word is None else reserve_of(word, bids, width, random.Random(f"{word} {number}"))
         name, circuit = "board", board_circuit(bids, width, reserve)

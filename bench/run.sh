@@ -5,12 +5,12 @@
 # the least that a verdict takes; it is built without hashing, with a scalar SHA-256, and, where its headers are installed,
 # with OpenSSL's. bench/make_board.py, which is written from docs/FORMATS.md alone, makes the boards of other sizes
 # (seals:width:lanes), one of each version of the same bids, of which that of version 2 has a reserve below its price, and so
-# the same circuit, and claim files of 64 inputs with one, some and many winners. The last rows are of a house of 64 seals with
-# 64 lanes at width 40, over a real file, alone and beside 200 auctions of 20 seals with 40 lanes. Each round runs every row
-# once, so that all meet the same noise; the best of each counts. ROUNDS (5) says how many rounds, CPU the processor that the
-# runs are pinned to, CC the compiler. It takes 1 GB of disk, and minutes.
+# the same circuit, claim files of 64 inputs with one, some and many winners, and matchings (men:width:lanes), up to 16 men and 16
+# women. The last rows are of a house of 64 seals with 64 lanes at width 40, over a real file, alone and beside 200 auctions of
+# 20 seals with 40 lanes. Each round runs every row once, so that all meet the same noise; the best of each counts. ROUNDS (5)
+# says how many rounds, CPU the processor that the runs are pinned to, CC the compiler. It takes 1 GB of disk, and minutes.
 set -eu
-[ $# -eq 1 ] || { sed -n '2,11p' "$0"; exit 2; }
+[ $# -eq 1 ] || { sed -n '2,12p' "$0"; exit 2; }
 program=$(realpath "$1")
 here=$(cd "$(dirname "$0")" && pwd)
 folder=$(mktemp -d)
@@ -43,6 +43,7 @@ sample_rows() {
   fi
   row verify accepted "$program verify $files"
   row extract end "$program extract $files sample-challenge-2 sample-reply-2"
+  row coin-board 'derived bits 40' "$program coin-board sample-board derived"
   row 'sample 1' end "$program sample 1"
 }
 
@@ -73,6 +74,16 @@ claim_rows() {
     python3 "$here/make_board.py" 64 40 2 1 "units-$units" "units:$units"
     row "claim-verify 64:40:2, $units won" accepted \
       "$program claim-verify units-$units/claim units-$units/challenge-1 units-$units/reply-1"
+  done
+}
+
+matching_rows() {
+  local size
+  row 'claim-sample matching 1' end "$program claim-sample matching 1"
+  for size in 4:2:2 16:4:2 16:16:2 16:4:40; do
+    python3 "$here/make_board.py" ${size//:/ } 1 "matching-$size" matching
+    row "claim-verify $size, matching" accepted \
+      "$program claim-verify matching-$size/claim matching-$size/challenge-1 matching-$size/reply-1"
   done
 }
 
@@ -181,6 +192,7 @@ sample_rows
 size_rows
 version_rows
 claim_rows
+matching_rows
 house_rows
 many_rows
 for name in "${names[@]}"; do

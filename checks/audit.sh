@@ -161,6 +161,50 @@ options=(--reserve 08)
 tried 'a reserve of another form' honest 2 "$words"
 options=()
 
+# a challenge by auditors
+# drawn AUDITOR..: a coin of these auditors in the folder `coins`, their parts, and the challenge that the shares come to
+drawn() {
+  local auditor
+  : >coins/parts
+  : >coins/shows
+  for auditor in "$@"; do
+    run 0 coin-part $id "$auditor" "$lanes" "$(printf '%064d' "$auditor")" coins/share
+    sed 's/ commit / /' said >>coins/parts
+    sed -n "s/^show /show $auditor /p" coins/share >>coins/shows
+  done
+  { printf 'vickrey-coin 1\nauction %s\nbits %s\nauditors %s\n' $id "$lanes" $#; cat coins/parts coins/shows; echo end; } >coins/coin
+  run 0 coin-join coins/coin coins/challenge
+  sed -n 's/^bits //p' coins/challenge
+}
+
+mkdir coins
+joint=$(drawn 1 2)
+auction fewer "$one" "$joint" 7 9 300
+cp coins/coin fewer
+fewer=$joint
+joint=$(drawn 1 2 3)
+auction tossed "$one" "$joint" 7 9 300
+cp coins/coin tossed
+tossed="$honest $id 4 $lanes 7,9,300 $joint"
+sed '1{p;s/ 1 / 2 /;h;d};2g' coins/parts >coins/other-parts
+options=(--parts ../coins/parts)
+tried 'a challenge by three auditors' tossed 0 "$tossed"
+tried 'an auditor left out' fewer 1 "$honest $id 4 $lanes 7,9,300 $fewer" 'the coin has the parts'
+cp -r tossed moved
+sed -i '/^show 2 /{s/0$/x/;s/1$/0/;s/x$/1/}' moved/coin
+tried 'another share than was fixed' moved 1 "$tossed" 'the program joins .*refused coin part 2' 'check.py joins .*refused coin part 2'
+copy claimed
+cp coins/coin claimed
+tried 'another challenge than the auditors drew' claimed 1 "$words" 'the program joins .*other bits' 'check.py joins .*other bits'
+tried 'no coin' honest 1 "$words" 'the coin has the parts' 'the program joins .*missing coin' 'check.py joins .*missing coin'
+options=(--parts ../coins/other-parts)
+tried 'another part than was public' tossed 1 "$tossed" 'the coin has the parts'
+options=(--parts coin)
+tried 'parts of another form' tossed 2 "$tossed"
+options=(--parts)
+tried 'no parts behind the option' tossed 2 "$tossed"
+options=()
+
 # another challenge, and a reply to another one
 auction asked "$one" $other 7 9 300
 tried 'another challenge' asked 1 "$words" 'the challenge'

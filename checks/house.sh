@@ -11,7 +11,7 @@ cd "$folder" || exit 1
 passed=0
 failed=0
 id=000102030405060708090a0b0c0d0e0f
-usage='usage: vickrey seal|announce|submit|prove|answer|show|verify|extract|confront|report|sample|ceremony|claim-verify|claim-extract|claim-sample'
+usage='usage: vickrey seal|announce|submit|prove|answer|show|verify|extract|confront|report|sample|ceremony|claim-verify|claim-extract|claim-sample|coin-part|coin-join|coin-board'
 
 # case STATUS TEXT ERROR WORD..: the program with these words ends so, prints the text, and says the error; what it says for a person
 # in lines behind that is looked at apart, where it tells of the store

@@ -1,6 +1,6 @@
 #!/usr/bin/env bash
-# checks/pages.sh PROGRAM: runs the commands of README.md, of AUCTION.md, CLAIMS.md and METHOD.md in docs, and of the manual page exactly as
-# they are written, each page in a new copy of this folder, with nothing on PATH but the system. Only `rt` is stood in for: `rt run` and
+# checks/pages.sh PROGRAM: runs the commands of README.md, of AUCTION.md, CLAIMS.md, MATCHING.md and METHOD.md in docs, and of the manual page
+# exactly as they are written, each page in a new copy of this folder, with nothing on PATH but the system. Only `rt` is stood in for: `rt run` and
 # `rt try` run the program, and `rt ci` does nothing. It is no part of the gate, and wants sqlite3. The last line says how many passed and failed.
 set -u
 [ $# -eq 1 ] || { sed -n '2,4p' "$0"; exit 2; }
@@ -78,13 +78,16 @@ vickrey answer "$(sed -n 's/^auction //p' board)" other other-reply || [ $? = 8 
 END
 
 begin AUCTION
-page docs/AUCTION.md "$system" '21 ok, 0 FAILED' 'proved unsold' '12 ok, 0 FAILED' 'taken seat 3 position 1' < <(blocks docs/AUCTION.md)
+page docs/AUCTION.md "$system" 'joined auditors 3 bits 40' '24 ok, 0 FAILED' 'proved unsold' '12 ok, 0 FAILED' 'taken seat 3 position 1' < <(blocks docs/AUCTION.md)
 begin CLAIMS
 page docs/CLAIMS.md "$system" 'claim-sample uniform 1' 'inputs 10 lanes 8 wires 747 rows 56' accepted 'refused claim-reply-1 lane 2 row 41' \
   'refused turned public' < <(blocks docs/CLAIMS.md)
+begin MATCHING
+page docs/MATCHING.md "$system" 'claim-sample matching 2' 'inputs 32 lanes 8 wires 548 rows 88' accepted 'refused claim-reply-1 lane 1 row 64' \
+  'refused doubled public' < <(blocks docs/MATCHING.md)
 begin METHOD
-page docs/METHOD.md "$system" crates.svg < <(blocks docs/METHOD.md)
+page docs/METHOD.md "$system" coin.svg crates.svg < <(blocks docs/METHOD.md)
 begin manual
-page docs/vickrey.1 "$PWD/crates/vickrey/out:$system" answered accepted 'held seat 7' < <(examples docs/vickrey.1)
+page docs/vickrey.1 "$PWD/crates/vickrey/out:$system" answered accepted 'joined auditors 2 bits 2' 'held seat 7' < <(examples docs/vickrey.1)
 echo "$passed passed, $failed failed"
 [ "$failed" = 0 ]

@@ -41,7 +41,7 @@ holds() {
   fi
 }
 
-usage='usage: vickrey seal|announce|submit|prove|answer|show|verify|extract|confront|report|sample|ceremony|claim-verify|claim-extract|claim-sample'
+usage='usage: vickrey seal|announce|submit|prove|answer|show|verify|extract|confront|report|sample|ceremony|claim-verify|claim-extract|claim-sample|coin-part|coin-join|coin-board'
 page="see \`man vickrey\`"
 umask 022
 
@@ -77,7 +77,43 @@ verify 2 accepted
 extract lanes 8 same 10
 end' '' claim-sample uniform 1
 case_of 0 accepted '' claim-verify claim-board claim-challenge-2 claim-reply-2
-case_of 2 "$usage" "vickrey: word 1 behind the command's name has to be a kind of claims, which is uniform; $page" claim-sample vickrey 1
+case_of 2 "$usage" "vickrey: word 1 behind the command's name has to be a kind of claims, which is uniform or matching; $page" claim-sample vickrey 1
+case_of 0 'claim-sample matching 2
+inputs 32 lanes 8 wires 548 rows 88
+verify 1 accepted
+verify 2 accepted
+extract lanes 8 same 32
+end' '' claim-sample matching 2
+case_of 0 accepted '' claim-verify claim-board claim-challenge-1 claim-reply-1
+holds '594285 claim-board' wc -c claim-board
+sed '8s/2/1/' claim-board >public
+case_of 1 'refused public public' '' claim-verify public board reply-0
+
+share=$(printf '1%.0s' $(seq 64))
+case_of 0 'part 1 commit bc3a43ba7c3b92bbd5e2cc21fa9cf8b2e0d57b592157bae96b7f3e0645bd459c' '' coin-part $id 1 8 "$share" share
+holds '600' stat -c %a share
+{
+  printf 'vickrey-coin 1\nauction %s\nbits 8\nauditors 1\n' $id
+  sed 's/ commit / /' out
+  sed -n 's/^show /show 1 /p' share
+  echo end
+} >coin
+case_of 0 'joined auditors 1 bits 8' '' coin-join coin joint
+holds 'bits 11011110' sed -n 2p joint
+sed '/^show/s/0$/1/' coin >bent
+case_of 1 'refused bent part 1' '' coin-join bent none
+case_of 4 'malformed share line 1' '' coin-join share none
+case_of 5 'missing nothing' '' coin-join nothing none
+case_of 0 'derived bits 1' '' coin-board board derived
+holds '' cmp derived challenge-0
+case_of 1 'refused dear price' '' coin-board dear none
+case_of 4 'malformed claim line 1' '' coin-board claim none
+case_of 6 '' 'outside fault
+./coin: it may not be read or written here' coin-join coin ./coin
+case_of 2 "$usage" "vickrey: word 2 behind the command's name has to be an auditor's number, from 1 to 16 with no 0 in front; $page" \
+  coin-part $id 17 8 "$share" none
+case_of 2 "$usage" "vickrey: word 2 behind the command's name has to be the name of a file, of 1 to 255 bytes, and not the word before it; $page" \
+  coin-join coin coin
 case_of 2 "$usage" "vickrey: the first word names no command; $page" frobnicate
 case_of 2 "$usage" "vickrey: the first word names no command; $page"
 case_of 2 "$usage" "vickrey: this command has 3 or 4 words behind its name, and 2 are given; $page" announce $id 4

@@ -13,7 +13,7 @@ PAGE = os.path.join(TOP, "docs", "TESTING.md")
 HEADING, NEXT = "## In the gate\n", "\n## Outside of the gate\n"
 TEST = re.compile(r"^\s*#\[test\]", re.MULTILINE)
 COMMANDS = ("seal announce submit prove answer show verify extract confront report sample ceremony "
-            "claim-verify claim-extract claim-sample").split()
+            "claim-verify claim-extract claim-sample coin-part coin-join coin-board").split()
 
 
 def below(*parts):
@@ -71,14 +71,15 @@ def rows():
     yield "Tests (`#[test]`)", by_crate(tests), "`rt test` in the crate"
     parts = cases("vectors", streams="streams of words", lists="lists of draws", wires="wires", fours="times four wires", bids="outcomes",
                   sales="sales", rows="plans with their rows", units="sales of several equal units",
-                  views="views of wires", lanes="views of auctions")
+                  tables="tables of ranks with all stable matchings", eithers="relations of matchings", shares="shares of auditors",
+                  coins="lists of their bits", views="views of wires", lanes="views of auctions")
     runs, houses = data("conformance", "runs"), data("conformance", "houses")
     wholes = (f"{cases('conformance', files='seals and secrets')}, {len(runs)} runs of the program ({by_command(runs)}), "
               f"{len(houses)} houses with {sum(len(house) - 2 for house in houses)} commands")
     for program, what in (("vectors", parts), ("conformance", wholes)):
         yield (f"`{program}`, a program that replays what independent implementations worked out",
                f"{what}; {lines(program, 'stdout')} lines", "`rt run` in the crate")
-    for program, what in (("trials", "whole auctions, cut files, a fault at each call"), ("far_trials", "the largest files, and damage at far places")):
+    for program, what in (("trials", "whole auctions and claims, matchings, cut files, a fault at each call"), ("far_trials", "the largest files, and damage at far places")):
         yield f"`{program}`, a program that tries {what}", f"{lines(program, 'stdout')} lines", "`rt run` in the crate"
     with open(os.path.join(TOP, "crates", "vickrey", "args"), encoding="utf-8") as file:
         words = " ".join(file.read().split())

@@ -1,8 +1,8 @@
 #!/usr/bin/env bash
 # demo/auction.sh PROGRAM: a whole auction with a reserve in a new folder, every command shown before it runs. Three bidders
 # seal and publish their seals, and then hand in their secrets; the auctioneer proves the outcome and publishes the board's
-# digest, a challenge is drawn in view and answered, and demo/audit.sh checks all. It takes a few seconds, and wants python3.
-# The status is the audit's.
+# digest, three auditors draw a challenge together, which is answered, and demo/audit.sh checks all. It takes a few seconds, and
+# wants python3. The status is the audit's.
 set -u
 [ $# -eq 1 ] || { sed -n '2,5p' "$0"; exit 2; }
 program=$(realpath "$1")
@@ -16,13 +16,15 @@ reserve=5
 
 say() { printf '\n# %s\n' "$*"; }
 
-# vickrey STATUS WORD..: shows a command, runs it, and stops the demonstration where it ends with another status
+# vickrey STATUS WORD..: shows a command, runs it, and stops the demonstration where it ends with another status. What it printed
+# stands in the file `said` then
 vickrey() {
   local status=$1 got
   shift
   echo "\$ vickrey $*"
-  "$program" "$@"
+  "$program" "$@" >said
   got=$?
+  cat said
   [ "$got" = "$status" ] || { echo "demo: status $got, not $status; the files are in $folder"; exit 1; }
 }
 
@@ -62,13 +64,30 @@ shown 'chmod a+r board'
 shown 'sha256sum board'
 digest=$(sha256sum board | cut -d ' ' -f 1)
 
-say 'Only now is the challenge drawn: one random number for each lane, odd for 1 and even for 0.'
-shown "od -An -v -tu1 -w1 -N$lanes /dev/urandom >drawn"
-shown "tr -s ' \n' ' ' <drawn"
-bits=$(awk '{ printf "%d", $1 % 2 }' drawn)
-echo
-write_challenge challenge "$bits"
+say 'Only now is the challenge drawn, by three auditors. Each draws a share, which nobody else sees yet, and publishes its part, a digest of it.'
+for auditor in 1 2 3; do
+  vickrey 0 coin-part "$id" $auditor $lanes "$(seed)" share-$auditor
+  sed 's/ commit / /' said >>parts
+done
+
+say 'All three parts are public, and everybody writes them down. Only now does each auditor show its share. Parts and shares are the coin.'
+shown 'chmod a+r parts share-1 share-2 share-3'
+{
+  printf 'vickrey-coin 1\nauction %s\nbits %s\nauditors 3\n' "$id" $lanes
+  cat parts
+  for auditor in 1 2 3; do sed -n "s/^show /show $auditor /p" share-$auditor; done
+  echo end
+} >coin
+shown 'cat coin'
+
+say 'In each lane the challenge has 1 where an odd number of shares has 1. One auditor who drew at random, and told nobody, is enough.'
+vickrey 0 coin-join coin challenge
 shown 'cat challenge'
+bits=$(sed -n 's/^bits //p' challenge)
+
+say 'An auditor who shows another share than it fixed by its part is found out: status 1.'
+shown "sed '/^show 3 /{s/0\$/x/;s/1\$/0/;s/x\$/1/}' coin >other-coin"
+vickrey 1 coin-join other-coin other-challenge
 
 say 'The auctioneer answers it. This reply is all that is ever opened, and anybody can check it.'
 vickrey 0 answer "$id" challenge reply
@@ -85,13 +104,14 @@ shown "$program extract sample-board sample-challenge-1 sample-reply-1 sample-ch
 shown "head -n 3 revealed | cut -d ' ' -f 1-6"
 
 say 'The whole audit, with a second checker and what no checker of a reply can see. Here seat 9 makes it, with its own secret.'
-shown "$(printf '%q --reserve %s %q' "$audit" $reserve "$program") $digest $id $width $lanes 7,9,300 $bits secret-9"
+shown "$(printf '%q --reserve %s --parts parts %q' "$audit" $reserve "$program") $digest $id $width $lanes 7,9,300 $bits secret-9"
 audited=$?
 
 say "Look at the files, in $folder:"
 cat <<END
 board               what the auctioneer publishes: commitments and posted numbers
-challenge, reply    the challenge, and all that is ever opened
+coin, challenge     the auditors' parts and shares, and the challenge that these come to
+reply               all that is ever opened
 secret-7, seal-7    a bidder's secret, with its bid, and the seal that stands on the board
 house.sqlite        what the auctioneer keeps; it has all bids
 revealed            the bids of the sample, each with its two openings

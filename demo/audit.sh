@@ -1,8 +1,10 @@
 #!/usr/bin/env bash
-# demo/audit.sh [--reserve RESERVE] PROGRAM DIGEST ID WIDTH LANES SEATS BITS [SECRET]: the whole audit of an auction, in the
-# folder that has its `board`, `challenge` and `reply`, and each public seal as `seal-SEAT`. It says `ok` or `FAILED` line by
-# line, and ends with status 0 only if all is ok. It wants python3, for the second checker.
+# demo/audit.sh [--reserve RESERVE] [--parts PARTS] PROGRAM DIGEST ID WIDTH LANES SEATS BITS [SECRET]: the whole audit of an
+# auction, in the folder that has its `board`, `challenge` and `reply`, and each public seal as `seal-SEAT`. It says `ok` or
+# `FAILED` line by line, and ends with status 0 only if all is ok. It wants python3, for the second checker.
 #   RESERVE           as it was announced; without it none was, and a board that names one FAILED
+#   PARTS             where auditors drew the challenge: a file of their parts, as they were public before the first share was
+#                     shown, line by line as in the coin, which is the file `coin`
 #   PROGRAM           the program, by its path or as a command
 #   DIGEST            of the board: what `sha256sum board` said when the board became public, before the draw
 #   ID, WIDTH, LANES  as they were announced
@@ -13,7 +15,7 @@ set -u
 checker=$(realpath "$(dirname "$0")/../checker/check.py")
 
 usage() {
-  sed -n '2,11p' "$0" >&2
+  sed -n '2,13p' "$0" >&2
   echo "audit: $*" >&2
   exit 2
 }
@@ -21,12 +23,25 @@ usage() {
 # word NAME FORM TEXT: ends where a word has another form
 word() { [[ $3 =~ ^($2)$ ]] || usage "$1 isn't of its form"; }
 
-reserve=
-if [ "${1:-}" = --reserve ]; then
-  word RESERVE '0|[1-9][0-9]{0,12}' "${2:-}"
-  reserve=$2
+# is_parts FILE: whether it has a part of each auditor in order, and no more
+is_parts() {
+  [ -f "$1" ] && awk 'NF != 3 || $1 != "part" || $2 != NR || length($3) != 64 || $3 ~ /[^0-9a-f]/ { odd = 1 }
+    END { exit odd || NR < 1 || NR > 16 }' "$1"
+}
+
+reserve='' parts=''
+while [[ ${1:-} == --* ]]; do
+  case $1 in
+    --reserve)
+      word RESERVE '0|[1-9][0-9]{0,12}' "${2:-}"
+      reserve=$2 ;;
+    --parts)
+      is_parts "${2:-}" || usage "PARTS is no file of parts"
+      parts=$2 ;;
+    *) usage "no option '$1'" ;;
+  esac
   shift 2
-fi
+done
 [ $# -eq 7 ] || [ $# -eq 8 ] || usage "$# words"
 program=$(command -v -- "$1") || usage "no program '$1'"
 word DIGEST '[0-9a-f]{64}' "$2"
@@ -38,6 +53,8 @@ word BITS '[01]{1,64}' "$7"
 digest=$2 id=$3 width=$4 lanes=$5 seats=$6 bits=$7
 passed=0
 failed=0
+scratch=$(mktemp -d)
+trap 'rm -rf "$scratch"' EXIT
 
 ok() { passed=$((passed + 1)); echo "ok      $*"; }
 wrong() { failed=$((failed + 1)); echo "FAILED  $*"; }
@@ -93,6 +110,29 @@ accepts() {
   fi
 }
 
+# coin_parts: what a coin of the public parts has before its shares
+coin_parts() {
+  printf 'vickrey-coin 1\nauction %s\nbits %s\nauditors %d\n' "$id" "$lanes" "$(wc -l <"$parts")"
+  cat "$parts"
+}
+
+# joins NAME COMMAND..: whether this checker joins the coin's shares to the challenge
+joins() {
+  local name=$1 said status
+  shift
+  rm -f "$scratch/joined"
+  said=$("$@" coin-join coin "$scratch/joined" 2>&1 | LC_ALL=C tr -c '[:print:]\n' '?'; exit "${PIPESTATUS[0]}")
+  status=$?
+  said=$(head -n 1 <<<"$said")
+  if [ $status -ne 0 ]; then
+    wrong "$name joins the shares to the challenge: it says '${said:0:120}', status $status"
+  elif cmp -s challenge "$scratch/joined"; then
+    ok "$name joins the shares to the challenge"
+  else
+    wrong "$name joins the shares to the challenge: they come to other bits"
+  fi
+}
+
 # own_bid SECRET: whether the outcome can be right for this bid. With a reserve the winner stands one line further down
 own_bid() {
   local seat bid winner price line=$((reserved ? 7 : 6))
@@ -141,6 +181,15 @@ if [ -f challenge ] && cmp -s challenge <(printf 'vickrey-challenge 1\nbits %s\n
   ok 'the challenge is the one that the challenger published'
 else
   wrong "the challenge is the one that the challenger published: the file 'challenge' has other bits, or isn't there"
+fi
+if [ -n "$parts" ]; then
+  if cmp -s <(coin_parts) <(start coin | sed '/^show /,$d'); then
+    ok "the coin has the parts that were public, of $(wc -l <"$parts") auditors"
+  else
+    wrong 'the coin has the parts that were public: it has others, or another head'
+  fi
+  joins 'the program' "$program"
+  joins 'check.py' python3 "$checker"
 fi
 accepts 'the program' "$program"
 accepts 'check.py' python3 "$checker"

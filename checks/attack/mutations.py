@@ -165,10 +165,15 @@ class Subject:
 
     def __init__(self, words, files, forged=None):
         self.words, self.files, self.forged = words, files, forged
-        self.named = list(files) if words[0] == "ceremony" else words[1:]
+        self.is_writing = words[0] == "ceremony" or words[0].startswith("coin-")
+        self.named = list(files) if words[0] == "ceremony" else [name for name in words[1:] if name in files]
 
     def expected(self, files):
-        return reference.ceremony(files, self.words[1]) if self.words[0] == "ceremony" else reference.said(files, self.words)
+        """The status, the text, and the file that a command on a coin or a board writes."""
+        if self.words[0] == "ceremony":
+            return *reference.ceremony(files, self.words[1]), None
+        after = dict(files)
+        return *reference.said(after, self.words), after.get(self.words[-1]) if self.is_writing else None
 
     def changed(self, draw):
         """Files of which one or two are changed, or one is missing."""
@@ -212,6 +217,14 @@ class Bench:
             if name not in before:
                 os.remove(os.path.join(self.folder, name))
 
+    def written(self, name):
+        """What stands in a file now, or None where it isn't there."""
+        path = os.path.join(self.folder, name)
+        if not os.path.exists(path):
+            return None
+        with open(path, "rb") as file:
+            return file.read()
+
     def run(self, words):
         """The status, the text and the error of the program in this folder."""
         flags = os.O_WRONLY | os.O_CREAT | os.O_TRUNC
@@ -242,13 +255,14 @@ def run_batch(program, folder, subjects, seed, count):
         subject = draw.choice(subjects)
         files = subject.changed(draw)
         bench.lay(files)
-        wanted, text = subject.expected(files)
+        wanted, text, made = subject.expected(files)
         status, printed, error = bench.run(subject.words)
+        written = bench.written(subject.words[-1]) if subject.words[0].startswith("coin-") else None
         statuses[status] += 1
-        if (status, printed) != (wanted, text.encode()) or not is_said(wanted, error):
-            said = f"{status} {printed[-200:]!r} {error!r}, not {wanted} {text[-200:]!r}"
+        if (status, printed, written) != (wanted, text.encode(), made) or not is_said(wanted, error):
+            said = f"{status} {printed[-200:]!r} {error!r} {written!r}, not {wanted} {text[-200:]!r} {made!r}"
             differing.append((f"{' '.join(subject.words)}, file {number} of the seed {seed!r}: {said}", files))
-        if subject.words[0] == "ceremony":
+        if subject.is_writing:
             bench.forget_written(files)
             bench.there = {}
     os.chdir(back)

@@ -2,7 +2,8 @@
 program, and reads whole files with regular expressions, slowly.
 
 A file is bytes, or None where nothing is there. `said` takes a dictionary of files and the words of a command that reads, and
-answers (status, text); `ceremony` takes the name of a script.
+answers (status, text); what a command on a coin or a board writes is put into that dictionary. `ceremony` takes the name of a
+script.
 """
 import hashlib
 import re
@@ -107,10 +108,17 @@ class Circuit:
         self.in_range([(1, self.seals + winner)], -reserve)
         return self
 
-    def in_range(self, form, constant):
-        first = len(self.kinds)
-        self.kinds += [2**i for i in range(self.width)]
-        self.rows.append((form + [(-1, first + i) for i in range(self.width)], constant))
+    def in_range(self, form, constant, more=0):
+        first, pairs = len(self.kinds), range(self.width + more)
+        self.kinds += [2**i for i in pairs]
+        self.rows.append((form + [(-1, first + i) for i in pairs], constant))
+
+    def no_block(self, his, his_own, hers, hers_own):
+        """Two rows, of which a selector lets one be."""
+        selector, top = len(self.kinds), 2**self.width
+        self.kinds.append(1)
+        self.in_range([(1, self.seals + his), (-1, self.seals + his_own), (-top, selector)], top, 1)
+        self.in_range([(1, self.seals + hers), (-1, self.seals + hers_own), (top, selector)], 0, 1)
 
     def select(self, losers, price):
         first, most = len(self.kinds), 2**self.width - 1
@@ -168,6 +176,7 @@ class ClaimFront:
     """A claim file before its first lane: what it says, and the seats and seals of its inputs as on a board."""
 
     auction: str
+    kind: str
     lanes: int
     seals: int
     numbers: list
@@ -176,16 +185,38 @@ class ClaimFront:
 
     def refusal(self):
         """The word for what can't stand in this head, or None."""
+        may_be = self.is_sale() if self.kind == "uniform" else self.is_matching()
+        return None if may_be else "public"
+
+    def is_sale(self):
         if self.seals > 64 or len(self.numbers) < 3:
-            return "public"
+            return False
         width, price, *winners = self.numbers
         may_be = 1 <= width <= 40 and price < 2**width and winners == sorted(set(winners) & set(range(1, self.seals + 1)))
-        return None if may_be and (price == 0 or len(winners) < self.seals) else "public"
+        return may_be and (price == 0 or len(winners) < self.seals)
+
+    def is_matching(self):
+        width, *women = self.numbers
+        men = len(women)
+        return 1 <= width <= 16 and 1 <= men <= 16 and self.seals == 2 * men**2 and set(women) == set(range(1, men + 1))
 
     def circuit(self):
+        return self.sale() if self.kind == "uniform" else self.matching()
+
+    def sale(self):
         width, price, *winners = self.numbers
         circuit = Circuit(self.seals, width)
         return circuit.select(circuit.sold([winner - 1 for winner in winners], price), price)
+
+    def matching(self):
+        width, *women = self.numbers
+        men, circuit = len(women), Circuit(self.seals, width)
+        for man, own in enumerate(women, 1):
+            for woman in range(1, men + 1):
+                if woman != own:
+                    his, hers = men * (man - 1) - 1, men * (men + woman - 1) - 1
+                    circuit.no_block(his + woman, his + own, hers + man, hers + women.index(woman) + 1)
+        return circuit
 
 
 def text_of(groups):
@@ -220,10 +251,10 @@ def with_seals(lines, front):
 def read_claim_front(lines):
     lines.take(rb"vickrey-claim 1")
     (auction,) = text_of(lines.take(rb"auction " + DIGITS_16))
-    lines.take(rb"kind uniform")
+    (kind,) = text_of(lines.take(rb"kind (uniform|matching)"))
     lanes, inputs = lines.whole(b"lanes", 1, 64), lines.whole(b"inputs", 1, 512)
     numbers = [lines.whole(b"n", 0, 2**64 - 1) for _ in range(lines.whole(b"numbers", 1, 128))]
-    return with_seals(lines, ClaimFront(auction, lanes, inputs, numbers))
+    return with_seals(lines, ClaimFront(auction, kind, lanes, inputs, numbers))
 
 
 def read_board_lane(lines, front, circuit, lane):
@@ -260,6 +291,40 @@ def read_challenge(data):
     (bits,) = lines.take(rb"bits ([01]{1,64})")
     lines.end()
     return bits.decode()
+
+
+def challenge_text(bits):
+    return f"vickrey-challenge 1\nbits {bits}\nend\n".encode()
+
+
+def read_coin(data):
+    """The auction, the parts, and of each share its key and bits."""
+    lines = Lines(data)
+    lines.take(rb"vickrey-coin 1")
+    (auction,) = text_of(lines.take(rb"auction " + DIGITS_16))
+    bits, auditors = lines.whole(b"bits", 1, 64), lines.whole(b"auditors", 1, 16)
+    said = lambda word, form: [text_of(lines.take(rb"%s %d " % (word, at) + form)) for at in range(1, auditors + 1)]
+    parts = [digest for (digest,) in said(b"part", DIGITS_32)]
+    shares = said(b"show", DIGITS_32 + rb" ([01]{%d})" % bits)
+    lines.end()
+    return auction, parts, shares
+
+
+def read_share(data):
+    """The auction, the auditor, the key and the bits."""
+    lines = Lines(data)
+    lines.take(rb"vickrey-share 1")
+    (auction,) = text_of(lines.take(rb"auction " + DIGITS_16))
+    auditor = lines.whole(b"auditor", 1, 16)
+    key, bits = text_of(lines.take(rb"show " + DIGITS_32 + rb" ([01]{1,64})"))
+    lines.end()
+    return auction, auditor, key, bits
+
+
+def share_digest(auction, auditor, key, bits):
+    place = bytes.fromhex(auction) + auditor.to_bytes(2, "big") + len(bits).to_bytes(2, "big")
+    message = b"VKJ1" + place + bytes.fromhex(key) + int(bits.ljust(64, "0"), 2).to_bytes(8, "big")
+    return hashlib.sha256(message).hexdigest()
 
 
 @dataclass
@@ -490,7 +555,25 @@ def claim_verify(files, *names):
 
 
 def claim_extract(files, *names):
-    return extraction(*judge_two(names, held(files, names), read_claim_front), "value", "kind uniform")
+    first, differing = judge_two(names, held(files, names), read_claim_front)
+    return extraction(first, differing, "value", f"kind {first.front.kind}")
+
+
+def coin_join(files, name, challenge):
+    auction, parts, shares = part(name, read_coin, held(files, [name])[0])
+    for auditor, (digest_of, share) in enumerate(zip(parts, shares), 1):
+        if share_digest(auction, auditor, *share) != digest_of:
+            raise Ends(1, f"refused {name} part {auditor}\n")
+    odd = lambda lane: lane.count("1") % 2
+    files[challenge] = challenge_text("".join(str(odd(lane)) for lane in zip(*(bits for _, bits in shares))))
+    return f"joined auditors {len(parts)} bits {len(shares[0][1])}\n"
+
+
+def coin_board(files, name, challenge):
+    front, _ = read_whole(files, name)
+    hashed = hashlib.sha256(b"VKD1" + files[name]).digest()
+    files[challenge] = challenge_text("".join(f"{byte:08b}" for byte in hashed)[: front.lanes])
+    return f"derived bits {front.lanes}\n"
 
 
 def confront(files, *names):
@@ -506,13 +589,19 @@ def confront(files, *names):
     return f"held seat {secret.seat}\n"
 
 
-def report(files, name):
+def read_whole(files, name):
+    """The front of a board, of which all lines are of their form, and its circuit."""
     lines = Lines(held(files, [name])[0])
     front = read_judged_front(name, lines)
     circuit = front.circuit()
     for lane in range(1, front.lanes + 1):
         part(name, read_board_lane, lines, front, circuit, lane)
     part(name, lines.end)
+    return front, circuit
+
+
+def report(files, name):
+    front, circuit = read_whole(files, name)
     said = [f"{number} {getattr(front, number)}" for number in ("auction", "width", "lanes", "seals")]
     said += [f"reserve {front.reserve}"] if front.version == 2 else []
     said += [sale_of(front), f"price {front.price}"] + [f"seat {seat}" for seat in front.seats]
@@ -522,7 +611,7 @@ def report(files, name):
 
 
 COMMANDS = {"verify": verify, "extract": extract, "confront": confront, "report": report}
-COMMANDS |= {"claim-verify": claim_verify, "claim-extract": claim_extract}
+COMMANDS |= {"claim-verify": claim_verify, "claim-extract": claim_extract, "coin-join": coin_join, "coin-board": coin_board}
 
 
 # ----------------------------------------------------------------------------------------------------------------------

@@ -32,9 +32,9 @@ def claim_of_the_smallest_board(board):
     return "".join(f"{line}\n" for line in head).encode() + board[board.index(b"seal ") :]
 
 
-def reading_scenarios(files, unsold):
+def reading_scenarios(files, unsold, couple):
     """The commands that write nothing, over the smallest board and the smallest claim file, and two of them over a board that
-    is unsold; what they say is the reference's."""
+    is unsold and over a matching of one couple; what they say is the reference's."""
     replies = ["challenge-0", "reply-0", "challenge-1", "reply-1"]
     table = [
         ("verify", files, ["verify", "board", *replies[:2]]),
@@ -45,6 +45,8 @@ def reading_scenarios(files, unsold):
         ("report, unsold", unsold, ["report", "board"]),
         ("claim-verify", files, ["claim-verify", "claim", *replies[:2]]),
         ("claim-extract", files, ["claim-extract", "claim", *replies]),
+        ("claim-verify, matching", couple, ["claim-verify", "claim", "challenge-1", "reply-1"]),
+        ("claim-extract, matching", couple, ["claim-extract", "claim", "challenge-1", "reply-1", "challenge-2", "reply-2"]),
     ]
     for name, held, words in table:
         status, text = reference.said(held, words)
@@ -67,6 +69,47 @@ def seal_scenario(made, name, lanes, files):
     text = f"sealed seat 7 lanes {lanes}\n".encode()
     assert ended == Ended(0, text, b""), ended
     return Scenario(name, words, files, [Step(text, written)])
+
+
+def share_scenario(made, name, auditor, lanes, files):
+    """An auditor's share of so many lanes, over a file that may be there already."""
+    words = ["coin-part", AUCTION, str(auditor), str(lanes), seed_of(auditor), "share"]
+    with Folder(made, {}) as folder:
+        ended = made.run(words, folder.path)
+        share = read(os.path.join(folder.path, "share"))
+    auction, number, key, bits = reference.read_share(share)
+    assert (auction, number, len(bits)) == (AUCTION, auditor, lanes), "another share"
+    text = f"part {auditor} commit {reference.share_digest(auction, auditor, key, bits)}\n".encode()
+    assert ended == Ended(0, text, b""), ended
+    return Scenario(name, words, files, [Step(text, [("share", share)])])
+
+
+def coin_of(made, auditors, lanes):
+    """The coin of so many auditors' shares."""
+    parts, shares = [], []
+    for auditor in range(1, auditors + 1):
+        (step,) = share_scenario(made, "coin-part", auditor, lanes, {}).steps
+        parts.append(step.text.decode().replace(" commit", "")[:-1])
+        shares.append(step.written[0][1].decode().split("\n")[3].replace("show", f"show {auditor}"))
+    head = ["vickrey-coin 1", f"auction {AUCTION}", f"bits {lanes}", f"auditors {auditors}"]
+    return "".join(f"{line}\n" for line in [*head, *parts, *shares, "end"]).encode()
+
+
+def challenge_scenarios(coin, board):
+    """The commands that make a challenge of a coin and of a board; what they say and write is the reference's."""
+    refused = coin.replace(b"auction 00", b"auction 10")  # whose parts are of another auction
+    old = b"an older challenge, which is longer than the new one is\n" * 3
+    table = [
+        ("coin-join", {"coin": coin}, ["coin-join", "coin", "challenge"]),
+        ("coin-join over a file", {"coin": coin, "challenge": old}, ["coin-join", "coin", "challenge"]),
+        ("coin-join, refused", {"coin": refused}, ["coin-join", "coin", "challenge"]),
+        ("coin-board", {"board": board}, ["coin-board", "board", "challenge"]),
+    ]
+    for name, files, words in table:
+        after = dict(files)
+        status, text = reference.said(after, words)
+        written = [("challenge", after["challenge"])] if status == 0 else []
+        yield Scenario(name, words, files, [Step(text.encode(), written)], status)
 
 
 def handed_in(made, bids, lanes):
@@ -164,12 +207,12 @@ def sample_scenario(made, words, prefix):
     return Scenario(words[0], words, {}, [Step(ended.text, written)])
 
 
-def claim_sample_scenario(made):
+def claim_sample_scenario(made, kind, inputs):
     """The sample of a claim, whose replies the reference accepts, and whose values it extracts."""
-    scenario = sample_scenario(made, ["claim-sample", "uniform", "1"], "claim")
+    scenario = sample_scenario(made, ["claim-sample", kind, "1"], "claim")
     files = dict(scenario.steps[0].written)
     status, text = reference.said(files, ["claim-extract", *files])
-    assert status == 0 and text.count(" same\n") == 10, text[-200:]
+    assert status == 0 and text.count(" same\n") == inputs, text[-200:]
     return scenario
 
 
@@ -180,6 +223,7 @@ class Attacked:
     files: dict
     boards: dict
     claims: dict
+    coins: dict
     reading: list
     writing: list
     large: list
@@ -190,7 +234,8 @@ class Attacked:
 
 
 def attacked(made):
-    files, made_boards = smallest_files(), published(made, BOARDS)
+    files, made_boards, made_claims = smallest_files(), published(made, BOARDS), published(made, CLAIMS)
+    coins = {f"{auditors} auditors, {lanes} bits": coin_of(made, auditors, lanes) for auditors, lanes in ((1, 1), (2, 3), (16, 64))}
     ceremony = ceremony_scenario(made, "ceremony", {7: 15, 9: 9}, 2)
     old = {"secret-7": b"an older secret\n", "seal-7": b"an older seal\n"}
     seals = [seal_scenario(made, "seal", 2, {}), seal_scenario(made, "seal over files", 2, old)]
@@ -201,10 +246,13 @@ def attacked(made):
     house = house_scenarios(made, ceremony)
     first = list(first_scenarios(house))
     house += [scenario for scenario in house_scenarios(made, reserved[1], ", unsold") if scenario.words[0] != "submit"]
-    reading = list(reading_scenarios(files, made_boards["unsold, one seal"]))
-    writing = [*seals, ceremony, *reserved, *house, *first]
-    samples = [sample_scenario(made, ["sample", "1"], "sample"), claim_sample_scenario(made)]
-    return Attacked(files, made_boards, published(made, CLAIMS), reading, writing, large, samples)
+    reading = list(reading_scenarios(files, made_boards["unsold, one seal"], made_claims["one couple"]))
+    shares = [share_scenario(made, "coin-part", 2, 3, {}), share_scenario(made, "coin-part over a file", 16, 64, {"share": b"an older share\n"})]
+    challenges = challenge_scenarios(coins["2 auditors, 3 bits"], made_boards["unsold, one seal"]["board"])
+    writing = [*seals, *shares, *challenges, ceremony, *reserved, *house, *first]
+    samples = [sample_scenario(made, ["sample", "1"], "sample")]
+    samples += [claim_sample_scenario(made, kind, inputs) for kind, inputs in (("uniform", 10), ("matching", 32))]
+    return Attacked(files, made_boards, made_claims, coins, reading, writing, large, samples)
 
 
 # Of each board the seals, the width, the lanes, a number whose bids have such a reserve, and what is said of the reserve.
@@ -219,11 +267,14 @@ BOARDS = {
 }
 
 
-# The same of claim files, and how many units are sold.
+# The same of claim files, and how many units are sold; or how many men and women there are.
 CLAIMS = {
     "one unit": ("3", "2", "2", "4", "units:1"),
     "two units": ("3", "2", "3", "5", "units:2"),
     "all win": ("2", "2", "1", "3", "units:2"),
+    "one couple": ("1", "2", "2", "4", "matching"),
+    "two couples": ("2", "2", "2", "5", "matching"),
+    "three couples": ("3", "2", "2", "6", "matching"),
 }
 
 

@@ -18,7 +18,7 @@ EVER = 2**62  # a number of calls that no run comes to
 OUTSIDE = "osrwlycCfn"  # the letters of faults.c of all calls but those for memory
 USAGE = (
     b"usage: vickrey seal|announce|submit|prove|answer|show|verify|extract|confront|report|sample|ceremony"
-    b"|claim-verify|claim-extract|claim-sample\n"
+    b"|claim-verify|claim-extract|claim-sample|coin-part|coin-join|coin-board\n"
 )
 
 HOUSE = {"announce", "submit", "prove", "answer", "show", "ceremony"}  # the commands that open the store
@@ -248,7 +248,7 @@ def spellings(attack):
     for label, lay, name in STORE_SPELLINGS:
         for words, files, later in store_writers(before, name):
             yield Spelled(f"{words[0]} writes to {label}", words, files, lay, later=later)
-            if words[0] != "seal":
+            if words[0] in HOUSE:
                 files = files | {"script": script(" ".join(words).replace("{folder}", "."))}
                 yield Spelled(f"a script's {words[0]} writes to {label}", ["ceremony", "script"], files, lay, later=later)
     seal = ["seal", AUCTION, "7", "15", "4", "2", seed_of(7)]
@@ -261,14 +261,19 @@ def spellings(attack):
         ("a folder and back", "mkdir there", ["one", "there/../one"], ["one"]),
     ):
         yield Spelled(f"seal writes to {label}", [*seal, *names], {}, lay, made)
-    answer = ["answer", AUCTION, "challenge"]
     _, files, later = store_writers(before, "")[1]
-    for label, lay, name in (
-        ("its challenge with a dot before it", ":", "./challenge"),
-        ("a link to its challenge", "ln -s challenge there", "there"),
-        ("a second name of its challenge", "ln challenge there", "there"),
+    coin = before["coin-join"] | before["coin-board"]
+    for words, held, then in (
+        (["answer", AUCTION, "challenge"], files, later),
+        (["coin-join", "coin"], coin, ()),
+        (["coin-board", "board"], coin, ()),
     ):
-        yield Spelled(f"answer writes to {label}", [*answer, name], files, lay, later=later)
+        for label, lay, name in (
+            ("its input with a dot before it", ":", f"./{words[-1]}"),
+            ("a link to its input", f"ln -s {words[-1]} there", "there"),
+            ("a second name of its input", f"ln {words[-1]} there", "there"),
+        ):
+            yield Spelled(f"{words[0]} writes to {label}", [*words, name], held, lay, later=then)
     files = before["prove"] | {"script": script(f"prove {AUCTION} {seed_of(1)} ./script")}
     yield Spelled("a script writes to itself", ["ceremony", "script"], files)
 
@@ -309,6 +314,9 @@ def store_writers(before, name):
         ([*prove, name], before["prove"] | other, (([*prove, "board"], *proved), *asked[1:], *accepted)),
         ([*answer, "challenge", name], before["answer"] | other, (*asked, *accepted)),
         ([*seal, name, "seal"], before["answer"], ((["show", AUCTION], *shown),)),
+        (["coin-part", AUCTION, "1", "2", seed_of(1), name], before["answer"], ((["show", AUCTION], *shown),)),
+        (["coin-join", "coin", name], before["answer"] | before["coin-join"], ((["show", AUCTION], *shown),)),
+        (["coin-board", "board", name], before["answer"], ((["show", AUCTION], *shown),)),
     ]
 
 
@@ -317,6 +325,9 @@ def sizes(attack):
     for scenario in attack.on.reading:
         for name in scenario.words[1:]:
             yield from sized(scenario.words, scenario.files, name, "")
+    for scenario in attack.on.writing:
+        if scenario.name in ("coin-join", "coin-board"):
+            yield from sized(scenario.words, scenario.files, scenario.words[1], "")
     announce, said = f"announce {AUCTION} 4 2", f"announced {AUCTION}\n"
     yield from sized(["ceremony", "script"], {"script": script(announce)}, "script", "")
     submit, answer = f"submit {AUCTION} seal-7 secret-7", f"answer {AUCTION} challenge reply"
@@ -353,7 +364,8 @@ def sizes_of_verify(words, files):
 
 def heads(attack):
     """Heads of boards of both versions, and of claim files: each of their lines at fault, and each sale, reserve and price, or
-    each number, that is near to what stands there or to a limit. What is said of them is the reference's."""
+    each number, that is near to what stands there or to a limit; and coins, each of whose lines is at fault. What is said of them
+    is the reference's."""
     cases = []
     for label, files in attack.on.boards.items():
         lines = files["board"].split(b"\n")
@@ -362,11 +374,17 @@ def heads(attack):
             cases += [(f"{label}, {change}", words, changed_files) for words in (["report", "board"], VERIFY)]
     for label, files in attack.on.claims.items():
         lines = files["claim"].split(b"\n")
-        for change, head in (*bad_heads(lines), *numbers_near(lines)):
+        for change, head in (*bad_heads(lines), *(women_near if lines[2] == b"kind matching" else numbers_near)(lines)):
             cases.append((f"{label}, {change}", CLAIM_VERIFY, files | {"claim": b"\n".join(head)}))
-    for label, words, files in attack.some(cases, 300 if attack.quick else 15000):
-        status, text = reference.said(files, words)
-        yield Told(f"{words[0]}, {label}", words, (status, text.encode()), files)
+    for label, coin in attack.on.coins.items():
+        lines = coin.split(b"\n")
+        for change, changed_lines in bad_heads(lines, len(lines) - 2):
+            cases.append((f"{label}, {change}", COIN_JOIN, {"coin": b"\n".join(changed_lines)}))
+    for label, words, files in attack.some(cases, 300 if attack.quick else 20000):
+        after = dict(files)
+        status, text = reference.said(after, words)
+        made = {name: 1 for name in after if name not in files}
+        yield Told(f"{words[0]}, {label}", words, (status, text.encode()), files, made=made)
 
 
 def reserves(attack):
@@ -386,11 +404,12 @@ def reserves(attack):
 
 VERIFY = ["verify", "board", "challenge-1", "reply-1"]
 CLAIM_VERIFY = ["claim-verify", "claim", *VERIFY[2:]]
+COIN_JOIN = ["coin-join", "coin", "challenge"]
 
 
-def bad_heads(lines):
-    """Boards or claim files, by their lines, of which one line of the head is at fault."""
-    for at in range(first_seal(lines)):
+def bad_heads(lines, count=None):
+    """Boards or claim files, by their lines, of which one line of the head is at fault; or of other files one of so many lines."""
+    for at in range(first_seal(lines) if count is None else count):
         line, behind = lines[at], lines[at + 1]
         word, _, rest = line.partition(b" ")
         ways = {
@@ -443,6 +462,24 @@ def numbers_near(lines):
         yield f"{count} inputs", [*lines[:4], b"inputs %d" % count, *lines[5:first], *seals, b"end", b""]
 
 
+def women_near(lines):
+    """Claim files of a matching, by their lines, with other numbers: each width, and each few women in any order, or as many as
+    the most; and with the numbers of inputs that are near to a limit."""
+    first = first_seal(lines)
+    width, *said = (int(line.split()[1]) for line in lines[6:first])
+    women = [places for count in range(4) for places in product(range(len(said) + 2), repeat=count)]
+    women += [range(1, 17), range(1, 18), range(1, 120), (*said[:-1], 2**64 - 1)]
+    for other in sorted({0, 1, width, width + 1, 16, 17, 2**64 - 1}):
+        for places in women:
+            numbers = [other, *places]
+            head = [b"numbers %d" % len(numbers)] + [b"n %d" % number for number in numbers]
+            yield f"numbers {', '.join(map(str, numbers))}", lines[:5] + head + lines[first:]
+    for count, men in ((511, 16), (512, 16), (512, 15), (450, 15)):
+        seals = [line for seat in range(1, count + 1) for line in (b"seal %d" % seat, *[SEALED] * int(lines[3].split()[1]))]
+        head = [b"inputs %d" % count, b"numbers %d" % (men + 1), *(b"n %d" % number for number in (width, *range(men, 0, -1)))]
+        yield f"{count} inputs of {men} men", [*lines[:4], *head, *seals, b"end", b""]
+
+
 SEALED = b"x " + b"0" * 64 + b" " + b"0" * 64
 
 
@@ -460,15 +497,16 @@ def changed(attack):
 
 
 def cuts(attack):
-    """Claim files, challenges and replies to them, cut at each byte. What is said of them is the reference's."""
+    """Claim files, challenges and replies to them, and coins, cut at each byte. What is said of them is the reference's."""
     whole = [(label, files, CLAIM_VERIFY) for label, files in attack.on.claims.items()]
     whole.append(("the smallest", attack.on.files, ["claim-verify", "claim", "challenge-0", "reply-0"]))
-    cases = [(label, files, words, name, kept) for label, files, words in whole for name in words[1:]
+    whole += [(label, {"coin": coin}, COIN_JOIN) for label, coin in attack.on.coins.items()]
+    cases = [(label, files, words, name, kept) for label, files, words in whole for name in words[1:] if name in files
              for kept in range(len(files[name]))]
     for label, files, words, name, kept in attack.some(cases, 300 if attack.quick else 10000):
         files = files | {name: files[name][:kept]}
         status, text = reference.said(files, words)
-        yield Told(f"claim-verify, {label}, {name} cut after {kept} bytes", words, (status, text.encode()), files)
+        yield Told(f"{words[0]}, {label}, {name} cut after {kept} bytes", words, (status, text.encode()), files)
 
 
 def changed_subjects(attack):
@@ -486,6 +524,10 @@ def changed_subjects(attack):
         subjects.append(mutations.Subject(["claim-extract", "claim", *names], claim, ("claim", names[3])))
     words = attack.on.reading[2].words
     subjects.append(mutations.Subject(words, smallest))
+    board = {"board": attack.on.boards["at the reserve"]["board"]}
+    for coin in attack.on.coins.values():
+        subjects.append(mutations.Subject(COIN_JOIN, board | {"coin": coin}))
+        subjects.append(mutations.Subject(["coin-board", "board", "challenge"], board | {"coin": coin}))
     scripts = [scenario for scenario in attack.on.writing if scenario.words[0] == "ceremony"]
     return subjects + [mutations.Subject(scenario.words, scenario.files) for scenario in scripts]
 
