@@ -1,11 +1,11 @@
 #!/usr/bin/env python3
-"""figures.py PROGRAM [--check]: draws the figures of docs/METHOD.md from one worked auction, and those of docs/ARCHITECTURE.md and
-docs/AUCTION.md.
+"""figures.py PROGRAM [--check]: draws the figures of docs/METHOD.md from one worked auction and one coin, and those of
+docs/ARCHITECTURE.md and docs/AUCTION.md.
 
-The program makes the auction's files and the replies to the two challenges 01 and 10, accepts both, and extracts the bids;
-every number in the figures of the method comes from these files. With --check nothing is written, and it is an error if a figure that
-stands here differs from what would be drawn, or if docs/FORMATS.md hasn't the script of this auction, what it prints, a seal, a secret
-and the digests of its files among its worked values.
+The program makes the auction's files and the replies to the two challenges 01 and 10, accepts both, and extracts the bids; it draws
+the shares of three auditors, and joins them. Every number in the figures of the method comes from these files. With --check nothing is
+written, and it is an error if a figure that stands here differs from what would be drawn, or if docs/FORMATS.md hasn't the script of
+this auction, what it prints, a seal, a secret and the digests of its files among its worked values, and a share and that coin.
 """
 import hashlib
 import os
@@ -20,6 +20,8 @@ WIDTH, LANES = 4, 2
 BIDDERS = [(7, 13, "77" * 32), (9, 9, "99" * 32), (300, 4, "33" * 32)]
 HOUSE_SEED = "aa" * 32
 CHALLENGES = ("01", "10")
+AUDITOR_SEEDS = ["11" * 32, "22" * 32, "33" * 32]
+COIN_BITS = 8
 HERE = os.path.dirname(os.path.abspath(__file__))
 STYLE = """
 text { font: 14px system-ui, sans-serif; fill: #222; }
@@ -70,14 +72,38 @@ def answer(program, folder, bits):
     assert run(program, folder, "verify", "board", "challenge", "reply") == "accepted\n"
 
 
+class Coin:
+    """The parts and shares of three auditors, and the challenge that these come to."""
+
+    def __init__(self, program, folder):
+        self.parts, self.shares = [], []
+        for auditor, seed in enumerate(AUDITOR_SEEDS, 1):
+            printed = run(program, folder, "coin-part", ID, str(auditor), str(COIN_BITS), seed, f"share-{auditor}")
+            self.parts.append(printed.split()[3])
+            self.shares.append(read_fields(folder, f"share-{auditor}")[3][1:])
+        lines = ["vickrey-coin 1", f"auction {ID}", f"bits {COIN_BITS}", f"auditors {len(self.parts)}"]
+        lines += [f"part {auditor} {part}" for auditor, part in enumerate(self.parts, 1)]
+        lines += [f"show {auditor} {' '.join(share)}" for auditor, share in enumerate(self.shares, 1)]
+        with open(os.path.join(folder, "coin"), "w", encoding="ascii") as file:
+            file.writelines(f"{line}\n" for line in [*lines, "end"])
+        run(program, folder, "coin-join", "coin", "joint")
+        self.joint = read_fields(folder, "joint")[1][1]
+        assert self.joint == joined(bits for _, bits in self.shares)
+
+
+def joined(shares):
+    """In each place 1 where an odd number of shares has 1."""
+    return "".join(str(column.count("1") % 2) for column in zip(*shares))
+
+
 def is_worked_out(top):
-    """Whether the worked values of docs/FORMATS.md are those of the auction that was answered for 01."""
+    """Whether the worked values of docs/FORMATS.md are those of the auction that was answered for 01, and of the coin."""
     with open(os.path.join(HERE, "FORMATS.md"), encoding="utf-8") as file:
         page = file.read()
     folder = os.path.join(top, "01")
     texts = []
-    for name in ("day", "printed", "secret-7", "seal-7"):
-        with open(os.path.join(folder, name), encoding="ascii") as file:
+    for name in ("01/day", "01/printed", "01/secret-7", "01/seal-7", "share-1", "coin"):
+        with open(os.path.join(top, name), encoding="ascii") as file:
             texts.append("".join(f"    {line}\n" for line in file.read().splitlines()))
     for name in ("board", "reply"):
         with open(os.path.join(folder, name), "rb") as file:
@@ -104,6 +130,7 @@ class Auction:
         for j, (_, bid, _) in enumerate(BIDDERS):
             assert int(self.extracted[j][5]) == bid == (self.first_half(j) + self.second_half(j)) % M
         assert self.row_value([(1, 0), (-1, 3)]) == 0 and len(self.posted) == LANES * self.rows
+        self.coin = Coin(program, top)
         self.is_worked_out = is_worked_out(top)
 
     def first_half(self, wire):
@@ -270,21 +297,52 @@ def two_replies(auction):
     return figure
 
 
+def coin(auction):
+    drawn = auction.coin
+    *others, (_, own) = drawn.shares
+    theirs, zeros, ones = joined(bits for _, bits in others), "0" * COIN_BITS, "1" * COIN_BITS
+    assert joined([theirs, own]) == drawn.joint
+    figure = Figure("Three auditors draw a challenge", 780, 440)
+    for x, title in ((60, "auditor"), (230, "its part, public first"), (470, "its share, shown then")):
+        figure.text(x, 24, title, "m b")
+    for index, (part, (_, bits)) in enumerate(zip(drawn.parts, drawn.shares)):
+        y = 40 + 52 * index
+        figure.text(60, y + 25, f"{index + 1}", "m b")
+        figure.box(120, y, 220, 40, [(short(part), "n")], "shut")
+        figure.arrow((340, y + 20), (378, y + 20))
+        figure.box(380, y, 180, 40, [(" ".join(bits), "n")], "open")
+    figure.text(580, 66, "both work for the auctioneer:", "s")
+    figure.text(580, 86, f"together {theirs}", "n")
+    figure.text(580, 168, "this one is honest", "s")
+    figure.arrow((470, 184), (470, 208))
+    figure.box(380, 210, 180, 40, [(" ".join(drawn.joint), "n b")])
+    figure.text(60, 235, "the challenge: 1 where an odd number has 1", "s")
+    figure.text(8, 286, "Who knows the first two shares beforehand knows nothing of the challenge: for each there is one share of auditor 3.", "s")
+    for index, challenge in enumerate((drawn.joint, zeros, ones)):
+        y = 302 + 38 * index
+        figure.box(120, y, 220, 32, [(f"share 3: {joined([theirs, challenge])}", "n")], "open" if index == 0 else "shut")
+        figure.arrow((340, y + 16), (378, y + 16))
+        figure.box(380, y, 180, 32, [(f"challenge {challenge}", "n")])
+    figure.text(580, 322, "as it was drawn", "s")
+    figure.text(8, 432, f"{2**COIN_BITS} shares that auditor 3 may have drawn, and {2**COIN_BITS} challenges: each comes from one.", "s")
+    return figure
+
+
 def crates(_auction):
     """The crates, each box on those to which its arrows point. It has no number of the auction."""
     figure = Figure("The crates", 780, 560)
     boxes = {
         "app": (20, 12, 740, 44, "the program and its top call", "vickrey, vk_program, vk_app"),
-        "audit": (270, 80, 240, 44, "the auditor's commands", "vk_audit, vk_claims"),
+        "audit": (270, 80, 240, 62, "the auditor's commands", "vk_audit, vk_claims,|vk_coins"),
         "office": (530, 80, 230, 62, "the auctioneer's commands", "vk_auctioneer, vk_ceremony,|vk_sample, vk_claim_sample"),
         "words": (20, 80, 230, 44, "words and effects", "vk_words, vk_effect"),
-        "forms": (20, 250, 230, 62, "forms of files", "vk_board, vk_reply,|vk_seal"),
+        "forms": (20, 250, 230, 62, "forms of files", "vk_board, vk_reply,|vk_seal, vk_coin"),
         "lines": (20, 345, 230, 44, "lines and tokens", "vk_lines"),
         "files": (20, 420, 230, 44, "files and output", "vk_io, vk_files"),
         "bids": (270, 160, 240, 62, "two replies; claims; reports", "vk_bids, vk_extractor,|vk_claim, vk_report"),
         "verdict": (270, 255, 240, 44, "verdict", "vk_verifier"),
         "lane": (270, 330, 115, 44, "lane", "vk_row"),
-        "circuit": (395, 324, 115, 80, "circuits", "vk_vickrey,|vk_uniform,|vk_range"),
+        "circuit": (395, 312, 115, 98, "circuits", "vk_vickrey,|vk_uniform,|vk_matching,|vk_range"),
         "wire": (270, 420, 240, 44, "wire; plan", "vk_wire; vk_plan"),
         "house": (530, 175, 230, 62, "house", "vk_house, vk_honest,|vk_job, vk_views"),
         "keeper": (640, 270, 120, 80, "keeper", "vk_keeper,|vk_keeper_sql,|vk_store_laws"),
@@ -377,7 +435,7 @@ def main(words):
         sys.exit(__doc__)
     with tempfile.TemporaryDirectory() as top:
         auction = Auction(os.path.abspath(words[0]), top)
-    for draw in (halves, lane, pair, circuit, two_replies, crates, machine, who):
+    for draw in (halves, lane, pair, circuit, two_replies, coin, crates, machine, who):
         path = os.path.join(HERE, draw.__name__.replace("_", "-") + ".svg")
         drawn = draw(auction).svg()
         assert len(drawn) < 20000
