@@ -17,7 +17,7 @@ use Rattle.vk_verifier.specs.declared.answers.VErr.{VErr}
 use Rattle.vk_verifier.specs.declared.answers.VErr.TheVariants as unread
 use Rattle.vk_verifier.specs.Verdicts.{verdict_on}
 use Rattle.vk_bids.specs.declared.confrontation.ConfrontErr.{ConfrontErr}
-use Rattle.vk_bids.specs.declared.confrontation.ConfrontErr.TheVariants as unconfronted
+use Rattle.vk_bids.specs.declared.confrontation.ConfrontErr.TheVariants as confront_unread
 use Rattle.vk_bids.specs.declared.confrontation.Confrontation.{Confrontation}
 use Rattle.vk_bids.specs.declared.confrontation.Confrontation.TheVariants as confrontations
 use Rattle.vk_bids.specs.declared.extraction.Extraction.TheVariants as extractions
@@ -56,7 +56,7 @@ use Rattle.vk_coins.specs.Joining.{coin_deed, deed_by, joined_if}
 use Rattle.vk_reply.specs.declared.challenge.Challenge.{Challenge}
 use Rattle.vk_audit.specs.Audits.{AuditWords, audit_said}
 use Rattle.vk_audit.specs.Audits as audits
-use Rattle.vk_audit.specs.Confrontations.{confrontation_in, confrontation_said, unconfronted_said}
+use Rattle.vk_audit.specs.Confrontations.{confrontation_in, confrontation_said, confront_unread_said}
 use Rattle.vk_audit.specs.Extractions.{extraction_said}
 use Rattle.vk_audit.specs.Reports.{unreported_said}
 use Rattle.vk_audit.specs.Verdicts.{answer_said, judged_said, unread_said, verified_words}
@@ -129,10 +129,10 @@ confronted names (confrontations.Mismatch mismatch) = refl
 confronted names (confrontations.Clash two) = refl
 confronted names (confrontations.Held seat) = refl
 
-unconfronted_files : (names : ConfrontWords) (fault : ConfrontErr) → SaysOther (unconfronted_said names fault)
-unconfronted_files names (unconfronted.Unread fault) = unread_files names.replies fault
-unconfronted_files names unconfronted.MissingSecret = refl
-unconfronted_files names unconfronted.TooLongSecret = refl
+unconfronted_files : (names : ConfrontWords) (fault : ConfrontErr) → SaysOther (confront_unread_said names fault)
+unconfronted_files names (confront_unread.Unread fault) = unread_files names.replies fault
+unconfronted_files names confront_unread.MissingSecret = refl
+unconfronted_files names confront_unread.TooLongSecret = refl
 
 unreported_file : (board : List ℕ) (fault : ReportErr) → SaysOther (unreported_said board fault)
 unreported_file board unreported.Missing = refl

@@ -26,7 +26,7 @@ use Rattle.vk_ceremony.specs.Runs.{asked_in, orders_in}
 -- ---- one command
 
 -- it asks the house this: it keeps the ledger of the house's step, and says its reply
-pub record IsStep (act : HouseAct) (command : HouseCommand) : Type 0 where
+pub record IsHouseStep (act : HouseAct) (command : HouseCommand) : Type 0 where
   pub kept : act.kept ≡ (house_step act.ledger command).1
   pub said : act.said ≡ reply_said command (house_step act.ledger command).0
 
@@ -46,12 +46,12 @@ input_fault files order = None
 -- what it asks the house is a step of the house. Where it asks nothing, it says which of its files is at fault. Then, and where
 -- its status isn't 0, all is left as it was
 pub record KeepsToSteps (act : HouseAct) : Type 0 where
-  pub step : (command : HouseCommand) → asked_in act.files act.order ≡ Some command → IsStep act command
+  pub step : (command : HouseCommand) → asked_in act.files act.order ≡ Some command → IsHouseStep act command
   pub unasked : asked_in act.files act.order ≡ None → Some act.said ≡ input_fault act.files act.order
   pub refused : (asked_in act.files act.order ≡ None) ⊎ (act.said.status ≢ 0) → (act.left ≡ act.files) × (act.kept ≡ act.ledger)
 
 -- under the id it leaves an auction that is proved with the seed, and the file of that name is its board
-pub record LeavesBoard (id seed board : List ℕ) (act : HouseAct) : Type 0 where
+pub record ActLeavesBoard (id seed board : List ℕ) (act : HouseAct) : Type 0 where
   pub auction : Auction
   pub stands : get act.kept id ≡ Some auction
   pub proved : IsProvedAuction auction
@@ -60,11 +60,11 @@ pub record LeavesBoard (id seed board : List ℕ) (act : HouseAct) : Type 0 wher
 
 -- so does each `prove` that is done with status 0
 abbrev pub PublishesBoard : HouseAct → Type 0
-PublishesBoard act = (id seed board : List ℕ) → act.order ≡ Prove id seed board → act.said.status ≡ 0 → LeavesBoard id seed board act
+PublishesBoard act = (id seed board : List ℕ) → act.order ≡ Prove id seed board → act.said.status ≡ 0 → ActLeavesBoard id seed board act
 
 -- under the id it leaves an auction that is proved and has answered the challenge of the named file. The file of the
 -- reply's name is its reply, which is accepted with its board and that challenge
-pub record LeavesReply (id challenge reply : List ℕ) (act : HouseAct) : Type 0 where
+pub record ActLeavesReply (id challenge reply : List ℕ) (act : HouseAct) : Type 0 where
   pub auction : Auction
   pub answered : Challenge
   pub stands : get act.kept id ≡ Some auction
@@ -76,7 +76,7 @@ pub record LeavesReply (id challenge reply : List ℕ) (act : HouseAct) : Type 0
 
 -- so does each `answer` that is done with status 0
 abbrev pub PublishesReply : HouseAct → Type 0
-PublishesReply act = (id challenge reply : List ℕ) → act.order ≡ Answer id challenge reply → act.said.status ≡ 0 → LeavesReply id challenge reply act
+PublishesReply act = (id challenge reply : List ℕ) → act.order ≡ Answer id challenge reply → act.said.status ≡ 0 → ActLeavesReply id challenge reply act
 
 -- ---- one run
 

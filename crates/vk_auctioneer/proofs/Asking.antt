@@ -9,7 +9,7 @@ use Rattle.vk_lines.specs.Gives.{Gives}
 use Rattle.vk_keeper.specs.Ledgers.{Ledger}
 use Rattle.vk_house.specs.declared.errors.HouseErr.{HouseErr}
 use Rattle.vk_house.specs.declared.errors.HouseErr.TheVariants.{KeeperFailed, NoMemory}
-use Rattle.vk_house.specs.Answers.{Calls}
+use Rattle.vk_house.specs.Answers.{MakesCall}
 use Rattle.vk_house.specs.Commands.{HouseCommand}
 use Rattle.vk_house.specs.Once.{KeepsAnswers}
 use Rattle.vk_house.specs.Replies.{HouseReply, Refused}
@@ -74,7 +74,7 @@ call_acts files_of command reply held now old new answer none call says left =
     (acts_here files_of command reply new held now (Some old) answer says left)
 
 -- a command that asked the house, and wrote the files of its reply
-pub asked_acts : (files_of : HouseReply → Writes) (command : HouseCommand) (reply : HouseReply) (held now : Option Files) (old new : Option Ledger) (answer : Result SaidValue OutsideErr) → ((refusal : HouseErr) → files_of (Refused refusal) ≡ []) → Calls command reply old new → Says command reply answer → Told (Leaves (files_of reply) answer) held now
+pub asked_acts : (files_of : HouseReply → Writes) (command : HouseCommand) (reply : HouseReply) (held now : Option Files) (old new : Option Ledger) (answer : Result SaidValue OutsideErr) → ((refusal : HouseErr) → files_of (Refused refusal) ≡ []) → MakesCall command reply old new → Says command reply answer → Told (Leaves (files_of reply) answer) held now
     → IfSome (on_ledger (λ kept. asked files_of kept command) old) (λ effect. Acts answer effect (stores held old) (stores now new))
 asked_acts files_of command reply held now None new answer none calls says left = tt
 asked_acts files_of command reply held now (Some old) None answer none calls says left = absurd calls
@@ -82,7 +82,7 @@ asked_acts files_of command reply held now (Some old) (Some new) answer none cal
     call_acts files_of command reply held now old new answer none calls says left
 
 -- no auction that is proved or answered is another one after a call
-pub calls_keep : (command : HouseCommand) (reply : HouseReply) (old new : Option Ledger) → Calls command reply old new → Told KeepsAnswers old new
+pub calls_keep : (command : HouseCommand) (reply : HouseReply) (old new : Option Ledger) → MakesCall command reply old new → Told KeepsAnswers old new
 calls_keep command reply None new calls = calls
 calls_keep command reply (Some old) None calls = absurd calls
 calls_keep command reply (Some old) (Some new) calls = call_keeps old new command reply calls

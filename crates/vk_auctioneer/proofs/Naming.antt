@@ -6,7 +6,7 @@ use Rattle.vk_residue.specs.Steps.{◌>>=◌}
 use Rattle.vk_io.specs.Files.{Files}
 use Rattle.vk_lines.specs.declared.errors.ReadErr.{ReadErr}
 use Rattle.vk_lines.specs.Gives.{Gives, Refuses}
-use Rattle.vk_lines.specs.Lines.{LinesValue, Reads, ReadsPart, Rest, rest_of}
+use Rattle.vk_lines.specs.Lines.{LinesValue, GivesReading, ReadsPart, Rest, rest_of}
 use Rattle.vk_seal.specs.declared.secret.Seal.{Seal}
 use Rattle.vk_seal.specs.declared.secret.Secret.{Secret}
 use Rattle.vk_seal.specs.Reading.{seal_at, secret_at}
@@ -30,7 +30,7 @@ IsBegun name lines files = begun_in name (get files name) ≡ Ok (rest_of lines 
 
 -- what is answered of a part that was read
 abbrev pub Tells : {X : Type 0} → List ℕ → Result X ReadErr → Result X Unread → Type 0
-Tells {X} name read answer = (rest : Rest) (expected : Result (X × Rest) ℕ) → Reads (λ x. x) read rest expected → Gives said_of_unread (λ x. x) answer (value_in name expected)
+Tells {X} name read answer = (rest : Rest) (expected : Result (X × Rest) ℕ) → GivesReading (λ x. x) read rest expected → Gives said_of_unread (λ x. x) answer (value_in name expected)
 
 -- what is told of all that is held is told of it later, where it is the same
 told_before : (P : Files → Type 0) (held now : Option Files) → now ≡ held → IfSome now P → IfSome held P

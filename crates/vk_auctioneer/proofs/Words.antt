@@ -15,7 +15,7 @@ use Rattle.vk_words.specs.declared.table.Verb.TheVariants as verbs
 use Rattle.vk_words.specs.Commands.{CommandWords, Seal, House, Verify, Extract, Confront, Report, Sample, Ceremony, ClaimVerify, ClaimExtract, ClaimSample, Coin, command_by, command_words, house_in, house_words, may_have}
 use Rattle.vk_words.specs.Claims.{kind_named}
 use Rattle.vk_words.specs.Coins.{coin_by}
-use Rattle.vk_words.specs.Names.{attempt_at, confront_in, extract_in, name_at, verify_in, word_at}
+use Rattle.vk_words.specs.Names.{attempt_at, confront_in, extract_in, name_at, verify_in, nth_word}
 use Rattle.vk_words.specs.Orders.{HouseWords, Announce, AnnounceReserve, Answer, announced_on, house_by, house_on, id_at, if_other, seal_in, seed_at}
 use Rattle.vk_words.specs.Scripts.{leaves_name, script_words}
 use Rattle.vk_words.specs.Table.{row_of}
@@ -63,25 +63,25 @@ reserve_below width reserve text most found =
 
 announced_each : (words : List (List ℕ)) (id : List ℕ) (width lanes : ℕ) → AreBytes 16 id → IsSize width lanes → IfSome (announced_on id width lanes words) AreHouseWords
 announced_each words id width lanes is size =
-    elim (nat_lt 4 (length words)) as (λ b. IfSome (if b then option_map (AnnounceReserve id width lanes) (decimal_of (2 ^ width - 1) (word_at words 4)) else Some (Announce id width lanes)) AreHouseWords) [
-      | true ↦ map_each AreHouseWords (decimal_of (2 ^ width - 1) (word_at words 4)) (AnnounceReserve id width lanes) (λ reserve found. (is, size, reserve_below width reserve (word_at words 4) size.width.most found))
+    elim (nat_lt 4 (length words)) as (λ b. IfSome (if b then option_map (AnnounceReserve id width lanes) (decimal_of (2 ^ width - 1) (nth_word words 4)) else Some (Announce id width lanes)) AreHouseWords) [
+      | true ↦ map_each AreHouseWords (decimal_of (2 ^ width - 1) (nth_word words 4)) (AnnounceReserve id width lanes) (λ reserve found. (is, size, reserve_below width reserve (nth_word words 4) size.width.most found))
       | false ↦ (is, size)
     ]
 
 house_each : (words : List (List ℕ)) (id : List ℕ) → AreBytes 16 id → (verb : Verb) → IfSome (house_on id verb words) AreHouseWords
 house_each words id is verbs.Announce =
-    then_each AreHouseWords (number_token 1 40 (word_at words 2)) _
-    (λ width wide. then_each AreHouseWords (number_token 1 64 (word_at words 3)) _ (λ lanes long. announced_each words id width lanes is (size_of (word_at words 2) (word_at words 3) width lanes wide long)))
+    then_each AreHouseWords (number_token 1 40 (nth_word words 2)) _
+    (λ width wide. then_each AreHouseWords (number_token 1 64 (nth_word words 3)) _ (λ lanes long. announced_each words id width lanes is (size_of (nth_word words 2) (nth_word words 3) width lanes wide long)))
 house_each words id is verbs.Submit = then_each AreHouseWords (name_at words 2) _ (λ seal _. then_each AreHouseWords (name_at words 3) _ (λ secret _. is))
 house_each words id is verbs.Prove =
-    then_each AreHouseWords (seed_at words 2) _ (λ seed found. then_each AreHouseWords (name_at words 3) _ (λ board _. (is, hex_bytes 32 (word_at words 2) seed found)))
+    then_each AreHouseWords (seed_at words 2) _ (λ seed found. then_each AreHouseWords (name_at words 3) _ (λ board _. (is, hex_bytes 32 (nth_word words 2) seed found)))
 house_each words id is verbs.Answer =
     then_each AreHouseWords (attempt_at words 2) _ (λ attempt _. other_each AreHouseWords attempt.challenge attempt.reply (Answer id attempt.challenge attempt.reply) is)
 house_each words id is verbs.Show = is
 house_each words id is verb = tt
 
 by_each : (verb : Verb) (words : List (List ℕ)) → IfSome (house_by verb words) AreHouseWords
-by_each verb words = then_each AreHouseWords (id_at words 1) _ (λ id found. house_each words id (hex_bytes 16 (word_at words 1) id found) verb)
+by_each verb words = then_each AreHouseWords (id_at words 1) _ (λ id found. house_each words id (hex_bytes 16 (nth_word words 1) id found) verb)
 
 house_map : (found : Option HouseWords) → IfSome found AreHouseWords → IfSome (option_map House found) OfHouse
 house_map None each = tt
@@ -103,7 +103,7 @@ command_each words verbs.Ceremony = map_each OfHouse (name_at words 1) Ceremony 
 command_each words verbs.ClaimVerify = map_each OfHouse (verify_in words) ClaimVerify (λ names _. tt)
 command_each words verbs.ClaimExtract = map_each OfHouse (extract_in words) ClaimExtract (λ names _. tt)
 command_each words verbs.ClaimSample =
-    then_each OfHouse (kind_named (word_at words 1)) _ (λ kind _. map_each OfHouse _ (ClaimSample kind) (λ number _. tt))
+    then_each OfHouse (kind_named (nth_word words 1)) _ (λ kind _. map_each OfHouse _ (ClaimSample kind) (λ number _. tt))
 command_each words verbs.CoinPart = map_each OfHouse (coin_by verbs.CoinPart words) Coin (λ order _. tt)
 command_each words verbs.CoinJoin = map_each OfHouse (coin_by verbs.CoinJoin words) Coin (λ order _. tt)
 command_each words verbs.CoinBoard = map_each OfHouse (coin_by verbs.CoinBoard words) Coin (λ order _. tt)
@@ -114,7 +114,7 @@ where_each P false found each = tt
 
 words_each : (words : List (List ℕ)) → IfSome (command_words words) OfHouse
 unfolding command_words
-words_each words = then_each OfHouse (row_of (word_at words 0)) _ (λ row _. where_each OfHouse (may_have row (length words)) (command_by row.verb words) (command_each words row.verb))
+words_each words = then_each OfHouse (row_of (nth_word words 0)) _ (λ row _. where_each OfHouse (may_have row (length words)) (command_by row.verb words) (command_each words row.verb))
 
 -- words of a command of the house
 pub house_bytes : (words : List (List ℕ)) (order : HouseWords) → command_words words ≡ Some (House order) → AreHouseWords order

@@ -10,8 +10,8 @@ use Rattle.vk_verifier.specs.declared.answers.Part.TheVariants as part
 use Rattle.vk_verifier.specs.declared.answers.VErr.{VErr}
 use Rattle.vk_verifier.specs.declared.answers.VErr.TheVariants.{Missing, TooLong, Failed, NoMemory}
 use Rattle.vk_verifier.specs.TwoBoards.{of_files}
-use Rattle.vk_verifier.specs.Verdicts.{begun, from_start, of_attempt}
-use Rattle.vk_bids.specs.Headline.{HeldAttempt, IsHeld}
+use Rattle.vk_verifier.specs.Verdicts.{begun_file, from_start, of_attempt}
+use Rattle.vk_bids.specs.Headline.{HeldAttempt, IsHeldFile}
 use Rattle.vk_bids.proofs.Begun.{attempt_found, begun_found}
 use Rattle.vk_words.specs.Names.{ExtractWords, VerifyWords}
 use Rattle.vk_effect.specs.Effects.{SaidValue}
@@ -28,10 +28,10 @@ verify_parts = part.Board ∷ part.Challenge ∷ part.Reply ∷ []
 
 module _ {X : Type 0} (whole : Rest → Rest → Rest → X) (files : Files) (names : VerifyWords) where
   abbrev of_reply : Rest → Rest → Result X VErr
-  of_reply board challenge = begun part.Reply (get files names.attempt.reply) >>= λ reply. Ok (whole board challenge reply)
+  of_reply board challenge = begun_file part.Reply (get files names.attempt.reply) >>= λ reply. Ok (whole board challenge reply)
 
   abbrev of_challenge : Rest → Result X VErr
-  of_challenge board = begun part.Challenge (get files names.attempt.challenge) >>= of_reply board
+  of_challenge board = begun_file part.Challenge (get files names.attempt.challenge) >>= of_reply board
 
   pub attempt_unread : (unread : Part × Bool) → first_unread files (name_of (verified_words names)) verify_parts ≡ Some unread
       → of_attempt whole files names.board names.attempt.challenge names.attempt.reply ≡ Err (fault_of unread)
@@ -41,7 +41,7 @@ module _ {X : Type 0} (whole : Rest → Rest → Rest → X) (files : Files) (na
       begun_unread part.Reply None (λ reply. Ok (whole board challenge reply)) unread (λ reply none. absurd (never_none unread none))
       (get files names.attempt.reply) rest) (get files names.attempt.challenge) rest) (get files names.board) is
 
-  pub attempt_read : (board : List ℕ) → IsHeld files names.board board → (attempt : HeldAttempt files names.attempt.challenge names.attempt.reply)
+  pub attempt_read : (board : List ℕ) → IsHeldFile files names.board board → (attempt : HeldAttempt files names.attempt.challenge names.attempt.reply)
       → of_attempt whole files names.board names.attempt.challenge names.attempt.reply
       ≡ Ok (whole (from_start board) (from_start attempt.challenge_bytes) (from_start attempt.reply_bytes))
   attempt_read board is attempt =
@@ -60,16 +60,16 @@ extract_parts = part.Board ∷ part.Challenge ∷ part.Reply ∷ part.SecondChal
 
 module _ {X : Type 0} (whole : Rest → Rest → Rest → Rest → Rest → X) (files : Files) (names : ExtractWords) where
   abbrev last_then : Rest → Rest → Rest → Rest → Result X VErr
-  last_then board challenge reply other = begun part.SecondReply (get files names.second.reply) >>= λ second. Ok (whole board challenge reply other second)
+  last_then board challenge reply other = begun_file part.SecondReply (get files names.second.reply) >>= λ second. Ok (whole board challenge reply other second)
 
   abbrev other_then : Rest → Rest → Rest → Result X VErr
-  other_then board challenge reply = begun part.SecondChallenge (get files names.second.challenge) >>= last_then board challenge reply
+  other_then board challenge reply = begun_file part.SecondChallenge (get files names.second.challenge) >>= last_then board challenge reply
 
   abbrev reply_then : Rest → Rest → Result X VErr
-  reply_then board challenge = begun part.Reply (get files names.first.reply) >>= other_then board challenge
+  reply_then board challenge = begun_file part.Reply (get files names.first.reply) >>= other_then board challenge
 
   abbrev challenge_then : Rest → Result X VErr
-  challenge_then board = begun part.Challenge (get files names.first.challenge) >>= reply_then board
+  challenge_then board = begun_file part.Challenge (get files names.first.challenge) >>= reply_then board
 
   pub files_unread : (unread : Part × Bool) → first_unread files (name_of names) extract_parts ≡ Some unread
       → of_files whole files names.board names.first.challenge names.first.reply names.second.challenge names.second.reply ≡ Err (fault_of unread)

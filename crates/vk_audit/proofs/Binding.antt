@@ -19,7 +19,7 @@ use Rattle.vk_bids.specs.declared.confrontation.ConfrontErr.{ConfrontErr}
 use Rattle.vk_bids.specs.declared.confrontation.ConfrontErr.TheVariants.{Unread, MissingSecret, TooLongSecret}
 use Rattle.vk_bids.specs.Texts.{clash_text}
 use Rattle.vk_bids.specs.Confrontation.{confrontation_of, confrontation_on, of_extraction, secret_begun, secret_in}
-use Rattle.vk_bids.specs.Headline.{IsHeld, IsOf, LaneAgrees, TwoAccepted, differing_in, extraction_of_held}
+use Rattle.vk_bids.specs.Headline.{IsHeldFile, IsOf, LaneAgrees, TwoAccepted, differing_in, extraction_of_held}
 use Rattle.vk_bids.specs.Binding.{ClashOr, HeldOrClash, IsSealOf, confrontation_of_held}
 use Rattle.vk_bids.proofs.Agreeing.{no_clash}
 use Rattle.vk_bids.proofs.Binding.{sealed_are_held_or_clash}
@@ -29,7 +29,7 @@ use Rattle.vk_words.specs.Names.{ConfrontWords, ExtractWords}
 use Rattle.vk_effect.specs.Effects.{SaidValue, puts}
 use Rattle.vk_effect.specs.NamedFiles.{missing_said, too_long_said}
 use Rattle.vk_audit.specs.Answers.{ConfrontHolds, SettlesConfront, TellsConfrontations}
-use Rattle.vk_audit.specs.Confrontations.{confrontation_in, confrontation_said, confront_said, unconfronted_said}
+use Rattle.vk_audit.specs.Confrontations.{confrontation_in, confrontation_said, confront_said, confront_unread_said}
 use Rattle.vk_audit.specs.Inputs.{HoldsFiles, IsFirstUnread, IsLong, IsUnheld, confront_inputs, extract_inputs}
 use Rattle.vk_audit.specs.Statuses.{BindsExactly, ConfrontsFiles, HoldsSecret, IsBound, PutsClash, PutsSecretClash}
 use Rattle.vk_audit.specs.Verdicts.{answer_said, name_of}
@@ -74,7 +74,7 @@ module _ (files : Files) (names : ConfrontWords) where
       answer_held held ∙ (ap (secret_told (extraction_of_held held)) is ∙ ap (λ (t : Bool). (if t then Err TooLongSecret else Ok
       (from_start bytes)) >>= next) test)
 
-  answer_read : (held : HoldsFiles files replies) (file : List ℕ) → IsHeld files names.secret file → answer ≡ Ok (confrontation_of_held held file)
+  answer_read : (held : HoldsFiles files replies) (file : List ℕ) → IsHeldFile files names.secret file → answer ≡ Ok (confrontation_of_held held file)
   answer_read held file is =
       (files_are_confronted files replies.board replies.first.challenge replies.first.reply replies.second.challenge replies.second.reply names.secret
       (confrontation_of_held held file)).1
@@ -102,7 +102,7 @@ module _ (files : Files) (names : ConfrontWords) where
       subst (ConfrontHolds files names) (sym (secret_long (held_by none) long)) (last_unread IsLong none long)
   by_length none file is false test =
       let held = held_by none in
-      let secret_is : IsHeld files names.secret file = record { is = is; short = grind (arith, nat_tests, test) } in
+      let secret_is : IsHeldFile files names.secret file = record { is = is; short = grind (arith, nat_tests, test) } in
       subst (ConfrontHolds files names) (sym (answer_read held file secret_is)) (record {
         held = held;
         file = file;
@@ -127,7 +127,7 @@ module _ (files : Files) (names : ConfrontWords) where
   answer_by None is = by_secret is (get files names.secret) refl
 
   abbrev said_of : Result Confrontation ConfrontErr → SaidValue
-  said_of answered = answer_said (confrontation_said names) (unconfronted_said names) answered
+  said_of answered = answer_said (confrontation_said names) (confront_unread_said names) answered
 
   -- what is said of a file that can't be read, by whether it is too long
   abbrev cause_said : Bool → List ℕ → SaidValue
@@ -178,7 +178,7 @@ module _ (files : Files) (names : ConfrontWords) where
     by_extraction (extraction.Clash clash) is = (refl, put_told (PutsClash two) _ (λ before. record { clash = clash; is = is; put = refl }) taken)
     by_extraction (extraction.Bids found) is = absurd (clashes is.agree)
 
-    clash_told : IsHeld files names.secret file → PutsIt (said_of answer)
+    clash_told : IsHeldFile files names.secret file → PutsIt (said_of answer)
     clash_told is =
         subst (λ answer. PutsIt (said_of answer)) (sym (answer_read held file is))
         (by_extraction (extraction_of_held held)

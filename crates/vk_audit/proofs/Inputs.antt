@@ -11,7 +11,7 @@ use Rattle.vk_lines.specs.Lines.{Rest}
 use Rattle.vk_verifier.specs.declared.answers.Part.{Part}
 use Rattle.vk_verifier.specs.declared.answers.VErr.{VErr}
 use Rattle.vk_verifier.specs.declared.answers.VErr.TheVariants.{Missing, TooLong}
-use Rattle.vk_verifier.specs.Verdicts.{begun, from_start}
+use Rattle.vk_verifier.specs.Verdicts.{begun_file, from_start}
 use Rattle.vk_bids.proofs.Begun.{not_long}
 use Rattle.vk_audit.specs.Inputs.{CanBeRead, IsFirstUnread, IsLong, IsUnheld}
 
@@ -85,7 +85,7 @@ module _ {X : Type 0} (part : Part) (later : Option (Part × Bool)) (next : Rest
   begun_by bytes false is = goes_on (from_start bytes) is
 
   -- what begins with the part answers that fault
-  pub begun_unread : (told : Option (List ℕ)) → of_told part told later ≡ Some unread → (begun part told >>= next) ≡ Err (fault_of unread)
+  pub begun_unread : (told : Option (List ℕ)) → of_told part told later ≡ Some unread → (begun_file part told >>= next) ≡ Err (fault_of unread)
   begun_unread None is = ap (λ u. Err (fault_of u)) (same_Some (part, false) unread is)
   begun_unread (Some bytes) is = begun_by bytes (nat_lt (2 ^ 30) (length bytes)) is
 

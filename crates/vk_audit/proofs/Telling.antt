@@ -8,13 +8,13 @@ use Rattle.vk_bids.specs.declared.extraction.Extraction.{Extraction}
 use Rattle.vk_bids.specs.declared.extraction.Extraction.TheVariants.{Refused, Same, Clash, Bids}
 use Rattle.vk_words.specs.Names.{ExtractWords}
 use Rattle.vk_effect.specs.Effects.{SaidValue, puts}
-use Rattle.vk_audit.specs.Answers.{AnswerHolds, Tells}
+use Rattle.vk_audit.specs.Answers.{AnswerHolds, TellsAnswer}
 use Rattle.vk_audit.specs.Findings.{RefusesSecond}
 use Rattle.vk_audit.specs.Verdicts.{answer_said, unread_said}
 
 pub tells : {Answer : Type 0} (Holds Settles : Answer → Type 0) (said : Answer → SaidValue) (answer : Answer) (taken : Option (List ℕ)) → Holds answer
     → ((other : Answer) → Settles other → Holds other → said answer ≡ said other)
-    → Tells Holds Settles said (said answer).status taken (puts (said answer).text taken)
+    → TellsAnswer Holds Settles said (said answer).status taken (puts (said answer).text taken)
 tells Holds Settles said answer taken holds same = record {
   answer = answer;
   holds = holds;

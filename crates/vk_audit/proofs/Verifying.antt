@@ -8,7 +8,7 @@ use Rattle.vk_verifier.specs.declared.answers.BoardVerdict.TheVariants as verdic
 use Rattle.vk_verifier.specs.declared.answers.VErr.{VErr}
 use Rattle.vk_verifier.specs.Verdicts.{judged, verdict_by, verdict_of, verdict_on}
 use Rattle.vk_verifier.proofs.Verdicts.{verdict_holds, verdicts_exact}
-use Rattle.vk_bids.specs.Headline.{HeldAttempt, IsHeld}
+use Rattle.vk_bids.specs.Headline.{HeldAttempt, IsHeldFile}
 use Rattle.vk_words.specs.Names.{ExtractWords, VerifyWords}
 use Rattle.vk_effect.specs.Effects.{SaidValue}
 use Rattle.vk_audit.specs.Answers.{TellsVerdicts, VerifyHolds}
@@ -54,7 +54,7 @@ module _ (files : Files) (names : VerifyWords) where
   unfolding verdict_on
   answer_unread unread is = attempt_unread judging files names unread is
 
-  answer_read : (board : List ℕ) → IsHeld files names.board board → (attempt : HeldAttempt files names.attempt.challenge names.attempt.reply)
+  answer_read : (board : List ℕ) → IsHeldFile files names.board board → (attempt : HeldAttempt files names.attempt.challenge names.attempt.reply)
       → answer ≡ Ok (verdict_of board attempt.challenge_bytes attempt.reply_bytes)
   unfolding verdict_on
   answer_read board is attempt = attempt_read judging files names board is attempt

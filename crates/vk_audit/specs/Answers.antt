@@ -10,13 +10,13 @@ use Rattle.vk_bids.specs.declared.confrontation.Confrontation.{Confrontation}
 use Rattle.vk_bids.specs.declared.confrontation.Confrontation.TheVariants as comes
 use Rattle.vk_bids.specs.declared.confrontation.ConfrontErr.{ConfrontErr}
 use Rattle.vk_bids.specs.declared.confrontation.ConfrontErr.TheVariants.{Unread, MissingSecret, TooLongSecret}
-use Rattle.vk_bids.specs.Headline.{IsFound, IsHeld, LaneAgrees, TwoAccepted, differing_in}
+use Rattle.vk_bids.specs.Headline.{IsFound, IsHeldFile, LaneAgrees, TwoAccepted, differing_in}
 use Rattle.vk_report.specs.declared.report.Report.{Report}
 use Rattle.vk_report.specs.declared.report.ReportErr.{ReportErr}
 use Rattle.vk_report.specs.Meaning.{IsReportOn, IsUnreported}
 use Rattle.vk_words.specs.Names.{ConfrontWords, ExtractWords, VerifyWords}
 use Rattle.vk_effect.specs.Effects.{SaidValue, IsSaid, puts}
-use Rattle.vk_audit.specs.Confrontations.{confrontation_said, confront_said, unconfronted_said}
+use Rattle.vk_audit.specs.Confrontations.{confrontation_said, confront_said, confront_unread_said}
 use Rattle.vk_audit.specs.Extractions.{extraction_said, extract_said}
 use Rattle.vk_audit.specs.Findings.{ConfrontationHolds}
 use Rattle.vk_audit.specs.Inputs.{CanBeRead, HoldsFiles, IsMissing, IsTooLong, confront_inputs, extract_inputs, verify_inputs}
@@ -25,7 +25,7 @@ use Rattle.vk_audit.specs.Statuses.{HasExtraction, HasVerdict, PutsClash}
 use Rattle.vk_audit.specs.Verdicts.{answer_said, judged_said, name_of, unread_said, verified_words, verify_said}
 
 -- an answer that holds is said; and where one holds that settles what is said, it is that one
-pub record Tells {Answer : Type 0} (Holds Settles : Answer → Type 0) (said : Answer → SaidValue) (status : ℕ) (old new : Option (List ℕ)) : Type 0 where
+pub record TellsAnswer {Answer : Type 0} (Holds Settles : Answer → Type 0) (said : Answer → SaidValue) (status : ℕ) (old new : Option (List ℕ)) : Type 0 where
   pub answer : Answer
   pub holds : Holds answer
   pub says : IsSaid (said answer) status old new
@@ -47,7 +47,7 @@ VerifyHolds files names = AnswerHolds files (verified_words names) (verify_input
 -- every answer settles what is said
 abbrev pub TellsVerdict : Files → VerifyWords → ℕ → Option (List ℕ) → Option (List ℕ) → Type 0
 TellsVerdict files names status old new =
-    Tells (VerifyHolds files names) (λ _. Unit {0}) (answer_said (judged_said (verified_words names) false) (unread_said (verified_words names))) status old new
+    TellsAnswer (VerifyHolds files names) (λ _. Unit {0}) (answer_said (judged_said (verified_words names) false) (unread_said (verified_words names))) status old new
 
 -- ---- `extract`
 
@@ -61,7 +61,7 @@ SettlesExtract (Err fault) = Unit {0}
 
 abbrev pub TellsExtraction : Files → ExtractWords → ℕ → Option (List ℕ) → Option (List ℕ) → Type 0
 TellsExtraction files names status old new =
-    Tells (ExtractHolds files names) SettlesExtract (answer_said (extraction_said names) (unread_said names)) status old new
+    TellsAnswer (ExtractHolds files names) SettlesExtract (answer_said (extraction_said names) (unread_said names)) status old new
 
 -- ---- `confront`
 
@@ -69,7 +69,7 @@ TellsExtraction files names status old new =
 pub record HasConfrontation (files : Files) (names : ConfrontWords) (confrontation : Confrontation) : Type 0 where
   pub held : HoldsFiles files names.replies
   pub file : List ℕ
-  pub file_is : IsHeld files names.secret file
+  pub file_is : IsHeldFile files names.secret file
   pub holds : ConfrontationHolds confrontation
       held.board_bytes held.first.challenge_bytes held.first.reply_bytes held.second.challenge_bytes held.second.reply_bytes file
 
@@ -96,7 +96,7 @@ SettlesConfront (Err fault) = Unit {0}
 -- where two replies are accepted for different challenges, and in some lane whose bits differ open a commitment with
 -- two values, the line of such a clash is put, whatever the secret's file holds
 pub record TellsConfrontation (files : Files) (names : ConfrontWords) (status : ℕ) (old new : Option (List ℕ)) : Type 0 where
-  pub told : Tells (ConfrontHolds files names) SettlesConfront (answer_said (confrontation_said names) (unconfronted_said names)) status old new
+  pub told : TellsAnswer (ConfrontHolds files names) SettlesConfront (answer_said (confrontation_said names) (confront_unread_said names)) status old new
   pub clashes : (held : HoldsFiles files names.replies) → CanBeRead files names.secret
       → (two : TwoAccepted held.board_bytes held.first.challenge_bytes held.first.reply_bytes held.second.challenge_bytes held.second.reply_bytes)
       → ¬ All (LaneAgrees two) (differing_in two) → (status ≡ 3) × Told (PutsClash two) old new
@@ -109,7 +109,7 @@ ReportHolds files board (Err refusal) = IsUnreported files board refusal
 
 -- every answer settles what is said
 abbrev pub TellsReport : Files → List ℕ → ℕ → Option (List ℕ) → Option (List ℕ) → Type 0
-TellsReport files board status old new = Tells (ReportHolds files board) (λ _. Unit {0}) (answer_said reported_said (unreported_said board)) status old new
+TellsReport files board status old new = TellsAnswer (ReportHolds files board) (λ _. Unit {0}) (answer_said reported_said (unreported_said board)) status old new
 
 -- ---- the laws
 

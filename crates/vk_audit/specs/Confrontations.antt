@@ -42,10 +42,10 @@ IsOfNamedFile MissingSecret = Unit {0}
 IsOfNamedFile TooLongSecret = Unit {0}
 
 -- what is said of the first file that is missing or too long
-abbrev pub unconfronted_said : ConfrontWords → ConfrontErr → SaidValue
-unconfronted_said names (Unread fault) = unread_said names.replies fault
-unconfronted_said names MissingSecret = missing_said names.secret
-unconfronted_said names TooLongSecret = too_long_said names.secret
+abbrev pub confront_unread_said : ConfrontWords → ConfrontErr → SaidValue
+confront_unread_said names (Unread fault) = unread_said names.replies fault
+confront_unread_said names MissingSecret = missing_said names.secret
+confront_unread_said names TooLongSecret = too_long_said names.secret
 
 -- what the named files come to
 abbrev pub confrontation_in : Files → ConfrontWords → Result Confrontation ConfrontErr
@@ -55,4 +55,4 @@ confrontation_in files names =
 
 -- what `confront` says
 abbrev pub confront_said : Files → ConfrontWords → SaidValue
-confront_said files names = answer_said (confrontation_said names) (unconfronted_said names) (confrontation_in files names)
+confront_said files names = answer_said (confrontation_said names) (confront_unread_said names) (confrontation_in files names)

@@ -3,12 +3,12 @@ use Rattle.std.specs.Prelude.{◌≡◌, ℕ, ◌^◌, ◌<◌, List, [], ◌∷
 use Rattle.std.specs.List.{AllByRecursion}
 use Rattle.std.specs.FinMap.{get}
 use Rattle.vk_io.specs.Files.{Files}
-use Rattle.vk_bids.specs.Headline.{HeldFiles, IsHeld}
+use Rattle.vk_bids.specs.Headline.{HeldFiles, IsHeldFile}
 use Rattle.vk_words.specs.Names.{ConfrontWords, ExtractWords, VerifyWords}
 
 -- a file of that name is held, with at most 2^30 bytes
 abbrev pub CanBeRead : Files → List ℕ → Type 0
-CanBeRead files name = (bytes : List ℕ) × IsHeld files name bytes
+CanBeRead files name = (bytes : List ℕ) × IsHeldFile files name bytes
 
 -- none is held
 abbrev pub IsUnheld : Files → List ℕ → Type 0

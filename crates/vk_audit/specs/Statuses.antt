@@ -13,7 +13,7 @@ use Rattle.vk_bids.specs.declared.extraction.Extracted.{Extracted}
 use Rattle.vk_bids.specs.Extraction.{Extraction}
 use Rattle.vk_bids.specs.declared.extraction.Extraction.TheVariants.{Same}
 use Rattle.vk_bids.specs.Texts.{clash_text, extraction_text}
-use Rattle.vk_bids.specs.Headline.{HeldAttempt, IsHeld, TwoAccepted, IsExtraction, IsExtractionClash, LaneAgrees, differing_in}
+use Rattle.vk_bids.specs.Headline.{HeldAttempt, IsHeldFile, TwoAccepted, IsExtraction, IsExtractionClash, LaneAgrees, differing_in}
 use Rattle.vk_bids.specs.Binding.{HoldsIn, IsClashWith, IsHeldBy, IsSealOf}
 use Rattle.vk_report.specs.declared.report.Report.{Report}
 use Rattle.vk_report.specs.Meaning.{IsReportOn}
@@ -37,7 +37,7 @@ pub record ComesExactly (wanted : ℕ) (Holds : Type 0) (status : ℕ) : Type 0 
 -- the named files are held, and the verdict holds of their bytes
 pub record HasVerdict (files : Files) (names : VerifyWords) (verdict : BoardVerdict) : Type 0 where
   pub board : List ℕ
-  pub board_is : IsHeld files names.board board
+  pub board_is : IsHeldFile files names.board board
   pub attempt : HeldAttempt files names.attempt.challenge names.attempt.reply
   pub holds : VerdictHolds verdict board attempt.challenge_bytes attempt.reply_bytes
 
@@ -95,7 +95,7 @@ pub record ConfrontsFiles (files : Files) (names : ConfrontWords) : Type 0 where
   pub two : TwoAccepted held.board_bytes held.first.challenge_bytes held.first.reply_bytes held.second.challenge_bytes held.second.reply_bytes
   pub agree : All (LaneAgrees two) (differing_in two)
   pub file : List ℕ
-  pub file_is : IsHeld files names.secret file
+  pub file_is : IsHeldFile files names.secret file
   pub secret : Secret
   pub right : IsSecret secret
   pub text : file ≡ secret_text secret

@@ -15,7 +15,7 @@ use crate::extractions::extract_answered;
 use crate::reports::{reported, unreported};
 use crate::verdicts::{judged, unread};
 use std::alloc::Global;
-use vk_bids::{ConfrontErr, Confrontation, TwoReplies, confront, extract};
+use vk_bids::{ConfrontErr, Confrontation, SecretAndReplies, TwoReplies, confront, extract};
 use vk_effect::Said;
 use vk_io::{OutsideErr, Shelf};
 use vk_report::read_report;
@@ -105,7 +105,7 @@ fn confronted_in<S: Shelf>(
         Gives fault_of (λ confrontation. confrontation) result (confrontation_in files (confront_seen names.now))) }
     ensures shelf { OnlyReads S.held S.Shelf.faults (ConfrontErr.Unread VErr.Failed) result shelf.old shelf.new }
 {
-    let files = vk_bids::ConfrontNames {
+    let files = SecretAndReplies {
         replies: replies_of(&names.replies),
         secret: names.secret,
     };

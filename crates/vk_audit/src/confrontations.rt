@@ -1,7 +1,7 @@
 //! What is said of what a bidder's secret comes to against two replies to a board.
 
 ghost use Rattle.std.specs.Prelude.{◌≡◌, ℕ, Err, IfOk, IsOk, Ok, OnOk, Result};
-ghost use Rattle.vk_audit.specs.Confrontations.{IsOfNamedFile, NamesNoFile, confrontation_said, unconfronted_said};
+ghost use Rattle.vk_audit.specs.Confrontations.{IsOfNamedFile, NamesNoFile, confrontation_said, confront_unread_said};
 ghost use Rattle.vk_audit.specs.Verdicts.{answer_said};
 ghost use Rattle.vk_commit.specs.Commitment.{TwoOpeningsSeen};
 ghost use Rattle.vk_io.specs.Faults.{Causes};
@@ -62,12 +62,12 @@ pub fn confronted(
 }
 
 /// What is said of the first file that is missing or too long. A failure is handed on.
-pub fn unconfronted(
+pub fn confront_unread(
     alloc: Global,
     names: &ConfrontNames<'_>,
     fault: ConfrontErr,
 ) -> Result<Said, OutsideErr>
-    ensures said { IfOk result (λ said. said ≡ unconfronted_said (confront_seen names.now) fault) }
+    ensures said { IfOk result (λ said. said ≡ confront_unread_said (confront_seen names.now) fault) }
     ensures file { OnOk result (IsOfNamedFile fault) }
     ensures causes { (before after : ℕ) → Causes {T = Unit {0}} (ConfrontErr.Unread VErr.Failed) (Err fault) before after → Causes OutsideErr.Failed result before after }
 {
@@ -88,12 +88,12 @@ pub fn confront_answered(
     ensures clash { (two : TwoOpeningsSeen) → answer ≡ Ok (Confrontation.Clash two)
         → result ≡ Ok (record { status = 3; text = clash_text two }) }
     ensures said { (expected : Result Confrontation ConfrontErr) → Gives fault_of (λ confrontation. confrontation) answer expected
-        → IfOk result (λ said. said ≡ answer_said (confrontation_said (confront_seen names.now)) (unconfronted_said (confront_seen names.now)) expected) }
+        → IfOk result (λ said. said ≡ answer_said (confrontation_said (confront_seen names.now)) (confront_unread_said (confront_seen names.now)) expected) }
     ensures causes { (before after : ℕ) → Causes (ConfrontErr.Unread VErr.Failed) answer before after → Causes OutsideErr.Failed result before after }
 {
     match answer {
         Err(fault) => {
-            let said = unconfronted(alloc, names, fault)?;
+            let said = confront_unread(alloc, names, fault)?;
             Ok(said)
         }
         Ok(confrontation) => {

@@ -9,7 +9,7 @@ mod reports;
 mod verdicts;
 
 pub use auditing::{AuditOrder, audit, replies_of, verified_names};
-pub use confrontations::{confront_answered, confronted, unconfronted};
+pub use confrontations::{confront_answered, confronted, confront_unread};
 pub use extractions::{extract_answered, extracted};
 pub use laws::statuses_mean_what_the_files_are;
 pub use reports::{reported, unreported};

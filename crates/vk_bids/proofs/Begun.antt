@@ -10,13 +10,13 @@ use Rattle.vk_verifier.specs.declared.answers.Part.TheVariants as part
 use Rattle.vk_verifier.specs.declared.answers.VErr.{VErr}
 use Rattle.vk_verifier.specs.declared.answers.VErr.TheVariants.{TooLong}
 use Rattle.vk_verifier.specs.TwoBoards.{of_files}
-use Rattle.vk_verifier.specs.Verdicts.{begun, from_start}
-use Rattle.vk_bids.specs.Headline.{HeldAttempt, HeldFiles, IsHeld}
+use Rattle.vk_verifier.specs.Verdicts.{begun_file, from_start}
+use Rattle.vk_bids.specs.Headline.{HeldAttempt, HeldFiles, IsHeldFile}
 
 -- the file is held, and what comes next goes from the start of its bytes
 pub record BegunThen {X E : Type 0} (files : Files) (name : List ℕ) (next : Rest → Result X E) (x : X) : Type 0 where
   pub bytes : List ℕ
-  pub is : IsHeld files name bytes
+  pub is : IsHeldFile files name bytes
   pub goes_on : next (from_start bytes) ≡ Ok x
 
 -- a file that is held, and is refused where it is too long
@@ -24,19 +24,19 @@ pub begun_test : {X E : Type 0} (files : Files) (name bytes : List ℕ) (refusal
 begun_test files name bytes refusal next x true held is ok = cc
 begun_test files name bytes refusal next x false held is ok = record { bytes = bytes; is = record { is = held; short = grind (arith, nat_tests, is) }; goes_on = ok }
 
-begun_held : {X : Type 0} (files : Files) (name : List ℕ) (file : Part) (next : Rest → Result X VErr) (x : X) (found : Option (List ℕ)) → get files name ≡ found → (begun file found >>= next) ≡ Ok x → BegunThen files name next x
+begun_held : {X : Type 0} (files : Files) (name : List ℕ) (file : Part) (next : Rest → Result X VErr) (x : X) (found : Option (List ℕ)) → get files name ≡ found → (begun_file file found >>= next) ≡ Ok x → BegunThen files name next x
 begun_held files name file next x None held ok = cc
 begun_held files name file next x (Some bytes) held ok = begun_test files name bytes (TooLong file) next x (nat_lt (2 ^ 30) (length bytes)) held refl ok
 
-pub begun_shown : {X : Type 0} (files : Files) (name : List ℕ) (file : Part) (next : Rest → Result X VErr) (x : X) → (begun file (get files name) >>= next) ≡ Ok x → BegunThen files name next x
+pub begun_shown : {X : Type 0} (files : Files) (name : List ℕ) (file : Part) (next : Rest → Result X VErr) (x : X) → (begun_file file (get files name) >>= next) ≡ Ok x → BegunThen files name next x
 begun_shown files name file next x ok = begun_held files name file next x (get files name) refl ok
 
 pub not_long : (bytes : List ℕ) → length bytes ≤ 2 ^ 30 → nat_lt (2 ^ 30) (length bytes) ≡ false
 not_long bytes short = grind (arith, nat_tests, short)
 
-pub begun_found : {X : Type 0} (files : Files) (name bytes : List ℕ) (file : Part) (next : Rest → Result X VErr) → IsHeld files name bytes → (begun file (get files name) >>= next) ≡ next (from_start bytes)
+pub begun_found : {X : Type 0} (files : Files) (name bytes : List ℕ) (file : Part) (next : Rest → Result X VErr) → IsHeldFile files name bytes → (begun_file file (get files name) >>= next) ≡ next (from_start bytes)
 begun_found files name bytes file next is =
-    ap (λ found. begun file found >>= next) is.is
+    ap (λ found. begun_file file found >>= next) is.is
     ∙ ap (λ (long : Bool). (if long then Err (TooLong file) else Ok (from_start bytes)) >>= next) (not_long bytes is.short)
 
 -- ---- a challenge and the reply to it
@@ -44,8 +44,8 @@ begun_found files name bytes file next is =
 -- what comes of both, begun one after the other
 abbrev pub attempt_begun : {X : Type 0} → Files → Part → Part → List ℕ → List ℕ → (Rest → Rest → Result X VErr) → Result X VErr
 attempt_begun files challenge_part reply_part challenge reply next = do
-  challenge ← begun challenge_part (get files challenge)
-  begun reply_part (get files reply) >>= next challenge
+  challenge ← begun_file challenge_part (get files challenge)
+  begun_file reply_part (get files reply) >>= next challenge
 
 -- both are held, and what comes next goes from the start of their bytes
 pub record AttemptThen {X : Type 0} (files : Files) (challenge reply : List ℕ) (next : Rest → Rest → Result X VErr) (x : X) : Type 0 where
@@ -54,7 +54,7 @@ pub record AttemptThen {X : Type 0} (files : Files) (challenge reply : List ℕ)
 
 module _ {X : Type 0} (files : Files) (challenge_part reply_part : Part) (challenge reply : List ℕ) (next : Rest → Rest → Result X VErr) where
   abbrev reply_then : Rest → Result X VErr
-  reply_then challenge = begun reply_part (get files reply) >>= next challenge
+  reply_then challenge = begun_file reply_part (get files reply) >>= next challenge
 
   pub attempt_shown : (x : X) → attempt_begun files challenge_part reply_part challenge reply next ≡ Ok x → AttemptThen files challenge reply next x
   attempt_shown x ok =

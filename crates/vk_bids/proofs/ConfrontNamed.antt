@@ -14,7 +14,7 @@ use Rattle.vk_bids.specs.declared.confrontation.Confrontation.{Confrontation}
 use Rattle.vk_bids.specs.Binding.{ConfrontationOf, FilesAreConfronted, confrontation_of_held}
 use Rattle.vk_bids.specs.Confrontation.{confrontation_of, confrontation_on, of_extraction, secret_begun, secret_in}
 use Rattle.vk_bids.specs.Extraction.{Extraction, extraction_on}
-use Rattle.vk_bids.specs.Headline.{HeldFiles, IsHeld, extraction_of_held}
+use Rattle.vk_bids.specs.Headline.{HeldFiles, IsHeldFile, extraction_of_held}
 use Rattle.vk_bids.proofs.Begun.{BegunThen, begun_test, not_long}
 use Rattle.vk_bids.proofs.ConfrontedFiles.{confronted}
 use Rattle.vk_bids.proofs.Named.{files_are_extracted}
@@ -25,7 +25,7 @@ secret_held : {X : Type 0} (files : Files) (name : List ℕ) (next : Rest → Re
 secret_held files name next x None held ok = cc
 secret_held files name next x (Some bytes) held ok = begun_test files name bytes TooLongSecret next x (nat_lt (2 ^ 30) (length bytes)) held refl ok
 
-secret_found : (files : Files) (name bytes : List ℕ) → IsHeld files name bytes → secret_begun (get files name) ≡ Ok (from_start bytes)
+secret_found : (files : Files) (name bytes : List ℕ) → IsHeldFile files name bytes → secret_begun (get files name) ≡ Ok (from_start bytes)
 secret_found files name bytes is =
     ap secret_begun is.is ∙ ap (λ (long : Bool). if long then Err TooLongSecret else Ok (from_start bytes)) (not_long bytes is.short)
 
@@ -36,7 +36,7 @@ extracted (Err refused) extraction is = cc
 -- ---- all six
 
 module _ (files : Files) (board first_challenge first_reply second_challenge second_reply secret : List ℕ) where
-  held_confronted : (held : HeldFiles files board first_challenge first_reply second_challenge second_reply) (file : List ℕ) → IsHeld files secret file
+  held_confronted : (held : HeldFiles files board first_challenge first_reply second_challenge second_reply) (file : List ℕ) → IsHeldFile files secret file
       → confrontation_on files board first_challenge first_reply second_challenge second_reply secret ≡ Ok (confrontation_of_held held file)
   held_confronted held file is =
       let extraction = extraction_of_held held in

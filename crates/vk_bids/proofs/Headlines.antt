@@ -22,7 +22,7 @@ use Rattle.vk_verifier.specs.Statement.{StatementValue, IsStatement}
 use Rattle.vk_verifier.specs.Behind.{case_of}
 use Rattle.vk_verifier.specs.Verdicts.{from_start, statement_of}
 use Rattle.vk_verifier.specs.Acceptance.{Accepts, bit_of, no_lines}
-use Rattle.vk_verifier.specs.Two.{AreAccepted, accepted_of, ahead_behind, base_behind, base_in, same_bit, same_bits}
+use Rattle.vk_verifier.specs.Two.{BothAreAccepted, accepted_of, ahead_behind, base_behind, base_in, same_bit, same_bits}
 use Rattle.vk_verifier.specs.TwoBoards.{BoardBase}
 use Rattle.vk_verifier.specs.TwoLaw.{ahead_in}
 use Rattle.vk_verifier.specs.TwoValues.{AreOfOneBoard, base_with, begun_in, bits_of, board_with, front_in, shown_behind, two_lane_in}
@@ -213,7 +213,7 @@ only_accepted_open s is front file first_challenge first_reply second_challenge 
     let ahead = ahead_behind s rest (from_start first_challenge) (from_start first_reply) (from_start second_challenge) (from_start second_reply) in
     let base = base_in (base_behind s rest (from_start first_challenge) (from_start first_reply) (from_start second_challenge) (from_start second_reply)) in
     let ready : ahead.finding ≡ ends.Ready = ready_behind base ahead.finding (gathered_after (λ (base : Base). base.statement) base ahead.lanes) found in
-    let A : Finding Fault → Type 0 = λ finding. AreAccepted finding in
+    let A : Finding Fault → Type 0 = λ finding. BothAreAccepted finding in
     let both = only_accepted_behind s is front file first_challenge first_reply second_challenge second_reply rest same (subst A (sym ready) tt) in
     let give = accepted_behind_give s is front file first_challenge first_reply second_challenge second_reply rest same both.0 both.1 in
     record { first = both.0; second = both.1; differ = bits_differ {V = Fault} both.0.challenge.bits both.1.challenge.bits (sym give.2.finding ∙ ready) }
@@ -284,7 +284,7 @@ found_ready base ends.Same gathered found = absurd found
 found_ready base ends.Ready gathered found = refl
 
 same_accepted : (base : Option BoardBase) (finding : Finding BoardVerdict) (gathered : Result (List LaneBids) TwoOpeningsSeen)
-    → found_by (λ (base : BoardBase). shown_on base.front) base finding gathered ≡ Same → AreAccepted finding
+    → found_by (λ (base : BoardBase). shown_on base.front) base finding gathered ≡ Same → BothAreAccepted finding
 same_accepted base (ends.Refused second verdict) gathered same = absurd (cc)
 same_accepted base ends.Same gathered same = tt
 same_accepted base ends.Ready gathered same = tt
@@ -294,7 +294,7 @@ only_accepted_are_extracted board first_challenge first_reply second_challenge s
     let ahead = ahead_in board first_challenge first_reply second_challenge second_reply in
     let base = begun_in board first_challenge first_reply second_challenge second_reply in
     let ready : ahead.finding ≡ ends.Ready = found_ready base ahead.finding (gathered_after (λ (base : BoardBase). statement_of base.front) base ahead.lanes) found in
-    let A : Finding BoardVerdict → Type 0 = λ finding. AreAccepted finding in
+    let A : Finding BoardVerdict → Type 0 = λ finding. BothAreAccepted finding in
     let both = only_accepted_give board first_challenge first_reply second_challenge second_reply (subst A (sym ready) tt) in
     let give = accepted_give board first_challenge first_reply second_challenge second_reply both.0 both.1 in
     record { first = both.0; second = both.1; differ = bits_differ {V = BoardVerdict} (bits_of both.0) (bits_of both.1) (sym give.2.finding ∙ ready) }

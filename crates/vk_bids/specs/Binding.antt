@@ -25,7 +25,7 @@ use Rattle.vk_bids.specs.declared.confrontation.Confrontation.TheVariants.{Refus
 use Rattle.vk_bids.specs.declared.confrontation.Confrontation.TheVariants as comes
 use Rattle.vk_bids.specs.declared.extraction.Extracted.{Extracted}
 use Rattle.vk_bids.specs.Confrontation.{confrontation_in, confrontation_on}
-use Rattle.vk_bids.specs.Headline.{HeldFiles, IsExtraction, IsExtractionClash, IsHeld, TwoAccepted}
+use Rattle.vk_bids.specs.Headline.{HeldFiles, IsExtraction, IsExtractionClash, IsHeldFile, TwoAccepted}
 
 -- ---- the seal
 
@@ -156,7 +156,7 @@ confrontation_of_held held secret =
 pub record ConfrontationOf (files : Files) (board first_challenge first_reply second_challenge second_reply secret : List ℕ) (confrontation : Confrontation) : Type 0 where
   pub held : HeldFiles files board first_challenge first_reply second_challenge second_reply
   pub secret_bytes : List ℕ
-  pub secret_is : IsHeld files secret secret_bytes
+  pub secret_is : IsHeldFile files secret secret_bytes
   pub is : confrontation ≡ confrontation_of_held held secret_bytes
 
 -- the confrontation of named files is that of their bytes, where all are held and none is too long

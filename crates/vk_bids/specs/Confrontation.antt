@@ -21,7 +21,7 @@ use Rattle.vk_bids.specs.declared.bids.LaneBids.{LaneBids}
 use Rattle.vk_bids.specs.declared.bids.OpenedBid.{OpenedBid}
 use Rattle.vk_bids.specs.declared.confrontation.ConfrontErr.{ConfrontErr}
 use Rattle.vk_bids.specs.declared.confrontation.ConfrontErr.TheVariants.{Unread, MissingSecret, TooLongSecret}
-use Rattle.vk_bids.specs.declared.confrontation.ConfrontNames.{ConfrontNames}
+use Rattle.vk_bids.specs.declared.confrontation.SecretAndReplies.{SecretAndReplies}
 use Rattle.vk_bids.specs.declared.confrontation.Confrontation.{Confrontation}
 use Rattle.vk_bids.specs.declared.confrontation.Confrontation.TheVariants as comes
 use Rattle.vk_bids.specs.declared.extraction.Extracted.{Extracted}
@@ -118,7 +118,7 @@ confrontation_on files board first_challenge first_reply second_challenge second
   rest ← secret_begun (get files secret)
   Ok (confrontation_of extraction (secret_in (secret_at rest)))
 
-abbrev pub confrontation_named : Files → ConfrontNames → Result Confrontation ConfrontErr
+abbrev pub confrontation_named : Files → SecretAndReplies → Result Confrontation ConfrontErr
 confrontation_named files names =
     let replies = names.replies in
     confrontation_on files replies.board.now replies.challenge1.now replies.reply1.now replies.challenge2.now replies.reply2.now names.secret.now

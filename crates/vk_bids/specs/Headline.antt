@@ -179,7 +179,7 @@ SameIsFound = (board first_challenge first_reply second_challenge second_reply :
 -- ---- in named files
 
 -- the file is held with these bytes, at most 2^30
-pub record IsHeld (files : Files) (name bytes : List ℕ) : Type 0 where
+pub record IsHeldFile (files : Files) (name bytes : List ℕ) : Type 0 where
   pub is : get files name ≡ Some bytes
   pub short : length bytes ≤ 2 ^ 30
 
@@ -187,13 +187,13 @@ pub record IsHeld (files : Files) (name bytes : List ℕ) : Type 0 where
 pub record HeldAttempt (files : Files) (challenge reply : List ℕ) : Type 0 where
   pub challenge_bytes : List ℕ
   pub reply_bytes : List ℕ
-  pub challenge_is : IsHeld files challenge challenge_bytes
-  pub reply_is : IsHeld files reply reply_bytes
+  pub challenge_is : IsHeldFile files challenge challenge_bytes
+  pub reply_is : IsHeldFile files reply reply_bytes
 
 -- so are those of a board, and of two challenges and the replies to them
 pub record HeldFiles (files : Files) (board first_challenge first_reply second_challenge second_reply : List ℕ) : Type 0 where
   pub board_bytes : List ℕ
-  pub board_is : IsHeld files board board_bytes
+  pub board_is : IsHeldFile files board board_bytes
   pub first : HeldAttempt files first_challenge first_reply
   pub second : HeldAttempt files second_challenge second_reply
 

@@ -4,7 +4,7 @@ ghost use Rattle.std.specs.FinMap as map;
 ghost use Rattle.vk_io.specs.Faults.{Causes};
 ghost use Rattle.vk_io.specs.Files.{Files};
 ghost use Rattle.vk_lines.specs.Gives.{Gives};
-ghost use Rattle.vk_lines.specs.Lines.{OnlyReads, Reads, Rest, Starts, rest_of};
+ghost use Rattle.vk_lines.specs.Lines.{OnlyReads, GivesReading, Rest, Starts, rest_of};
 ghost use Rattle.vk_seal.specs.Made.{seal_of};
 ghost use Rattle.vk_seal.specs.Values.{IsSecret};
 ghost use Rattle.vk_board.specs.Fronts.{IsFront};
@@ -24,7 +24,7 @@ use vk_verifier::{BoardVerdict, TwoReplies, VErr};
 
 /// The names of the files that a secret is confronted with, and its own.
 #[derive(Clone, Copy, Debug)]
-pub struct ConfrontNames<'a> {
+pub struct SecretAndReplies<'a> {
     pub replies: TwoReplies<'a>,
     pub secret: &'a str,
 }
@@ -96,7 +96,7 @@ impl From<OutsideErr> for ConfrontErr {
 pub fn confront<S: Shelf>(
     alloc: Global,
     shelf: &mut S,
-    names: &ConfrontNames<'_>,
+    names: &SecretAndReplies<'_>,
 ) -> Result<Confrontation, ConfrontErr>
     ensures told { IfSome (S.held shelf.old) (λ files. Gives fault_of (λ confrontation. confrontation) result (confrontation_named files names.now)) }
     ensures shelf { OnlyReads S.held S.Shelf.faults (ConfrontErr.Unread VErr.Failed) result shelf.old shelf.new }
@@ -154,7 +154,7 @@ fn secret_of<S: Shelf>(
 /// What was read, with a fault line as a value.
 fn secret_or_fault(read: Result<Secret, ReadErr>) -> Result<Result<Secret, u64>, OutsideErr>
     requires { IfOk read IsSecret }
-    ensures told { (rest : Rest) (expected : Result (Secret × Rest) ℕ) → Reads (λ x. x) read rest expected
+    ensures told { (rest : Rest) (expected : Result (Secret × Rest) ℕ) → GivesReading (λ x. x) read rest expected
         → IfOk result (λ secret. secret_in expected ≡ secret) }
     ensures right { IfOk result (λ secret. IfOk secret IsSecret) }
     ensures causes { (before : ℕ) (after : ℕ) → Causes ReadErr.Failed read before after → Causes OutsideErr.Failed result before after }

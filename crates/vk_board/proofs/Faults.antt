@@ -6,26 +6,26 @@ use Rattle.std.specs.Result.{result_err}
 use Rattle.vk_residue.specs.Steps.{◌>>=◌}
 use Rattle.vk_lines.specs.Lines.{Rest, line_by}
 use Rattle.vk_lines.specs.Tokens.{number_line}
-use Rattle.vk_lines.specs.Forms.{Table, Follows, Ends, fault_line, many_at, whole}
+use Rattle.vk_lines.specs.Forms.{Table, Follows, FindsFaults, fault_line, many_at, whole}
 use Rattle.vk_lines.proofs.Faults.{line_follows, many_follows, follows_then, follows_done, ends_then, end_ends, ends_done, fault_line_is}
 use Rattle.vk_board.specs.declared.board.Head.{Head}
 use Rattle.vk_board.specs.declared.board.SealLines.{SealLines}
 use Rattle.vk_board.specs.declared.board.LaneLines.{LaneLines}
 use Rattle.vk_board.specs.Values.{Shape, Frame, frame_of}
 use Rattle.vk_board.specs.Reading.{com_line, posted_line, seats_of, reserve_at, head_at, seal_at, seal_lines_at, lane_at, lane_lines_at, behind_at, board_at}
-use Rattle.vk_board.specs.Tables.{InHead, Seal, Input, Lane, Wire, Row, Last, Over, Place, lane_place, row_place, wire_place, seal_place, input_place, behind_head, HeadTable, sealed_table}
+use Rattle.vk_board.specs.Tables.{InHead, Seal, Input, Lane, Wire, Row, Last, Over, BoardPlace, lane_place, row_place, wire_place, seal_place, input_place, behind_head, HeadTable, sealed_table}
 use Rattle.vk_board.specs.Tables.{Heading, Auction, Width, Lanes, Seals, Reserve, Winner, Price, HeadPlace, reserve_place, head_table, board_table}
 use Rattle.vk_board.proofs.Seats.{seats_more}
 use Rattle.vk_board.proofs.Forms.{head_with, seal_with, lane_with}
 use Rattle.vk_board.proofs.Boards.{board_with}
 
 module _ {H : Type 0} (head : HeadTable H) where
-  abbrev table : Table (Place H)
+  abbrev table : Table (BoardPlace H)
   table = sealed_table head
 
   -- a line of the head, and what is read behind it
-  pub head_line_then : {X Z : Type 0} (place : H) (parse : List ℕ → Option X) (between : X → Place H)
-      {read : X → Rest → Result (Z × Rest) ℕ} {after : Z → Place H}
+  pub head_line_then : {X Z : Type 0} (place : H) (parse : List ℕ → Option X) (between : X → BoardPlace H)
+      {read : X → Rest → Result (Z × Rest) ℕ} {after : Z → BoardPlace H}
       → ((text : List ℕ) → head.next place text ≡ option_map between (parse text))
       → ((x : X) → Follows table (between x) (read x) after)
       → Follows table (InHead place) (λ rest. line_by parse rest >>= λ p. read p.0 p.1) after
@@ -47,7 +47,7 @@ module _ {H : Type 0} (head : HeadTable H) where
         → Follows table (seal_place frame more (seats_of before ++ seal.seat ∷ [])) (λ rest. Ok (seal, rest))
         (λ s. seal_place frame more (seats_of (before ++ s ∷ [])))
     seal_done more before seal =
-        let after : SealLines → Place H = λ s. seal_place frame more (seats_of (before ++ s ∷ [])) in
+        let after : SealLines → BoardPlace H = λ s. seal_place frame more (seats_of (before ++ s ∷ [])) in
         let P : List ℕ → Type 0 = λ seats. Follows table (seal_place frame more seats) (λ rest. Ok (seal, rest)) after in
         subst P (seats_more before seal) (follows_done table after seal)
 
@@ -57,7 +57,7 @@ module _ {H : Type 0} (head : HeadTable H) where
     unfolding seal_at
     seal_follows more before =
         let seats : List ℕ = seats_of before in
-        let inputs : ℕ → Place H = λ seat. input_place frame more (seats ++ seat ∷ []) frame.lanes in
+        let inputs : ℕ → BoardPlace H = λ seat. input_place frame more (seats ++ seat ∷ []) frame.lanes in
         follows_then table (Seal frame more seats) (line_follows table (Seal frame more seats) _ inputs (λ text. refl) refl) (λ seat.
         follows_then table (inputs seat) (inputs_follow more (seats ++ seat ∷ []) frame.lanes) (λ coms.
         seal_done more before (seal_with seat coms)))
@@ -87,7 +87,7 @@ module _ {H : Type 0} (head : HeadTable H) where
         → Follows table (lane_place frame (length before + 1 + 1) more) (λ rest. Ok (lines, rest))
         (λ l. lane_place frame (length (before ++ l ∷ []) + 1) more)
     lane_done more before lines =
-        let after : LaneLines → Place H = λ l. lane_place frame (length (before ++ l ∷ []) + 1) more in
+        let after : LaneLines → BoardPlace H = λ l. lane_place frame (length (before ++ l ∷ []) + 1) more in
         let P : ℕ → Type 0 = λ lane. Follows table (lane_place frame lane more) (λ rest. Ok (lines, rest)) after in
         let number : length (before ++ lines ∷ []) + 1 ≡ length before + 1 + 1 = omega (arith, length-append before (lines ∷ [])) in
         subst P number (follows_done table after lines)
@@ -99,8 +99,8 @@ module _ {H : Type 0} (head : HeadTable H) where
     unfolding lane_at
     lane_follows more before =
         let lane : ℕ = length before + 1 in
-        let wires : Place H = wire_place frame lane more frame.shape.wires in
-        let rows : Place H = row_place frame lane more frame.shape.rows in
+        let wires : BoardPlace H = wire_place frame lane more frame.shape.wires in
+        let rows : BoardPlace H = row_place frame lane more frame.shape.rows in
         follows_then table (Lane frame lane more) (line_follows table (Lane frame lane more) _ (λ _. wires) (λ text. refl) refl) (λ number.
         follows_then table wires (wires_follow lane more frame.shape.wires) (λ coms.
         follows_then table rows (rows_follow lane more frame.shape.rows) (λ posted.
@@ -113,7 +113,7 @@ module _ {H : Type 0} (head : HeadTable H) where
 
     -- the seals, the lanes and the end, from which a value is made
     pub behind_ends : {B : Type 0} (make : List SealLines → List LaneLines → B)
-        → Ends table (behind_head frame) (behind_at frame make)
+        → FindsFaults table (behind_head frame) (behind_at frame make)
     behind_ends make =
         ends_then table (behind_head frame) seals_follow (λ seals.
         ends_then table (lane_place frame 1 frame.lanes) lanes_follow (λ lanes.
@@ -138,7 +138,7 @@ pub head_follows : (shape : Head → Shape)
 unfolding head_at reserve_at
 head_follows shape =
     let head = head_table shape in
-    let after : Head → Place HeadPlace = λ h. behind_head (frame_of shape h) in
+    let after : Head → BoardPlace HeadPlace = λ h. behind_head (frame_of shape h) in
     head_line_then head Heading _ (λ version. InHead (Auction version)) (λ text. refl) (λ version.
     head_line_then head (Auction version) _ (λ auction. InHead (Width version auction)) (λ text. refl) (λ auction.
     head_line_then head (Width version auction) _ (λ width. InHead (Lanes version auction width)) (λ text. refl) (λ width.
@@ -149,7 +149,7 @@ head_follows shape =
     head_line_then head (Price version auction width lanes seals reserve winner) _ (λ price. after (head_with version auction width lanes seals reserve winner price)) (λ text. refl) (λ price.
     follows_done (board_table shape) after (head_with version auction width lanes seals reserve winner price)))))))))
 
-pub board_ends : (shape : Head → Shape) → Ends (board_table shape) (InHead Heading) (board_at shape)
+pub board_ends : (shape : Head → Shape) → FindsFaults (board_table shape) (InHead Heading) (board_at shape)
 unfolding board_at
 board_ends shape =
     ends_then (board_table shape) (InHead Heading) (head_follows shape)

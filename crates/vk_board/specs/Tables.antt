@@ -12,56 +12,56 @@ use Rattle.vk_board.specs.Reading.{com_line, posted_line, seat_line, winner_line
 -- to come. The places of a head are its own. Among the seals: what the head told, how many follow this one, the
 -- seats so far, and how many lines of this one follow. Among the lanes: what the head told, the number of this
 -- one, how many follow it, and how many lines of this kind follow
-pub data Place (H : Type 0) : Type 0 where
-  InHead : H → Place H
-  Seal : Frame → ℕ → List ℕ → Place H
-  Input : Frame → ℕ → List ℕ → ℕ → Place H
-  Lane : Frame → ℕ → ℕ → Place H
-  Wire : Frame → ℕ → ℕ → ℕ → Place H
-  Row : Frame → ℕ → ℕ → ℕ → Place H
-  Last : Place H
-  Over : Place H
+pub data BoardPlace (H : Type 0) : Type 0 where
+  InHead : H → BoardPlace H
+  Seal : Frame → ℕ → List ℕ → BoardPlace H
+  Input : Frame → ℕ → List ℕ → ℕ → BoardPlace H
+  Lane : Frame → ℕ → ℕ → BoardPlace H
+  Wire : Frame → ℕ → ℕ → ℕ → BoardPlace H
+  Row : Frame → ℕ → ℕ → ℕ → BoardPlace H
+  Last : BoardPlace H
+  Over : BoardPlace H
 
-abbrev pub is_over : {H : Type 0} → Place H → Bool
+abbrev pub is_over : {H : Type 0} → BoardPlace H → Bool
 is_over Over = true
 is_over _ = false
 
 -- the place where so many lanes are left, from that number on
-abbrev pub lane_place : {H : Type 0} → Frame → ℕ → ℕ → Place H
+abbrev pub lane_place : {H : Type 0} → Frame → ℕ → ℕ → BoardPlace H
 lane_place frame lane zero = Last
 lane_place frame lane (suc more) = Lane frame lane more
 
 -- where so many rows of that lane are left, and so many lanes after it
-abbrev pub row_place : {H : Type 0} → Frame → ℕ → ℕ → ℕ → Place H
+abbrev pub row_place : {H : Type 0} → Frame → ℕ → ℕ → ℕ → BoardPlace H
 row_place frame lane lanes zero = lane_place frame (lane + 1) lanes
 row_place frame lane lanes (suc more) = Row frame lane lanes more
 
 -- where so many wires of that lane are left, all its rows, and so many lanes after it
-abbrev pub wire_place : {H : Type 0} → Frame → ℕ → ℕ → ℕ → Place H
+abbrev pub wire_place : {H : Type 0} → Frame → ℕ → ℕ → ℕ → BoardPlace H
 wire_place frame lane lanes zero = row_place frame lane lanes frame.shape.rows
 wire_place frame lane lanes (suc more) = Wire frame lane lanes more
 
 -- where so many seals are left after those with these seats
-abbrev pub seal_place : {H : Type 0} → Frame → ℕ → List ℕ → Place H
+abbrev pub seal_place : {H : Type 0} → Frame → ℕ → List ℕ → BoardPlace H
 seal_place frame zero seats = lane_place frame 1 frame.lanes
 seal_place frame (suc more) seats = Seal frame more seats
 
 -- where so many lines of a seal are left, and so many seals after it; its seat is among these
-abbrev pub input_place : {H : Type 0} → Frame → ℕ → List ℕ → ℕ → Place H
+abbrev pub input_place : {H : Type 0} → Frame → ℕ → List ℕ → ℕ → BoardPlace H
 input_place frame seals seats zero = seal_place frame seals seats
 input_place frame seals seats (suc more) = Input frame seals seats more
 
 -- where all seals and lanes of a frame are left
-abbrev pub behind_head : {H : Type 0} → Frame → Place H
+abbrev pub behind_head : {H : Type 0} → Frame → BoardPlace H
 behind_head frame = seal_place frame frame.seals []
 
 -- a head by its table: its first place, and the place after a line that may stand at one of its places, None
 -- where no such line may. The last of them leads to the place behind the head
 pub record HeadTable (H : Type 0) : Type 0 where
   pub first : H
-  pub next : H → List ℕ → Option (Place H)
+  pub next : H → List ℕ → Option (BoardPlace H)
 
-abbrev pub sealed_next : {H : Type 0} → HeadTable H → Place H → List ℕ → Option (Place H)
+abbrev pub sealed_next : {H : Type 0} → HeadTable H → BoardPlace H → List ℕ → Option (BoardPlace H)
 sealed_next head (InHead place) text = head.next place text
 sealed_next head (Seal frame more seats) text =
     option_map (λ seat. input_place frame more (seats ++ seat ∷ []) frame.lanes) (seat_line seats text)
@@ -77,7 +77,7 @@ sealed_next head Last text = option_map (λ _. Over) (word_of (codes "end") text
 sealed_next head Over text = None
 
 -- a file with this head
-abbrev pub sealed_table : {H : Type 0} → HeadTable H → Table (Place H)
+abbrev pub sealed_table : {H : Type 0} → HeadTable H → Table (BoardPlace H)
 sealed_table head = record { first = InHead head.first; next = sealed_next head; over = is_over }
 
 -- ---- a board
@@ -94,11 +94,11 @@ pub data HeadPlace : Type 0 where
   Price : ℕ → List ℕ → ℕ → ℕ → ℕ → ℕ → Option ℕ → HeadPlace
 
 -- behind the number of seals: version 2 names a reserve, version 1 has none
-abbrev pub reserve_place : ℕ → List ℕ → ℕ → ℕ → ℕ → Place HeadPlace
+abbrev pub reserve_place : ℕ → List ℕ → ℕ → ℕ → ℕ → BoardPlace HeadPlace
 reserve_place version auction width lanes seals =
     if version == 2 then InHead (Reserve version auction width lanes seals) else InHead (Winner version auction width lanes seals 0)
 
-abbrev pub head_next : (Head → Shape) → HeadPlace → List ℕ → Option (Place HeadPlace)
+abbrev pub head_next : (Head → Shape) → HeadPlace → List ℕ → Option (BoardPlace HeadPlace)
 head_next shape Heading text = option_map (λ version. InHead (Auction version)) (number_line (codes "vickrey-board") 1 2 text)
 head_next shape (Auction version) text = option_map (λ auction. InHead (Width version auction)) (id_line (codes "auction") text)
 head_next shape (Width version auction) text =
@@ -118,5 +118,5 @@ head_next shape (Price version auction width lanes seals reserve winner) text =
 abbrev pub head_table : (Head → Shape) → HeadTable HeadPlace
 head_table shape = record { first = Heading; next = head_next shape }
 
-abbrev pub board_table : (Head → Shape) → Table (Place HeadPlace)
+abbrev pub board_table : (Head → Shape) → Table (BoardPlace HeadPlace)
 board_table shape = sealed_table (head_table shape)

@@ -30,25 +30,25 @@ AreOrders script orders = AllByRecursion (IsOrder script) orders
 
 -- ---- what may stand next
 
-pub data Place : Type 0 where
-  Heading : Place
-  Commands : Place
-  Ended : Place
+pub data ScriptPlace : Type 0 where
+  Heading : ScriptPlace
+  Commands : ScriptPlace
+  Ended : ScriptPlace
 
-abbrev pub is_ended : Place → Bool
+abbrev pub is_ended : ScriptPlace → Bool
 is_ended Ended = true
 is_ended _ = false
 
-abbrev pub place_after : ScriptLine → Place
+abbrev pub place_after : ScriptLine → ScriptPlace
 place_after (Order order) = Commands
 place_after Over = Ended
 
-abbrev pub next_in : List ℕ → Place → List ℕ → Option Place
+abbrev pub next_in : List ℕ → ScriptPlace → List ℕ → Option ScriptPlace
 next_in script Heading text = option_map (λ _. Commands) (word_of heading text)
 next_in script Commands text = option_map place_after (script_line script text)
 next_in script Ended text = None
 
-abbrev pub script_table : List ℕ → Table Place
+abbrev pub script_table : List ℕ → Table ScriptPlace
 script_table script = record { first = Heading; next = next_in script; over = is_ended }
 
 -- ---- the fault line

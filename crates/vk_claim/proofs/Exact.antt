@@ -18,7 +18,7 @@ use Rattle.vk_claim.specs.declared.verdict.ClaimVerdict.TheVariants.{Accepted, M
 use Rattle.vk_claim.specs.Values.{Plans, plan_for}
 use Rattle.vk_claim.specs.Reading.{claim_front_at}
 use Rattle.vk_claim.specs.Verdicts.{as_claim, claim_at, claim_judged, claim_verdict_of, verdict_behind, verdict_past}
-use Rattle.vk_claim.specs.Acceptance.{AdmittedFront, ClaimAccepts, ClaimFails, ClaimVerdictsAreExact, FailsBehind, FrontStops, HasClaimFront, IsClaimLine, PublicFails, statement_of, text_of}
+use Rattle.vk_claim.specs.Acceptance.{AdmittedFront, ClaimAccepts, ClaimFails, ClaimVerdictsAreExact, ClaimFailsBehind, FrontStops, HasClaimFront, IsClaimLine, PublicFails, statement_of, text_of}
 use Rattle.vk_claim.proofs.Fronts.{AreRight, Goes, Refuses, Stops, Way, claim_found, claim_of, claim_refused, claim_stops, front_found, front_shown, line_tells, line_told, statement_right, stops_there, way}
 
 -- ---- the fault that a verdict tells
@@ -159,7 +159,7 @@ module _ (plans : Plans) (right : AreRight plans) (file challenge reply : List �
   stops_by (Refuses front after read none) fault stops = absurd (stops.none front (front_shown plans file front after read))
   stops_by (Goes shown after read text) fault stops = absurd (stops.none shown.front (front_shown plans file shown.front after read))
 
-  fails : (fault : Fault) → FailsBehind plans file challenge reply fault → verdict ≡ as_claim fault
+  fails : (fault : Fault) → ClaimFailsBehind plans file challenge reply fault → verdict ≡ as_claim fault
   fails fault why =
       let shown = why.shown in
       let read = found shown why.begins in

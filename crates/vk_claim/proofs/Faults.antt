@@ -2,9 +2,9 @@
 use Rattle.std.proofs.Common.{◌≡◌, ℕ, List, [], ◌∷◌, ◌++◌, refl}
 use Rattle.std.specs.Result.{result_err}
 use Rattle.vk_lines.specs.Lines.{line_by}
-use Rattle.vk_lines.specs.Forms.{Ends, Follows, Table, fault_line, many_at, whole}
+use Rattle.vk_lines.specs.Forms.{FindsFaults, Follows, Table, fault_line, many_at, whole}
 use Rattle.vk_lines.proofs.Faults.{ends_then, fault_line_is, follows_done, follows_then, line_follows, many_follows}
-use Rattle.vk_board.specs.Tables.{InHead, Place, behind_head, lane_place}
+use Rattle.vk_board.specs.Tables.{InHead, BoardPlace, behind_head, lane_place}
 use Rattle.vk_board.specs.Values.{Shape}
 use Rattle.vk_board.proofs.Faults.{behind_ends, head_line_then, seals_follow}
 use Rattle.vk_claim.specs.declared.head.ClaimHead.{ClaimHead}
@@ -14,11 +14,11 @@ use Rattle.vk_claim.specs.Reading.{claim_file_at, claim_file_with, claim_front_a
 use Rattle.vk_claim.specs.Tables.{Auction, ClaimPlace, Count, Heading, Inputs, KindLine, Lanes, Number, claim_head_table, claim_table, number_place}
 
 module _ (shape : ClaimHead → Shape) where
-  abbrev table : Table (Place ClaimPlace)
+  abbrev table : Table (BoardPlace ClaimPlace)
   table = claim_table shape
 
   -- where all seals and lanes of the head are left
-  abbrev behind : ClaimHead → Place ClaimPlace
+  abbrev behind : ClaimHead → BoardPlace ClaimPlace
   behind head = behind_head (claim_frame shape head)
 
   each_follows : (head : List ℕ → ClaimHead) (count : ℕ)
@@ -46,7 +46,7 @@ module _ (shape : ClaimHead → Shape) where
       follows_done table behind (head_with auction kind lanes inputs numbers)))))))
 
   -- where the lanes begin
-  abbrev pub lanes_place : ClaimFront → Place ClaimPlace
+  abbrev pub lanes_place : ClaimFront → BoardPlace ClaimPlace
   lanes_place front = lane_place (claim_frame shape front.head) 1 front.head.lanes
 
   pub front_follows : Follows table (InHead Heading) claim_front_at lanes_place
@@ -56,7 +56,7 @@ module _ (shape : ClaimHead → Shape) where
       follows_then table (behind head) (seals_follow (claim_head_table shape) (claim_frame shape head)) (λ seals.
       follows_done table lanes_place (claim_front_with head seals)))
 
-  pub file_ends : Ends table (InHead Heading) (claim_file_at shape)
+  pub file_ends : FindsFaults table (InHead Heading) (claim_file_at shape)
   unfolding claim_file_at
   file_ends =
       ends_then table (InHead Heading) head_follows

@@ -4,7 +4,7 @@ use Rattle.std.proofs.Common.{◌≡◌, ℕ, ◌+◌, List, ◌++◌, length, O
 use Rattle.std.proofs.lemmas.Option.{same_Some}
 use Rattle.vk_residue.specs.Steps.{◌>>=◌}
 use Rattle.vk_lines.specs.Lines.{Rest, end_at}
-use Rattle.vk_lines.specs.Forms.{Ends, fault_at, many_at}
+use Rattle.vk_lines.specs.Forms.{FindsFaults, fault_at, many_at}
 use Rattle.vk_lines.proofs.Faults.{end_ends, ends_done, ends_then}
 use Rattle.vk_plan.specs.Plans.{IsPlan, PlanValue}
 use Rattle.vk_board.specs.declared.board.LaneLines.{LaneLines}
@@ -125,12 +125,12 @@ module _ (plans : Plans) (file : List ℕ) where
     lines_then lanes = end_at lanes.1 >>= λ over. Ok (lanes.0, over.1)
 
     -- reading on from the first lane finds the fault that the table gives
-    lanes_end : Ends (claim_table (shape_for plans)) (lanes_place (shape_for plans) shown.front) (lanes_and_end_at (statement_of shown))
+    lanes_end : FindsFaults (claim_table (shape_for plans)) (lanes_place (shape_for plans) shown.front) (lanes_and_end_at (statement_of shown))
     lanes_end =
         let table = claim_table (shape_for plans) in
         let place = lanes_place (shape_for plans) shown.front in
         let frame = claim_frame (shape_for plans) shown.front.head in
-        let E : Option PlanValue → Type 0 = λ plan. Ends table place
+        let E : Option PlanValue → Type 0 = λ plan. FindsFaults table place
         (λ rest. many_at shown.front.head.lanes (λ before. lane_at (length before + 1) (shape_with plan).wires (shape_with plan).rows) rest >>= lines_then) in
         subst E shown.admitted (
         ends_then table place (lanes_follow (claim_head_table (shape_for plans)) frame) (λ lanes.

@@ -8,7 +8,7 @@ use Rattle.vk_verifier.specs.declared.stage.Base.{Base}
 use Rattle.vk_verifier.specs.declared.stage.Finding.{Finding}
 use Rattle.vk_verifier.specs.declared.stage.Finding.TheVariants as finds
 use Rattle.vk_verifier.specs.Behind.{behind_judged}
-use Rattle.vk_verifier.specs.Two.{Ahead, AreAccepted, accepted_of, ahead_behind, base_behind, base_in, same_bits, two_result}
+use Rattle.vk_verifier.specs.Two.{Ahead, BothAreAccepted, accepted_of, ahead_behind, base_behind, base_in, same_bits, two_result}
 use Rattle.vk_verifier.specs.TwoLaw.{bits_in}
 use Rattle.vk_verifier.specs.TwoValues.{GivesBehind}
 use Rattle.vk_verifier.specs.Verdicts.{from_start}
@@ -116,7 +116,7 @@ given_is head kept (Ok lanes) = tt
 given_is head kept (Err two) = tt
 
 by_finding : (head : ClaimHead) (kept : Base → List LaneBids → OpenedLanes) (base : Option Base) (finding : Finding Fault)
-    (gathered : Result (List LaneBids) TwoOpeningsSeen) → (AreAccepted finding → IsSome base)
+    (gathered : Result (List LaneBids) TwoOpeningsSeen) → (BothAreAccepted finding → IsSome base)
     → IsFoundBy (as_claim_finding finding) (claim_extraction_with head (found_by kept base finding gathered))
 by_finding head kept base (finds.Refused second fault) gathered known = refl
 by_finding head kept base finds.Same gathered known = refl
@@ -131,7 +131,7 @@ module _ (plans : Plans) (right : AreRight plans) (file challenge reply other se
 
   -- the base is known where both replies are accepted
   base_known : (shown : AdmittedFront plans) (after : Rest) → file ≡ text_of shown ++ after.left
-      → AreAccepted (ahead_behind (statement_of shown) after (from_start challenge) (from_start reply) (from_start other) (from_start second)).finding
+      → BothAreAccepted (ahead_behind (statement_of shown) after (from_start challenge) (from_start reply) (from_start other) (from_start second)).finding
       → IsSome (base_in (base_behind (statement_of shown) after (from_start challenge) (from_start reply) (from_start other) (from_start second)))
   base_known shown after text are =
       let s = statement_of shown in

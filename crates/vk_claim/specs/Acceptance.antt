@@ -59,13 +59,13 @@ pub record FrontStops (plans : Plans) (file : List ℕ) (fault : Fault) : Type 0
   pub none : (front : ClaimFront) → ¬ HasClaimFront file front
 
 -- the file has a front whose public part is admitted, and this fault behind it
-pub record FailsBehind (plans : Plans) (file challenge reply : List ℕ) (fault : Fault) : Type 0 where
+pub record ClaimFailsBehind (plans : Plans) (file challenge reply : List ℕ) (fault : Fault) : Type 0 where
   pub shown : AdmittedFront plans
   pub begins : BeginsWith file (text_of shown)
   pub holds : FaultHolds (statement_of shown) (text_of shown) (IsClaimLine plans file) fault file challenge reply
 
 abbrev pub ClaimFails : Plans → List ℕ → List ℕ → List ℕ → Fault → Type 0
-ClaimFails plans file challenge reply fault = FrontStops plans file fault ⊎ FailsBehind plans file challenge reply fault
+ClaimFails plans file challenge reply fault = FrontStops plans file fault ⊎ ClaimFailsBehind plans file challenge reply fault
 
 -- the verdict is that there is no fault exactly where the reply is accepted; that the public part is not admitted
 -- exactly where it isn't; and each fault exactly where it holds. There is no other verdict

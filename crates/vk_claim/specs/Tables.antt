@@ -3,7 +3,7 @@ use Rattle.std.specs.Prelude.{ℕ, zero, suc, List, [], ◌∷◌, ◌++◌, cod
 use Rattle.vk_lines.specs.Forms.{Table}
 use Rattle.vk_lines.specs.Tokens.{id_line, number_line, word_of}
 use Rattle.vk_board.specs.Values.{Shape}
-use Rattle.vk_board.specs.Tables.{HeadTable, InHead, Place, behind_head, sealed_table}
+use Rattle.vk_board.specs.Tables.{HeadTable, InHead, BoardPlace, behind_head, sealed_table}
 use Rattle.vk_claim.specs.declared.head.ClaimHead.{ClaimHead}
 use Rattle.vk_claim.specs.declared.head.Kind.{Kind}
 use Rattle.vk_claim.specs.Values.{claim_frame}
@@ -21,11 +21,11 @@ pub data ClaimPlace : Type 0 where
   Number : (List ℕ → ClaimHead) → ℕ → List ℕ → ClaimPlace
 
 -- where so many numbers are left after these
-abbrev pub number_place : (ClaimHead → Shape) → (List ℕ → ClaimHead) → ℕ → List ℕ → Place ClaimPlace
+abbrev pub number_place : (ClaimHead → Shape) → (List ℕ → ClaimHead) → ℕ → List ℕ → BoardPlace ClaimPlace
 number_place shape head zero numbers = behind_head (claim_frame shape (head numbers))
 number_place shape head (suc more) numbers = InHead (Number head more numbers)
 
-abbrev pub claim_next : (ClaimHead → Shape) → ClaimPlace → List ℕ → Option (Place ClaimPlace)
+abbrev pub claim_next : (ClaimHead → Shape) → ClaimPlace → List ℕ → Option (BoardPlace ClaimPlace)
 claim_next shape Heading text = option_map (λ _. InHead Auction) (word_of (codes "vickrey-claim 1") text)
 claim_next shape Auction text = option_map (λ auction. InHead (KindLine auction)) (id_line (codes "auction") text)
 claim_next shape (KindLine auction) text = option_map (λ kind. InHead (Lanes auction kind)) (kind_line text)
@@ -41,5 +41,5 @@ abbrev pub claim_head_table : (ClaimHead → Shape) → HeadTable ClaimPlace
 claim_head_table shape = record { first = Heading; next = claim_next shape }
 
 -- a claim file whose head tells the shape of its lanes
-abbrev pub claim_table : (ClaimHead → Shape) → Table (Place ClaimPlace)
+abbrev pub claim_table : (ClaimHead → Shape) → Table (BoardPlace ClaimPlace)
 claim_table shape = sealed_table (claim_head_table shape)

@@ -114,7 +114,7 @@ IsNextOfClaim (Ok old) (Ok new) lane = IsNextLane old.lanes new.lanes lane
 IsNextOfClaim _ _ lane = ⊥
 
 -- one step: the next lane is given, or none, where no lane is given any more; what was read before the first lane stays
-pub record IsStep (old : Checked) (lane : Option TwoLane) (new : Checked) : Type 0 where
+pub record IsLaneStep (old : Checked) (lane : Option TwoLane) (new : Checked) : Type 0 where
   pub next : IfSome lane (IsNextOfClaim old new)
   pub none : lane ≡ None → IsClaimOver new × (claim_given new ≡ claim_given old)
   pub base : claim_base new ≡ claim_base old

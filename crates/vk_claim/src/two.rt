@@ -3,9 +3,9 @@ ghost use Rattle.std.specs.Prelude.{◌≡◌, None, Some, Ok, IfOk, IfSome, IsS
 ghost use Rattle.vk_lines.specs.Gives.{Gives};
 ghost use Rattle.vk_lines.specs.Lines.{OnlyReads};
 ghost use Rattle.vk_verifier.specs.Verdicts.{unread_file};
-ghost use Rattle.vk_verifier.specs.Two.{AreAccepted, of_two};
+ghost use Rattle.vk_verifier.specs.Two.{BothAreAccepted, of_two};
 ghost use Rattle.vk_claim.specs.Verdicts.{IsOfHead};
-ghost use Rattle.vk_claim.specs.Two.{ClaimGoesOn, HasClaim, IsChecked, IsClaimCourse, IsClaimOver, IsStep, ahead_after_claim, as_claim_finding, base_after_claim, claim_ahead, claim_base, claim_base_at, claim_base_on, claim_finding, claim_given, two_claims, two_claims_on};
+ghost use Rattle.vk_claim.specs.Two.{ClaimGoesOn, HasClaim, IsChecked, IsClaimCourse, IsClaimOver, IsLaneStep, ahead_after_claim, as_claim_finding, base_after_claim, claim_ahead, claim_base, claim_base_at, claim_base_on, claim_finding, claim_given, two_claims, two_claims_on};
 
 use crate::circuits::Circuits;
 use crate::claim::{Claim, read_claim};
@@ -89,7 +89,7 @@ impl ClaimChecker {
         shelf: &mut S,
     ) -> Result<(Self, Option<TwoLane>), OutsideErr>
         ensures told { IfSome (S.held shelf.old) (λ files. IfOk result (λ next. ClaimGoesOn self next.1 next.0 files)) }
-        ensures step { IfOk result (λ next. IsStep self next.1 next.0) }
+        ensures step { IfOk result (λ next. IsLaneStep self next.1 next.0) }
         ensures shelf { OnlyReads S.held S.Shelf.faults OutsideErr.Failed result shelf.old shelf.new }
     {
         let ClaimChecker { course } = self;
@@ -109,7 +109,7 @@ impl ClaimChecker {
     pub fn finding(&self) -> ClaimFinding
         requires { IsClaimOver self.now }
         ensures value { claim_finding self.now ≡ Some result }
-        ensures all { AreAccepted result → IsSomeAnd (claim_base self.now) (λ known. claim_given self.now ≡ known.base.statement.lanes) }
+        ensures all { BothAreAccepted result → IsSomeAnd (claim_base self.now) (λ known. claim_given self.now ≡ known.base.statement.lanes) }
     {
         match &self.course {
             Ok(course) => as_claim_finding(course.lanes.finding()),
@@ -153,7 +153,7 @@ impl ClaimCourse {
         requires { IsClaimCourse self }
         ensures told { IfSome (S.held shelf.old) (λ files. IfOk result (λ next. ClaimGoesOn (Ok self) next.1 (Ok next.0) files)) }
         ensures right { IfOk result (λ next. IsClaimCourse next.0) }
-        ensures step { IfOk result (λ next. IsStep (Ok self) next.1 (Ok next.0)) }
+        ensures step { IfOk result (λ next. IsLaneStep (Ok self) next.1 (Ok next.0)) }
         ensures shelf { OnlyReads S.held S.Shelf.faults OutsideErr.Failed result shelf.old shelf.new }
     {
         let ClaimCourse { head, lanes } = self;

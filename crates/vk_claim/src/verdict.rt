@@ -11,7 +11,7 @@ use crate::claim::read_claim;
 use std::alloc::Global;
 use vk_io::{OutsideErr, Shelf};
 use vk_verifier::{
-    Attempt, AttemptNames, Fault, Part, Statement, VErr, begin_attempt, judge_behind, known,
+    Attempt, OneReply, Fault, Part, Statement, VErr, begin_attempt, judge_behind, known,
 };
 use vk_wire::WireFault;
 
@@ -75,7 +75,7 @@ pub fn claim_verdict<S: Shelf, Q: Circuits>(
     ensures shelf { OnlyReads S.held S.Shelf.faults VErr.Failed result shelf.old shelf.new }
 {
     let file = board;
-    let names = AttemptNames {
+    let names = OneReply {
         file,
         challenge,
         reply,

@@ -54,7 +54,7 @@ use Rattle.vk_claim_sample.proofs.Shown.{IsShown, is_shown}
 use Rattle.vk_claim_sample.proofs.Proofs.{IsMadeOf, is_sealed, made_of, seals_may_stand}
 use Rattle.vk_claim_sample.proofs.Sizes.{file_is_short, reply_is_short}
 use Rattle.vk_claim_sample.specs.Claims.{MayPublish, head_with, kind_in, proof_by, proof_with, sizes_of}
-use Rattle.vk_claim_sample.specs.Laws.{AreAccepted, HasSize, OpensAll}
+use Rattle.vk_claim_sample.specs.Laws.{ClaimSampleIsAccepted, HasSize, ClaimSampleOpensAll}
 use Rattle.vk_claim_sample.specs.Texts.{claim_names, files_of}
 
 -- ---- what both replies of an honest proof show
@@ -171,7 +171,7 @@ module _ (kind : ClaimKind) (case : SampleCase) (is : IsCaseOf (sizes_of kind) c
       let P : List ℕ → Type 0 = λ f. ClaimAccepts admitted_plan f (challenge_text challenge) (reply_in proof challenge.bits) in
       subst P (sym file_is) (record { shown = admitted; behind = accepts_proof case.width proof sealed challenge right count (claim_front_text front) })
 
-  pub are_accepted : AreAccepted kind case numbers proof
+  pub are_accepted : ClaimSampleIsAccepted kind case numbers proof
   are_accepted = record {
     first = accepted case.first is.right.first is.right.first_count;
     second = accepted case.second is.right.second is.right.second_count;
@@ -264,7 +264,7 @@ module _ (kind : ClaimKind) (case : SampleCase) (is : IsCaseOf (sizes_of kind) c
         second = attempt first [] claim_names.second case.second is.right.second is.right.second_count refl refl;
       }
 
-  pub opens_all : OpensAll kind case numbers proof
+  pub opens_all : ClaimSampleOpensAll kind case numbers proof
   opens_all = record {
     found = all_found;
     read = λ files.
@@ -291,8 +291,8 @@ module _ (kind : ClaimKind) (case : SampleCase) (is : IsCaseOf (sizes_of kind) c
   pub has_size : HasSize kind case numbers proof
   has_size = subst (HasSize kind case numbers) of.same (size kind case is numbers shows of.rows of.all of.none)
 
-  pub accepts : AreAccepted kind case numbers proof
-  accepts = subst (AreAccepted kind case numbers) of.same (are_accepted kind case is numbers shows of.rows of.all of.none)
+  pub accepts : ClaimSampleIsAccepted kind case numbers proof
+  accepts = subst (ClaimSampleIsAccepted kind case numbers) of.same (are_accepted kind case is numbers shows of.rows of.all of.none)
 
-  pub opens : OpensAll kind case numbers proof
-  opens = subst (OpensAll kind case numbers) of.same (opens_all kind case is numbers shows of.rows of.all of.none)
+  pub opens : ClaimSampleOpensAll kind case numbers proof
+  opens = subst (ClaimSampleOpensAll kind case numbers) of.same (opens_all kind case is numbers shows of.rows of.all of.none)

@@ -5,7 +5,7 @@ use Rattle.std.proofs.lemmas.Bool.{cases_lt}
 use Rattle.std.proofs.Math.Nat.{pow-le-pow_right}
 use Rattle.std.proofs.lemmas.List.Elements.{All-weaker, recursion_from_All}
 use Rattle.std.proofs.lemmas.Nat.{mul-le, pow_pos}
-use Rattle.vk_uniform.specs.Outcomes.{IsLoser, IsPosition, IsUniformOutcome, bid_at}
+use Rattle.vk_uniform.specs.Outcomes.{IsLoser, IsPositionAmong, IsUniformOutcome, bid_at}
 use Rattle.vk_uniform.specs.Losers.{loser_listed, losers, losers_lose}
 use Rattle.vk_uniform.specs.OutcomeLaws.{outcome_exists, outcome_is_one}
 use Rattle.vk_uniform.specs.UniformLaws.{some_loses_not_all, uniform_rows, uniform_wires}
@@ -41,7 +41,7 @@ module _ (case : SampleCase) (is : IsCaseOf (sizes_of Uniform) case) (winners : 
       enough = omega (arith, count);
       wide = is.right.size.width;
       within_width = price_small case.width case.bids winners price is.right.bids sale;
-      are_positions = subst (λ n. All (IsPosition n) winners) is.right.bid_count sale.are_positions;
+      are_positions = subst (λ n. All (IsPositionAmong n) winners) is.right.bid_count sale.are_positions;
       ascending = sale.ascending;
     };
     all_win_for_0 = subst (λ n. ((position : ℕ) → ¬ IsLoser n winners position) → price ≡ 0) is.right.bid_count sale.all_win_for_0;
@@ -55,7 +55,7 @@ module _ (case : SampleCase) (is : IsCaseOf (sizes_of Uniform) case) (winners : 
       let widest : 2 ^ case.width ≤ 2 ^ 40 = pow-le-pow_right {n = 2} (omega arith) is.right.size.width.most in
       let small = price_small case.width case.bids winners price is.right.bids sale in
       let within : All (λ number. number < 2 ^ 64) winners =
-      All-weaker (IsPosition (length case.bids)) (λ number. number < 2 ^ 64)
+      All-weaker (IsPositionAmong (length case.bids)) (λ number. number < 2 ^ 64)
       (λ position at. omega (arith, at.within, is.right.bid_count, is.right.few_seals)) winners sale.are_positions in
       record {
         some = omega arith;

@@ -40,13 +40,13 @@ pub record HasSize (kind : ClaimKind) (case : SampleCase) (numbers : List ℕ) (
   pub rows : length proof.plan.rows ≡ rows_of kind numbers
 
 -- the claim file and a reply of the honest prover are accepted, for either challenge
-pub record AreAccepted (kind : ClaimKind) (case : SampleCase) (numbers : List ℕ) (proof : ProofValue) : Type 0 where
+pub record ClaimSampleIsAccepted (kind : ClaimKind) (case : SampleCase) (numbers : List ℕ) (proof : ProofValue) : Type 0 where
   pub first : ClaimAccepts admitted_plan (file_of (claim_head_text (head_with kind case numbers)) proof) (challenge_text case.first) (reply_in proof case.first.bits)
   pub second : ClaimAccepts admitted_plan (file_of (claim_head_text (head_with kind case numbers)) proof) (challenge_text case.second) (reply_in proof case.second.bits)
 
 -- read from files that hold what was written, both replies open the values that were sealed: in every lane, and of every
 -- seal the same
-pub record OpensAll (kind : ClaimKind) (case : SampleCase) (numbers : List ℕ) (proof : ProofValue) : Type 0 where
+pub record ClaimSampleOpensAll (kind : ClaimKind) (case : SampleCase) (numbers : List ℕ) (proof : ProofValue) : Type 0 where
   pub found : OpenedClaim
   pub read : (files : Files) → claim_read (written (files_of kind case numbers proof) files) ≡ Ok (Bids found)
   pub all_lanes : length found.opened.lanes ≡ proof.lanes

@@ -3,7 +3,7 @@ use Rattle.std.proofs.Common.{◌≡◌, ◌≢◌, ℕ, ◌<◌, ◌≤◌, Boo
 use Rattle.vk_io.specs.Files.{Files}
 use Rattle.vk_verifier.specs.declared.answers.Part.{Part}
 use Rattle.vk_verifier.specs.declared.answers.VErr.{VErr}
-use Rattle.vk_bids.specs.Headline.{HeldAttempt, IsHeld}
+use Rattle.vk_bids.specs.Headline.{HeldAttempt, IsHeldFile}
 use Rattle.vk_claim.specs.declared.verdict.ClaimVerdict.{ClaimVerdict}
 use Rattle.vk_claim.specs.declared.verdict.ClaimVerdict.TheVariants.{Accepted, Malformed, Public, Lanes, Wire, Row}
 use Rattle.vk_claim.specs.Verdicts.{claim_judged, claim_verdict_of, claim_verdict_on}
@@ -49,7 +49,7 @@ module _ (files : Files) (names : VerifyWords) where
   unfolding claim_verdict_on
   answer_unread unread is = attempt_unread (claim_judged admitted_plan) files names unread is
 
-  answer_read : (board : List ℕ) → IsHeld files names.board board → (attempt : HeldAttempt files names.attempt.challenge names.attempt.reply)
+  answer_read : (board : List ℕ) → IsHeldFile files names.board board → (attempt : HeldAttempt files names.attempt.challenge names.attempt.reply)
       → answer ≡ Ok (claim_verdict_of admitted_plan board attempt.challenge_bytes attempt.reply_bytes)
   unfolding claim_verdict_on
   answer_read board is attempt = attempt_read (claim_judged admitted_plan) files names board is attempt

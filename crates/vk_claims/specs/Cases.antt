@@ -6,7 +6,7 @@ use Rattle.std.proofs.lemmas.Bool.{cases_lt, leb-true, le-leb}
 use Rattle.std.proofs.lemmas.Bool.Decides.{Decides-and, Decides-by_and, Decides-eqb, Decides-like, Decides-ltb, Decides-not, Decides-or}
 use Rattle.std.proofs.lemmas.List.Kept.{AllPairs-cons}
 use Rattle.vk_uniform.specs.Losers.{loser_listed, losers_lose}
-use Rattle.vk_uniform.specs.Outcomes.{IsLoser, IsPosition}
+use Rattle.vk_uniform.specs.Outcomes.{IsLoser, IsPositionAmong}
 use Rattle.vk_uniform.specs.UniformPlans.{IsUniformCase, losers_of, price_of, width_of, winners_of}
 use Rattle.vk_matching.specs.MatchingPlans.{IsMatchingCase, matching_of, size_of}
 use Rattle.vk_matching.specs.MatchingPlans as ranks
@@ -66,7 +66,7 @@ is_uniform_case inputs numbers =
     && (nat_lt 0 (length (losers_of inputs numbers)) || price_of numbers == 0)
 
 module _ (inputs : ℕ) (numbers : List ℕ) where
-  position_decides : (position : ℕ) → Decides (is_among inputs position) (IsPosition inputs position)
+  position_decides : (position : ℕ) → Decides (is_among inputs position) (IsPositionAmong inputs position)
   position_decides position =
       Decides-like (is_among inputs position) (λ h. record { some = h.0; within = h.1 }) (λ is. (is.some, is.within))
       (among_decides inputs position)
@@ -114,7 +114,7 @@ module _ (inputs : ℕ) (numbers : List ℕ) where
       (Decides-and _ _ (among_decides 40 (width_of numbers))
       (Decides-and _ _ (Decides-ltb (price_of numbers) (2 ^ width_of numbers))
       (Decides-and _ _
-      (all_decides (is_among inputs) (IsPosition inputs) position_decides (winners_of numbers))
+      (all_decides (is_among inputs) (IsPositionAmong inputs) position_decides (winners_of numbers))
       (pairs_decide nat_lt (λ earlier later. earlier < later) Decides-ltb (winners_of numbers))))))))
       (Decides-or _ _ (Decides-ltb 0 (length (losers_of inputs numbers))) (Decides-eqb (price_of numbers) 0)))
 

@@ -3,7 +3,7 @@ use Rattle.std.specs.Prelude.{◌≡◌, ◌⊎◌, ◌↔◌, ℕ, false, List,
 use Rattle.vk_io.specs.Files.{Files, Told}
 use Rattle.vk_verifier.specs.declared.answers.VErr.{VErr}
 use Rattle.vk_bids.specs.declared.extraction.Extraction.TheVariants.{Same}
-use Rattle.vk_bids.specs.Headline.{HeldAttempt, IsClashBehind, IsHeld}
+use Rattle.vk_bids.specs.Headline.{HeldAttempt, IsClashBehind, IsHeldFile}
 use Rattle.vk_bids.specs.Texts.{clash_text}
 use Rattle.vk_plan.specs.Plans.{PlanValue}
 use Rattle.vk_uniform.specs.UniformPlans.{IsUniformCase, IsUniformClaim, uniform_plan}
@@ -17,7 +17,7 @@ use Rattle.vk_claim.specs.Headline.{IsClaimOpened, TwoClaimsAccepted}
 use Rattle.vk_claim.specs.Printing.{claim_extraction_text}
 use Rattle.vk_words.specs.Names.{ExtractWords, VerifyWords}
 use Rattle.vk_effect.specs.Effects.{puts}
-use Rattle.vk_audit.specs.Answers.{AnswerHolds, SettlesExtract, Tells}
+use Rattle.vk_audit.specs.Answers.{AnswerHolds, SettlesExtract, TellsAnswer}
 use Rattle.vk_audit.specs.Inputs.{HoldsFiles, extract_inputs, verify_inputs}
 use Rattle.vk_audit.specs.Statuses.{ComesExactly}
 use Rattle.vk_audit.specs.Verdicts.{answer_said, unread_said, verified_words}
@@ -49,7 +49,7 @@ AdmitsMatching inputs numbers =
 -- the named files are held, and the verdict holds of their bytes
 pub record HasClaimVerdict (files : Files) (names : VerifyWords) (verdict : ClaimVerdict) : Type 0 where
   pub board : List ℕ
-  pub board_is : IsHeld files names.board board
+  pub board_is : IsHeldFile files names.board board
   pub attempt : HeldAttempt files names.attempt.challenge names.attempt.reply
   pub holds : ClaimVerdictHolds admitted_plan verdict board attempt.challenge_bytes attempt.reply_bytes
 
@@ -67,7 +67,7 @@ ClaimVerifyHolds files names = AnswerHolds files (verified_words names) (verify_
 
 abbrev pub TellsClaimVerdict : Files → VerifyWords → ℕ → Option (List ℕ) → Option (List ℕ) → Type 0
 TellsClaimVerdict files names status old new =
-    Tells (ClaimVerifyHolds files names) (λ _. Unit {0}) (answer_said (claim_judged_said (verified_words names) false) (unread_said (verified_words names))) status old new
+    TellsAnswer (ClaimVerifyHolds files names) (λ _. Unit {0}) (answer_said (claim_judged_said (verified_words names) false) (unread_said (verified_words names))) status old new
 
 -- ---- `claim-extract`
 
@@ -110,7 +110,7 @@ ClaimExtractHolds files names = AnswerHolds files names (extract_inputs names) (
 
 abbrev pub TellsClaimExtraction : Files → ExtractWords → ℕ → Option (List ℕ) → Option (List ℕ) → Type 0
 TellsClaimExtraction files names status old new =
-    Tells (ClaimExtractHolds files names) SettlesExtract (answer_said (claim_extraction_said names) (unread_said names)) status old new
+    TellsAnswer (ClaimExtractHolds files names) SettlesExtract (answer_said (claim_extraction_said names) (unread_said names)) status old new
 
 -- ---- the laws
 

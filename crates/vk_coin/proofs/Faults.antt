@@ -2,13 +2,13 @@
 use Rattle.std.proofs.Common.{◌≡◌, ℕ, ◌+◌, List, [], ◌∷◌, ◌++◌, length, Option, Some, None, Ok, option_map, refl, ap, arith, sym, subst, length-append}
 use Rattle.std.specs.Result.{result_err}
 use Rattle.vk_lines.specs.Lines.{line_by}
-use Rattle.vk_lines.specs.Forms.{Ends, Follows, fault_line, whole}
+use Rattle.vk_lines.specs.Forms.{FindsFaults, Follows, fault_line, whole}
 use Rattle.vk_lines.proofs.Faults.{end_ends, ends_done, ends_then, fault_line_is, follows_done, follows_then, line_follows, many_follows}
 use Rattle.vk_coin.specs.declared.share.Share.{Share}
 use Rattle.vk_coin.specs.Reading.{coin_at, coin_with, part_line, parts_at, share_at, share_with, shares_at, shown_at, shown_line}
-use Rattle.vk_coin.specs.Tables.{Place, Heading, Auction, Auditor, Show as ShowPlace, Bits, Auditors, Part, Shown, Last, Over, before_parts, before_shares, coin_table, share_table}
+use Rattle.vk_coin.specs.Tables.{CoinPlace, Heading, Auction, Auditor, Show as ShowPlace, Bits, Auditors, Part, Shown, Last, Over, before_parts, before_shares, coin_table, share_table}
 
-pub share_ends : Ends share_table Heading share_at
+pub share_ends : FindsFaults share_table Heading share_at
 unfolding share_at
 share_ends =
     ends_then share_table Heading (line_follows share_table Heading _ (λ _. Auction) (λ text. refl) refl) (λ heading.
@@ -26,7 +26,7 @@ share_fault bytes = fault_line_is share_table share_at share_ends bytes
 next_number : {X : Type 0} (before : List X) (x : X) → length before + 1 + 1 ≡ length (before ++ x ∷ []) + 1
 next_number before x = omega (arith, length-append before (x ∷ []))
 
-next_place : {X : Type 0} (places : ℕ → Place) (before : List X) (read : Option X)
+next_place : {X : Type 0} (places : ℕ → CoinPlace) (before : List X) (read : Option X)
     → option_map (λ _. places (length before + 1 + 1)) read ≡ option_map (λ x. places (length (before ++ x ∷ []) + 1)) read
 next_place places before (Some x) = ap (λ n. Some (places n)) (next_number before x)
 next_place places before None = refl
@@ -43,7 +43,7 @@ parts_follow bits auditors =
 shown_done : (bits left : ℕ) (before : List Share) (share : Share)
     → Follows coin_table (before_shares bits (length before + 1 + 1) left) (λ rest. Ok (share, rest)) (λ s. before_shares bits (length (before ++ s ∷ []) + 1) left)
 shown_done bits left before share =
-    let after : Share → Place = λ s. before_shares bits (length (before ++ s ∷ []) + 1) left in
+    let after : Share → CoinPlace = λ s. before_shares bits (length (before ++ s ∷ []) + 1) left in
     let P : ℕ → Type 0 = λ n. Follows coin_table (before_shares bits n left) (λ rest. Ok (share, rest)) after in
     subst P (sym (next_number before share)) (follows_done coin_table after share)
 
@@ -60,7 +60,7 @@ shares_follow auction bits auditors =
     many_follows coin_table (λ left before. before_shares bits (length before + 1) left) (λ before. shown_at auction bits (length before + 1))
     (λ left before. shown_follows auction bits left before) auditors []
 
-pub coin_ends : Ends coin_table Heading coin_at
+pub coin_ends : FindsFaults coin_table Heading coin_at
 unfolding coin_at
 coin_ends =
     ends_then coin_table Heading (line_follows coin_table Heading _ (λ _. Auction) (λ text. refl) refl) (λ heading.

@@ -10,7 +10,7 @@ use Rattle.vk_io.specs.Files.{Files}
 use Rattle.vk_lines.specs.declared.errors.ReadErr.{ReadErr}
 use Rattle.vk_lines.specs.Forms.{IsWhole, Table, fault_line, whole}
 use Rattle.vk_lines.specs.Gives.{Gives}
-use Rattle.vk_lines.specs.Lines.{LinesValue, Reads, ReadsPart, Rest, rest_of}
+use Rattle.vk_lines.specs.Lines.{LinesValue, GivesReading, ReadsPart, Rest, rest_of}
 use Rattle.vk_effect.specs.declared.reading.Unread.{Unread}
 use Rattle.vk_effect.specs.Effects.{SaidValue}
 use Rattle.vk_effect.specs.NamedFiles.{malformed_said, missing_said, too_long_said}
@@ -83,7 +83,7 @@ whole_found IsValue text read form name x right = ap (value_in name) (form.found
 -- what is answered of it is of what was left of it before, where the files' bytes are told
 pub part_told : {X : Type 0} (name : List ℕ) (read_at : Rest → Result (X × Rest) ℕ) (held : Option Files) (before after : LinesValue) (read : Result X ReadErr) (answer : Result X Unread)
     → ReadsPart read_at held before after read
-    → ((rest : Rest) (expected : Result (X × Rest) ℕ) → Reads (λ x. x) read rest expected → Gives said_of_unread (λ x. x) answer (value_in name expected))
+    → ((rest : Rest) (expected : Result (X × Rest) ℕ) → GivesReading (λ x. x) read rest expected → Gives said_of_unread (λ x. x) answer (value_in name expected))
     → IfSome held (λ files. Gives said_of_unread (λ x. x) answer (value_in name (read_at (rest_of before files))))
 part_told name read_at held before after read answer reads told = if_some_map _ _ (λ files is. told (rest_of after files) (read_at (rest_of before files)) is) held reads
 

@@ -8,7 +8,7 @@ use Rattle.vk_io.specs.Files.{Files}
 use Rattle.vk_lines.specs.declared.errors.ReadErr.{ReadErr}
 use Rattle.vk_lines.specs.Forms.{IsWhole, Table, fault_line, whole}
 use Rattle.vk_lines.specs.Gives.{Gives, Refuses}
-use Rattle.vk_lines.specs.Lines.{LinesValue, Reads, ReadsPart, Rest, rest_of}
+use Rattle.vk_lines.specs.Lines.{LinesValue, GivesReading, ReadsPart, Rest, rest_of}
 use Rattle.vk_keeper.specs.Joining.{first_of}
 use Rattle.vk_effect.specs.declared.reading.Unread.{Unread}
 use Rattle.vk_effect.specs.Effects.{SaidValue}
@@ -75,7 +75,7 @@ module _ {X : Type 0} (name : List ℕ) (read : Rest → Result (X × Rest) ℕ)
   named_by (Some files) answer begun gives = subst (λ b. Gives said_of_unread (λ x. x) answer (b >>= λ file. value_in name (read file))) (sym begun) gives
 
   pub named_told : (held now : Option Files) (after : LinesValue) (found : Result X ReadErr) (answer : Result X Unread) → now ≡ held → IfSome held IsBegun → ReadsPart read now lines after found
-      → ((rest : Rest) (expected : Result (X × Rest) ℕ) → Reads (λ x. x) found rest expected → Gives said_of_unread (λ x. x) answer (value_in name expected))
+      → ((rest : Rest) (expected : Result (X × Rest) ℕ) → GivesReading (λ x. x) found rest expected → Gives said_of_unread (λ x. x) answer (value_in name expected))
       → IfSome held (λ files. Gives said_of_unread (λ x. x) answer (named_in read files name))
   named_told held now after found answer same begun reads tells =
       named_by held answer begun

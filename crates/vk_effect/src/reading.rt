@@ -6,7 +6,7 @@ ghost use Rattle.vk_io.specs.Faults.{Causes};
 ghost use Rattle.vk_io.specs.Files.{Files};
 ghost use Rattle.vk_io.specs.Reads.{OnlyReads};
 ghost use Rattle.vk_lines.specs.Gives.{Gives};
-ghost use Rattle.vk_lines.specs.Lines.{IsBefore, Reads, Rest, Starts, rest_of};
+ghost use Rattle.vk_lines.specs.Lines.{IsBefore, GivesReading, Rest, Starts, rest_of};
 ghost use Rattle.vk_effect.specs.Effects.{SaidValue};
 ghost use Rattle.vk_effect.specs.Reading.{begun_in, said_of_unread, said_or_stopped, value_in};
 
@@ -89,7 +89,7 @@ fn begun(alloc: Global, name: &str, started: Result<Lines, StartErr>) -> Result<
 
 /// What the named file was read as, or why it was not read.
 pub fn named_value<X>(alloc: Global, name: &str, read: Result<X, ReadErr>) -> Result<X, Unread>
-    ensures told { (rest : Rest) (expected : Result (X × Rest) ℕ) → Reads (λ x. x) read rest expected
+    ensures told { (rest : Rest) (expected : Result (X × Rest) ℕ) → GivesReading (λ x. x) read rest expected
         → Gives said_of_unread (λ x. x) result (value_in name.now expected) }
     ensures same { IfOk result (λ value. read ≡ Ok value) }
     ensures causes { (before after : ℕ) → Causes ReadErr.Failed read before after → Causes Unread.Failed result before after }

@@ -14,7 +14,7 @@ use Rattle.vk_verifier.specs.declared.answers.VErr.{VErr}
 use Rattle.vk_verifier.specs.declared.answers.VErr.TheVariants as verr
 use Rattle.vk_verifier.specs.declared.halt.Halt.{Halt}
 use Rattle.vk_verifier.specs.Behind.{Judges, in_part}
-use Rattle.vk_verifier.specs.Verdicts.{begun, from_start, of_attempt, three_rests}
+use Rattle.vk_verifier.specs.Verdicts.{begun_file, from_start, of_attempt, three_rests}
 use Rattle.vk_verifier.proofs.Attempts.{attempt_begun, files_begun}
 use Rattle.vk_verifier.specs.TwoBoards.{five_rests, of_files}
 use Rattle.vk_verifier.specs.Statement.{StatementValue, IsStatement}
@@ -101,7 +101,7 @@ short_file : (bytes : List ℕ) (long : Bool) (rest : Rest) (refusal : VErr)
 short_file bytes true rest refusal ok = cc
 short_file bytes false rest refusal ok = value_same (from_start bytes) rest ok
 
-pub sums_of_begun : (file : Option (List ℕ)) (rest : Rest) (found : LaneExtraction) → begun part.Board file ≡ Ok rest
+pub sums_of_begun : (file : Option (List ℕ)) (rest : Rest) (found : LaneExtraction) → begun_file part.Board file ≡ Ok rest
     → OpensSums (Begins rest.left) found → IfSome file (λ file. OpensSums (Begins file) found)
 sums_of_begun None rest found is sums = tt
 sums_of_begun (Some bytes) rest found is sums =

@@ -11,7 +11,7 @@ use Rattle.vk_board.specs.declared.board.LaneLines.{LaneLines}
 use Rattle.vk_board.specs.Values.{AreBytes, AreSealsOf, Frame, IsLaneLines}
 use Rattle.vk_board.specs.Texts.{behind_text}
 use Rattle.vk_board.specs.Reading.{behind_at}
-use Rattle.vk_board.specs.Tables.{HeadTable, InHead, Place, behind_head, sealed_table}
+use Rattle.vk_board.specs.Tables.{HeadTable, InHead, BoardPlace, behind_head, sealed_table}
 use Rattle.vk_verifier.specs.Behind.{later_wires}
 use Rattle.vk_form_tests.specs.declared.form.SumHead.{SumHead}
 use Rattle.vk_form_tests.specs.Sums.{sum_plan}
@@ -73,7 +73,7 @@ pub data SumPlace : Type 0 where
   Auction : SumPlace
   Total : List ℕ → SumPlace
 
-abbrev pub sum_next : SumPlace → List ℕ → Option (Place SumPlace)
+abbrev pub sum_next : SumPlace → List ℕ → Option (BoardPlace SumPlace)
 sum_next Heading text = option_map (λ _. InHead Auction) (word_of (codes "sum-file 1") text)
 sum_next Auction text = option_map (λ auction. InHead (Total auction)) (id_line (codes "auction") text)
 sum_next (Total auction) text =
@@ -82,5 +82,5 @@ sum_next (Total auction) text =
 abbrev pub sum_head_table : HeadTable SumPlace
 sum_head_table = record { first = Heading; next = sum_next }
 
-abbrev pub sum_table : Table (Place SumPlace)
+abbrev pub sum_table : Table (BoardPlace SumPlace)
 sum_table = sealed_table sum_head_table

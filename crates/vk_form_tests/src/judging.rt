@@ -21,7 +21,7 @@ use vk_plan::Circuit;
 use vk_residue::NoMemory;
 use vk_seq::Seq;
 use vk_verifier::{
-    Attempt, AttemptNames, Fault, Halt, Part, Statement, TwoAttempts, TwoReplies, VErr,
+    Attempt, OneReply, Fault, Halt, Part, Statement, TwoAttempts, TwoReplies, VErr,
     begin_attempt, begin_two, in_part, judge_behind, known,
 };
 
@@ -65,7 +65,7 @@ fn statement_of(alloc: Global, head: SumHead, seals: Seq<SealLines>) -> Result<S
 pub fn judge<S: Shelf>(
     alloc: Global,
     shelf: &mut S,
-    names: &AttemptNames<'_>,
+    names: &OneReply<'_>,
 ) -> Result<Result<(), Fault>, VErr>
     ensures told { IfSome (S.held shelf.old) (λ files.
         Gives unread_file (λ judged. judged) result (sum_judged_on files names.now.file.now names.now.challenge.now names.now.reply.now)) }

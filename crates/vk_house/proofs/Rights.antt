@@ -20,7 +20,7 @@ use Rattle.vk_keeper.proofs.Rows.{in_phase as right_in_phase}
 use Rattle.vk_house.specs.declared.errors.HouseErr.{HouseErr}
 use Rattle.vk_house.specs.declared.errors.HouseErr.TheVariants.{NoSeals}
 use Rattle.vk_house.specs.Commands.{HouseCommand, Announce, AnnounceReserve, Submit, Prove, Answer, Show, id_of, IsHouseCommand}
-use Rattle.vk_house.specs.Replies.{HouseReply, begun}
+use Rattle.vk_house.specs.Replies.{HouseReply, new_auction}
 use Rattle.vk_house.specs.Tests.{house_err_of}
 use Rattle.vk_house.specs.Refusals.{refusals_of, refusal_of}
 use Rattle.vk_house.specs.Steps.{step_by, step_at, kept_by, in_phase, HouseCall}
@@ -28,7 +28,7 @@ use Rattle.vk_house.proofs.Passing.{none_holds, nothing_there, test_passed}
 use Rattle.vk_house.proofs.Stepping.{value_after, call_each}
 
 begun_right : (version : ℕ) (id : List ℕ) (width lanes reserve : ℕ)
-    → AreBytes 16 id → IsSize width lanes → IsTerms version width reserve → IsAuction (begun version id width lanes reserve)
+    → AreBytes 16 id → IsSize width lanes → IsTerms version width reserve → IsAuction (new_auction version id width lanes reserve)
 begun_right version id width lanes reserve bytes room terms = record {
   held = record {
     id = bytes;

@@ -27,8 +27,8 @@ abbrev pub work_of : JobValue → HouseReply
 work_of job = Work job.auction job.sale
 
 -- the ledger, where it is told, makes this call
-abbrev pub Calls : HouseCommand → HouseReply → Option Ledger → Option Ledger → Type 0
-Calls command reply old new = Told (λ before after. HouseCall before command reply after) old new
+abbrev pub MakesCall : HouseCommand → HouseReply → Option Ledger → Option Ledger → Type 0
+MakesCall command reply old new = Told (λ before after. HouseCall before command reply after) old new
 
 -- over a keeper that tells no ledger: the reply is that of the step on some auction that may stand under the id, or on
 -- none there

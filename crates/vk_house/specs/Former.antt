@@ -49,7 +49,7 @@ pub record FirstStanding : Type 0 where
 -- ---- its step
 
 -- the former house, which knew no reserve
-abbrev pub first_auctions : shaped.Shape FirstAuction VickreyOutcome FirstStanding
+abbrev pub first_auctions : shaped.HouseShape FirstAuction VickreyOutcome FirstStanding
 first_auctions = record {
   opened = λ id width lanes. record { id = id; width = width; lanes = lanes; phase = Taking; seals = [] };
   reserved = λ id width lanes reserve. None;

@@ -14,8 +14,8 @@ use Rattle.vk_house.specs.Shaped as shaped
 pub use Rattle.vk_house.specs.Shaped.{Done, Position, Work, Stands, Refused}
 
 -- an auction that takes seals and has none, of that version and with that reserve
-abbrev pub begun : (version : ℕ) (id : List ℕ) (width lanes reserve : ℕ) → Auction
-begun version id width lanes reserve =
+abbrev pub new_auction : (version : ℕ) (id : List ℕ) (width lanes reserve : ℕ) → Auction
+new_auction version id width lanes reserve =
     record { id = id; version = version; width = width; lanes = lanes; reserve = reserve; phase = Taking; seals = [] }
 
 -- the same auction in that phase
@@ -43,10 +43,10 @@ standing_of auction = record {
 }
 
 -- the house of today: without a reserve an auction is of version 1, with one of version 2
-abbrev pub auctions : shaped.Shape Auction Sale Standing
+abbrev pub auctions : shaped.HouseShape Auction Sale Standing
 auctions = record {
-  opened = λ id width lanes. begun 1 id width lanes 0;
-  reserved = λ id width lanes reserve. Some (begun 2 id width lanes reserve);
+  opened = λ id width lanes. new_auction 1 id width lanes 0;
+  reserved = λ id width lanes reserve. Some (new_auction 2 id width lanes reserve);
   with_last = with_last;
   in_phase = in_phase;
   lanes = λ auction. auction.lanes;

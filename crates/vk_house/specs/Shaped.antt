@@ -21,7 +21,7 @@ use Rattle.vk_house.specs.Commands.{HouseCommand, Announce, AnnounceReserve, Sub
 use Rattle.vk_house.specs.Tests.{known, unknown, not_taking, still_taking, house_err_of, other_length, no_seals, other_seed, other_challenge, dry_seed}
 
 -- what it keeps of an auction (A): how that begins, what is read of it and made of it, its sale (S) and how it stands (T)
-pub record Shape (A S T : Type 0) : Type 0 where
+pub record HouseShape (A S T : Type 0) : Type 0 where
   pub opened : (id : List ℕ) (width lanes : ℕ) → A
   -- with a reserve, if the house knows any
   pub reserved : (id : List ℕ) (width lanes reserve : ℕ) → Option A
@@ -69,7 +69,7 @@ ledger_after ledger id (Some auction) = insert ledger id auction
 abbrev pub refused : {A S T : Type 0} → HouseErr → Step A S T
 refused refusal = record { reply = Refused refusal; kept = None }
 
-module _ {A S T : Type 0} (shape : Shape A S T) where
+module _ {A S T : Type 0} (shape : HouseShape A S T) where
   -- the tests of each command on what stands under its id, in the order in which they are made
   abbrev pub refusals_of : HouseCommand → Option A → List (Option HouseErr)
   refusals_of (Announce id width lanes) found =

@@ -6,7 +6,7 @@ ghost use Rattle.vk_reply.specs.Values.{IsChallenge};
 ghost use Rattle.vk_seal.specs.Values.{IsSeal, IsSecret};
 ghost use Rattle.vk_keeper.specs.Auctions.{IsAuction, seed_of, challenge_of};
 ghost use Rattle.vk_keeper.specs.Turns.{GetsOnce};
-ghost use Rattle.vk_house.specs.Answers.{Calls, MayReply, as_reply, work_of};
+ghost use Rattle.vk_house.specs.Answers.{MakesCall, MayReply, as_reply, work_of};
 ghost use Rattle.vk_house.specs.Commands.{Announce, AnnounceReserve, Submit, Prove, Answer, Show};
 ghost use Rattle.vk_house.specs.Deciding.{KeepsAnew, MayPut};
 ghost use Rattle.vk_house.specs.Replies.{Done, Position, Stands};
@@ -45,7 +45,7 @@ impl<'a, K: Keeper + Drop> House<'a, K> {
         lanes: u32,
     ) -> Result<(), HouseErr>
         requires { IsSize width lanes }
-        ensures call { Calls (Announce id.now width lanes) (as_reply (λ _. Done) result) (K.ledger self.old.keeper.now) (K.ledger self.new.keeper.now) }
+        ensures call { MakesCall (Announce id.now width lanes) (as_reply (λ _. Done) result) (K.ledger self.old.keeper.now) (K.ledger self.new.keeper.now) }
         ensures refused { OnErr result (K.ledger self.new.keeper.now ≡ K.ledger self.old.keeper.now) }
         ensures reply { MayReply (Announce id.now width lanes) (as_reply (λ _. Done) result) }
         ensures turns { GetsOnce (K.turns self.old.keeper.now) (K.turns self.new.keeper.now) }
@@ -69,7 +69,7 @@ impl<'a, K: Keeper + Drop> House<'a, K> {
     ) -> Result<(), HouseErr>
         requires size { IsSize width lanes }
         requires small { reserve < 2 ^ width }
-        ensures call { Calls (AnnounceReserve id.now width lanes reserve) (as_reply (λ _. Done) result) (K.ledger self.old.keeper.now) (K.ledger self.new.keeper.now) }
+        ensures call { MakesCall (AnnounceReserve id.now width lanes reserve) (as_reply (λ _. Done) result) (K.ledger self.old.keeper.now) (K.ledger self.new.keeper.now) }
         ensures refused { OnErr result (K.ledger self.new.keeper.now ≡ K.ledger self.old.keeper.now) }
         ensures reply { MayReply (AnnounceReserve id.now width lanes reserve) (as_reply (λ _. Done) result) }
         ensures turns { GetsOnce (K.turns self.old.keeper.now) (K.turns self.new.keeper.now) }
@@ -87,7 +87,7 @@ impl<'a, K: Keeper + Drop> House<'a, K> {
     pub fn submit(&mut self, id: &[u8; 16], seal: Seal, secret: Secret) -> Result<u32, HouseErr>
         requires seal { IsSeal seal }
         requires secret { IsSecret secret }
-        ensures call { Calls (Submit id.now seal secret) (as_reply Position result) (K.ledger self.old.keeper.now) (K.ledger self.new.keeper.now) }
+        ensures call { MakesCall (Submit id.now seal secret) (as_reply Position result) (K.ledger self.old.keeper.now) (K.ledger self.new.keeper.now) }
         ensures refused { OnErr result (K.ledger self.new.keeper.now ≡ K.ledger self.old.keeper.now) }
         ensures reply { MayReply (Submit id.now seal secret) (as_reply Position result) }
         ensures turns { GetsOnce (K.turns self.old.keeper.now) (K.turns self.new.keeper.now) }
@@ -104,7 +104,7 @@ impl<'a, K: Keeper + Drop> House<'a, K> {
     /// phases nothing new is kept. Refused where the id is unknown, where no seal or another seed is held, and where
     /// the seed is dry.
     pub fn prove(&mut self, alloc: Global, id: &[u8; 16], seed: &[u8; 32]) -> Result<Job, HouseErr>
-        ensures call { Calls (Prove id.now seed.now) (as_reply work_of result) (K.ledger self.old.keeper.now) (K.ledger self.new.keeper.now) }
+        ensures call { MakesCall (Prove id.now seed.now) (as_reply work_of result) (K.ledger self.old.keeper.now) (K.ledger self.new.keeper.now) }
         ensures refused { OnErr result (K.ledger self.new.keeper.now ≡ K.ledger self.old.keeper.now) }
         ensures reply { MayReply (Prove id.now seed.now) (as_reply work_of result) }
         ensures id { IfOk result (λ job. job.auction.id ≡ id.now) }
@@ -129,7 +129,7 @@ impl<'a, K: Keeper + Drop> House<'a, K> {
         challenge: &Challenge,
     ) -> Result<Job, HouseErr>
         requires { IsChallenge challenge.now }
-        ensures call { Calls (Answer id.now challenge.now) (as_reply work_of result) (K.ledger self.old.keeper.now) (K.ledger self.new.keeper.now) }
+        ensures call { MakesCall (Answer id.now challenge.now) (as_reply work_of result) (K.ledger self.old.keeper.now) (K.ledger self.new.keeper.now) }
         ensures refused { OnErr result (K.ledger self.new.keeper.now ≡ K.ledger self.old.keeper.now) }
         ensures reply { MayReply (Answer id.now challenge.now) (as_reply work_of result) }
         ensures turns { GetsOnce (K.turns self.old.keeper.now) (K.turns self.new.keeper.now) }
@@ -146,7 +146,7 @@ impl<'a, K: Keeper + Drop> House<'a, K> {
 
     /// How the auction stands. Refused where the id is unknown.
     pub fn show(&mut self, id: &[u8; 16]) -> Result<Standing, HouseErr>
-        ensures call { Calls (Show id.now) (as_reply Stands result) (K.ledger self.old.keeper.now) (K.ledger self.new.keeper.now) }
+        ensures call { MakesCall (Show id.now) (as_reply Stands result) (K.ledger self.old.keeper.now) (K.ledger self.new.keeper.now) }
         ensures refused { OnErr result (K.ledger self.new.keeper.now ≡ K.ledger self.old.keeper.now) }
         ensures reply { MayReply (Show id.now) (as_reply Stands result) }
         ensures turns { GetsOnce (K.turns self.old.keeper.now) (K.turns self.new.keeper.now) }

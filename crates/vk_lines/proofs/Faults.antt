@@ -9,8 +9,8 @@ use Rattle.vk_lines.specs.declared.errors.ReadErr.{ReadErr}
 use Rattle.vk_lines.specs.declared.errors.ReadErr.TheVariants.{Malformed, Failed, NoMemory}
 use Rattle.vk_lines.specs.declared.step.Step.{Step}
 use Rattle.vk_lines.specs.declared.step.Step.TheVariants.{Text, End, Long, Cut}
-use Rattle.vk_lines.specs.Lines.{Rest, feed_at, step_of, text_at, text_by, line_by, value_at, none_left, end_at, Reads}
-use Rattle.vk_lines.specs.Forms.{Table, Follows, Ends, fault_after, fault_at, fault_from, fault_line, many_onto, whole, IsWhole, FaultsAllButTexts, Answers}
+use Rattle.vk_lines.specs.Lines.{Rest, feed_at, step_of, text_at, text_by, line_by, value_at, none_left, end_at, GivesReading}
+use Rattle.vk_lines.specs.Forms.{Table, Follows, FindsFaults, fault_after, fault_at, fault_from, fault_line, many_onto, whole, IsWhole, FaultsAllButTexts, Answers}
 use Rattle.vk_lines.specs.Tokens.{word_of}
 use Rattle.vk_lines.proofs.Parts.{bind_ok, ok_same}
 use Rattle.vk_lines.proofs.Pieces.{other_pieces, pieces, pieces_feed, text_tells}
@@ -160,7 +160,7 @@ follows_then table place {read_z = read_z} first next = record {
 }
 
 pub ends_then : {Place X Z : Type 0} (table : Table Place) (place : Place) {read_x : Rest → Result (X × Rest) ℕ} {read_z : X → Rest → Result (Z × Rest) ℕ} {between : X → Place}
-    → Follows table place read_x between → ((x : X) → Ends table (between x) (read_z x)) → Ends table place (λ rest. read_x rest >>= λ p. read_z p.0 p.1)
+    → Follows table place read_x between → ((x : X) → FindsFaults table (between x) (read_z x)) → FindsFaults table place (λ rest. read_x rest >>= λ p. read_z p.0 p.1)
 ends_then table place {read_z = read_z} first next = record {
   ok = λ rest z more some. let step = ok_then table place read_z first rest z more some in step.3 ∙ (next step.0).ok step.1 z more step.2;
   err = err_then table place read_z first (λ x. (next x).err);
@@ -215,7 +215,7 @@ over_more table over rest number more none = over_by table over (step_of rest.le
 pub end_ends : {Place : Type 0} (table : Table Place) (place over : Place)
     → ((text : List ℕ) → table.next place text ≡ option_map (λ _. over) (word_of (codes "end") text)) → table.over place ≡ false
     → ((text : List ℕ) → table.next over text ≡ None) → table.over over ≡ true
-    → Ends table place end_at
+    → FindsFaults table place end_at
 unfolding end_at text_at
 end_ends table place over next inside none ended =
     let line = line_follows table place (word_of (codes "end")) (λ _. over) next inside in
@@ -232,7 +232,7 @@ end_ends table place over next inside none ended =
     }
 
 -- a value that is made of what was read to the end
-pub ends_made : {Place X Z : Type 0} (table : Table Place) (place : Place) {read : Rest → Result (X × Rest) ℕ} (make : X → Z) → Ends table place read → Ends table place (λ rest. read rest >>= λ p. Ok (make p.0, p.1))
+pub ends_made : {Place X Z : Type 0} (table : Table Place) (place : Place) {read : Rest → Result (X × Rest) ℕ} (make : X → Z) → FindsFaults table place read → FindsFaults table place (λ rest. read rest >>= λ p. Ok (make p.0, p.1))
 ends_made table place {read} make ends = record {
   ok = λ rest y more some. let last = bind_ok (read rest) (λ p. Ok (make p.0, p.1)) (y, more) some in ends.ok rest last.0.0 last.0.1 last.1;
   err = λ rest number stop.
@@ -243,16 +243,16 @@ ends_made table place {read} make ends = record {
 }
 
 -- the same with the value at the end
-pub ends_done : {Place Z : Type 0} (table : Table Place) (place : Place) (z : Z) → Ends table place end_at → Ends table place (λ rest. end_at rest >>= λ e. Ok (z, e.1))
+pub ends_done : {Place Z : Type 0} (table : Table Place) (place : Place) (z : Z) → FindsFaults table place end_at → FindsFaults table place (λ rest. end_at rest >>= λ e. Ok (z, e.1))
 ends_done table place z ends = ends_made table place (λ _. z) ends
 
-line_is : {Place X : Type 0} (table : Table Place) (rest : Rest) (read : Rest → Result (X × Rest) ℕ) → Ends table table.first read
+line_is : {Place X : Type 0} (table : Table Place) (rest : Rest) (read : Rest → Result (X × Rest) ℕ) → FindsFaults table table.first read
     → (r : Result (X × Rest) ℕ) → read rest ≡ r → fault_at table table.first rest ≡ result_err r
 line_is table rest read ends (Ok p) is = ends.ok rest p.0 p.1 is
 line_is table rest read ends (Err number) is = ends.err rest number is
 
 -- a file's fault line is where reading it stops, and there is none where it is read
-pub fault_line_is : {Place X : Type 0} (table : Table Place) (read : Rest → Result (X × Rest) ℕ) → Ends table table.first read
+pub fault_line_is : {Place X : Type 0} (table : Table Place) (read : Rest → Result (X × Rest) ℕ) → FindsFaults table table.first read
     → (bytes : List ℕ) → fault_line table bytes ≡ result_err (whole read bytes)
 fault_line_is table read ends bytes = line_is table (record { taken = 0; left = bytes }) read ends (whole read bytes) refl
 
@@ -270,7 +270,7 @@ none_of_read r p is = ap result_err is
 
 -- where a form's reading is of its texts alone, and ends as its table does, the two agree
 pub faults_all_but_texts : {Place X : Type 0} {IsValue : X → Type 0} {text : X → List ℕ} (table : Table Place) {read : Rest → Result (X × Rest) ℕ}
-    → IsWhole IsValue text read → Ends table table.first read → FaultsAllButTexts IsValue text table
+    → IsWhole IsValue text read → FindsFaults table table.first read → FaultsAllButTexts IsValue text table
 faults_all_but_texts table {read} form ends bytes =
     let start : Rest = record { taken = 0; left = bytes } in (
       λ none.
@@ -284,7 +284,7 @@ faults_all_but_texts table {read} form ends bytes =
 
 -- and a reader that answers as the reading does answers by the texts and the table
 pub answers_by_texts : {Place T X : Type 0} {IsValue : X → Type 0} {text : X → List ℕ} (table : Table Place) {read : Rest → Result (X × Rest) ℕ} (value : T → X) (bytes : List ℕ)
-    → IsWhole IsValue text read → Ends table table.first read → (result : Result T ReadErr) (after : Rest) → Reads value result after (whole read bytes)
+    → IsWhole IsValue text read → FindsFaults table table.first read → (result : Result T ReadErr) (after : Rest) → GivesReading value result after (whole read bytes)
     → Answers IsValue text table value bytes result
 answers_by_texts table {read} value bytes form ends (Ok x) after reads = form.shown (record { taken = 0; left = bytes }) (value x) after reads
 answers_by_texts table {read} value bytes form ends (Err (Malformed line)) after reads = fault_line_is table read ends bytes ∙ fault_of (whole read bytes) line reads

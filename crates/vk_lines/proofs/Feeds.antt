@@ -11,7 +11,7 @@ use Rattle.vk_io.specs.Files.{Files, bytes_of, part_of}
 use Rattle.vk_lines.specs.declared.step.Step.{Step}
 use Rattle.vk_lines.specs.declared.step.Step.TheVariants.{Text, End, Long, Cut}
 use Rattle.vk_lines.specs.Buffers.{IsEnough, HasLooked, after_step, with_piece}
-use Rattle.vk_lines.specs.Lines.{LinesValue, Rest, IsNext, Starts, none_left, ended, is_end, answer_by, Reads, feed_at, line_taken, rest_in, rest_of, step_by, step_of, text_at, unread, unread_in, KeepsFile}
+use Rattle.vk_lines.specs.Lines.{LinesValue, Rest, IsNext, Starts, none_left, ended, is_end, answer_by, GivesReading, feed_at, line_taken, rest_in, rest_of, step_by, step_of, text_at, unread, unread_in, KeepsFile}
 
 -- no later than the end
 pub feed_at-le-length : (text : List ℕ) → feed_at text ≤ length text
@@ -258,14 +258,14 @@ none_left-by : (rest : Rest) (step : Step) → step ≡ step_of rest.left → no
 none_left-by rest step is = rw is (ended_by (feed_at rest.left) (length rest.left) rest refl)
 
 answer_at : (step : Step) (before : ℕ) (old new : Rest) → before ≡ old.taken → (step ≢ Text → new ≡ old) → none_left old ≡ ended step old
-    → Reads (λ x. x) (answer_by (is_end step) before) new (none_left old)
+    → GivesReading (λ x. x) (answer_by (is_end step) before) new (none_left old)
 answer_at End before old new taken same is = rw (is, same (λ e. cc)) refl
 answer_at Text before old new taken same is = rw (is, taken) refl
 answer_at Long before old new taken same is = rw (is, taken) refl
 answer_at Cut before old new taken same is = rw (is, taken) refl
 
 pub end_told : (step : Step) (before : ℕ) (files : Files) (old new : LinesValue) → before ≡ old.taken → IsNext step old new files
-    → Reads (λ x. x) (answer_by (is_end step) before) (rest_of new files) (none_left (rest_of old files))
+    → GivesReading (λ x. x) (answer_by (is_end step) before) (rest_of new files) (none_left (rest_of old files))
 unfolding rest_of rest_in
 end_told step before files old new taken next =
     answer_at step before (rest_of old files) (rest_of new files) taken next.other (none_left-by (rest_of old files) step next.next)

@@ -5,7 +5,7 @@ use Rattle.vk_residue.specs.Steps.{◌>>=◌}
 use Rattle.vk_io.specs.Files.{Files}
 use Rattle.vk_lines.specs.declared.errors.ReadErr.{ReadErr}
 use Rattle.vk_lines.specs.declared.errors.ReadErr.TheVariants.{Malformed, Failed, NoMemory}
-use Rattle.vk_lines.specs.Lines.{Reads, Rest}
+use Rattle.vk_lines.specs.Lines.{GivesReading, Rest}
 use Rattle.vk_lines.specs.Forms.{many_onto}
 use Rattle.vk_lines.proofs.Parts.{many_more, many_none}
 
@@ -34,8 +34,8 @@ many_turn held now read whole xs ys x left next before after same fewer pushed s
 stop : {X : Type 0} (held : Option Files) (read : List X → Rest → Result (X × Rest) ℕ) (whole : Files → Result (List X × Rest) ℕ)
     → (xs : List X) (e : ReadErr) (left : ℕ) (before after : Files → Rest) → 0 < left
     → IfSome held (λ files. many_onto xs left read (before files) ≡ whole files)
-    → IfSome held (λ files. Reads {T = X} {X = X} (λ x. x) (Err e) (after files) (read xs (before files)))
-    → IfSome held (λ files. Reads {T = List X} {X = List X} (λ x. x) (Err e) (after files) (whole files))
+    → IfSome held (λ files. GivesReading {T = X} {X = X} (λ x. x) (Err e) (after files) (read xs (before files)))
+    → IfSome held (λ files. GivesReading {T = List X} {X = List X} (λ x. x) (Err e) (after files) (whole files))
 stop None read whole xs e left before after some so_far step = tt
 stop (Some files) read whole xs (Malformed line) left before after some so_far step =
     sym so_far ∙ many_more xs left read (before files) some ∙ ap (λ r. r >>= λ p. many_onto (xs ++ p.0 ∷ []) (left - 1) read p.1) step
@@ -47,18 +47,18 @@ pub many_stop : {X : Type 0} (held now : Option Files) (read : List X → Rest �
     → (xs : List X) (e : ReadErr) (result : Result (List X) ReadErr) (left : ℕ) (before after : Files → Rest)
     → now ≡ held → 0 < left → result ≡ Err e
     → IfSome held (λ files. many_onto xs left read (before files) ≡ whole files)
-    → IfSome now (λ files. Reads {T = X} {X = X} (λ x. x) (Err e) (after files) (read xs (before files)))
-    → IfSome held (λ files. Reads {T = List X} {X = List X} (λ x. x) result (after files) (whole files))
+    → IfSome now (λ files. GivesReading {T = X} {X = X} (λ x. x) (Err e) (after files) (read xs (before files)))
+    → IfSome held (λ files. GivesReading {T = List X} {X = List X} (λ x. x) result (after files) (whole files))
 many_stop {X} held now read whole xs e result left before after same some is so_far step =
-    let P : Option Files → Type 0 = λ told. IfSome told (λ files. Reads {T = X} {X = X} (λ x. x) (Err e) (after files) (read xs (before files))) in
-    let Q : Result (List X) ReadErr → Type 0 = λ r. IfSome held (λ files. Reads {T = List X} {X = List X} (λ x. x) r (after files) (whole files)) in
+    let P : Option Files → Type 0 = λ told. IfSome told (λ files. GivesReading {T = X} {X = X} (λ x. x) (Err e) (after files) (read xs (before files))) in
+    let Q : Result (List X) ReadErr → Type 0 = λ r. IfSome held (λ files. GivesReading {T = List X} {X = List X} (λ x. x) r (after files) (whole files)) in
     subst Q (sym is) (stop held read whole xs e left before after some so_far (subst P same step))
 
 -- after the last turn all were read
 pub many_done : {X : Type 0} (held : Option Files) (read : List X → Rest → Result (X × Rest) ℕ) (whole : Files → Result (List X × Rest) ℕ)
     → (xs : List X) (left : ℕ) (now : Files → Rest) → left ≡ 0
     → IfSome held (λ files. many_onto xs left read (now files) ≡ whole files)
-    → IfSome held (λ files. Reads {T = List X} {X = List X} (λ x. x) (Ok xs) (now files) (whole files))
+    → IfSome held (λ files. GivesReading {T = List X} {X = List X} (λ x. x) (Ok xs) (now files) (whole files))
 many_done None read whole xs left now none so_far = tt
 many_done (Some files) read whole xs left now none so_far = sym so_far ∙ many_none xs left read (now files) none
 
@@ -83,8 +83,8 @@ pub numbered_stop : {X : Type 0} (held now : Option Files) (read : ℕ → Rest 
     → (xs : List X) (e : ReadErr) (result : Result (List X) ReadErr) (number left : ℕ) (before after : Files → Rest)
     → now ≡ held → length xs ≡ number → 0 < left → result ≡ Err e
     → IfSome held (λ files. many_onto xs left (λ b. read (length b)) (before files) ≡ whole files)
-    → IfSome now (λ files. Reads {T = X} {X = X} (λ x. x) (Err e) (after files) (read number (before files)))
-    → IfSome held (λ files. Reads {T = List X} {X = List X} (λ x. x) result (after files) (whole files))
+    → IfSome now (λ files. GivesReading {T = X} {X = X} (λ x. x) (Err e) (after files) (read number (before files)))
+    → IfSome held (λ files. GivesReading {T = List X} {X = List X} (λ x. x) result (after files) (whole files))
 numbered_stop {X} held now read whole xs e result number left before after same count some is so_far step =
-    let P : ℕ → Type 0 = λ n. IfSome now (λ files. Reads {T = X} {X = X} (λ x. x) (Err e) (after files) (read n (before files))) in
+    let P : ℕ → Type 0 = λ n. IfSome now (λ files. GivesReading {T = X} {X = X} (λ x. x) (Err e) (after files) (read n (before files))) in
     many_stop held now (λ b. read (length b)) whole xs e result left before after same some is so_far (subst P (sym count) step)

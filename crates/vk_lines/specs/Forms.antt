@@ -121,7 +121,7 @@ pub record Follows {Place X : Type 0} (table : Table Place) (place : Place) (rea
   pub err : (rest : Rest) (number : ℕ) → read rest ≡ Err number → fault_at table place rest ≡ Some number
 
 -- reading from a place to the end of the file finds the fault that the table gives, and none where there is none
-pub record Ends {Place X : Type 0} (table : Table Place) (place : Place) (read : Rest → Result (X × Rest) ℕ) : Type 0 where
+pub record FindsFaults {Place X : Type 0} (table : Table Place) (place : Place) (read : Rest → Result (X × Rest) ℕ) : Type 0 where
   pub ok : (rest : Rest) (x : X) (more : Rest) → read rest ≡ Ok (x, more) → fault_at table place rest ≡ None
   pub err : (rest : Rest) (number : ℕ) → read rest ≡ Err number → fault_at table place rest ≡ Some number
 

@@ -145,12 +145,12 @@ line_of Failed = None
 line_of NoMemory = None
 
 -- a reader's answer is what the definition gives: the value with what is left, or the fault line
-abbrev pub Reads : {T X : Type 0} → (T → X) → Result T ReadErr → Rest → Result (X × Rest) ℕ → Type 0
-Reads value result rest expected = Gives line_of (λ x. (value x, rest)) result expected
+abbrev pub GivesReading : {T X : Type 0} → (T → X) → Result T ReadErr → Rest → Result (X × Rest) ℕ → Type 0
+GivesReading value result rest expected = Gives line_of (λ x. (value x, rest)) result expected
 
 -- a call's answer is that of this reading of what was left before it, where the files' bytes are told
 abbrev pub ReadsPart : {X : Type 0} → (Rest → Result (X × Rest) ℕ) → Option Files → LinesValue → LinesValue → Result X ReadErr → Type 0
-ReadsPart read held old new result = IfSome held (λ files. Reads (λ x. x) result (rest_of new files) (read (rest_of old files)))
+ReadsPart read held old new result = IfSome held (λ files. GivesReading (λ x. x) result (rest_of new files) (read (rest_of old files)))
 
 -- the value of a line, or the line's number where it has none
 abbrev pub value_at : {X : Type 0} → Option X → Rest → Result (X × Rest) ℕ

@@ -6,7 +6,7 @@ ghost use Rattle.vk_io.specs.Files.{Files, bytes_of, part_of};
 ghost use Rattle.vk_io.specs.declared.errors.OutsideErr.{OutsideErr};
 ghost use Rattle.vk_lines.specs.Tokens.{word_of, number_line, id_line};
 ghost use Rattle.vk_lines.specs.Buffers.{HasLooked, after_step};
-ghost use Rattle.vk_lines.specs.Lines.{Starts, KeepsFile, IsBefore, IsBegun, IsBegunBy, refusal_of, Reads, ReadsPart, IsNext, LinesValue, OnlyReads, line_by, text_at, rest_of, unread, feed_at, step_by, step_of, none_left, value_at, is_text, is_end, answer_by, end_at};
+ghost use Rattle.vk_lines.specs.Lines.{Starts, KeepsFile, IsBefore, IsBegun, IsBegunBy, refusal_of, GivesReading, ReadsPart, IsNext, LinesValue, OnlyReads, line_by, text_at, rest_of, unread, feed_at, step_by, step_of, none_left, value_at, is_text, is_end, answer_by, end_at};
 
 use crate::buffer::{Buffer, MOST_LINE};
 use crate::cutting::read_word;
@@ -176,7 +176,7 @@ impl Lines {
     /// feed within 256 bytes.
     pub fn read_text<S: Shelf>(&mut self, shelf: &mut S) -> Result<(), ReadErr>
         ensures told { IfSome (S.held shelf.old) (λ files.
-            Reads (λ _. self.new.text) result (rest_of self.new files) (text_at (rest_of self.old files))) }
+            GivesReading (λ _. self.new.text) result (rest_of self.new files) (text_at (rest_of self.old files))) }
         ensures file { KeepsFile self.old self.new }
         ensures shelf { OnlyReads S.held S.Shelf.faults ReadErr.Failed result shelf.old shelf.new }
         ensures wants { Causes ReadErr.NoMemory result (S.Shelf.wants shelf.old) (S.Shelf.wants shelf.new) }
@@ -191,7 +191,7 @@ impl Lines {
     #[tactic(auto, unfolding(crate::specs::Lines::rest_of, crate::specs::Lines::rest_in))]
     pub fn found<X>(&self, value: Option<X>) -> Result<X, ReadErr>
         ensures exact { result ≡ ok_or value (ReadErr.Malformed self.now.taken) }
-        ensures told { (files : Files) → Reads (λ x. x) result (rest_of self.now files) (value_at value (rest_of self.now files)) }
+        ensures told { (files : Files) → GivesReading (λ x. x) result (rest_of self.now files) (value_at value (rest_of self.now files)) }
     {
         value.ok_or(ReadErr::Malformed { line: self.taken })
     }
@@ -305,7 +305,7 @@ fn step_by(feed: usize, count: usize) -> Step
 fn line_found(step: Step, before: u64) -> Result<(), ReadErr>
     requires { before ≤ 2 ^ 30 }
     ensures told { (files : Files) (old new : LinesValue) → before ≡ old.taken → IsNext step old new files
-        → Reads (λ _. new.text) result (rest_of new files) (text_at (rest_of old files)) }
+        → GivesReading (λ _. new.text) result (rest_of new files) (text_at (rest_of old files)) }
     ensures exact { result ≡ answer_by (is_text step) before }
 {
     match step {
@@ -318,7 +318,7 @@ fn line_found(step: Step, before: u64) -> Result<(), ReadErr>
 fn nothing_left(step: Step, before: u64) -> Result<(), ReadErr>
     requires { before ≤ 2 ^ 30 }
     ensures told { (files : Files) (old new : LinesValue) → before ≡ old.taken → IsNext step old new files
-        → Reads (λ x. x) result (rest_of new files) (none_left (rest_of old files)) }
+        → GivesReading (λ x. x) result (rest_of new files) (none_left (rest_of old files)) }
     ensures exact { result ≡ answer_by (is_end step) before }
 {
     let answer = end_answer(step, before);

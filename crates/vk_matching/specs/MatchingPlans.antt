@@ -26,7 +26,7 @@ abbrev pub size_of : List ℕ → ℕ
 size_of numbers = length (matching_of numbers)
 
 -- how many ranks there are and the numbers that are published, each within its limits
-pub record AreInLimits (inputs : ℕ) (numbers : List ℕ) : Type 0 where
+pub record IsMatchingInLimits (inputs : ℕ) (numbers : List ℕ) : Type 0 where
   pub some : 1 ≤ size_of numbers
   pub most : size_of numbers ≤ 16
   pub least_width : 1 ≤ width_of numbers
@@ -35,7 +35,7 @@ pub record AreInLimits (inputs : ℕ) (numbers : List ℕ) : Type 0 where
 
 -- and each man has a woman of his own
 pub record IsMatchingCase (inputs : ℕ) (numbers : List ℕ) : Type 0 where
-  pub limits : AreInLimits inputs numbers
+  pub limits : IsMatchingInLimits inputs numbers
   pub permutation : IsPermutation (size_of numbers) (matching_of numbers)
 
 -- what the plan shows of the ranks

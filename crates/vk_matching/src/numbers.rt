@@ -2,14 +2,14 @@
 ghost use Rattle.std.specs.Prelude.{◌≡◌, ◌<◌, ◌≤◌, ◌↔◌, length, IfOk, IfSome, IsSome, IsTrue};
 ghost use Rattle.vk_matching.specs.Stability.{IsPermutation};
 ghost use Rattle.vk_matching.specs.Couples.{husbands_of};
-ghost use Rattle.vk_matching.specs.MatchingPlans.{AreInLimits};
+ghost use Rattle.vk_matching.specs.MatchingPlans.{IsMatchingInLimits};
 
 use std::alloc::Global;
 use vk_residue::NoMemory;
 
 /// The numbers are within their limits, but for whom each man is matched with.
 pub(crate) fn are_in_limits(inputs: u32, numbers: &[u64]) -> bool
-    ensures { IsTrue result ↔ AreInLimits inputs numbers.now }
+    ensures { IsTrue result ↔ IsMatchingInLimits inputs numbers.now }
 {
     if numbers.len() < 2 || numbers.len() > 17 {
         return false;

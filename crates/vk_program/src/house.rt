@@ -11,7 +11,7 @@ use vk_keeper::Keeper;
 use vk_keeper_sql::OpenErr;
 
 /// What keeps the auctions of a house: opened for a command that asks for them, and closed behind it.
-pub trait House {
+pub trait HousePlace {
     type Kept: Keeper;
 
     /// Whether something is kept already. Where nothing is, opening makes a place for it. Errs where that can't be told.

@@ -4,7 +4,7 @@ ghost use Rattle.std.specs.Prelude.{◌≡◌, None, Some, IfErr, IfOk, IfSome};
 ghost use Rattle.vk_io.specs.Faults.{Causes};
 ghost use Rattle.vk_keeper.specs.Auctions.{IsAuction};
 
-use crate::house::{House, Unopened};
+use crate::house::{HousePlace, Unopened};
 use vk_io::OutsideErr;
 use vk_keeper::{Auction, Keeper, TurnCount};
 
@@ -12,7 +12,7 @@ use vk_keeper::{Auction, Keeper, TurnCount};
 /// leaves no store. It doesn't tell its ledger. What is opened stands in the place that it was given, to be closed by
 /// whom the place belongs to.
 #[derive(Drop)]
-pub struct LateKeeper<'a, H: House> {
+pub struct LateKeeper<'a, H: HousePlace> {
     house: &'a H,
     kept: &'a mut Option<H::Kept>,
     refusal: Option<Unopened>,
@@ -20,7 +20,7 @@ pub struct LateKeeper<'a, H: House> {
     turns: TurnCount,
 }
 
-impl<'a, H: House> LateKeeper<'a, H> {
+impl<'a, H: HousePlace> LateKeeper<'a, H> {
     /// The keeper of that house, which is not opened yet. There are no faults.
     pub fn over(house: &'a H, kept: &'a mut Option<H::Kept>) -> LateKeeper<'a, H>
         ensures refusal { result.refusal ≡ None }
@@ -36,7 +36,7 @@ impl<'a, H: House> LateKeeper<'a, H> {
     }
 }
 
-impl<H: House> LateKeeper<'_, H> {
+impl<H: HousePlace> LateKeeper<'_, H> {
     /// Why the house was not opened, if it was refused.
     pub fn refusal(&self) -> Option<Unopened>
         ensures { result ≡ self.now.refusal }
@@ -132,7 +132,7 @@ fn put_into<K: Keeper>(kept: &mut Option<K>, auction: Auction) -> Result<(), Out
     }
 }
 
-impl<H: House> Keeper for LateKeeper<'_, H> {
+impl<H: HousePlace> Keeper for LateKeeper<'_, H> {
     ghost use Rattle.std.specs.Prelude.{None};
 
     ghost ledger = { λ _. None };

@@ -10,7 +10,7 @@ mod settling;
 mod store;
 
 pub use ending::end;
-pub use house::{House, Unopened};
+pub use house::{HousePlace, Unopened};
 pub use performing::program;
 pub use settling::Settle;
 pub use store::{STORE, StoreHouse};

@@ -16,7 +16,7 @@ ghost use Rattle.vk_app.specs.Promises.{Audits, ClaimHeadline, Claims, Headline,
 ghost use Rattle.vk_app.specs.Sealing.{Seals};
 
 use crate::ending::{advise, end, explain, refuse, with_fault};
-use crate::house::{House, Unopened};
+use crate::house::{HousePlace, Unopened};
 use crate::late::LateKeeper;
 use crate::settling::Settle;
 use std::env;
@@ -130,7 +130,7 @@ fn perform_alone<R: Eprint + AllocGlobal, S: Settle, W: Sink>(
 }
 
 /// Does what the words say over the auctions of the house, which is closed behind it where it was opened.
-fn perform_in<R: Eprint + AllocGlobal, H: House, S: Settle, W: Sink>(
+fn perform_in<R: Eprint + AllocGlobal, H: HousePlace, S: Settle, W: Sink>(
     rt: &R,
     words: &[String],
     house: &H,
@@ -150,7 +150,7 @@ fn perform_in<R: Eprint + AllocGlobal, H: House, S: Settle, W: Sink>(
 }
 
 /// Opens the house, where something is kept in it already.
-fn open_made<H: House>(house: &H, keeper: &mut LateKeeper<'_, H>) -> Result<(), Unopened>
+fn open_made<H: HousePlace>(house: &H, keeper: &mut LateKeeper<'_, H>) -> Result<(), Unopened>
     ensures faults { keeper.new.faults ≡ keeper.old.faults }
     ensures turns { keeper.new.turns ≡ keeper.old.turns }
 {
@@ -162,7 +162,7 @@ fn open_made<H: House>(house: &H, keeper: &mut LateKeeper<'_, H>) -> Result<(), 
 
 /// Does what the words say over the keeper of the house. A house in which something is kept is opened before, and no other one
 /// unless the keeper is asked: so words that are no command, and files that are missing, leave no store.
-fn perform_asking<R: Eprint + AllocGlobal, H: House, S: Settle, W: Sink>(
+fn perform_asking<R: Eprint + AllocGlobal, H: HousePlace, S: Settle, W: Sink>(
     rt: &R,
     words: &[String],
     house: &H,
@@ -181,7 +181,7 @@ fn perform_asking<R: Eprint + AllocGlobal, H: House, S: Settle, W: Sink>(
 }
 
 /// Does what the words of `env` say. Where they may ask the house its keeper is theirs, and else an empty one.
-pub fn program<E: Env + AllocGlobal, R: Eprint + AllocGlobal, H: House, S: Settle, W: Sink>(
+pub fn program<E: Env + AllocGlobal, R: Eprint + AllocGlobal, H: HousePlace, S: Settle, W: Sink>(
     env: &E,
     rt: &R,
     house: &H,

@@ -3,7 +3,7 @@
 ghost use Rattle.std.specs.Prelude.{◌≡◌};
 ghost use Rattle.vk_program.specs.Stores.{is_exposed};
 
-use crate::house::{House, Unopened};
+use crate::house::{HousePlace, Unopened};
 use sqlite::{Connection, File, FileStore};
 use std::fs::{self, OpenOptions};
 use std::io::{self, ErrorKind};
@@ -36,7 +36,7 @@ impl StoreHouse<'_> {
     }
 }
 
-impl House for StoreHouse<'_> {
+impl HousePlace for StoreHouse<'_> {
     type Kept = SqlKeeper<FileStore<File>>;
 
     /// Whether anything has the store's name.

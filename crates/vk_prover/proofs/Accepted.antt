@@ -19,7 +19,7 @@ use Rattle.vk_row.specs.Lanes.{HasCounts, IsAcceptedLane, WireReads, RowHolds, n
 use Rattle.vk_row.specs.LaneTests.{checked_lane}
 use Rattle.vk_row.proofs.Whole.{accepted_ok}
 use Rattle.vk_prover.specs.Honest.{each_wire, com_of, shown_of, honest_coms, honest_posted, honest_lane, honest_case, honest_reply, honest_halves, masks, posted_on, no_tape}
-use Rattle.vk_prover.specs.Laws.{AreAccepted, AreChecked, ArePublished, InputsAreSealed, IsTapeOf, WhereHeld}
+use Rattle.vk_prover.specs.Laws.{HonestLaneIsAccepted, AreChecked, ArePublished, InputsAreSealed, IsTapeOf, WhereHeld}
 use Rattle.vk_prover.proofs.Wires.{get_or-each_wire, length-each_wire, drop-each_wire, inputs_within}
 use Rattle.vk_prover.proofs.Halves.{row_has_side, length-honest_halves, get_or-honest_halves}
 
@@ -142,7 +142,7 @@ input_at inputs values n input begins lt = sym (get_or-take n values input 0 lt)
 
 -- ---- wherever values hold for a plan
 
-pub held_accepted : WhereHeld AreAccepted
+pub held_accepted : WhereHeld HonestLaneIsAccepted
 held_accepted plan values is_plan holds auction lane seats tape bit one_seat_each is =
     honest_accepted plan auction lane seats values tape bit (honest_lane_of plan seats values tape is_plan holds one_seat_each is)
 

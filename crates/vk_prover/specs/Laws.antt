@@ -22,8 +22,8 @@ abbrev pub WhereHeld : (PlanValue → List ℕ → Type 0) → Type 0
 WhereHeld Law = (plan : PlanValue) (values : List ℕ) → IsPlan plan → Holds plan values → Law plan values
 
 -- an honest reply to either bit is accepted, with the halves that the bit names
-abbrev pub AreAccepted : PlanValue → List ℕ → Type 0
-AreAccepted plan values =
+abbrev pub HonestLaneIsAccepted : PlanValue → List ℕ → Type 0
+HonestLaneIsAccepted plan values =
     (auction : List ℕ) (lane : ℕ) (seats : List ℕ) (tape : List WireTape) (bit : Bool) → length seats ≡ plan.inputs → IsTapeOf plan tape
     → IsAcceptedLane plan (honest_case plan auction lane seats values tape) bit (honest_reply plan.kinds values tape bit) (honest_halves values tape bit)
 

@@ -1,6 +1,6 @@
 // What holds of every honest lane.
 ghost use Rattle.std.specs.Prelude.{List, ℕ};
-ghost use Rattle.vk_prover.specs.Laws.{AreAccepted, AreChecked, AreLines, AreOfForm, ArePublished, InputsAreSealed, WhereHeld};
+ghost use Rattle.vk_prover.specs.Laws.{HonestLaneIsAccepted, AreChecked, AreLines, AreOfForm, ArePublished, InputsAreSealed, WhereHeld};
 
 use vk_plan::Circuit;
 
@@ -8,7 +8,7 @@ use vk_plan::Circuit;
 /// accepted for its plan, whatever the tape is; and the commitments of each input are those to it.
 pub fn honest_replies_are_accepted<C: Circuit>()
     ensures accepted { (circuit : C) (inputs : List ℕ) → C.claim circuit inputs
-        → AreAccepted (C.plan_of circuit) (C.filled circuit inputs) }
+        → HonestLaneIsAccepted (C.plan_of circuit) (C.filled circuit inputs) }
     ensures checked { (circuit : C) (inputs : List ℕ) → C.claim circuit inputs
         → AreChecked (C.plan_of circuit) (C.filled circuit inputs) }
     ensures inputs { (circuit : C) (inputs : List ℕ) → C.claim circuit inputs
@@ -19,7 +19,7 @@ pub fn honest_replies_are_accepted<C: Circuit>()
 /// is accepted, whatever the tape is, with the halves that the bit names; and what is published of the
 /// lane, after the commitments of the inputs, is what the reply is accepted for.
 pub fn replies_of_held_values_are_accepted()
-    ensures accepted { WhereHeld AreAccepted }
+    ensures accepted { WhereHeld HonestLaneIsAccepted }
     ensures checked { WhereHeld AreChecked }
     ensures inputs { WhereHeld (λ plan values. InputsAreSealed values plan values) }
     ensures published { WhereHeld ArePublished }

@@ -3,7 +3,7 @@ use Rattle.std.proofs.Common.{◌≡◌, ℕ, ◌≤◌, Bool, List, [], ◌∷�
 use Rattle.std.specs.Result.{result_err}
 use Rattle.vk_residue.specs.Steps.{◌>>=◌}
 use Rattle.vk_lines.specs.Lines.{Rest, line_by, end_at}
-use Rattle.vk_lines.specs.Forms.{line, spaced, IsWhole, Ends, fault_line, whole}
+use Rattle.vk_lines.specs.Forms.{line, spaced, IsWhole, FindsFaults, fault_line, whole}
 use Rattle.vk_lines.proofs.Words.{fixed_line}
 use Rattle.vk_lines.proofs.Parts.{line_part, whole_then, whole_end, whole_same}
 use Rattle.vk_lines.proofs.Faults.{line_follows, ends_then, end_ends, ends_done, fault_line_is}
@@ -49,7 +49,7 @@ challenge_is_whole =
     (λ challenge is. (tt, ((is.some_bit, is.few_bits), refl)))
     (λ challenge. refl)
 
-pub challenge_ends : Ends challenge_table Heading challenge_at
+pub challenge_ends : FindsFaults challenge_table Heading challenge_at
 unfolding challenge_at
 challenge_ends =
     ends_then challenge_table Heading (line_follows challenge_table Heading _ (λ _. Bits) (λ text. refl) refl) (λ heading.

@@ -4,7 +4,7 @@ use Rattle.std.proofs.lemmas.Bool.{le-leb, leb-true}
 use Rattle.std.specs.Result.{result_err}
 use Rattle.vk_residue.specs.Steps.{◌>>=◌}
 use Rattle.vk_lines.specs.Lines.{Rest, end_at}
-use Rattle.vk_lines.specs.Forms.{line, spaced, numbered_text, EachAfter, IsPart, IsWhole, Follows, Ends, Table, fault_at, fault_line, many_onto, whole}
+use Rattle.vk_lines.specs.Forms.{line, spaced, numbered_text, EachAfter, IsPart, IsWhole, Follows, FindsFaults, Table, fault_at, fault_line, many_onto, whole}
 use Rattle.vk_lines.proofs.Words.{number_line_is}
 use Rattle.vk_lines.proofs.Parts.{line_part, many_part, part_headed, part_then, part_same, whole_then, whole_end, whole_same}
 use Rattle.vk_lines.proofs.Each.{at_from_each, each_from_at}
@@ -16,7 +16,7 @@ use Rattle.vk_wire.specs.declared.wire.Shown.{Shown}
 use Rattle.vk_reply.specs.Values.{AreShown, IsReply}
 use Rattle.vk_reply.specs.Texts.{shown_text, reply_head_text, reply_lane_text, reply_text}
 use Rattle.vk_reply.specs.Reading.{shown_line, lane_line, wire_at, wires_at, reply_head_at, reply_lane_at, reply_lanes_at, reply_at}
-use Rattle.vk_reply.specs.Tables.{Place, Heading, Count, Lane, Wire, Over, before_wires, reply_table}
+use Rattle.vk_reply.specs.Tables.{ReplyPlace, Heading, Count, Lane, Wire, Over, before_wires, reply_table}
 use Rattle.vk_reply.proofs.Lines.{shown_line_is}
 use Rattle.vk_reply.proofs.Wires.{AreWires, from_shown, to_shown}
 
@@ -147,7 +147,7 @@ unfolding many_onto
 wires_follow kinds bit_of lane more before [] is = follows_done (reply_table kinds bit_of) (λ _. Lane (lane + 1) more) before
 wires_follow kinds bit_of lane more before (kind ∷ after) is =
     let here = drop_is kinds (length before) Split kind after is in
-    let table : Table Place = reply_table kinds bit_of in
+    let table : Table ReplyPlace = reply_table kinds bit_of in
     follows_then table (Wire lane more kind after)
     (line_follows table (Wire lane more kind after) (shown_line (slice_index_or kinds (length before) Split) (bit_of lane)) (λ _. before_wires lane more after)
     (λ text. ap (λ k. option_map (λ _. before_wires lane more after) (shown_line k (bit_of lane) text)) (sym here.0)) refl)
@@ -175,7 +175,7 @@ head_follows kinds bit_of =
     follows_then (reply_table kinds bit_of) Heading (line_follows (reply_table kinds bit_of) Heading _ (λ _. Count) (λ text. refl) refl)
     (λ heading. line_follows (reply_table kinds bit_of) Count _ (Lane 1) (λ text. refl) refl)
 
-pub reply_ends : (kinds : List WireKind) (bit_of : ℕ → Bool) → Ends (reply_table kinds bit_of) Heading (reply_at kinds bit_of)
+pub reply_ends : (kinds : List WireKind) (bit_of : ℕ → Bool) → FindsFaults (reply_table kinds bit_of) Heading (reply_at kinds bit_of)
 unfolding reply_at
 reply_ends kinds bit_of =
     ends_then (reply_table kinds bit_of) Heading (head_follows kinds bit_of) (λ count.

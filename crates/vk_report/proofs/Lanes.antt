@@ -2,7 +2,7 @@
 use Rattle.std.proofs.Common.{◌≡◌, ℕ, ◌+◌, ◌<◌, List, [], ◌∷◌, ◌++◌, length, Option, Some, None, Result, Ok, Err, IfSome, refl, ap, sym, arith, length-append, subst}
 use Rattle.vk_io.specs.Files.{Files}
 use Rattle.vk_lines.specs.Forms.{many_onto}
-use Rattle.vk_lines.specs.Lines.{Rest, Reads}
+use Rattle.vk_lines.specs.Lines.{Rest, GivesReading}
 use Rattle.vk_lines.specs.declared.errors.ReadErr.{ReadErr}
 use Rattle.vk_lines.specs.declared.errors.ReadErr.TheVariants.{Malformed, Failed, NoMemory}
 use Rattle.vk_lines.proofs.Loops.{many_turn, many_stop, many_done}
@@ -44,8 +44,8 @@ passed_turn held now shape whole index left next lane before after same fewer so
     }
 
 not_kept : (held : Option Files) (e : ReadErr) (after : Files → Rest) (whole : Files → Result (List LaneLines × Rest) ℕ)
-    → IfSome held (λ files. Reads {T = List LaneLines} {X = List LaneLines} (λ x. x) (Err e) (after files) (whole files))
-    → IfSome held (λ files. Reads {T = Unit {0}} {X = Unit {0}} (λ x. x) (Err e) (after files) (passed (whole files)))
+    → IfSome held (λ files. GivesReading {T = List LaneLines} {X = List LaneLines} (λ x. x) (Err e) (after files) (whole files))
+    → IfSome held (λ files. GivesReading {T = Unit {0}} {X = Unit {0}} (λ x. x) (Err e) (after files) (passed (whole files)))
 not_kept None e after whole reads = tt
 not_kept (Some files) (Malformed line) after whole reads = ap passed reads
 not_kept (Some files) Failed after whole reads = tt
@@ -54,21 +54,21 @@ not_kept (Some files) NoMemory after whole reads = tt
 pub passed_stop : (held now : Option Files) (shape : Shape) (whole : Files → Result (List LaneLines × Rest) ℕ) (index left : ℕ) (e : ReadErr) (result : Result (Unit {0}) ReadErr) (before after : Files → Rest)
     → now ≡ held → 0 < left → result ≡ Err e
     → HasPassed held shape index left before whole
-    → IfSome now (λ files. Reads {T = LaneLines} {X = LaneLines} (λ x. x) (Err e) (after files) (lane_at (index + 1) shape.wires shape.rows (before files)))
-    → IfSome held (λ files. Reads {T = Unit {0}} {X = Unit {0}} (λ x. x) result (after files) (passed (whole files)))
+    → IfSome now (λ files. GivesReading {T = LaneLines} {X = LaneLines} (λ x. x) (Err e) (after files) (lane_at (index + 1) shape.wires shape.rows (before files)))
+    → IfSome held (λ files. GivesReading {T = Unit {0}} {X = Unit {0}} (λ x. x) result (after files) (passed (whole files)))
 passed_stop held now shape whole index left e result before after same some is so_far step =
-    let P : ℕ → Type 0 = λ n. IfSome now (λ files. Reads {T = LaneLines} {X = LaneLines} (λ x. x) (Err e) (after files) (lane_at (n + 1) shape.wires shape.rows (before files))) in
-    let Q : Result (Unit {0}) ReadErr → Type 0 = λ r. IfSome held (λ files. Reads {T = Unit {0}} {X = Unit {0}} (λ x. x) r (after files) (passed (whole files))) in
+    let P : ℕ → Type 0 = λ n. IfSome now (λ files. GivesReading {T = LaneLines} {X = LaneLines} (λ x. x) (Err e) (after files) (lane_at (n + 1) shape.wires shape.rows (before files))) in
+    let Q : Result (Unit {0}) ReadErr → Type 0 = λ r. IfSome held (λ files. GivesReading {T = Unit {0}} {X = Unit {0}} (λ x. x) r (after files) (passed (whole files))) in
     subst Q (sym is) (not_kept held e after whole (many_stop held now (next_lane shape) whole so_far.before e (Err e) left before after same some refl so_far.told (subst P (sym so_far.count) step)))
 
 none_kept : (held : Option Files) (xs : List LaneLines) (now : Files → Rest) (whole : Files → Result (List LaneLines × Rest) ℕ)
-    → IfSome held (λ files. Reads {T = List LaneLines} {X = List LaneLines} (λ x. x) (Ok xs) (now files) (whole files))
-    → IfSome held (λ files. Reads {T = Unit {0}} {X = Unit {0}} (λ x. x) (Ok tt) (now files) (passed (whole files)))
+    → IfSome held (λ files. GivesReading {T = List LaneLines} {X = List LaneLines} (λ x. x) (Ok xs) (now files) (whole files))
+    → IfSome held (λ files. GivesReading {T = Unit {0}} {X = Unit {0}} (λ x. x) (Ok tt) (now files) (passed (whole files)))
 none_kept None xs now whole reads = tt
 none_kept (Some files) xs now whole reads = ap passed reads
 
 pub passed_done : (held : Option Files) (shape : Shape) (whole : Files → Result (List LaneLines × Rest) ℕ) (index left : ℕ) (now : Files → Rest) → left ≡ 0
     → HasPassed held shape index left now whole
-    → IfSome held (λ files. Reads {T = Unit {0}} {X = Unit {0}} (λ x. x) (Ok tt) (now files) (passed (whole files)))
+    → IfSome held (λ files. GivesReading {T = Unit {0}} {X = Unit {0}} (λ x. x) (Ok tt) (now files) (passed (whole files)))
 passed_done held shape whole index left now none so_far =
     none_kept held so_far.before now whole (many_done held (next_lane shape) whole so_far.before left now none so_far.told)

@@ -21,7 +21,7 @@ use Rattle.vk_report.specs.declared.report.Report.{Report}
 use Rattle.vk_report.specs.declared.report.ReportErr.{ReportErr}
 use Rattle.vk_report.specs.declared.report.ReportErr.TheVariants.{Missing, TooLong, Malformed, Price, Winner, Failed, NoMemory}
 use Rattle.vk_report.specs.Reports.{in_board, in_front, in_start, passed, lanes_passed, report_with, report_at, report_on}
-use Rattle.vk_report.specs.Meaning.{auction_shape, FailsIn, HasFront, IsUnreported, RefusedExactly, ReportFails, UnreportedExactly}
+use Rattle.vk_report.specs.Meaning.{auction_shape, FailsIn, HasSomeFront, IsUnreported, RefusedExactly, ReportFails, UnreportedExactly}
 use Rattle.vk_report.proofs.Meaning.{started_found}
 
 abbrev from_start : List ℕ → Rest
@@ -75,7 +75,7 @@ module _ (file : List ℕ) (refusal : ReportErr) where
   by_board front after (Ok board) front_read is stop = cc
   by_board front after (Err line) front_read is stop =
       let shown = fronts_read.shown (from_start file) front after front_read in
-      let has : HasFront file = record { front = front; right = shown.0; more = after.left; text = shown.1 } in
+      let has : HasSomeFront file = record { front = front; right = shown.0; more = after.left; text = shown.1 } in
       is_it (Malformed line) (record { fault = board_fault auction_shape file ∙ ap result_err is; place = inr has }) stop
 
   by_front : (read : Result (Front × Rest) FrontFault) → front_at (from_start file) ≡ read → (in_front read >>= after_front) ≡ Err refusal
@@ -98,7 +98,7 @@ err_is : {A : Type 0} (read : Result A ℕ) (line : ℕ) → result_err read ≡
 err_is (Ok x) line is = cc
 err_is (Err other) line is = cc
 
-malformed_after : (file : List ℕ) (line : ℕ) → result_err (board_at auction_shape (from_start file)) ≡ Some line → HasFront file
+malformed_after : (file : List ℕ) (line : ℕ) → result_err (board_at auction_shape (from_start file)) ≡ Some line → HasSomeFront file
     → report_at (from_start file) ≡ Err (Malformed line)
 malformed_after file line fault has =
     let read = fronts_read.found (from_start file) has.front has.more has.right has.text in

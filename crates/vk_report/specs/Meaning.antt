@@ -47,7 +47,7 @@ ReportedExactly = (files : Files) (name : List ℕ) (report : Report) → (repor
 -- ---- why a file isn't reported on
 
 -- the file begins with what stands before the first lane of a board, and its price and its winner may stand
-pub record HasFront (file : List ℕ) : Type 0 where
+pub record HasSomeFront (file : List ℕ) : Type 0 where
   pub front : Front
   pub right : IsFront front
   pub more : List ℕ
@@ -57,7 +57,7 @@ pub record HasFront (file : List ℕ) : Type 0 where
 -- winner may stand
 pub record BoardFails (file : List ℕ) (line : ℕ) : Type 0 where
   pub fault : fault_line (board_table auction_shape) file ≡ Some line
-  pub place : ((head : Head) (seals : List SealLines) → ¬ Begins file head seals) ⊎ HasFront file
+  pub place : ((head : Head) (seals : List SealLines) → ¬ Begins file head seals) ⊎ HasSomeFront file
 
 -- the refusal holds of the file's bytes
 abbrev pub ReportFails : ReportErr → List ℕ → Type 0

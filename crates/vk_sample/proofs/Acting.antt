@@ -16,7 +16,7 @@ use Rattle.vk_report.specs.Samples.{sample_of}
 use Rattle.vk_effect.specs.Effects.{Effect, SaidValue, Stores, says, stores}
 use Rattle.vk_effect.specs.Ends.{Acts}
 use Rattle.vk_sample.specs.Auctions.{DrySeed, auction_of}
-use Rattle.vk_sample.specs.Laws.{IsAuctionOf, OpensAll, opened}
+use Rattle.vk_sample.specs.Laws.{IsAuctionOf, SampleOpensAll, opened}
 use Rattle.vk_sample.specs.Samples.{effect_by, effect_unless_dry, sample_on, told_effect}
 use Rattle.vk_sample.specs.Texts.{dry_said, files_of, found_text, made_text, read_said, same_count, sample_names, summary_said}
 
@@ -78,7 +78,7 @@ module _ (texts : List (List ℕ × List ℕ)) (whole : SaidValue) (ledger : Opt
 
 -- ---- the summary
 
-module _ (sample : SampleCase) (auction : Auction) (is : IsAuctionOf sample auction) (opens : OpensAll sample auction) (number : ℕ) (made : List ℕ) (made_is : made ≡ made_text number (head_of auction)) where
+module _ (sample : SampleCase) (auction : Auction) (is : IsAuctionOf sample auction) (opens : SampleOpensAll sample auction) (number : ℕ) (made : List ℕ) (made_is : made ≡ made_text number (head_of auction)) where
   summary : read_said made (Ok (Bids (opened sample auction))) ≡ summary_said number (head_of auction)
   unfolding head_of
   summary =

@@ -26,7 +26,7 @@ use Rattle.vk_honest.proofs.Sizes.{boards_are_short, boards_have_lines, challeng
 use Rattle.vk_report.specs.declared.sample.SampleCase.{SampleCase}
 use Rattle.vk_report.specs.Samples.{IsSampleCase, auction_sizes}
 use Rattle.vk_words.specs.Names.{AttemptWords}
-use Rattle.vk_sample.specs.Laws.{AreAccepted, HasLines, IsAuctionOf, OpensAll, opened}
+use Rattle.vk_sample.specs.Laws.{SampleIsAccepted, HasLines, IsAuctionOf, SampleOpensAll, opened}
 use Rattle.vk_sample.specs.Texts.{files_of, sample_names}
 
 -- ---- what a file holds after others are written
@@ -83,7 +83,7 @@ module _ (sample : SampleCase) (case : IsSampleCase sample) (auction : Auction) 
         second = replies_have_lines auction sample.second is.proved is.second ∙ reply;
       }
 
-  pub are_accepted : AreAccepted sample auction
+  pub are_accepted : SampleIsAccepted sample auction
   are_accepted = record {
     first = answers_are_accepted auction sample.first is.proved is.first;
     second = answers_are_accepted auction sample.second is.proved is.second;
@@ -123,7 +123,7 @@ module _ (sample : SampleCase) (case : IsSampleCase sample) (auction : Auction) 
         second = attempt first [] sample_names.second sample.second is.second refl refl;
       }
 
-  pub opens_all : OpensAll sample auction
+  pub opens_all : SampleOpensAll sample auction
   opens_all =
       let turned = turned_open_all auction sample.first sample.second is.first case.right.turned in
       let gives = replies_give_bids auction sample.first sample.second is.proved is.first is.second turned.0 in

@@ -42,7 +42,7 @@ pub record HasLines (sample : SampleCase) (auction : Auction) : Type 0 where
   pub second : line_count (reply_of auction sample.second) ≡ 100963
 
 -- the board and a reply of the auction's honest prover are accepted, for either challenge
-pub record AreAccepted (sample : SampleCase) (auction : Auction) : Type 0 where
+pub record SampleIsAccepted (sample : SampleCase) (auction : Auction) : Type 0 where
   pub first : Accepts (board_of auction) (challenge_text sample.first) (reply_of auction sample.first)
   pub second : Accepts (board_of auction) (challenge_text sample.second) (reply_of auction sample.second)
 
@@ -52,7 +52,7 @@ opened sample auction = sealed_bids auction sample.first sample.second
 
 -- read from files that hold what was written, both replies open the bids that were sealed: in every lane, and of
 -- every seal the same
-pub record OpensAll (sample : SampleCase) (auction : Auction) : Type 0 where
+pub record SampleOpensAll (sample : SampleCase) (auction : Auction) : Type 0 where
   pub read : (files : Files) → extraction_on (written (files_of sample auction) files) sample_names.board
       sample_names.first.challenge sample_names.first.reply sample_names.second.challenge sample_names.second.reply ≡ Ok (Bids (opened sample auction))
   pub all_lanes : length (opened sample auction).lanes ≡ auction_sizes.lanes

@@ -6,7 +6,7 @@ use Rattle.hex.specs.Hex.{IsBytes}
 use Rattle.vk_residue.specs.Residue.{modulus}
 use Rattle.vk_residue.specs.Steps.{◌>>=◌}
 use Rattle.vk_lines.specs.Lines.{Rest, line_by}
-use Rattle.vk_lines.specs.Forms.{line, spaced, is_plain, IsLine, IsPart, IsWhole, EachAfter, Follows, Ends, fault_line, whole}
+use Rattle.vk_lines.specs.Forms.{line, spaced, is_plain, IsLine, IsPart, IsWhole, EachAfter, Follows, FindsFaults, fault_line, whole}
 use Rattle.vk_lines.specs.Tokens.{hex_text, id_line, number_line, word_of}
 use Rattle.vk_lines.proofs.Words.{decimal_token, hex_token, number_line_is, id_line_is, digests_line_is, three_line, line_same, from_test, to_test, InRange, below_from, below_to}
 use Rattle.vk_lines.proofs.Parts.{line_part, many_part, part_headed, part_then, part_last, part_same, whole_then, whole_last, whole_end, whole_same, each_from_all, all_from_each}
@@ -18,7 +18,7 @@ use Rattle.vk_seal.specs.declared.secret.Seal.{Seal}
 use Rattle.vk_seal.specs.Values.{IsSeal, IsSecret, IsXTape}
 use Rattle.vk_seal.specs.Texts.{com_text, tape_text, seat_text, lanes_text, seal_text, secret_text}
 use Rattle.vk_seal.specs.Reading.{com_line, com_at, tape_by, tape_line, tape_at, seat_at, lanes_at, seal_with, seal_at, secret_with, secret_at}
-use Rattle.vk_seal.specs.Tables.{Place, Heading, Auction, Seat, Bid, Count, Lanes, Over, table_by, seal_table, secret_table}
+use Rattle.vk_seal.specs.Tables.{SealPlace, Heading, Auction, Seat, Bid, Count, Lanes, Over, table_by, seal_table, secret_table}
 
 -- ---- lines
 
@@ -170,7 +170,7 @@ secret_is_whole =
 
 -- ---- the fault lines
 
-place_follows : {X : Type 0} (heading : List ℕ) (behind : Place) (parse : List ℕ → Option X) → Follows (table_by heading behind parse) Heading (seat_at heading) (λ _. behind)
+place_follows : {X : Type 0} (heading : List ℕ) (behind : SealPlace) (parse : List ℕ → Option X) → Follows (table_by heading behind parse) Heading (seat_at heading) (λ _. behind)
 unfolding seat_at
 place_follows heading behind parse =
     let table = table_by heading behind parse in
@@ -179,8 +179,8 @@ place_follows heading behind parse =
     follows_then table Seat (line_follows table Seat (number_line (codes "seat") 1 65535) (λ _. behind) (λ text. refl) refl) (λ seat.
     follows_done table (λ _. behind) (auction, seat))))
 
-lanes_end : {X : Type 0} (heading : List ℕ) (behind : Place) (parse : List ℕ → Option X) (read : ℕ → List ℕ → Option X) → ((lane : ℕ) (text : List ℕ) → parse text ≡ read lane text)
-    → Ends (table_by heading behind parse) Count (lanes_at read)
+lanes_end : {X : Type 0} (heading : List ℕ) (behind : SealPlace) (parse : List ℕ → Option X) (read : ℕ → List ℕ → Option X) → ((lane : ℕ) (text : List ℕ) → parse text ≡ read lane text)
+    → FindsFaults (table_by heading behind parse) Count (lanes_at read)
 unfolding lanes_at
 lanes_end heading behind parse read same =
     let table = table_by heading behind parse in
@@ -190,7 +190,7 @@ lanes_end heading behind parse read same =
     (λ left before. line_follows table (Lanes (suc left)) (read (length before)) (λ _. Lanes left) (λ text. ap (option_map (λ _. Lanes left)) (same (length before) text)) refl) count [])
     (λ lanes. ends_done table (Lanes zero) lanes (end_ends table (Lanes zero) Over (λ text. refl) refl (λ text. refl) refl)))
 
-pub seal_ends : Ends seal_table Heading seal_at
+pub seal_ends : FindsFaults seal_table Heading seal_at
 unfolding seal_at
 seal_ends =
     ends_then seal_table Heading (place_follows (codes "vickrey-seal 1") Count com_line)
@@ -199,7 +199,7 @@ seal_ends =
 pub seal_fault : (bytes : List ℕ) → fault_line seal_table bytes ≡ result_err (whole seal_at bytes)
 seal_fault bytes = fault_line_is seal_table seal_at seal_ends bytes
 
-pub secret_ends : Ends secret_table Heading secret_at
+pub secret_ends : FindsFaults secret_table Heading secret_at
 unfolding secret_at tape_at
 secret_ends =
     ends_then secret_table Heading (place_follows (codes "vickrey-secret 1") Bid tape_line) (λ place.

@@ -31,7 +31,7 @@ use Rattle.vk_keeper_sql.specs.Transactions.{Ran}
 use Rattle.vk_keeper_sql.specs.Writing.{AddsSeals}
 use Rattle.vk_store_laws.specs.Tables.{store_schema, placed, auctions, seals, terms}
 use Rattle.vk_store_laws.specs.Rows.{has_id, under, head_columns, term_columns, seal_columns, IsTableOfRows, PutsRow}
-use Rattle.vk_store_laws.specs.Holding.{IsStore, IsStep, head_row, term_row, seal_rows}
+use Rattle.vk_store_laws.specs.Holding.{IsStore, IsStoreStep, head_row, term_row, seal_rows}
 use Rattle.vk_store_laws.proofs.Texts.{of_id, is_behind, auction_terms, seal_terms, keep_auction_is, terms_terms, keep_terms_is, keep_seal_is, drop_seals_is}
 use Rattle.vk_store_laws.proofs.Selects.{is_id}
 use Rattle.vk_store_laws.proofs.Finds.{and_true}
@@ -107,7 +107,7 @@ goes id standing r = list_all (holds ((Blob id ∷ Int (pos standing) ∷ []) �
 module _ {S : Type 0} (g : Ghosts S) (old new : Held S) (store : IsStore (state g old).now) where
   -- the row of the auction is the only one of its id, and nothing else is changed
   pub keeps_row : (auction : Auction) → Ran g keep_auction (auction_row auction) old new
-      → IsStep auction.id (state g old).now (state g new).now × (map head_columns (under auction.id ((state g new).now.trees 1)) ≡ head_row auction ∷ [])
+      → IsStoreStep auction.id (state g old).now (state g new).now × (map head_columns (under auction.id ((state g new).now.trees 1)) ≡ head_row auction ∷ [])
   unfolding Ran
   keeps_row auction ran =
       let id = auction.id in
@@ -137,7 +137,7 @@ module _ {S : Type 0} (g : Ghosts S) (old new : Held S) (store : IsStore (state 
 
   -- the row of its terms is the only one of its id, and nothing else is changed
   pub keeps_terms : (auction : Auction) → Ran g keep_terms (terms_row auction) old new
-      → IsStep auction.id (state g old).now (state g new).now × (map term_columns (under auction.id ((state g new).now.trees 6)) ≡ term_row auction ∷ [])
+      → IsStoreStep auction.id (state g old).now (state g new).now × (map term_columns (under auction.id ((state g new).now.trees 6)) ≡ term_row auction ∷ [])
       × ((state g new).now.trees 1 ≡ (state g old).now.trees 1) × IsSound store_schema (state g new).now.trees
   unfolding Ran
   keeps_terms auction ran =
@@ -170,7 +170,7 @@ module _ {S : Type 0} (g : Ghosts S) (old new : Held S) (store : IsStore (state 
 
   -- one more seal's row, and nothing else is changed
   pub keeps_seal : (id : List ℕ) (position : ℕ) (texts : SealTexts) → Ran g keep_seal (seal_row id position texts) old new
-      → IsStep id (state g old).now (state g new).now × PutsRow (seal_row id position texts) ((state g old).now.trees 3) ((state g new).now.trees 3)
+      → IsStoreStep id (state g old).now (state g new).now × PutsRow (seal_row id position texts) ((state g old).now.trees 3) ((state g new).now.trees 3)
       × ((state g new).now.trees 1 ≡ (state g old).now.trees 1) × ((state g new).now.trees 6 ≡ (state g old).now.trees 6)
   unfolding Ran
   keeps_seal id position texts ran =
@@ -197,7 +197,7 @@ module _ {S : Type 0} (g : Ghosts S) (old new : Held S) (store : IsStore (state 
 
   -- the rows of the id's seals go but for so many from the first position on, and nothing else is changed
   pub clears_seals : (id : List ℕ) (standing : ℕ) → Ran g drop_seals (Blob id ∷ Int (pos standing) ∷ []) old new
-      → IsStep id (state g old).now (state g new).now × ((state g new).now.trees 3 ≡ filter (λ r. not (goes id standing r)) ((state g old).now.trees 3))
+      → IsStoreStep id (state g old).now (state g new).now × ((state g new).now.trees 3 ≡ filter (λ r. not (goes id standing r)) ((state g old).now.trees 3))
       × ((state g new).now.trees 1 ≡ (state g old).now.trees 1) × ((state g new).now.trees 6 ≡ (state g old).now.trees 6)
   unfolding Ran
   clears_seals id standing ran =
@@ -222,7 +222,7 @@ module _ {S : Type 0} (g : Ghosts S) (old new : Held S) (store : IsStore (state 
         terms,
       )
 
-pub then_step : (id : List ℕ) (a b c : Database) → IsStep id a b → IsStep id b c → IsStep id a c
+pub then_step : (id : List ℕ) (a b c : Database) → IsStoreStep id a b → IsStoreStep id b c → IsStoreStep id a c
 then_step id a b c one two = record {
   store = two.store;
   others = record {
@@ -232,7 +232,7 @@ then_step id a b c one two = record {
   };
 }
 
-pub no_step : (id : List ℕ) (db : Database) → IsStore db → IsStep id db db
+pub no_step : (id : List ℕ) (db : Database) → IsStore db → IsStoreStep id db db
 no_step id db store = record { store = store; others = record { auctions = λ other apart. refl; terms = λ other apart. refl; seals = λ other apart. refl } }
 
 -- a row that the test passes comes beside the others
@@ -259,11 +259,11 @@ shown_seals id db = map seal_columns (under id (db.trees 3))
 
 -- the seals' rows come beside those that were there
 pub adds_seals : {S : Type 0} (g : Ghosts S) (id : List ℕ) (before : ℕ) (texts : List SealTexts) (old new : Held S) → IsStore (state g old).now → AddsSeals g id before texts old new
-    → IsStep id (state g old).now (state g new).now × IsPermutation (seal_rows before texts ++ shown_seals id (state g old).now) (shown_seals id (state g new).now)
+    → IsStoreStep id (state g old).now (state g new).now × IsPermutation (seal_rows before texts ++ shown_seals id (state g old).now) (shown_seals id (state g new).now)
     × ((state g new).now.trees 1 ≡ (state g old).now.trees 1) × ((state g new).now.trees 6 ≡ (state g old).now.trees 6)
 adds_seals g id before [] old new store same =
     let is : (state g new).now ≡ (state g old).now = ap (λ h. (state g h).now) same in (
-      subst (IsStep id (state g old).now) (sym is) (no_step id _ store),
+      subst (IsStoreStep id (state g old).now) (sym is) (no_step id _ store),
       IsPermutation-same _ _ (ap (shown_seals id) (sym is)),
       ap (λ (d : Database). d.trees 1) is,
       ap (λ (d : Database). d.trees 6) is,

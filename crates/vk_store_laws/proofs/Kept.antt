@@ -15,7 +15,7 @@ use Rattle.vk_keeper_sql.specs.declared.texts.SealTexts.{SealTexts}
 use Rattle.vk_keeper_sql.specs.Columns.{ShowSeals, seal_texts}
 use Rattle.vk_keeper_sql.specs.Writing.{WritesAuction, Keeps}
 use Rattle.vk_store_laws.specs.Rows.{under, head_columns, term_columns, seal_columns}
-use Rattle.vk_store_laws.specs.Holding.{IsStore, IsStep, Stands, columns_of, seal_rows}
+use Rattle.vk_store_laws.specs.Holding.{IsStore, IsStoreStep, Stands, columns_of, seal_rows}
 use Rattle.vk_store_laws.proofs.Texts.{find_seals_is}
 use Rattle.vk_store_laws.proofs.Finds.{finds_seals, shown_leaves}
 use Rattle.vk_store_laws.proofs.Standing.{IsFour, four_columns, rows_are}
@@ -45,7 +45,7 @@ module _ {S : Type 0} (g : Ghosts S) (auction : Auction) (old new : Held S) (sto
   texts : List SealTexts
   texts = map seal_texts auction.seals
 
-  pub written_stands : IsStep auction.id (state g old).now (state g new).now × Stands (state g new).now.trees auction
+  pub written_stands : IsStoreStep auction.id (state g old).now (state g new).now × Stands (state g new).now.trees auction
   unfolding texts
   written_stands =
       let id = auction.id in
@@ -78,14 +78,14 @@ module _ {S : Type 0} (g : Ghosts S) (auction : Auction) (old new : Held S) (sto
       (IsPermutation-same _ _ (ap (λ k. seal_rows 0 (take standing (map seal_texts auction.seals)) ++ seal_rows k (drop standing (map seal_texts auction.seals))) (omega arith) ∙ rows_split 0 standing (map seal_texts auction.seals) seals.within)))) in
       let heads : (state g new).now.trees 1 ≡ (state g it.one).now.trees 1 = added.2 ∙ (cleared.2 ∙ (ap (λ (d : Database). d.trees 1) asked ∙ row.2)) in
       let terms : (state g new).now.trees 6 ≡ (state g mid).now.trees 6 = added.3 ∙ (cleared.3 ∙ ap (λ (d : Database). d.trees 6) asked) in
-      let from_asked = subst (λ d. IsStep id d (state g new).now) asked (then_step id _ _ _ cleared.0 added.0) in (
+      let from_asked = subst (λ d. IsStoreStep id d (state g new).now) asked (then_step id _ _ _ cleared.0 added.0) in (
         then_step id _ _ _ head.0 (then_step id _ _ _ row.0 from_asked),
         record { head = ap (λ rows. map head_columns (under id rows)) heads ∙ head.1; terms = ap (λ rows. map term_columns (under id rows)) terms ∙ row.1; seals = whole },
       )
 
 -- what was made of a store by keeping an auction: it stands there, and the rows of other ids are as they were
 pub kept_stands : {S : Type 0} (g : Ghosts S) (auction : Auction) (old : Held S) (trees : Trees) → IsStore (state g old).now → length auction.seals ≤ 64 → Keeps g auction old trees
-    → (last : Database) × (trees ≡ last.trees) × IsStep auction.id (state g old).now last × Stands trees auction
+    → (last : Database) × (trees ≡ last.trees) × IsStoreStep auction.id (state g old).now last × Stands trees auction
 kept_stands g auction old trees store few it =
     let made = written_stands g auction old it.0 store few it.1 in
     ((state g it.0).now, it.2, made.0, subst (λ t. Stands t auction) (sym it.2) made.1)

@@ -37,7 +37,7 @@ use Rattle.vk_keeper_sql.specs.Opening.{LiftsTables, Prepares, PreparesFrom}
 use Rattle.vk_store_laws.specs.Tables.{about, terms, first_store_schema, store_schema}
 use Rattle.vk_store_laws.specs.Rows.{IsTableOfRows, OnlyTable, has_id, under, head_columns, seal_columns}
 use Rattle.vk_store_laws.specs.Holding.{IsStore, Holds, head_row, seal_rows}
-use Rattle.vk_store_laws.specs.Telling.{Tells}
+use Rattle.vk_store_laws.specs.Telling.{TablesTell}
 use Rattle.vk_store_laws.specs.Former.{IsFirstStore, HoldsFirst, IsFirstUnder, TellsFirst}
 use Rattle.vk_store_laws.proofs.Texts.{plain_query}
 use Rattle.vk_store_laws.proofs.Selects.{matches_are}
@@ -184,7 +184,7 @@ module _ (old new : Database) (it : IsLifted old new) where
   kept_under id None h = tt
   kept_under id (Some first) h = record { own = h.own; right = lifted_right first h.right }
 
-  told_lifted : (firsts : FirstLedger) → TellsFirst old.trees firsts → Tells new.trees (lifted_ledger firsts)
+  told_lifted : (firsts : FirstLedger) → TellsFirst old.trees firsts → TablesTell new.trees (lifted_ledger firsts)
   told_lifted firsts tells = record {
     right = λ id. subst (λ o. IfSome o (IsKeptUnder id)) (sym (get_lifted firsts id)) (kept_under id (get firsts id) (tells.right id));
     held = λ id bytes. subst (Holds new.trees id) (sym (get_lifted firsts id)) (holds_lifted id (get firsts id) (tells.held id bytes));
@@ -192,7 +192,7 @@ module _ (old new : Database) (it : IsLifted old new) where
 
 -- a store from before is a store once it was prepared, and tells its ledger lifted
 prepared_from : {S : Type 0} (g : Ghosts S) (old new : Held S) (firsts : FirstLedger) → IsFirstStore (state g old).now → TellsFirst (state g old).now.trees firsts
-    → PreparesFrom g First old new → IsStore (state g new).now × Tells (state g new).now.trees (lifted_ledger firsts)
+    → PreparesFrom g First old new → IsStore (state g new).now × TablesTell (state g new).now.trees (lifted_ledger firsts)
 prepared_from g old new firsts store tells it =
     let mid = it.0 in
     let same : (state g mid).now ≡ (state g old).now = (shown_leaves _ _ _ (state g old) (state g mid) it.1.rows store.schema number_plain it.1.query).0.now_is in
@@ -201,11 +201,11 @@ prepared_from g old new firsts store tells it =
 
 -- nothing else can be made of it: the tables of a new store, and those of the number 2, are others
 pub prepared_tells : {S : Type 0} (g : Ghosts S) (old : Held S) (trees : Trees) (firsts : FirstLedger) → IsFirstStore (state g old).now → TellsFirst (state g old).now.trees firsts
-    → Prepares g old trees → ((last : Database) × (trees ≡ last.trees) × IsStore last) × Tells trees (lifted_ledger firsts)
+    → Prepares g old trees → ((last : Database) × (trees ≡ last.trees) × IsStore last) × TablesTell trees (lifted_ledger firsts)
 prepared_tells g old trees firsts store tells (Blank, has, it) = absurd (let e : ◌≡◌ {A = ℕ} 3 0 = count_is old.schema first_store_schema 0 store.schema (ap length has.0) in omega (arith, e))
 prepared_tells g old trees firsts store tells (First, has, it) =
     let last = it.0 in
     let made = prepared_from g (record old { in_transaction = true }) last firsts store tells it.1 in
-    (((state g last).now, it.2, made.0), subst (λ t. Tells t (lifted_ledger firsts)) (sym it.2) made.1)
+    (((state g last).now, it.2, made.0), subst (λ t. TablesTell t (lifted_ledger firsts)) (sym it.2) made.1)
 prepared_tells g old trees firsts store tells (Second, has, it) = absurd (let e : ◌≡◌ {A = ℕ} 3 4 = count_is old.schema first_store_schema 4 store.schema has.tables in omega (arith, e))
 prepared_tells g old trees firsts store tells (Other, has, it) = absurd it.1

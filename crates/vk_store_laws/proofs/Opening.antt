@@ -13,7 +13,7 @@ use Rattle.vk_keeper_sql.specs.Statements.{number_query}
 use Rattle.vk_keeper_sql.specs.Opening.{Prepares}
 use Rattle.vk_store_laws.specs.Tables.{no_schema, store_schema}
 use Rattle.vk_store_laws.specs.Holding.{IsStore}
-use Rattle.vk_store_laws.specs.Telling.{Tells}
+use Rattle.vk_store_laws.specs.Telling.{TablesTell}
 use Rattle.vk_store_laws.proofs.Finds.{shown_leaves}
 use Rattle.vk_store_laws.proofs.Making.{count_is, made_is_store}
 use Rattle.vk_store_laws.proofs.Told.{nothing_is_told}
@@ -32,11 +32,11 @@ prepared_stays g old trees store (Other, has, it) = absurd it.1
 
 -- ---- a store without tables
 
-pub prepared_new : {S : Type 0} (g : Ghosts S) (old : Held S) (trees : Trees) → (state g old).now.schema ≡ no_schema → Prepares g old trees → Tells trees empty
+pub prepared_new : {S : Type 0} (g : Ghosts S) (old : Held S) (trees : Trees) → (state g old).now.schema ≡ no_schema → Prepares g old trees → TablesTell trees empty
 prepared_new g old trees none (Blank, has, it) =
     let last = it.0 in
     let made = made_is_store g (record old { in_transaction = true }) last none it.1 in
-    subst (λ t. Tells t empty) (sym it.2) (nothing_is_told (state g last).now.trees made.1 made.2 made.3)
+    subst (λ t. TablesTell t empty) (sym it.2) (nothing_is_told (state g last).now.trees made.1 made.2 made.3)
 prepared_new g old trees none (First, has, it) = absurd (let e : ◌≡◌ {A = ℕ} 0 3 = count_is old.schema no_schema 3 none has.tables in omega (arith, e))
 prepared_new g old trees none (Second, has, it) = absurd (let e : ◌≡◌ {A = ℕ} 0 4 = count_is old.schema no_schema 4 none has.tables in omega (arith, e))
 prepared_new g old trees none (Other, has, it) = absurd it.1

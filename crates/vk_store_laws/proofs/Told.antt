@@ -17,7 +17,7 @@ use Rattle.vk_keeper.proofs.Places.{ledger_with}
 use Rattle.vk_keeper_sql.specs.Columns.{seal_texts}
 use Rattle.vk_store_laws.specs.Rows.{under, head_columns, term_columns, seal_columns}
 use Rattle.vk_store_laws.specs.Holding.{KeepsOthers, Stands, IsAbsent, Holds, head_row, seal_rows}
-use Rattle.vk_store_laws.specs.Telling.{Tells}
+use Rattle.vk_store_laws.specs.Telling.{TablesTell}
 use Rattle.vk_store_laws.proofs.Once.{stands_one}
 
 -- what stands isn't absent
@@ -35,7 +35,7 @@ holds_one trees id (Some a) None p q one two = absurd (not_absent trees id a two
 holds_one trees id (Some a) (Some b) p q one two = ap Some (stands_one trees a b p q (one.0 ∙ sym two.0) one.1 two.1)
 
 -- what is found is what the ledger has
-pub found_is_told : (trees : Trees) (ledger : Ledger) (id : List ℕ) (found : Option Auction) → AreBytes 16 id → Tells trees ledger → IfSome found IsAuction → Holds trees id found → found ≡ get ledger id
+pub found_is_told : (trees : Trees) (ledger : Ledger) (id : List ℕ) (found : Option Auction) → AreBytes 16 id → TablesTell trees ledger → IfSome found IsAuction → Holds trees id found → found ≡ get ledger id
 found_is_told trees ledger id found bytes tells right holds = holds_one trees id found (get ledger id) right (kept (get ledger id) (tells.right id)) holds (tells.held id bytes)
   where
     kept : (o : Option Auction) → IfSome o (IsKeptUnder id) → IfSome o IsAuction
@@ -56,7 +56,7 @@ held_still old new id other (Some auction) apart keeps (same, stands) =
     )
 
 -- once an auction is kept the tables tell the ledger with it
-pub kept_is_told : (old new : Trees) (ledger : Ledger) (auction : Auction) → IsAuction auction → Tells old ledger → KeepsOthers auction.id old new → Stands new auction → Tells new (insert ledger auction.id auction)
+pub kept_is_told : (old new : Trees) (ledger : Ledger) (auction : Auction) → IsAuction auction → TablesTell old ledger → KeepsOthers auction.id old new → Stands new auction → TablesTell new (insert ledger auction.id auction)
 kept_is_told old new ledger auction right tells keeps stands = record {
   right = ledger_with ledger auction tells.right right;
   held = λ other bytes. subst (Holds new other) (sym (get-insert nat_list_cmp_total ledger auction.id auction other)) (elim (cases_Bool (is_eq (slice_cmp nat_cmp other auction.id))) [
@@ -68,7 +68,7 @@ kept_is_told old new ledger auction right tells keeps stands = record {
 }
 
 -- tables without rows
-pub nothing_is_told : (trees : Trees) → trees 1 ≡ [] → trees 3 ≡ [] → trees 6 ≡ [] → Tells trees empty
+pub nothing_is_told : (trees : Trees) → trees 1 ≡ [] → trees 3 ≡ [] → trees 6 ≡ [] → TablesTell trees empty
 nothing_is_told trees heads seals terms = record {
   right = λ id. subst (λ o. IfSome o (IsKeptUnder id)) (sym (get-empty (slice_cmp nat_cmp) id)) tt;
   held = λ id bytes. subst (Holds trees id) (sym (get-empty (slice_cmp nat_cmp) id)) (record { head = ap (under id) heads; terms = ap (under id) terms; seals = ap (under id) seals });

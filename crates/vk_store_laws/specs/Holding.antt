@@ -61,6 +61,6 @@ pub record KeepsOthers (id : List ℕ) (old new : Trees) : Type 0 where
   pub seals : (other : List ℕ) → other ≢ id → under other (new 3) ≡ under other (old 3)
 
 -- a statement on the rows of one id
-pub record IsStep (id : List ℕ) (old new : Database) : Type 0 where
+pub record IsStoreStep (id : List ℕ) (old new : Database) : Type 0 where
   pub store : IsStore new
   pub others : KeepsOthers id old.trees new.trees

@@ -7,6 +7,6 @@ use Rattle.vk_keeper.specs.Ledgers.{Ledger, IsLedger}
 use Rattle.vk_store_laws.specs.Holding.{Holds}
 
 -- under each id the tables hold what the ledger has there
-pub record Tells (trees : Trees) (ledger : Ledger) : Type 0 where
+pub record TablesTell (trees : Trees) (ledger : Ledger) : Type 0 where
   pub right : IsLedger ledger
   pub held : (id : List ℕ) → AreBytes 16 id → Holds trees id (get ledger id)

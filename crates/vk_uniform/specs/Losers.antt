@@ -10,7 +10,7 @@ use Rattle.std.proofs.lemmas.Bool.{cond_both, cases_lt, false_from_ne_true, not_
 use Rattle.std.proofs.lemmas.Bool.Decides.{Decides-eqb, Decides-by_or, Decides-not}
 use Rattle.vk_range.specs.Sets.{listed}
 use Rattle.vk_range.specs.SetLaws.{length_listed, at_listed, All-listed}
-use Rattle.vk_uniform.specs.Outcomes.{IsPosition, IsAscending, IsLoser}
+use Rattle.vk_uniform.specs.Outcomes.{IsPositionAmong, IsAscending, IsLoser}
 
 -- whether a position is in a list
 abbrev pub stands : List ℕ → ℕ → Bool
@@ -37,12 +37,12 @@ stands_decides xs x =
     (Decides-by_or (λ y. y == x) (λ y. y ≡ x) (λ ys. stands ys x) (λ y. Decides-eqb y x) refl (λ _ _. refl) xs)
 
 -- the positions are all that there are
-pub positions_are : (count : ℕ) → All (IsPosition count) (positions count)
+pub positions_are : (count : ℕ) → All (IsPositionAmong count) (positions count)
 positions_are count =
-    All-listed (IsPosition count) (λ place. place + 1) count
+    All-listed (IsPositionAmong count) (λ place. place + 1) count
     (λ i h. record { some = omega arith; within = omega arith })
 
-pub position_listed : (count position : ℕ) → IsPosition count position → Contains (positions count) position
+pub position_listed : (count position : ℕ) → IsPositionAmong count position → Contains (positions count) position
 position_listed count position at =
     let long = length_listed (λ place. place + 1) count in
     Contains-place (positions count) position (position - 1) (omega (arith, at.some, at.within))
@@ -68,13 +68,13 @@ module _ (count : ℕ) (winners : List ℕ) where
       let test : ℕ → Bool = λ position. not (stands winners position) in
       let one = slice_index_or (losers count winners) k d in
       record {
-        is_position = All-filter test (IsPosition count) (positions count) (positions_are count) k d h;
+        is_position = All-filter test (IsPositionAmong count) (positions count) (positions_are count) k d h;
         loses =
             (Decides-not (stands winners one) (stands_decides winners one)).0
             (filter_passes test (positions count) k d h);
       }
 
-  pub losers_are : All (IsPosition count) (losers count winners)
+  pub losers_are : All (IsPositionAmong count) (losers count winners)
   losers_are k d h = (losers_lose k d h).is_position
 
   pub loser_listed : (position : ℕ) → IsLoser count winners position → Contains (losers count winners) position
@@ -87,7 +87,7 @@ module _ (count : ℕ) (winners : List ℕ) where
       (not_from_false (stands winners position) none)
 
   -- where somebody wins, not all lose
-  pub few_losers : 1 ≤ length winners → All (IsPosition count) winners
+  pub few_losers : 1 ≤ length winners → All (IsPositionAmong count) winners
       → length (losers count winners) + 1 ≤ count
   few_losers some are =
       let first = slice_index winners 0 in
@@ -117,7 +117,7 @@ ascends_past numbers ascending some zero h = omega (arith, some 0 0 h)
 ascends_past numbers ascending some (suc n) h =
     omega (arith, ascends_past numbers ascending some n (omega arith), ascending n (suc n) 0 (omega arith) h)
 
-pub few_winners : (count : ℕ) (winners : List ℕ) → All (IsPosition count) winners → IsAscending winners
+pub few_winners : (count : ℕ) (winners : List ℕ) → All (IsPositionAmong count) winners → IsAscending winners
     → length winners ≤ count
 few_winners count winners are ascending =
     let last = length winners - 1 in

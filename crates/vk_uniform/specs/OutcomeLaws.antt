@@ -9,7 +9,7 @@ use Rattle.std.proofs.lemmas.List.Quantifiers.{all_pairs_remove}
 use Rattle.std.proofs.lemmas.Bool.{cases_lt, cases_eq, cases_order, cases_Bool}
 use Rattle.std.proofs.lemmas.Bool.Decides.{not_from_Decides}
 use Rattle.vk_range.specs.SetLaws.{length_listed, at_listed}
-use Rattle.vk_uniform.specs.Outcomes.{IsPosition, IsAscending, IsLoser, Beats, IsUniformOutcome, bid_at}
+use Rattle.vk_uniform.specs.Outcomes.{IsPositionAmong, IsAscending, IsLoser, Beats, IsUniformOutcome, bid_at}
 use Rattle.vk_uniform.specs.Losers.{stands, stands_decides, found, Contains-place, positions, positions_are, position_listed, losers, losers_lose, loser_listed}
 
 -- all others of the first so many winners beat the one at that place
@@ -116,7 +116,7 @@ module _ (winners : List ℕ) (place : ℕ) (inside : place < length winners) wh
         })
   ]
 
-  removed_loses : (count : ℕ) → IsAscending winners → All (IsPosition count) winners
+  removed_loses : (count : ℕ) → IsAscending winners → All (IsPositionAmong count) winners
       → IsLoser count (remove winners place) (slice_index winners place)
   removed_loses count ascending are = record {
     is_position = are place 0 inside;
@@ -131,11 +131,11 @@ module _ (winners : List ℕ) (place : ℕ) (inside : place < length winners) wh
 -- without the weakest the others win, and the price is the weakest's bid
 module _ (bids winners : List ℕ) (price place : ℕ) (is : IsUniformOutcome bids winners price)
     (weakest : IsWeakest bids winners (length winners) place) where
-  rest_are : All (IsPosition (length bids)) (remove winners place)
+  rest_are : All (IsPositionAmong (length bids)) (remove winners place)
   rest_are k d h =
       let rest = remove winners place in
       let at = removed_from winners place weakest.is_place (slice_index rest k) (Contains-get_or rest k 0 h) in
-      subst (IsPosition (length bids)) (at.3 ∙ get_or_default rest k 0 d h) (is.are_positions at.0 0 at.1)
+      subst (IsPositionAmong (length bids)) (at.3 ∙ get_or_default rest k 0 d h) (is.are_positions at.0 0 at.1)
 
   weakest_pays : (loser : ℕ) → IsLoser (length bids) (remove winners place) loser
       → bid_at bids loser ≤ bid_at bids (slice_index winners place)
@@ -271,7 +271,7 @@ beats_other : (bids winners others : List ℕ) (price other : ℕ) → IsUniform
     → (w v : ℕ) → Contains winners w → Contains others v → ¬ Contains winners v → Beats bids w v
 beats_other bids winners others price other is too w v in_winners in_others not_winners =
     is.winners_beat w v in_winners (record {
-      is_position = All-contains (IsPosition (length bids)) others v too.are_positions in_others;
+      is_position = All-contains (IsPositionAmong (length bids)) others v too.are_positions in_others;
       loses = not_winners;
     })
 

@@ -3,7 +3,7 @@
 use Rattle.std.specs.Prelude.{ℕ, ◌-◌, ◌<◌, ◌≤◌, ◌≡◌, List, All, AllPairs, Contains, length, slice_index}
 
 -- a position among so many bids
-pub record IsPosition (count position : ℕ) : Type 0 where
+pub record IsPositionAmong (count position : ℕ) : Type 0 where
   pub some : 1 ≤ position
   pub within : position ≤ count
 
@@ -17,7 +17,7 @@ IsAscending numbers = AllPairs (λ earlier later. earlier < later) numbers
 
 -- a position that is none of the winners'
 pub record IsLoser (count : ℕ) (winners : List ℕ) (position : ℕ) : Type 0 where
-  pub is_position : IsPosition count position
+  pub is_position : IsPositionAmong count position
   pub loses : ¬ Contains winners position
 
 -- who bids more, or as much from a position before
@@ -34,7 +34,7 @@ pub record IsLosersBid (bids winners : List ℕ) (price : ℕ) : Type 0 where
 -- the winners, in ascending order, beat everyone else; the price is the most that a loser bids, and 0 where there is
 -- none
 pub record IsUniformOutcome (bids winners : List ℕ) (price : ℕ) : Type 0 where
-  pub are_positions : All (IsPosition (length bids)) winners
+  pub are_positions : All (IsPositionAmong (length bids)) winners
   pub ascending : IsAscending winners
   pub winners_beat : (winner loser : ℕ) → Contains winners winner → IsLoser (length bids) winners loser
       → Beats bids winner loser

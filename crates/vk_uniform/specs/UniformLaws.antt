@@ -20,9 +20,9 @@ use Rattle.vk_range.specs.Selected.{IsSelection, IsSelected, place_row, selected
 use Rattle.vk_range.specs.SelectedLaws.{length_kinds, selected_sound, selected_complete}
 use Rattle.vk_range.specs.SetLaws.{length_listed}
 use Rattle.vk_range.specs.Rooms.{selected_room}
-use Rattle.vk_uniform.specs.Outcomes.{IsPosition, IsLoser, Beats, bid_at}
+use Rattle.vk_uniform.specs.Outcomes.{IsPositionAmong, IsLoser, Beats, bid_at}
 use Rattle.vk_uniform.specs.Losers.{found, losers, losers_lose, loser_listed, few_losers, few_winners}
-use Rattle.vk_uniform.specs.UniformPlans.{IsUniformCase, AreInLimits, IsUniformClaim, width_of, price_of, winners_of, losers_of, copy_at, win_form, uniform_ranges, price_selection, with_selection, uniform_plan, uniform_values, wire_count, row_count}
+use Rattle.vk_uniform.specs.UniformPlans.{IsUniformCase, IsUniformInLimits, IsUniformClaim, width_of, price_of, winners_of, losers_of, copy_at, win_form, uniform_ranges, price_selection, with_selection, uniform_plan, uniform_values, wire_count, row_count}
 use Rattle.vk_uniform.specs.UniformForms.{AreForms, All-forms, forms-All, length_forms, copied, width_small, bid_value, win_shown, win_within, price_shown, price_within, selected_shows, selected_fits, unselected_fits}
 
 -- the numbers are the width, the price and the winners
@@ -34,7 +34,7 @@ split_numbers (width ∷ price ∷ winners) enough = refl
 
 -- the price where nobody is listed as a loser
 module _ (inputs : ℕ) (numbers : List ℕ) where
-  case_of : AreInLimits inputs numbers → (losers_of inputs numbers ≡ [] → price_of numbers ≡ 0)
+  case_of : IsUniformInLimits inputs numbers → (losers_of inputs numbers ≡ [] → price_of numbers ≡ 0)
       → IsUniformCase inputs numbers
   case_of limits none = record {
     limits = limits;
@@ -53,7 +53,7 @@ module _ (inputs : ℕ) (numbers : List ℕ) where
       absurd (omega (arith, long, (loser_listed inputs (winners_of numbers) position loses).1)))
 
 -- the numbers of a plan that is made of numbers within their limits
-module _ (inputs price : ℕ) (numbers winners outside : List ℕ) (limits : AreInLimits inputs numbers) (price_is : price ≡ price_of numbers)
+module _ (inputs price : ℕ) (numbers winners outside : List ℕ) (limits : IsUniformInLimits inputs numbers) (price_is : price ≡ price_of numbers)
     (winners_are : winners ≡ winners_of numbers) (outside_are : outside ≡ losers inputs winners) where
   pub made_numbers : width_of numbers ∷ price ∷ winners ≡ numbers
   made_numbers =
@@ -119,7 +119,7 @@ module _ (inputs : ℕ) (numbers : List ℕ) where
 pub small_product : (a b : ℕ) → a ≤ 64 → b ≤ 64 → a * b ≤ 4096
 small_product a b few small = omega (arith, mul-le-mul_right b few, mul-le-mul_left 64 small)
 
-copy_below : (inputs position : ℕ) → IsPosition inputs position → copy_at inputs position < inputs + inputs
+copy_below : (inputs position : ℕ) → IsPositionAmong inputs position → copy_at inputs position < inputs + inputs
 copy_below inputs position at = omega (arith, at.some, at.within)
 
 module _ (inputs : ℕ) (numbers : List ℕ) (case : IsUniformCase inputs numbers) where
@@ -128,9 +128,9 @@ module _ (inputs : ℕ) (numbers : List ℕ) (case : IsUniformCase inputs number
       All-contains (IsLoser inputs (winners_of numbers)) (losers_of inputs numbers) loser
       (losers_lose inputs (winners_of numbers)) loses
 
-  winner_is : (winner : ℕ) → Contains (winners_of numbers) winner → IsPosition inputs winner
+  winner_is : (winner : ℕ) → Contains (winners_of numbers) winner → IsPositionAmong inputs winner
   winner_is winner wins =
-      All-contains (IsPosition inputs) (winners_of numbers) winner case.limits.are_positions wins
+      All-contains (IsPositionAmong inputs) (winners_of numbers) winner case.limits.are_positions wins
 
   pub some_loses_not_all : length (losers_of inputs numbers) + 1 ≤ inputs
   some_loses_not_all =
@@ -200,11 +200,11 @@ module _ (inputs : ℕ) (numbers values : List ℕ) (case : IsUniformCase inputs
       (bid_value inputs values place (ranged.residues (inputs + place) 0 (omega (arith, ranged.enough))))
       (shown.of_bids place h)
 
-  copy_small : (position : ℕ) → IsPosition inputs position
+  copy_small : (position : ℕ) → IsPositionAmong inputs position
       → IsOfWidth (width_of numbers) (copied inputs values position)
   copy_small position at = place_small (position - 1) (omega (arith, at.some, at.within))
 
-  bid_shown : (position : ℕ) → IsPosition inputs position → bid_at (take inputs values) position
+  bid_shown : (position : ℕ) → IsPositionAmong inputs position → bid_at (take inputs values) position
       ≡ copied inputs values position
   bid_shown position at =
       let inside : position - 1 < inputs = omega (arith, at.some, at.within) in
@@ -273,7 +273,7 @@ module _ (inputs : ℕ) (numbers values : List ℕ) (case : IsUniformCase inputs
             rw (get_or_default bids k d 0 h, get_or-take inputs values k 0 inside, ranged.copied k inside)
             (place_small k inside);
         outcome = record {
-          are_positions = subst (λ n. All (IsPosition n) winners) (sym long) case.limits.are_positions;
+          are_positions = subst (λ n. All (IsPositionAmong n) winners) (sym long) case.limits.are_positions;
           ascending = case.limits.ascending;
           winners_beat = λ winner loser wins loses. beats_shown winner loser wins (there loser loses);
           all_win_for_0 =
@@ -382,7 +382,7 @@ module _ (inputs : ℕ) (numbers bids values : List ℕ) (case : IsUniformCase i
       subst (IsOfWidth (width_of numbers)) (sym (copy_here place h))
       (claim.within_width place 0 (omega (arith, claim.one_each)))
 
-  pub bid_here : (position : ℕ) → IsPosition inputs position → copied inputs values position
+  pub bid_here : (position : ℕ) → IsPositionAmong inputs position → copied inputs values position
       ≡ bid_at bids position
   bid_here position at = copy_here (position - 1) (omega (arith, at.some, at.within))
 

@@ -10,7 +10,7 @@ use Rattle.vk_range.specs.Sets.{listed, plus, minus}
 use Rattle.vk_range.specs.Forms.{difference_form}
 use Rattle.vk_range.specs.Ranged.{ranges_of, ranged_plan, ranged_values}
 use Rattle.vk_range.specs.Selected.{selected_wires, selected_rows, selected_values}
-use Rattle.vk_uniform.specs.Outcomes.{IsPosition, IsAscending, IsLoser, IsUniformOutcome}
+use Rattle.vk_uniform.specs.Outcomes.{IsPositionAmong, IsAscending, IsLoser, IsUniformOutcome}
 use Rattle.vk_uniform.specs.Losers.{losers}
 
 -- what the numbers are
@@ -28,18 +28,18 @@ abbrev pub losers_of : ℕ → List ℕ → List ℕ
 losers_of inputs numbers = losers inputs (winners_of numbers)
 
 -- how many bids there are and the numbers that are published, each within its limits
-pub record AreInLimits (inputs : ℕ) (numbers : List ℕ) : Type 0 where
+pub record IsUniformInLimits (inputs : ℕ) (numbers : List ℕ) : Type 0 where
   pub some_inputs : 1 ≤ inputs
   pub most_inputs : inputs ≤ 64
   pub enough : 3 ≤ length numbers
   pub wide : IsWidth (width_of numbers)
   pub within_width : price_of numbers < 2 ^ width_of numbers
-  pub are_positions : All (IsPosition inputs) (winners_of numbers)
+  pub are_positions : All (IsPositionAmong inputs) (winners_of numbers)
   pub ascending : IsAscending (winners_of numbers)
 
 -- and the price is 0 where all win
 pub record IsUniformCase (inputs : ℕ) (numbers : List ℕ) : Type 0 where
-  pub limits : AreInLimits inputs numbers
+  pub limits : IsUniformInLimits inputs numbers
   pub all_win_for_0 : ((position : ℕ) → ¬ IsLoser inputs (winners_of numbers) position) → price_of numbers ≡ 0
 
 -- what the plan shows of the bids

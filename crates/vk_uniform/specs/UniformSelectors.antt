@@ -19,7 +19,7 @@ use Rattle.vk_uniform.specs.UniformForms.{copied, length_forms, width_small, sel
 use Rattle.vk_uniform.specs.UniformLaws.{bid_here, within_price, begins_ranged, ranged_holds, values_many}
 
 -- the first of the listed losers whose bid is the price
-pub record IsFirstHolder (inputs : ℕ) (numbers bids : List ℕ) (place : ℕ) : Type 0 where
+pub record IsFirstLoserAtPrice (inputs : ℕ) (numbers bids : List ℕ) (place : ℕ) : Type 0 where
   pub is_place : place < length (losers_of inputs numbers)
   pub holds : bid_at bids (slice_index (losers_of inputs numbers) place) ≡ price_of numbers
   pub none_before : (before : ℕ) → before < place
@@ -107,7 +107,7 @@ module _ (inputs : ℕ) (numbers bids values : List ℕ) (case : IsUniformCase i
       (2 ^ width_of numbers) (low place h) case.limits.within_width
       (width_small (width_of numbers) case.limits.wide.most) here))
 
-  holder_is_first : (place : ℕ) → IsFirstHolder inputs numbers bids place → place
+  holder_is_first : (place : ℕ) → IsFirstLoserAtPrice inputs numbers bids place → place
       ≡ first_place (price_selection inputs numbers) values
   holder_is_first place first =
       let long = length-map (losers_of inputs numbers) (copy_at inputs) in
@@ -117,7 +117,7 @@ module _ (inputs : ℕ) (numbers bids values : List ℕ) (case : IsUniformCase i
 
 pub filled_selector : (inputs place : ℕ) (numbers bids : List ℕ) → IsUniformCase inputs numbers
     → IsUniformClaim inputs numbers bids
-    → IsFirstHolder inputs numbers bids place
+    → IsFirstLoserAtPrice inputs numbers bids place
     → SelectsLoser inputs numbers (uniform_values inputs numbers bids) place
 filled_selector inputs place numbers bids case claim first k h =
     let relation = price_selection inputs numbers in

@@ -1,6 +1,6 @@
 ghost use Rattle.std.specs.Prelude.{◌≡◌, ℕ, length, IfOk};
 ghost use Rattle.vk_uniform.specs.UniformPlans.{IsUniformClaim, price_selection, row_count, uniform_plan, uniform_ranges, uniform_values, wire_count};
-ghost use Rattle.vk_uniform.specs.UniformSelectors.{IsFirstHolder, SelectsLoser};
+ghost use Rattle.vk_uniform.specs.UniformSelectors.{IsFirstLoserAtPrice, SelectsLoser};
 ghost use Rattle.vk_uniform.specs.Circuits.{inputs_of, numbers_of, circuit_begins, circuit_complete, circuit_is_plan, circuit_sound};
 
 use crate::forms::{copies_at, push_bids, push_prices, push_wins};
@@ -57,7 +57,7 @@ impl Circuit for UniformPlan {
         ensures filled { IfOk result (λ values.
             values.items ≡ uniform_values (inputs_of self.now) (numbers_of self.now) inputs.now) }
         ensures selector { IfOk result (λ values.
-            (place : ℕ) → IsFirstHolder (inputs_of self.now) (numbers_of self.now) inputs.now place
+            (place : ℕ) → IsFirstLoserAtPrice (inputs_of self.now) (numbers_of self.now) inputs.now place
             → SelectsLoser (inputs_of self.now) (numbers_of self.now) values.items place) }
     {
         let ranges = self.ranges(alloc)?;

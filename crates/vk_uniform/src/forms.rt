@@ -1,6 +1,6 @@
 // The forms over the copies of the bids that are of the width.
 ghost use Rattle.std.specs.Prelude.{◌≡◌, ◌+◌, ◌≤◌, ◌++◌, All, map, flat_map, IfOk, OnOk};
-ghost use Rattle.vk_uniform.specs.Outcomes.{IsPosition};
+ghost use Rattle.vk_uniform.specs.Outcomes.{IsPositionAmong};
 ghost use Rattle.vk_uniform.specs.UniformPlans.{copy_at as CopyAt, bid_forms, win_form, price_form};
 
 use std::alloc::Global;
@@ -11,7 +11,7 @@ use vk_residue::{NoMemory, Residue};
 /// The wire of the copy of the bid at a position.
 pub(crate) fn copy_at(inputs: u32, position: u32) -> u32
     requires few { inputs ≤ 64 }
-    requires position { IsPosition inputs position }
+    requires position { IsPositionAmong inputs position }
     ensures { result ≡ CopyAt inputs position }
 {
     inputs + (position - 1)
@@ -20,7 +20,7 @@ pub(crate) fn copy_at(inputs: u32, position: u32) -> u32
 /// The same of each position.
 pub(crate) fn copies_at(alloc: Global, inputs: u32, positions: &[u32]) -> Result<Vec<u32>, NoMemory>
     requires few { inputs ≤ 64 }
-    requires positions { All (IsPosition inputs) positions.now }
+    requires positions { All (IsPositionAmong inputs) positions.now }
     ensures { IfOk result (λ wires. wires.items ≡ map (CopyAt inputs) positions.now) }
 {
     let mut wires = Vec::new(alloc);
@@ -51,8 +51,8 @@ fn push_wins_of(
     forms: &mut Vec<Form>,
 ) -> Result<(), NoMemory>
     requires few { inputs ≤ 64 }
-    requires winner { IsPosition inputs winner }
-    requires losers { All (IsPosition inputs) losers.now }
+    requires winner { IsPositionAmong inputs winner }
+    requires losers { All (IsPositionAmong inputs) losers.now }
     ensures { OnOk result (forms.new.items ≡ forms.old.items ++ map (win_form inputs winner) losers.now) }
 {
     for &loser in losers {
@@ -77,8 +77,8 @@ pub(crate) fn push_wins(
     forms: &mut Vec<Form>,
 ) -> Result<(), NoMemory>
     requires few { inputs ≤ 64 }
-    requires winners { All (IsPosition inputs) winners.now }
-    requires losers { All (IsPosition inputs) losers.now }
+    requires winners { All (IsPositionAmong inputs) winners.now }
+    requires losers { All (IsPositionAmong inputs) losers.now }
     ensures { OnOk result
         (forms.new.items ≡ forms.old.items ++ flat_map (λ winner. map (win_form inputs winner) losers.now) winners.now) }
 {
@@ -97,7 +97,7 @@ pub(crate) fn push_prices(
     forms: &mut Vec<Form>,
 ) -> Result<(), NoMemory>
     requires few { inputs ≤ 64 }
-    requires losers { All (IsPosition inputs) losers.now }
+    requires losers { All (IsPositionAmong inputs) losers.now }
     ensures { OnOk result (forms.new.items ≡ forms.old.items ++ map (price_form inputs price) losers.now) }
 {
     for &loser in losers {

@@ -1,14 +1,14 @@
 // The numbers that are published of a sale.
 ghost use Rattle.std.specs.Prelude.{◌≡◌, ◌<◌, ◌≤◌, ◌↔◌, [], All, IfOk, IsTrue};
-ghost use Rattle.vk_uniform.specs.Outcomes.{IsPosition, IsAscending};
-ghost use Rattle.vk_uniform.specs.UniformPlans.{AreInLimits};
+ghost use Rattle.vk_uniform.specs.Outcomes.{IsPositionAmong, IsAscending};
+ghost use Rattle.vk_uniform.specs.UniformPlans.{IsUniformInLimits};
 
 use std::alloc::Global;
 use vk_residue::{NoMemory, Residue};
 
 /// The numbers are within their limits, but for the price where all win.
 pub(crate) fn are_in_limits(inputs: u32, numbers: &[u64]) -> bool
-    ensures { IsTrue result ↔ AreInLimits inputs numbers.now }
+    ensures { IsTrue result ↔ IsUniformInLimits inputs numbers.now }
 {
     if inputs == 0 || inputs > 64 || numbers.len() < 3 {
         return false;
@@ -31,7 +31,7 @@ pub(crate) fn may_be_paid(price: Residue, losers: &[u32]) -> bool
 
 /// Each is a position of so many bids.
 fn are_positions(inputs: u32, positions: &[u64]) -> bool
-    ensures { IsTrue result ↔ All (IsPosition inputs) positions.now }
+    ensures { IsTrue result ↔ All (IsPositionAmong inputs) positions.now }
 {
     for &position in positions {
         if position == 0 || position > u64::from(inputs) {

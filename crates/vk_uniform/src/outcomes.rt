@@ -1,5 +1,5 @@
 ghost use Rattle.std.specs.Prelude.{◌≡◌, ◌+◌, ◌<◌, ◌≤◌, List, ℕ, All, length, IfOk};
-ghost use Rattle.vk_uniform.specs.Outcomes.{IsPosition, IsAscending, IsUniformOutcome};
+ghost use Rattle.vk_uniform.specs.Outcomes.{IsPositionAmong, IsAscending, IsUniformOutcome};
 ghost use Rattle.vk_uniform.specs.OutcomeLaws.{IsWeakest};
 ghost use Rattle.vk_uniform.specs.Losers.{positions, losers as LosersOf};
 
@@ -70,7 +70,7 @@ pub(crate) fn losers(alloc: Global, count: u32, winners: &[u32]) -> Result<Vec<u
 /// The place among the winners of the one whom all others beat: the last who bids least.
 fn weakest(bids: &[u64], winners: &[u32]) -> usize
     requires some { 1 ≤ length winners.now }
-    requires positions { All (IsPosition (length bids.now)) winners.now }
+    requires positions { All (IsPositionAmong (length bids.now)) winners.now }
     requires ascending { IsAscending winners.now }
     ensures weakest { IsWeakest bids.now winners.now (length winners.now) result }
     ensures inside { result < length winners.now }

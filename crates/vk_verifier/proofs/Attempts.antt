@@ -7,13 +7,13 @@ use Rattle.vk_lines.specs.Lines.{Rest}
 use Rattle.vk_verifier.specs.declared.answers.Part.TheVariants as part
 use Rattle.vk_verifier.specs.declared.answers.VErr.{VErr}
 use Rattle.vk_verifier.specs.TwoBoards.{ahead_at, base_at, base_on, five_rests, of_files, two_on}
-use Rattle.vk_verifier.specs.Verdicts.{begun, judged, of_attempt, three_rests, verdict_by, verdict_on}
+use Rattle.vk_verifier.specs.Verdicts.{begun_file, judged, of_attempt, three_rests, verdict_by, verdict_on}
 use Rattle.vk_verifier.proofs.Steps.{value_same}
 
 pub attempt_begun : {X : Type 0} (whole : Rest → Rest → Rest → X) (files : Files) (file challenge reply : List ℕ)
     → of_attempt whole files file challenge reply ≡ (of_attempt three_rests files file challenge reply >>= λ rests. Ok (whole rests.0 rests.1 rests.2))
 attempt_begun whole files file challenge reply =
-    by_three (begun part.Board (get files file)) (begun part.Challenge (get files challenge)) (begun part.Reply (get files reply))
+    by_three (begun_file part.Board (get files file)) (begun_file part.Challenge (get files challenge)) (begun_file part.Reply (get files reply))
   where
     by_three : (a b c : Result Rest VErr)
         → (a >>= λ a. b >>= λ b. c >>= λ c. Ok (whole a b c)) ≡ ((a >>= λ a. b >>= λ b. c >>= λ c. Ok (three_rests a b c)) >>= λ rests. Ok (whole rests.0 rests.1 rests.2))
@@ -33,8 +33,8 @@ pub files_begun : {X : Type 0} (whole : Rest → Rest → Rest → Rest → Rest
     → of_files whole files board first_challenge first_reply second_challenge second_reply
     ≡ (of_files five_rests files board first_challenge first_reply second_challenge second_reply >>= λ rests. Ok (whole rests.0 rests.1 rests.2 rests.3 rests.4))
 files_begun whole files board first_challenge first_reply second_challenge second_reply =
-    by_five (begun part.Board (get files board)) (begun part.Challenge (get files first_challenge)) (begun part.Reply (get files first_reply))
-    (begun part.SecondChallenge (get files second_challenge)) (begun part.SecondReply (get files second_reply))
+    by_five (begun_file part.Board (get files board)) (begun_file part.Challenge (get files first_challenge)) (begun_file part.Reply (get files first_reply))
+    (begun_file part.SecondChallenge (get files second_challenge)) (begun_file part.SecondReply (get files second_reply))
   where
     by_five : (a b c d e : Result Rest VErr)
         → (a >>= λ a. b >>= λ b. c >>= λ c. d >>= λ d. e >>= λ e. Ok (whole a b c d e))
@@ -60,11 +60,11 @@ base_on_begun = files_begun base_at
 
 -- the first of them is begun where all are
 pub file_begun : (files : Files) (board first_challenge first_reply second_challenge second_reply : List ℕ) (rests : Rest × Rest × Rest × Rest × Rest)
-    → of_files five_rests files board first_challenge first_reply second_challenge second_reply ≡ Ok rests → begun part.Board (get files board) ≡ Ok rests.0
+    → of_files five_rests files board first_challenge first_reply second_challenge second_reply ≡ Ok rests → begun_file part.Board (get files board) ≡ Ok rests.0
 file_begun files board first_challenge first_reply second_challenge second_reply rests ok =
-    bind_first (begun part.Board (get files board))
-    (λ a. begun part.Challenge (get files first_challenge) >>= λ b. begun part.Reply (get files first_reply) >>= λ c. begun part.SecondChallenge (get files second_challenge) >>= λ d. begun part.SecondReply (get files second_reply) >>= λ e. Ok (five_rests a b c d e))
-    (λ a. four a (begun part.Challenge (get files first_challenge)) (begun part.Reply (get files first_reply)) (begun part.SecondChallenge (get files second_challenge)) (begun part.SecondReply (get files second_reply))) ok
+    bind_first (begun_file part.Board (get files board))
+    (λ a. begun_file part.Challenge (get files first_challenge) >>= λ b. begun_file part.Reply (get files first_reply) >>= λ c. begun_file part.SecondChallenge (get files second_challenge) >>= λ d. begun_file part.SecondReply (get files second_reply) >>= λ e. Ok (five_rests a b c d e))
+    (λ a. four a (begun_file part.Challenge (get files first_challenge)) (begun_file part.Reply (get files first_reply)) (begun_file part.SecondChallenge (get files second_challenge)) (begun_file part.SecondReply (get files second_reply))) ok
   where
     four : (a : Rest) (b c d e : Result Rest VErr) → (b >>= λ b. c >>= λ c. d >>= λ d. e >>= λ e. Ok (five_rests a b c d e)) ≡ Ok rests → a ≡ rests.0
     four a (Err fault) c d e ok = cc

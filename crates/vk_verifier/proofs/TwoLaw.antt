@@ -24,7 +24,7 @@ use Rattle.vk_verifier.specs.declared.stage.Finding.{Finding}
 use Rattle.vk_verifier.specs.declared.stage.Finding.TheVariants.{Refused, Same, Ready}
 use Rattle.vk_verifier.specs.Statement.{StatementValue}
 use Rattle.vk_verifier.specs.Behind.{in_part, lanes_judged, ends_judged, counted, behind_judged}
-use Rattle.vk_verifier.specs.Verdicts.{in_front, front_judged, statement_of, as_verdict, in_board, judged, verdict_by, verdict_of, from_start, begun}
+use Rattle.vk_verifier.specs.Verdicts.{in_front, front_judged, statement_of, as_verdict, in_board, judged, verdict_by, verdict_of, from_start, begun_file}
 use Rattle.vk_verifier.specs.Parts.{case_at, reply_judged, attempt_at, rest_judged, behind_in_parts}
 use Rattle.vk_verifier.specs.Two.{Ahead, Rests, second_fault, same_bits, accepted_of, two_result, of_first, of_second, second_told, found_by, two_lane_at, ends_found, ahead_from, ahead_after, ahead_behind, base_behind, ahead_by}
 use Rattle.vk_verifier.specs.TwoBoards.{as_second, as_two, is_accepted, two_verdict, ahead_past, ahead_at, two_on}
@@ -270,7 +270,7 @@ found_in board first_challenge first_reply second_challenge second_reply =
 -- ---- files on a shelf
 
 begun_by : (file : Part) (held : Option (List ℕ))
-    → IfOk (begun file held) (λ rest. rest ≡ from_start (unwrap_or held []))
+    → IfOk (begun_file file held) (λ rest. rest ≡ from_start (unwrap_or held []))
 begun_by file None = tt
 begun_by file (Some bytes) = by_test (nat_lt (2 ^ 30) (length bytes))
   where

@@ -26,7 +26,7 @@ use Rattle.vk_verifier.specs.Statement.{StatementValue, IsStatement}
 use Rattle.vk_verifier.specs.Behind.{in_part, later_wires, case_of, lane_fault, counted, behind_judged}
 use Rattle.vk_verifier.specs.Verdicts.{front_judged, in_front, statement_of, from_start}
 use Rattle.vk_verifier.specs.Parts.{case_at, reply_judged, attempt_at, rest_judged}
-use Rattle.vk_verifier.specs.Two.{Ahead, Rests, AreAccepted, same_bits, accepted_of, two_result, of_first, of_second, found_by, both_shown, second_shown, two_lane_at, ends_found, ahead_from, ahead_after, ahead_behind, with_lane, base_behind, second_begun, ahead_by, base_in}
+use Rattle.vk_verifier.specs.Two.{Ahead, Rests, BothAreAccepted, same_bits, accepted_of, two_result, of_first, of_second, found_by, both_shown, second_shown, two_lane_at, ends_found, ahead_from, ahead_after, ahead_behind, with_lane, base_behind, second_begun, ahead_by, base_in}
 use Rattle.vk_verifier.specs.TwoBoards.{as_two, ahead_past, base_past, with_front}
 use Rattle.vk_verifier.specs.TwoLaw.{bits_read, ahead_in}
 use Rattle.vk_verifier.specs.Acceptance.{Accepts, AcceptsBehind, bit_of, no_lines}
@@ -337,7 +337,7 @@ accepted_behind_give s is front file first_challenge first_reply second_challeng
 )
 
 both_passed : (accepted : Finding Fault) (first second : Result (Unit {0}) Fault)
-    → AreAccepted (two_result accepted first second) → (first ≡ Ok tt) × (second ≡ Ok tt)
+    → BothAreAccepted (two_result accepted first second) → (first ≡ Ok tt) × (second ≡ Ok tt)
 both_passed accepted (Ok done) (Ok over) are = (refl, refl)
 both_passed accepted (Ok tt) (Err fault) are = absurd are
 both_passed accepted (Err fault) second are = absurd are
@@ -349,7 +349,7 @@ only_accepted_behind s is front file first_challenge first_reply second_challeng
     let d : Rest = from_start second_challenge in
     let t : Rest = from_start second_reply in
     let both = both_passed (accepted_of (bits_read (challenge_at c)) (bits_read (challenge_at d))) (behind_judged s rest c r) (behind_judged s rest d t)
-    (subst AreAccepted (finds_by_judging s rest c r d t) accepted) in (
+    (subst BothAreAccepted (finds_by_judging s rest c r d t) accepted) in (
       (accepted_behind s is front file first_challenge first_reply rest at).0 both.0,
       (accepted_behind s is front file second_challenge second_reply rest at).0 both.1,
     )
@@ -416,7 +416,7 @@ accepted_give board first_challenge first_reply second_challenge second_reply fi
 
 -- ---- and no others
 
-fault_accepted : (finding : Finding Fault) → AreAccepted (as_two finding) → AreAccepted finding
+fault_accepted : (finding : Finding Fault) → BothAreAccepted (as_two finding) → BothAreAccepted finding
 fault_accepted (Refused second fault) accepted = absurd accepted
 fault_accepted Same accepted = accepted
 fault_accepted Ready accepted = accepted
@@ -425,7 +425,7 @@ pub only_accepted_give : OnlyAcceptedGive
 only_accepted_give board first_challenge first_reply second_challenge second_reply = by_front (front_at (from_start board)) refl
   where
     by_front : (read : Result (Front × Rest) FrontFault) → front_at (from_start board) ≡ read
-        → AreAccepted (ahead_past (in_front read) (from_start first_challenge) (from_start first_reply) (from_start second_challenge) (from_start second_reply)).finding
+        → BothAreAccepted (ahead_past (in_front read) (from_start first_challenge) (from_start first_reply) (from_start second_challenge) (from_start second_reply)).finding
         → Accepts board first_challenge first_reply × Accepts board second_challenge second_reply
     by_front (Err fault) is accepted = absurd accepted
     by_front (Ok front) is accepted =

@@ -59,7 +59,7 @@ behind_in_parts s board challenge reply = do
   rest_judged s 1 attempt.0 board attempt.1
 
 -- the case of the lane of that number, by lines that stand in the file
-pub record IsCase (s : StatementValue) (number : ℕ) (case : LaneCase) : Type 0 where
+pub record IsLaneCase (s : StatementValue) (number : ℕ) (case : LaneCase) : Type 0 where
   pub lines : LaneLines
   pub right : IsLaneLines (later_wires s.plan) (length s.plan.rows) lines
   pub is : case ≡ case_of s number lines

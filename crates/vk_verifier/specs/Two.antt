@@ -23,7 +23,7 @@ use Rattle.vk_verifier.specs.declared.stage.Stage.{Stage}
 use Rattle.vk_verifier.specs.declared.stage.Stage.TheVariants.{Before, Running}
 use Rattle.vk_verifier.specs.Statement.{StatementValue, IsStatement}
 use Rattle.vk_verifier.specs.Behind.{in_part, ends_judged}
-use Rattle.vk_verifier.specs.Parts.{case_at, reply_judged, attempt_at, rest_judged, IsCase}
+use Rattle.vk_verifier.specs.Parts.{case_at, reply_judged, attempt_at, rest_judged, IsLaneCase}
 
 -- ---- the finding
 
@@ -190,14 +190,14 @@ GivesLane before (Err halt.Failed) after = Unit {0}
 GivesLane before (Err halt.NoMemory) after = Unit {0}
 
 -- both replies are accepted
-abbrev pub AreAccepted : {V : Type 0} → Finding V → Type 0
-AreAccepted (Refused second refusal) = ⊥
-AreAccepted Same = Unit {0}
-AreAccepted Ready = Unit {0}
+abbrev pub BothAreAccepted : {V : Type 0} → Finding V → Type 0
+BothAreAccepted (Refused second refusal) = ⊥
+BothAreAccepted Same = Unit {0}
+BothAreAccepted Ready = Unit {0}
 
 -- it tells of no two accepted replies
 abbrev pub Refuses : Halt (Finding Fault) → Type 0
-Refuses (halt.Refused finding) = ¬ AreAccepted finding
+Refuses (halt.Refused finding) = ¬ BothAreAccepted finding
 Refuses halt.Failed = Unit {0}
 Refuses halt.NoMemory = Unit {0}
 
@@ -225,7 +225,7 @@ pub record IsBase (base : Base) : Type 0 where
 
 -- a lane that is given is that of the number, and what both replies show of it is accepted
 pub record IsTwoLane (s : StatementValue) (number : ℕ) (lane : TwoLane) : Type 0 where
-  pub case : IsCase s number lane.case
+  pub case : IsLaneCase s number lane.case
   pub first : IsAccepted s.plan lane.case lane.first_bit lane.first
   pub second : IsAccepted s.plan lane.case lane.second_bit lane.second
 
@@ -262,7 +262,7 @@ GoesOn before None stage files = (finding : Finding Fault) × (finding_of stage 
 
 -- every lane was given, where both replies are accepted
 abbrev pub IsRight : Base → ℕ → Finding Fault → Type 0
-IsRight base given finding = (¬ AreAccepted finding) ⊎ (given ≡ base.statement.lanes)
+IsRight base given finding = (¬ BothAreAccepted finding) ⊎ (given ≡ base.statement.lanes)
 
 pub record IsCourse (course : Course) : Type 0 where
   pub base : IsBase course.base
@@ -270,7 +270,7 @@ pub record IsCourse (course : Course) : Type 0 where
   pub finding : IfSome course.finding (IsRight course.base course.given)
 
 abbrev pub IsStage : Stage → Type 0
-IsStage (Before finding) = ¬ AreAccepted finding
+IsStage (Before finding) = ¬ BothAreAccepted finding
 IsStage (Running course) = IsCourse course
 
 -- no lane is given any more

@@ -20,7 +20,7 @@ use Rattle.vk_verifier.specs.declared.two_boards.BoardCourse.{BoardCourse}
 use Rattle.vk_verifier.specs.declared.two_boards.BoardStage.{BoardStage}
 use Rattle.vk_verifier.specs.declared.two_boards.BoardStage.TheVariants.{Refused, Behind}
 use Rattle.vk_verifier.specs.Statement.{StatementValue}
-use Rattle.vk_verifier.specs.Verdicts.{as_verdict, front_judged, statement_of, begun}
+use Rattle.vk_verifier.specs.Verdicts.{as_verdict, front_judged, statement_of, begun_file}
 use Rattle.vk_verifier.specs.Two.{Ahead, IsStage, IsNextLane, accepted_of, ahead_behind, ahead_of, base_behind, base_in, base_of, finding_of, given_of, over, second_part, with_lane}
 
 -- ---- the finding
@@ -95,11 +95,11 @@ base_at board = base_past (front_judged board)
 -- too long
 abbrev pub of_files : {X : Type 0} → (Rest → Rest → Rest → Rest → Rest → X) → Files → List ℕ → List ℕ → List ℕ → List ℕ → List ℕ → Result X VErr
 of_files whole files board first_challenge first_reply second_challenge second_reply = do
-  board ← begun part.Board (get files board)
-  first_challenge ← begun part.Challenge (get files first_challenge)
-  first_reply ← begun part.Reply (get files first_reply)
-  second_challenge ← begun part.SecondChallenge (get files second_challenge)
-  second_reply ← begun part.SecondReply (get files second_reply)
+  board ← begun_file part.Board (get files board)
+  first_challenge ← begun_file part.Challenge (get files first_challenge)
+  first_reply ← begun_file part.Reply (get files first_reply)
+  second_challenge ← begun_file part.SecondChallenge (get files second_challenge)
+  second_reply ← begun_file part.SecondReply (get files second_reply)
   Ok (whole board first_challenge first_reply second_challenge second_reply)
 
 abbrev pub five_rests : Rest → Rest → Rest → Rest → Rest → Rest × Rest × Rest × Rest × Rest

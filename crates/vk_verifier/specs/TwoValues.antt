@@ -11,7 +11,7 @@ use Rattle.vk_verifier.specs.Statement.{StatementValue, IsStatement}
 use Rattle.vk_verifier.specs.Behind.{case_of}
 use Rattle.vk_verifier.specs.Verdicts.{from_start}
 use Rattle.vk_verifier.specs.Acceptance.{Accepts, AcceptsBehind, bit_of, no_lines}
-use Rattle.vk_verifier.specs.Two.{Ahead, AreAccepted, accepted_of, ahead_behind, base_behind, base_in}
+use Rattle.vk_verifier.specs.Two.{Ahead, BothAreAccepted, accepted_of, ahead_behind, base_behind, base_in}
 use Rattle.vk_verifier.specs.TwoBoards.{BoardBase, base_at}
 use Rattle.vk_verifier.specs.TwoLaw.{ahead_in}
 
@@ -61,7 +61,7 @@ AcceptedBehindGive = (s : StatementValue) → IsStatement s → (front file firs
 -- two replies are found to be accepted only where they are
 abbrev pub OnlyAcceptedBehind : Type 0
 OnlyAcceptedBehind = (s : StatementValue) → IsStatement s → (front file first_challenge first_reply second_challenge second_reply : List ℕ) (rest : Rest) → file ≡ front ++ rest.left
-    → AreAccepted (ahead_behind s rest (from_start first_challenge) (from_start first_reply) (from_start second_challenge) (from_start second_reply)).finding
+    → BothAreAccepted (ahead_behind s rest (from_start first_challenge) (from_start first_reply) (from_start second_challenge) (from_start second_reply)).finding
     → AcceptsBehind s front file first_challenge first_reply × AcceptsBehind s front file second_challenge second_reply
 
 -- ---- boards
@@ -128,5 +128,5 @@ AcceptedGive = (board first_challenge first_reply second_challenge second_reply 
 -- two replies are found to be accepted only where they are
 abbrev pub OnlyAcceptedGive : Type 0
 OnlyAcceptedGive = (board first_challenge first_reply second_challenge second_reply : List ℕ)
-    → AreAccepted (ahead_in board first_challenge first_reply second_challenge second_reply).finding
+    → BothAreAccepted (ahead_in board first_challenge first_reply second_challenge second_reply).finding
     → Accepts board first_challenge first_reply × Accepts board second_challenge second_reply

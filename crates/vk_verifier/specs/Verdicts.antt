@@ -93,17 +93,17 @@ unread_file verr.Failed = None
 unread_file verr.NoMemory = None
 
 -- a file from its first line on, where it is held and has at most 2^30 bytes
-abbrev pub begun : Part → Option (List ℕ) → Result Rest VErr
-begun file None = Err (verr.Missing file)
-begun file (Some bytes) = if nat_lt (2 ^ 30) (length bytes) then Err (verr.TooLong file) else Ok (from_start bytes)
+abbrev pub begun_file : Part → Option (List ℕ) → Result Rest VErr
+begun_file file None = Err (verr.Missing file)
+begun_file file (Some bytes) = if nat_lt (2 ^ 30) (length bytes) then Err (verr.TooLong file) else Ok (from_start bytes)
 
 -- what three named files come to from their first lines on; or the first of them, in this order, that is missing or
 -- too long
 abbrev pub of_attempt : {X : Type 0} → (Rest → Rest → Rest → X) → Files → List ℕ → List ℕ → List ℕ → Result X VErr
 of_attempt whole files file challenge reply = do
-  file ← begun part.Board (get files file)
-  challenge ← begun part.Challenge (get files challenge)
-  reply ← begun part.Reply (get files reply)
+  file ← begun_file part.Board (get files file)
+  challenge ← begun_file part.Challenge (get files challenge)
+  reply ← begun_file part.Reply (get files reply)
   Ok (whole file challenge reply)
 
 -- what they come to for the readers of them

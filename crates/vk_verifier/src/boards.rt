@@ -14,7 +14,7 @@ ghost use Rattle.vk_verifier.specs.Answers.{board_answer, front_answer, verdict_
 use crate::answers::{BoardVerdict, Fault, Part, VErr};
 use crate::halt::Halt;
 use crate::judging::judge_behind;
-use crate::named::{AttemptNames, begin_attempt};
+use crate::named::{OneReply, begin_attempt};
 use crate::stage::Attempt;
 use crate::statement::Statement;
 use std::alloc::Global;
@@ -157,7 +157,7 @@ pub fn verdict<S: Shelf>(
         Gives unread_file (λ verdict. verdict) result (verdict_on files board.now challenge.now reply.now)) }
     ensures shelf { OnlyReads S.held S.Shelf.faults VErr.Failed result shelf.old shelf.new }
 {
-    let names = AttemptNames {
+    let names = OneReply {
         file: board,
         challenge,
         reply,

@@ -1,7 +1,7 @@
 // Why judging stopped.
 ghost use Rattle.std.specs.Prelude.{◌≡◌, ℕ, Result, Ok, IfOk};
 ghost use Rattle.vk_io.specs.Faults.{Causes};
-ghost use Rattle.vk_lines.specs.Lines.{Reads, Rest};
+ghost use Rattle.vk_lines.specs.Lines.{GivesReading, Rest};
 ghost use Rattle.vk_verifier.specs.Behind.{Judges, and_rest, in_part};
 ghost use Rattle.vk_verifier.specs.Answers.{known_answer, read_answer};
 ghost use Rattle.vk_verifier.specs.declared.halt.Halt.TheVariants.{NoMemory as OutOfMemory};
@@ -33,7 +33,7 @@ impl<V> From<NoMemory> for Halt<V> {
 pub fn in_part<X>(part: Part, read: Result<X, ReadErr>) -> Result<X, Halt<Fault>>
     ensures exact { result ≡ read_answer part read }
     ensures judged { (rest : Rest) (expected : Result (X × Rest) ℕ)
-        → Reads (λ x. x) read rest expected → Judges (λ x. (x, rest)) result (in_part part expected) }
+        → GivesReading (λ x. x) read rest expected → Judges (λ x. (x, rest)) result (in_part part expected) }
     ensures value { IfOk result (λ x. read ≡ Ok x) }
     ensures causes { (before : ℕ) (after : ℕ) → Causes ReadErr.Failed read before after → Causes Halt.Failed result before after }
 {

@@ -9,7 +9,7 @@ ghost use Rattle.vk_verifier.specs.Verdicts.{of_begun};
 use crate::answers::{Fault, Part};
 use crate::halt::{Halt, in_part};
 use crate::lane::judge_lane;
-use crate::stage::{Attempt, LanesLeft, Pair};
+use crate::stage::{Attempt, LanesLeft, FileAndReply};
 use crate::statement::Statement;
 use std::alloc::Global;
 use vk_io::Shelf;
@@ -57,7 +57,7 @@ pub fn judge_rest<S: Shelf>(
     alloc: Global,
     shelf: &mut S,
     left: LanesLeft<'_>,
-    pair: &mut Pair,
+    pair: &mut FileAndReply,
 ) -> Result<(), Halt<Fault>>
     requires { AreLeft left }
     ensures told { IfSome (S.held shelf.old) (λ files. Judges (λ done. done) result
@@ -105,7 +105,7 @@ pub fn judge_behind<S: Shelf>(
 
 /// Reads the end of the file and then that of the reply.
 #[tactic(auto, unfolding(crate::specs::Behind::ends_judged))]
-pub fn read_ends<S: Shelf>(shelf: &mut S, pair: &mut Pair) -> Result<(), Halt<Fault>>
+pub fn read_ends<S: Shelf>(shelf: &mut S, pair: &mut FileAndReply) -> Result<(), Halt<Fault>>
     ensures told { IfSome (S.held shelf.old) (λ files.
         Judges (λ done. done) result (ends_judged (rest_of pair.old.board files) (rest_of pair.old.reply files))) }
     ensures shelf { OnlyReads S.held S.Shelf.faults Halt.Failed result shelf.old shelf.new }

@@ -5,11 +5,11 @@ ghost use Rattle.vk_row.specs.Lanes.{HasCounts, IsAccepted};
 ghost use Rattle.vk_row.specs.LaneTests.{checked_lane};
 ghost use Rattle.vk_verifier.specs.Statement.{IsStatement};
 ghost use Rattle.vk_verifier.specs.Behind.{Judges, case_of, input_coms, lane_fault, lane_judged};
-ghost use Rattle.vk_verifier.specs.Parts.{case_at, reply_judged, IsCase, Fits};
+ghost use Rattle.vk_verifier.specs.Parts.{case_at, reply_judged, IsLaneCase, Fits};
 
 use crate::answers::{Fault, Part};
 use crate::halt::{Halt, in_part};
-use crate::stage::Pair;
+use crate::stage::FileAndReply;
 use crate::statement::Statement;
 use std::alloc::Global;
 use vk_board::{LaneLines, SealLines, read_lane, seats_of};
@@ -75,7 +75,7 @@ pub fn read_case<S: Shelf>(
     requires last { lane ≤ statement.now.lanes }
     ensures told { IfSome (S.held shelf.old) (λ files.
         Judges (λ case. (case, rest_of board.new files)) result (case_at statement.now lane (rest_of board.old files))) }
-    ensures right { IfOk result (IsCase statement.now lane) }
+    ensures right { IfOk result (IsLaneCase statement.now lane) }
     ensures fits { IfOk result (Fits statement.now.plan) }
     ensures shelf { OnlyReads S.held S.Shelf.faults Halt.Failed result shelf.old shelf.new }
 {
@@ -149,7 +149,7 @@ pub fn judge_lane<S: Shelf>(
     statement: &Statement,
     lane: u32,
     bit: bool,
-    pair: &mut Pair,
+    pair: &mut FileAndReply,
 ) -> Result<(), Halt<Fault>>
     requires first { 1 ≤ lane }
     requires last { lane ≤ statement.now.lanes }

@@ -25,9 +25,9 @@ pub use laws::{
     a_verdict_accepts_what_is_accepted, verdicts_are_given_exactly_where_they_hold,
     what_is_judged_behind_a_front_is_exact,
 };
-pub use named::{AttemptNames, TwoReplies, begin_attempt, begin_two};
+pub use named::{OneReply, TwoReplies, begin_attempt, begin_two};
 pub use stage::{
-    Attempt, Base, Finding, Pair, Stage, TwoAttempts, TwoLane, TwoReaders, TwoVerdict,
+    Attempt, Base, Finding, FileAndReply, Stage, TwoAttempts, TwoLane, TwoReaders, TwoVerdict,
 };
 pub use statement::Statement;
 pub use two::LaneChecker;

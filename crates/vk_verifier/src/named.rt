@@ -5,20 +5,20 @@ ghost use Rattle.vk_io.specs.Faults.{Causes};
 ghost use Rattle.vk_io.specs.Files.{Files};
 ghost use Rattle.vk_lines.specs.Lines.{OnlyReads, Starts, rest_of};
 ghost use Rattle.vk_lines.specs.Gives.{Gives};
-ghost use Rattle.vk_verifier.specs.Verdicts.{begun, of_attempt, of_begun, three_rests, unread_file};
+ghost use Rattle.vk_verifier.specs.Verdicts.{begun_file, of_attempt, of_begun, three_rests, unread_file};
 ghost use Rattle.vk_verifier.specs.Two.{of_two};
 ghost use Rattle.vk_verifier.specs.TwoBoards.{five_rests, named_rests};
 ghost use Rattle.vk_verifier.specs.Answers.{begun_answer};
 
 use crate::answers::{Part, VErr};
-use crate::stage::{Attempt, Pair, TwoAttempts, TwoReaders};
+use crate::stage::{Attempt, FileAndReply, TwoAttempts, TwoReaders};
 use std::alloc::Global;
 use vk_io::Shelf;
 use vk_lines::{Lines, StartErr};
 
 /// The names of a file, of a challenge and of the reply to it.
 #[derive(Clone, Copy, Debug)]
-pub struct AttemptNames<'a> {
+pub struct OneReply<'a> {
     pub file: &'a str,
     pub challenge: &'a str,
     pub reply: &'a str,
@@ -35,10 +35,10 @@ pub struct TwoReplies<'a> {
 }
 
 /// A file from its first line on, or why it was not begun.
-fn begun(part: Part, started: Result<Lines, StartErr>) -> Result<Lines, VErr>
+fn begun_file(part: Part, started: Result<Lines, StartErr>) -> Result<Lines, VErr>
     ensures exact { result ≡ begun_answer part started }
     ensures told { (files : Files) (name : List ℕ) → Starts files name started
-        → Gives unread_file (λ lines. rest_of lines files) result (begun part (map.get files name)) }
+        → Gives unread_file (λ lines. rest_of lines files) result (begun_file part (map.get files name)) }
     ensures causes { (before : ℕ) (after : ℕ) → Causes StartErr.Failed started before after → Causes VErr.Failed result before after }
 {
     match started {
@@ -53,11 +53,11 @@ fn begun(part: Part, started: Result<Lines, StartErr>) -> Result<Lines, VErr>
 /// Begins to read the named file.
 fn begin<S: Shelf>(alloc: Global, shelf: &mut S, name: &str, part: Part) -> Result<Lines, VErr>
     ensures told { IfSome (S.held shelf.old) (λ files.
-        Gives unread_file (λ lines. rest_of lines files) result (begun part (map.get files name.now))) }
+        Gives unread_file (λ lines. rest_of lines files) result (begun_file part (map.get files name.now))) }
     ensures shelf { OnlyReads S.held S.Shelf.faults VErr.Failed result shelf.old shelf.new }
 {
     let started = Lines::start(alloc, shelf, name);
-    let lines = begun(part, started);
+    let lines = begun_file(part, started);
     lines
 }
 
@@ -66,7 +66,7 @@ fn begin<S: Shelf>(alloc: Global, shelf: &mut S, name: &str, part: Part) -> Resu
 pub fn begin_attempt<S: Shelf>(
     alloc: Global,
     shelf: &mut S,
-    names: &AttemptNames<'_>,
+    names: &OneReply<'_>,
 ) -> Result<Attempt, VErr>
     ensures told { IfSome (S.held shelf.old) (λ files. Gives unread_file (λ attempt. of_begun three_rests attempt files) result
         (of_attempt three_rests files names.now.file.now names.now.challenge.now names.now.reply.now)) }
@@ -75,7 +75,7 @@ pub fn begin_attempt<S: Shelf>(
     let board = begin(alloc, shelf, names.file, Part::Board)?;
     let challenge = begin(alloc, shelf, names.challenge, Part::Challenge)?;
     let reply = begin(alloc, shelf, names.reply, Part::Reply)?;
-    let pair = Pair { board, reply };
+    let pair = FileAndReply { board, reply };
     Ok(Attempt { challenge, pair })
 }
 
@@ -94,7 +94,7 @@ pub fn begin_two<S: Shelf>(
     let reply = begin(alloc, shelf, names.reply1, Part::Reply)?;
     let second_challenge = begin(alloc, shelf, names.challenge2, Part::SecondChallenge)?;
     let second = begin(alloc, shelf, names.reply2, Part::SecondReply)?;
-    let pair = Pair { board, reply };
+    let pair = FileAndReply { board, reply };
     let readers = TwoReaders { pair, second };
     Ok(TwoAttempts {
         first_challenge,

@@ -33,7 +33,7 @@ pub type TwoVerdict = Finding<BoardVerdict>;
 
 /// A file and a reply, each from where it is to be read on.
 #[derive(Drop)]
-pub struct Pair {
+pub struct FileAndReply {
     pub board: Lines,
     pub reply: Lines,
 }
@@ -50,7 +50,7 @@ pub struct LanesLeft<'a> {
 #[derive(Drop)]
 pub struct Attempt {
     pub challenge: Lines,
-    pub pair: Pair,
+    pub pair: FileAndReply,
 }
 
 /// What was read before the first lane: the statement of the front, and the bits of both challenges.
@@ -64,7 +64,7 @@ pub struct Base {
 /// The file with the first reply, and the second reply, each from where it is to be read on.
 #[derive(Drop)]
 pub struct TwoReaders {
-    pub pair: Pair,
+    pub pair: FileAndReply,
     pub second: Lines,
 }
 

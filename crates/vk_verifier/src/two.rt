@@ -10,7 +10,7 @@ ghost use Rattle.vk_verifier.specs.declared.stage.Stage.TheVariants.{Running};
 ghost use Rattle.vk_verifier.specs.Statement.{IsStatement};
 ghost use Rattle.vk_verifier.specs.Behind.{Judges};
 ghost use Rattle.vk_verifier.specs.Answers.{start_answer, step_answer};
-ghost use Rattle.vk_verifier.specs.Two.{GivesLane, GoesOn, Ahead, Rests, Refuses, AreAccepted, IsBase, IsTwoLane, IsCourse, IsRight, IsNextLane, IsOver, HasBase, ahead_on, ahead_by, ahead_behind, ahead_of, of_two, rests_of, finding_of, base_of, base_behind, base_in, given_of};
+ghost use Rattle.vk_verifier.specs.Two.{GivesLane, GoesOn, Ahead, Rests, Refuses, BothAreAccepted, IsBase, IsTwoLane, IsCourse, IsRight, IsNextLane, IsOver, HasBase, ahead_on, ahead_by, ahead_behind, ahead_of, of_two, rests_of, finding_of, base_of, base_behind, base_in, given_of};
 
 use crate::answers::Fault;
 use crate::halt::Halt;
@@ -111,7 +111,7 @@ impl LaneChecker {
     pub fn finding(&self) -> Finding<Fault>
         requires { IsOver self.now }
         ensures value { finding_of self.now ≡ Some result }
-        ensures all { AreAccepted result → IsSomeAnd (base_of self.now) (λ base. given_of self.now ≡ base.statement.lanes) }
+        ensures all { BothAreAccepted result → IsSomeAnd (base_of self.now) (λ base. given_of self.now ≡ base.statement.lanes) }
     {
         match &self.stage {
             Stage::Before(finding) => *finding,

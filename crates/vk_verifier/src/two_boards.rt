@@ -9,7 +9,7 @@ ghost use Rattle.vk_verifier.specs.declared.answers.BoardVerdict.{BoardVerdict};
 ghost use Rattle.vk_verifier.specs.declared.two_boards.BoardStage.TheVariants.{Behind};
 ghost use Rattle.vk_verifier.specs.Behind.{Judges};
 ghost use Rattle.vk_verifier.specs.Verdicts.{plan_of, unread_file};
-ghost use Rattle.vk_verifier.specs.Two.{AreAccepted, IsNextLane, IsOver, given_of, of_two};
+ghost use Rattle.vk_verifier.specs.Two.{BothAreAccepted, IsNextLane, IsOver, given_of, of_two};
 ghost use Rattle.vk_verifier.specs.TwoBoards.{BoardGoesOn, HasFrontRead, IsBoardCourse, IsBoardOver, IsNextOfBoard, ahead_at, ahead_past, as_two, base_at, base_on, base_past, board_ahead, board_base, board_finding, board_given, course_or, two_on};
 
 use crate::answers::{BoardVerdict, Fault, VErr};
@@ -131,7 +131,7 @@ impl TwoChecker {
     pub fn finding(&self) -> TwoVerdict
         requires { IsBoardOver self.now }
         ensures value { board_finding self.now ≡ Some result }
-        ensures all { AreAccepted result → IsSomeAnd (board_base self.now) (λ base. board_given self.now ≡ base.front.head.lanes) }
+        ensures all { BothAreAccepted result → IsSomeAnd (board_base self.now) (λ base. board_given self.now ≡ base.front.head.lanes) }
     {
         match &self.stage {
             BoardStage::Refused(verdict) => Finding::Refused {

@@ -11,7 +11,7 @@ use crate::answers::{Fault, Part};
 use crate::halt::{Halt, in_part};
 use crate::judging::{judge_rest, read_attempt, read_ends};
 use crate::lane::{read_case, read_checked};
-use crate::stage::{Base, LanesLeft, Pair, TwoLane, TwoReaders};
+use crate::stage::{Base, LanesLeft, FileAndReply, TwoLane, TwoReaders};
 use crate::statement::Statement;
 use crate::two_halt::{TwoHalt, accepted_of, found_by, is_refused, of_first, of_second};
 use std::alloc::Global;
@@ -27,7 +27,7 @@ pub fn judge_on<S: Shelf>(
     shelf: &mut S,
     asked: bool,
     left: LanesLeft<'_>,
-    pair: &mut Pair,
+    pair: &mut FileAndReply,
 ) -> Result<(), Halt<Fault>>
     requires { AreLeft left }
     ensures told { IfSome (S.held shelf.old) (λ files. IsTrue asked → Judges (λ done. done) result

@@ -23,7 +23,7 @@ use Rattle.vk_vickrey.specs.Outcomes.{IsVickreyOutcome}
 use Rattle.vk_vickrey.specs.OutcomeLaws.{outcome_exists, outcome_of_sold}
 use Rattle.vk_vickrey.specs.SaleLaws.{sold_at_price}
 use Rattle.vk_vickrey.specs.VickreyPlans.{IsVickreyCase, IsVickreyClaim, bid_form, win_form, price_form, vickrey_forms, vickrey_plan, honest_values, wire_count, row_count}
-use Rattle.vk_vickrey.specs.VickreyLaws.{IsShown, win_shown, bid_value, less_value, within_means, within_fits, width_small, position_of, bid_at_place, bid_of, bids_fit, wins_fit, within_price, price_value, bids_series, vickrey_sound, vickrey_complete}
+use Rattle.vk_vickrey.specs.VickreyLaws.{HoldsBeforeSelection, win_shown, bid_value, less_value, within_means, within_fits, width_small, position_of, bid_at_place, bid_of, bids_fit, wins_fit, within_price, price_value, bids_series, vickrey_sound, vickrey_complete}
 use Rattle.vk_vickrey.specs.VickreyRanges.{All-vickrey_forms, forms_over, length_forms}
 use Rattle.vk_vickrey.specs.VickreySteps.{vickrey_is_plan, honest_begins, vickrey_wires, vickrey_rows}
 use Rattle.vk_vickrey.specs.ReservePlans.{IsReserveCase, IsBoardClaim, IsWithinReserve, below_form, reach_form, sale_forms, sale_ranges, reserve_plan, reserve_values, sale_wire_count, sale_row_count}
@@ -175,7 +175,7 @@ within_sound seals width reserve (Sold position price) values case low ranged =
     let first = All-front Fits (bids ++ wins) prices all in
     let copies : (j : ℕ) → j < seals → slice_index values (seals + j) < 2 ^ width =
     λ j h. copy_small seals width values case.wide.most ranged.enough ranged.residues j h (listed_each Fits (bid_form seals) seals (All-front Fits bids wins first) j h) in
-    let shown : IsShown seals width winner reserve values = record {
+    let shown : HoldsBeforeSelection seals width winner reserve values = record {
       copied = ranged.copied;
       bids = copies;
       wins = listed_each Fits (win_form seals winner) (seals - 1) (All-back Fits bids wins first);

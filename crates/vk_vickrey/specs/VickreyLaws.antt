@@ -196,7 +196,7 @@ plan_many seals width position price many =
     refl (ap (λ start. plan.rows ++ selected_rows relation start) (sym (length_prices seals width (position - 1) price)))
 
 -- what holds for the plan before the selection, in whole numbers
-pub record IsShown (seals width winner price : ℕ) (values : List ℕ) : Type 0 where
+pub record HoldsBeforeSelection (seals width winner price : ℕ) (values : List ℕ) : Type 0 where
   pub copied : (j : ℕ) → j < seals → slice_index values j ≡ slice_index values (seals + j)
   pub bids : (j : ℕ) → j < seals → slice_index values (seals + j) < 2 ^ width
   pub wins : (k : ℕ) → k < seals - 1 → IsOfWidth width (form_value (win_form seals winner k) values)
@@ -205,7 +205,7 @@ pub record IsShown (seals width winner price : ℕ) (values : List ℕ) : Type 0
 prices_shown : (seals width winner price : ℕ) (values : List ℕ) → winner < seals → 1 ≤ width → width ≤ 40 → All IsResidue values
     → length (with_prices seals width winner price).kinds ≤ length values
     → Holds (with_prices seals width winner price) (take (length (with_prices seals width winner price).kinds) values)
-    → IsShown seals width winner price values
+    → HoldsBeforeSelection seals width winner price values
 prices_shown seals width winner price values w some most residues enough holds =
     let to_prices = length_prices seals width winner price in
     let to_wins = length_wins seals width winner in
@@ -229,7 +229,7 @@ prices_shown seals width winner price values w some most residues enough holds =
     }
 
 -- so no other's bid is above the winner's or the price, nor as high as the winner's where it stands before
-not_above : (seals width winner price k : ℕ) (values : List ℕ) → width ≤ 40 → winner < seals → k < seals - 1 → IsShown seals width winner price values
+not_above : (seals width winner price k : ℕ) (values : List ℕ) → width ≤ 40 → winner < seals → k < seals - 1 → HoldsBeforeSelection seals width winner price values
     → (slice_index values (seals + other winner k) ≤ slice_index values (seals + winner))
     × (k < winner → slice_index values (seals + other winner k) < slice_index values (seals + winner))
 not_above seals width winner price k values most w h shown =
@@ -251,7 +251,7 @@ not_above seals width winner price k values most w h shown =
           (least, λ before. omega arith))
     ]
 
-not_above_price : (seals width winner price k : ℕ) (values : List ℕ) → width ≤ 40 → winner < seals → k < seals - 1 → price < 2 ^ width → IsShown seals width winner price values
+not_above_price : (seals width winner price k : ℕ) (values : List ℕ) → width ≤ 40 → winner < seals → k < seals - 1 → price < 2 ^ width → HoldsBeforeSelection seals width winner price values
     → slice_index values (seals + other winner k) ≤ price
 not_above_price seals width winner price k values most w h below shown =
     within_means (slice_index values (seals + other winner k)) price (2 ^ width) (shown.bids (other winner k) (other_within seals winner k w h)) below (width_small width most)
@@ -271,12 +271,12 @@ pub record IsWinShown (seals width position price : ℕ) (bids : List ℕ) : Typ
   pub others_within_price : (other : ℕ) → IsPosition bids other → other ≢ position → bid_at bids other ≤ price
 
 -- the bids behind the copies
-pub bid_shown : (seals width winner price : ℕ) (values : List ℕ) → IsShown seals width winner price values
+pub bid_shown : (seals width winner price : ℕ) (values : List ℕ) → HoldsBeforeSelection seals width winner price values
     → (j : ℕ) → j < seals → slice_index (take seals values) j ≡ slice_index values (seals + j)
 bid_shown seals width winner price values shown j h = get_or-take seals values j 0 h ∙ shown.copied j h
 
 pub win_shown : (seals width position price : ℕ) (values : List ℕ) → 1 ≤ position → position ≤ seals → width ≤ 40 → price < 2 ^ width
-    → seals ≤ length values → IsShown seals width (position - 1) price values → IsWinShown seals width position price (take seals values)
+    → seals ≤ length values → HoldsBeforeSelection seals width (position - 1) price values → IsWinShown seals width position price (take seals values)
 win_shown seals width position price values some_position within_seals most below enough shown =
     let winner = position - 1 in
     let w : winner < seals = omega (arith, some_position, within_seals) in
@@ -312,7 +312,7 @@ win_shown seals width position price values some_position within_seals most belo
     }
 
 claim_shown : (seals width position price : ℕ) (values : List ℕ) → IsVickreyCase seals width position price → seals ≤ length values
-    → IsShown seals width (position - 1) price values → (2 ≤ seals → IsHeld seals (position - 1) price values)
+    → HoldsBeforeSelection seals width (position - 1) price values → (2 ≤ seals → IsHeld seals (position - 1) price values)
     → IsVickreyClaim seals width position price (take seals values)
 claim_shown seals width position price values case enough shown held =
     let winner = position - 1 in
@@ -345,7 +345,7 @@ claim_shown seals width position price values case enough shown held =
 
 -- the plan of the relations is shown by any values that hold for it
 selection_held : (seals width winner price : ℕ) (values : List ℕ) (place : ℕ) → width ≤ 40 → winner < seals → price < 2 ^ width
-    → length (with_prices seals width winner price).kinds ≤ length values → IsShown seals width winner price values
+    → length (with_prices seals width winner price).kinds ≤ length values → HoldsBeforeSelection seals width winner price values
     → IsSelected (price_selection seals width winner price) (take (length (with_prices seals width winner price).kinds) values) place
     → IsHeld seals winner price values
 selection_held seals width winner price values place most w below enough shown selected =

@@ -9,7 +9,7 @@ use Rattle.vk_views.specs.declared.views.LaneView.{LaneView}
 use Rattle.vk_views.specs.Views.{view_of, views_of}
 use Rattle.vk_views.specs.Moved.{moved_tape, moved_tapes}
 use Rattle.vk_views.specs.OneToOne.{IsOneToOneOnto}
-use Rattle.vk_views.specs.Laws.{WhereBothHold, Gives, TapesAreEquallyMany, GivesAll, TapesOfLanesAreEquallyMany}
+use Rattle.vk_views.specs.Laws.{WhereBothHold, GivesView, TapesAreEquallyMany, GivesAll, TapesOfLanesAreEquallyMany}
 use Rattle.vk_views.proofs.Lanes.{views_are_the_same, moved_are_tapes, tapes_come_back}
 
 -- a map with one that leads back is one to one and onto
@@ -24,13 +24,13 @@ with_one_back From To map back into out there here = record {
 -- ---- one lane
 
 moved_gives : (plan : PlanValue) (values others : List ℕ) → IsPlan plan → Holds plan values → Holds plan others → (bit : Bool) (view : LaneView) (tape : List WireTape)
-    → Gives plan values bit view tape → Gives plan others bit view (moved_tape plan.kinds values others bit tape)
+    → GivesView plan values bit view tape → GivesView plan others bit view (moved_tape plan.kinds values others bit tape)
 moved_gives plan values others is_plan holds holds_others bit view tape gives =
     (moved_are_tapes plan values others is_plan holds holds_others bit tape gives.0, views_are_the_same plan values others is_plan holds holds_others bit tape gives.0 ∙ gives.1)
 
 pub equally_many : WhereBothHold TapesAreEquallyMany
 equally_many plan values others is_plan holds holds_others bit view =
-    with_one_back (Gives plan values bit view) (Gives plan others bit view) (moved_tape plan.kinds values others bit) (moved_tape plan.kinds others values bit)
+    with_one_back (GivesView plan values bit view) (GivesView plan others bit view) (moved_tape plan.kinds values others bit) (moved_tape plan.kinds others values bit)
     (moved_gives plan values others is_plan holds holds_others bit view)
     (moved_gives plan others values is_plan holds_others holds bit view)
     (λ tape gives. tapes_come_back plan values others is_plan holds holds_others bit tape gives.0)

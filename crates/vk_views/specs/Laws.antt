@@ -71,13 +71,13 @@ abbrev pub MovedTapesAreTapes : PlanValue → List ℕ → List ℕ → Type 0
 MovedTapesAreTapes plan values others = OfLanes (λ bit tape. IsTapeOf plan (moved_tape plan.kinds values others bit tape)) plan
 
 -- the tapes for the plan by which the values give the view
-abbrev pub Gives : PlanValue → List ℕ → Bool → LaneView → List WireTape → Type 0
-Gives plan values bit view tape = IsTapeOf plan tape × (view_of plan values tape bit ≡ view)
+abbrev pub GivesView : PlanValue → List ℕ → Bool → LaneView → List WireTape → Type 0
+GivesView plan values bit view tape = IsTapeOf plan tape × (view_of plan values tape bit ≡ view)
 
 -- moving takes the tapes by which the values give a view to those by which the others give it, one to one and onto
 abbrev pub TapesAreEquallyMany : PlanValue → List ℕ → List ℕ → Type 0
 TapesAreEquallyMany plan values others =
-    (bit : Bool) (view : LaneView) → IsOneToOneOnto (Gives plan values bit view) (Gives plan others bit view) (moved_tape plan.kinds values others bit)
+    (bit : Bool) (view : LaneView) → IsOneToOneOnto (GivesView plan values bit view) (GivesView plan others bit view) (moved_tape plan.kinds values others bit)
 
 -- ---- all lanes of a challenge
 

@@ -9,7 +9,7 @@ use Rattle.vk_words.specs.Commands.{AsksNoKeeper, CommandWords, Seal, Verify, Ex
 use Rattle.vk_words.specs.declared.table.Verb.TheVariants as verbs
 use Rattle.vk_words.specs.Claims.{kind_named}
 use Rattle.vk_words.specs.Coins.{coin_by}
-use Rattle.vk_words.specs.Names.{confront_in, extract_in, name_at, verify_in, word_at}
+use Rattle.vk_words.specs.Names.{confront_in, extract_in, name_at, verify_in, nth_word}
 use Rattle.vk_words.specs.Orders.{seal_in}
 use Rattle.vk_words.specs.Table.{Row, commands, row_of}
 use Rattle.vk_words.proofs.Rows.{◌&◌, IfSome-find}
@@ -45,7 +45,7 @@ each_row =
     & (λ is. cc)
     & (λ is words. made ClaimVerify (λ names. tt) (verify_in words))
     & (λ is words. made ClaimExtract (λ names. tt) (extract_in words))
-    & (λ is words. made_behind (kind_named (word_at words 1)) _ (λ kind. made (ClaimSample kind) (λ number. tt) _))
+    & (λ is words. made_behind (kind_named (nth_word words 1)) _ (λ kind. made (ClaimSample kind) (λ number. tt) _))
     & (λ is words. made Coin (λ order. tt) (coin_by verbs.CoinPart words))
     & (λ is words. made Coin (λ order. tt) (coin_by verbs.CoinJoin words))
     & (λ is words. made Coin (λ order. tt) (coin_by verbs.CoinBoard words))
@@ -70,4 +70,4 @@ by_first (Some row) words each is = by_length (may_have row (length words)) (com
 
 pub asks_none : (words : List (List ℕ)) → IsFalse (first_asks words) → AsksNoKeeper (command_words words)
 unfolding command_words
-asks_none words is = by_first (row_of (word_at words 0)) words (of_word (word_at words 0)) is
+asks_none words is = by_first (row_of (nth_word words 0)) words (of_word (nth_word words 0)) is

@@ -14,7 +14,7 @@ use Rattle.vk_words.specs.Claims.{kind_named}
 use Rattle.vk_words.specs.Coins.{challenge_in, part_in}
 use Rattle.vk_words.specs.Commands.{command_by, command_words, may_have}
 use Rattle.vk_words.specs.Hints.{first_unfit, hint_by, hint_in, is_of_kind, kinds_of}
-use Rattle.vk_words.specs.Names.{AttemptWords, attempt_at, confront_in, extract_in, is_name, name_at, verify_in, word_at}
+use Rattle.vk_words.specs.Names.{AttemptWords, attempt_at, confront_in, extract_in, is_name, name_at, verify_in, nth_word}
 use Rattle.vk_words.specs.Orders.{Announce, AnnounceReserve, announced_on, id_at, if_other, seal_in, seed_at}
 use Rattle.vk_words.specs.Table.{Row, row_of}
 
@@ -54,9 +54,9 @@ and_true false = refl
 -- ---- names
 
 named : {B : Type 0} (words : List (List ℕ)) (place : ℕ) (f : List ℕ → Option B) (later : Bool)
-    → ((name : List ℕ) → is_some (f name) ≡ later) → is_some (name_at words place >>? f) ≡ is_name (word_at words place) && later
+    → ((name : List ℕ) → is_some (f name) ≡ later) → is_some (name_at words place >>? f) ≡ is_name (nth_word words place) && later
 named words place f later each =
-    of_then (name_at words place) f later (λ name _. each name) ∙ ap (λ t. t && later) (of_test (is_name (word_at words place)) (word_at words place))
+    of_then (name_at words place) f later (λ name _. each name) ∙ ap (λ t. t && later) (of_test (is_name (nth_word words place)) (nth_word words place))
 
 attempt_fits : (words : List (List ℕ)) (place : ℕ) → is_some (attempt_at words place) ≡ fit (Name ∷ Name ∷ []) words place
 unfolding attempt_at
@@ -109,12 +109,12 @@ seal_fits : (words : List (List ℕ)) → is_some (seal_in words) ≡ fit (kinds
 unfolding seal_in
 seal_fits words =
     of_then (id_at words 1) _ _ (λ auction _.
-    of_then (number_token 1 65535 (word_at words 2)) _ _ (λ seat _.
-    of_then (decimal_of (2 ^ 64 - 1) (word_at words 3)) _ _ (λ bid _.
-    of_then (number_token 1 40 (word_at words 4)) _ _ (λ width _.
-    of_then (number_token 1 64 (word_at words 5)) _ _ (λ lanes _.
+    of_then (number_token 1 65535 (nth_word words 2)) _ _ (λ seat _.
+    of_then (decimal_of (2 ^ 64 - 1) (nth_word words 3)) _ _ (λ bid _.
+    of_then (number_token 1 40 (nth_word words 4)) _ _ (λ width _.
+    of_then (number_token 1 64 (nth_word words 5)) _ _ (λ lanes _.
     of_then (seed_at words 6) _ _ (λ seed _.
-    others (is_name (word_at words 7)) (is_name (word_at words 8)) (word_at words 7) (word_at words 8) _))))))
+    others (is_name (nth_word words 7)) (is_name (nth_word words 8)) (nth_word words 7) (nth_word words 8) _))))))
 
 not_more : (count : ℕ) → nat_le count 4 ≡ not (nat_lt 4 count)
 not_more count = grind (arith, nat_tests)
@@ -126,28 +126,28 @@ of_five count read make else_this true few = rw few (of_map make read ∙ and_tr
 of_five count read make else_this false few = rw few refl
 
 -- the reserve of an auction, which may be left out
-reserve_fits : (id : List ℕ) (width lanes : ℕ) (words : List (List ℕ)) → number_token 1 40 (word_at words 2) ≡ Some width
+reserve_fits : (id : List ℕ) (width lanes : ℕ) (words : List (List ℕ)) → number_token 1 40 (nth_word words 2) ≡ Some width
     → is_some (announced_on id width lanes words) ≡ fit (Reserve ∷ []) words 4
 reserve_fits id width lanes words is =
-    rw is (of_five (length words) (decimal_of (2 ^ width - 1) (word_at words 4)) (AnnounceReserve id width lanes) (Announce id width lanes) (nat_lt 4 (length words)) (not_more (length words)))
+    rw is (of_five (length words) (decimal_of (2 ^ width - 1) (nth_word words 4)) (AnnounceReserve id width lanes) (Announce id width lanes) (nat_lt 4 (length words)) (not_more (length words)))
 
 announce_fits : (id : List ℕ) (words : List (List ℕ))
-    → is_some (number_token 1 40 (word_at words 2) >>? λ width. number_token 1 64 (word_at words 3) >>? λ lanes. announced_on id width lanes words) ≡ fit (Width ∷ Lanes ∷ Reserve ∷ []) words 2
+    → is_some (number_token 1 40 (nth_word words 2) >>? λ width. number_token 1 64 (nth_word words 3) >>? λ lanes. announced_on id width lanes words) ≡ fit (Width ∷ Lanes ∷ Reserve ∷ []) words 2
 announce_fits id words =
-    of_then (number_token 1 40 (word_at words 2)) _ _ (λ width is.
-    of_then (number_token 1 64 (word_at words 3)) _ _ (λ lanes _. reserve_fits id width lanes words is))
+    of_then (number_token 1 40 (nth_word words 2)) _ _ (λ width is.
+    of_then (number_token 1 64 (nth_word words 3)) _ _ (λ lanes _. reserve_fits id width lanes words is))
 
 part_fits : (words : List (List ℕ)) → is_some (part_in words) ≡ fit (kinds_of verbs.CoinPart) words 1
 unfolding part_in
 part_fits words =
     of_then (id_at words 1) _ _ (λ auction _.
-    of_then (number_token 1 16 (word_at words 2)) _ _ (λ auditor _.
-    of_then (number_token 1 64 (word_at words 3)) _ _ (λ lanes _.
+    of_then (number_token 1 16 (nth_word words 2)) _ _ (λ auditor _.
+    of_then (number_token 1 64 (nth_word words 3)) _ _ (λ lanes _.
     of_then (seed_at words 4) _ _ (λ seed _. named words 5 _ true (λ share. refl)))))
 
 challenge_fits : (words : List (List ℕ)) → is_some (challenge_in words) ≡ fit (kinds_of verbs.CoinJoin) words 1
 unfolding challenge_in
-challenge_fits words = others (is_name (word_at words 1)) (is_name (word_at words 2)) (word_at words 1) (word_at words 2) _
+challenge_fits words = others (is_name (nth_word words 1)) (is_name (nth_word words 2)) (nth_word words 1) (nth_word words 2) _
 
 fits : (verb : Verb) (words : List (List ℕ)) → is_some (command_by verb words) ≡ fit (kinds_of verb) words 1
 unfolding attempt_at
@@ -156,18 +156,18 @@ fits verbs.Announce words = of_map _ _ ∙ of_then (id_at words 1) _ _ (λ id _.
 fits verbs.Submit words = of_map _ _ ∙ of_then (id_at words 1) _ _ (λ id _. named words 2 _ _ (λ seal. named words 3 _ true (λ secret. refl)))
 fits verbs.Prove words = of_map _ _ ∙ of_then (id_at words 1) _ _ (λ id _. of_then (seed_at words 2) _ _ (λ seed _. named words 3 _ true (λ board. refl)))
 fits verbs.Answer words =
-    of_map _ _ ∙ of_then (id_at words 1) _ _ (λ id _. answered (is_name (word_at words 2)) (is_name (word_at words 3)) (word_at words 2) (word_at words 3) _)
+    of_map _ _ ∙ of_then (id_at words 1) _ _ (λ id _. answered (is_name (nth_word words 2)) (is_name (nth_word words 3)) (nth_word words 2) (nth_word words 3) _)
 fits verbs.Show words = of_map _ _ ∙ of_then (id_at words 1) _ true (λ id _. refl)
 fits verbs.Verify words = of_map _ (verify_in words) ∙ verify_fits words
 fits verbs.Extract words = of_map _ (extract_in words) ∙ extract_fits words
 fits verbs.Confront words = of_map _ (confront_in words) ∙ confront_fits words
-fits verbs.Report words = of_map _ (name_at words 1) ∙ (of_test (is_name (word_at words 1)) _ ∙ and_true _)
-fits verbs.Sample words = of_map _ (decimal_of (2 ^ 64 - 1) (word_at words 1)) ∙ and_true _
-fits verbs.Ceremony words = of_map _ (name_at words 1) ∙ (of_test (is_name (word_at words 1)) _ ∙ and_true _)
+fits verbs.Report words = of_map _ (name_at words 1) ∙ (of_test (is_name (nth_word words 1)) _ ∙ and_true _)
+fits verbs.Sample words = of_map _ (decimal_of (2 ^ 64 - 1) (nth_word words 1)) ∙ and_true _
+fits verbs.Ceremony words = of_map _ (name_at words 1) ∙ (of_test (is_name (nth_word words 1)) _ ∙ and_true _)
 fits verbs.ClaimVerify words = of_map _ (verify_in words) ∙ verify_fits words
 fits verbs.ClaimExtract words = of_map _ (extract_in words) ∙ extract_fits words
 fits verbs.ClaimSample words =
-    of_then (kind_named (word_at words 1)) _ _ (λ kind _. of_map _ (decimal_of (2 ^ 64 - 1) (word_at words 2)) ∙ and_true _)
+    of_then (kind_named (nth_word words 1)) _ _ (λ kind _. of_map _ (decimal_of (2 ^ 64 - 1) (nth_word words 2)) ∙ and_true _)
 fits verbs.CoinPart words = of_map _ _ ∙ of_map _ (part_in words) ∙ part_fits words
 fits verbs.CoinJoin words = of_map _ _ ∙ of_map _ (challenge_in words) ∙ challenge_fits words
 fits verbs.CoinBoard words = of_map _ _ ∙ of_map _ (challenge_in words) ∙ challenge_fits words
@@ -197,4 +197,4 @@ of_row (Some row) words = of_count row words (may_have row (length words))
 
 pub no_hint : (words : List (List ℕ)) → is_none (hint_in words) ≡ is_some (command_words words)
 unfolding hint_in command_words
-no_hint words = of_row (row_of (word_at words 0)) words
+no_hint words = of_row (row_of (nth_word words 0)) words

@@ -9,7 +9,7 @@ use Rattle.vk_words.specs.declared.coins.CoinOrder.TheVariants as orders
 use Rattle.vk_words.specs.declared.coins.PartOrder.{PartOrder}
 use Rattle.vk_words.specs.declared.table.Verb.{Verb}
 use Rattle.vk_words.specs.declared.table.Verb.TheVariants as verbs
-use Rattle.vk_words.specs.Names.{name_at, word_at}
+use Rattle.vk_words.specs.Names.{name_at, nth_word}
 use Rattle.vk_words.specs.Orders.{id_at, if_other, seed_at}
 
 -- what `coin-part` is to draw: the id of an auction, an auditor, the lanes and the seed, and the name of its file
@@ -60,8 +60,8 @@ IsCoinOrder order = Unit {0}
 unfoldable pub part_in : List (List ℕ) → Option PartWords
 part_in words =
     id_at words 1 >>? λ auction.
-    number_token 1 16 (word_at words 2) >>? λ auditor.
-    number_token 1 64 (word_at words 3) >>? λ lanes.
+    number_token 1 16 (nth_word words 2) >>? λ auditor.
+    number_token 1 64 (nth_word words 3) >>? λ lanes.
     seed_at words 4 >>? λ seed.
     name_at words 5 >>? λ share.
     Some (record { auction = auction; auditor = auditor; lanes = lanes; seed = seed; share = share })

@@ -10,7 +10,7 @@ use Rattle.vk_words.specs.declared.table.Verb.TheVariants as verbs
 use Rattle.vk_words.specs.Claims.{kind_named}
 use Rattle.vk_words.specs.declared.claim.ClaimKind.{ClaimKind}
 use Rattle.vk_words.specs.Coins.{CoinWords, IsCoinOrder, coin_by, coin_seen}
-use Rattle.vk_words.specs.Names.{ConfrontWords, ExtractWords, VerifyWords, confront_in, confront_seen, extract_in, extract_seen, name_at, verify_in, verify_seen, word_at}
+use Rattle.vk_words.specs.Names.{ConfrontWords, ExtractWords, VerifyWords, confront_in, confront_seen, extract_in, extract_seen, name_at, verify_in, verify_seen, nth_word}
 use Rattle.vk_words.specs.Orders.{HouseWords, IsHouseOrder, IsSealOrder, SealWords, house_by, house_seen, seal_in, seal_seen}
 use Rattle.vk_words.specs.Table.{Row, row_of}
 
@@ -52,7 +52,7 @@ IsCommand command = Unit {0}
 
 -- KIND NUMBER behind the first word
 abbrev pub claim_sample_in : List (List ℕ) → Option CommandWords
-claim_sample_in words = kind_named (word_at words 1) >>? λ kind. option_map (ClaimSample kind) (decimal_of (2 ^ 64 - 1) (word_at words 2))
+claim_sample_in words = kind_named (nth_word words 1) >>? λ kind. option_map (ClaimSample kind) (decimal_of (2 ^ 64 - 1) (nth_word words 2))
 
 -- the command of that first word, by the words behind it
 abbrev pub command_by : Verb → List (List ℕ) → Option CommandWords
@@ -61,7 +61,7 @@ command_by verbs.Verify words = option_map Verify (verify_in words)
 command_by verbs.Extract words = option_map Extract (extract_in words)
 command_by verbs.Confront words = option_map Confront (confront_in words)
 command_by verbs.Report words = option_map Report (name_at words 1)
-command_by verbs.Sample words = option_map Sample (decimal_of (2 ^ 64 - 1) (word_at words 1))
+command_by verbs.Sample words = option_map Sample (decimal_of (2 ^ 64 - 1) (nth_word words 1))
 command_by verbs.Ceremony words = option_map Ceremony (name_at words 1)
 command_by verbs.ClaimVerify words = option_map ClaimVerify (verify_in words)
 command_by verbs.ClaimExtract words = option_map ClaimExtract (extract_in words)
@@ -78,7 +78,7 @@ may_have row count = nat_le row.words count && nat_le count row.most
 -- the command that words are, if they are one: the first names it, and they are as many as it may have
 unfoldable pub command_words : List (List ℕ) → Option CommandWords
 command_words words =
-    row_of (word_at words 0) >>? λ row.
+    row_of (nth_word words 0) >>? λ row.
     if may_have row (length words) then command_by row.verb words else None
 
 -- a command that asks no keeper
@@ -89,7 +89,7 @@ AsksNoKeeper command = Unit {0}
 
 -- whether the first word is that of a command which asks the keeper of the house
 abbrev pub first_asks : List (List ℕ) → Bool
-first_asks words = option_map_or (λ row. row.asks_house) (row_of (word_at words 0)) false
+first_asks words = option_map_or (λ row. row.asks_house) (row_of (nth_word words 0)) false
 
 -- a command of the house
 abbrev pub house_in : CommandWords → Option HouseWords

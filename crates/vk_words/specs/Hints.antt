@@ -10,7 +10,7 @@ use Rattle.vk_words.specs.declared.table.Verb.{Verb}
 use Rattle.vk_words.specs.declared.table.Verb.TheVariants as verbs
 use Rattle.vk_words.specs.Claims.{kind_named}
 use Rattle.vk_words.specs.Commands.{may_have}
-use Rattle.vk_words.specs.Names.{is_name, word_at}
+use Rattle.vk_words.specs.Names.{is_name, nth_word}
 use Rattle.vk_words.specs.Orders.{id_at, seed_at}
 use Rattle.vk_words.specs.Table.{Row, row_of}
 
@@ -37,21 +37,21 @@ kinds_of verbs.CoinBoard = Name ∷ OtherName ∷ []
 
 -- the greatest reserve under the width that stands in the third word, 0 where no width stands there
 abbrev pub most_reserve : List (List ℕ) → ℕ
-most_reserve words = 2 ^ unwrap_or (number_token 1 40 (word_at words 2)) 0 - 1
+most_reserve words = 2 ^ unwrap_or (number_token 1 40 (nth_word words 2)) 0 - 1
 
 -- whether the word at that place is of the kind; a reserve may be left out
 abbrev pub is_of_kind : WordKind → List (List ℕ) → ℕ → Bool
 is_of_kind Id words place = is_some (id_at words place)
 is_of_kind Seed words place = is_some (seed_at words place)
-is_of_kind Seat words place = is_some (number_token 1 65535 (word_at words place))
-is_of_kind Auditor words place = is_some (number_token 1 16 (word_at words place))
-is_of_kind Width words place = is_some (number_token 1 40 (word_at words place))
-is_of_kind Lanes words place = is_some (number_token 1 64 (word_at words place))
-is_of_kind Number words place = is_some (decimal_of (2 ^ 64 - 1) (word_at words place))
-is_of_kind Reserve words place = nat_le (length words) place || is_some (decimal_of (most_reserve words) (word_at words place))
-is_of_kind Name words place = is_name (word_at words place)
-is_of_kind OtherName words place = is_name (word_at words place) && not (bytes_eq (word_at words (place - 1)) (word_at words place))
-is_of_kind Kind words place = is_some (kind_named (word_at words place))
+is_of_kind Seat words place = is_some (number_token 1 65535 (nth_word words place))
+is_of_kind Auditor words place = is_some (number_token 1 16 (nth_word words place))
+is_of_kind Width words place = is_some (number_token 1 40 (nth_word words place))
+is_of_kind Lanes words place = is_some (number_token 1 64 (nth_word words place))
+is_of_kind Number words place = is_some (decimal_of (2 ^ 64 - 1) (nth_word words place))
+is_of_kind Reserve words place = nat_le (length words) place || is_some (decimal_of (most_reserve words) (nth_word words place))
+is_of_kind Name words place = is_name (nth_word words place)
+is_of_kind OtherName words place = is_name (nth_word words place) && not (bytes_eq (nth_word words (place - 1)) (nth_word words place))
+is_of_kind Kind words place = is_some (kind_named (nth_word words place))
 
 -- the first word, from that place on, that isn't of the kind which stands for it
 unfoldable pub first_unfit : List WordKind → List (List ℕ) → ℕ → Option Hint
@@ -69,7 +69,7 @@ hint_by words None = Some Command
 hint_by words (Some row) = hint_on words row
 
 unfoldable pub hint_in : List (List ℕ) → Option Hint
-hint_in words = hint_by words (row_of (word_at words 0))
+hint_in words = hint_by words (row_of (nth_word words 0))
 
 -- ---- in words, for a person
 

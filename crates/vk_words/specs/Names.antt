@@ -11,12 +11,12 @@ abbrev pub is_name : List ℕ → Bool
 is_name word = nat_le 1 (length word) && nat_le (length word) 255
 
 -- the word that stands at that place, counted from 0
-abbrev pub word_at : List (List ℕ) → ℕ → List ℕ
-word_at words place = slice_index_or words place []
+abbrev pub nth_word : List (List ℕ) → ℕ → List ℕ
+nth_word words place = slice_index_or words place []
 
 -- the name that stands there
 abbrev pub name_at : List (List ℕ) → ℕ → Option (List ℕ)
-name_at words place = if is_name (word_at words place) then Some (word_at words place) else None
+name_at words place = if is_name (nth_word words place) then Some (nth_word words place) else None
 
 -- ---- by their bytes
 

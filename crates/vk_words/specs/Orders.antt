@@ -9,7 +9,7 @@ use Rattle.vk_words.specs.declared.orders.HouseOrder.TheVariants as orders
 use Rattle.vk_words.specs.declared.orders.SealOrder.{SealOrder}
 use Rattle.vk_words.specs.declared.table.Verb.{Verb}
 use Rattle.vk_words.specs.declared.table.Verb.TheVariants as verbs
-use Rattle.vk_words.specs.Names.{attempt_at, name_at, word_at}
+use Rattle.vk_words.specs.Names.{attempt_at, name_at, nth_word}
 
 -- what `seal` is to make: the id of an auction, a seat, a bid, the width, the lanes and the seed, and the names of its files
 pub record SealWords : Type 0 where
@@ -60,11 +60,11 @@ IsHouseOrder order = Unit {0}
 
 -- the id of 16 bytes at that place
 abbrev pub id_at : List (List ℕ) → ℕ → Option (List ℕ)
-id_at words place = hex_of 16 (word_at words place)
+id_at words place = hex_of 16 (nth_word words place)
 
 -- the seed of 32 bytes at that place
 abbrev pub seed_at : List (List ℕ) → ℕ → Option (List ℕ)
-seed_at words place = hex_of 32 (word_at words place)
+seed_at words place = hex_of 32 (nth_word words place)
 
 -- what is given, where the two names differ
 abbrev pub if_other : {X : Type 0} → List ℕ → List ℕ → X → Option X
@@ -74,10 +74,10 @@ if_other name other given = if bytes_eq name other then None else Some given
 unfoldable pub seal_in : List (List ℕ) → Option SealWords
 seal_in words =
     id_at words 1 >>? λ auction.
-    number_token 1 65535 (word_at words 2) >>? λ seat.
-    decimal_of (2 ^ 64 - 1) (word_at words 3) >>? λ bid.
-    number_token 1 40 (word_at words 4) >>? λ width.
-    number_token 1 64 (word_at words 5) >>? λ lanes.
+    number_token 1 65535 (nth_word words 2) >>? λ seat.
+    decimal_of (2 ^ 64 - 1) (nth_word words 3) >>? λ bid.
+    number_token 1 40 (nth_word words 4) >>? λ width.
+    number_token 1 64 (nth_word words 5) >>? λ lanes.
     seed_at words 6 >>? λ seed.
     name_at words 7 >>? λ secret.
     name_at words 8 >>? λ seal.
@@ -87,13 +87,13 @@ seal_in words =
 abbrev pub announced_on : (id : List ℕ) (width lanes : ℕ) → List (List ℕ) → Option HouseWords
 announced_on id width lanes words =
     if nat_lt 4 (length words)
-    then option_map (AnnounceReserve id width lanes) (decimal_of (2 ^ width - 1) (word_at words 4))
+    then option_map (AnnounceReserve id width lanes) (decimal_of (2 ^ width - 1) (nth_word words 4))
     else Some (Announce id width lanes)
 
 -- behind ID: WIDTH LANES, and RESERVE where there is one; SEAL SECRET; SEED BOARD; CHALLENGE REPLY, where the two files
 -- have different names; nothing
 abbrev pub house_on : List ℕ → Verb → List (List ℕ) → Option HouseWords
-house_on id verbs.Announce words = number_token 1 40 (word_at words 2) >>? λ width. number_token 1 64 (word_at words 3) >>? λ lanes. announced_on id width lanes words
+house_on id verbs.Announce words = number_token 1 40 (nth_word words 2) >>? λ width. number_token 1 64 (nth_word words 3) >>? λ lanes. announced_on id width lanes words
 house_on id verbs.Submit words = name_at words 2 >>? λ seal. name_at words 3 >>? λ secret. Some (Submit id seal secret)
 house_on id verbs.Prove words = seed_at words 2 >>? λ seed. name_at words 3 >>? λ board. Some (Prove id seed board)
 house_on id verbs.Answer words = attempt_at words 2 >>? λ attempt. if_other attempt.challenge attempt.reply (Answer id attempt.challenge attempt.reply)

@@ -6,7 +6,7 @@ use std::process::Abort;
 use std::test::Fail;
 use vk_bids::{Extraction, LaneBids};
 use vk_io::MemShelf;
-use vk_verifier::{AttemptNames, Fault, Part, TwoReplies};
+use vk_verifier::{OneReply, Fault, Part, TwoReplies};
 use vk_wire::WireFault;
 
 /// Whether the lane opens these numbers, in the order of the seals.
@@ -19,8 +19,8 @@ fn opens(lane: &LaneBids, numbers: &[u64]) -> bool {
 }
 
 /// The names of these files.
-fn named<'a>(file: &'a str, challenge: &'a str, reply: &'a str) -> AttemptNames<'a> {
-    AttemptNames {
+fn named<'a>(file: &'a str, challenge: &'a str, reply: &'a str) -> OneReply<'a> {
+    OneReply {
         file,
         challenge,
         reply,

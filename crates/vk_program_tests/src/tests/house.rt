@@ -4,7 +4,7 @@ use std::fs::{self, Permissions};
 use std::os::unix::fs::{PermissionsExt, symlink};
 use std::process::{Abort, ExitCode};
 use std::test::Fail;
-use vk_program::{House, StoreHouse};
+use vk_program::{HousePlace, StoreHouse};
 
 /// What the commands of the test leave in the current folder.
 const LEFT: [&str; 14] = [
@@ -157,7 +157,7 @@ fn answered(stop: &impl Abort, rt: &HostRuntime) -> Result<(), Fail> {
 }
 
 /// A store that is open is refused to another keeper, until it is closed.
-fn one_keeper_at_a_time<H: House>(
+fn one_keeper_at_a_time<H: HousePlace>(
     stop: &impl Abort,
     rt: &HostRuntime,
     house: &H,

@@ -10,7 +10,7 @@ use vk_files::NamedFault;
 use vk_io::{MemSink, OutsideErr, Shelf};
 use vk_keeper::MemKeeper;
 use vk_keeper_sql::OpenErr;
-use vk_program::{House, Settle, Unopened, end, program};
+use vk_program::{HousePlace, Settle, Unopened, end, program};
 
 /// A house in memory, which counts how often it is opened, may be refused then, and may fail as it is closed.
 #[derive(Drop)]
@@ -22,7 +22,7 @@ struct MemHouse<'a> {
     opened: &'a Cell<u32>,
 }
 
-impl House for MemHouse<'_> {
+impl HousePlace for MemHouse<'_> {
     type Kept = MemKeeper;
 
     fn is_made(&self) -> Result<bool, Unopened> {

@@ -1,7 +1,7 @@
 use Rattle.std.specs.FinMap.{empty}
 use Rattle.sqlite.specs.Held.{state}
 use Rattle.vk_keeper_sql.specs.Opening.{Prepares}
-use Rattle.vk_store_laws.specs.Telling.{Tells}
+use Rattle.vk_store_laws.specs.Telling.{TablesTell}
 use Rattle.vk_store_laws.proofs.Crashes.{at_once_alike}
 use Rattle.vk_store_laws.proofs.Making.{made_is_store}
 use Rattle.vk_store_laws.proofs.Opening.{prepared_new}
@@ -14,6 +14,6 @@ returns g c = record {
       let store = made_is_store g.S.Store old new blank made in
       (store.0, nothing_is_told (state g.S.Store new).now.trees store.1 store.2 store.3);
   crash = λ old new result blank.
-      at_once_alike (Prepares g.S.Store old) (λ trees. Tells trees empty) (state g.S.Store old) (state g.S.Store new) result
+      at_once_alike (Prepares g.S.Store old) (λ trees. TablesTell trees empty) (state g.S.Store old) (state g.S.Store new) result
       (λ trees. prepared_new g.S.Store old trees blank);
 }

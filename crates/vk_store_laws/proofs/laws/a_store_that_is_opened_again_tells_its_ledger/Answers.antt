@@ -1,7 +1,7 @@
 use Rattle.std.proofs.Common.{subst, sym}
 use Rattle.sqlite.specs.Held.{state}
 use Rattle.vk_keeper_sql.specs.Opening.{Prepares}
-use Rattle.vk_store_laws.specs.Telling.{Tells}
+use Rattle.vk_store_laws.specs.Telling.{TablesTell}
 use Rattle.vk_store_laws.proofs.Crashes.{at_once_alike}
 use Rattle.vk_store_laws.proofs.Opening.{prepared_stays}
 use Rattle.vk_store_laws.proofs.laws.a_store_that_is_opened_again_tells_its_ledger.Goals as goal
@@ -10,6 +10,6 @@ pub returns : goal.returns
 returns g c = record {
   same = prepared_stays g.S.Store;
   crash = λ old new ledger result store tells.
-      at_once_alike (Prepares g.S.Store old) (λ trees. Tells trees ledger) (state g.S.Store old) (state g.S.Store new) result
-      (λ trees made. subst (λ t. Tells t ledger) (sym (prepared_stays g.S.Store old trees store made)) tells);
+      at_once_alike (Prepares g.S.Store old) (λ trees. TablesTell trees ledger) (state g.S.Store old) (state g.S.Store new) result
+      (λ trees made. subst (λ t. TablesTell t ledger) (sym (prepared_stays g.S.Store old trees store made)) tells);
 }

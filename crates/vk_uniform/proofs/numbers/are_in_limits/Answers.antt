@@ -1,6 +1,6 @@
 use Rattle.std.proofs.Common.{◌<◌, All, sym, ◌∙◌, subst, arith}
 use Rattle.std.proofs.lemmas.List.{take_rest}
-use Rattle.vk_uniform.specs.Outcomes.{IsPosition, IsAscending}
+use Rattle.vk_uniform.specs.Outcomes.{IsPositionAmong, IsAscending}
 use Rattle.vk_uniform.specs.UniformPlans.{price_of}
 use Rattle.vk_uniform.proofs.numbers.are_in_limits.Goals as goal
 
@@ -16,7 +16,7 @@ returns-then-are_positions c =
         within_width =
             subst (λ n. price_of numbers < n) (c.get.ensures.value ∙ c.pow2.ensures) c.if-numbers-get.false;
         are_positions =
-            subst (All (IsPosition c.args.inputs)) rest (c.are_positions.ensures.0 c.if-are_positions.true);
+            subst (All (IsPositionAmong c.args.inputs)) rest (c.are_positions.ensures.0 c.if-are_positions.true);
         ascending = subst IsAscending rest (c.ascend.ensures.0 ascend);
       },
       λ limits. c.ascend.ensures.1 (subst IsAscending (sym rest) limits.ascending),
