@@ -1,6 +1,6 @@
 -- What `answer` writes is accepted, and every challenge is answered.
-use Rattle.std.proofs.Common.{◌≡◌, ℕ, Bool, List, length, map, Some, refl, ap, sym, subst, ◌∙◌, arith}
-use Rattle.std.specs.FinMap.{get, insert}
+use Rattle.std.proofs.Common.{◌≡◌, ℕ, Bool, List, length, map, refl, ap, sym, subst, ◌∙◌, arith}
+use Rattle.std.specs.FinMap.{insert}
 use Rattle.vk_residue.specs.Limits.{IsLaneCount}
 use Rattle.vk_io.specs.Files.{Files}
 use Rattle.vk_io.specs.Writing.{written}

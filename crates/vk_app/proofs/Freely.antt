@@ -1,13 +1,12 @@
 -- How `claim-sample matching` ends, from how it acts: it has no single effect.
-use Rattle.std.proofs.Common.{◌≡◌, ◌≢◌, ℕ, List, Option, Some, Result, Ok, Err, refl, ap, subst, inl, inr}
+use Rattle.std.proofs.Common.{◌≡◌, ◌≢◌, ℕ, List, Option, Some, Ok, Err, refl, ap, subst, inl, inr}
 use Rattle.std.specs.Prelude.{◌⊎◌}
 use Rattle.vk_io.specs.declared.errors.OutsideErr.{OutsideErr}
-use Rattle.vk_io.specs.Files.{Files, Told, Takes}
-use Rattle.vk_keeper.specs.Ledgers.{Ledger}
+use Rattle.vk_io.specs.Files.{Told, Takes}
 use Rattle.vk_words.specs.declared.claim.ClaimKind.TheVariants.{Uniform, Matching}
 use Rattle.vk_words.specs.Commands.{ClaimSample, CommandWords, command_words}
-use Rattle.vk_effect.specs.Effects.{Effect, Outside, SaidValue, Stores, outside, stores}
-use Rattle.vk_effect.specs.Ends.{Acts, Done, Ends, Stopped}
+use Rattle.vk_effect.specs.Effects.{Outside, SaidValue, Stores, outside}
+use Rattle.vk_effect.specs.Ends.{Acts, Ends}
 use Rattle.vk_effect.proofs.Acting.{done_at_end, stopped_acting, stopped_printing}
 use Rattle.vk_claim_sample.proofs.Acting.{some_matching_map}
 use Rattle.vk_app.specs.Commands.{CommandActsFreely, CommandEndsFreely}

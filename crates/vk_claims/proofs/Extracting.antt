@@ -1,5 +1,5 @@
 -- What `claim-extract` says holds of the files: of two replies that are accepted for different challenges, values or a clash, and of no others.
-use Rattle.std.proofs.Common.{◌≡◌, ◌≢◌, ℕ, ◌<◌, Bool, true, false, List, Option, Some, Result, Ok, Err, refl, sym, ap, subst, ◌∙◌, arith, inl, inr}
+use Rattle.std.proofs.Common.{◌≡◌, ◌≢◌, ℕ, Bool, true, false, List, Option, Some, Result, Ok, Err, refl, sym, ap, subst, ◌∙◌, arith, inl, inr}
 use Rattle.vk_io.specs.Files.{Files}
 use Rattle.vk_verifier.specs.declared.answers.Part.{Part}
 use Rattle.vk_verifier.specs.declared.answers.VErr.{VErr}
@@ -24,7 +24,7 @@ use Rattle.vk_audit.proofs.Telling.{only_found, only_same, second_refused, tells
 use Rattle.vk_claims.specs.Circuits.{admitted_plan, claimed, claims_are_sound, plans_are_right}
 use Rattle.vk_claims.specs.Extractions.{claim_extraction_said, claim_extract_said}
 use Rattle.vk_claims.specs.Findings.{ClaimExtractionHolds}
-use Rattle.vk_claims.specs.Statuses.{AcceptsSameClaims, AcceptsTwoClaims, ClaimExtractHolds, ExtractsClaimsExactly, HasClaimExtraction, IsClaimExtracted, PutsText, TellsClaimExtractions, TellsSameClaimsExactly}
+use Rattle.vk_claims.specs.Statuses.{AcceptsTwoClaims, ClaimExtractHolds, ExtractsClaimsExactly, HasClaimExtraction, IsClaimExtracted, PutsText, TellsClaimExtractions, TellsSameClaimsExactly}
 use Rattle.vk_claims.proofs.Findings.{extraction_holds, second_accepted, unfound_found}
 use Rattle.vk_claims.proofs.Verifying.{status_accepted, status_within}
 

@@ -1,5 +1,5 @@
 -- How a `coin-board` ends, by what the named file is.
-use Rattle.std.proofs.Common.{◌≡◌, ℕ, ◌^◌, ◌≤◌, Bool, if◌then◌else◌, List, length, Option, Some, Result, Ok, Err, refl, sym, ap, subst, ◌∙◌, arith}
+use Rattle.std.proofs.Common.{◌≡◌, ℕ, ◌^◌, if◌then◌else◌, List, length, Result, Ok, Err, refl, sym, ap, subst, ◌∙◌, arith}
 use Rattle.std.proofs.lemmas.Bool.{le-ltb}
 use Rattle.sha2.specs.Sha256.{sha256}
 use Rattle.sha2.proofs.Facts256.{length-sha256}
@@ -19,7 +19,7 @@ use Rattle.vk_report.proofs.Meaning.{is_reported, reported}
 use Rattle.vk_report.proofs.Refusals.{unreported_exactly}
 use Rattle.vk_audit.specs.Reports.{unreported_said}
 use Rattle.vk_words.specs.Coins.{ChallengeWords}
-use Rattle.vk_effect.specs.Effects.{DeedValue, writes_one}
+use Rattle.vk_effect.specs.Effects.{writes_one}
 use Rattle.vk_coin.specs.Derived.{derived_bits, derived_by, derived_message, derived_on}
 use Rattle.vk_coin.proofs.Deriving.{lane_bits}
 use Rattle.vk_coins.specs.Boards.{board_deed, derive_deed, derived_in, derived_said}

@@ -1,10 +1,10 @@
 -- How a `coin-join` ends, by what the named file is.
-use Rattle.std.proofs.Common.{◌≡◌, ◌≢◌, ℕ, List, [], ◌∷◌, Option, Some, None, Result, Ok, Err, refl, sym, ap, subst, ◌∙◌, arith}
+use Rattle.std.proofs.Common.{◌≡◌, ◌≢◌, ℕ, [], Option, Some, None, Result, Ok, Err, refl, ap, subst, ◌∙◌, arith}
 use Rattle.std.specs.Prelude.{IfErr}
 use Rattle.std.specs.Result.{result_err}
 use Rattle.vk_io.specs.Files.{Files}
 use Rattle.vk_words.specs.Coins.{ChallengeWords}
-use Rattle.vk_effect.specs.Effects.{DeedValue, SaidValue, only_says}
+use Rattle.vk_effect.specs.Effects.{SaidValue, only_says}
 use Rattle.vk_effect.specs.Reading.{named_in}
 use Rattle.vk_effect.proofs.NamedValues.{named_exactly, named_found, named_said, named_says}
 use Rattle.vk_coin.specs.declared.coin.Coin.{Coin}

@@ -1,5 +1,5 @@
 -- The value that a named file is read as, and what is said of others.
-use Rattle.std.proofs.Common.{◌≡◌, ◌≢◌, ℕ, List, [], ◌∷◌, Option, Some, None, Result, Ok, Err, refl, sym, ap, subst, ◌∙◌, arith}
+use Rattle.std.proofs.Common.{◌≡◌, ℕ, List, [], ◌∷◌, Option, Some, None, Result, Ok, Err, refl, sym, ap, subst, ◌∙◌, arith}
 use Rattle.std.specs.Prelude.{◌↔◌, IfErr, IfSome}
 use Rattle.std.specs.FinMap.{get}
 use Rattle.std.specs.Result.{result_err}
@@ -7,14 +7,14 @@ use Rattle.vk_residue.specs.Steps.{◌>>=◌}
 use Rattle.vk_io.specs.Files.{Files}
 use Rattle.vk_lines.specs.declared.errors.ReadErr.{ReadErr}
 use Rattle.vk_lines.specs.Forms.{IsWhole, Table, fault_line, whole}
-use Rattle.vk_lines.specs.Gives.{Gives, Refuses}
+use Rattle.vk_lines.specs.Gives.{Gives}
 use Rattle.vk_lines.specs.Lines.{LinesValue, GivesReading, ReadsPart, Rest, rest_of}
 use Rattle.vk_keeper.specs.Joining.{first_of}
 use Rattle.vk_effect.specs.declared.reading.Unread.{Unread}
 use Rattle.vk_effect.specs.Effects.{SaidValue}
 use Rattle.vk_effect.specs.NamedFiles.{malformed_said, missing_said, too_long_said}
 use Rattle.vk_effect.specs.Reading.{IsFileOf, begun_in, faulty_said, named_in, said_of_unread, unheld_said, value_in}
-use Rattle.vk_effect.proofs.NamedFiles.{begun_says, file_begun, file_read, file_said, part_told, same_Err, then_says, value_says, whole_found}
+use Rattle.vk_effect.proofs.NamedFiles.{begun_says, file_begun, file_read, file_said, part_told, then_says, value_says, whole_found}
 
 pub then_ok : {A B : Type 0} (answer : Result A SaidValue) (next : A → Result B SaidValue) (y : B) → (answer >>= next) ≡ Ok y → (x : A) × (answer ≡ Ok x) × (next x ≡ Ok y)
 then_ok (Ok x) next y is = (x, refl, is)
