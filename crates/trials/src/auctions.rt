@@ -3,7 +3,7 @@ use crate::asked::Asked;
 use crate::honest::{Honest, Terms, seat_at};
 use std::alloc::Global;
 use vk_app::run;
-use vk_cases::{Tried, words_of};
+use vk_cases::{Tried, lines_in, words_of};
 use vk_io::{MemShelf, MemSink, PieceShelf, Shelf, Sink};
 use vk_keeper::MemKeeper;
 use vk_lines::{end_line, push_decimal, push_space};
@@ -231,17 +231,6 @@ pub fn push_count(text: &mut Vec<u8>, word: &[u8], number: u64) -> Tried<()> {
     push_space(text)?;
     push_decimal(text, number)?;
     Ok(())
-}
-
-/// How many lines the named file has.
-pub fn lines_in(files: &MemShelf, name: &str) -> u64 {
-    let mut lines = 0u64;
-    for byte in files.file(name).unwrap_or(&[]) {
-        if *byte == b'\n' {
-            lines = lines.saturating_add(1);
-        }
-    }
-    lines
 }
 
 /// What `verify` says of the reply.

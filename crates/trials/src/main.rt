@@ -1,20 +1,14 @@
 //! Honest auctions and claims, whose files the library's own parts make and the program judges and extracts from;
-//! matchings that are proposed; samples over files that stay as they are; files that are cut short; and a fault at each
-//! call of a command. Of each it prints what came of it.
+//! matchings that are proposed; and samples over files that stay as they are. Of each it prints what came of it.
 #![tactic(auto)]
 
 mod asked;
 mod auctions;
 mod claims;
-mod commands;
-mod cuts;
 mod dry;
-mod faults;
 mod honest;
 mod proposals;
 mod samples;
-mod stops;
-mod world;
 mod written;
 
 use std::alloc::Global;
@@ -32,8 +26,6 @@ impl Replay for Trials {
         claims::try_claims(alloc, out)?;
         samples::try_samples(alloc, shelf, out)?;
         dry::try_dry(out)?;
-        cuts::try_cuts(alloc, shelf, out)?;
-        faults::try_faults(alloc, shelf, out)?;
         Ok(())
     }
 }

@@ -3,12 +3,14 @@
 #![tactic(auto)]
 
 mod cases;
+mod counting;
 mod replaying;
 mod unreplayed;
 mod watched;
 mod words;
 
 pub use cases::{behind, id_at, key_at, number_at, numbers_in, read_cases, residue_at, word_at};
+pub use counting::lines_in;
 pub use replaying::{Form, Replay, Replayed, replay_forms, replay_here};
 pub use unreplayed::{Tried, Unreplayed};
 pub use watched::WatchedShelf;

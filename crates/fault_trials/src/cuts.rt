@@ -1,9 +1,8 @@
 // The smallest board, a challenge and the reply to it, of which one is cut short.
-use crate::auctions::lines_in;
 use crate::commands::{SMALLEST, VERIFY};
 use crate::world::World;
 use std::alloc::Global;
-use vk_cases::{Tried, Unreplayed};
+use vk_cases::{Tried, Unreplayed, lines_in};
 use vk_io::{Shelf, Sink};
 use vk_lines::{end_line, push_decimal};
 

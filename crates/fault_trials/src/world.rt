@@ -1,5 +1,5 @@
 // What a command works on, in memory, and what it says.
-use crate::honest::ID;
+use crate::commands::ID;
 use std::alloc::Global;
 use vk_app::run;
 use vk_cases::{Tried, Unreplayed, behind, read_cases, words_of};

@@ -41,6 +41,9 @@ const HOUSE: &[&str] = &[
     "old",
 ];
 
+/// The id of the auction that the house has in them.
+pub const ID: [u8; 16] = [0, 1, 2, 3, 4, 5, 6, 7, 8, 9, 10, 11, 12, 13, 14, 15];
+
 /// `verify` over the smallest board.
 pub const VERIFY: &str = "verify board challenge-0 reply-0";
 
