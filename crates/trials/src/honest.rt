@@ -14,6 +14,7 @@ use vk_seq::Seq;
 use vk_vickrey::{BoardPlan, Sale, sale_of};
 use vk_wire::{Shown, WireTape};
 
+/// The id of each auction on trial.
 pub const ID: [u8; 16] = [0, 1, 2, 3, 4, 5, 6, 7, 8, 9, 10, 11, 12, 13, 14, 15];
 
 const AUCTIONEER: [u8; 32] = [0xa5; 32];

@@ -111,7 +111,7 @@ fn fill<C: Circuit>(alloc: Global, made: &Option<C>, inputs: &[u64]) -> Result<F
     }
 }
 
-/// The same numbers.
+/// The numbers, as residues.
 fn residues(alloc: Global, numbers: &[u64]) -> Result<Vec<Residue>, NoMemory>
     requires { All IsResidue numbers.now }
     ensures { IfOk result (λ same. same.items ≡ numbers.now) }

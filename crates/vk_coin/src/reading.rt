@@ -35,7 +35,7 @@ pub fn read_share<S: Shelf>(
     share
 }
 
-/// The same, part by part.
+/// Reads the lines of a share in turn.
 #[tactic(auto, unfolding(crate::specs::Reading::share_at))]
 fn share_read<S: Shelf>(alloc: Global, shelf: &mut S, lines: &mut Lines) -> Result<Share, ReadErr>
     ensures right { IfOk result IsShare }
@@ -88,7 +88,7 @@ pub fn read_coin<S: Shelf>(alloc: Global, shelf: &mut S, lines: &mut Lines) -> R
     coin
 }
 
-/// The same, part by part.
+/// Reads the lines of a coin in turn.
 #[tactic(auto, unfolding(crate::specs::Reading::coin_at))]
 fn coin_read<S: Shelf>(alloc: Global, shelf: &mut S, lines: &mut Lines) -> Result<Coin, ReadErr>
     ensures shelf { OnlyReads S.held S.Shelf.faults ReadErr.Failed result shelf.old shelf.new }

@@ -41,6 +41,7 @@ impl Model for Said {
 }
 
 impl Said {
+    /// The status, which is neither 6 nor 9, and the lines one after another.
     pub fn of_lines(status: u8, lines: Vec<String>) -> Said
         requires { IsEnd status }
         ensures { result ≡ record { status = status; text = flat_map string_bytes lines.items } }
@@ -62,6 +63,7 @@ impl Said {
         }
     }
 
+    /// The status, which is neither 6 nor 9, and one line. Errs for want of memory alone.
     pub fn of_line(alloc: Global, status: u8, line: &str) -> Result<Said, NoMemory>
         requires { IsEnd status }
         ensures { IfOk result (λ said. said ≡ record { status = status; text = line.now }) }
@@ -72,6 +74,7 @@ impl Said {
         Ok(Said::of_lines(status, lines))
     }
 
+    /// The status that the command ends with, which is neither 6 nor 9.
     pub fn status(&self) -> u8
         ensures value { result ≡ self.now.status }
         ensures end { IsEnd result }

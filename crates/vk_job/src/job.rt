@@ -70,6 +70,7 @@ impl Job {
         })
     }
 
+    /// The auction that is proved.
     pub fn auction(&self) -> &Auction
         ensures value { result.now ≡ self.now.auction }
         ensures proved { IsProvedAuction self.now.auction }

@@ -128,7 +128,7 @@ impl<'a> HonestProof<'a> {
         }
     }
 
-    /// The same as it is drawn.
+    /// Draws the tape of the lane. Errs where the seed is dry, and for want of memory.
     #[tactic(auto, unfolding(crate::specs::Proofs::drawn_in))]
     fn drawn(&self, alloc: Global, lane: u32) -> Result<LaneTape, DrawErr>
         requires some { 1 ≤ lane }

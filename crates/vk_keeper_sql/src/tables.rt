@@ -26,6 +26,7 @@ const MAKE_AUCTIONS: &str =
 const MAKE_SEALS: &str =
     "CREATE TABLE seal (id BLOB NOT NULL, position INTEGER NOT NULL, seat INTEGER NOT NULL, seal TEXT NOT NULL, secret TEXT NOT NULL, PRIMARY KEY (id, position), UNIQUE (id, seat))";
 
+/// The table of what an auction has since stores of number 2: the version of its board, and its reserve.
 pub const MAKE_TERMS: &str =
     "CREATE TABLE terms (id BLOB PRIMARY KEY NOT NULL, version INTEGER NOT NULL, reserve INTEGER NOT NULL)";
 
@@ -66,7 +67,7 @@ fn prepare_at_once<S: Alter>(connection: &mut Connection<S>, layout: Layout) -> 
     }
 }
 
-/// The same, within a transaction.
+/// Makes or lifts the tables within a transaction.
 fn prepare_within<S: Alter>(
     transaction: &mut Transaction<'_, S>,
     layout: Layout,

@@ -325,7 +325,7 @@ fn nothing_left(step: Step, before: u64) -> Result<(), ReadErr>
     answer
 }
 
-/// The same, by the step alone.
+/// What a step that should be the end comes to, after so many lines.
 fn end_answer(step: Step, before: u64) -> Result<(), ReadErr>
     requires { before ≤ 2 ^ 30 }
     ensures { result ≡ answer_by (is_end step) before }

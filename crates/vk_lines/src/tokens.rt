@@ -21,7 +21,7 @@ pub fn read_decimal(text: &[u8], most: u64) -> Option<u64>
     number
 }
 
-/// The same, by its value alone.
+/// The number of a canonical decimal of at most `most`. `None` for every other text.
 fn number_of(text: &[u8], most: u64) -> Option<u64>
     ensures { result ≡ decimal_of most text.now }
 {

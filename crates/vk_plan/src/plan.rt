@@ -45,6 +45,7 @@ impl Plan {
         })
     }
 
+    /// How many of the wires are inputs: those of the seals, which stand first.
     pub fn inputs(&self) -> u32
         ensures value { result ≡ self.now.inputs }
         ensures plan { IsPlan self.now }
@@ -52,6 +53,7 @@ impl Plan {
         self.inputs
     }
 
+    /// How many wires a lane has, the inputs among them.
     pub fn wires(&self) -> u32
         ensures value { result ≡ length self.now.kinds }
         ensures plan { IsPlan self.now }
@@ -59,6 +61,7 @@ impl Plan {
         self.kinds.len() as u32
     }
 
+    /// How many rows a lane has.
     pub fn rows(&self) -> u32
         ensures value { result ≡ length self.now.rows }
         ensures plan { IsPlan self.now }

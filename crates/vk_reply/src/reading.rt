@@ -37,7 +37,7 @@ pub fn read_challenge<S: Shelf>(
     challenge
 }
 
-/// The same, part by part.
+/// Reads the lines of a challenge in turn.
 #[tactic(auto, unfolding(crate::specs::Reading::challenge_at))]
 fn challenge_read<S: Shelf>(
     alloc: Global,

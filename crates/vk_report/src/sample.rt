@@ -71,7 +71,7 @@ pub fn case_of(alloc: Global, sizes: &Sizes, number: u64) -> Result<SampleCase, 
     Ok(case)
 }
 
-/// The same, part by part.
+/// Makes the parts of the sample in turn.
 #[tactic(auto, unfolding(crate::specs::Samples::case_of))]
 fn made_case(alloc: Global, sizes: &Sizes, number: u64) -> Result<SampleCase, NoMemory>
     requires { AreSizes sizes.now }

@@ -37,7 +37,7 @@ pub fn read_seal<S: Shelf>(alloc: Global, shelf: &mut S, lines: &mut Lines) -> R
     seal
 }
 
-/// The same, part by part.
+/// Reads the lines of a seal in turn.
 #[tactic(auto, unfolding(crate::specs::Reading::seal_at))]
 fn seal_read<S: Shelf>(alloc: Global, shelf: &mut S, lines: &mut Lines) -> Result<Seal, ReadErr>
     ensures told { ReadsPart seal_at (S.held shelf.old) lines.old lines.new result }
@@ -145,7 +145,7 @@ pub fn read_secret<S: Shelf>(
     secret
 }
 
-/// The same, part by part.
+/// Reads the lines of a secret in turn.
 #[tactic(auto, unfolding(crate::specs::Reading::secret_at))]
 fn secret_read<S: Shelf>(alloc: Global, shelf: &mut S, lines: &mut Lines) -> Result<Secret, ReadErr>
     ensures told { ReadsPart secret_at (S.held shelf.old) lines.old lines.new result }

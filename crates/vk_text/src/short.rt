@@ -75,6 +75,7 @@ impl ShortText {
         ShortText { bytes: text }
     }
 
+    /// The text as bytes.
     pub fn as_bytes(&self) -> &[u8]
         ensures { result.now ≡ self.now }
     {

@@ -17,7 +17,7 @@ pub(crate) fn copy_at(inputs: u32, position: u32) -> u32
     inputs + (position - 1)
 }
 
-/// The same of each position.
+/// The wires of the copies of the bids at these positions.
 pub(crate) fn copies_at(alloc: Global, inputs: u32, positions: &[u32]) -> Result<Vec<u32>, NoMemory>
     requires few { inputs ≤ 64 }
     requires positions { All (IsPositionAmong inputs) positions.now }
@@ -68,7 +68,7 @@ fn push_wins_of(
     Ok(())
 }
 
-/// The same of each winner.
+/// Each winner's copy less each loser's, less 1 where the loser stands before.
 pub(crate) fn push_wins(
     alloc: Global,
     inputs: u32,

@@ -53,7 +53,7 @@ fn ascend(numbers: &[u64]) -> bool
     true
 }
 
-/// The same positions.
+/// The positions, in 32 bits each.
 pub(crate) fn narrowed(alloc: Global, positions: &[u64]) -> Result<Vec<u32>, NoMemory>
     requires { All (λ position. position < 4294967296) positions.now }
     ensures { IfOk result (λ narrow. narrow.items ≡ positions.now) }

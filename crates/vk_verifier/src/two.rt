@@ -134,7 +134,7 @@ impl LaneChecker {
         }
     }
 
-    /// The same, without the rest.
+    /// The statement alone: what is to be shown lane by lane.
     pub fn into_statement(self) -> Statement
         requires { HasBase self }
         ensures value { IfSome (base_of self) (λ base. base.statement ≡ result) }

@@ -38,7 +38,7 @@ impl BoardPlan {
         }
     }
 
-    /// The same of version 1.
+    /// The plan of a board of version 1. None where these numbers are not within their limits.
     fn first(seals: u32, width: u32, reserve: u64, sale: Sale) -> Option<BoardPlan>
         ensures admitted { IsSome result ↔ IsBoardCase (board_numbers 1 seals width reserve sale) }
         ensures numbers { IfSome result (λ plan. numbers_of plan ≡ board_numbers 1 seals width reserve sale) }
