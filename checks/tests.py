@@ -79,7 +79,9 @@ def rows():
     for program, what in (("vectors", parts), ("conformance", wholes)):
         yield (f"`{program}`, a program that replays what independent implementations worked out",
                f"{what}; {lines(program, 'stdout')} lines", "`rt run` in the crate")
-    for program, what in (("trials", "whole auctions and claims, matchings, cut files, a fault at each call"), ("far_trials", "the largest files, and damage at far places")):
+    for program, what in (("trials", "whole auctions and claims, matchings, and samples over files that stay as they are"),
+                          ("fault_trials", "cut files, and a fault at each call"),
+                          ("far_trials", "the largest files, and damage at far places")):
         yield f"`{program}`, a program that tries {what}", f"{lines(program, 'stdout')} lines", "`rt run` in the crate"
     with open(os.path.join(TOP, "crates", "vickrey", "args"), encoding="utf-8") as file:
         words = " ".join(file.read().split())

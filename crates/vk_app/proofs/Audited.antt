@@ -84,9 +84,9 @@ module _ (files : Files) (ledger : Option Ledger) (words : List (List ℕ)) (sta
     };
   }
 
--- ---- as far as the files are told
+-- ---- as far as the files are modelled
 
--- so it is told of the files that are told
+-- so it is said of the files where they are modelled
 abbrev TellsOf : (Files → List (List ℕ) → ℕ → Option (List ℕ) → Option (List ℕ) → Type 0) → Type 0
 TellsOf P = (held : Option Files) (ledger : Option Ledger) (words : List (List ℕ)) (status : ℕ) (old : Option (List ℕ)) (new : Outside)
     → IfSome (work_on held ledger words) (λ work. DoesWork status work (outside (stores held ledger) old) new) → IfSome held (λ files. P files words status old new.taken)

@@ -2,7 +2,7 @@
 use Rattle.std.proofs.Common.{◌≡◌, ◌≢◌, ℕ, List, Option, Some, Ok, Err, refl, ap, subst, inl, inr}
 use Rattle.std.specs.Prelude.{◌⊎◌}
 use Rattle.vk_io.specs.declared.errors.OutsideErr.{OutsideErr}
-use Rattle.vk_io.specs.Files.{Told, Takes}
+use Rattle.vk_io.specs.Files.{Modelled, Takes}
 use Rattle.vk_words.specs.declared.claim.ClaimKind.TheVariants.{Uniform, Matching}
 use Rattle.vk_words.specs.Commands.{ClaimSample, CommandWords, command_words}
 use Rattle.vk_effect.specs.Effects.{Outside, SaidValue, Stores, outside}
@@ -26,7 +26,7 @@ module _ (old new : Stores) (taken now : Option (List ℕ)) where
   acting_freely command stop other acts = tt
 
   -- it was stopped while it printed
-  pub printing_freely : {E : Type 0} (command : Option CommandWords) (said : SaidValue) (refusal : E) (stop : OutsideErr) → CommandActsFreely command (Ok said) old new → Told (Takes said.text (Err refusal)) taken now
+  pub printing_freely : {E : Type 0} (command : Option CommandWords) (said : SaidValue) (refusal : E) (stop : OutsideErr) → CommandActsFreely command (Ok said) old new → Modelled (Takes said.text (Err refusal)) taken now
       → CommandEndsFreely command (Err stop) (outside old taken) (outside new now)
   printing_freely (Some (ClaimSample Uniform number)) said refusal stop acts told = tt
   printing_freely (Some (ClaimSample Matching number)) said refusal stop acts told =
@@ -35,7 +35,7 @@ module _ (old new : Stores) (taken now : Option (List ℕ)) where
   printing_freely command said refusal stop acts told = tt
 
   -- it came to its end
-  pub ended_freely : (command : Option CommandWords) (said : SaidValue) (status : ℕ) → status ≡ said.status → CommandActsFreely command (Ok said) old new → Told (Takes {E = OutsideErr} said.text (Ok tt)) taken now
+  pub ended_freely : (command : Option CommandWords) (said : SaidValue) (status : ℕ) → status ≡ said.status → CommandActsFreely command (Ok said) old new → Modelled (Takes {E = OutsideErr} said.text (Ok tt)) taken now
       → CommandEndsFreely command (Ok status) (outside old taken) (outside new now)
   ended_freely (Some (ClaimSample Uniform number)) said status same acts told = tt
   ended_freely (Some (ClaimSample Matching number)) said status same acts told =

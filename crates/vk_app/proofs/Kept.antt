@@ -138,9 +138,9 @@ module _ (files : Files) (ledger : Ledger) (words : List (List ℕ)) (status : �
     command = λ order asks. neither _ status is;
   }
 
--- ---- as far as it is told
+-- ---- as far as it is modelled
 
--- what follows where files and a ledger are told
+-- what follows where files and a ledger are modelled
 told_both : (P : Files → Ledger → Type 0) (Q : Option Files → Option Ledger → Type 0) → ((files : Files) (ledger : Ledger) → Q (Some files) (Some ledger) → P files ledger) → (held : Option Files) (ledger : Option Ledger) → Q held ledger
     → IfSome held (λ files. IfSome ledger (λ kept. P files kept))
 told_both P Q each None ledger is = tt

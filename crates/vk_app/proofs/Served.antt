@@ -187,7 +187,7 @@ served_keeps (Some orders) files ledger acts held kept to =
 no_act : (act : HouseAct) → Contains [] act → ⊥
 no_act act (k, below, at) = omega arith
 
--- what is kept is told
+-- what is kept is modelled
 kept_told : (meant : Option (List HouseWords)) (files : Files) (ledger : Ledger) (acts : List HouseAct) (held : Option Files) (kept : Option Ledger) → PerformsAt meant files ledger acts held kept → (last : Ledger) × (kept ≡ Some last)
 kept_told None files ledger acts held kept performs = (ledger, performs.1)
 kept_told (Some orders) files ledger acts held kept to = (to.last, to.kept_is)

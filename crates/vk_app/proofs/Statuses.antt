@@ -290,7 +290,7 @@ audited files (audits.Report board) = by_answer _ _ (report_on files board) (λ 
 
 -- ---- no end with that status
 
--- an end of what is told has another status
+-- an end of what is known has another status
 two_told : {X : Type 0} (Ends : X → Type 0) (status_of : X → ℕ) (found : Option X) (status : ℕ) → IsSomeAnd found (λ x. IsOther (status_of x)) → IfSome found Ends → ((x : X) → Ends x → status ≡ status_of x) → status ≡ 2 → ⊥
 two_told Ends status_of None status told ends is two = absurd told
 two_told Ends status_of (Some x) status told ends is two = absurd (cc (told, is x ends, two))

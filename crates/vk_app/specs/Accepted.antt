@@ -48,8 +48,8 @@ ChallengesAreAnswered =
     → IsAsked files ledger id challenge_name auction seed challenge
     → (answer_effect files ledger id challenge_name reply).status ≡ 0
 
--- a reply that is left, whatever the keeper tells: the file of the challenge's name held the challenge's text, and with that
--- the reply is accepted with the board of its auction
+-- a reply that is left, whether or not the keeper is modelled: the file of the challenge's name held the challenge's
+-- text, and with that the reply is accepted with the board of its auction
 abbrev pub LeftRepliesAreAccepted : Type 0
 LeftRepliesAreAccepted =
     (id challenge_name reply : List ℕ) (old new : Files) (auction : Auction) (challenge : Challenge)

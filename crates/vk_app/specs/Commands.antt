@@ -27,16 +27,16 @@ usage_said = record { status = 2; text = usage_text }
 
 -- ---- by the words
 
--- an auditor's command has its effect over files that are told
+-- an auditor's command has its effect over files that are modelled
 abbrev pub audit_on : Option Files → Option Ledger → AuditWords → Option Effect
-audit_on files ledger order = option_map (λ told. says ledger (audit_said told order)) files
+audit_on files ledger order = option_map (λ modelled. says ledger (audit_said modelled order)) files
 
 -- and so has a command on claims
 abbrev pub claim_on : Option Files → Option Ledger → ClaimWords → Option Effect
-claim_on files ledger order = option_map (λ told. says ledger (claim_said told order)) files
+claim_on files ledger order = option_map (λ modelled. says ledger (claim_said modelled order)) files
 
--- what reads nothing has its effect over any files, and what asks the house over a ledger that is told. A ceremony is
--- no single command, and `claim-sample matching` has no single effect
+-- what reads nothing has its effect over any files, and what asks the house over a ledger that is modelled. A ceremony
+-- is no single command, and `claim-sample matching` has no single effect
 abbrev pub command_effect : Option Files → Option Ledger → Option CommandWords → Option Effect
 command_effect files ledger None = Some (says ledger usage_said)
 command_effect files ledger (Some (Seal order)) = seal_on ledger order

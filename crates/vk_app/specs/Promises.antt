@@ -1,7 +1,7 @@
--- What `run` promises, one record for each family of commands, over files and a ledger that are told.
+-- What `run` promises, one record for each family of commands, over files and a ledger that are modelled.
 use Rattle.std.specs.Prelude.{◌≡◌, ◌≢◌, ◌⊎◌, ℕ, ◌^◌, ◌<◌, ◌≤◌, Bool, List, [], length, Option, Some, None}
 use Rattle.std.specs.FinMap.{get}
-use Rattle.vk_io.specs.Files.{Files, Told}
+use Rattle.vk_io.specs.Files.{Files, Modelled}
 use Rattle.vk_keeper.specs.Ledgers.{Ledger}
 use Rattle.vk_words.specs.Commands.{CommandWords, ClaimExtract, ClaimVerify, Confront, Extract, House, Report, Verify, command_words}
 use Rattle.vk_words.specs.Commands as commands
@@ -127,15 +127,15 @@ abbrev pub HoldsCeremony : Files → Ledger → List (List ℕ) → ℕ → Opti
 HoldsCeremony files ledger words status held kept old new =
     (script : List ℕ) → command_words words ≡ Some (commands.Ceremony script) → status ≢ 6 → status ≢ 9 → CeremonyIsDone script files ledger status held kept old new
 
--- ---- the files, whatever the keeper tells
+-- ---- the files, whether or not the keeper is modelled
 
--- what a single command leaves of files that are told, ended with that status: said of the house's
+-- what a single command leaves of files that are modelled, ended with that status: said of the house's
 abbrev pub CommandLeaves : Option CommandWords → (status : ℕ) → (held now : Option Files) → Type 0
-CommandLeaves (Some (House order)) status held now = Told (LeavesFiles order status) held now
+CommandLeaves (Some (House order)) status held now = Modelled (LeavesFiles order status) held now
 CommandLeaves command status held now = Unit {0}
 
 abbrev pub LeavesBy : Option (List ℕ) → Option CommandWords → (status : ℕ) → (held now : Option Files) → Type 0
-LeavesBy (Some script) command status held now = Told (CeremonyLeaves script status) held now
+LeavesBy (Some script) command status held now = Modelled (CeremonyLeaves script status) held now
 LeavesBy None command status held now = CommandLeaves command status held now
 
 -- the same of whatever words, and of a ceremony command by command: with status 0 a board is that of some auction that is

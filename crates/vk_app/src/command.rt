@@ -2,7 +2,7 @@
 
 ghost use Rattle.std.specs.Prelude.{◌≡◌, ◌≢◌, ◌⊎◌, ℕ, Option, IfSome, IfOk, Some, map, option_map, string_bytes};
 ghost use Rattle.vk_io.specs.Faults.{Causes, Rose};
-ghost use Rattle.vk_io.specs.Files.{Told};
+ghost use Rattle.vk_io.specs.Files.{Modelled};
 ghost use Rattle.vk_keeper.specs.Ledgers.{Ledger};
 ghost use Rattle.vk_words.specs.Commands.{AsksNoKeeper, ClaimSample, Coin, IsCommand, Seal, command_seen, command_words};
 ghost use Rattle.vk_words.specs.declared.claim.ClaimKind.TheVariants.{Matching};
@@ -72,7 +72,7 @@ fn act<S: Shelf, K: Keeper + Drop>(
     ensures free { CommandActsFreely (option_map command_seen command.entry) result
         (stores (S.held shelf.old) (K.ledger keeper.old)) (stores (S.held shelf.new) (K.ledger keeper.new)) }
     ensures files { IfOk result (λ said. CommandLeaves (option_map command_seen command.entry) said.status (S.held shelf.old) (S.held shelf.new)) }
-    ensures once { Told KeepsAnswers (K.ledger keeper.old) (K.ledger keeper.new) }
+    ensures once { Modelled KeepsAnswers (K.ledger keeper.old) (K.ledger keeper.new) }
     ensures keeper { AsksNoKeeper (option_map command_seen command.entry)
         → (K.ledger keeper.new ≡ K.ledger keeper.old) × (K.Keeper.faults keeper.new ≡ K.Keeper.faults keeper.old) }
     ensures causes { CausesTwo OutsideErr.Failed result (S.Shelf.faults shelf.old) (S.Shelf.faults shelf.new)
@@ -144,7 +144,7 @@ fn answer<S: Shelf, K: Keeper + Drop, W: Sink>(
         (outside (stores (S.held shelf.new) (K.ledger keeper.new)) (W.taken out.new)) }
     ensures end { IfOk result IsEnd }
     ensures files { IfOk result (λ status. CommandLeaves (option_map command_seen command.entry) status (S.held shelf.old) (S.held shelf.new)) }
-    ensures once { Told KeepsAnswers (K.ledger keeper.old) (K.ledger keeper.new) }
+    ensures once { Modelled KeepsAnswers (K.ledger keeper.old) (K.ledger keeper.new) }
     ensures keeper { AsksNoKeeper (option_map command_seen command.entry)
         → (K.ledger keeper.new ≡ K.ledger keeper.old) × (K.Keeper.faults keeper.new ≡ K.Keeper.faults keeper.old) }
     ensures causes { CausesThree OutsideErr.Failed result (S.Shelf.faults shelf.old) (S.Shelf.faults shelf.new)
@@ -192,7 +192,7 @@ fn perform<S: Shelf, K: Keeper + Drop, W: Sink>(
         (outside (stores (S.held shelf.new) (K.ledger keeper.new)) (W.taken out.new)) }
     ensures end { IfOk result IsEnd }
     ensures files { IfOk result (λ status. RunLeaves (map string_bytes words.now) status (S.held shelf.old) (S.held shelf.new)) }
-    ensures once { Told KeepsAnswers (K.ledger keeper.old) (K.ledger keeper.new) }
+    ensures once { Modelled KeepsAnswers (K.ledger keeper.old) (K.ledger keeper.new) }
     ensures keeper { AsksNoKeeper (command_words (map string_bytes words.now))
         → (K.ledger keeper.new ≡ K.ledger keeper.old) × (K.Keeper.faults keeper.new ≡ K.Keeper.faults keeper.old) }
     ensures causes { CausesThree OutsideErr.Failed result (S.Shelf.faults shelf.old) (S.Shelf.faults shelf.new)
@@ -266,8 +266,8 @@ pub fn run<S: Shelf, K: Keeper + Drop, W: Sink>(
     ensures ceremony { IfSome (S.held shelf.old) (λ files. IfSome (K.ledger keeper.old) (λ ledger.
         HoldsCeremony files ledger (map string_bytes words.now) result (S.held shelf.new) (K.ledger keeper.new) (W.taken out.old) (W.taken out.new))) }
 
-    // Whatever the keeper tells, as a database that tells nothing: what a command of the house, or a ceremony, leaves of the
-    // files. A board is that of some proved auction, and a reply is one to the challenge of the named file.
+    // Whether or not the keeper is modelled, as a database isn't: what a command of the house, or a ceremony, leaves
+    // of the files. A board is that of some proved auction, and a reply is one to the challenge of the named file.
     ensures files { result ≢ 6 → result ≢ 9 → RunLeaves (map string_bytes words.now) result (S.held shelf.old) (S.held shelf.new) }
 
     // Status 2 is that the words are no command.
@@ -276,7 +276,7 @@ pub fn run<S: Shelf, K: Keeper + Drop, W: Sink>(
 
     // Whatever the words and the status, an auction that was answered is the same after, and one that was proved has its
     // seed and its seals.
-    ensures once { Told KeepsAnswers (K.ledger keeper.old) (K.ledger keeper.new) }
+    ensures once { Modelled KeepsAnswers (K.ledger keeper.old) (K.ledger keeper.new) }
 
     // A command that asks no keeper leaves it alone.
     ensures keeper { AsksNoKeeper (command_words (map string_bytes words.now))

@@ -25,8 +25,8 @@ pub fn every_answer_of_an_auction_is_the_same()
 {}
 
 /// A law: what `answer` writes is accepted with the board of the ledger's auction and the challenge of the file; and where
-/// the keeper tells no ledger, with the board of the auction whose reply is left. And every challenge with a bit for each
-/// lane is answered, so there is none that the auctioneer can't answer: so is the one that its board's bytes give.
+/// the keeper isn't modelled, with the board of the auction whose reply is left. And every challenge with a bit for
+/// each lane is answered, so there is none that the auctioneer can't answer: so is the one that its board's bytes give.
 pub fn what_is_answered_is_accepted()
     ensures accepted { RepliesAreAccepted }
     ensures left { LeftRepliesAreAccepted }

@@ -3,7 +3,7 @@ use Rattle.std.proofs.Common.{◌≡◌, ℕ, List, [], ◌∷◌, Option, Some,
 use Rattle.std.specs.Prelude.{IfSome}
 use Rattle.std.specs.List.{concat}
 use Rattle.vk_io.specs.declared.errors.OutsideErr.{OutsideErr}
-use Rattle.vk_io.specs.Files.{Files, Told}
+use Rattle.vk_io.specs.Files.{Files, Modelled}
 use Rattle.vk_io.specs.Writing.{written, WritesAll}
 use Rattle.vk_lines.specs.Gives.{Gives}
 use Rattle.vk_keeper.specs.Ledgers.{Ledger}
@@ -26,21 +26,21 @@ use Rattle.vk_auctioneer.specs.Effects.{Writes, asked, effect_by, if_read, on_bo
 
 -- ---- files
 
-no_files_left : (T : Type 0) (stop : OutsideErr) (held now : Option Files) → Told (Leaves {T = T} [] (Err stop)) held now → now ≡ held
+no_files_left : (T : Type 0) (stop : OutsideErr) (held now : Option Files) → Modelled (Leaves {T = T} [] (Err stop)) held now → now ≡ held
 no_files_left T stop None now left = left
 no_files_left T stop (Some files) None left = absurd left
 no_files_left T stop (Some files) (Some later) left = ap Some left
 
 -- a file that was written in pieces holds the text that they make
-pub text_done : (name text : List ℕ) (pieces : List (List ℕ)) (said : SaidValue) (held now : Option Files) → concat pieces ≡ text → Told (WritesAll {E = OutsideErr} ((name, concat pieces) ∷ []) (Ok tt)) held now → Told (Leaves ((name, text) ∷ []) (Ok said)) held now
-text_done name text pieces said held now is left = subst (λ t. Told (Leaves ((name, t) ∷ []) (Ok said)) held now) is left
+pub text_done : (name text : List ℕ) (pieces : List (List ℕ)) (said : SaidValue) (held now : Option Files) → concat pieces ≡ text → Modelled (WritesAll {E = OutsideErr} ((name, concat pieces) ∷ []) (Ok tt)) held now → Modelled (Leaves ((name, text) ∷ []) (Ok said)) held now
+text_done name text pieces said held now is left = subst (λ t. Modelled (Leaves ((name, t) ∷ []) (Ok said)) held now) is left
 
 -- one whose writing was stopped holds a part of it
-pub text_stopped : (name text : List ℕ) (pieces : List (List ℕ)) (stop : OutsideErr) (held now : Option Files) → concat pieces ≡ text → Told (WritesAll ((name, concat pieces) ∷ []) (Err stop)) held now → Told (Leaves {T = SaidValue} ((name, text) ∷ []) (Err stop)) held now
-text_stopped name text pieces stop held now is left = subst (λ t. Told (Leaves {T = SaidValue} ((name, t) ∷ []) (Err stop)) held now) is left
+pub text_stopped : (name text : List ℕ) (pieces : List (List ℕ)) (stop : OutsideErr) (held now : Option Files) → concat pieces ≡ text → Modelled (WritesAll ((name, concat pieces) ∷ []) (Err stop)) held now → Modelled (Leaves {T = SaidValue} ((name, text) ∷ []) (Err stop)) held now
+text_stopped name text pieces stop held now is left = subst (λ t. Modelled (Leaves {T = SaidValue} ((name, t) ∷ []) (Err stop)) held now) is left
 
 -- where no file is written all files stay
-pub leaves_same : {T : Type 0} (answer : Result T OutsideErr) (held : Option Files) → Told (Leaves [] answer) held held
+pub leaves_same : {T : Type 0} (answer : Result T OutsideErr) (held : Option Files) → Modelled (Leaves [] answer) held held
 leaves_same answer None = refl
 leaves_same (Ok done) (Some files) = refl
 leaves_same (Err stop) (Some files) = refl
@@ -48,20 +48,20 @@ leaves_same (Err stop) (Some files) = refl
 -- ---- a call of the house
 
 -- a call that is a step
-acts_here : (files_of : HouseReply → Writes) (command : HouseCommand) (reply : HouseReply) (new : Ledger) (held now : Option Files) (old : Option Ledger) (answer : Result SaidValue OutsideErr) → Says command reply answer → Told (Leaves (files_of reply) answer) held now
+acts_here : (files_of : HouseReply → Writes) (command : HouseCommand) (reply : HouseReply) (new : Ledger) (held now : Option Files) (old : Option Ledger) (answer : Result SaidValue OutsideErr) → Says command reply answer → Modelled (Leaves (files_of reply) answer) held now
     → Acts answer (effect_by files_of command (reply, new)) (stores held old) (stores now (Some new))
 acts_here files_of command reply new held now old (Ok said) says left =
     (says.1, ap (λ files. stores files (Some new)) (told_map (written (files_of reply)) held now left))
 acts_here files_of command reply new held now old (Err stop) says left = inr (refl, left)
 
 -- a call that changed nothing
-stopped_here : (files_of : HouseReply → Writes) (command : HouseCommand) (refusal : HouseErr) (effect : Effect) (held now : Option Files) (old new : Ledger) (stop : OutsideErr) → files_of (Refused refusal) ≡ [] → new ≡ old → Told (Leaves {T = SaidValue} (files_of (Refused refusal)) (Err stop)) held now
+stopped_here : (files_of : HouseReply → Writes) (command : HouseCommand) (refusal : HouseErr) (effect : Effect) (held now : Option Files) (old new : Ledger) (stop : OutsideErr) → files_of (Refused refusal) ≡ [] → new ≡ old → Modelled (Leaves {T = SaidValue} (files_of (Refused refusal)) (Err stop)) held now
     → Acts (Err stop) effect (stores held (Some old)) (stores now (Some new))
 stopped_here files_of command refusal effect held now old new stop none same left =
-    inl (ap (λ files. stores files (Some new)) (no_files_left SaidValue stop held now (subst (λ writes. Told (Leaves {T = SaidValue} writes (Err stop)) held now) none left))
+    inl (ap (λ files. stores files (Some new)) (no_files_left SaidValue stop held now (subst (λ writes. Modelled (Leaves {T = SaidValue} writes (Err stop)) held now) none left))
     ∙ ap (λ ledger. stores held (Some ledger)) same)
 
-call_acts : (files_of : HouseReply → Writes) (command : HouseCommand) (reply : HouseReply) (held now : Option Files) (old new : Ledger) (answer : Result SaidValue OutsideErr) → ((refusal : HouseErr) → files_of (Refused refusal) ≡ []) → HouseCall old command reply new → Says command reply answer → Told (Leaves (files_of reply) answer) held now
+call_acts : (files_of : HouseReply → Writes) (command : HouseCommand) (reply : HouseReply) (held now : Option Files) (old new : Ledger) (answer : Result SaidValue OutsideErr) → ((refusal : HouseErr) → files_of (Refused refusal) ≡ []) → HouseCall old command reply new → Says command reply answer → Modelled (Leaves (files_of reply) answer) held now
     → Acts answer (asked files_of old command) (stores held (Some old)) (stores now (Some new))
 call_acts files_of command (Refused KeeperFailed) held now old new (Ok said) none call says left = absurd says.0
 call_acts files_of command (Refused NoMemory) held now old new (Ok said) none call says left = absurd says.0
@@ -74,7 +74,7 @@ call_acts files_of command reply held now old new answer none call says left =
     (acts_here files_of command reply new held now (Some old) answer says left)
 
 -- a command that asked the house, and wrote the files of its reply
-pub asked_acts : (files_of : HouseReply → Writes) (command : HouseCommand) (reply : HouseReply) (held now : Option Files) (old new : Option Ledger) (answer : Result SaidValue OutsideErr) → ((refusal : HouseErr) → files_of (Refused refusal) ≡ []) → MakesCall command reply old new → Says command reply answer → Told (Leaves (files_of reply) answer) held now
+pub asked_acts : (files_of : HouseReply → Writes) (command : HouseCommand) (reply : HouseReply) (held now : Option Files) (old new : Option Ledger) (answer : Result SaidValue OutsideErr) → ((refusal : HouseErr) → files_of (Refused refusal) ≡ []) → MakesCall command reply old new → Says command reply answer → Modelled (Leaves (files_of reply) answer) held now
     → IfSome (on_ledger (λ kept. asked files_of kept command) old) (λ effect. Acts answer effect (stores held old) (stores now new))
 asked_acts files_of command reply held now None new answer none calls says left = tt
 asked_acts files_of command reply held now (Some old) None answer none calls says left = absurd calls
@@ -82,7 +82,7 @@ asked_acts files_of command reply held now (Some old) (Some new) answer none cal
     call_acts files_of command reply held now old new answer none calls says left
 
 -- no auction that is proved or answered is another one after a call
-pub calls_keep : (command : HouseCommand) (reply : HouseReply) (old new : Option Ledger) → MakesCall command reply old new → Told KeepsAnswers old new
+pub calls_keep : (command : HouseCommand) (reply : HouseReply) (old new : Option Ledger) → MakesCall command reply old new → Modelled KeepsAnswers old new
 calls_keep command reply None new calls = calls
 calls_keep command reply (Some old) None calls = absurd calls
 calls_keep command reply (Some old) (Some new) calls = call_keeps old new command reply calls

@@ -3,7 +3,7 @@ use Rattle.std.proofs.Common.{◌≡◌, ◌≢◌, ℕ, List, Option, Some, Non
 use Rattle.std.specs.Prelude.{IfOk}
 use Rattle.std.proofs.lemmas.Option.{same_Some}
 use Rattle.vk_io.specs.declared.errors.OutsideErr.{OutsideErr}
-use Rattle.vk_io.specs.Files.{Files, Told}
+use Rattle.vk_io.specs.Files.{Files, Modelled}
 use Rattle.vk_lines.specs.Gives.{Gives}
 use Rattle.vk_reply.specs.declared.challenge.Challenge.{Challenge}
 use Rattle.vk_keeper.specs.Auctions.{challenge_of, seed_of}
@@ -52,7 +52,7 @@ files_stay words (Ok said) (Some old) (Some new) none same =
 abbrev pub AreProved : Result JobValue HouseErr → Type 0
 AreProved answer = IfOk answer (λ job. IsProvedAuction job.auction)
 
-pub board_left : (id seed board : List ℕ) (answer : Result JobValue HouseErr) (result : Result SaidValue OutsideErr) (held now : Option Files) → Says (house.Prove id seed) (as_reply work_of answer) result → Told (Leaves (board_file board (as_reply work_of answer)) result) held now
+pub board_left : (id seed board : List ℕ) (answer : Result JobValue HouseErr) (result : Result SaidValue OutsideErr) (held now : Option Files) → Says (house.Prove id seed) (as_reply work_of answer) result → Modelled (Leaves (board_file board (as_reply work_of answer)) result) held now
     → IfOk answer (λ job. job.auction.id ≡ id) → IfOk answer (λ job. seed_of job.auction.phase ≡ Some seed) → AreProved answer → LeavesAsSaid (Prove id seed board) result held now
 board_left id seed board answer result None now says left id_is seed_is proved = left
 board_left id seed board answer result (Some old) None says left id_is seed_is proved = absurd left
@@ -65,7 +65,7 @@ board_left id seed board (Err refusal) (Ok said) (Some old) (Some new) says left
 
 -- ---- `answer`
 
-pub reply_left : (id name reply : List ℕ) (challenge : Challenge) (answer : Result JobValue HouseErr) (result : Result SaidValue OutsideErr) (held now : Option Files) → Says (house.Answer id challenge) (as_reply work_of answer) result → Told (Leaves (reply_file reply challenge (as_reply work_of answer)) result) held now
+pub reply_left : (id name reply : List ℕ) (challenge : Challenge) (answer : Result JobValue HouseErr) (result : Result SaidValue OutsideErr) (held now : Option Files) → Says (house.Answer id challenge) (as_reply work_of answer) result → Modelled (Leaves (reply_file reply challenge (as_reply work_of answer)) result) held now
     → IfOk answer (λ job. job.auction.id ≡ id) → IfOk answer (λ job. challenge_of job.auction.phase ≡ Some challenge) → AreProved answer → IfSome held (λ files. IsText files name challenge) → LeavesAsSaid (Answer id name reply) result held now
 reply_left id name reply challenge answer result None now says left id_is answered proved text = left
 reply_left id name reply challenge answer result (Some old) None says left id_is answered proved text = absurd left

@@ -32,7 +32,7 @@ IsBegun name lines files = begun_in name (get files name) ≡ Ok (rest_of lines 
 abbrev pub Tells : {X : Type 0} → List ℕ → Result X ReadErr → Result X Unread → Type 0
 Tells {X} name read answer = (rest : Rest) (expected : Result (X × Rest) ℕ) → GivesReading (λ x. x) read rest expected → Gives said_of_unread (λ x. x) answer (value_in name expected)
 
--- what is told of all that is held is told of it later, where it is the same
+-- what is said of all that is held is said of it later, where it is the same
 told_before : (P : Files → Type 0) (held now : Option Files) → now ≡ held → IfSome now P → IfSome held P
 told_before P held now same = subst (λ files. IfSome files P) same
 

@@ -1,6 +1,6 @@
 -- The words in which every command of the house is said.
 pub use Rattle.vk_io.specs.Faults.{Causes}
-pub use Rattle.vk_io.specs.Files.{Files, Told}
+pub use Rattle.vk_io.specs.Files.{Files, Modelled}
 pub use Rattle.vk_io.specs.Reads.{OnlyReads}
 pub use Rattle.vk_lines.specs.Gives.{Gives}
 pub use Rattle.vk_keeper.specs.Turns.{GetsOnce}

@@ -67,13 +67,13 @@ answer_effect files ledger id challenge reply =
 abbrev pub show_effect : Ledger → List ℕ → Effect
 show_effect ledger id = asked no_file ledger (house.Show id)
 
--- ---- as far as the outside is told
+-- ---- as far as the outside is modelled
 
--- the effect is known where the ledger is told
+-- the effect is known where the ledger is modelled
 abbrev pub on_ledger : (Ledger → Effect) → Option Ledger → Option Effect
 on_ledger effect ledger = option_map effect ledger
 
--- the effect of a command that reads is known where the files are told too
+-- the effect of a command that reads is known where the files are modelled too
 abbrev pub on_both : (Files → Ledger → Effect) → Option Files → Option Ledger → Option Effect
 on_both effect files ledger = option_and_then (λ held. on_ledger (effect held) ledger) files
 

@@ -1,8 +1,8 @@
--- What a command of the house leaves of the files where they are told, whatever its keeper tells.
+-- What a command of the house leaves of the files where they are modelled, whether or not its keeper is.
 use Rattle.std.specs.Prelude.{◌≡◌, ◌≢◌, ℕ, List, Option, Some, Result, IfOk}
 use Rattle.std.specs.FinMap.{insert}
 use Rattle.vk_io.specs.declared.errors.OutsideErr.{OutsideErr}
-use Rattle.vk_io.specs.Files.{Files, Told}
+use Rattle.vk_io.specs.Files.{Files, Modelled}
 use Rattle.vk_reply.specs.declared.challenge.Challenge.{Challenge}
 use Rattle.vk_keeper.specs.declared.auction.Auction.{Auction}
 use Rattle.vk_keeper.specs.Auctions.{challenge_of, seed_of}
@@ -40,6 +40,6 @@ pub record LeavesFiles (words : HouseWords) (status : ℕ) (old new : Files) : T
   pub done : status ≡ 0 → LeavesDone words old new
   pub refused : status ≢ 0 → new ≡ old
 
--- the same of what a command answers, where it wasn't stopped and the files are told
+-- the same of what a command answers, where it wasn't stopped and the files are modelled
 abbrev pub LeavesAsSaid : HouseWords → Result SaidValue OutsideErr → Option Files → Option Files → Type 0
-LeavesAsSaid words answer held now = Told (λ old new. IfOk answer (λ said. LeavesFiles words said.status old new)) held now
+LeavesAsSaid words answer held now = Modelled (λ old new. IfOk answer (λ said. LeavesFiles words said.status old new)) held now

@@ -4,7 +4,7 @@ ghost use Rattle.std.specs.Prelude.{◌≡◌, IfSome, None};
 ghost use Rattle.vk_words.specs.Orders.{IsHouseOrder, house_seen};
 ghost use Rattle.vk_words.specs.Scripts.{written_name_of};
 ghost use Rattle.vk_auctioneer.specs.Answers.{AsksOnce};
-ghost use Rattle.vk_auctioneer.specs.Common.{Acts, CausesTwo, KeepsAnswers, Told, stores};
+ghost use Rattle.vk_auctioneer.specs.Common.{Acts, CausesTwo, KeepsAnswers, Modelled, stores};
 ghost use Rattle.vk_auctioneer.specs.Effects.{house_effect};
 ghost use Rattle.vk_auctioneer.specs.Leaving.{LeavesAsSaid};
 
@@ -32,11 +32,11 @@ pub fn house_command<S: Shelf, K: Keeper + Drop>(
     // A command that writes no file leaves all that is held.
     ensures held { written_name_of (house_seen order.now) ≡ None → S.held shelf.new ≡ S.held shelf.old }
 
-    // Where the files are told, whatever the keeper tells: a board or a reply is written with status 0 and no other.
+    // Where the files are modelled, and the keeper or not: a board or a reply is written with status 0 and no other.
     ensures files { LeavesAsSaid (house_seen order.now) result (S.held shelf.old) (S.held shelf.new) }
 
     // Whatever its end, an auction that was answered is the same, and one that was proved has its seed and its seals.
-    ensures once { Told KeepsAnswers (K.ledger keeper.old) (K.ledger keeper.new) }
+    ensures once { Modelled KeepsAnswers (K.ledger keeper.old) (K.ledger keeper.new) }
     ensures turns { AsksOnce (K.turns keeper.old) (K.turns keeper.new) }
     ensures causes { CausesTwo OutsideErr.Failed result (S.Shelf.faults shelf.old) (S.Shelf.faults shelf.new) (K.faults keeper.old) (K.faults keeper.new) }
 {

@@ -9,7 +9,7 @@ ghost use Rattle.vk_words.specs.Orders.{Prove as ProveWords, Answer as AnswerWor
 ghost use Rattle.vk_house.specs.Commands.{Prove, Answer};
 ghost use Rattle.vk_effect.specs.Reading.{said_of_unread};
 ghost use Rattle.vk_auctioneer.specs.Answers.{Leaves, Says, AsksOnce};
-ghost use Rattle.vk_auctioneer.specs.Common.{Acts, Causes, CausesTwo, GetsOnce, KeepsAnswers, Told, as_reply, stores, work_of, Gives, OnlyReads};
+ghost use Rattle.vk_auctioneer.specs.Common.{Acts, Causes, CausesTwo, GetsOnce, KeepsAnswers, Modelled, as_reply, stores, work_of, Gives, OnlyReads};
 ghost use Rattle.vk_auctioneer.specs.Effects.{board_file, on_ledger, prove_effect, answer_effect, asked, on_both, reply_file};
 ghost use Rattle.vk_auctioneer.specs.Inputs.{challenge_in};
 ghost use Rattle.vk_auctioneer.specs.Laws.{IsText};
@@ -40,7 +40,7 @@ pub fn prove<S: Shelf, K: Keeper + Drop>(
     ensures acts { IfSome (on_ledger (λ kept. prove_effect kept id.now seed.now board.now) (K.ledger keeper.old))
         (λ effect. Acts result effect (stores (S.held shelf.old) (K.ledger keeper.old)) (stores (S.held shelf.new) (K.ledger keeper.new))) }
     ensures files { LeavesAsSaid (ProveWords id.now seed.now board.now) result (S.held shelf.old) (S.held shelf.new) }
-    ensures once { Told KeepsAnswers (K.ledger keeper.old) (K.ledger keeper.new) }
+    ensures once { Modelled KeepsAnswers (K.ledger keeper.old) (K.ledger keeper.new) }
     ensures turns { GetsOnce (K.turns keeper.old) (K.turns keeper.new) }
     ensures causes { CausesTwo OutsideErr.Failed result (S.Shelf.faults shelf.old) (S.Shelf.faults shelf.new) (K.faults keeper.old) (K.faults keeper.new) }
 {
@@ -57,7 +57,7 @@ fn proved<S: Shelf>(
     answer: Result<Job, HouseErr>,
 ) -> Result<Said, OutsideErr>
     ensures said { (id seed : List ℕ) → Says (Prove id seed) (as_reply work_of answer) result }
-    ensures written { Told (Leaves (board_file name.now (as_reply work_of answer)) result) (S.held shelf.old) (S.held shelf.new) }
+    ensures written { Modelled (Leaves (board_file name.now (as_reply work_of answer)) result) (S.held shelf.old) (S.held shelf.new) }
     ensures proved { IfOk answer (λ job. IsProvedAuction job.auction) }
     ensures told { IfErr answer (λ refusal. TakesNoMemory refusal → IsOk result) }
     ensures causes { (before after : ℕ) → Causes HouseErr.KeeperFailed answer before after
@@ -83,7 +83,7 @@ fn publish<S: Shelf>(
     job: &Job,
 ) -> Result<Said, OutsideErr>
     ensures said { IfOk result (λ said. said ≡ done_said (proved_line (winner_of job.now.auction) job.now.sale)) }
-    ensures written { Told (Leaves ((name.now, board_of job.now.auction) ∷ []) result) (S.held shelf.old) (S.held shelf.new) }
+    ensures written { Modelled (Leaves ((name.now, board_of job.now.auction) ∷ []) result) (S.held shelf.old) (S.held shelf.new) }
     ensures proved { IsProvedAuction job.now.auction }
     ensures causes { Causes OutsideErr.Failed result (S.Shelf.faults shelf.old) (S.Shelf.faults shelf.new) }
 {
@@ -151,7 +151,7 @@ pub fn answer<S: Shelf, K: Keeper + Drop>(
     ensures acts { IfSome (on_both (λ held kept. answer_effect held kept id.now challenge.now reply.now) (S.held shelf.old) (K.ledger keeper.old))
         (λ effect. Acts result effect (stores (S.held shelf.old) (K.ledger keeper.old)) (stores (S.held shelf.new) (K.ledger keeper.new))) }
     ensures files { LeavesAsSaid (AnswerWords id.now challenge.now reply.now) result (S.held shelf.old) (S.held shelf.new) }
-    ensures once { Told KeepsAnswers (K.ledger keeper.old) (K.ledger keeper.new) }
+    ensures once { Modelled KeepsAnswers (K.ledger keeper.old) (K.ledger keeper.new) }
     ensures turns { AsksOnce (K.turns keeper.old) (K.turns keeper.new) }
     ensures causes { CausesTwo OutsideErr.Failed result (S.Shelf.faults shelf.old) (S.Shelf.faults shelf.new) (K.faults keeper.old) (K.faults keeper.new) }
 {
@@ -167,7 +167,7 @@ pub fn answer<S: Shelf, K: Keeper + Drop>(
 /// Reads the named challenge.
 #[tactic(auto, unfolding(vk_effect::specs::Reading::named_in))]
 fn asked_challenge<S: Shelf>(alloc: Global, shelf: &mut S, name: &str) -> Result<Challenge, Unread>
-    ensures told { IfSome (S.held shelf.old) (λ files. Gives said_of_unread (λ challenge. challenge) result (challenge_in files name.now)) }
+    ensures modelled { IfSome (S.held shelf.old) (λ files. Gives said_of_unread (λ challenge. challenge) result (challenge_in files name.now)) }
     ensures right { IfOk result IsChallenge }
     ensures shelf { OnlyReads S.held S.Shelf.faults Unread.Failed result shelf.old shelf.new }
 {
@@ -191,7 +191,7 @@ fn answer_challenge<S: Shelf, K: Keeper + Drop>(
         (λ effect. Acts result effect (stores (S.held shelf.old) (K.ledger keeper.old)) (stores (S.held shelf.new) (K.ledger keeper.new))) }
     ensures files { (name : List ℕ) → IfSome (S.held shelf.old) (λ files. IsText files name challenge.now)
         → LeavesAsSaid (AnswerWords id.now name reply.now) result (S.held shelf.old) (S.held shelf.new) }
-    ensures once { Told KeepsAnswers (K.ledger keeper.old) (K.ledger keeper.new) }
+    ensures once { Modelled KeepsAnswers (K.ledger keeper.old) (K.ledger keeper.new) }
     ensures turns { GetsOnce (K.turns keeper.old) (K.turns keeper.new) }
     ensures causes { CausesTwo OutsideErr.Failed result (S.Shelf.faults shelf.old) (S.Shelf.faults shelf.new) (K.faults keeper.old) (K.faults keeper.new) }
 {
@@ -210,7 +210,7 @@ fn answered<S: Shelf>(
 ) -> Result<Said, OutsideErr>
     requires { IfOk answer (λ job. challenge_of job.auction.phase ≡ Some challenge.now) }
     ensures said { (id : List ℕ) → Says (Answer id challenge.now) (as_reply work_of answer) result }
-    ensures written { Told (Leaves (reply_file name.now challenge.now (as_reply work_of answer)) result) (S.held shelf.old) (S.held shelf.new) }
+    ensures written { Modelled (Leaves (reply_file name.now challenge.now (as_reply work_of answer)) result) (S.held shelf.old) (S.held shelf.new) }
     ensures told { IfErr answer (λ refusal. TakesNoMemory refusal → IsOk result) }
     ensures proved { IfOk answer (λ job. IsProvedAuction job.auction) }
     ensures causes { (before after : ℕ) → Causes HouseErr.KeeperFailed answer before after
@@ -238,7 +238,7 @@ fn show_halves<S: Shelf>(
 ) -> Result<Said, OutsideErr>
     requires { challenge_of job.now.auction.phase ≡ Some challenge.now }
     ensures said { IfOk result (λ said. said ≡ done_said answered_line) }
-    ensures written { Told (Leaves ((name.now, reply_of job.now.auction challenge.now) ∷ []) result) (S.held shelf.old) (S.held shelf.new) }
+    ensures written { Modelled (Leaves ((name.now, reply_of job.now.auction challenge.now) ∷ []) result) (S.held shelf.old) (S.held shelf.new) }
     ensures proved { IsProvedAuction job.now.auction }
     ensures causes { Causes OutsideErr.Failed result (S.Shelf.faults shelf.old) (S.Shelf.faults shelf.new) }
 {

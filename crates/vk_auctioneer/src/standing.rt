@@ -5,7 +5,7 @@ ghost use Rattle.vk_residue.specs.Limits.{IsSize};
 ghost use Rattle.vk_house.specs.Replies.{Done, Stands};
 ghost use Rattle.vk_house.specs.Commands.{Announce, AnnounceReserve, Show};
 ghost use Rattle.vk_auctioneer.specs.Answers.{Says};
-ghost use Rattle.vk_auctioneer.specs.Common.{Acts, Causes, Files, GetsOnce, KeepsAnswers, Told, as_reply, stores};
+ghost use Rattle.vk_auctioneer.specs.Common.{Acts, Causes, Files, GetsOnce, KeepsAnswers, Modelled, as_reply, stores};
 ghost use Rattle.vk_auctioneer.specs.Effects.{announce_effect, announce_reserve_effect, on_ledger, show_effect};
 ghost use Rattle.vk_auctioneer.specs.Lines.{TakesNoMemory, announced_line, done_said, progress_words, reserve_words, standing_line};
 
@@ -29,7 +29,7 @@ pub fn announce<K: Keeper + Drop>(
     requires { IsSize width lanes }
     ensures acts { (files : Option Files) → IfSome (on_ledger (λ kept. announce_effect kept id.now width lanes) (K.ledger keeper.old))
         (λ effect. Acts result effect (stores files (K.ledger keeper.old)) (stores files (K.ledger keeper.new))) }
-    ensures once { Told KeepsAnswers (K.ledger keeper.old) (K.ledger keeper.new) }
+    ensures once { Modelled KeepsAnswers (K.ledger keeper.old) (K.ledger keeper.new) }
     ensures turns { GetsOnce (K.turns keeper.old) (K.turns keeper.new) }
     ensures causes { Causes OutsideErr.Failed result (K.faults keeper.old) (K.faults keeper.new) }
 {
@@ -51,7 +51,7 @@ pub fn announce_reserve<K: Keeper + Drop>(
     requires small { reserve < 2 ^ width }
     ensures acts { (files : Option Files) → IfSome (on_ledger (λ kept. announce_reserve_effect kept id.now width lanes reserve) (K.ledger keeper.old))
         (λ effect. Acts result effect (stores files (K.ledger keeper.old)) (stores files (K.ledger keeper.new))) }
-    ensures once { Told KeepsAnswers (K.ledger keeper.old) (K.ledger keeper.new) }
+    ensures once { Modelled KeepsAnswers (K.ledger keeper.old) (K.ledger keeper.new) }
     ensures turns { GetsOnce (K.turns keeper.old) (K.turns keeper.new) }
     ensures causes { Causes OutsideErr.Failed result (K.faults keeper.old) (K.faults keeper.new) }
 {
@@ -91,7 +91,7 @@ pub fn show<K: Keeper + Drop>(
 ) -> Result<Said, OutsideErr>
     ensures acts { (files : Option Files) → IfSome (on_ledger (λ kept. show_effect kept id.now) (K.ledger keeper.old))
         (λ effect. Acts result effect (stores files (K.ledger keeper.old)) (stores files (K.ledger keeper.new))) }
-    ensures once { Told KeepsAnswers (K.ledger keeper.old) (K.ledger keeper.new) }
+    ensures once { Modelled KeepsAnswers (K.ledger keeper.old) (K.ledger keeper.new) }
     ensures turns { GetsOnce (K.turns keeper.old) (K.turns keeper.new) }
     ensures causes { Causes OutsideErr.Failed result (K.faults keeper.old) (K.faults keeper.new) }
 {

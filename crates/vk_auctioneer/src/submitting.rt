@@ -8,7 +8,7 @@ ghost use Rattle.vk_house.specs.Commands.{Submit};
 ghost use Rattle.vk_house.specs.Replies.{Position};
 ghost use Rattle.vk_effect.specs.Reading.{said_of_unread};
 ghost use Rattle.vk_auctioneer.specs.Answers.{AsksOnce, Says};
-ghost use Rattle.vk_auctioneer.specs.Common.{Acts, Causes, CausesTwo, Files, GetsOnce, Gives, KeepsAnswers, OnlyReads, Told, as_reply, stores};
+ghost use Rattle.vk_auctioneer.specs.Common.{Acts, Causes, CausesTwo, Files, GetsOnce, Gives, KeepsAnswers, OnlyReads, Modelled, as_reply, stores};
 ghost use Rattle.vk_auctioneer.specs.Effects.{asked, no_file, on_both, on_ledger, submit_effect};
 ghost use Rattle.vk_auctioneer.specs.Inputs.{row_in};
 ghost use Rattle.vk_auctioneer.specs.Lines.{TakesNoMemory, done_said, taken_line};
@@ -34,7 +34,7 @@ pub fn submit<S: Shelf, K: Keeper + Drop>(
     ensures acts { IfSome (on_both (λ held kept. submit_effect held kept id.now seal.now secret.now) (S.held shelf.old) (K.ledger keeper.old))
         (λ effect. Acts result effect (stores (S.held shelf.old) (K.ledger keeper.old)) (stores (S.held shelf.new) (K.ledger keeper.new))) }
     ensures held { S.held shelf.new ≡ S.held shelf.old }
-    ensures once { Told KeepsAnswers (K.ledger keeper.old) (K.ledger keeper.new) }
+    ensures once { Modelled KeepsAnswers (K.ledger keeper.old) (K.ledger keeper.new) }
     ensures turns { AsksOnce (K.turns keeper.old) (K.turns keeper.new) }
     ensures causes { CausesTwo OutsideErr.Failed result (S.Shelf.faults shelf.old) (S.Shelf.faults shelf.new) (K.faults keeper.old) (K.faults keeper.new) }
 {
@@ -55,7 +55,7 @@ fn row<S: Shelf>(
     seal_name: &str,
     secret_name: &str,
 ) -> Result<SealRow, Unread>
-    ensures told { IfSome (S.held shelf.old) (λ files. Gives said_of_unread (λ row. row) result (row_in files seal_name.now secret_name.now)) }
+    ensures modelled { IfSome (S.held shelf.old) (λ files. Gives said_of_unread (λ row. row) result (row_in files seal_name.now secret_name.now)) }
     ensures seal { IfOk result (λ row. IsSeal row.seal) }
     ensures secret { IfOk result (λ row. IsSecret row.secret) }
     ensures shelf { OnlyReads S.held S.Shelf.faults Unread.Failed result shelf.old shelf.new }
@@ -80,7 +80,7 @@ fn hand_in<K: Keeper + Drop>(
     requires secret { IsSecret row.secret }
     ensures acts { (files : Option Files) → IfSome (on_ledger (λ kept. asked no_file kept (Submit id.now row.seal row.secret)) (K.ledger keeper.old))
         (λ effect. Acts result effect (stores files (K.ledger keeper.old)) (stores files (K.ledger keeper.new))) }
-    ensures once { Told KeepsAnswers (K.ledger keeper.old) (K.ledger keeper.new) }
+    ensures once { Modelled KeepsAnswers (K.ledger keeper.old) (K.ledger keeper.new) }
     ensures turns { GetsOnce (K.turns keeper.old) (K.turns keeper.new) }
     ensures causes { Causes OutsideErr.Failed result (K.faults keeper.old) (K.faults keeper.new) }
 {

@@ -3,7 +3,7 @@ use Rattle.std.proofs.Common.{◌≡◌, ℕ, ◌^◌, nat_lt, All, Bool, true, 
 use Rattle.std.specs.FinMap.{get}
 use Rattle.std.proofs.lemmas.Bool.Decides.{nat_tests}
 use Rattle.vk_residue.specs.Steps.{◌>>=◌}
-use Rattle.vk_io.specs.Files.{Files, Told}
+use Rattle.vk_io.specs.Files.{Files, Modelled}
 use Rattle.vk_lines.specs.Lines.{Rest}
 use Rattle.vk_seal.specs.Reading.{secret_at}
 use Rattle.vk_verifier.specs.declared.answers.Part.{Part}
@@ -169,7 +169,7 @@ module _ (files : Files) (names : ConfrontWords) where
       (two : TwoAccepted held.board_bytes held.first.challenge_bytes held.first.reply_bytes held.second.challenge_bytes held.second.reply_bytes)
       (clashes : ¬ All (LaneAgrees two) (differing_in two)) where
     abbrev PutsIt : SaidValue → Type 0
-    PutsIt said = (said.status ≡ 3) × Told (PutsClash two) taken (puts said.text taken)
+    PutsIt said = (said.status ≡ 3) × Modelled (PutsClash two) taken (puts said.text taken)
 
     by_extraction : (extraction : Extraction) → IsOf two extraction
         → PutsIt (confrontation_said names (confrontation_of extraction (secret_in (secret_at (from_start file)))))
@@ -211,7 +211,7 @@ said_bound {names} confronts index taken confrontation (inr (found, bids, inr (c
       bids = bids;
       ends = inr (
         ap (λ c. (confrontation_said names c).status) clashes,
-        subst (λ c. Told (PutsSecretClash confronts.secret found) taken (puts (confrontation_said names c).text taken)) (sym clashes)
+        subst (λ c. Modelled (PutsSecretClash confronts.secret found) taken (puts (confrontation_said names c).text taken)) (sym clashes)
             (put_told (PutsSecretClash confronts.secret found) (clash_text clash) (λ before. record { clash = clash; is = is; put = refl }) taken),
       );
     }

@@ -2,7 +2,7 @@
 use Rattle.std.proofs.Common.{◌≡◌, ◌≢◌, ℕ, ◌<◌, Bool, true, false, List, ◌++◌, Option, Some, None, Result, Ok, Err, refl, sym, ap, subst, ◌∙◌, arith, inl, inr}
 use Rattle.std.specs.Prelude.{◌⊎◌}
 use Rattle.vk_residue.specs.Steps.{◌>>=◌}
-use Rattle.vk_io.specs.Files.{Files, Told}
+use Rattle.vk_io.specs.Files.{Files, Modelled}
 use Rattle.vk_verifier.specs.declared.answers.Part.{Part}
 use Rattle.vk_verifier.specs.declared.answers.BoardVerdict.{BoardVerdict}
 use Rattle.vk_verifier.specs.declared.answers.BoardVerdict.TheVariants as verdict
@@ -77,7 +77,7 @@ tells_extractions files names taken =
 -- ---- the status and the text
 
 pub put_told : (Puts : List ℕ → List ℕ → Type 0) (text : List ℕ) → ((before : List ℕ) → Puts before (before ++ text)) → (taken : Option (List ℕ))
-    → Told Puts taken (puts text taken)
+    → Modelled Puts taken (puts text taken)
 put_told Puts text is None = refl
 put_told Puts text is (Some before) = is before
 

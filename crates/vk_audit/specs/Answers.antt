@@ -1,6 +1,6 @@
 -- What every end of an auditor's command says: an answer that holds of the named files, by their bytes alone.
 use Rattle.std.specs.Prelude.{◌≡◌, ℕ, false, All, List, Option, Result, Ok, Err}
-use Rattle.vk_io.specs.Files.{Files, Told}
+use Rattle.vk_io.specs.Files.{Files, Modelled}
 use Rattle.vk_verifier.specs.declared.answers.BoardVerdict.{BoardVerdict}
 use Rattle.vk_verifier.specs.declared.answers.VErr.{VErr}
 use Rattle.vk_verifier.specs.declared.answers.VErr.TheVariants.{Missing, TooLong, Failed, NoMemory}
@@ -99,7 +99,7 @@ pub record TellsConfrontation (files : Files) (names : ConfrontWords) (status : 
   pub told : TellsAnswer (ConfrontHolds files names) SettlesConfront (answer_said (confrontation_said names) (confront_unread_said names)) status old new
   pub clashes : (held : HoldsFiles files names.replies) → CanBeRead files names.secret
       → (two : TwoAccepted held.board_bytes held.first.challenge_bytes held.first.reply_bytes held.second.challenge_bytes held.second.reply_bytes)
-      → ¬ All (LaneAgrees two) (differing_in two) → (status ≡ 3) × Told (PutsClash two) old new
+      → ¬ All (LaneAgrees two) (differing_in two) → (status ≡ 3) × Modelled (PutsClash two) old new
 
 -- ---- `report`
 

@@ -1,6 +1,6 @@
 -- What the statuses of `verify`, `extract`, `confront` and `report` mean, by the bytes of the named files alone.
 use Rattle.std.specs.Prelude.{◌≡◌, ◌≢◌, ◌⊎◌, ℕ, All, List, ◌++◌, Option}
-use Rattle.vk_io.specs.Files.{Files, Told}
+use Rattle.vk_io.specs.Files.{Files, Modelled}
 use Rattle.vk_commit.specs.Commitment.{TwoOpeningsSeen}
 use Rattle.vk_seal.specs.declared.secret.Secret.{Secret}
 use Rattle.vk_seal.specs.Texts.{secret_text}
@@ -84,7 +84,7 @@ pub record PutsClash {board first_challenge first_reply second_challenge second_
 -- the status is 0, and the bids are put; or it is 3, and two openings are
 abbrev pub IsExtracted : {board first_challenge first_reply second_challenge second_reply : List ℕ}
     → TwoAccepted board first_challenge first_reply second_challenge second_reply → ℕ → Option (List ℕ) → Option (List ℕ) → Type 0
-IsExtracted two status old new = ((status ≡ 0) × Told (PutsExtraction two) old new) ⊎ ((status ≡ 3) × Told (PutsClash two) old new)
+IsExtracted two status old new = ((status ≡ 0) × Modelled (PutsExtraction two) old new) ⊎ ((status ≡ 3) × Modelled (PutsClash two) old new)
 
 -- ---- `confront`
 
@@ -120,7 +120,7 @@ pub record PutsSecretClash (secret : Secret) (found : Extracted) (old new : List
 pub record IsBound {files : Files} {names : ConfrontWords} (confronts : ConfrontsFiles files names) (index status : ℕ) (old new : Option (List ℕ)) : Type 0 where
   pub found : Extracted
   pub bids : IsExtraction confronts.two found
-  pub ends : ((status ≡ 0) × All (HoldsIn confronts.secret index) found.lanes) ⊎ ((status ≡ 3) × Told (PutsSecretClash confronts.secret found) old new)
+  pub ends : ((status ≡ 0) × All (HoldsIn confronts.secret index) found.lanes) ⊎ ((status ≡ 3) × Modelled (PutsSecretClash confronts.secret found) old new)
 
 -- status 0 comes only where the secret is held; and where the board's seal at an index is the secret's, every end of
 -- the command is one of these two

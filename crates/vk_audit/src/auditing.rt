@@ -101,7 +101,7 @@ fn confronted_in<S: Shelf>(
     shelf: &mut S,
     names: &ConfrontNames<'_>,
 ) -> Result<Confrontation, ConfrontErr>
-    ensures told { IfSome (S.held shelf.old) (λ files.
+    ensures modelled { IfSome (S.held shelf.old) (λ files.
         Gives fault_of (λ confrontation. confrontation) result (confrontation_in files (confront_seen names.now))) }
     ensures shelf { OnlyReads S.held S.Shelf.faults (ConfrontErr.Unread VErr.Failed) result shelf.old shelf.new }
 {

@@ -56,7 +56,7 @@ pub both_told : {A : Type 0} {P Q R : A → Type 0} (held : Option A) → ((cont
 both_told None step first second = tt
 both_told (Some content) step first second = step content first second
 
--- what is said of content that is told twice, the second time by another name
+-- what is said of modelled content that has two names
 pub both_held : {A : Type 0} {P Q R : A → Type 0} (held other : Option A) → other ≡ held → ((content : A) → P content → Q content → R content)
     → IfSome held P → IfSome other Q → IfSome held R
 both_held {A} {P} {Q} {R} held other same step first second =

@@ -98,7 +98,7 @@ pub fn confront<S: Shelf>(
     shelf: &mut S,
     names: &SecretAndReplies<'_>,
 ) -> Result<Confrontation, ConfrontErr>
-    ensures told { IfSome (S.held shelf.old) (λ files. Gives fault_of (λ confrontation. confrontation) result (confrontation_named files names.now)) }
+    ensures modelled { IfSome (S.held shelf.old) (λ files. Gives fault_of (λ confrontation. confrontation) result (confrontation_named files names.now)) }
     ensures shelf { OnlyReads S.held S.Shelf.faults (ConfrontErr.Unread VErr.Failed) result shelf.old shelf.new }
 {
     let checker = begin(alloc, shelf, &names.replies)?;
@@ -111,7 +111,7 @@ pub fn confront<S: Shelf>(
 
 /// Begins to read the secret's file.
 fn begin_secret<S: Shelf>(alloc: Global, shelf: &mut S, name: &str) -> Result<Lines, ConfrontErr>
-    ensures told { IfSome (S.held shelf.old) (λ files.
+    ensures modelled { IfSome (S.held shelf.old) (λ files.
         Gives fault_of (λ lines. rest_of lines files) result (secret_begun (map.get files name.now))) }
     ensures shelf { OnlyReads S.held S.Shelf.faults (ConfrontErr.Unread VErr.Failed) result shelf.old shelf.new }
 {
@@ -122,7 +122,7 @@ fn begin_secret<S: Shelf>(alloc: Global, shelf: &mut S, name: &str) -> Result<Li
 
 /// The secret's file from its first line on, or why it was not begun.
 fn begun(started: Result<Lines, StartErr>) -> Result<Lines, ConfrontErr>
-    ensures told { (files : Files) (name : List ℕ) → Starts files name started
+    ensures modelled { (files : Files) (name : List ℕ) → Starts files name started
         → Gives fault_of (λ lines. rest_of lines files) result (secret_begun (map.get files name)) }
     ensures causes { (before : ℕ) (after : ℕ) → Causes StartErr.Failed started before after → Causes (ConfrontErr.Unread VErr.Failed) result before after }
 {
@@ -141,7 +141,7 @@ fn secret_of<S: Shelf>(
     shelf: &mut S,
     lines: &mut Lines,
 ) -> Result<Result<Secret, u64>, OutsideErr>
-    ensures told { IfOk result (λ secret. IfSome (S.held shelf.old) (λ files.
+    ensures modelled { IfOk result (λ secret. IfSome (S.held shelf.old) (λ files.
         secret_in (secret_at (rest_of lines.old files)) ≡ secret)) }
     ensures right { IfOk result (λ secret. IfOk secret IsSecret) }
     ensures shelf { OnlyReads S.held S.Shelf.faults OutsideErr.Failed result shelf.old shelf.new }
@@ -154,7 +154,7 @@ fn secret_of<S: Shelf>(
 /// What was read, with a fault line as a value.
 fn secret_or_fault(read: Result<Secret, ReadErr>) -> Result<Result<Secret, u64>, OutsideErr>
     requires { IfOk read IsSecret }
-    ensures told { (rest : Rest) (expected : Result (Secret × Rest) ℕ) → GivesReading (λ x. x) read rest expected
+    ensures modelled { (rest : Rest) (expected : Result (Secret × Rest) ℕ) → GivesReading (λ x. x) read rest expected
         → IfOk result (λ secret. secret_in expected ≡ secret) }
     ensures right { IfOk result (λ secret. IfOk secret IsSecret) }
     ensures causes { (before : ℕ) (after : ℕ) → Causes ReadErr.Failed read before after → Causes OutsideErr.Failed result before after }

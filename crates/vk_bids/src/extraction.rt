@@ -53,7 +53,7 @@ pub fn extract<S: Shelf>(
     shelf: &mut S,
     names: &TwoReplies<'_>,
 ) -> Result<Extraction, VErr>
-    ensures told { IfSome (S.held shelf.old) (λ files.
+    ensures modelled { IfSome (S.held shelf.old) (λ files.
         Gives unread_file (λ extraction. extraction) result (extraction_named files names.now)) }
     ensures shows { IfOk result Shows }
     ensures shelf { OnlyReads S.held S.Shelf.faults VErr.Failed result shelf.old shelf.new }
@@ -69,7 +69,7 @@ pub(crate) fn begin<S: Shelf>(
     shelf: &mut S,
     names: &TwoReplies<'_>,
 ) -> Result<TwoChecker, VErr>
-    ensures told { IfSome (S.held shelf.old) (λ files. Gives unread_file (λ checker. extraction_of (board_base checker) (board_ahead checker files)) result (extraction_named files names.now)) }
+    ensures modelled { IfSome (S.held shelf.old) (λ files. Gives unread_file (λ checker. extraction_of (board_base checker) (board_ahead checker files)) result (extraction_named files names.now)) }
     ensures none_given { IfOk result (λ checker. board_given checker ≡ 0) }
     ensures shelf { OnlyReads S.held S.Shelf.faults VErr.Failed result shelf.old shelf.new }
 {
@@ -92,7 +92,7 @@ pub(crate) fn extract_rest<S: Shelf>(
     checker: TwoChecker,
 ) -> Result<Extraction, OutsideErr>
     requires none_given { board_given checker ≡ 0 }
-    ensures told { IfOk result (λ extraction. IfSome (S.held shelf.old) (λ files.
+    ensures modelled { IfOk result (λ extraction. IfSome (S.held shelf.old) (λ files.
         extraction_of (board_base checker) (board_ahead checker files) ≡ extraction)) }
     ensures shows { IfOk result Shows }
     ensures shelf { OnlyReads S.held S.Shelf.faults OutsideErr.Failed result shelf.old shelf.new }
@@ -117,7 +117,7 @@ fn extract_course<S: Shelf>(
 ) -> Result<Extraction, OutsideErr>
     requires none_given { given_of course.lanes ≡ 0 }
     requires right { IsBoardCourse course }
-    ensures told { IfOk result (λ extraction. IfSome (S.held shelf.old) (λ files.
+    ensures modelled { IfOk result (λ extraction. IfSome (S.held shelf.old) (λ files.
         extraction_of (board_base (Behind course)) (board_ahead (Behind course) files) ≡ extraction)) }
     ensures shows { IfOk result Shows }
     ensures shelf { OnlyReads S.held S.Shelf.faults OutsideErr.Failed result shelf.old shelf.new }

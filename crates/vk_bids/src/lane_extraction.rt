@@ -35,7 +35,7 @@ pub fn extract_behind<S: Shelf>(
     statement: Statement,
     two: TwoAttempts,
 ) -> Result<LaneExtraction, OutsideErr>
-    ensures told { IfOk result (λ found. IfSome (S.held shelf.old) (λ files.
+    ensures modelled { IfOk result (λ found. IfSome (S.held shelf.old) (λ files.
         of_two (lane_extraction_behind statement) two files ≡ found)) }
     ensures opens { IfOk result OpensLanes }
     ensures statement { IfOk result (AreOf statement) }
@@ -56,7 +56,7 @@ pub fn extract_lanes<S: Shelf>(
     checker: LaneChecker,
 ) -> Result<LaneExtraction, OutsideErr>
     requires { given_of checker ≡ 0 }
-    ensures told { IfOk result (λ found. IfSome (S.held shelf.old) (λ files.
+    ensures modelled { IfOk result (λ found. IfSome (S.held shelf.old) (λ files.
         lane_extraction (base_of checker) (ahead_of checker files) ≡ found)) }
     ensures opens { IfOk result OpensLanes }
     ensures statement { IfOk result (AreOfBase (base_of checker)) }
@@ -74,7 +74,7 @@ fn gather<S: Shelf>(
     checker: LaneChecker,
 ) -> Result<(LaneChecker, Gathered), OutsideErr>
     requires { given_of checker ≡ 0 }
-    ensures told { IfOk result (λ end. IfSome (S.held shelf.old) (λ files.
+    ensures modelled { IfOk result (λ end. IfSome (S.held shelf.old) (λ files.
         ComesTo (base_of checker) (ahead_of checker files) (finding_of end.0) end.1)) }
     ensures over { IfOk result (λ end. IsOver end.0) }
     ensures base { IfOk result (λ end. base_of end.0 ≡ base_of checker) }

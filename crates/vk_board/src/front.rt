@@ -52,7 +52,7 @@ pub fn read_front<S: Shelf>(
     shelf: &mut S,
     lines: &mut Lines,
 ) -> Result<Front, FrontErr>
-    ensures told { IfSome (S.held shelf.old) (λ files.
+    ensures modelled { IfSome (S.held shelf.old) (λ files.
         Gives fault_of (λ front. (front, rest_of lines.new files)) result (front_at (rest_of lines.old files))) }
     ensures right { IfOk result IsFront }
     ensures file { KeepsFile lines.old lines.new }

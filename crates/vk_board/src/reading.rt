@@ -23,7 +23,7 @@ use vk_wire::WireCom;
 /// number of the first line that isn't what its place demands.
 #[tactic(auto, unfolding(crate::specs::Reading::head_at))]
 pub fn read_head<S: Shelf>(shelf: &mut S, lines: &mut Lines) -> Result<Head, ReadErr>
-    ensures told { ReadsPart head_at (S.held shelf.old) lines.old lines.new result }
+    ensures modelled { ReadsPart head_at (S.held shelf.old) lines.old lines.new result }
     ensures right { IfOk result IsHead }
     ensures file { KeepsFile lines.old lines.new }
     ensures shelf { OnlyReads S.held S.Shelf.faults ReadErr.Failed result shelf.old shelf.new }
@@ -87,7 +87,7 @@ fn head_from(
 /// Reads the reserve that version 2 names; version 1 has no such line, and the reserve 0.
 #[tactic(auto, unfolding(crate::specs::Reading::reserve_at))]
 fn read_reserve<S: Shelf>(shelf: &mut S, lines: &mut Lines, version: u64) -> Result<u64, ReadErr>
-    ensures told { ReadsPart (reserve_at version) (S.held shelf.old) lines.old lines.new result }
+    ensures modelled { ReadsPart (reserve_at version) (S.held shelf.old) lines.old lines.new result }
     ensures right { IfOk result (IsReserve version) }
     ensures file { KeepsFile lines.old lines.new }
     ensures shelf { OnlyReads S.held S.Shelf.faults ReadErr.Failed result shelf.old shelf.new }
@@ -106,7 +106,7 @@ fn read_winner<S: Shelf>(
     lines: &mut Lines,
     version: u64,
 ) -> Result<Option<u16>, ReadErr>
-    ensures told { ReadsPart (line_by (winner_line version)) (S.held shelf.old) lines.old lines.new result }
+    ensures modelled { ReadsPart (line_by (winner_line version)) (S.held shelf.old) lines.old lines.new result }
     ensures right { IfOk result (IsWinner version) }
     ensures file { KeepsFile lines.old lines.new }
     ensures shelf { OnlyReads S.held S.Shelf.faults ReadErr.Failed result shelf.old shelf.new }
@@ -146,7 +146,7 @@ pub fn read_seals<S: Shelf>(
     lines: &mut Lines,
     head: &Head,
 ) -> Result<Seq<SealLines>, ReadErr>
-    ensures told { ReadsPart (seals_at head.now) (S.held shelf.old) lines.old lines.new result }
+    ensures modelled { ReadsPart (seals_at head.now) (S.held shelf.old) lines.old lines.new result }
     ensures right { IfOk result (AreSeals head.now) }
     ensures file { KeepsFile lines.old lines.new }
     ensures shelf { OnlyReads S.held S.Shelf.faults ReadErr.Failed result shelf.old shelf.new }
@@ -164,7 +164,7 @@ pub fn read_seal_lines<S: Shelf>(
     count: u32,
     lanes: u32,
 ) -> Result<Seq<SealLines>, ReadErr>
-    ensures told { ReadsPart (seal_lines_at count lanes) (S.held shelf.old) lines.old lines.new result }
+    ensures modelled { ReadsPart (seal_lines_at count lanes) (S.held shelf.old) lines.old lines.new result }
     ensures right { IfOk result (AreSealsOf count lanes) }
     ensures file { KeepsFile lines.old lines.new }
     ensures shelf { OnlyReads S.held S.Shelf.faults ReadErr.Failed result shelf.old shelf.new }
@@ -186,7 +186,7 @@ fn read_seal<S: Shelf>(
     lanes: u32,
     before: &Seq<SealLines>,
 ) -> Result<SealLines, ReadErr>
-    ensures told { ReadsPart (seal_at lanes before.now) (S.held shelf.old) lines.old lines.new result }
+    ensures modelled { ReadsPart (seal_at lanes before.now) (S.held shelf.old) lines.old lines.new result }
     ensures right { IfOk result (IsSealAfter lanes before.now) }
     ensures file { KeepsFile lines.old lines.new }
     ensures shelf { OnlyReads S.held S.Shelf.faults ReadErr.Failed result shelf.old shelf.new }
@@ -215,7 +215,7 @@ fn read_seat<S: Shelf>(
     lines: &mut Lines,
     before: &Seq<SealLines>,
 ) -> Result<u16, ReadErr>
-    ensures told { ReadsPart (line_by (seat_line (seats_of before.now))) (S.held shelf.old) lines.old lines.new result }
+    ensures modelled { ReadsPart (line_by (seat_line (seats_of before.now))) (S.held shelf.old) lines.old lines.new result }
     ensures some { IfOk result (λ seat. 1 ≤ seat) }
     ensures new { IfOk result (λ seat. is_new_seat (seats_of before.now) seat ≡ true) }
     ensures file { KeepsFile lines.old lines.new }
@@ -269,7 +269,7 @@ pub fn read_lane<S: Shelf>(
     wires: u32,
     rows: u32,
 ) -> Result<LaneLines, ReadErr>
-    ensures told { ReadsPart (lane_at lane wires rows) (S.held shelf.old) lines.old lines.new result }
+    ensures modelled { ReadsPart (lane_at lane wires rows) (S.held shelf.old) lines.old lines.new result }
     ensures right { IfOk result (IsLaneLines wires rows) }
     ensures file { KeepsFile lines.old lines.new }
     ensures shelf { OnlyReads S.held S.Shelf.faults ReadErr.Failed result shelf.old shelf.new }
@@ -300,7 +300,7 @@ fn read_coms<S: Shelf>(
     word: &[u8],
     count: u32,
 ) -> Result<Seq<WireCom>, ReadErr>
-    ensures told { ReadsPart (many_at count (λ _. line_by (com_line word.now))) (S.held shelf.old) lines.old lines.new result }
+    ensures modelled { ReadsPart (many_at count (λ _. line_by (com_line word.now))) (S.held shelf.old) lines.old lines.new result }
     ensures number { IfOk result (λ coms. length coms ≡ count) }
     ensures digests { IfOk result (All IsCom) }
     ensures file { KeepsFile lines.old lines.new }
@@ -318,7 +318,7 @@ fn read_posted<S: Shelf>(
     lines: &mut Lines,
     count: u32,
 ) -> Result<Seq<Residue>, ReadErr>
-    ensures told { ReadsPart (many_at count (λ _. line_by posted_line)) (S.held shelf.old) lines.old lines.new result }
+    ensures modelled { ReadsPart (many_at count (λ _. line_by posted_line)) (S.held shelf.old) lines.old lines.new result }
     ensures number { IfOk result (λ posted. length posted ≡ count) }
     ensures right { IfOk result (All IsResidue) }
     ensures file { KeepsFile lines.old lines.new }

@@ -13,7 +13,7 @@ struct Reach {
 }
 
 /// Files in memory that are read and written in pieces, and how far each was read. Where they are fixed
-/// they stay as they are, whatever is written. It tells nothing.
+/// they stay as they are, whatever is written. It isn't modelled.
 #[derive(Drop)]
 pub struct WatchedShelf {
     inner: PieceShelf,

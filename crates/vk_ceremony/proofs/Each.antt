@@ -1,4 +1,4 @@
--- What holds of a ceremony that is told, from what holds of each of its ends.
+-- What holds of a ceremony that is known, from what holds of each of its ends.
 use Rattle.std.proofs.Common.{Bool, true, false, if◌then◌else◌, List, [], ◌∷◌, Option, Some, None, IfSome}
 use Rattle.std.specs.Prelude.{◌||◌, option_and_then, option_map}
 use Rattle.vk_words.specs.Orders.{HouseWords}

@@ -75,7 +75,7 @@ read_reaches : {X : Type 0} (ledger : Ledger) (files_of : X → HouseReply → W
 read_reaches ledger files_of command (Ok x) none = asked_reaches (files_of x) ledger (command x) (none x)
 read_reaches ledger files_of command (Err said) none = (refl, refl)
 
--- a command over told files and a told ledger
+-- a command over modelled files and a modelled ledger
 abbrev pub IsTold : Files → Ledger → HouseWords → Type 0
 IsTold files ledger order = (effect : Effect) × (house_effect (Some files) (Some ledger) order ≡ Some effect) × Reaches (asked_in files order) ledger effect
 
@@ -144,7 +144,7 @@ behind_follows script files ledger (Err said) = refl
 pub ceremony_follows : (files : Files) (ledger : Ledger) (script : List ℕ) → IsSomeAnd (ceremony_behind script (stores (Some files) (Some ledger)) (script_begun files script)) (λ whole. Follow (orders_in files script) files ledger whole.commands)
 ceremony_follows files ledger script = behind_follows script files ledger (script_begun files script)
 
--- what follows of each ceremony follows of one that is told
+-- what follows of each ceremony follows of one that is known
 pub told_each : {X : Type 0} (P Q : X → Type 0) → ((x : X) → P x → Q x) → (found : Option X) → IsSomeAnd found P → IsSomeAnd found Q
 told_each P Q follows None is = is
 told_each P Q follows (Some x) is = follows x is

@@ -3,7 +3,7 @@ use Rattle.std.proofs.Common.{◌≡◌, ℕ, Bool, false, List, Option, Some, N
 use Rattle.std.specs.Prelude.{IsSomeAnd}
 use Rattle.vk_io.specs.declared.errors.OutsideErr.{OutsideErr}
 use Rattle.vk_io.specs.declared.errors.OutsideErr.TheVariants as outside_err
-use Rattle.vk_io.specs.Files.{Files, Told}
+use Rattle.vk_io.specs.Files.{Files, Modelled}
 use Rattle.vk_io.proofs.WritingLemmas.{told_chain, told_same}
 use Rattle.vk_lines.specs.Gives.{Gives}
 use Rattle.vk_lines.specs.Lines.{LinesValue, rest_of}
@@ -103,8 +103,8 @@ causes_since answer start shelf first keeper begin out now then_ last a b c caus
 
 -- ---- what the house keeps
 
-pub keeps_told : (ledger : Option Ledger) → Told KeepsAnswers ledger ledger
+pub keeps_told : (ledger : Option Ledger) → Modelled KeepsAnswers ledger ledger
 keeps_told = told_same KeepsAnswers keeps_same
 
-pub keeps_further : (old between new : Option Ledger) → Told KeepsAnswers old between → Told KeepsAnswers between new → Told KeepsAnswers old new
+pub keeps_further : (old between new : Option Ledger) → Modelled KeepsAnswers old between → Modelled KeepsAnswers between new → Modelled KeepsAnswers old new
 keeps_further = told_chain KeepsAnswers KeepsAnswers KeepsAnswers keeps_on

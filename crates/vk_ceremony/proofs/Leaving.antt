@@ -1,7 +1,7 @@
--- What a ceremony leaves of the files, turn by turn, whatever its keeper tells.
+-- What a ceremony leaves of the files, turn by turn, whether or not its keeper is modelled.
 use Rattle.std.proofs.Common.{◌≡◌, ℕ, zero, suc, Bool, true, false, ◌||◌, if◌then◌else◌, List, Option, Some, None, IfSome, Result, Ok, Err, refl, sym, ap, subst, ◌∙◌, inl, inr}
 use Rattle.std.specs.Prelude.{IfOk}
-use Rattle.vk_io.specs.Files.{Files, Told, bytes_of}
+use Rattle.vk_io.specs.Files.{Files, Modelled, bytes_of}
 use Rattle.vk_io.specs.declared.errors.OutsideErr.{OutsideErr}
 use Rattle.vk_io.proofs.WritingLemmas.{told_chain, told_same}
 use Rattle.vk_lines.specs.Gives.{Gives}
@@ -24,8 +24,8 @@ use Rattle.vk_ceremony.proofs.Writing.{IsOther, insert_leaves, order_leaves}
 
 -- where nothing changed
 told_kept : (P : Files → Files → Type 0) → ((files : Files) → P files files) → (held now : Option Files)
-    → now ≡ held → Told P held now
-told_kept P same held now is = subst (Told P held) (sym is) (told_same P same held)
+    → now ≡ held → Modelled P held now
+told_kept P same held now is = subst (Modelled P held) (sym is) (told_same P same held)
 
 -- ---- the script's bytes stay
 
@@ -77,8 +77,8 @@ ReadsOrder script words before lines files =
 turn_leaves : (script : List ℕ) (words : List (List ℕ)) (order : HouseWords) (refused : Bool)
     (before lines : LinesValue) (files : Files) (now : Option Files) (answer : Result ℕ OutsideErr)
     → lines.name ≡ script → Some order ≡ script_words script words
-    → ReadsOrder script words before lines files → Told (OrderLeaves order answer) (Some files) now
-    → Told (TurnLeaves script refused before lines (turned refused answer)) (Some files) now
+    → ReadsOrder script words before lines files → Modelled (OrderLeaves order answer) (Some files) now
+    → Modelled (TurnLeaves script refused before lines (turned refused answer)) (Some files) now
 turn_leaves script words order refused before lines files None answer named is reads left = absurd left
 turn_leaves script words order refused before lines files (Some new) (Err stop) named is reads left = tt
 turn_leaves script words order refused before lines files (Some new) (Ok status) named is reads left =
@@ -90,40 +90,40 @@ turn_leaves script words order refused before lines files (Some new) (Ok status)
 pub order_left : (script : List ℕ) (words : List (List ℕ)) (order : HouseWords) (refused : Bool)
     (before lines : LinesValue) (held between now : Option Files) (answer : Result ℕ OutsideErr)
     → between ≡ held → lines.name ≡ script → Some order ≡ script_words script words
-    → IfSome held (ReadsOrder script words before lines) → Told (OrderLeaves order answer) between now
-    → Told (TurnLeaves script refused before lines (turned refused answer)) held now
+    → IfSome held (ReadsOrder script words before lines) → Modelled (OrderLeaves order answer) between now
+    → Modelled (TurnLeaves script refused before lines (turned refused answer)) held now
 order_left script words order refused before lines None between now answer same named is reads left =
-    subst (λ files. Told (OrderLeaves order answer) files now) same left
+    subst (λ files. Modelled (OrderLeaves order answer) files now) same left
 order_left script words order refused before lines (Some files) between now answer same named is reads left =
-    turn_leaves script words order refused before lines files now answer named is reads (subst (λ held. Told (OrderLeaves order answer) held now) same left)
+    turn_leaves script words order refused before lines files now answer named is reads (subst (λ held. Modelled (OrderLeaves order answer) held now) same left)
 
 -- it was stopped, and no file was written
 pub stop_left : (script : List ℕ) (refused : Bool) (before lines : LinesValue) (stop : OutsideErr)
-    (held now : Option Files) → now ≡ held → Told (TurnLeaves script refused before lines (Err stop)) held now
+    (held now : Option Files) → now ≡ held → Modelled (TurnLeaves script refused before lines (Err stop)) held now
 stop_left script refused before lines stop held now = told_kept (TurnLeaves script refused before lines (Err stop)) (λ files. tt) held now
 
 -- what is said of the script ended it
 pub close_left : (script : List ℕ) (refused : Bool) (before lines : LinesValue) (held now : Option Files)
     (taken then_ : Option (List ℕ)) (fault : Option ℕ) (status : ℕ) → now ≡ held
     → IfSome held (λ files. script_at script (rest_of before files) ≡ closes fault)
-    → ((old : Stores) → EndsAll (Ok status) (closed (closing_said script fault refused)) (outside old taken) (outside old then_)) → Told (TurnLeaves script refused before lines (Ok (Ended status))) held now
+    → ((old : Stores) → EndsAll (Ok status) (closed (closing_said script fault refused)) (outside old taken) (outside old then_)) → Modelled (TurnLeaves script refused before lines (Ok (Ended status))) held now
 close_left script refused before lines None now taken then_ fault status same is ends = same
 close_left script refused before lines (Some files) now taken then_ fault status same is ends =
-    subst (λ left. Told (TurnLeaves script refused before lines (Ok (Ended status))) (Some files) left) (sym same)
+    subst (λ left. Modelled (TurnLeaves script refused before lines (Ok (Ended status))) (Some files) left) (sym same)
     (subst (λ said. ScriptLeaves script refused said status files files) (sym is) ((ends (stores None None)).0, refl))
 
 -- ---- turn by turn
 
 pub leaves_itself : (script : List ℕ) (refused : Bool) (lines : LinesValue) (held : Option Files)
-    → Told (Continues script refused lines refused lines) held held
+    → Modelled (Continues script refused lines refused lines) held held
 leaves_itself script refused lines held =
     told_same (Continues script refused lines refused lines) (λ files status last left. left) held
 
 pub leaves_on : (script : List ℕ) (start lines later : LinesValue) (refused now : Bool) (turn : Turn)
     (old between new : Option Files) → turn ≡ Next now
-    → Told (Continues script false start refused lines) old between
-    → Told (TurnLeaves script refused lines later (Ok turn)) between new
-    → Told (Continues script false start now later) old new
+    → Modelled (Continues script false start refused lines) old between
+    → Modelled (TurnLeaves script refused lines later (Ok turn)) between new
+    → Modelled (Continues script false start now later) old new
 leaves_on script start lines later refused now turn old between new is =
     told_chain (Continues script false start refused lines) (TurnLeaves script refused lines later (Ok turn))
     (Continues script false start now later)
@@ -138,9 +138,9 @@ HoldLeaves script start answer old new =
 
 pub leaves_to_end : (script : List ℕ) (start lines later : LinesValue) (refused : Bool) (turn : Turn)
     (status : ℕ) (old between new : Option Files) → turn ≡ Ended status
-    → Told (Continues script false start refused lines) old between
-    → Told (TurnLeaves script refused lines later (Ok turn)) between new
-    → Told (HoldLeaves script start (Ok status)) old new
+    → Modelled (Continues script false start refused lines) old between
+    → Modelled (TurnLeaves script refused lines later (Ok turn)) between new
+    → Modelled (HoldLeaves script start (Ok status)) old new
 leaves_to_end script start lines later refused turn status old between new is =
     told_chain (Continues script false start refused lines) (TurnLeaves script refused lines later (Ok turn))
     (HoldLeaves script start (Ok status))
@@ -150,9 +150,9 @@ leaves_to_end script start lines later refused turn status old between new is =
 
 pub leaves_to_stop : (script : List ℕ) (start lines later : LinesValue) (refused : Bool)
     (stop other : OutsideErr) (old between new : Option Files)
-    → Told (Continues script false start refused lines) old between
-    → Told (TurnLeaves script refused lines later (Err stop)) between new
-    → Told (HoldLeaves script start (Err other)) old new
+    → Modelled (Continues script false start refused lines) old between
+    → Modelled (TurnLeaves script refused lines later (Err stop)) between new
+    → Modelled (HoldLeaves script start (Err other)) old new
 leaves_to_stop script start lines later refused stop other old between new =
     told_chain (Continues script false start refused lines) (TurnLeaves script refused lines later (Err stop))
     (HoldLeaves script start (Err other)) (λ first here last before turns. tt) old between new
@@ -164,8 +164,8 @@ LeavesAnswered script answer old new = IfOk answer (λ status. CeremonyLeaves sc
 
 begun_by : (script : List ℕ) (lines : LinesValue) (answer : Result ℕ OutsideErr) (files : Files)
     (now : Option Files) → script_begun files script ≡ Ok (rest_of lines files)
-    → Told (HoldLeaves script lines answer) (Some files) now
-    → Told (LeavesAnswered script answer) (Some files) now
+    → Modelled (HoldLeaves script lines answer) (Some files) now
+    → Modelled (LeavesAnswered script answer) (Some files) now
 begun_by script lines answer files None is left = absurd left
 begun_by script lines (Err stop) files (Some new) is left = tt
 begun_by script lines (Ok status) files (Some new) is left =
@@ -174,23 +174,23 @@ begun_by script lines (Ok status) files (Some new) is left =
 -- the script was begun
 pub begun_left : (script : List ℕ) (lines : LinesValue) (held between now : Option Files)
     (answer : Result ℕ OutsideErr) → between ≡ held
-    → IfSome held (λ files. Gives {T = LinesValue} said_of_unread (λ l. rest_of l files) (Ok lines) (script_begun files script)) → Told (HoldLeaves script lines answer) between now → Told (LeavesAnswered script answer) held now
+    → IfSome held (λ files. Gives {T = LinesValue} said_of_unread (λ l. rest_of l files) (Ok lines) (script_begun files script)) → Modelled (HoldLeaves script lines answer) between now → Modelled (LeavesAnswered script answer) held now
 begun_left script lines None between now answer same is left =
-    subst (λ files. Told (HoldLeaves script lines answer) files now) same left
+    subst (λ files. Modelled (HoldLeaves script lines answer) files now) same left
 begun_left script lines (Some files) between now answer same is left =
-    begun_by script lines answer files now is (subst (λ held. Told (HoldLeaves script lines answer) held now) same left)
+    begun_by script lines answer files now is (subst (λ held. Modelled (HoldLeaves script lines answer) held now) same left)
 
 -- it wasn't
 pub unread_left : (script : List ℕ) (unread : Unread) (said : SaidValue) (held now : Option Files)
     (taken then_ : Option (List ℕ)) (status : ℕ) → now ≡ held → Ok said ≡ said_or_stopped unread
     → IfSome held (λ files. Gives {T = LinesValue} said_of_unread (λ l. rest_of l files) (Err unread) (script_begun files script))
     → ((old : Stores) → EndsAll (Ok status) (closed said) (outside old taken) (outside old then_))
-    → Told (LeavesAnswered script (Ok status)) held now
+    → Modelled (LeavesAnswered script (Ok status)) held now
 unread_left script unread said None now taken then_ status same is gives ends = same
 unread_left script unread said (Some files) now taken then_ status same is gives ends =
-    subst (λ left. Told (LeavesAnswered script (Ok status)) (Some files) left) (sym same)
+    subst (λ left. Modelled (LeavesAnswered script (Ok status)) (Some files) left) (sym same)
     (subst (λ r. BehindLeaves script r status files files) (sym (unread_said script unread said files is gives)) ((ends (stores None None)).0, refl))
 
 pub stopped_left : (script : List ℕ) (stop : OutsideErr) (held now : Option Files) → now ≡ held
-    → Told (LeavesAnswered script (Err stop)) held now
+    → Modelled (LeavesAnswered script (Err stop)) held now
 stopped_left script stop held now = told_kept (LeavesAnswered script (Err stop)) (λ files. tt) held now

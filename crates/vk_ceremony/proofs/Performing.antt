@@ -2,7 +2,7 @@
 use Rattle.std.proofs.Common.{◌≡◌, ℕ, zero, List, [], ◌∷◌, ◌++◌, map, Option, Some, None, IfSome, Result, Ok, Err, refl, sym, ap, subst, ◌∙◌, inl, inr}
 use Rattle.std.specs.Prelude.{IsSomeAnd, option_map}
 use Rattle.std.specs.List.{flat_map}
-use Rattle.vk_io.specs.Files.{Files, Told}
+use Rattle.vk_io.specs.Files.{Files, Modelled}
 use Rattle.vk_io.specs.Writing.{written, IsDivided}
 use Rattle.vk_io.specs.declared.errors.OutsideErr.{OutsideErr}
 use Rattle.vk_keeper.specs.Ledgers.{Ledger}
@@ -204,7 +204,7 @@ order_stopped order orders files ledger effect now new holds is (inl same) =
     none_done (order ∷ orders) files ledger new (subst (λ left. Holds left files ledger) (sym same) holds)
 order_stopped order orders files ledger effect now new holds is (inr (ledger_is, inl writing)) =
     let kept = kept_by_effect order files ledger effect is in
-    let left = found_of (IsDivided effect.writes files) new.files (subst (λ held. Told (IsDivided effect.writes) held new.files) holds.held writing.files_are) in
+    let left = found_of (IsDivided effect.writes files) new.files (subst (λ held. Modelled (IsDivided effect.writes) held new.files) holds.held writing.files_are) in
     first_stopped order orders files left.0 ledger (ledger_by (asked_in files order) ledger) new left.1 (ledger_is ∙ kept) (record { effect = effect; effect_is = is; left_is = left.2; kept_is = kept })
 order_stopped order orders files ledger effect now new holds is (inr (ledger_is, inr printing)) =
     let kept = kept_by_effect order files ledger effect is in
@@ -238,7 +238,7 @@ whole_performs orders files ledger whole taken (Ok status) new follows ends =
 whole_performs orders files ledger whole taken (Err stop) new follows ends =
     orders_stopped orders files ledger whole.commands whole.closing.text (outside (stores (Some files) (Some ledger)) taken) new (outside_holds files ledger taken) follows ends
 
--- what follows for each that is told follows for the one that is
+-- what follows for each that is known follows for the one that is
 told_then : {X : Type 0} {Q : Type 0} (P : X → Type 0) (found : Option X) → IsSomeAnd found (λ x. P x → Q) → IfSome found P → Q
 told_then P None follows is = absurd follows
 told_then P (Some x) follows is = follows is

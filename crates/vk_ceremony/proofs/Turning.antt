@@ -1,7 +1,7 @@
 -- One turn of a ceremony: what is left of it is what the turn did, and what is left then.
 use Rattle.std.proofs.Common.{◌≡◌, ℕ, zero, Bool, true, false, ◌||◌, if◌then◌else◌, List, [], ◌∷◌, Option, Some, None, IfSome, Result, Ok, Err, option_map, refl, sym, ap, subst, ◌∙◌, inl, append-nil, arith}
 use Rattle.std.specs.Prelude.{IsSomeAnd, option_and_then}
-use Rattle.vk_io.specs.Files.{Files, Told, bytes_of}
+use Rattle.vk_io.specs.Files.{Files, Modelled, bytes_of}
 use Rattle.vk_io.specs.Writing.{written}
 use Rattle.vk_io.specs.declared.errors.OutsideErr.{OutsideErr}
 use Rattle.vk_lines.specs.Lines.{LinesValue, rest_in, rest_of}
@@ -23,7 +23,7 @@ use Rattle.vk_ceremony.proofs.Writing.{command_leaves}
 
 -- ---- nothing was done
 
-none_taken : (text : List ℕ) (taken : Option (List ℕ)) → Told (TakesPrefix text) taken taken
+none_taken : (text : List ℕ) (taken : Option (List ℕ)) → Modelled (TakesPrefix text) taken taken
 none_taken text None = refl
 none_taken text (Some before) = (zero, omega arith, sym (append-nil before))
 

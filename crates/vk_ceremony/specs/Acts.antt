@@ -60,7 +60,7 @@ pub record Performs (orders : List HouseWords) (files : Files) (ledger : Ledger)
 
 -- ---- as far as they came
 
--- some acts of these orders lead from these files and this ledger to what is held and kept, which is told
+-- some acts of these orders lead from these files and this ledger to what is held and kept, which is modelled
 pub record PerformsSome (orders : List HouseWords) (files : Files) (ledger : Ledger) (held : Option Files) (kept : Option Ledger) : Type 0 where
   pub acts : List HouseAct
   pub files_left : Files

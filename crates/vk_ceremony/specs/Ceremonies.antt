@@ -71,8 +71,8 @@ abbrev pub ceremony_behind : List ℕ → Stores → Result Rest SaidValue → O
 ceremony_behind script old (Ok rest) = ceremony_by script false (script_at script rest) old
 ceremony_behind script old (Err said) = Some (closed said)
 
--- the ceremony of the script of that name, as far as it is told: the script by its bytes as they stand before it,
--- since no command of it writes them
+-- the ceremony of the script of that name, as far as the outside is modelled: the script by its bytes as they stand
+-- before it, since no command of it writes them
 abbrev pub ceremony_on : Option Files → Option Ledger → List ℕ → Option Ceremony
 ceremony_on files ledger script = option_and_then (λ held. ceremony_behind script (stores files ledger) (script_begun held script)) files
 

@@ -1,4 +1,4 @@
--- What a ceremony leaves of the files where they are told, whatever its keeper tells.
+-- What a ceremony leaves of the files where they are modelled, whether or not its keeper is.
 use Rattle.std.specs.Prelude.{◌≡◌, ℕ, ◌||◌, Bool, false, List, [], ◌∷◌, Result, Ok, Err, IsTrue, IsFalse, ◌⊎◌}
 use Rattle.vk_io.specs.Files.{Files}
 use Rattle.vk_io.specs.declared.errors.OutsideErr.{OutsideErr}

@@ -6,7 +6,7 @@ ghost use Rattle.vk_words.specs.Orders.{IsHouseOrder, house_seen};
 ghost use Rattle.vk_effect.specs.Counts.{CausesThree};
 ghost use Rattle.vk_effect.specs.Effects.{IsEnd, outside};
 ghost use Rattle.vk_effect.specs.Ends.{Ends};
-ghost use Rattle.vk_auctioneer.specs.Common.{KeepsAnswers, Told, stores};
+ghost use Rattle.vk_auctioneer.specs.Common.{KeepsAnswers, Modelled, stores};
 ghost use Rattle.vk_auctioneer.specs.Effects.{house_effect};
 ghost use Rattle.vk_auctioneer.specs.Leaving.{LeavesFiles};
 ghost use Rattle.vk_ceremony.specs.Ceremonies.{EndsAll, ceremony_on};
@@ -46,8 +46,8 @@ pub fn ceremony<S: Shelf, K: Keeper + Drop, W: Sink>(
         (λ whole. EndsAll result whole (outside (stores (S.held shelf.old) (K.ledger keeper.old)) (W.taken out.old))
         (outside (stores (S.held shelf.new) (K.ledger keeper.new)) (W.taken out.new))) }
     ensures end { IfOk result IsEnd }
-    ensures files { Told (λ old new. IfOk result (λ status. CeremonyLeaves script.now status old new)) (S.held shelf.old) (S.held shelf.new) }
-    ensures once { Told KeepsAnswers (K.ledger keeper.old) (K.ledger keeper.new) }
+    ensures files { Modelled (λ old new. IfOk result (λ status. CeremonyLeaves script.now status old new)) (S.held shelf.old) (S.held shelf.new) }
+    ensures once { Modelled KeepsAnswers (K.ledger keeper.old) (K.ledger keeper.new) }
     ensures causes { CausesThree OutsideErr.Failed result (S.Shelf.faults shelf.old) (S.Shelf.faults shelf.new)
         (K.faults keeper.old) (K.faults keeper.new) (W.Sink.faults out.old) (W.Sink.faults out.new) }
 {
@@ -78,9 +78,9 @@ fn hold<S: Shelf, K: Keeper + Drop, W: Sink>(
         (λ whole. EndsAll result whole (outside (stores (S.held shelf.old) (K.ledger keeper.old)) (W.taken out.old))
         (outside (stores (S.held shelf.new) (K.ledger keeper.new)) (W.taken out.new))) }
     ensures end { IfOk result IsEnd }
-    ensures files { Told (λ old new. IfOk result (λ status. ScriptLeaves script.now false (script_at script.now (rest_of lines old)) status old new))
+    ensures files { Modelled (λ old new. IfOk result (λ status. ScriptLeaves script.now false (script_at script.now (rest_of lines old)) status old new))
         (S.held shelf.old) (S.held shelf.new) }
-    ensures once { Told KeepsAnswers (K.ledger keeper.old) (K.ledger keeper.new) }
+    ensures once { Modelled KeepsAnswers (K.ledger keeper.old) (K.ledger keeper.new) }
     ensures causes { CausesThree OutsideErr.Failed result (S.Shelf.faults shelf.old) (S.Shelf.faults shelf.new)
         (K.faults keeper.old) (K.faults keeper.new) (W.Sink.faults out.old) (W.Sink.faults out.new) }
 {
@@ -109,10 +109,10 @@ fn next<S: Shelf, K: Keeper + Drop, W: Sink>(
         (λ whole. Turns script.now lines.new result whole (outside (stores (S.held shelf.old) (K.ledger keeper.old)) (W.taken out.old))
         (outside (stores (S.held shelf.new) (K.ledger keeper.new)) (W.taken out.new))) }
     ensures end { IfOk result (λ turn. EndsWell turn) }
-    ensures files { Told (TurnLeaves script.now refused lines.old lines.new result) (S.held shelf.old) (S.held shelf.new) }
+    ensures files { Modelled (TurnLeaves script.now refused lines.old lines.new result) (S.held shelf.old) (S.held shelf.new) }
     ensures file { KeepsFile lines.old lines.new }
     ensures taken { IfOk result (λ turn. IsNextTurn turn → (lines.new.taken ≡ lines.old.taken + 1) × (lines.new.taken ≤ 2 ^ 30)) }
-    ensures once { Told KeepsAnswers (K.ledger keeper.old) (K.ledger keeper.new) }
+    ensures once { Modelled KeepsAnswers (K.ledger keeper.old) (K.ledger keeper.new) }
     ensures causes { CausesThree OutsideErr.Failed result (S.Shelf.faults shelf.old) (S.Shelf.faults shelf.new)
         (K.faults keeper.old) (K.faults keeper.new) (W.Sink.faults out.old) (W.Sink.faults out.new) }
 {
@@ -167,8 +167,8 @@ fn command<S: Shelf, K: Keeper + Drop, W: Sink>(
     ensures ends { IfSome (house_effect (S.held shelf.old) (K.ledger keeper.old) (house_seen order.now))
         (λ effect. Ends result effect (outside (stores (S.held shelf.old) (K.ledger keeper.old)) (W.taken out.old))
         (outside (stores (S.held shelf.new) (K.ledger keeper.new)) (W.taken out.new))) }
-    ensures files { Told (λ old new. IfOk result (λ status. LeavesFiles (house_seen order.now) status old new)) (S.held shelf.old) (S.held shelf.new) }
-    ensures once { Told KeepsAnswers (K.ledger keeper.old) (K.ledger keeper.new) }
+    ensures files { Modelled (λ old new. IfOk result (λ status. LeavesFiles (house_seen order.now) status old new)) (S.held shelf.old) (S.held shelf.new) }
+    ensures once { Modelled KeepsAnswers (K.ledger keeper.old) (K.ledger keeper.new) }
     ensures causes { CausesThree OutsideErr.Failed result (S.Shelf.faults shelf.old) (S.Shelf.faults shelf.new)
         (K.faults keeper.old) (K.faults keeper.new) (W.Sink.faults out.old) (W.Sink.faults out.new) }
 {

@@ -38,8 +38,9 @@ pub fn a_script_says_the_commands_of_its_text()
     ensures { (script : List ℕ) (orders : List (List (List ℕ))) (start : Rest) → AreOrders script orders → start.left ≡ script_text orders → SaysOrders script orders start }
 {}
 
-/// A law: over told files and a told ledger the whole ceremony is told. What its commands ask the house, in their order in
-/// the script and as far as they are reached, and what the house replies are calls of it one after another.
+/// A law: over modelled files and a modelled ledger the whole ceremony is known. What its commands ask the house, in
+/// their order in the script and as far as they are reached, and what the house replies are calls of it one after
+/// another.
 pub fn a_ceremony_is_a_run_of_the_house()
     ensures { (files : Files) (ledger : Ledger) (script : List ℕ) → IsSomeAnd (ceremony_on (Some files) (Some ledger) script)
         (λ whole. IsRun (orders_in files script) files ledger whole.commands) }

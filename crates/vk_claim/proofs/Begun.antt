@@ -1,4 +1,4 @@
--- What is said of told content of a claim file, from what is said of the lanes behind its front.
+-- What is said of modelled content of a claim file, from what is said of the lanes behind its front.
 use Rattle.std.proofs.Common.{◌≡◌, false, Option, Some, None, IfSome, option_map, Ok, Err, refl, ap}
 use Rattle.vk_io.specs.Files.{Files}
 use Rattle.vk_verifier.specs.declared.stage.Finding.TheVariants.{Refused}

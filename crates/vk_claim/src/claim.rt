@@ -31,7 +31,7 @@ pub fn read_claim<S: Shelf, Q: Circuits>(
     circuits: &Q,
     lines: &mut Lines,
 ) -> Result<Result<Claim, ClaimVerdict>, OutsideErr>
-    ensures told { IfSome (S.held shelf.old) (λ files. IfOk result (λ claim.
+    ensures modelled { IfSome (S.held shelf.old) (λ files. IfOk result (λ claim.
         claim_at (Q.admitted circuits.now) (rest_of lines.old files) ≡ and_rest claim (rest_of lines.new files))) }
     ensures right { IfOk result (λ claim. IfOk claim (IsClaim (Q.admitted circuits.now))) }
     ensures shelf { OnlyReads S.held S.Shelf.faults OutsideErr.Failed result shelf.old shelf.new }

@@ -37,7 +37,7 @@ pub fn extract_claim<S: Shelf, Q: Circuits>(
     circuits: &Q,
     names: &TwoReplies<'_>,
 ) -> Result<ClaimExtraction, VErr>
-    ensures told { IfSome (S.held shelf.old) (λ files. Gives unread_file (λ found. found) result
+    ensures modelled { IfSome (S.held shelf.old) (λ files. Gives unread_file (λ found. found) result
         (claim_extraction_named (Q.admitted circuits.now) files names.now)) }
     ensures shows { IfOk result (ShowsClaims (Q.admitted circuits.now) (Q.claim circuits.now)) }
     ensures shelf { OnlyReads S.held S.Shelf.faults VErr.Failed result shelf.old shelf.new }

@@ -28,7 +28,7 @@ pub fn read_claim_front<S: Shelf>(
     lines: &mut Lines,
 ) -> Result<ClaimFront, ReadErr>
     ensures file { KeepsFile lines.old lines.new }
-    ensures told { ReadsPart claim_front_at (S.held shelf.old) lines.old lines.new result }
+    ensures modelled { ReadsPart claim_front_at (S.held shelf.old) lines.old lines.new result }
     ensures right { IfOk result IsClaimFront }
     ensures shelf { OnlyReads S.held S.Shelf.faults ReadErr.Failed result shelf.old shelf.new }
 {

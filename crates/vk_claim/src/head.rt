@@ -48,7 +48,7 @@ pub fn read_claim_head<S: Shelf>(
     lines: &mut Lines,
 ) -> Result<ClaimHead, ReadErr>
     ensures shelf { OnlyReads S.held S.Shelf.faults ReadErr.Failed result shelf.old shelf.new }
-    ensures told { ReadsPart claim_head_at (S.held shelf.old) lines.old lines.new result }
+    ensures modelled { ReadsPart claim_head_at (S.held shelf.old) lines.old lines.new result }
     ensures right { IfOk result IsClaimHead }
     ensures file { KeepsFile lines.old lines.new }
 {
@@ -70,7 +70,7 @@ pub fn read_claim_head<S: Shelf>(
 /// Reads the line of a kind.
 #[tactic(auto, unfolding(vk_lines::specs::Lines::line_by))]
 fn read_kind<S: Shelf>(shelf: &mut S, lines: &mut Lines) -> Result<Kind, ReadErr>
-    ensures told { ReadsPart (line_by kind_line) (S.held shelf.old) lines.old lines.new result }
+    ensures modelled { ReadsPart (line_by kind_line) (S.held shelf.old) lines.old lines.new result }
     ensures file { KeepsFile lines.old lines.new }
     ensures shelf { OnlyReads S.held S.Shelf.faults ReadErr.Failed result shelf.old shelf.new }
 {
@@ -108,7 +108,7 @@ fn read_numbers<S: Shelf>(
     shelf: &mut S,
     lines: &mut Lines,
 ) -> Result<Seq<u64>, ReadErr>
-    ensures told { ReadsPart numbers_at (S.held shelf.old) lines.old lines.new result }
+    ensures modelled { ReadsPart numbers_at (S.held shelf.old) lines.old lines.new result }
     ensures right { IfOk result AreNumbers }
     ensures file { KeepsFile lines.old lines.new }
     ensures shelf { OnlyReads S.held S.Shelf.faults ReadErr.Failed result shelf.old shelf.new }

@@ -60,7 +60,7 @@ impl ClaimChecker {
         reply2: &str,
     ) -> Result<Self, VErr>
         ensures shelf { OnlyReads S.held S.Shelf.faults VErr.Failed result shelf.old shelf.new }
-        ensures told { IfSome (S.held shelf.old) (λ files. Gives unread_file (λ checker. claim_ahead checker files) result
+        ensures modelled { IfSome (S.held shelf.old) (λ files. Gives unread_file (λ checker. claim_ahead checker files) result
             (two_claims_on (Q.admitted circuits.now) files board.now challenge1.now reply1.now challenge2.now reply2.now)) }
         ensures base { IfSome (S.held shelf.old) (λ files. Gives unread_file (λ checker. claim_base checker) result
             (claim_base_on (Q.admitted circuits.now) files board.now challenge1.now reply1.now challenge2.now reply2.now)) }
@@ -88,7 +88,7 @@ impl ClaimChecker {
         alloc: Global,
         shelf: &mut S,
     ) -> Result<(Self, Option<TwoLane>), OutsideErr>
-        ensures told { IfSome (S.held shelf.old) (λ files. IfOk result (λ next. ClaimGoesOn self next.1 next.0 files)) }
+        ensures modelled { IfSome (S.held shelf.old) (λ files. IfOk result (λ next. ClaimGoesOn self next.1 next.0 files)) }
         ensures step { IfOk result (λ next. IsLaneStep self next.1 next.0) }
         ensures shelf { OnlyReads S.held S.Shelf.faults OutsideErr.Failed result shelf.old shelf.new }
     {
@@ -151,7 +151,7 @@ impl ClaimCourse {
         shelf: &mut S,
     ) -> Result<(Self, Option<TwoLane>), OutsideErr>
         requires { IsClaimCourse self }
-        ensures told { IfSome (S.held shelf.old) (λ files. IfOk result (λ next. ClaimGoesOn (Ok self) next.1 (Ok next.0) files)) }
+        ensures modelled { IfSome (S.held shelf.old) (λ files. IfOk result (λ next. ClaimGoesOn (Ok self) next.1 (Ok next.0) files)) }
         ensures right { IfOk result (λ next. IsClaimCourse next.0) }
         ensures step { IfOk result (λ next. IsLaneStep (Ok self) next.1 (Ok next.0)) }
         ensures shelf { OnlyReads S.held S.Shelf.faults OutsideErr.Failed result shelf.old shelf.new }
@@ -169,7 +169,7 @@ fn check_claim<S: Shelf, Q: Circuits>(
     circuits: &Q,
     two: TwoAttempts,
 ) -> Result<ClaimChecker, OutsideErr>
-    ensures told { IfSome (S.held shelf.old) (λ files. IfOk result (λ checker. claim_ahead checker files ≡ of_two (two_claims (Q.admitted circuits.now)) two files)) }
+    ensures modelled { IfSome (S.held shelf.old) (λ files. IfOk result (λ checker. claim_ahead checker files ≡ of_two (two_claims (Q.admitted circuits.now)) two files)) }
     ensures base { IfSome (S.held shelf.old) (λ files. IfOk result (λ checker. claim_base checker ≡ of_two (claim_base_at (Q.admitted circuits.now)) two files)) }
     ensures none_given { IfOk result (λ checker. claim_given checker ≡ 0) }
     ensures shelf { OnlyReads S.held S.Shelf.faults OutsideErr.Failed result shelf.old shelf.new }
@@ -194,7 +194,7 @@ fn begin_course<S: Shelf>(
     two: TwoAttempts,
 ) -> Result<ClaimCourse, OutsideErr>
     requires { IsOfHead claim.head claim.statement }
-    ensures told { IfSome (S.held shelf.old) (λ files. IfOk result (λ course. claim_ahead (Ok course) files ≡ of_two (λ file. ahead_after_claim (Ok (claim, file))) two files)) }
+    ensures modelled { IfSome (S.held shelf.old) (λ files. IfOk result (λ course. claim_ahead (Ok course) files ≡ of_two (λ file. ahead_after_claim (Ok (claim, file))) two files)) }
     ensures base { IfSome (S.held shelf.old) (λ files. IfOk result (λ course. claim_base (Ok course) ≡ of_two (λ file. base_after_claim (Ok (claim, file))) two files)) }
     ensures right { IfOk result IsClaimCourse }
     ensures none_given { IfOk result (λ course. claim_given (Ok course) ≡ 0) }

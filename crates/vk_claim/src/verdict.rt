@@ -70,7 +70,7 @@ pub fn claim_verdict<S: Shelf, Q: Circuits>(
     challenge: &str,
     reply: &str,
 ) -> Result<ClaimVerdict, VErr>
-    ensures told { IfSome (S.held shelf.old) (λ files.
+    ensures modelled { IfSome (S.held shelf.old) (λ files.
         Gives unread_file (λ verdict. verdict) result (claim_verdict_on (Q.admitted circuits.now) files board.now challenge.now reply.now)) }
     ensures shelf { OnlyReads S.held S.Shelf.faults VErr.Failed result shelf.old shelf.new }
 {
@@ -93,7 +93,7 @@ fn judge_claim<S: Shelf, Q: Circuits>(
     circuits: &Q,
     attempt: &mut Attempt,
 ) -> Result<ClaimVerdict, OutsideErr>
-    ensures told { IfSome (S.held shelf.old) (λ files.
+    ensures modelled { IfSome (S.held shelf.old) (λ files.
         IfOk result (λ verdict. of_begun (claim_judged (Q.admitted circuits.now)) attempt.old files ≡ verdict)) }
     ensures shelf { OnlyReads S.held S.Shelf.faults OutsideErr.Failed result shelf.old shelf.new }
 {
@@ -114,7 +114,7 @@ fn judge_lanes<S: Shelf>(
     statement: &Statement,
     attempt: &mut Attempt,
 ) -> Result<ClaimVerdict, OutsideErr>
-    ensures told { IfSome (S.held shelf.old) (λ files. IfOk result (λ verdict.
+    ensures modelled { IfSome (S.held shelf.old) (λ files. IfOk result (λ verdict.
         verdict_behind (of_begun (behind_judged statement.now) attempt.old files) ≡ verdict)) }
     ensures shelf { OnlyReads S.held S.Shelf.faults OutsideErr.Failed result shelf.old shelf.new }
 {

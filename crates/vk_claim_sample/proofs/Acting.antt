@@ -17,7 +17,7 @@ use Rattle.vk_effect.specs.Effects.{Effect, SaidValue, Stores, stores}
 use Rattle.vk_effect.specs.Ends.{Acts}
 use Rattle.vk_effect.proofs.Acting.{if_some_map}
 use Rattle.vk_sample.specs.Auctions.{DrySeed}
-use Rattle.vk_sample.specs.Samples.{told_effect}
+use Rattle.vk_sample.specs.Samples.{modelled_effect}
 use Rattle.vk_sample.specs.Texts.{dry_said, found_text, same_count}
 use Rattle.vk_sample.proofs.Acting.{dry_acts, stopped_first}
 use Rattle.vk_claim_sample.proofs.Opened.{opens}
@@ -104,7 +104,7 @@ module _ (kind : ClaimKind) (number : ℕ) (sizes : Sizes) (sizes_are : sizes �
   dry_so dry said files ledger refuses is some =
       claim_acts kind number case numbers (proof_by kind case numbers) (Ok said) (stores files ledger) (stores files ledger) case_is may refl
       (dry_acts dry (proof_by kind case numbers) files ledger
-      (λ proof. told_effect files ledger (files_of kind case numbers proof) (summary_said kind number proof)) said refuses
+      (λ proof. modelled_effect files ledger (files_of kind case numbers proof) (summary_said kind number proof)) said refuses
       (if_some_map _ _ (λ seed. same_said said (dry_said seed)) dry is) some)
     where
       same_said : (one other : SaidValue) → ◌≡◌ {A = Result SaidValue NoMemory} (Ok one) (Ok other) → one ≡ other

@@ -10,17 +10,17 @@ use Rattle.vk_words.specs.declared.claim.ClaimKind.TheVariants.{Uniform, Matchin
 use Rattle.vk_effect.specs.Effects.{Effect, Outside, SaidValue, Stores}
 use Rattle.vk_effect.specs.Ends.{Acts, Ends}
 use Rattle.vk_sample.specs.Auctions.{DrySeed}
-use Rattle.vk_sample.specs.Samples.{effect_unless_dry, told_effect}
+use Rattle.vk_sample.specs.Samples.{effect_unless_dry, modelled_effect}
 use Rattle.vk_claim_sample.specs.Claims.{IsMatchingOf, claim_case, numbers_of, proof_by}
 use Rattle.vk_claim_sample.specs.Texts.{files_of, summary_said}
 
 -- ---- where the numbers are known
 
--- over files that are told the five files are written and the summary is said. A seed that is dry is said over any files,
--- and none is written
+-- over files that are modelled the five files are written and the summary is said. A seed that is dry is said over any
+-- files, and none is written
 abbrev pub effect_by : ClaimKind → Option Files → Option Ledger → ℕ → SampleCase → List ℕ → Result ProofValue DrySeed → Option Effect
 effect_by kind files ledger number case numbers =
-    effect_unless_dry ledger (λ proof. told_effect files ledger (files_of kind case numbers proof) (summary_said kind number proof))
+    effect_unless_dry ledger (λ proof. modelled_effect files ledger (files_of kind case numbers proof) (summary_said kind number proof))
 
 -- the effect where these numbers are published. The ledger is left as it is
 unfoldable pub effect_with : ClaimKind → Option Files → Option Ledger → ℕ → List ℕ → Option Effect

@@ -1,7 +1,7 @@
 // The files of a sample's claim.
 ghost use Rattle.std.specs.Prelude.{◌≡◌, ◌≤◌, length, IfOk};
 ghost use Rattle.vk_io.specs.Faults.{Causes};
-ghost use Rattle.vk_io.specs.Files.{Told};
+ghost use Rattle.vk_io.specs.Files.{Modelled};
 ghost use Rattle.vk_io.specs.Writing.{WritesAll};
 ghost use Rattle.vk_words.specs.Names.{extract_seen};
 ghost use Rattle.vk_claim.specs.Texts.{claim_head_text};
@@ -81,7 +81,7 @@ pub fn write_claim<S: Shelf>(
     requires right { IsProof (proof_in case.now made.now) }
     requires first { length case.now.first.bits ≡ case.now.lanes }
     requires second { length case.now.second.bits ≡ case.now.lanes }
-    ensures written { Told (WritesAll (files_of kind case.now numbers.now (proof_in case.now made.now)) result) (S.held shelf.old) (S.held shelf.new) }
+    ensures written { Modelled (WritesAll (files_of kind case.now numbers.now (proof_in case.now made.now)) result) (S.held shelf.old) (S.held shelf.new) }
     ensures causes { Causes OutsideErr.Failed result (S.Shelf.faults shelf.old) (S.Shelf.faults shelf.new) }
 {
     let head = head_of(alloc, kind, case, numbers)?;

@@ -1,6 +1,6 @@
 -- What the statuses of `claim-verify` and `claim-extract` mean, by the bytes of the named files alone.
 use Rattle.std.specs.Prelude.{◌≡◌, ◌⊎◌, ◌↔◌, ℕ, false, List, ◌++◌, Option, Some, None, Result}
-use Rattle.vk_io.specs.Files.{Files, Told}
+use Rattle.vk_io.specs.Files.{Files, Modelled}
 use Rattle.vk_verifier.specs.declared.answers.VErr.{VErr}
 use Rattle.vk_bids.specs.declared.extraction.Extraction.TheVariants.{Same}
 use Rattle.vk_bids.specs.Headline.{HeldAttempt, IsClashBehind, IsHeldFile}
@@ -101,8 +101,8 @@ pub record PutsText {X : Type 0} (IsSuch : X → Type 0) (text : X → List ℕ)
 abbrev pub IsClaimExtracted : {file challenge reply other second : List ℕ}
     → TwoClaimsAccepted admitted_plan file challenge reply other second → ℕ → Option (List ℕ) → Option (List ℕ) → Type 0
 IsClaimExtracted two status old new =
-    ((status ≡ 0) × Told (PutsText (IsClaimOpened admitted_plan claimed two) claim_extraction_text) old new)
-    ⊎ ((status ≡ 3) × Told (PutsText (IsClashBehind two.behind) clash_text) old new)
+    ((status ≡ 0) × Modelled (PutsText (IsClaimOpened admitted_plan claimed two) claim_extraction_text) old new)
+    ⊎ ((status ≡ 3) × Modelled (PutsText (IsClashBehind two.behind) clash_text) old new)
 
 -- every end says what holds, and every answer that holds is what is said, but for values and a clash
 abbrev pub ClaimExtractHolds : Files → ExtractWords → Result ClaimExtraction VErr → Type 0

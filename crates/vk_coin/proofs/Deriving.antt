@@ -29,7 +29,7 @@ of_file (Some bytes) told size lanes digest challenge answer is short hashed mad
     let whole : take size bytes ≡ bytes = take_all size bytes (omega (arith, long)) in
     rw fits (ap (λ d. Ok (record { bits = leading_bits lanes d })) (ap (λ t. sha256 (derived_message t)) (sym whole) ∙ sym hashed) ∙ ap (λ c. Ok c) (sym made))
 
--- that of the named file, where the files are told
+-- that of the named file, where the files are modelled
 pub derived_found : (h g : Option Files) (name digest : List ℕ) (told : Option ℕ) (size lanes : ℕ) (challenge : Challenge) → g ≡ h
     → IfSome h (λ files. told ≡ option_map length (get files name)) → told ≡ Some size → size ≤ 2 ^ 30
     → IfSome g (λ files. digest ≡ sha256 (derived_message (take size (bytes_of files name))))

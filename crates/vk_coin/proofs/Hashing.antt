@@ -6,7 +6,7 @@ use Rattle.vk_io.specs.Files.{Files, bytes_of, part_of}
 use Rattle.vk_io.proofs.Reading.{read_more}
 use Rattle.vk_coin.specs.Derived.{derived_message}
 
--- where the files are told: a hasher of the first bytes that takes one more piece is one of the bytes up to its end
+-- where the files are modelled: a hasher of the first bytes that takes one more piece is one of the bytes up to its end
 pub hashed_more : (h g : Option Files) (name into front rest : List ℕ) (old new : Sha256) (at n : ℕ) → g ≡ h
     → IfSome h (λ files. Holds256 old (derived_message (take at (bytes_of files name))))
     → IfSome g (λ files. n ≡ length (part_of (bytes_of files name) at (length into)))

@@ -41,7 +41,7 @@ pub fn board_challenge<S: Shelf>(
     lanes: u32,
 ) -> Result<Challenge, BoardErr>
     requires { IsLaneCount lanes }
-    ensures told { IfSome (S.held shelf.old) (λ files.
+    ensures modelled { IfSome (S.held shelf.old) (λ files.
         Gives cause_of (λ challenge. challenge) result (derived_on files board.now lanes)) }
     ensures free { IfSome (S.held shelf.old) (λ files.
         IsSome (refusal_of (option_map length (map.get files board.now)))
@@ -72,7 +72,7 @@ fn taken_size(told: Option<u64>) -> Result<u64, BoardErr>
 
 /// SHA-256 of `VKD1` and the first `size` bytes of the named file, or all where there are fewer.
 fn digest_behind<S: Shelf>(shelf: &mut S, name: &str, size: u64) -> Result<[u8; 32], OutsideErr>
-    ensures told { IfSome (S.held shelf.old) (λ files. IfOk result (λ digest.
+    ensures modelled { IfSome (S.held shelf.old) (λ files. IfOk result (λ digest.
         digest ≡ sha256 (derived_message (take size (bytes_of files name.now))))) }
     ensures size { IfOk result (λ digest. length digest ≡ 32) }
     ensures shelf { OnlyReads S.held S.Shelf.faults OutsideErr.Failed result shelf.old shelf.new }

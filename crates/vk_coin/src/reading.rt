@@ -28,7 +28,7 @@ pub fn read_share<S: Shelf>(
     ensures right { IfOk result IsShare }
     ensures shelf { OnlyReads S.held S.Shelf.faults ReadErr.Failed result shelf.old shelf.new }
     ensures file { KeepsFile lines.old lines.new }
-    ensures told { ReadsPart share_at (S.held shelf.old) lines.old lines.new result }
+    ensures modelled { ReadsPart share_at (S.held shelf.old) lines.old lines.new result }
     ensures answers { AnswersWhole IsShare share_text share_table (S.held shelf.old) lines.old result }
 {
     let share = share_read(alloc, shelf, lines);
@@ -39,7 +39,7 @@ pub fn read_share<S: Shelf>(
 #[tactic(auto, unfolding(crate::specs::Reading::share_at))]
 fn share_read<S: Shelf>(alloc: Global, shelf: &mut S, lines: &mut Lines) -> Result<Share, ReadErr>
     ensures right { IfOk result IsShare }
-    ensures told { ReadsPart share_at (S.held shelf.old) lines.old lines.new result }
+    ensures modelled { ReadsPart share_at (S.held shelf.old) lines.old lines.new result }
     ensures shelf { OnlyReads S.held S.Shelf.faults ReadErr.Failed result shelf.old shelf.new }
     ensures file { KeepsFile lines.old lines.new }
 {
@@ -54,7 +54,7 @@ fn share_read<S: Shelf>(alloc: Global, shelf: &mut S, lines: &mut Lines) -> Resu
 /// Reads the line that shows a share.
 #[tactic(auto, unfolding(vk_lines::specs::Lines::line_by))]
 fn read_show<S: Shelf>(alloc: Global, shelf: &mut S, lines: &mut Lines) -> Result<Show, ReadErr>
-    ensures told { ReadsPart (line_by show_line) (S.held shelf.old) lines.old lines.new result }
+    ensures modelled { ReadsPart (line_by show_line) (S.held shelf.old) lines.old lines.new result }
     ensures bits { IfOk result (λ show. IsLaneCount (length show.bits)) }
     ensures shelf { OnlyReads S.held S.Shelf.faults ReadErr.Failed result shelf.old shelf.new }
     ensures file { KeepsFile lines.old lines.new }
@@ -79,7 +79,7 @@ fn share_of(auction: &[u8; 16], auditor: u16, show: Show) -> Share
 /// place demands.
 pub fn read_coin<S: Shelf>(alloc: Global, shelf: &mut S, lines: &mut Lines) -> Result<Coin, ReadErr>
     ensures right { IfOk result IsCoin }
-    ensures told { ReadsPart coin_at (S.held shelf.old) lines.old lines.new result }
+    ensures modelled { ReadsPart coin_at (S.held shelf.old) lines.old lines.new result }
     ensures answers { AnswersWhole IsCoin coin_text coin_table (S.held shelf.old) lines.old result }
     ensures shelf { OnlyReads S.held S.Shelf.faults ReadErr.Failed result shelf.old shelf.new }
     ensures file { KeepsFile lines.old lines.new }
@@ -93,7 +93,7 @@ pub fn read_coin<S: Shelf>(alloc: Global, shelf: &mut S, lines: &mut Lines) -> R
 fn coin_read<S: Shelf>(alloc: Global, shelf: &mut S, lines: &mut Lines) -> Result<Coin, ReadErr>
     ensures shelf { OnlyReads S.held S.Shelf.faults ReadErr.Failed result shelf.old shelf.new }
     ensures file { KeepsFile lines.old lines.new }
-    ensures told { ReadsPart coin_at (S.held shelf.old) lines.old lines.new result }
+    ensures modelled { ReadsPart coin_at (S.held shelf.old) lines.old lines.new result }
     ensures right { IfOk result IsCoin }
 {
     lines.read_fixed(shelf, b"vickrey-coin 1")?;
@@ -135,7 +135,7 @@ fn read_parts<S: Shelf>(
     auditors: u32,
 ) -> Result<Seq<[u8; 32]>, ReadErr>
     requires few { auditors ≤ 16 }
-    ensures told { ReadsPart (parts_at auditors) (S.held shelf.old) lines.old lines.new result }
+    ensures modelled { ReadsPart (parts_at auditors) (S.held shelf.old) lines.old lines.new result }
     ensures count { IfOk result (λ parts. length parts ≡ auditors) }
     ensures right { IfOk result (All (AreBytes 32)) }
     ensures shelf { OnlyReads S.held S.Shelf.faults ReadErr.Failed result shelf.old shelf.new }
@@ -178,7 +178,7 @@ fn read_shares<S: Shelf>(
     bits: u32,
 ) -> Result<Seq<Share>, ReadErr>
     requires few { auditors ≤ 16 }
-    ensures told { ReadsPart (shares_at auction.now bits auditors) (S.held shelf.old) lines.old lines.new result }
+    ensures modelled { ReadsPart (shares_at auction.now bits auditors) (S.held shelf.old) lines.old lines.new result }
     ensures count { IfOk result (λ shares. length shares ≡ auditors) }
     ensures right { IfOk result (EachAfter (λ before. IsShareOf auction.now bits (length before + 1)) []) }
     ensures shelf { OnlyReads S.held S.Shelf.faults ReadErr.Failed result shelf.old shelf.new }
@@ -203,7 +203,7 @@ fn read_shown<S: Shelf>(
     bits: u32,
     auditor: u16,
 ) -> Result<Share, ReadErr>
-    ensures told { ReadsPart (shown_at auction.now bits auditor) (S.held shelf.old) lines.old lines.new result }
+    ensures modelled { ReadsPart (shown_at auction.now bits auditor) (S.held shelf.old) lines.old lines.new result }
     ensures right { IfOk result (IsShareOf auction.now bits auditor) }
     ensures shelf { OnlyReads S.held S.Shelf.faults ReadErr.Failed result shelf.old shelf.new }
     ensures file { KeepsFile lines.old lines.new }

@@ -8,7 +8,7 @@ use Rattle.vk_coins.specs.Boards.{board_deed}
 use Rattle.vk_coins.specs.Drawing.{part_deed}
 use Rattle.vk_coins.specs.Joining.{join_deed}
 
--- what is done: by the words alone, or by the files too, where they are told
+-- what is done: by the words alone, or by the files too, where they are modelled
 abbrev pub deed_on : Option Files → CoinWords → Option DeedValue
 deed_on files (Part order) = Some (part_deed order)
 deed_on files (Join names) = option_map (join_deed names) files

@@ -24,7 +24,7 @@ pub fn derive<S: Shelf>(
     shelf: &mut S,
     names: &ChallengeNames<'_>,
 ) -> Result<Deed, OutsideErr>
-    ensures told { IfSome (S.held shelf.old)
+    ensures modelled { IfSome (S.held shelf.old)
         (λ files. IfOk result (λ deed. deed ≡ board_deed (challenge_seen names.now) files)) }
     ensures shelf { OnlyReads S.held S.Shelf.faults OutsideErr.Failed result shelf.old shelf.new }
 {
@@ -38,7 +38,7 @@ pub fn derive<S: Shelf>(
 /// The challenge for the lanes of the named board, where that may be reported on.
 #[tactic(auto, unfolding(crate::specs::Boards::derived_in))]
 fn named_board<S: Shelf>(alloc: Global, shelf: &mut S, board: &str) -> Result<Challenge, ReportErr>
-    ensures told { IfSome (S.held shelf.old) (λ files. Gives fault_of (λ challenge. challenge) result (derived_in files board.now)) }
+    ensures modelled { IfSome (S.held shelf.old) (λ files. Gives fault_of (λ challenge. challenge) result (derived_in files board.now)) }
     ensures shelf { OnlyReads S.held S.Shelf.faults ReportErr.Failed result shelf.old shelf.new }
 {
     let report = read_report(alloc, shelf, board)?;

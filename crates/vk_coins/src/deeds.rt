@@ -37,7 +37,7 @@ pub fn make_challenge<S: Shelf>(
 /// What is to be said, and written before.
 fn deed<S: Shelf>(alloc: Global, shelf: &mut S, order: &CoinOrder<'_>) -> Result<Deed, OutsideErr>
     requires { IsCoinOrder order.now }
-    ensures told { IfSome (deed_on (S.held shelf.old) (coin_seen order.now)) (λ expected. IfOk result (λ deed. deed ≡ expected)) }
+    ensures modelled { IfSome (deed_on (S.held shelf.old) (coin_seen order.now)) (λ expected. IfOk result (λ deed. deed ≡ expected)) }
     ensures shelf { OnlyReads S.held S.Shelf.faults OutsideErr.Failed result shelf.old shelf.new }
 {
     match order {

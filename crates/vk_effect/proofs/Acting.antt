@@ -1,16 +1,16 @@
 -- How a command ends, from what its parts did.
 use Rattle.std.proofs.Common.{◌≡◌, ℕ, List, ◌++◌, Option, Some, None, Result, Ok, Err, refl, ap, subst, ◌∙◌, inl, inr}
 use Rattle.std.specs.Prelude.{option_map, IfSome, IfOk}
-use Rattle.vk_io.specs.Files.{Files, Told, Takes}
+use Rattle.vk_io.specs.Files.{Files, Modelled, Takes}
 use Rattle.vk_io.specs.declared.errors.OutsideErr.{OutsideErr}
 use Rattle.vk_keeper.specs.Ledgers.{Ledger}
 use Rattle.vk_effect.specs.Effects.{DeedValue, Effect, SaidValue, Stores, does, outside, says, stores}
 use Rattle.vk_effect.specs.Ends.{Acts, Ends, TakesPrefix}
 
--- ---- what is told
+-- ---- what is modelled
 
--- where it is told before and after, what is left is what the change makes of it
-pub told_map : {X : Type 0} (f : X → X) (old new : Option X) → Told (λ before after. after ≡ f before) old new → new ≡ option_map f old
+-- where it is modelled before and after, what is left is what the change makes of it
+pub told_map : {X : Type 0} (f : X → X) (old new : Option X) → Modelled (λ before after. after ≡ f before) old new → new ≡ option_map f old
 told_map f None new told = told
 told_map f (Some before) None told = absurd told
 told_map f (Some before) (Some after) told = ap Some told
@@ -44,30 +44,30 @@ stopped_acting effect old new taken stop (inl same) = inl (ap (λ left. outside 
 stopped_acting effect old new taken stop (inr left) = inr (left.0, inl (record { files_are = left.1; taken_is = refl }))
 
 -- it was stopped while it printed
-pub stopped_printing : {E : Type 0} (effect : Effect) (old new : Stores) (taken now : Option (List ℕ)) (said : SaidValue) (text : List ℕ) (refusal : E) (stop : OutsideErr) → text ≡ said.text → Acts (Ok said) effect old new → Told (Takes text (Err refusal)) taken now
+pub stopped_printing : {E : Type 0} (effect : Effect) (old new : Stores) (taken now : Option (List ℕ)) (said : SaidValue) (text : List ℕ) (refusal : E) (stop : OutsideErr) → text ≡ said.text → Acts (Ok said) effect old new → Modelled (Takes text (Err refusal)) taken now
     → Ends (Err stop) effect (outside old taken) (outside new now)
 stopped_printing effect old new taken now said text refusal stop text_is acts told =
     inr (
       ap (λ (left : Stores). left.ledger) acts.1,
       inr (record {
         files_are = ap (λ (left : Stores). left.files) acts.1;
-        taken_is = subst (λ t. Told (TakesPrefix t) taken now) (text_is ∙ ap (λ (s : SaidValue). s.text) acts.0) told;
+        taken_is = subst (λ t. Modelled (TakesPrefix t) taken now) (text_is ∙ ap (λ (s : SaidValue). s.text) acts.0) told;
       }),
     )
 
 -- it came to its end
-pub done_at_end : (E : Type 0) (effect : Effect) (old new : Stores) (taken now : Option (List ℕ)) (said : SaidValue) (text : List ℕ) (status : ℕ) → text ≡ said.text → status ≡ said.status → Acts (Ok said) effect old new → Told (Takes {E = E} text (Ok tt)) taken now
+pub done_at_end : (E : Type 0) (effect : Effect) (old new : Stores) (taken now : Option (List ℕ)) (said : SaidValue) (text : List ℕ) (status : ℕ) → text ≡ said.text → status ≡ said.status → Acts (Ok said) effect old new → Modelled (Takes {E = E} text (Ok tt)) taken now
     → Ends (Ok status) effect (outside old taken) (outside new now)
 done_at_end E effect old new taken now said text status text_is status_is acts told = record {
   status_is = status_is ∙ ap (λ (s : SaidValue). s.status) acts.0;
   files_are = ap (λ (left : Stores). left.files) acts.1;
   ledger_is = ap (λ (left : Stores). left.ledger) acts.1;
-  taken_is = told_map (λ before. before ++ effect.text) taken now (subst (λ t. Told (Takes {E = E} t (Ok tt)) taken now) (text_is ∙ ap (λ (s : SaidValue). s.text) acts.0) told);
+  taken_is = told_map (λ before. before ++ effect.text) taken now (subst (λ t. Modelled (Takes {E = E} t (Ok tt)) taken now) (text_is ∙ ap (λ (s : SaidValue). s.text) acts.0) told);
 }
 
--- ---- effects that are told
+-- ---- effects that are known
 
--- what follows for each effect follows for one that may be told
+-- what follows for each effect follows for one that may be known
 pub if_some_map : {X : Type 0} (P Q : X → Type 0) → ((x : X) → P x → Q x) → (o : Option X) → IfSome o P → IfSome o Q
 if_some_map P Q follows None is = tt
 if_some_map P Q follows (Some x) is = follows x is

@@ -80,7 +80,7 @@ pub whole_found : {X : Type 0} (IsValue : X → Type 0) (text : X → List ℕ) 
     → (name : List ℕ) (x : X) → IsValue x → value_in name (read (from_first (text x))) ≡ Ok x
 whole_found IsValue text read form name x right = ap (value_in name) (form.found (from_first (text x)) x right refl).1
 
--- what is answered of it is of what was left of it before, where the files' bytes are told
+-- what is answered of it is of what was left of it before, where the files are modelled
 pub part_told : {X : Type 0} (name : List ℕ) (read_at : Rest → Result (X × Rest) ℕ) (held : Option Files) (before after : LinesValue) (read : Result X ReadErr) (answer : Result X Unread)
     → ReadsPart read_at held before after read
     → ((rest : Rest) (expected : Result (X × Rest) ℕ) → GivesReading (λ x. x) read rest expected → Gives said_of_unread (λ x. x) answer (value_in name expected))

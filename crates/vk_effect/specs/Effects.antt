@@ -6,7 +6,7 @@ use Rattle.vk_keeper.specs.Ledgers.{Ledger}
 
 -- ---- what is outside
 
--- what a command works on, as far as it is told: the files, and the auctions that are kept
+-- what a command works on, as far as it is modelled: the files, and the auctions that are kept
 pub record Stores : Type 0 where
   pub files : Option Files
   pub ledger : Option Ledger
@@ -14,7 +14,7 @@ pub record Stores : Type 0 where
 abbrev pub stores : Option Files → Option Ledger → Stores
 stores files ledger = record { files = files; ledger = ledger }
 
--- what is outside of a command, as far as it is told: these, and the text that was printed
+-- what is outside of a command, as far as it is modelled: these, and the text that was printed
 pub record Outside : Type 0 where
   pub files : Option Files
   pub ledger : Option Ledger
@@ -26,7 +26,7 @@ outside stores taken = record { files = stores.files; ledger = stores.ledger; ta
 -- ---- effects
 
 -- what a command does: its status, the text that it prints at its end, the names and whole texts of the files
--- that it writes, in order, and the ledger that it leaves, as far as it is told
+-- that it writes, in order, and the ledger that it leaves, where it is modelled
 pub record Effect : Type 0 where
   pub status : ℕ
   pub text : List ℕ

@@ -1,6 +1,6 @@
 -- How a command ends: it was done, or it was stopped.
 use Rattle.std.specs.Prelude.{◌≡◌, ℕ, ◌≤◌, List, ◌++◌, length, take, Result, Ok, Err, option_map, ◌⊎◌}
-use Rattle.vk_io.specs.Files.{Told}
+use Rattle.vk_io.specs.Files.{Modelled}
 use Rattle.vk_io.specs.Writing.{written, IsDivided}
 use Rattle.vk_io.specs.declared.errors.OutsideErr.{OutsideErr}
 use Rattle.vk_effect.specs.Effects.{Effect, Outside, SaidValue, Stores, after, puts, said_of}
@@ -20,13 +20,13 @@ TakesPrefix text before after = (k : ℕ) × (k ≤ length text) × (after ≡ b
 
 -- the command was stopped before it printed: its files are divided at one of them
 pub record StopsWriting (effect : Effect) (old new : Outside) : Type 0 where
-  pub files_are : Told (IsDivided effect.writes) old.files new.files
+  pub files_are : Modelled (IsDivided effect.writes) old.files new.files
   pub taken_is : new.taken ≡ old.taken
 
 -- the command was stopped while it printed: its files are written
 pub record StopsPrinting (effect : Effect) (old new : Outside) : Type 0 where
   pub files_are : new.files ≡ option_map (written effect.writes) old.files
-  pub taken_is : Told (TakesPrefix effect.text) old.taken new.taken
+  pub taken_is : Modelled (TakesPrefix effect.text) old.taken new.taken
 
 -- the command was stopped: nothing changed; or the ledger is that of the effect, and the command was stopped
 -- before it printed or while it did
@@ -44,4 +44,4 @@ Ends (Err stop) effect old new = Stopped effect old new
 -- effect and the files are divided at one of them
 abbrev pub Acts : Result SaidValue OutsideErr → Effect → Stores → Stores → Type 0
 Acts (Ok said) effect old new = (said ≡ said_of effect) × (new ≡ after effect old)
-Acts (Err stop) effect old new = (new ≡ old) ⊎ ((new.ledger ≡ effect.ledger) × Told (IsDivided effect.writes) old.files new.files)
+Acts (Err stop) effect old new = (new ≡ old) ⊎ ((new.ledger ≡ effect.ledger) × Modelled (IsDivided effect.writes) old.files new.files)

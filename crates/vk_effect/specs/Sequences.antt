@@ -1,7 +1,7 @@
 -- Commands one after another, each on what the one before left, with a line at the end.
 use Rattle.std.specs.Prelude.{◌≡◌, ◌↔◌, ℕ, ◌≤◌, List, [], ◌∷◌, ◌++◌, length, take, slice_get, Option, Some, None, ◌⊎◌}
 use Rattle.std.specs.List.{flat_map}
-use Rattle.vk_io.specs.Files.{Told}
+use Rattle.vk_io.specs.Files.{Modelled}
 use Rattle.vk_keeper.specs.Ledgers.{Ledger}
 use Rattle.vk_effect.specs.Effects.{Effect, Outside, done, puts}
 use Rattle.vk_effect.specs.Ends.{Stopped, TakesPrefix}
@@ -40,7 +40,7 @@ AreOne = (status : ℕ) (effects : List Effect) (closing : List ℕ) (old : Outs
 pub record StopsClosing (closing : List ℕ) (old new : Outside) : Type 0 where
   pub files_are : new.files ≡ old.files
   pub ledger_is : new.ledger ≡ old.ledger
-  pub taken_is : Told (TakesPrefix closing) old.taken new.taken
+  pub taken_is : Modelled (TakesPrefix closing) old.taken new.taken
 
 -- the first of them that wasn't done was stopped, or the line at the end
 abbrev pub StopsAmong : List Effect → List ℕ → Outside → Outside → Type 0

@@ -3,7 +3,7 @@
 ghost use Rattle.std.specs.Prelude.{◌≡◌, IfOk, string_bytes};
 ghost use Rattle.std.specs.List.{flat_map};
 ghost use Rattle.vk_io.specs.Faults.{Causes};
-ghost use Rattle.vk_io.specs.Files.{Told, Takes};
+ghost use Rattle.vk_io.specs.Files.{Modelled, Takes};
 ghost use Rattle.vk_effect.specs.Effects.{IsEnd};
 
 use crate::printing::print;
@@ -84,7 +84,7 @@ impl Said {
 
     /// Prints the text.
     pub fn print<W: Sink>(&self, out: &mut W) -> Result<(), OutsideErr>
-        ensures printed { Told (Takes self.now.text result) (W.taken out.old) (W.taken out.new) }
+        ensures printed { Modelled (Takes self.now.text result) (W.taken out.old) (W.taken out.new) }
         ensures causes { Causes OutsideErr.Failed result (W.Sink.faults out.old) (W.Sink.faults out.new) }
     {
         match &self.text {

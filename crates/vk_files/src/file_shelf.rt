@@ -40,7 +40,7 @@ pub struct NamedFault<'a> {
     pub reason: &'static str,
 }
 
-/// The real file system. A name is a path from the current folder. It tells nothing of content, and
+/// The real file system. A name is a path from the current folder. Its content isn't modelled, and
 /// each error raises its count. A file that is read stays open, until its name is created or
 /// appended to, or its length is asked. The file that is written stays open too, until another is
 /// written or [`FileShelf::settle`] is called: it is synced then, so that its last error is told.

@@ -5,7 +5,7 @@ use crate::moves::put_counted;
 use std::io;
 use vk_io::{OutsideErr, Sink};
 
-/// Standard output. It tells nothing of what it took, and each error raises its count. It takes no
+/// Standard output. What it took isn't modelled, and each error raises its count. It takes no
 /// memory.
 #[derive(Drop)]
 pub struct OutSink<'a, P: Print> {

@@ -21,7 +21,7 @@ impl SumHead {
     /// that isn't what its place demands.
     #[tactic(auto, unfolding(crate::specs::Forms::sum_head_at))]
     pub fn read<S: Shelf>(shelf: &mut S, lines: &mut Lines) -> Result<SumHead, ReadErr>
-        ensures told { ReadsPart sum_head_at (S.held shelf.old) lines.old lines.new result }
+        ensures modelled { ReadsPart sum_head_at (S.held shelf.old) lines.old lines.new result }
         ensures file { KeepsFile lines.old lines.new }
         ensures right { IfOk result IsSumHead }
         ensures shelf { OnlyReads S.held S.Shelf.faults ReadErr.Failed result shelf.old shelf.new }

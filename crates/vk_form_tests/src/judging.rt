@@ -32,7 +32,7 @@ pub fn read_statement<S: Shelf>(
     shelf: &mut S,
     lines: &mut Lines,
 ) -> Result<Statement, Halt<Fault>>
-    ensures told { IfSome (S.held shelf.old) (λ files.
+    ensures modelled { IfSome (S.held shelf.old) (λ files.
         Judges (λ statement. (statement, rest_of lines.new files)) result (statement_at (rest_of lines.old files))) }
     ensures right { IfOk result (IsOfHead IsSumHead) }
     ensures shelf { OnlyReads S.held S.Shelf.faults Halt.Failed result shelf.old shelf.new }
@@ -67,7 +67,7 @@ pub fn judge<S: Shelf>(
     shelf: &mut S,
     names: &OneReply<'_>,
 ) -> Result<Result<(), Fault>, VErr>
-    ensures told { IfSome (S.held shelf.old) (λ files.
+    ensures modelled { IfSome (S.held shelf.old) (λ files.
         Gives unread_file (λ judged. judged) result (sum_judged_on files names.now.file.now names.now.challenge.now names.now.reply.now)) }
     ensures shelf { OnlyReads S.held S.Shelf.faults VErr.Failed result shelf.old shelf.new }
 {
@@ -80,7 +80,7 @@ pub fn judge<S: Shelf>(
 /// Judges the files, from their first lines to their ends.
 #[tactic(auto, using(vk_verifier::proofs::Joined::behind_parts), unfolding(crate::specs::Judging::sum_judged))]
 fn judge_lines<S: Shelf>(alloc: Global, shelf: &mut S, attempt: Attempt) -> Result<(), Halt<Fault>>
-    ensures told { IfSome (S.held shelf.old) (λ files. Judges (λ done. done) result (of_begun sum_judged attempt files)) }
+    ensures modelled { IfSome (S.held shelf.old) (λ files. Judges (λ done. done) result (of_begun sum_judged attempt files)) }
     ensures shelf { OnlyReads S.held S.Shelf.faults Halt.Failed result shelf.old shelf.new }
 {
     let mut attempt = attempt;
@@ -100,7 +100,7 @@ pub fn extract<S: Shelf>(
     shelf: &mut S,
     names: &TwoReplies<'_>,
 ) -> Result<LaneExtraction, VErr>
-    ensures told { IfSome (S.held shelf.old) (λ files. Gives unread_file (λ found. found) result
+    ensures modelled { IfSome (S.held shelf.old) (λ files. Gives unread_file (λ found. found) result
         (sum_extraction_on files names.now.board.now names.now.challenge1.now names.now.reply1.now names.now.challenge2.now names.now.reply2.now)) }
     ensures opens { IfOk result (OpensSums IsSumHead) }
     ensures of_file { IfSome (S.held shelf.old) (λ files. IfSome (map.get files names.now.board.now) (λ file.
@@ -118,7 +118,7 @@ fn extract_lines<S: Shelf>(
     shelf: &mut S,
     two: TwoAttempts,
 ) -> Result<LaneExtraction, OutsideErr>
-    ensures told { IfSome (S.held shelf.old) (λ files. IfOk result (λ found. of_two sum_extraction two files ≡ found)) }
+    ensures modelled { IfSome (S.held shelf.old) (λ files. IfOk result (λ found. of_two sum_extraction two files ≡ found)) }
     ensures opens { IfOk result (OpensSums IsSumHead) }
     ensures of_file { IfSome (S.held shelf.old) (λ files.
         IfOk result (OpensSums (Begins (rest_of two.readers.pair.board files).left))) }

@@ -1,6 +1,6 @@
 -- What the calls answer, as replies.
 use Rattle.std.specs.Prelude.{◌≡◌, Option, IfSome, Result, Ok, Err}
-use Rattle.vk_io.specs.Files.{Told}
+use Rattle.vk_io.specs.Files.{Modelled}
 use Rattle.vk_keeper.specs.declared.auction.Auction.{Auction}
 use Rattle.vk_keeper.specs.Ledgers.{Ledger, IsKeptUnder}
 use Rattle.vk_job.specs.JobValues.{JobValue}
@@ -26,11 +26,11 @@ as_reply said (Err refusal) = Refused refusal
 abbrev pub work_of : JobValue → HouseReply
 work_of job = Work job.auction job.sale
 
--- the ledger, where it is told, makes this call
+-- the ledger, where it is modelled, makes this call
 abbrev pub MakesCall : HouseCommand → HouseReply → Option Ledger → Option Ledger → Type 0
-MakesCall command reply old new = Told (λ before after. HouseCall before command reply after) old new
+MakesCall command reply old new = Modelled (λ before after. HouseCall before command reply after) old new
 
--- over a keeper that tells no ledger: the reply is that of the step on some auction that may stand under the id, or on
+-- over a keeper that isn't modelled: the reply is that of the step on some auction that may stand under the id, or on
 -- none there
 abbrev pub StepsSomewhere : HouseCommand → HouseReply → Type 0
 StepsSomewhere command reply =

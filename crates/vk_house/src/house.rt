@@ -1,7 +1,7 @@
 ghost use Rattle.std.specs.Prelude.{◌≡◌, ◌<◌, ◌^◌, IfOk, IfSome, OnErr, Some};
 ghost use Rattle.vk_residue.specs.Limits.{IsSize};
 ghost use Rattle.vk_io.specs.Faults.{Causes};
-ghost use Rattle.vk_io.specs.Files.{Told};
+ghost use Rattle.vk_io.specs.Files.{Modelled};
 ghost use Rattle.vk_reply.specs.Values.{IsChallenge};
 ghost use Rattle.vk_seal.specs.Values.{IsSeal, IsSecret};
 ghost use Rattle.vk_keeper.specs.Auctions.{IsAuction, seed_of, challenge_of};
@@ -162,7 +162,7 @@ impl<'a, K: Keeper + Drop> House<'a, K> {
 /// Keeps the auction, where there is one.
 fn keep<K: Keeper>(keeper: &mut K, kept: Option<Auction>) -> Result<(), OutsideErr>
     requires { IfSome kept IsAuction }
-    ensures put { Told (KeepsAnew kept result) (K.ledger keeper.old) (K.ledger keeper.new) }
+    ensures put { Modelled (KeepsAnew kept result) (K.ledger keeper.old) (K.ledger keeper.new) }
     ensures turn { MayPut (K.turns keeper.old) (K.turns keeper.new) }
     ensures causes { Causes OutsideErr.Failed result (K.faults keeper.old) (K.faults keeper.new) }
 {

@@ -23,7 +23,7 @@ part_joined bytes old new into front rest at n begun count put grown =
     ∙ joined bytes at (length into)
     ∙ ap (λ k. take (at + k) bytes) (sym count)
 
--- where the files are told, the bytes read so far and one more piece are the first of the file
+-- where the files are modelled, the bytes read so far and one more piece are the first of the file
 pub read_more : (h g : Option Files) (name old new into front rest : List ℕ) (at n : ℕ) → g ≡ h
     → IfSome h (λ files. old ≡ take at (bytes_of files name))
     → IfSome g (λ files. n ≡ length (part_of (bytes_of files name) at (length into)))

@@ -1,4 +1,4 @@
--- Files that are told, over several calls.
+-- Files that are modelled, over several calls.
 use Rattle.std.proofs.Common.{◌≡◌, ℕ, ◌+◌, ◌<◌, ◌≤◌, List, [], ◌∷◌, ◌++◌, length, get_or, take, drop, Option, Some, None, Result, Ok, Err, inl, inr, refl, ap, sym, subst, ◌∙◌, arith, append-nil, length-append}
 use Rattle.std.specs.List.{concat}
 use Rattle.std.proofs.lemmas.List.{take-append-le, take_more, drop_more, take-append-drop}
@@ -6,25 +6,25 @@ use Rattle.std.proofs.lemmas.List.Folds.{concat-append}
 use Rattle.std.proofs.Math.Seq.{take-append-add}
 use Rattle.std.specs.Option.{unwrap_or}
 use Rattle.std.specs.FinMap.{insert}
-use Rattle.vk_io.specs.Files.{Files, bytes_of, Told, Creates, Appends}
+use Rattle.vk_io.specs.Files.{Files, bytes_of, Modelled, Creates, Appends}
 use Rattle.vk_io.specs.Writing.{Writes, written, IsDivided, WritesAll}
 use Rattle.vk_io.proofs.Finite.{get_own, insert_over}
 
--- two steps in a row, of content that is told or isn't
-pub told_chain : {X : Type 0} (P Q R : X → X → Type 0) → ((x y z : X) → P x y → Q y z → R x z) → (a b c : Option X) → Told P a b → Told Q b c → Told R a c
-told_chain P Q R join None b c p q = subst (λ o. Told Q o c) p q
+-- two steps in a row, of content that is modelled or isn't
+pub told_chain : {X : Type 0} (P Q R : X → X → Type 0) → ((x y z : X) → P x y → Q y z → R x z) → (a b c : Option X) → Modelled P a b → Modelled Q b c → Modelled R a c
+told_chain P Q R join None b c p q = subst (λ o. Modelled Q o c) p q
 told_chain P Q R join (Some x) None c p q = absurd p
 told_chain P Q R join (Some x) (Some y) None p q = absurd q
 told_chain P Q R join (Some x) (Some y) (Some z) p q = join x y z p q
 
 -- a step that says less
-pub told_weaker : {X : Type 0} (P Q : X → X → Type 0) → ((x y : X) → P x y → Q x y) → (a b : Option X) → Told P a b → Told Q a b
+pub told_weaker : {X : Type 0} (P Q : X → X → Type 0) → ((x y : X) → P x y → Q x y) → (a b : Option X) → Modelled P a b → Modelled Q a b
 told_weaker P Q less None b p = p
 told_weaker P Q less (Some x) None p = p
 told_weaker P Q less (Some x) (Some y) p = less x y p
 
 -- no step
-pub told_same : {X : Type 0} (P : X → X → Type 0) → ((x : X) → P x x) → (a : Option X) → Told P a a
+pub told_same : {X : Type 0} (P : X → X → Type 0) → ((x : X) → P x x) → (a : Option X) → Modelled P a a
 told_same P same None = refl
 told_same P same (Some x) = same x
 

@@ -16,10 +16,10 @@ bytes_of files name = unwrap_or (get files name) []
 abbrev pub part_of : List ℕ → ℕ → ℕ → List ℕ
 part_of bytes at room = take room (drop at bytes)
 
--- content that is told stays told and makes this step; content that isn't told stays so
-abbrev pub Told : {X : Type 0} → (X → X → Type 0) → Option X → Option X → Type 0
-Told step None new = new ≡ None
-Told step (Some old) new = IsSomeAnd new (step old)
+-- content that is modelled stays modelled and makes this step; content that isn't modelled stays so
+abbrev pub Modelled : {X : Type 0} → (X → X → Type 0) → Option X → Option X → Type 0
+Modelled step None new = new ≡ None
+Modelled step (Some old) new = IsSomeAnd new (step old)
 
 -- `create` empties the named file; refused, it may have left it as it was. All other files stay
 abbrev pub Creates : {E : Type 0} → List ℕ → Result Unit E → Files → Files → Type 0

@@ -32,7 +32,7 @@ pub fn read_whole<S: Shelf>(
     name: &str,
     most: u64,
 ) -> Result<Content, OutsideErr>
-    ensures told { IfSome (S.held shelf.old)
+    ensures modelled { IfSome (S.held shelf.old)
         (λ files. IfOk result (λ content. content ≡ content_of files name.now most)) }
     ensures within { IfOk result (IsWithin most) }
     ensures free { IfSome (S.held shelf.old) (λ files. TakesNone (content_of files name.now most)
@@ -60,7 +60,7 @@ fn read_bytes<S: Shelf>(
     name: &str,
     size: u64,
 ) -> Result<Vec<u8>, OutsideErr>
-    ensures told { IfSome (S.held shelf.old)
+    ensures modelled { IfSome (S.held shelf.old)
         (λ files. IfOk result (λ bytes. bytes.items ≡ take size (bytes_of files name.now))) }
     ensures within { IfOk result (λ bytes. vec_len bytes ≤ size) }
     ensures shelf { OnlyReads S.held S.Shelf.faults OutsideErr.Failed result shelf.old shelf.new }

@@ -1,7 +1,7 @@
 ghost use Rattle.std.specs.Prelude.{◌≡◌, ℕ, ◌+◌, ◌≤◌, ◌++◌, ◌↔◌, [], ◌∷◌, length, drop, Option, Some, Ok, Err, option_map, option_copied, IfSome, IfOk, OnOk, OnErr, IsErrOf, MatchResult, IsTrue, if◌then◌else◌};
 ghost use Rattle.std.specs.FinMap as map;
 ghost use Rattle.vk_io.specs.Faults.{Causes, fails_next, fails_too, after_call};
-ghost use Rattle.vk_io.specs.Files.{bytes_of, part_of, Told, Creates, Appends};
+ghost use Rattle.vk_io.specs.Files.{bytes_of, part_of, Modelled, Creates, Appends};
 ghost use Rattle.vk_io.specs.declared.errors.OutsideErr.TheVariants.{Failed};
 
 use crate::calls::CallCount;
@@ -12,7 +12,7 @@ use std::alloc::Global;
 use std::marker::Model;
 use vk_residue::NoMemory;
 
-/// A shelf in memory, which tells its files. The calls of the trait are counted from 1 over its
+/// A shelf in memory, which is modelled. The calls of the trait are counted from 1 over its
 /// life, and those that [`MemShelf::fail_at`] named fail and change no file.
 #[derive(Drop)]
 pub struct MemShelf {

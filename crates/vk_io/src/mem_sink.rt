@@ -1,6 +1,6 @@
 ghost use Rattle.std.specs.Prelude.{◌≡◌, ℕ, ◌≤◌, ◌++◌, ◌↔◌, [], ◌∷◌, OnOk, OnErr, IsErrOf, IsTrue};
 ghost use Rattle.vk_io.specs.Faults.{Causes, fails_next, fails_too, after_call};
-ghost use Rattle.vk_io.specs.Files.{Told, Takes};
+ghost use Rattle.vk_io.specs.Files.{Modelled, Takes};
 
 use crate::appending::put_behind;
 use crate::calls::CallCount;
@@ -10,7 +10,7 @@ use std::alloc::Global;
 use std::marker::Model;
 use vk_residue::NoMemory;
 
-/// A sink in memory, which tells what it took. Calls of `put` are counted from 1 over its life, and
+/// A sink in memory, which is modelled. Calls of `put` are counted from 1 over its life, and
 /// those that [`MemSink::fail_at`] named fail and take nothing.
 #[derive(Drop)]
 pub struct MemSink {

@@ -3,14 +3,14 @@ ghost use Rattle.std.specs.FinMap as map;
 ghost use Rattle.vk_io.specs.declared.errors.OutsideErr.{OutsideErr};
 ghost use Rattle.vk_io.specs.Faults.{Causes};
 ghost use Rattle.vk_io.specs.Reads.{OnlyReads};
-ghost use Rattle.vk_io.specs.Files.{Files, bytes_of, part_of, Told, Creates, Appends};
+ghost use Rattle.vk_io.specs.Files.{Files, bytes_of, part_of, Modelled, Creates, Appends};
 
 use crate::errors::OutsideErr;
 
-/// Files under names. A shelf that tells its content has `held`; of one that doesn't only counts and
-/// bounds are known. No call changes whether it tells.
+/// Files under names. A shelf that is modelled has `held`; of one that isn't only counts and bounds
+/// are known. No call changes whether it is modelled.
 pub trait Shelf {
-    /// The files, where they are told.
+    /// The files, where they are modelled.
     ghost held: { Self → Option Files };
 
     /// How many faults of the outside were met. It never falls.
@@ -46,14 +46,14 @@ pub trait Shelf {
     /// Makes the name hold no bytes, whether or not it was held. Refused, the file is as before or
     /// holds nothing.
     fn create(&mut self, name: &str) -> Result<(), OutsideErr>
-        ensures created { Told (Creates name.now result) (held self.old) (held self.new) }
+        ensures created { Modelled (Creates name.now result) (held self.old) (held self.new) }
         ensures causes { Causes OutsideErr.Failed result (faults self.old) (faults self.new) }
         ensures wants { Causes OutsideErr.NoMemory result (wants self.old) (wants self.new) };
 
     /// Adds the piece at the end of the named file, which counts as empty where it isn't held.
     /// Refused, the file has grown by a prefix of the piece, or is as before.
     fn append(&mut self, name: &str, piece: &[u8]) -> Result<(), OutsideErr>
-        ensures appended { Told (Appends name.now piece.now result) (held self.old) (held self.new) }
+        ensures appended { Modelled (Appends name.now piece.now result) (held self.old) (held self.new) }
         ensures causes { Causes OutsideErr.Failed result (faults self.old) (faults self.new) }
         ensures wants { Causes OutsideErr.NoMemory result (wants self.old) (wants self.new) };
 }

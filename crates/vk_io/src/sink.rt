@@ -1,13 +1,12 @@
 ghost use Rattle.std.specs.Prelude.{◌≡◌, ℕ, ◌≤◌, List, Option, IsErrOf};
 ghost use Rattle.vk_io.specs.Faults.{Causes};
-ghost use Rattle.vk_io.specs.Files.{Told, Takes};
+ghost use Rattle.vk_io.specs.Files.{Modelled, Takes};
 
 use crate::errors::OutsideErr;
 
-/// What is printed goes here. A sink that tells its content has `taken`. No call changes whether it
-/// tells.
+/// What is printed goes here. A sink that is modelled has `taken`. No call changes whether it is.
 pub trait Sink {
-    /// The bytes taken so far, where they are told.
+    /// The bytes taken so far, where they are modelled.
     ghost taken: { Self → Option (List ℕ) };
 
     /// How many faults of the outside were met. It never falls.
@@ -18,7 +17,7 @@ pub trait Sink {
 
     /// Takes the piece. Refused, a prefix of it was taken.
     fn put(&mut self, piece: &[u8]) -> Result<(), OutsideErr>
-        ensures put { Told (Takes piece.now result) (taken self.old) (taken self.new) }
+        ensures put { Modelled (Takes piece.now result) (taken self.old) (taken self.new) }
         ensures causes { Causes OutsideErr.Failed result (faults self.old) (faults self.new) }
         ensures wants { Causes OutsideErr.NoMemory result (wants self.old) (wants self.new) };
 }

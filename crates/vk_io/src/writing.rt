@@ -1,6 +1,6 @@
 ghost use Rattle.std.specs.Prelude.{◌≡◌, ◌<◌, List, [], length, slice_index_or, IfOk};
 ghost use Rattle.vk_io.specs.Faults.{Causes, MayCause};
-ghost use Rattle.vk_io.specs.Files.{Told};
+ghost use Rattle.vk_io.specs.Files.{Modelled};
 ghost use Rattle.vk_io.specs.Writing.{WrittenFile, Writes, WritesAll, no_file, text_of, texts_of};
 
 use crate::errors::OutsideErr;
@@ -73,7 +73,7 @@ pub fn write_files<S: Shelf, F: WrittenFiles>(
     shelf: &mut S,
     files: &F,
 ) -> Result<(), OutsideErr>
-    ensures written { Told (WritesAll (texts_of (F.files files.now)) result) (S.held shelf.old) (S.held shelf.new) }
+    ensures written { Modelled (WritesAll (texts_of (F.files files.now)) result) (S.held shelf.old) (S.held shelf.new) }
     ensures causes { Causes OutsideErr.Failed result (S.Shelf.faults shelf.old) (S.Shelf.faults shelf.new) }
     ensures wants { MayCause OutsideErr.NoMemory result (S.Shelf.wants shelf.old) (S.Shelf.wants shelf.new) }
 {
@@ -91,7 +91,7 @@ fn write_file<S: Shelf, F: WrittenFiles>(
     file: usize,
 ) -> Result<(), OutsideErr>
     requires { file < length (F.files files.now) }
-    ensures written { Told (Writes (slice_index_or (F.files files.now) file no_file).name (text_of (slice_index_or (F.files files.now) file no_file)) result)
+    ensures written { Modelled (Writes (slice_index_or (F.files files.now) file no_file).name (text_of (slice_index_or (F.files files.now) file no_file)) result)
         (S.held shelf.old) (S.held shelf.new) }
     ensures causes { Causes OutsideErr.Failed result (S.Shelf.faults shelf.old) (S.Shelf.faults shelf.new) }
     ensures wants { MayCause OutsideErr.NoMemory result (S.Shelf.wants shelf.old) (S.Shelf.wants shelf.new) }

@@ -1,7 +1,7 @@
 ghost use Rattle.std.specs.Prelude.{◌≡◌, ℕ, Option, IfSome, IfOk};
 ghost use Rattle.std.specs.FinMap as map;
 ghost use Rattle.vk_io.specs.Faults.{Causes};
-ghost use Rattle.vk_io.specs.Files.{Told};
+ghost use Rattle.vk_io.specs.Files.{Modelled};
 ghost use Rattle.vk_keeper.specs.Auctions.{IsAuction};
 ghost use Rattle.vk_keeper.specs.Ledgers.{Ledger, IsLedger, Keeps};
 ghost use Rattle.vk_keeper.specs.Turns.{Turns, AfterGet, AfterPut};
@@ -9,10 +9,10 @@ ghost use Rattle.vk_keeper.specs.Turns.{Turns, AfterGet, AfterPut};
 use crate::auction::Auction;
 use vk_io::OutsideErr;
 
-/// Auctions under their ids. A keeper that tells its content has a `ledger`; of one that doesn't only
-/// which auctions it answers and its count are known. No call changes whether it tells.
+/// Auctions under their ids. A keeper that is modelled has a `ledger`; of one that isn't only which
+/// auctions it answers and its count are known. No call changes whether it is modelled.
 pub trait Keeper {
-    /// The auctions, where they are told.
+    /// The auctions, where they are modelled.
     ghost ledger: { Self → Option Ledger };
 
     /// How many faults of the outside were met. It never falls.
@@ -36,7 +36,7 @@ pub trait Keeper {
     fn put(&mut self, auction: Auction) -> Result<(), OutsideErr>
         requires { IsAuction auction }
         ensures ledger { IfSome (ledger self.old) IsLedger }
-        ensures put { Told (Keeps auction result) (ledger self.old) (ledger self.new) }
+        ensures put { Modelled (Keeps auction result) (ledger self.old) (ledger self.new) }
         ensures turn { AfterPut (turns self.old) (turns self.new) }
         ensures causes { Causes OutsideErr.Failed result (faults self.old) (faults self.new) };
 }

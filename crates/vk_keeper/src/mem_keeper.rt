@@ -18,7 +18,7 @@ use std::marker::Model;
 use vk_io::{CallCount, OutsideErr};
 use vk_residue::NoMemory;
 
-/// A keeper in memory, which tells its ledger. The calls of the trait are counted from 1 over its
+/// A keeper in memory, which is modelled. The calls of the trait are counted from 1 over its
 /// life, and those that [`MemKeeper::fail_at`] named fail and change no auction.
 #[derive(Drop)]
 pub struct MemKeeper {

@@ -21,7 +21,7 @@ use std::alloc::Global;
 use vk_io::OutsideErr;
 use vk_keeper::{Auction, Keeper, TurnCount};
 
-/// A keeper over the connection to an SQLite store. It doesn't tell its ledger. A statement that is
+/// A keeper over the connection to an SQLite store. Its ledger isn't modelled. A statement that is
 /// refused, and rows that aren't an auction, raise its count of faults.
 #[derive(Drop)]
 pub struct SqlKeeper<S: Alter> {

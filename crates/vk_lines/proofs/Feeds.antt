@@ -206,7 +206,7 @@ lines_same : (lines : LinesValue) {name : List ℕ} {size at taken : ℕ} {ahead
     → lines ≡ record { name = name; size = size; at = at; taken = taken; ahead = ahead; text = text }
 lines_same lines named sized placed counted read shown = rw (← named, ← sized, ← placed, ← counted, ← read, ← shown) refl
 
--- what was read of the told file shows what stands next
+-- what was read of the modelled file shows what stands next
 pub looked_told : (held : Option Files) (old new : LinesValue) (name ahead : List ℕ) (place left asked : ℕ)
     → name ≡ old.name → ahead ≡ old.ahead → place ≡ unread old → left ≡ old.size - unread old → IsEnough (length ahead) left asked
     → KeepsFile old new → new.at ≡ old.at → new.taken ≡ old.taken → new.text ≡ old.text
@@ -219,7 +219,7 @@ looked_told (Some files) old new name ahead place left asked named read_so place
     let enough_is : IsEnough (length old.ahead) (old.size - unread old) asked = rw (read_so, all) at enough in
     subst P (sym (lines_same new file.name file.size at taken ahead_is text)) (looked_by_piece files old (part_of (bytes_of files old.name) (unread old) asked) asked refl enough_is)
 
--- the bytes that were read are those of the told file
+-- the bytes that were read are those of the modelled file
 pub more_told : (held : Option Files) (name old piece new : List ℕ) (at room : ℕ) → new ≡ old ++ piece
     → IfSome held (λ files. piece ≡ part_of (bytes_of files name) at room) → IfSome held (λ files. new ≡ old ++ part_of (bytes_of files name) at room)
 more_told None name old piece new at room grown read = tt

@@ -9,5 +9,5 @@ pub mod Parts
 pub mod Pieces
 pub mod Residues
 pub mod Slices
-pub mod Told
+pub mod Modelled
 pub mod Words

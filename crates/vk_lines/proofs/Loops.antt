@@ -1,4 +1,4 @@
--- A loop that reads so many values over a shelf: its turns and its exits, for any told content.
+-- A loop that reads so many values over a shelf: its turns and its exits, for any modelled content.
 use Rattle.std.proofs.Common.{◌≡◌, ℕ, ◌+◌, ◌-◌, ◌<◌, List, [], ◌∷◌, ◌++◌, length, Option, Some, None, Result, Ok, Err, refl, ap, sym, ◌∙◌, arith, subst}
 use Rattle.std.specs.Option.{IfSome}
 use Rattle.vk_residue.specs.Steps.{◌>>=◌}

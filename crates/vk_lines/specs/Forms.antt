@@ -137,7 +137,7 @@ Answers IsValue text table value bytes (Err (Malformed line)) = fault_line table
 Answers IsValue text table value bytes (Err Failed) = Unit {0}
 Answers IsValue text table value bytes (Err NoMemory) = Unit {0}
 
--- the same of a reader that stands before the first line, where the files' bytes are told
+-- the same of a reader that stands before the first line, where the files are modelled
 abbrev pub AnswersWhole : {Place X : Type 0} → (X → Type 0) → (X → List ℕ) → Table Place → Option Files → LinesValue → Result X ReadErr → Type 0
 AnswersWhole {X = X} IsValue text table held lines result =
     IfSome held (λ files. (bytes : List ℕ) → rest_of lines files ≡ record { taken = 0; left = bytes } → Answers IsValue text table (λ (x : X). x) bytes result)

@@ -148,7 +148,7 @@ line_of NoMemory = None
 abbrev pub GivesReading : {T X : Type 0} → (T → X) → Result T ReadErr → Rest → Result (X × Rest) ℕ → Type 0
 GivesReading value result rest expected = Gives line_of (λ x. (value x, rest)) result expected
 
--- a call's answer is that of this reading of what was left before it, where the files' bytes are told
+-- a call's answer is that of this reading of what was left before it, where the files are modelled
 abbrev pub ReadsPart : {X : Type 0} → (Rest → Result (X × Rest) ℕ) → Option Files → LinesValue → LinesValue → Result X ReadErr → Type 0
 ReadsPart read held old new result = IfSome held (λ files. GivesReading (λ x. x) result (rest_of new files) (read (rest_of old files)))
 

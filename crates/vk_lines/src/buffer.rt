@@ -84,7 +84,7 @@ impl Buffer {
         at: u64,
         left: u64,
     ) -> Result<usize, OutsideErr>
-        ensures told { IfSome (S.held shelf.old) (λ files.
+        ensures modelled { IfSome (S.held shelf.old) (λ files.
             IfOk result (λ asked. self.new.ahead ≡ self.old.ahead ++ part_of (bytes_of files name.now) at asked)) }
         ensures enough { IfOk result (λ asked. IsEnough (length self.old.ahead) left asked) }
         ensures within { IfOk result (λ asked. length self.new.ahead ≤ length self.old.ahead + asked) }
@@ -149,7 +149,7 @@ impl Buffer {
         room: usize,
     ) -> Result<(), OutsideErr>
         requires { room ≤ self.old.free }
-        ensures told { IfSome (S.held shelf.old) (λ files.
+        ensures modelled { IfSome (S.held shelf.old) (λ files.
             IfOk result (λ _. self.new.ahead ≡ self.old.ahead ++ part_of (bytes_of files name.now) at room)) }
         ensures within { length self.new.ahead ≤ length self.old.ahead + room }
         ensures text { self.new.text ≡ self.old.text }
@@ -175,7 +175,7 @@ fn read_behind<S: Shelf>(
     requires { end + room ≤ 4096 }
     ensures few { IfOk result (λ count. count ≤ room) }
     ensures front { take end bytes.new ≡ take end bytes.old }
-    ensures told { IfSome (S.held shelf.old) (λ files.
+    ensures modelled { IfSome (S.held shelf.old) (λ files.
         IfOk result (λ count. take count (drop end bytes.new) ≡ part_of (bytes_of files name.now) at room)) }
     ensures shelf { OnlyReads S.held S.Shelf.faults OutsideErr.Failed result shelf.old shelf.new }
     ensures wants { Causes OutsideErr.NoMemory result (S.Shelf.wants shelf.old) (S.Shelf.wants shelf.new) }

@@ -44,7 +44,7 @@ impl Lines {
     /// bytes than that are read. Errs where the file isn't held or has more than 2^30 bytes, where
     /// the shelf fails, and for want of memory.
     pub fn start<S: Shelf>(alloc: Global, shelf: &mut S, name: &str) -> Result<Lines, StartErr>
-        ensures told { IfSome (S.held shelf.old) (λ files. Starts files name.now result) }
+        ensures modelled { IfSome (S.held shelf.old) (λ files. Starts files name.now result) }
         ensures begun { (told : Result (Option ℕ) OutsideErr)
             × S.Shelf.length_gives shelf.old name.now told shelf.new × IsBegunBy told result }
         ensures before { IfOk result (IsBefore name.now) }
@@ -82,7 +82,7 @@ impl Lines {
 
     /// Takes the next line, where one stands there. After a refusal the value is as before.
     pub fn next_line<S: Shelf>(&mut self, shelf: &mut S) -> Result<Step, OutsideErr>
-        ensures told { IfSome (S.held shelf.old) (λ files. IfOk result (λ step. IsNext step self.old self.new files)) }
+        ensures modelled { IfSome (S.held shelf.old) (λ files. IfOk result (λ step. IsNext step self.old self.new files)) }
         ensures file { KeepsFile self.old self.new }
         ensures same { IfOk result (λ step. step ≢ Step.Text → self.new.taken ≡ self.old.taken) }
         ensures text { IfOk result (λ step. step ≢ Step.Text → self.new.text ≡ self.old.text) }
@@ -99,7 +99,7 @@ impl Lines {
 
     /// Reads on where fewer bytes are ahead than a line may have.
     fn look_ahead<S: Shelf>(&mut self, shelf: &mut S) -> Result<(), OutsideErr>
-        ensures told { IfSome (S.held shelf.old) (λ files. IfOk result (λ _. HasLooked self.old self.new files)) }
+        ensures modelled { IfSome (S.held shelf.old) (λ files. IfOk result (λ _. HasLooked self.old self.new files)) }
         ensures file { KeepsFile self.old self.new }
         ensures taken { self.new.taken ≡ self.old.taken }
         ensures text { self.new.text ≡ self.old.text }
@@ -175,7 +175,7 @@ impl Lines {
     /// Takes the next line. Malformed, with that line's number, where it isn't there or has no line
     /// feed within 256 bytes.
     pub fn read_text<S: Shelf>(&mut self, shelf: &mut S) -> Result<(), ReadErr>
-        ensures told { IfSome (S.held shelf.old) (λ files.
+        ensures modelled { IfSome (S.held shelf.old) (λ files.
             GivesReading (λ _. self.new.text) result (rest_of self.new files) (text_at (rest_of self.old files))) }
         ensures file { KeepsFile self.old self.new }
         ensures shelf { OnlyReads S.held S.Shelf.faults ReadErr.Failed result shelf.old shelf.new }
@@ -191,7 +191,7 @@ impl Lines {
     #[tactic(auto, unfolding(crate::specs::Lines::rest_of, crate::specs::Lines::rest_in))]
     pub fn found<X>(&self, value: Option<X>) -> Result<X, ReadErr>
         ensures exact { result ≡ ok_or value (ReadErr.Malformed self.now.taken) }
-        ensures told { (files : Files) → GivesReading (λ x. x) result (rest_of self.now files) (value_at value (rest_of self.now files)) }
+        ensures modelled { (files : Files) → GivesReading (λ x. x) result (rest_of self.now files) (value_at value (rest_of self.now files)) }
     {
         value.ok_or(ReadErr::Malformed { line: self.taken })
     }
@@ -200,7 +200,7 @@ impl Lines {
     /// that isn't so.
     #[tactic(auto, unfolding(crate::specs::Lines::end_at, crate::specs::Lines::line_by))]
     pub fn read_end<S: Shelf>(&mut self, shelf: &mut S) -> Result<(), ReadErr>
-        ensures told { ReadsPart end_at (S.held shelf.old) self.old self.new result }
+        ensures modelled { ReadsPart end_at (S.held shelf.old) self.old self.new result }
         ensures file { KeepsFile self.old self.new }
         ensures shelf { OnlyReads S.held S.Shelf.faults ReadErr.Failed result shelf.old shelf.new }
         ensures wants { Causes ReadErr.NoMemory result (S.Shelf.wants shelf.old) (S.Shelf.wants shelf.new) }
@@ -216,7 +216,7 @@ impl Lines {
     /// Reads a line that is this text. Malformed, with its number, where the next line is another.
     #[tactic(auto, unfolding(crate::specs::Lines::line_by))]
     pub fn read_fixed<S: Shelf>(&mut self, shelf: &mut S, line: &[u8]) -> Result<(), ReadErr>
-        ensures told { ReadsPart (line_by (word_of line.now)) (S.held shelf.old) self.old self.new result }
+        ensures modelled { ReadsPart (line_by (word_of line.now)) (S.held shelf.old) self.old self.new result }
         ensures file { KeepsFile self.old self.new }
         ensures shelf { OnlyReads S.held S.Shelf.faults ReadErr.Failed result shelf.old shelf.new }
         ensures wants { Causes ReadErr.NoMemory result (S.Shelf.wants shelf.old) (S.Shelf.wants shelf.new) }
@@ -235,7 +235,7 @@ impl Lines {
         least: u64,
         most: u64,
     ) -> Result<u64, ReadErr>
-        ensures told { ReadsPart (line_by (number_line word.now least most)) (S.held shelf.old) self.old self.new result }
+        ensures modelled { ReadsPart (line_by (number_line word.now least most)) (S.held shelf.old) self.old self.new result }
         ensures file { KeepsFile self.old self.new }
         ensures within { IfOk result (λ number. (least ≤ number) × (number ≤ most)) }
         ensures shelf { OnlyReads S.held S.Shelf.faults ReadErr.Failed result shelf.old shelf.new }
@@ -249,7 +249,7 @@ impl Lines {
     /// Reads a line of this word and an id. Malformed, with its number, where the next line is another.
     #[tactic(auto, unfolding(crate::specs::Lines::line_by))]
     pub fn read_id<S: Shelf>(&mut self, shelf: &mut S, word: &[u8]) -> Result<[u8; 16], ReadErr>
-        ensures told { ReadsPart (line_by (id_line word.now)) (S.held shelf.old) self.old self.new result }
+        ensures modelled { ReadsPart (line_by (id_line word.now)) (S.held shelf.old) self.old self.new result }
         ensures file { KeepsFile self.old self.new }
         ensures bytes { IfOk result (λ id. (length id ≡ 16) × IsBytes id) }
         ensures shelf { OnlyReads S.held S.Shelf.faults ReadErr.Failed result shelf.old shelf.new }
@@ -304,7 +304,7 @@ fn step_by(feed: usize, count: usize) -> Step
 /// Whether a line was taken, after so many before.
 fn line_found(step: Step, before: u64) -> Result<(), ReadErr>
     requires { before ≤ 2 ^ 30 }
-    ensures told { (files : Files) (old new : LinesValue) → before ≡ old.taken → IsNext step old new files
+    ensures modelled { (files : Files) (old new : LinesValue) → before ≡ old.taken → IsNext step old new files
         → GivesReading (λ _. new.text) result (rest_of new files) (text_at (rest_of old files)) }
     ensures exact { result ≡ answer_by (is_text step) before }
 {
@@ -317,7 +317,7 @@ fn line_found(step: Step, before: u64) -> Result<(), ReadErr>
 /// Whether the file has ended, after so many lines.
 fn nothing_left(step: Step, before: u64) -> Result<(), ReadErr>
     requires { before ≤ 2 ^ 30 }
-    ensures told { (files : Files) (old new : LinesValue) → before ≡ old.taken → IsNext step old new files
+    ensures modelled { (files : Files) (old new : LinesValue) → before ≡ old.taken → IsNext step old new files
         → GivesReading (λ x. x) result (rest_of new files) (none_left (rest_of old files)) }
     ensures exact { result ≡ answer_by (is_end step) before }
 {

@@ -45,7 +45,7 @@ pub fn read_many<S: Shelf, K: LineKind>(
     count: u32,
 ) -> Result<Seq<K::Item>, ReadErr>
     requires { count ≤ K.most kind.now }
-    ensures told { ReadsPart (many_at count (λ before. line_by (K.item_of kind.now (length before)))) (S.held shelf.old) lines.old lines.new result }
+    ensures modelled { ReadsPart (many_at count (λ before. line_by (K.item_of kind.now (length before)))) (S.held shelf.old) lines.old lines.new result }
     ensures number { IfOk result (λ items. length items ≡ count) }
     ensures each { IfOk result (EachNumbered (K.is_item kind.now)) }
     ensures file { KeepsFile lines.old lines.new }
@@ -71,7 +71,7 @@ pub fn read_item<S: Shelf, K: LineKind>(
     number: u32,
 ) -> Result<K::Item, ReadErr>
     requires { number < K.most kind.now }
-    ensures told { ReadsPart (line_by (K.item_of kind.now number)) (S.held shelf.old) lines.old lines.new result }
+    ensures modelled { ReadsPart (line_by (K.item_of kind.now number)) (S.held shelf.old) lines.old lines.new result }
     ensures right { IfOk result (K.is_item kind.now number) }
     ensures file { KeepsFile lines.old lines.new }
     ensures shelf { OnlyReads S.held S.Shelf.faults ReadErr.Failed result shelf.old shelf.new }

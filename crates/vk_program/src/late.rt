@@ -9,7 +9,7 @@ use vk_io::OutsideErr;
 use vk_keeper::{Auction, Keeper, TurnCount};
 
 /// The keeper of a house, which is opened where the keeper is asked for the first time: so what asks nothing
-/// leaves no store. It doesn't tell its ledger. What is opened stands in the place that it was given, to be closed by
+/// leaves no store. Its ledger isn't modelled. What is opened stands in the place that it was given, to be closed by
 /// whom the place belongs to.
 #[derive(Drop)]
 pub struct LateKeeper<'a, H: HousePlace> {

@@ -3,7 +3,7 @@
 ghost use Rattle.std.specs.Prelude.{◌≡◌, ◌≢◌, ◌⊎◌, ℕ, IfSome, Some, map, string_bytes};
 ghost use Rattle.std.specs.Process.{exit_status};
 ghost use Rattle.vk_io.specs.Faults.{Rose};
-ghost use Rattle.vk_io.specs.Files.{Told};
+ghost use Rattle.vk_io.specs.Files.{Modelled};
 ghost use Rattle.vk_words.specs.declared.claim.ClaimKind.TheVariants.{Matching};
 ghost use Rattle.vk_house.specs.Once.{KeepsAnswers};
 ghost use Rattle.vk_words.specs.Coins.{CoinWords};
@@ -85,7 +85,7 @@ fn perform<R: Eprint + AllocGlobal, S: Shelf, K: Keeper + Drop, W: Sink>(
         → RunLeaves (map string_bytes words.now) (exit_status result) (S.held shelf.old) (S.held shelf.new) }
     ensures usage { IfSome (S.held shelf.old) (λ files. IfSome (K.ledger keeper.old) (λ ledger.
         TellsUsage (map string_bytes words.now) (exit_status result) (W.taken out.old) (W.taken out.new))) }
-    ensures once { Told KeepsAnswers (K.ledger keeper.old) (K.ledger keeper.new) }
+    ensures once { Modelled KeepsAnswers (K.ledger keeper.old) (K.ledger keeper.new) }
     ensures keeper { AsksNoKeeper (command_words (map string_bytes words.now))
         → (K.ledger keeper.new ≡ K.ledger keeper.old) × (K.Keeper.faults keeper.new ≡ K.Keeper.faults keeper.old) }
     ensures fault { exit_status result ≡ 6 → Rose (S.Shelf.faults shelf.old) (S.Shelf.faults shelf.new)

@@ -27,7 +27,7 @@ pub fn read_challenge<S: Shelf>(
     shelf: &mut S,
     lines: &mut Lines,
 ) -> Result<Challenge, ReadErr>
-    ensures told { ReadsPart challenge_at (S.held shelf.old) lines.old lines.new result }
+    ensures modelled { ReadsPart challenge_at (S.held shelf.old) lines.old lines.new result }
     ensures answers { AnswersWhole IsChallenge challenge_text challenge_table (S.held shelf.old) lines.old result }
     ensures right { IfOk result IsChallenge }
     ensures file { KeepsFile lines.old lines.new }
@@ -44,7 +44,7 @@ fn challenge_read<S: Shelf>(
     shelf: &mut S,
     lines: &mut Lines,
 ) -> Result<Challenge, ReadErr>
-    ensures told { ReadsPart challenge_at (S.held shelf.old) lines.old lines.new result }
+    ensures modelled { ReadsPart challenge_at (S.held shelf.old) lines.old lines.new result }
     ensures right { IfOk result IsChallenge }
     ensures file { KeepsFile lines.old lines.new }
     ensures shelf { OnlyReads S.held S.Shelf.faults ReadErr.Failed result shelf.old shelf.new }
@@ -72,7 +72,7 @@ fn read_bits<S: Shelf>(
     shelf: &mut S,
     lines: &mut Lines,
 ) -> Result<Seq<bool>, ReadErr>
-    ensures told { ReadsPart (line_by bits_line) (S.held shelf.old) lines.old lines.new result }
+    ensures modelled { ReadsPart (line_by bits_line) (S.held shelf.old) lines.old lines.new result }
     ensures some_bit { IfOk result (λ bits. 1 ≤ length bits) }
     ensures few_bits { IfOk result (λ bits. length bits ≤ 64) }
     ensures file { KeepsFile lines.old lines.new }
@@ -88,7 +88,7 @@ fn read_bits<S: Shelf>(
 /// the number of the first line that isn't what its place demands.
 #[tactic(auto, unfolding(crate::specs::Reading::reply_head_at))]
 pub fn read_reply_head<S: Shelf>(shelf: &mut S, lines: &mut Lines) -> Result<u32, ReadErr>
-    ensures told { ReadsPart reply_head_at (S.held shelf.old) lines.old lines.new result }
+    ensures modelled { ReadsPart reply_head_at (S.held shelf.old) lines.old lines.new result }
     ensures right { IfOk result (λ lanes. (1 ≤ lanes) × (lanes ≤ 64)) }
     ensures file { KeepsFile lines.old lines.new }
     ensures shelf { OnlyReads S.held S.Shelf.faults ReadErr.Failed result shelf.old shelf.new }
@@ -110,7 +110,7 @@ pub fn read_reply_lane<S: Shelf>(
     plan: &Plan,
     bit: bool,
 ) -> Result<Seq<Shown>, ReadErr>
-    ensures told { ReadsPart (reply_lane_at lane plan.now.kinds bit) (S.held shelf.old) lines.old lines.new result }
+    ensures modelled { ReadsPart (reply_lane_at lane plan.now.kinds bit) (S.held shelf.old) lines.old lines.new result }
     ensures right { IfOk result (AreShown plan.now.kinds bit) }
     ensures file { KeepsFile lines.old lines.new }
     ensures shelf { OnlyReads S.held S.Shelf.faults ReadErr.Failed result shelf.old shelf.new }
@@ -128,7 +128,7 @@ fn read_wires<S: Shelf>(
     plan: &Plan,
     bit: bool,
 ) -> Result<Seq<Shown>, ReadErr>
-    ensures told { ReadsPart (wires_at plan.now.kinds bit) (S.held shelf.old) lines.old lines.new result }
+    ensures modelled { ReadsPart (wires_at plan.now.kinds bit) (S.held shelf.old) lines.old lines.new result }
     ensures right { IfOk result (AreShown plan.now.kinds bit) }
     ensures file { KeepsFile lines.old lines.new }
     ensures shelf { OnlyReads S.held S.Shelf.faults ReadErr.Failed result shelf.old shelf.new }

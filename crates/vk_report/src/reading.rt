@@ -64,7 +64,7 @@ fn read_lanes<S: Shelf>(
     report: &Report,
 ) -> Result<(), ReadErr>
     requires { IsReport report.now }
-    ensures told { ReadsPart (lanes_passed report.now) (S.held shelf.old) lines.old lines.new result }
+    ensures modelled { ReadsPart (lanes_passed report.now) (S.held shelf.old) lines.old lines.new result }
     ensures shelf { OnlyReads S.held S.Shelf.faults ReadErr.Failed result shelf.old shelf.new }
 {
     let wires = report.wires - report.head.seals;
@@ -81,7 +81,7 @@ fn read_board<S: Shelf>(
     shelf: &mut S,
     lines: &mut Lines,
 ) -> Result<Report, ReportErr>
-    ensures told { IfSome (S.held shelf.old) (λ files.
+    ensures modelled { IfSome (S.held shelf.old) (λ files.
         Gives fault_of (λ report. report) result (report_at (rest_of lines.old files))) }
     ensures right { IfOk result IsReport }
     ensures shelf { OnlyReads S.held S.Shelf.faults ReportErr.Failed result shelf.old shelf.new }
@@ -102,7 +102,7 @@ fn read_board<S: Shelf>(
 /// where the shelf fails; and for want of memory.
 #[tactic(auto, unfolding(crate::specs::Reports::report_on))]
 pub fn read_report<S: Shelf>(alloc: Global, shelf: &mut S, board: &str) -> Result<Report, ReportErr>
-    ensures told { IfSome (S.held shelf.old) (λ files.
+    ensures modelled { IfSome (S.held shelf.old) (λ files.
         Gives fault_of (λ report. report) result (report_on files board.now)) }
     ensures right { IfOk result IsReport }
     ensures shelf { OnlyReads S.held S.Shelf.faults ReportErr.Failed result shelf.old shelf.new }

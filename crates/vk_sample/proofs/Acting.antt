@@ -2,7 +2,7 @@
 use Rattle.std.proofs.Common.{◌≡◌, ℕ, List, [], ◌∷◌, ◌++◌, length, Option, Some, None, Result, Ok, Err, refl, sym, ap, subst, ◌∙◌, inl, inr}
 use Rattle.std.specs.Prelude.{IfSome, IsSome}
 use Rattle.std.specs.FinMap.{insert}
-use Rattle.vk_io.specs.Files.{Files, Told}
+use Rattle.vk_io.specs.Files.{Files, Modelled}
 use Rattle.vk_io.specs.Writing.{IsDivided, WritesAll, written}
 use Rattle.vk_io.specs.declared.errors.OutsideErr.{OutsideErr}
 use Rattle.vk_lines.specs.Gives.{Refuses}
@@ -17,7 +17,7 @@ use Rattle.vk_effect.specs.Effects.{Effect, SaidValue, Stores, says, stores}
 use Rattle.vk_effect.specs.Ends.{Acts}
 use Rattle.vk_sample.specs.Auctions.{DrySeed, auction_of}
 use Rattle.vk_sample.specs.Laws.{IsAuctionOf, SampleOpensAll, opened}
-use Rattle.vk_sample.specs.Samples.{effect_by, effect_unless_dry, sample_on, told_effect}
+use Rattle.vk_sample.specs.Samples.{effect_by, effect_unless_dry, sample_on, modelled_effect}
 use Rattle.vk_sample.specs.Texts.{dry_said, files_of, found_text, made_text, read_said, same_count, sample_names, summary_said}
 
 -- what is answered is what is said
@@ -50,25 +50,25 @@ divided_last [] files = refl
 divided_last (text ∷ texts) files = inr (divided_last texts (insert files text.0 text.1))
 
 module _ (texts : List (List ℕ × List ℕ)) (whole : SaidValue) (ledger : Option Ledger) where
-  pub writing_stopped : (held left : Option Files) (stop : OutsideErr) → Told (WritesAll texts (Err stop)) held left
-      → IfSome (told_effect held ledger texts whole) (λ effect. Acts (Err stop) effect (stores held ledger) (stores left ledger))
+  pub writing_stopped : (held left : Option Files) (stop : OutsideErr) → Modelled (WritesAll texts (Err stop)) held left
+      → IfSome (modelled_effect held ledger texts whole) (λ effect. Acts (Err stop) effect (stores held ledger) (stores left ledger))
   writing_stopped None left stop told = tt
   writing_stopped (Some files) None stop told = absurd told
   writing_stopped (Some files) (Some after) stop told = inr (refl, told)
 
-  pub reading_stopped : (held left now : Option Files) (stop : OutsideErr) → Told (WritesAll {E = OutsideErr} texts (Ok tt)) held left → now ≡ left
-      → IfSome (told_effect held ledger texts whole) (λ effect. Acts (Err stop) effect (stores held ledger) (stores now ledger))
+  pub reading_stopped : (held left now : Option Files) (stop : OutsideErr) → Modelled (WritesAll {E = OutsideErr} texts (Ok tt)) held left → now ≡ left
+      → IfSome (modelled_effect held ledger texts whole) (λ effect. Acts (Err stop) effect (stores held ledger) (stores now ledger))
   reading_stopped None left now stop told same = tt
   reading_stopped (Some files) None now stop told same = absurd told
   reading_stopped (Some files) (Some after) now stop told same =
       let is : now ≡ Some (written texts files) = same ∙ ap Some told in
-      inr (refl, subst (Told (IsDivided texts) (Some files)) (sym is) (divided_last texts files))
+      inr (refl, subst (Modelled (IsDivided texts) (Some files)) (sym is) (divided_last texts files))
 
   -- what was written is read back, and this is said of it
   pub holding_done : (said_of_files : Files → SaidValue) → ((files : Files) → said_of_files (written texts files) ≡ whole)
-      → (held left now : Option Files) (said : SaidValue) → Told (WritesAll {E = OutsideErr} texts (Ok tt)) held left → now ≡ left
+      → (held left now : Option Files) (said : SaidValue) → Modelled (WritesAll {E = OutsideErr} texts (Ok tt)) held left → now ≡ left
       → IfSome left (λ files. said ≡ said_of_files files)
-      → IfSome (told_effect held ledger texts whole) (λ effect. Acts (Ok said) effect (stores held ledger) (stores now ledger))
+      → IfSome (modelled_effect held ledger texts whole) (λ effect. Acts (Ok said) effect (stores held ledger) (stores now ledger))
   holding_done said_of_files reads None left now said told same is = tt
   holding_done said_of_files reads (Some files) None now said told same is = absurd told
   holding_done said_of_files reads (Some files) (Some after) now said told same is = (

@@ -1,7 +1,7 @@
 // The files of a sample.
 ghost use Rattle.std.specs.Prelude.{◌≡◌, length};
 ghost use Rattle.vk_io.specs.Faults.{Causes};
-ghost use Rattle.vk_io.specs.Files.{Told};
+ghost use Rattle.vk_io.specs.Files.{Modelled};
 ghost use Rattle.vk_io.specs.Writing.{WritesAll};
 ghost use Rattle.vk_words.specs.Names.{extract_seen};
 ghost use Rattle.vk_sample.specs.Texts.{files_of, sample_names};
@@ -104,7 +104,7 @@ pub fn write_sample<S: Shelf>(
 ) -> Result<(), OutsideErr>
     requires first { length sample.now.first.bits ≡ job.now.auction.lanes }
     requires second { length sample.now.second.bits ≡ job.now.auction.lanes }
-    ensures written { Told (WritesAll (files_of sample.now job.now.auction) result) (S.held shelf.old) (S.held shelf.new) }
+    ensures written { Modelled (WritesAll (files_of sample.now job.now.auction) result) (S.held shelf.old) (S.held shelf.new) }
     ensures causes { Causes OutsideErr.Failed result (S.Shelf.faults shelf.old) (S.Shelf.faults shelf.new) }
 {
     let head = head_text(alloc, &job.head())?;

@@ -10,7 +10,7 @@ pub fn a_sample_is_an_auction()
 {}
 
 /// A law: of every such number, what is written is the board of the honest prover of that auction and its replies to
-/// both challenges. Both are accepted. Read back from files that are told, they open bids in all 40 lanes, of all 20
+/// both challenges. Both are accepted. Read back from modelled files, they open bids in all 40 lanes, of all 20
 /// seals the same.
 pub fn a_sample_is_accepted_and_opened()
     ensures accepted { OfEachSample SampleIsAccepted }

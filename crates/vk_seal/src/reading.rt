@@ -27,7 +27,7 @@ const MOST_BID: u64 = (1 << 40) - 1;
 /// Reads a seal's file whole. Malformed carries the number of the first line that isn't what its
 /// place demands.
 pub fn read_seal<S: Shelf>(alloc: Global, shelf: &mut S, lines: &mut Lines) -> Result<Seal, ReadErr>
-    ensures told { ReadsPart seal_at (S.held shelf.old) lines.old lines.new result }
+    ensures modelled { ReadsPart seal_at (S.held shelf.old) lines.old lines.new result }
     ensures answers { AnswersWhole IsSeal seal_text seal_table (S.held shelf.old) lines.old result }
     ensures right { IfOk result IsSeal }
     ensures file { KeepsFile lines.old lines.new }
@@ -40,7 +40,7 @@ pub fn read_seal<S: Shelf>(alloc: Global, shelf: &mut S, lines: &mut Lines) -> R
 /// Reads the lines of a seal in turn.
 #[tactic(auto, unfolding(crate::specs::Reading::seal_at))]
 fn seal_read<S: Shelf>(alloc: Global, shelf: &mut S, lines: &mut Lines) -> Result<Seal, ReadErr>
-    ensures told { ReadsPart seal_at (S.held shelf.old) lines.old lines.new result }
+    ensures modelled { ReadsPart seal_at (S.held shelf.old) lines.old lines.new result }
     ensures right { IfOk result IsSeal }
     ensures file { KeepsFile lines.old lines.new }
     ensures shelf { OnlyReads S.held S.Shelf.faults ReadErr.Failed result shelf.old shelf.new }
@@ -56,7 +56,7 @@ fn read_coms<S: Shelf>(
     shelf: &mut S,
     lines: &mut Lines,
 ) -> Result<Seq<WireCom>, ReadErr>
-    ensures told { ReadsPart (lanes_at com_at) (S.held shelf.old) lines.old lines.new result }
+    ensures modelled { ReadsPart (lanes_at com_at) (S.held shelf.old) lines.old lines.new result }
     ensures some { IfOk result (λ lanes. 1 ≤ length lanes) }
     ensures few { IfOk result (λ lanes. length lanes ≤ 64) }
     ensures digests { IfOk result (All IsCom) }
@@ -94,7 +94,7 @@ fn read_seat<S: Shelf>(
     lines: &mut Lines,
     heading: &[u8],
 ) -> Result<([u8; 16], u16), ReadErr>
-    ensures told { ReadsPart (seat_at heading.now) (S.held shelf.old) lines.old lines.new result }
+    ensures modelled { ReadsPart (seat_at heading.now) (S.held shelf.old) lines.old lines.new result }
     ensures id { IfOk result (λ place. AreBytes 16 place.0) }
     ensures some_seat { IfOk result (λ place. 1 ≤ place.1) }
     ensures file { KeepsFile lines.old lines.new }
@@ -115,7 +115,7 @@ fn read_lanes<S: Shelf, K: LineKind>(
     kind: &K,
 ) -> Result<Seq<K::Item>, ReadErr>
     requires { 64 ≤ K.most kind.now }
-    ensures told { ReadsPart (lanes_at (K.item_of kind.now)) (S.held shelf.old) lines.old lines.new result }
+    ensures modelled { ReadsPart (lanes_at (K.item_of kind.now)) (S.held shelf.old) lines.old lines.new result }
     ensures some { IfOk result (λ lanes. 1 ≤ length lanes) }
     ensures few { IfOk result (λ lanes. length lanes ≤ 64) }
     ensures each { IfOk result (EachNumbered (K.is_item kind.now)) }
@@ -135,7 +135,7 @@ pub fn read_secret<S: Shelf>(
     shelf: &mut S,
     lines: &mut Lines,
 ) -> Result<Secret, ReadErr>
-    ensures told { ReadsPart secret_at (S.held shelf.old) lines.old lines.new result }
+    ensures modelled { ReadsPart secret_at (S.held shelf.old) lines.old lines.new result }
     ensures answers { AnswersWhole IsSecret secret_text secret_table (S.held shelf.old) lines.old result }
     ensures right { IfOk result IsSecret }
     ensures file { KeepsFile lines.old lines.new }
@@ -148,7 +148,7 @@ pub fn read_secret<S: Shelf>(
 /// Reads the lines of a secret in turn.
 #[tactic(auto, unfolding(crate::specs::Reading::secret_at))]
 fn secret_read<S: Shelf>(alloc: Global, shelf: &mut S, lines: &mut Lines) -> Result<Secret, ReadErr>
-    ensures told { ReadsPart secret_at (S.held shelf.old) lines.old lines.new result }
+    ensures modelled { ReadsPart secret_at (S.held shelf.old) lines.old lines.new result }
     ensures right { IfOk result IsSecret }
     ensures file { KeepsFile lines.old lines.new }
     ensures shelf { OnlyReads S.held S.Shelf.faults ReadErr.Failed result shelf.old shelf.new }

@@ -19,9 +19,9 @@ at_once Makes Before After old new result made before once clean = (
 )
 
 -- the same where both tell the same
-pub at_once_alike : {E : Type 0} (Makes Told : Trees → Type 0) (old new : State) (result : Result Unit E) → ((trees : Trees) → Makes trees → Told trees)
-    → ((trees : Trees) → old.may_leave trees → Told trees) → CommitsAtOnce Makes old new result → HasCleanDisk new
-    → ((trees : Trees) → new.may_leave trees → Told trees) × OnOk result (Told new.committed.trees)
-at_once_alike Makes Told old new result made before once clean =
-    let left = at_once Makes Told Told old new result made before once clean in
+pub at_once_alike : {E : Type 0} (Makes Modelled : Trees → Type 0) (old new : State) (result : Result Unit E) → ((trees : Trees) → Makes trees → Modelled trees)
+    → ((trees : Trees) → old.may_leave trees → Modelled trees) → CommitsAtOnce Makes old new result → HasCleanDisk new
+    → ((trees : Trees) → new.may_leave trees → Modelled trees) × OnOk result (Modelled new.committed.trees)
+at_once_alike Makes Modelled old new result made before once clean =
+    let left = at_once Makes Modelled Modelled old new result made before once clean in
     (λ trees leaves. elim (left.0 trees leaves) [ inl was ↦ was | inr is ↦ is ], left.1)

@@ -11,7 +11,7 @@ pub mod Clearing
 pub mod Crashes
 pub mod Kept
 pub mod Once
-pub mod Told
+pub mod Modelled
 pub mod Making
 pub mod Marks
 pub mod Lifting

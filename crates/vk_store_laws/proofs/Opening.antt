@@ -16,7 +16,7 @@ use Rattle.vk_store_laws.specs.Holding.{IsStore}
 use Rattle.vk_store_laws.specs.Telling.{TablesTell}
 use Rattle.vk_store_laws.proofs.Finds.{shown_leaves}
 use Rattle.vk_store_laws.proofs.Making.{count_is, made_is_store}
-use Rattle.vk_store_laws.proofs.Told.{nothing_is_told}
+use Rattle.vk_store_laws.proofs.Modelled.{nothing_is_told}
 
 number_plain : IsPlain (understood store_schema number_query)
 unfolding understood everything number_query

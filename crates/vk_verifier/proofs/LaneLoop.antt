@@ -1,4 +1,4 @@
--- The loop over the lanes of a board and a reply: its turns and its exits, for any told content.
+-- The loop over the lanes of a board and a reply: its turns and its exits, for any modelled content.
 use Rattle.std.proofs.Common.{◌≡◌, ℕ, suc, ◌+◌, ◌<◌, ◌≤◌, Bool, List, [], ◌∷◌, length, drop, get_or, Option, Some, None, Result, Ok, Err, IfSome, refl, ap, sym, ◌∙◌, arith, subst}
 use Rattle.std.proofs.Math.Seq.{drop-cons}
 use Rattle.std.proofs.Math.ListN.{drop_of_length-le}

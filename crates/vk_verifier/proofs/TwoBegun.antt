@@ -1,4 +1,4 @@
--- What is said of told content, from what is said of it.
+-- What is said of modelled content, from what is said of it.
 use Rattle.std.proofs.Common.{◌≡◌, false, Option, Some, None, IfSome, refl, ap}
 use Rattle.vk_io.specs.Files.{Files}
 use Rattle.vk_verifier.specs.declared.answers.BoardVerdict.{BoardVerdict}

@@ -1,4 +1,4 @@
--- What is found of two replies on the way, for any told content.
+-- What is found of two replies on the way, for any modelled content.
 use Rattle.std.proofs.Common.{◌≡◌, ℕ, suc, ◌+◌, ◌<◌, ◌≤◌, Bool, false, List, ◌∷◌, length, drop, get_or, Option, Some, None, Result, Ok, Err, is_ok, is_some, IsOk, IsTrue, IfSome, refl, ap, sym, ◌∙◌, arith, subst}
 use Rattle.std.proofs.Math.Seq.{drop-cons}
 use Rattle.std.proofs.Math.ListN.{drop_of_length-le}

@@ -99,7 +99,7 @@ fn judge_lanes<S: Shelf>(
     attempt: &mut Attempt,
 ) -> Result<(), Halt<Fault>>
     requires { IsFront front }
-    ensures told { IfSome (S.held shelf.old) (λ files. Judges (λ done. done) result
+    ensures modelled { IfSome (S.held shelf.old) (λ files. Judges (λ done. done) result
         (of_begun (behind_in_parts (statement_of front)) attempt.old files)) }
     ensures shelf { OnlyReads S.held S.Shelf.faults Halt.Failed result shelf.old shelf.new }
 {
@@ -115,7 +115,7 @@ fn judge<S: Shelf>(
     shelf: &mut S,
     attempt: &mut Attempt,
 ) -> Result<(), Halt<BoardVerdict>>
-    ensures told { IfSome (S.held shelf.old) (λ files. Judges (λ done. done) result (of_begun judged attempt.old files)) }
+    ensures modelled { IfSome (S.held shelf.old) (λ files. Judges (λ done. done) result (of_begun judged attempt.old files)) }
     ensures shelf { OnlyReads S.held S.Shelf.faults Halt.Failed result shelf.old shelf.new }
 {
     let front = in_front(read_front(alloc, shelf, &mut attempt.pair.board))?;
@@ -127,7 +127,7 @@ fn judge<S: Shelf>(
 /// The verdict that judging came to.
 fn verdict_in(judged: Result<(), Halt<BoardVerdict>>) -> Result<BoardVerdict, VErr>
     ensures exact { result ≡ verdict_answer judged }
-    ensures told { (expected : Result Unit BoardVerdict) → Judges (λ done. done) judged expected
+    ensures modelled { (expected : Result Unit BoardVerdict) → Judges (λ done. done) judged expected
         → Gives unread_file (λ verdict. verdict) result (Ok (verdict_by expected)) }
     ensures causes { (before : ℕ) (after : ℕ) → Causes Halt.Failed judged before after → Causes VErr.Failed result before after }
 {
@@ -153,7 +153,7 @@ pub fn verdict<S: Shelf>(
     challenge: &str,
     reply: &str,
 ) -> Result<BoardVerdict, VErr>
-    ensures told { IfSome (S.held shelf.old) (λ files.
+    ensures modelled { IfSome (S.held shelf.old) (λ files.
         Gives unread_file (λ verdict. verdict) result (verdict_on files board.now challenge.now reply.now)) }
     ensures shelf { OnlyReads S.held S.Shelf.faults VErr.Failed result shelf.old shelf.new }
 {

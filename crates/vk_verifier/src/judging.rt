@@ -39,7 +39,7 @@ pub fn read_attempt<S: Shelf>(
     challenge: &mut Lines,
     reply: &mut Lines,
 ) -> Result<Seq<bool>, Halt<Fault>>
-    ensures told { IfSome (S.held shelf.old) (λ files.
+    ensures modelled { IfSome (S.held shelf.old) (λ files.
         Judges (λ bits. (bits, rest_of reply.new files)) result
         (attempt_at lanes (rest_of challenge.old files) (rest_of reply.old files))) }
     ensures bits { IfOk result (λ bits. length bits ≡ lanes) }
@@ -60,7 +60,7 @@ pub fn judge_rest<S: Shelf>(
     pair: &mut FileAndReply,
 ) -> Result<(), Halt<Fault>>
     requires { AreLeft left }
-    ensures told { IfSome (S.held shelf.old) (λ files. Judges (λ done. done) result
+    ensures modelled { IfSome (S.held shelf.old) (λ files. Judges (λ done. done) result
         (rest_left left.entry (rest_of pair.old.board files) (rest_of pair.old.reply files))) }
     ensures shelf { OnlyReads S.held S.Shelf.faults Halt.Failed result shelf.old shelf.new }
 {
@@ -86,7 +86,7 @@ pub fn judge_behind<S: Shelf>(
     statement: &Statement,
     attempt: &mut Attempt,
 ) -> Result<(), Halt<Fault>>
-    ensures told { IfSome (S.held shelf.old) (λ files. Judges (λ done. done) result
+    ensures modelled { IfSome (S.held shelf.old) (λ files. Judges (λ done. done) result
         (of_begun (behind_in_parts statement.now) attempt.old files)) }
     ensures shelf { OnlyReads S.held S.Shelf.faults Halt.Failed result shelf.old shelf.new }
 {
@@ -106,7 +106,7 @@ pub fn judge_behind<S: Shelf>(
 /// Reads the end of the file and then that of the reply.
 #[tactic(auto, unfolding(crate::specs::Behind::ends_judged))]
 pub fn read_ends<S: Shelf>(shelf: &mut S, pair: &mut FileAndReply) -> Result<(), Halt<Fault>>
-    ensures told { IfSome (S.held shelf.old) (λ files.
+    ensures modelled { IfSome (S.held shelf.old) (λ files.
         Judges (λ done. done) result (ends_judged (rest_of pair.old.board files) (rest_of pair.old.reply files))) }
     ensures shelf { OnlyReads S.held S.Shelf.faults Halt.Failed result shelf.old shelf.new }
 {

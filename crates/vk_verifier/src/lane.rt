@@ -73,7 +73,7 @@ pub fn read_case<S: Shelf>(
 ) -> Result<LaneCase, Halt<Fault>>
     requires first { 1 ≤ lane }
     requires last { lane ≤ statement.now.lanes }
-    ensures told { IfSome (S.held shelf.old) (λ files.
+    ensures modelled { IfSome (S.held shelf.old) (λ files.
         Judges (λ case. (case, rest_of board.new files)) result (case_at statement.now lane (rest_of board.old files))) }
     ensures right { IfOk result (IsLaneCase statement.now lane) }
     ensures fits { IfOk result (Fits statement.now.plan) }
@@ -127,7 +127,7 @@ pub fn read_checked<S: Shelf>(
     reply: &mut Lines,
 ) -> Result<Seq<Shown>, Halt<Fault>>
     requires { Fits statement.now.plan case.now }
-    ensures told { IfSome (S.held shelf.old) (λ files.
+    ensures modelled { IfSome (S.held shelf.old) (λ files.
         Judges (λ shown. (shown, rest_of reply.new files)) result (reply_judged statement.now.plan case.now lane bit (rest_of reply.old files))) }
     ensures accepted { IfOk result (IsAccepted statement.now.plan case.now bit) }
     ensures shelf { OnlyReads S.held S.Shelf.faults Halt.Failed result shelf.old shelf.new }
@@ -153,7 +153,7 @@ pub fn judge_lane<S: Shelf>(
 ) -> Result<(), Halt<Fault>>
     requires first { 1 ≤ lane }
     requires last { lane ≤ statement.now.lanes }
-    ensures told { IfSome (S.held shelf.old) (λ files.
+    ensures modelled { IfSome (S.held shelf.old) (λ files.
         Judges (λ _. (rest_of pair.new.board files, rest_of pair.new.reply files)) result
         (lane_judged statement.now lane bit (rest_of pair.old.board files) (rest_of pair.old.reply files))) }
     ensures shelf { OnlyReads S.held S.Shelf.faults Halt.Failed result shelf.old shelf.new }

@@ -37,7 +37,7 @@ pub struct TwoReplies<'a> {
 /// A file from its first line on, or why it was not begun.
 fn begun_file(part: Part, started: Result<Lines, StartErr>) -> Result<Lines, VErr>
     ensures exact { result ≡ begun_answer part started }
-    ensures told { (files : Files) (name : List ℕ) → Starts files name started
+    ensures modelled { (files : Files) (name : List ℕ) → Starts files name started
         → Gives unread_file (λ lines. rest_of lines files) result (begun_file part (map.get files name)) }
     ensures causes { (before : ℕ) (after : ℕ) → Causes StartErr.Failed started before after → Causes VErr.Failed result before after }
 {
@@ -52,7 +52,7 @@ fn begun_file(part: Part, started: Result<Lines, StartErr>) -> Result<Lines, VEr
 
 /// Begins to read the named file.
 fn begin<S: Shelf>(alloc: Global, shelf: &mut S, name: &str, part: Part) -> Result<Lines, VErr>
-    ensures told { IfSome (S.held shelf.old) (λ files.
+    ensures modelled { IfSome (S.held shelf.old) (λ files.
         Gives unread_file (λ lines. rest_of lines files) result (begun_file part (map.get files name.now))) }
     ensures shelf { OnlyReads S.held S.Shelf.faults VErr.Failed result shelf.old shelf.new }
 {
@@ -68,7 +68,7 @@ pub fn begin_attempt<S: Shelf>(
     shelf: &mut S,
     names: &OneReply<'_>,
 ) -> Result<Attempt, VErr>
-    ensures told { IfSome (S.held shelf.old) (λ files. Gives unread_file (λ attempt. of_begun three_rests attempt files) result
+    ensures modelled { IfSome (S.held shelf.old) (λ files. Gives unread_file (λ attempt. of_begun three_rests attempt files) result
         (of_attempt three_rests files names.now.file.now names.now.challenge.now names.now.reply.now)) }
     ensures shelf { OnlyReads S.held S.Shelf.faults VErr.Failed result shelf.old shelf.new }
 {
@@ -86,7 +86,7 @@ pub fn begin_two<S: Shelf>(
     shelf: &mut S,
     names: &TwoReplies<'_>,
 ) -> Result<TwoAttempts, VErr>
-    ensures told { IfSome (S.held shelf.old) (λ files. Gives unread_file (λ two. of_two five_rests two files) result (named_rests files names.now)) }
+    ensures modelled { IfSome (S.held shelf.old) (λ files. Gives unread_file (λ two. of_two five_rests two files) result (named_rests files names.now)) }
     ensures shelf { OnlyReads S.held S.Shelf.faults VErr.Failed result shelf.old shelf.new }
 {
     let board = begin(alloc, shelf, names.board, Part::Board)?;

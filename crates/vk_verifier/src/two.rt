@@ -50,7 +50,7 @@ impl LaneChecker {
         statement: Statement,
         two: TwoAttempts,
     ) -> Result<LaneChecker, OutsideErr>
-        ensures told { IfSome (S.held shelf.old) (λ files. IfOk result (λ checker. ahead_of checker files ≡ of_two (ahead_behind statement) two files)) }
+        ensures modelled { IfSome (S.held shelf.old) (λ files. IfOk result (λ checker. ahead_of checker files ≡ of_two (ahead_behind statement) two files)) }
         ensures base { IfSome (S.held shelf.old) (λ files. IfOk result (λ checker. base_of checker ≡ base_in (of_two (base_behind statement) two files))) }
         ensures statement { IfOk result (λ checker. IfSome (base_of checker) (λ base. base.statement ≡ statement)) }
         ensures none_given { IfOk result (λ checker. given_of checker ≡ 0) }
@@ -81,7 +81,7 @@ impl LaneChecker {
         alloc: Global,
         shelf: &mut S,
     ) -> Result<(LaneChecker, Option<TwoLane>), OutsideErr>
-        ensures told { IfSome (S.held shelf.old) (λ files. IfOk result (λ next. GoesOn (ahead_of self files) next.1 next.0 files)) }
+        ensures modelled { IfSome (S.held shelf.old) (λ files. IfOk result (λ next. GoesOn (ahead_of self files) next.1 next.0 files)) }
         ensures lane { IfOk result (λ next. IfSome next.1 (IsNextLane self next.0)) }
         ensures none { IfOk result (λ next. next.1 ≡ None → IsOver next.0 × (given_of next.0 ≡ given_of self)) }
         ensures base { IfOk result (λ next. base_of next.0 ≡ base_of self) }
@@ -156,7 +156,7 @@ fn checker_on(base: Result<Base, TwoHalt>, readers: TwoReaders) -> Result<LaneCh
     requires right { IfOk base IsBase }
     requires refuses { IfErr base Refuses }
     ensures exact { result ≡ start_answer base readers }
-    ensures told { (files : Files) (expected : Result (Base × Rests) (Finding Fault))
+    ensures modelled { (files : Files) (expected : Result (Base × Rests) (Finding Fault))
         → Judges (λ g. (g, rests_of readers files)) base expected → IfOk result (λ checker. ahead_of checker files ≡ ahead_by expected) }
     ensures base { (files : Files) (expected : Result (Base × Rests) (Finding Fault))
         → Judges (λ g. (g, rests_of readers files)) base expected → IfOk result (λ checker. base_of checker ≡ base_in expected) }
@@ -188,7 +188,7 @@ fn next_on_course<S: Shelf>(
     course: Course,
 ) -> Result<(Course, Option<TwoLane>), OutsideErr>
     requires { IsCourse course }
-    ensures told { IfSome (S.held shelf.old) (λ files. IfOk result (λ next. GoesOn (ahead_of (Running course) files) next.1 (Running next.0) files)) }
+    ensures modelled { IfSome (S.held shelf.old) (λ files. IfOk result (λ next. GoesOn (ahead_of (Running course) files) next.1 (Running next.0) files)) }
     ensures right { IfOk result (λ next. IsCourse next.0) }
     ensures lane { IfOk result (λ next. IfSome next.1 (IsNextLane (Running course) (Running next.0))) }
     ensures none { IfOk result (λ next. next.1 ≡ None → IsSome next.0.finding × (next.0.given ≡ course.given)) }
@@ -228,7 +228,7 @@ fn after_step(
     requires more { OnOk step (given < base.statement.lanes) }
     requires all { IfErr step (λ halt. Refuses halt ⊎ (given ≡ base.statement.lanes)) }
     ensures exact { result ≡ step_answer base readers given step }
-    ensures told { (files : Files) (before : Ahead Fault) → GivesLane before step (ahead_on base (given + 1) (rests_of readers files))
+    ensures modelled { (files : Files) (before : Ahead Fault) → GivesLane before step (ahead_on base (given + 1) (rests_of readers files))
         → IfOk result (λ next. GoesOn before next.1 (Running next.0) files) }
     ensures right { IfOk result (λ next. IsCourse next.0) }
     ensures lane { IfOk result (λ next. IfSome next.1 (IsTwoLane base.statement next.0.given)) }

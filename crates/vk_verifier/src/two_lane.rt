@@ -30,7 +30,7 @@ pub fn judge_on<S: Shelf>(
     pair: &mut FileAndReply,
 ) -> Result<(), Halt<Fault>>
     requires { AreLeft left }
-    ensures told { IfSome (S.held shelf.old) (λ files. IsTrue asked → Judges (λ done. done) result
+    ensures modelled { IfSome (S.held shelf.old) (λ files. IsTrue asked → Judges (λ done. done) result
         (rest_left left.entry (rest_of pair.old.board files) (rest_of pair.old.reply files))) }
     ensures kept { IsFalse asked → pair.new ≡ pair.old }
     ensures idle { IsFalse asked → IsOk result }
@@ -57,7 +57,7 @@ fn read_second<S: Shelf>(
     requires base { IsBase base.now }
     requires fits { Fits base.now.statement.plan case.now }
     requires within { lane ≤ base.now.statement.lanes }
-    ensures told { IfSome (S.held shelf.old) (λ files. Judges (λ shown. (shown, rest_of readers.new.second files)) result
+    ensures modelled { IfSome (S.held shelf.old) (λ files. Judges (λ shown. (shown, rest_of readers.new.second files)) result
         (of_second (rest_judged base.now.statement (lane + 1) (drop lane base.now.first_bits) (rest_of readers.old.pair.board files) (rest_of readers.old.pair.reply files))
         (reply_judged base.now.statement.plan case.now lane bit (rest_of readers.old.second files)))) }
     ensures pair { OnOk result (readers.new.pair ≡ readers.old.pair) }
@@ -99,7 +99,7 @@ fn read_two<S: Shelf>(
     requires base { IsBase base.now }
     requires first { 1 ≤ lane }
     requires last { lane ≤ base.now.statement.lanes }
-    ensures told { IfSome (S.held shelf.old) (λ files. Judges (λ two. (two, rests_of readers.new files)) result
+    ensures modelled { IfSome (S.held shelf.old) (λ files. Judges (λ two. (two, rests_of readers.new files)) result
         (two_lane_at base.now.statement lane first_bit second_bit (drop lane base.now.first_bits) (rests_of readers.old files))) }
     ensures right { IfOk result (IsTwoLane base.now.statement lane) }
     ensures refuses { IfErr result Refuses }
@@ -132,7 +132,7 @@ fn read_second_end<S: Shelf>(
     standing: bool,
     second: &mut Lines,
 ) -> Result<(), Halt<Fault>>
-    ensures told { IfSome (S.held shelf.old) (λ files. IsTrue standing
+    ensures modelled { IfSome (S.held shelf.old) (λ files. IsTrue standing
         → Judges (λ done. (done, rest_of second.new files)) result (in_part Part.Reply (end_at (rest_of second.old files)))) }
     ensures idle { IsFalse standing → IsOk result }
     ensures shelf { OnlyReads S.held S.Shelf.faults Halt.Failed result shelf.old shelf.new }
@@ -147,7 +147,7 @@ fn read_second_end<S: Shelf>(
 /// Reads the ends of the board, of the first reply and of the second: what is found.
 #[tactic(auto, unfolding(crate::specs::Two::ends_found))]
 fn read_finding<S: Shelf>(shelf: &mut S, base: &Base, readers: &mut TwoReaders) -> TwoHalt
-    ensures told { IfSome (S.held shelf.old) (λ files.
+    ensures modelled { IfSome (S.held shelf.old) (λ files.
         IsFound result (ends_found (accepted_of base.now.first_bits base.now.second_bits) (rests_of readers.old files))) }
     ensures shelf { OnlyReads {T = Unit {0}} S.held S.Shelf.faults Halt.Failed (Err result) shelf.old shelf.new }
 {
@@ -168,7 +168,7 @@ pub fn next_step<S: Shelf>(
 ) -> Result<TwoLane, TwoHalt>
     requires base { IsBase base.now }
     requires within { given ≤ base.now.statement.lanes }
-    ensures told { IfSome (S.held shelf.old) (λ files.
+    ensures modelled { IfSome (S.held shelf.old) (λ files.
         GivesLane (ahead_on base.now given (rests_of readers.old files)) result (ahead_on base.now (given + 1) (rests_of readers.new files))) }
     ensures right { IfOk result (IsTwoLane base.now.statement (given + 1)) }
     ensures more { OnOk result (given < base.now.statement.lanes) }
@@ -204,7 +204,7 @@ fn begin_second<S: Shelf>(
     readers: &mut TwoReaders,
 ) -> Result<Seq<bool>, TwoHalt>
     requires { length first_bits.now ≡ statement.now.lanes }
-    ensures told { IfSome (S.held shelf.old) (λ files. Judges (λ bits. (bits, rest_of readers.new.second files)) result
+    ensures modelled { IfSome (S.held shelf.old) (λ files. Judges (λ bits. (bits, rest_of readers.new.second files)) result
         (of_second (rest_judged statement.now 1 first_bits.now (rest_of readers.old.pair.board files) (rest_of readers.old.pair.reply files))
         (attempt_at statement.now.lanes (rest_of challenge.old files) (rest_of readers.old.second files)))) }
     ensures pair { OnOk result (readers.new.pair ≡ readers.old.pair) }
@@ -236,7 +236,7 @@ pub fn begin_lanes<S: Shelf>(
     second: &mut Lines,
     readers: &mut TwoReaders,
 ) -> Result<Base, TwoHalt>
-    ensures told { IfSome (S.held shelf.old) (λ files. Judges (λ base. (base, rests_of readers.new files)) result
+    ensures modelled { IfSome (S.held shelf.old) (λ files. Judges (λ base. (base, rests_of readers.new files)) result
         (base_behind statement (rest_of readers.old.pair.board files) (rest_of first.old files) (rest_of readers.old.pair.reply files) (rest_of second.old files) (rest_of readers.old.second files))) }
     ensures right { IfOk result IsBase }
     ensures statement { IfOk result (λ base. base.statement ≡ statement) }

@@ -14,11 +14,11 @@ with_front-extraction-requires-clause-front g c =
     let front : StatementValue → Front = λ s. front_with course.head s.seals course.position in
     of_front front (base_of course.lanes) c.in_ok-found.found c.requires.right.front c.in_ok-found.ensures.statement
 
-pub returns-clause-told : goal.returns-clause-told
-returns-clause-told g c =
+pub returns-clause-modelled : goal.returns-clause-modelled
+returns-clause-modelled g c =
     let course = c.args.course in
     let front : StatementValue → Front = λ s. front_with course.head s.seals course.position in
     let same = same_statement front (base_of course.lanes) c.requires.right.front in
-    IfSome_then (g.S.Shelf.held c.args.shelf.now) c.in_ok-found.ensures.told
+    IfSome_then (g.S.Shelf.held c.args.shelf.now) c.in_ok-found.ensures.modelled
     (λ files is. board_extraction front (base_of course.lanes) (ahead_of course.lanes files) same
     ∙ (ap (extraction_with front) is ∙ sym c.with_front-extraction.ensures.value))

@@ -8,19 +8,19 @@ use Rattle.vk_lines.proofs.Loops.{many_turn, many_stop, many_done}
 use Rattle.vk_board.specs.Reading.{seal_at}
 use Rattle.vk_board.proofs.reading.read_seal_lines.Goals as goal
 
-pub returns-in_err-seal-clause-told : goal.returns-in_err-seal-clause-told
-returns-in_err-seal-clause-told g c =
+pub returns-in_err-seal-clause-modelled : goal.returns-in_err-seal-clause-modelled
+returns-in_err-seal-clause-modelled g c =
     many_stop (g.S.Shelf.held c.args.shelf.now) (g.S.Shelf.held c.loop-index.shelf) (seal_at c.args.lanes)
     (λ files. many_at c.args.count (seal_at c.args.lanes) (rest_of c.args.lines.now files))
     c.loop-index.seals c.in_err-seal.field-0.0 _ (c.args.count - c.loop-index.index) (λ files. rest_of c.loop-index.lines files) (λ files. rest_of c.read_seal.new.lines files)
-    c.loop-index.invariant.held (omega arith) (search rules) c.loop-index.invariant.told c.in_err-seal.ensures.told
+    c.loop-index.invariant.held (omega arith) (search rules) c.loop-index.invariant.modelled c.in_err-seal.ensures.modelled
 
 pub loop-index-preserved : goal.loop-index-preserved
 loop-index-preserved g c = record {
-  told = many_turn (g.S.Shelf.held c.args.shelf.now) (g.S.Shelf.held c.loop-index.shelf) (seal_at c.args.lanes)
+  modelled = many_turn (g.S.Shelf.held c.args.shelf.now) (g.S.Shelf.held c.loop-index.shelf) (seal_at c.args.lanes)
       (λ files. many_at c.args.count (seal_at c.args.lanes) (rest_of c.args.lines.now files))
       c.loop-index.seals _ c.in_ok-seal.seal (c.args.count - c.loop-index.index) (c.args.count - (c.loop-index.index + 1)) (λ files. rest_of c.loop-index.lines files) (λ files. rest_of c.read_seal.new.lines files)
-      c.loop-index.invariant.held (omega arith) c.in_ok-push.ensures.pushed c.loop-index.invariant.told c.in_ok-seal.ensures.told;
+      c.loop-index.invariant.held (omega arith) c.in_ok-push.ensures.pushed c.loop-index.invariant.modelled c.in_ok-seal.ensures.modelled;
   count = grind (arith, common_steps, length-append);
   right = rw c.in_ok-push.ensures.pushed (each_push (IsSealAfter c.args.lanes) [] c.loop-index.seals c.in_ok-seal.seal c.loop-index.invariant.right c.in_ok-seal.ensures.right);
   held = c.in_ok-seal.ensures.shelf.held ∙ c.loop-index.invariant.held;
@@ -28,8 +28,8 @@ loop-index-preserved g c = record {
   file = record { name = c.in_ok-seal.ensures.file.name ∙ c.loop-index.invariant.file.name; size = c.in_ok-seal.ensures.file.size ∙ c.loop-index.invariant.file.size };
 }
 
-pub returns-clause-told : goal.returns-clause-told
-returns-clause-told g c =
+pub returns-clause-modelled : goal.returns-clause-modelled
+returns-clause-modelled g c =
     many_done (g.S.Shelf.held c.args.shelf.now) (seal_at c.args.lanes)
     (λ files. many_at c.args.count (seal_at c.args.lanes) (rest_of c.args.lines.now files))
-    c.loop-index.seals (c.args.count - c.loop-index.index) (λ files. rest_of c.loop-index.lines files) (omega arith) c.loop-index.invariant.told
+    c.loop-index.seals (c.args.count - c.loop-index.index) (λ files. rest_of c.loop-index.lines files) (omega arith) c.loop-index.invariant.modelled

@@ -8,7 +8,7 @@ use Rattle.vk_board.proofs.reading.read_seal_lines.Given as goal
 -- what is left gives the rest of the seals
 abbrev pub invariant-loop-index : goal.invariant-loop-index
 invariant-loop-index g l = record {
-  told : IfSome (g.S.Shelf.held l.fn.shelf) (λ files.
+  modelled : IfSome (g.S.Shelf.held l.fn.shelf) (λ files.
       many_onto l.seals (l.count - l.index) (seal_at l.lanes) (rest_of l.lines files) ≡ many_onto [] l.count (seal_at l.lanes) (rest_of l.fn.lines files));
   count : length l.seals ≡ l.index;
   right : EachAfter (IsSealAfter l.lanes) [] l.seals;

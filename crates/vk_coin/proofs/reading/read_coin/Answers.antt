@@ -1,5 +1,5 @@
 use Rattle.vk_lines.specs.Lines.{rest_of}
-use Rattle.vk_lines.proofs.Told.{told_answers}
+use Rattle.vk_lines.proofs.Modelled.{told_answers}
 use Rattle.vk_coin.specs.Tables.{coin_table}
 use Rattle.vk_coin.proofs.Forms.{coin_is_whole}
 use Rattle.vk_coin.proofs.Faults.{coin_ends}
@@ -8,4 +8,4 @@ use Rattle.vk_coin.proofs.reading.read_coin.Goals as goal
 pub returns-clause-answers : goal.returns-clause-answers
 returns-clause-answers g c =
     told_answers coin_table (λ x. x) coin_is_whole coin_ends (g.S.Shelf.held c.args.shelf.now) c.coin_read-coin.result
-    (λ files. rest_of c.args.lines.now files) (λ files. rest_of c.coin_read-coin.new.lines files) c.coin_read-coin.ensures.told
+    (λ files. rest_of c.args.lines.now files) (λ files. rest_of c.coin_read-coin.new.lines files) c.coin_read-coin.ensures.modelled

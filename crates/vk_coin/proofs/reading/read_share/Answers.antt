@@ -1,5 +1,5 @@
 use Rattle.vk_lines.specs.Lines.{rest_of}
-use Rattle.vk_lines.proofs.Told.{told_answers}
+use Rattle.vk_lines.proofs.Modelled.{told_answers}
 use Rattle.vk_coin.specs.Tables.{share_table}
 use Rattle.vk_coin.proofs.Forms.{share_is_whole}
 use Rattle.vk_coin.proofs.Faults.{share_ends}
@@ -8,4 +8,4 @@ use Rattle.vk_coin.proofs.reading.read_share.Goals as goal
 pub returns-clause-answers : goal.returns-clause-answers
 returns-clause-answers g c =
     told_answers share_table (λ x. x) share_is_whole share_ends (g.S.Shelf.held c.args.shelf.now) c.share_read-share.result
-    (λ files. rest_of c.args.lines.now files) (λ files. rest_of c.share_read-share.new.lines files) c.share_read-share.ensures.told
+    (λ files. rest_of c.args.lines.now files) (λ files. rest_of c.share_read-share.new.lines files) c.share_read-share.ensures.modelled

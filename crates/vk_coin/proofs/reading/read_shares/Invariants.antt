@@ -8,7 +8,7 @@ use Rattle.vk_coin.proofs.reading.read_shares.Given as goal
 -- what is left gives the rest of the shares
 abbrev pub invariant-loop-index : goal.invariant-loop-index
 invariant-loop-index g l = record {
-  told : IfSome (g.S.Shelf.held l.fn.shelf) (λ files.
+  modelled : IfSome (g.S.Shelf.held l.fn.shelf) (λ files.
       many_onto l.shares (l.auditors - l.index) (λ before. shown_at l.auction l.bits (length before + 1)) (rest_of l.lines files)
       ≡ many_onto [] l.auditors (λ before. shown_at l.auction l.bits (length before + 1)) (rest_of l.fn.lines files));
   count : length l.shares ≡ l.index;

@@ -14,4 +14,4 @@ returns-clause-of_file g c =
     both_held (g.S.Shelf.held c.args.shelf.now) (g.S.Shelf.held c.begin_two.new.shelf) c.in_ok-two.ensures.shelf.held
     (λ files begun sums. sums_of_begun (get files names.board.now) (rest_of two.readers.pair.board files) c.in_ok-found.found
     (file_begun files names.board.now names.challenge1.now names.reply1.now names.challenge2.now names.reply2.now (of_two five_rests two files) begun) sums)
-    c.in_ok-two.ensures.told c.in_ok-found.ensures.of_file
+    c.in_ok-two.ensures.modelled c.in_ok-found.ensures.of_file

@@ -6,7 +6,7 @@ use Rattle.vk_io.proofs.content.read_bytes.Given as goal
 abbrev pub invariant-loop-at : goal.invariant-loop-at
 invariant-loop-at g l =
     record {
-      told : IfSome (g.S.Shelf.held l.fn.shelf) (λ files. l.bytes.items ≡ take l.at (bytes_of files l.name));
+      modelled : IfSome (g.S.Shelf.held l.fn.shelf) (λ files. l.bytes.items ≡ take l.at (bytes_of files l.name));
       taken : length l.bytes.items ≡ l.at;
       within : l.at ≤ l.size;
       room : length l.piece ≡ 4096;

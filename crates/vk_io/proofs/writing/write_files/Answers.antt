@@ -2,7 +2,7 @@ use Rattle.std.proofs.Common.{◌≡◌, ℕ, [], ◌∷◌, ◌<◌, ◌+◌, L
 use Rattle.std.proofs.lemmas.Result.{err_from_is_err_and}
 use Rattle.std.proofs.lemmas.List.{at_drop_all, drop_more}
 use Rattle.vk_io.specs.declared.errors.OutsideErr.{OutsideErr}
-use Rattle.vk_io.specs.Files.{Told}
+use Rattle.vk_io.specs.Files.{Modelled}
 use Rattle.vk_io.specs.Writing.{WrittenFile, Writes, WritesAll, no_file, text_of, texts_of}
 use Rattle.vk_io.proofs.WritingLemmas.{told_chain, told_weaker, told_same, all_from_rest, all_from_refused}
 use Rattle.vk_io.proofs.writing.write_files.Goals as goal
@@ -19,9 +19,9 @@ returns-in_err-write_file-clause-written g c =
     let file : WrittenFile = get_or files i no_file in
     let now = g.S.Shelf.held c.loop-file.shelf in
     let new = g.S.Shelf.held c.write_file.new.shelf in
-    subst (λ r. Told (WritesAll (texts_of files) r) (g.S.Shelf.held c.args.shelf.now) new) (sym p.1)
-    (c.loop-file.invariant.told (Err p.0) new
-    (subst (λ texts. Told (WritesAll {E = OutsideErr} texts (Err p.0)) now new) (sym (texts_next files i (omega arith)))
+    subst (λ r. Modelled (WritesAll (texts_of files) r) (g.S.Shelf.held c.args.shelf.now) new) (sym p.1)
+    (c.loop-file.invariant.modelled (Err p.0) new
+    (subst (λ texts. Modelled (WritesAll {E = OutsideErr} texts (Err p.0)) now new) (sym (texts_next files i (omega arith)))
     (told_weaker (Writes {E = OutsideErr} file.name (text_of file) (Err p.0)) (WritesAll {E = OutsideErr} ((file.name, text_of file) ∷ texts_of (drop (i + 1) files)) (Err p.0))
     (all_from_refused file.name (text_of file) (texts_of (drop (i + 1) files)) p.0) now new c.in_err-write_file.ensures.written)))
 
@@ -33,9 +33,9 @@ loop-file-preserved g c =
     let now = g.S.Shelf.held c.loop-file.shelf in
     let first = g.S.Shelf.held c.write_file.new.shelf in
     record {
-      told = λ answer new rest.
-          c.loop-file.invariant.told answer new
-          (subst (λ texts. Told (WritesAll {E = OutsideErr} texts answer) now new) (sym (texts_next files i (omega arith)))
+      modelled = λ answer new rest.
+          c.loop-file.invariant.modelled answer new
+          (subst (λ texts. Modelled (WritesAll {E = OutsideErr} texts answer) now new) (sym (texts_next files i (omega arith)))
           (told_chain (Writes {E = OutsideErr} file.name (text_of file) (Ok tt)) (WritesAll {E = OutsideErr} (texts_of (drop (i + 1) files)) answer) (WritesAll {E = OutsideErr} ((file.name, text_of file) ∷ texts_of (drop (i + 1) files)) answer)
           (all_from_rest file.name (text_of file) (texts_of (drop (i + 1) files)) answer tt) now first new c.in_ok-write_file.ensures.written rest));
       kept = c.in_ok-write_file.ensures.causes ∙ c.loop-file.invariant.kept;
@@ -46,6 +46,6 @@ pub returns-clause-written : goal.returns-clause-written
 returns-clause-written g c =
     let h = g.S.Shelf.held c.loop-file.shelf in
     let files = g.F.WrittenFiles.files c.args.files.now in
-    c.loop-file.invariant.told (Ok tt) h
-    (subst (λ texts. Told (WritesAll {E = OutsideErr} texts (Ok tt)) h h) (sym (at_drop_all texts_of files c.loop-file.file (omega arith)))
+    c.loop-file.invariant.modelled (Ok tt) h
+    (subst (λ texts. Modelled (WritesAll {E = OutsideErr} texts (Ok tt)) h h) (sym (at_drop_all texts_of files c.loop-file.file (omega arith)))
     (told_same (WritesAll {E = OutsideErr} [] (Ok tt)) (λ _. refl) h))

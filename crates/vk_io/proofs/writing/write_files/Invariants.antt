@@ -1,6 +1,6 @@
 use Rattle.std.proofs.Common.{◌≡◌, Option, Result, drop}
 use Rattle.vk_io.specs.declared.errors.OutsideErr.{OutsideErr}
-use Rattle.vk_io.specs.Files.{Files, Told}
+use Rattle.vk_io.specs.Files.{Files, Modelled}
 use Rattle.vk_io.specs.Writing.{WritesAll, texts_of}
 use Rattle.vk_io.proofs.writing.write_files.Given as goal
 
@@ -8,7 +8,7 @@ use Rattle.vk_io.proofs.writing.write_files.Given as goal
 abbrev pub invariant-loop-file : goal.invariant-loop-file
 invariant-loop-file g l =
     record {
-      told : (answer : Result Unit OutsideErr) (new : Option Files) → Told (WritesAll (texts_of (drop l.file (g.F.WrittenFiles.files l.files))) answer) (g.S.Shelf.held l.shelf) new → Told (WritesAll (texts_of (g.F.WrittenFiles.files l.files)) answer) (g.S.Shelf.held l.fn.shelf) new;
+      modelled : (answer : Result Unit OutsideErr) (new : Option Files) → Modelled (WritesAll (texts_of (drop l.file (g.F.WrittenFiles.files l.files))) answer) (g.S.Shelf.held l.shelf) new → Modelled (WritesAll (texts_of (g.F.WrittenFiles.files l.files)) answer) (g.S.Shelf.held l.fn.shelf) new;
       kept : g.S.Shelf.faults l.shelf ≡ g.S.Shelf.faults l.fn.shelf;
       wants : g.S.Shelf.wants l.shelf ≡ g.S.Shelf.wants l.fn.shelf;
     }

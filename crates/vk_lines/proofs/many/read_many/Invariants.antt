@@ -7,7 +7,7 @@ use Rattle.vk_lines.proofs.many.read_many.Given as goal
 -- what is left gives the rest of the items
 abbrev pub invariant-loop-number : goal.invariant-loop-number
 invariant-loop-number g l = record {
-  told : IfSome (g.S.Shelf.held l.fn.shelf) (λ files.
+  modelled : IfSome (g.S.Shelf.held l.fn.shelf) (λ files.
       many_onto l.items.items (l.count - l.number) (λ before. line_by (g.K.LineKind.item_of l.kind (length before))) (rest_of l.lines files)
       ≡ many_onto [] l.count (λ before. line_by (g.K.LineKind.item_of l.kind (length before))) (rest_of l.fn.lines files));
   count : length l.items.items ≡ l.number;

@@ -12,22 +12,22 @@ loop-index-init g c = record {
   kept = search rules;
 }
 
-pub returns-in_err-read_lane-clause-told : goal.returns-in_err-read_lane-clause-told
-returns-in_err-read_lane-clause-told g c =
+pub returns-in_err-read_lane-clause-modelled : goal.returns-in_err-read_lane-clause-modelled
+returns-in_err-read_lane-clause-modelled g c =
     passed_stop (g.S.Shelf.held c.args.shelf.now) (g.S.Shelf.held c.loop-index.shelf) (shape_of c.args.report.now) (λ files. lanes_at (λ _. shape_of c.args.report.now) c.args.report.now.head (rest_of c.args.lines.now files))
     c.loop-index.index (c.args.report.now.head.lanes - c.loop-index.index) c.in_err-read_lane.field-0.0 _ (λ files. rest_of c.loop-index.lines files) (λ files. rest_of c.read_lane.new.lines files)
-    c.loop-index.invariant.held (omega arith) (search rules) c.loop-index.invariant.passed c.in_err-read_lane.ensures.told
+    c.loop-index.invariant.held (omega arith) (search rules) c.loop-index.invariant.passed c.in_err-read_lane.ensures.modelled
 
 pub loop-index-preserved : goal.loop-index-preserved
 loop-index-preserved g c = record {
   passed = passed_turn (g.S.Shelf.held c.args.shelf.now) (g.S.Shelf.held c.loop-index.shelf) (shape_of c.args.report.now) (λ files. lanes_at (λ _. shape_of c.args.report.now) c.args.report.now.head (rest_of c.args.lines.now files))
       c.loop-index.index (c.args.report.now.head.lanes - c.loop-index.index) (c.args.report.now.head.lanes - (c.loop-index.index + 1)) c.in_ok-read_lane.field-0 (λ files. rest_of c.loop-index.lines files) (λ files. rest_of c.read_lane.new.lines files)
-      c.loop-index.invariant.held (omega arith) c.loop-index.invariant.passed c.in_ok-read_lane.ensures.told;
+      c.loop-index.invariant.held (omega arith) c.loop-index.invariant.passed c.in_ok-read_lane.ensures.modelled;
   held = c.in_ok-read_lane.ensures.shelf.held ∙ c.loop-index.invariant.held;
   kept = c.in_ok-read_lane.ensures.shelf.causes ∙ c.loop-index.invariant.kept;
 }
 
-pub returns-clause-told : goal.returns-clause-told
-returns-clause-told g c =
+pub returns-clause-modelled : goal.returns-clause-modelled
+returns-clause-modelled g c =
     passed_done (g.S.Shelf.held c.args.shelf.now) (shape_of c.args.report.now) (λ files. lanes_at (λ _. shape_of c.args.report.now) c.args.report.now.head (rest_of c.args.lines.now files))
     c.loop-index.index (c.args.report.now.head.lanes - c.loop-index.index) (λ files. rest_of c.loop-index.lines files) (omega arith) c.loop-index.invariant.passed

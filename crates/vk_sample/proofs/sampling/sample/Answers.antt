@@ -4,7 +4,7 @@ use Rattle.vk_job.specs.Published.{head_of}
 use Rattle.vk_effect.specs.Effects.{stores}
 use Rattle.vk_effect.proofs.Acting.{if_some_map}
 use Rattle.vk_sample.specs.Auctions.{auction_of, dry_of}
-use Rattle.vk_sample.specs.Samples.{sample_on, told_effect}
+use Rattle.vk_sample.specs.Samples.{sample_on, modelled_effect}
 use Rattle.vk_sample.specs.Texts.{dry_said, files_of, summary_said}
 use Rattle.vk_sample.proofs.Acting.{dry_acts, same_said, sample_acts, stopped_first}
 use Rattle.vk_sample.proofs.sampling.sample.Goals as goal
@@ -25,7 +25,7 @@ returns-clause-acts g c = λ ledger.
     let sample = c.in_ok-sample.sample in
     sample_acts c.args.number sample (auction_of sample) held held ledger (Ok c.in_ok-said-in-Err.said) c.in_ok-sample.ensures.sample refl
     (dry_acts (dry_of c.in-Err.dry) (auction_of sample) held ledger
-    (λ auction. told_effect held ledger (files_of sample auction) (summary_said c.args.number (head_of auction))) c.in_ok-said-in-Err.said c.in-Err.ensures
+    (λ auction. modelled_effect held ledger (files_of sample auction) (summary_said c.args.number (head_of auction))) c.in_ok-said-in-Err.said c.in-Err.ensures
     (if_some_map _ _ (λ dry. same_said c.in_ok-said-in-Err.said (dry_said dry)) (dry_of c.in-Err.dry) c.in_ok-said-in-Err.ensures.said) c.in_ok-said-in-Err.ensures.dry)
 
 pub returns-in_err-said-in-Err-clause-acts : goal.returns-in_err-said-in-Err-clause-acts

@@ -6,7 +6,7 @@ use Rattle.vk_store_laws.specs.Holding.{KeepsOthers}
 use Rattle.vk_store_laws.specs.Telling.{TablesTell}
 use Rattle.vk_store_laws.proofs.Crashes.{at_once}
 use Rattle.vk_store_laws.proofs.Kept.{kept_stands}
-use Rattle.vk_store_laws.proofs.Told.{kept_is_told}
+use Rattle.vk_store_laws.proofs.Modelled.{kept_is_told}
 use Rattle.vk_store_laws.proofs.laws.a_crash_leaves_the_ledger_of_before_or_after.Goals as goal
 
 pub returns : goal.returns

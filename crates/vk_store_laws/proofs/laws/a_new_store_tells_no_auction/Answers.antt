@@ -5,7 +5,7 @@ use Rattle.vk_store_laws.specs.Telling.{TablesTell}
 use Rattle.vk_store_laws.proofs.Crashes.{at_once_alike}
 use Rattle.vk_store_laws.proofs.Making.{made_is_store}
 use Rattle.vk_store_laws.proofs.Opening.{prepared_new}
-use Rattle.vk_store_laws.proofs.Told.{nothing_is_told}
+use Rattle.vk_store_laws.proofs.Modelled.{nothing_is_told}
 use Rattle.vk_store_laws.proofs.laws.a_new_store_tells_no_auction.Goals as goal
 
 pub returns : goal.returns

@@ -1,6 +1,6 @@
 use Rattle.sqlite.specs.Held.{state}
 use Rattle.vk_store_laws.proofs.Standing.{found_stands, both_of}
-use Rattle.vk_store_laws.proofs.Told.{found_is_told}
+use Rattle.vk_store_laws.proofs.Modelled.{found_is_told}
 use Rattle.vk_store_laws.proofs.laws.what_is_answered_is_what_the_ledger_has.Goals as goal
 
 pub returns : goal.returns

@@ -2,7 +2,7 @@ use Rattle.std.proofs.Common.{subst, sym}
 use Rattle.sqlite.specs.Held.{state}
 use Rattle.vk_store_laws.specs.Holding.{KeepsOthers}
 use Rattle.vk_store_laws.proofs.Kept.{kept_stands}
-use Rattle.vk_store_laws.proofs.Told.{kept_is_told}
+use Rattle.vk_store_laws.proofs.Modelled.{kept_is_told}
 use Rattle.vk_store_laws.proofs.laws.what_is_kept_is_in_the_ledger.Goals as goal
 
 pub returns : goal.returns

@@ -1,4 +1,4 @@
--- What a reader of a whole file answers by the texts and the table of its form, for any told content.
+-- What a reader of a whole file answers by the texts and the table of its form, for any modelled content.
 use Rattle.std.proofs.Common.{◌≡◌, List, ℕ, Option, Some, None, Result, subst}
 use Rattle.std.specs.Option.{IfSome}
 use Rattle.vk_io.specs.Files.{Files}
