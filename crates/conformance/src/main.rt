@@ -1,6 +1,6 @@
-//! Replays what independent implementations worked out of files and of the whole program: which line of a changed
-//! file is the first that may not stand there, and runs. What is printed is to be, byte for byte, what those
-//! implementations wrote.
+//! Replays what independent implementations worked out of files and of the whole program: which
+//! line of a changed file is the first that may not stand there, and runs. What is printed is to
+//! be, byte for byte, what those implementations wrote.
 #![tactic(auto)]
 
 mod files;
@@ -15,10 +15,12 @@ use vk_io::Shelf;
 enum Cases {
     /// `NAME | seal` or `NAME | secret`.
     Files,
-    /// `NAME | NAME=FILE .. | WORD ..`: the files that a run of the program is given, and its words.
+    /// `NAME | NAME=FILE .. | WORD ..`: the files that a run of the program is given, and its
+    /// words.
     Runs,
-    /// `NAME | NAME=FILE .. | WORD .. | WORD ..`: the files that a house is given, and its commands. `forget` stands for
-    /// a house that knows nothing, and `fail N` has the call of that number fail which is made of its keeper.
+    /// `NAME | NAME=FILE .. | WORD .. | WORD ..`: the files that a house is given, and its
+    /// commands. `forget` stands for a house that knows nothing, and `fail N` has the call of that
+    /// number fail which is made of its keeper.
     Houses,
 }
 

@@ -7,7 +7,8 @@ use vk_io::{MemShelf, MemSink, Shelf};
 use vk_keeper::MemKeeper;
 use vk_lines::{end_line, push_decimal, push_hex, push_line, push_space};
 
-/// The parts of a case: its name, its files, its words, and the files that it leaves which no word names.
+/// The parts of a case: its name, its files, its words, and the files that it leaves which no word
+/// names.
 #[derive(Clone, Copy)]
 struct Run<'a> {
     name: &'a [u8],
@@ -77,7 +78,8 @@ fn command_text(
     Ok(text)
 }
 
-/// The length and the SHA-256 of each file that a word behind the first names, and that isn't as it was given.
+/// The length and the SHA-256 of each file that a word behind the first names, and that isn't as it
+/// was given.
 fn push_sums(
     text: &mut Vec<u8>,
     words: &[String],
@@ -142,7 +144,8 @@ fn run_of(case: &[u8]) -> Tried<Run<'_>> {
     })
 }
 
-/// The files of a part, in memory. Each stands there as `NAME=FILE`, or as `NAME=FILE+FILE`, one behind the other.
+/// The files of a part, in memory. Each stands there as `NAME=FILE`, or as `NAME=FILE+FILE`, one
+/// behind the other.
 pub fn files_of<S: Shelf>(alloc: Global, shelf: &mut S, part: &[u8]) -> Tried<MemShelf> {
     let mut files = MemShelf::new(alloc);
     for word in part.split(|byte| *byte == b' ') {

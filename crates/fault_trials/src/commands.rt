@@ -30,7 +30,8 @@ pub const SMALLEST: &[&str] = &[
     "secret",
 ];
 
-/// Two seals with their secrets, two challenges, and a file that a bidder's and a house's commands write over.
+/// Two seals with their secrets, two challenges, and a file that a bidder's and a house's commands
+/// write over.
 const HOUSE: &[&str] = &[
     "seal-7",
     "secret-7",

@@ -31,7 +31,8 @@ fn push_cuts<S: Shelf>(alloc: Global, text: &mut Vec<u8>, shelf: &mut S, name: &
     Ok(())
 }
 
-/// How many bytes are kept by the first cut whose line isn't told, of those at each byte before the file's end.
+/// How many bytes are kept by the first cut whose line isn't told, of those at each byte before the
+/// file's end.
 fn first_untold<S: Shelf>(alloc: Global, shelf: &mut S, name: &str) -> Tried<Option<u64>> {
     let mut world = World::of(alloc, shelf, SMALLEST, &[])?;
     let whole = Vec::from_slice(alloc, world.files.file(name).ok_or(Unreplayed::NoCase)?)?;

@@ -1,4 +1,5 @@
-// A fault at each call that a command makes: at the call it is told, and the same words then do the whole command.
+// A fault at each call that a command makes: at the call it is told, and the same words then do the
+// whole command.
 use crate::commands::{COMMANDS, Command};
 use crate::stops::Effect;
 use crate::world::{Outside, Ran, World};
@@ -80,7 +81,8 @@ fn word_of(outside: Outside) -> &'static [u8] {
     }
 }
 
-/// The first call whose fault isn't told, up to the last call that the command makes. It makes one at least.
+/// The first call whose fault isn't told, up to the last call that the command makes. It makes one
+/// at least.
 fn first_untold<S: Shelf>(
     alloc: Global,
     shelf: &mut S,
@@ -145,7 +147,8 @@ fn is_met_next(
     Ok(second.said(6, "") && effect.is_done(command, &world.files, kept.as_str()))
 }
 
-/// Whether the command was stopped for a fault of this. Only a sink's fault comes behind printed text.
+/// Whether the command was stopped for a fault of this. Only a sink's fault comes behind printed
+/// text.
 fn is_stopped(
     alloc: Global,
     world: &mut World,
@@ -163,7 +166,8 @@ fn is_stopped(
     Ok(ran.status == 6 && printed && effect.is_stopped(command, &world.files, kept.as_str(), text))
 }
 
-/// Whether what is refused once the auction is kept as the command leaves it is refused, where it is kept so.
+/// Whether what is refused once the auction is kept as the command leaves it is refused, where it
+/// is kept so.
 fn is_refused_once_kept(
     alloc: Global,
     world: &mut World,
@@ -179,7 +183,8 @@ fn is_refused_once_kept(
     Ok(world.run(alloc, words)?.said(8, said))
 }
 
-/// Whether the same words do the whole command, and what is refused once it is kept was refused before them.
+/// Whether the same words do the whole command, and what is refused once it is kept was refused
+/// before them.
 fn is_done_again(
     alloc: Global,
     world: &mut World,

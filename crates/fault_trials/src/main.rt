@@ -1,5 +1,5 @@
-//! Files that are cut at each of their bytes, and a fault at each call of a command, whose outside stands in memory. Of
-//! each it prints whether all was told, and nothing left that may not be.
+//! Files that are cut at each of their bytes, and a fault at each call of a command, whose outside
+//! stands in memory. Of each it prints whether all was told, and nothing left that may not be.
 #![tactic(auto)]
 
 mod commands;

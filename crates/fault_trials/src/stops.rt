@@ -49,9 +49,9 @@ impl Effect {
         self.keeps(kept) && are_alike(command, files, &self.new.files)
     }
 
-    /// Whether the command was stopped. Nothing changed, and nothing was printed; or the auction is kept as the whole
-    /// command leaves it, and the files are divided at one of them with nothing printed, or all are written and a part
-    /// of the text was printed.
+    /// Whether the command was stopped. Nothing changed, and nothing was printed; or the auction is
+    /// kept as the whole command leaves it, and the files are divided at one of them with nothing
+    /// printed, or all are written and a part of the text was printed.
     pub fn is_stopped(&self, command: &Command, files: &MemShelf, kept: &str, text: &[u8]) -> bool {
         let unchanged = self.old.kept.as_str() == kept
             && are_alike(command, files, &self.old.files);
@@ -60,8 +60,8 @@ impl Effect {
         silent || self.is_done(command, files, kept) && command.whole.as_bytes().starts_with(text)
     }
 
-    /// Whether the files are divided at one of those that the command writes: those before it are whole, it is as before
-    /// or a part of its text, and all others are as before.
+    /// Whether the files are divided at one of those that the command writes: those before it are
+    /// whole, it is as before or a part of its text, and all others are as before.
     fn is_divided(&self, command: &Command, files: &MemShelf) -> bool {
         let mut whole = true;
         for name in command.writes {

@@ -109,7 +109,8 @@ fn push_sizes(
     push_lengths(text, honest, files)
 }
 
-/// What an extraction says without its openings; or, where this is as it has to be, that the ranks are as given.
+/// What an extraction says without its openings; or, where this is as it has to be, that the ranks
+/// are as given.
 fn push_extracted(
     alloc: Global,
     text: &mut Vec<u8>,
@@ -126,7 +127,8 @@ fn push_extracted(
     Ok(())
 }
 
-/// What an extraction without its openings has to be: the ranks of each lane, and that those of each seat are the same.
+/// What an extraction without its openings has to be: the ranks of each lane, and that those of
+/// each seat are the same.
 fn expected(alloc: Global, couples: Couples, ranks: &[u64]) -> Tried<Vec<u8>> {
     let mut text = Vec::new(alloc);
     for lane in 1..=couples.lanes {

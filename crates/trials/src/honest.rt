@@ -1,4 +1,5 @@
-// An honest auction or claim by the library's own parts: what its file says, and the answers to challenges.
+// An honest auction or claim by the library's own parts: what its file says, and the answers to
+// challenges.
 ghost use Rattle.std.specs.Prelude.{◌≡◌, ◌<◌, ◌≤◌, ◌^◌, All, IfOk, IfSome, length};
 ghost use Rattle.vk_plan.specs.Plans.{Holds};
 
@@ -278,7 +279,8 @@ pub fn plan_and_values<C: Circuit>(
 pub fn residues(alloc: Global, bids: &[u64], width: u32) -> Result<Option<Vec<Residue>>, NoMemory>
     requires { width ≤ 40 }
     ensures same { IfOk result (λ made. IfSome made (λ inputs. inputs.items ≡ bids.now)) }
-    ensures within { IfOk result (λ made. IfSome made (λ inputs. All (λ bid. bid < 2 ^ width) bids.now)) }
+    ensures within { IfOk result
+        (λ made. IfSome made (λ inputs. All (λ bid. bid < 2 ^ width) bids.now)) }
 {
     let mut inputs = Vec::new(alloc);
     for bid in bids {

@@ -1,5 +1,6 @@
-//! Honest auctions and claims, whose files the library's own parts make and the program judges and extracts from;
-//! matchings that are proposed; and samples over files that stay as they are. Of each it prints what came of it.
+//! Honest auctions and claims, whose files the library's own parts make and the program judges and
+//! extracts from; matchings that are proposed; and samples over files that stay as they are. Of
+//! each it prints what came of it.
 #![tactic(auto)]
 
 mod asked;

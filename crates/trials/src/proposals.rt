@@ -22,8 +22,8 @@ pub fn try_proposals<W: Sink>(alloc: Global, out: &mut W) -> Tried<()> {
     Ok(())
 }
 
-/// How many matchings that are proposed a pair blocks: of all ranks of two men and two women that are below 3, and of some
-/// of three and of sixteen, among which there are many ties.
+/// How many matchings that are proposed a pair blocks: of all ranks of two men and two women that
+/// are below 3, and of some of three and of sixteen, among which there are many ties.
 fn proposals_text(alloc: Global) -> Tried<Vec<u8>> {
     let mut text = Vec::new(alloc);
     text.extend_from_slice(b"proposed")?;
@@ -92,7 +92,8 @@ pub fn drawn_ranks(
     Ok(ranks)
 }
 
-/// 1 where what is proposed of the ranks is blocked by a pair or isn't a woman of his own for each man, else 0.
+/// 1 where what is proposed of the ranks is blocked by a pair or isn't a woman of his own for each
+/// man, else 0.
 fn blocked_count(alloc: Global, size: u32, ranks: &[u64]) -> Tried<u64> {
     if size == 0 || 16 < size || ranks.len() != (2 * size * size) as usize {
         return Err(Unreplayed::NoCase);

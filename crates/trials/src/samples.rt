@@ -1,4 +1,5 @@
-// `sample 1` over files that stay as they are: what it says of the replies is what it reads, and not what it wrote.
+// `sample 1` over files that stay as they are: what it says of the replies is what it reads, and
+// not what it wrote.
 use crate::asked::Asked;
 use crate::auctions::{push_run, status_of};
 use crate::honest::{Honest, Terms};
@@ -23,8 +24,8 @@ const TWO_LANES: Terms = Terms {
 /// The file of the sample that is spoiled.
 const SPOILED: &str = "sample-reply-2";
 
-/// The second challenges and replies to a board of three lanes and one seal, whose bids are 0, 3 and 1. An independent
-/// implementation made its files.
+/// The second challenges and replies to a board of three lanes and one seal, whose bids are 0, 3
+/// and 1. An independent implementation made its files.
 const SECONDS: [(&str, &str); 4] = [
     LANES,
     ("lanes-ones", "no-reply"),
@@ -38,8 +39,8 @@ const LANES: (&str, &str) = ("lanes-ones", "lanes-reply-ones");
 /// How many calls fail in turn: the first ones that read a sample's files.
 const CALLS: u64 = 10;
 
-/// Tells what `sample 1` says over its own files, of which one is spoiled, over a board that has a right proof of
-/// another bid in each lane, and over files that others made.
+/// Tells what `sample 1` says over its own files, of which one is spoiled, over a board that has a
+/// right proof of another bid in each lane, and over files that others made.
 pub fn try_samples<S: Shelf, W: Sink>(alloc: Global, shelf: &mut S, out: &mut W) -> Tried<()> {
     try_spoiled(alloc, out)?;
     try_mixed(alloc, out)?;
@@ -108,7 +109,8 @@ fn push_reads<S: Shelf>(alloc: Global, text: &mut Vec<u8>, shelf: &mut S) -> Tri
     Ok(())
 }
 
-/// Whether `sample 1` says nothing but that the outside failed, where the call of that number fails.
+/// Whether `sample 1` says nothing but that the outside failed, where the call of that number
+/// fails.
 fn is_read_fault<S: Shelf>(alloc: Global, shelf: &mut S, call: u64) -> Tried<bool> {
     let mut files = MemShelf::new(alloc);
     put_lanes(alloc, shelf, &mut files, LANES.0, LANES.1)?;
@@ -137,7 +139,8 @@ fn try_mixed<W: Sink>(alloc: Global, out: &mut W) -> Tried<()> {
     Ok(())
 }
 
-/// Tells of the board that `sample 1` makes its first line, its first seat, and what that commits to in the first lane.
+/// Tells of the board that `sample 1` makes its first line, its first seat, and what that commits
+/// to in the first lane.
 fn try_made<W: Sink>(alloc: Global, out: &mut W) -> Tried<()> {
     let mut files = MemShelf::new(alloc);
     write_sample(alloc, &mut files)?;
@@ -205,8 +208,9 @@ fn write_spoiled(alloc: Global, files: &mut MemShelf) -> Tried<()> {
     Ok(())
 }
 
-/// One seal of width 1, under the names of a sample: the bid 0 in lane 1 and 1 in lane 2, each with the proof of an honest
-/// auction. The first reply shows all first halves, and the second all second ones.
+/// One seal of width 1, under the names of a sample: the bid 0 in lane 1 and 1 in lane 2, each with
+/// the proof of an honest auction. The first reply shows all first halves, and the second all
+/// second ones.
 fn files_of_two_bids(alloc: Global) -> Tried<MemShelf> {
     let mut made = PieceShelf::over(MemShelf::new(alloc));
     write_two_bids(alloc, &mut made)?;
@@ -237,7 +241,8 @@ fn put_as_sample(files: &mut MemShelf, made: &MemShelf) -> Tried<()> {
     Ok(())
 }
 
-/// Gives the auction the last lane of one with the bid 1 in place of its own, and that lane's commitments of each seal.
+/// Gives the auction the last lane of one with the bid 1 in place of its own, and that lane's
+/// commitments of each seal.
 fn take_last_lane(alloc: Global, auction: &mut Honest) -> Tried<()> {
     let mut other = Honest::of(alloc, &[1], TWO_LANES)?;
     replace_last_lane(alloc, auction, &mut other)

@@ -31,7 +31,8 @@ pub fn bits_text(alloc: Global, case: &[u8]) -> Tried<Vec<u8>> {
     Ok(text)
 }
 
-/// The bits that an auditor needs for these, where the others' are those between the commas, or there are none.
+/// The bits that an auditor needs for these, where the others' are those between the commas, or
+/// there are none.
 fn push_own(alloc: Global, text: &mut Vec<u8>, wanted: &[u8], others: &[u8]) -> Tried<()> {
     let wanted = Challenge {
         bits: bits_in(alloc, wanted)?,

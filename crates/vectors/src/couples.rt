@@ -1,5 +1,5 @@
-// Ranks of men and women: the matchings of which a plan shows that no pair blocks them; and the forms by which it shows
-// that of one pair.
+// Ranks of men and women: the matchings of which a plan shows that no pair blocks them; and the
+// forms by which it shows that of one pair.
 ghost use Rattle.std.specs.Prelude.{◌≤◌, length};
 
 use crate::sales::values_of;
@@ -81,7 +81,8 @@ fn numbers_of(alloc: Global, size: u32, number: u64) -> Tried<Vec<u64>> {
     Ok(numbers)
 }
 
-/// Appends the women behind the width, with commas between them. Whether they are those that are proposed.
+/// Appends the women behind the width, with commas between them. Whether they are those that are
+/// proposed.
 fn push_women(text: &mut Vec<u8>, numbers: &[u64], proposed: &[u32]) -> Tried<bool> {
     let mut are_same = true;
     let mut mark: &[u8] = b"";
@@ -94,7 +95,8 @@ fn push_women(text: &mut Vec<u8>, numbers: &[u64], proposed: &[u32]) -> Tried<bo
     Ok(are_same)
 }
 
-/// Whether the numbers are a matching's, and its plan shows of each pair at these ranks that it doesn't block.
+/// Whether the numbers are a matching's, and its plan shows of each pair at these ranks that it
+/// doesn't block.
 fn is_shown(alloc: Global, ranks: &[u64], numbers: &[u64]) -> Tried<bool>
     requires { length ranks.now ≤ 18 }
 {
@@ -113,7 +115,8 @@ fn is_shown(alloc: Global, ranks: &[u64], numbers: &[u64]) -> Tried<bool>
     Ok(true)
 }
 
-/// How many pairs there are of a man and a woman other than his own, behind whose width the women are, at most three.
+/// How many pairs there are of a man and a woman other than his own, behind whose width the women
+/// are, at most three.
 fn pairs_of(numbers: &[u64]) -> u32
     ensures { result ≤ 6 }
 {
@@ -124,8 +127,8 @@ fn pairs_of(numbers: &[u64]) -> u32
     }
 }
 
-/// The case, both forms of its relation where the wire of its own is 0 and where it is 1, and the value of that wire with
-/// which both are in their ranges, or `none`.
+/// The case, both forms of its relation where the wire of its own is 0 and where it is 1, and the
+/// value of that wire with which both are in their ranges, or `none`.
 pub fn either_text(alloc: Global, case: &[u8]) -> Tried<Vec<u8>> {
     let width = number_at(case, 0, 16)? as u32;
     let forms = forms_in(alloc, case, width)?;
@@ -145,8 +148,8 @@ pub fn either_text(alloc: Global, case: &[u8]) -> Tried<Vec<u8>> {
     Ok(text)
 }
 
-/// The forms of the first pair of two men and women whose matching is 2, 1, where the four wires of its relation have the
-/// values of the case.
+/// The forms of the first pair of two men and women whose matching is 2, 1, where the four wires of
+/// its relation have the values of the case.
 fn forms_in(alloc: Global, case: &[u8], width: u32) -> Tried<Forms> {
     let mut ranks = [0; 8];
     ranks[0] = number_at(case, 1, u64::MAX)?;
@@ -196,7 +199,8 @@ fn two_rows(plan: &Plan, first: u32, values: &[Residue]) -> Tried<[Residue; 2]> 
     ])
 }
 
-/// The value of the wire of its own with which both forms are of one bit more than the width: 1, where there are both.
+/// The value of the wire of its own with which both forms are of one bit more than the width: 1,
+/// where there are both.
 fn pair_value(forms: &Forms, width: u32) -> Option<bool>
     requires { width ≤ 16 }
 {

@@ -1,4 +1,5 @@
-// Lanes of small auctions: the values of two lists of bids of one outcome, the moved tape, and what is seen of both.
+// Lanes of small auctions: the values of two lists of bids of one outcome, the moved tape, and what
+// is seen of both.
 ghost use Rattle.std.specs.Prelude.{◌≡◌, ◌<◌, ◌^◌, All, IfOk, length};
 ghost use Rattle.vk_plan.specs.Plans.{Holds};
 ghost use Rattle.vk_vickrey.specs.VickreyPlans.{vickrey_plan};
@@ -25,8 +26,8 @@ struct Lane {
     tape: LaneTape,
 }
 
-/// What there is of a lane for one bit: the moved tape, the view of the bids with the tape, and that of the other bids
-/// with the moved tape.
+/// What there is of a lane for one bit: the moved tape, the view of the bids with the tape, and
+/// that of the other bids with the moved tape.
 #[derive(Drop)]
 struct Seen {
     moved: LaneTape,
@@ -136,17 +137,20 @@ fn bids_of(alloc: Global, part: &[u8], word: &[u8]) -> Tried<Vec<u64>> {
 /// The values of all wires for the bids behind that word.
 fn values_in(alloc: Global, circuit: &VickreyPlan, part: &[u8], word: &[u8]) -> Tried<Vec<Residue>>
     ensures { IfOk result (λ values. Holds
-        (vickrey_plan circuit.now.seals circuit.now.width circuit.now.position circuit.now.price) values.items) }
+        (vickrey_plan circuit.now.seals circuit.now.width circuit.now.position circuit.now.price)
+        values.items) }
 {
     let bids = bids_of(alloc, part, word)?;
     let values = values_of(alloc, circuit, bids.as_slice())?;
     Ok(values)
 }
 
-/// The values of all wires for these bids. An error where they are not of the circuit's width and outcome.
+/// The values of all wires for these bids. An error where they are not of the circuit's width and
+/// outcome.
 fn values_of(alloc: Global, circuit: &VickreyPlan, bids: &[u64]) -> Tried<Vec<Residue>>
     ensures { IfOk result (λ values. Holds
-        (vickrey_plan circuit.now.seals circuit.now.width circuit.now.position circuit.now.price) values.items) }
+        (vickrey_plan circuit.now.seals circuit.now.width circuit.now.position circuit.now.price)
+        values.items) }
 {
     if bids.is_empty() || bids.len() > 64 || bids.len() != circuit.seals as usize {
         return Err(Unreplayed::NoCase);

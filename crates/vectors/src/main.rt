@@ -1,5 +1,6 @@
-//! Replays what independent implementations worked out of the parts: words and draws, wires, outcomes, sales, matchings,
-//! shares of challenges, and what is seen of wires and lanes. What is printed is to be, byte for byte, what those implementations wrote.
+//! Replays what independent implementations worked out of the parts: words and draws, wires,
+//! outcomes, sales, matchings, shares of challenges, and what is seen of wires and lanes. What is
+//! printed is to be, byte for byte, what those implementations wrote.
 #![tactic(auto)]
 
 mod bids;
@@ -26,8 +27,8 @@ enum Cases {
     Streams,
     /// At most four words, with commas between them. Zeros follow them.
     Lists,
-    /// `wire KIND value NUMBER place AUCTION LANE SEAT SLOT tape MASK SWAP KEY KEY`, where a kind is
-    /// `split` or `pair I`.
+    /// `wire KIND value NUMBER place AUCTION LANE SEAT SLOT tape MASK SWAP KEY KEY`, where a kind
+    /// is `split` or `pair I`.
     Wires,
     /// Four wires, with bars between them.
     Fours,
@@ -39,7 +40,8 @@ enum Cases {
     Rows,
     /// `BIDS UNITS WIDTH`.
     Units,
-    /// `SIZE RANKS`, the ranks with commas between them: those of each man and then those of each woman.
+    /// `SIZE RANKS`, the ranks with commas between them: those of each man and then those of each
+    /// woman.
     Tables,
     /// `WIDTH FIRST SECOND THIRD FOURTH`: the values of the four wires of a relation.
     Eithers,
@@ -47,7 +49,8 @@ enum Cases {
     Shares,
     /// `joint BITS,BITS ..`, or `own BITS BITS,BITS ..` with `-` for none.
     Coins,
-    /// `wire KIND value NUMBER other NUMBER tape MASK SWAP KEY KEY`, where a kind is `split` or the `I` of a pair.
+    /// `wire KIND value NUMBER other NUMBER tape MASK SWAP KEY KEY`, where a kind is `split` or the
+    /// `I` of a pair.
     Views,
     /// `plan seals N width T winner W price P|bids ..|others ..`, and behind it for each wire
     /// `|tape WIRE MASK SWAP KEY KEY`.

@@ -1,5 +1,5 @@
-// Lists of bids under a reserve: the sale of each with the size of the plan that shows it, and the rows where another
-// sale is published.
+// Lists of bids under a reserve: the sale of each with the size of the plan that shows it, and the
+// rows where another sale is published.
 ghost use Rattle.std.specs.Prelude.{◌≡◌, ◌≤◌, length};
 
 use std::alloc::Global;
@@ -35,8 +35,8 @@ fn push_sale_of(alloc: Global, text: &mut Vec<u8>, case: &[u8], bids: &[u64]) ->
     Ok(())
 }
 
-/// The case, how many wires and rows its plan has, and the value of each row where the inputs and their copies are the
-/// bids, and all other wires are 0.
+/// The case, how many wires and rows its plan has, and the value of each row where the inputs and
+/// their copies are the bids, and all other wires are 0.
 pub fn rows_text(alloc: Global, case: &[u8]) -> Tried<Vec<u8>> {
     let mut text = Vec::from_slice(alloc, case)?;
     let bids = bids_in(alloc, case)?;
@@ -134,8 +134,8 @@ fn push_rows(text: &mut Vec<u8>, plan: &Plan, values: &[Residue]) -> Tried<()>
     Ok(())
 }
 
-/// The only one of all sales that comes of the bids by what a sale is; each of them is tried. None where there is none
-/// or more than one.
+/// The only one of all sales that comes of the bids by what a sale is; each of them is tried. None
+/// where there is none or more than one.
 fn only_sale(bids: &[u64], reserve: u64) -> Option<Sale> {
     let mut found = None;
     if bids.iter().all(|bid| *bid < reserve) {
@@ -158,8 +158,8 @@ fn only_sale(bids: &[u64], reserve: u64) -> Option<Sale> {
     found
 }
 
-/// Whether the bids are sold so: the winner is the first of those who bid most, and bids the reserve at least. The price
-/// is the reserve or another's bid, and none of these is above it.
+/// Whether the bids are sold so: the winner is the first of those who bid most, and bids the
+/// reserve at least. The price is the reserve or another's bid, and none of these is above it.
 fn is_sold(bids: &[u64], reserve: u64, position: u32, price: u64) -> bool {
     let mut wins = false;
     let mut is_due = price == reserve;

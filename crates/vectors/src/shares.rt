@@ -1,4 +1,5 @@
-// Shares of challenges that auditors fix together: the commitment to each, and the share that is drawn from a seed.
+// Shares of challenges that auditors fix together: the commitment to each, and the share that is
+// drawn from a seed.
 ghost use Rattle.std.specs.Prelude.{◌≤◌, IfOk, length};
 
 use std::alloc::Global;

@@ -1,4 +1,5 @@
-// Lists of bids for several equal units: the winners and the price of each with the size of the plan that shows them.
+// Lists of bids for several equal units: the winners and the price of each with the size of the
+// plan that shows them.
 use crate::sales::{bids_in, push_counts};
 use std::alloc::Global;
 use vk_cases::{Tried, Unreplayed, number_at};

@@ -12,8 +12,8 @@ fn open_root(rt: &HostRuntime) -> io::Result<File> {
     File::open(rt, "/")
 }
 
-/// Three handles, which take the numbers of standard input, output and error where these are closed.
-/// So no file of a command has such a number, and nothing that is printed goes into one.
+/// Three handles, which take the numbers of standard input, output and error where these are
+/// closed. So no file of a command has such a number, and nothing that is printed goes into one.
 fn take_standard_numbers(rt: &HostRuntime) -> io::Result<(File, File, File)> {
     Ok((open_root(rt)?, open_root(rt)?, open_root(rt)?))
 }

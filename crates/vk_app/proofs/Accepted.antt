@@ -52,9 +52,15 @@ replies_are_accepted files ledger id name reply right is_id done =
 
 pub challenges_are_answered : ChallengesAreAnswered
 challenges_are_answered files ledger id name reply auction seed challenge is =
-    let text : IsText files name challenge = record { right = is.asked.right; file = record { held = is.read; short = challenges_are_short challenge is.asked.right } } in
-    subst (λ r. (if_read ledger (λ given. asks (reply_file reply given) ledger (Answer id given)) r).status ≡ 0) (sym (challenge_found files name challenge text))
-    (answered_first ledger id challenge auction seed is.held is.phase is.proved is.asked.one_bit_each)
+    let text : IsText files name challenge =
+    record {
+      right = is.asked.right;
+      file = record { held = is.read; short = challenges_are_short challenge is.asked.right };
+    } in
+    subst (λ r. (if_read ledger (λ given. asks (reply_file reply given) ledger (Answer id given))
+    r).status ≡ 0) (sym (challenge_found files name challenge text))
+    (answered_first ledger id challenge auction seed is.held is.phase is.proved
+    is.asked.one_bit_each)
 
 pub left_replies_are_accepted : LeftRepliesAreAccepted
 left_replies_are_accepted id name reply old new auction challenge left =
@@ -82,7 +88,8 @@ module _ (files : Files) (ledger : Ledger) (id board challenge reply : List ℕ)
           text = refl;
           is_board = board_is auction is.proved;
           price = front.price;
-          winner = winner_is (front_of auction).seals (front_of auction).head.winner (front_of auction).position front.winner;
+          winner = winner_is (front_of auction).seals (front_of auction).head.winner
+              (front_of auction).position front.winner;
           report_is = refl;
         };
       }
@@ -90,22 +97,30 @@ module _ (files : Files) (ledger : Ledger) (id board challenge reply : List ℕ)
   abbrev bits : List Bool
   bits = derived_bits (head_of auction).lanes (board_of auction)
 
-  deed_is : board_deed names files ≡ writes_one challenge (challenge_text (record { bits = bits })) (derived_said (head_of auction).lanes)
+  deed_is : board_deed names files
+      ≡ writes_one challenge (challenge_text (record { bits = bits }))
+      (derived_said (head_of auction).lanes)
   unfolding is_reported
   deed_is = (derives_exactly files names).derived report is_reported
 
   count : length bits ≡ auction.lanes
-  count = derived_length (head_of auction).lanes (board_of auction) (front_is auction is.proved).head.size.lanes ∙ same_lanes auction
+  count = derived_length (head_of auction).lanes (board_of auction)
+      (front_is auction is.proved).head.size.lanes ∙ same_lanes auction
 
-  asked : IsAsked (insert files challenge (challenge_text (record { bits = bits }))) ledger id challenge auction seed (record { bits = bits })
+  asked : IsAsked (insert files challenge (challenge_text (record { bits = bits }))) ledger id
+      challenge auction seed (record { bits = bits })
   asked =
-      let lanes : IsLaneCount (head_of auction).lanes = (front_is auction is.proved).head.size.lanes in
+      let lanes : IsLaneCount (head_of auction).lanes = (front_is auction is.proved).head.size.lanes
+      in
       record {
         held = is.held;
         phase = is.phase;
         proved = is.proved;
         asked = record {
-          right = record { some_bit = omega (arith, count, same_lanes auction, lanes.least); few_bits = omega (arith, count, same_lanes auction, lanes.most) };
+          right = record {
+            some_bit = omega (arith, count, same_lanes auction, lanes.least);
+            few_bits = omega (arith, count, same_lanes auction, lanes.most);
+          };
           one_bit_each = count;
         };
         read = get_own files challenge (challenge_text (record { bits = bits }));
@@ -115,8 +130,11 @@ module _ (files : Files) (ledger : Ledger) (id board challenge reply : List ℕ)
   derives_answered = record {
     derived = ap (λ (deed : DeedValue). deed.said.status) deed_is;
     answered =
-        subst (λ (deed : DeedValue). (answer_effect (written deed.writes files) ledger id challenge reply).status ≡ 0) (sym deed_is)
-        (challenges_are_answered (insert files challenge (challenge_text (record { bits = bits }))) ledger id challenge reply auction seed (record { bits = bits }) asked);
+        subst (λ (deed : DeedValue).
+        (answer_effect (written deed.writes files) ledger id challenge reply).status ≡ 0)
+        (sym deed_is)
+        (challenges_are_answered (insert files challenge (challenge_text (record { bits = bits })))
+        ledger id challenge reply auction seed (record { bits = bits }) asked);
   }
 
 pub derived_are_answered : DerivedAreAnswered

@@ -30,13 +30,17 @@ board_by : (auction : Auction) (phase : Phase) (seed : List ℕ) → seed_of pha
     → board_of (in_phase auction phase) ≡ board_of (in_phase auction (Proved seed))
 unfolding head_of lane_in plan_of values_of drawn_in
 board_by auction Taking seed is = cc
-board_by auction (Proved kept) seed is = ap (λ s. board_of (in_phase auction (Proved s))) (same_Some kept seed is)
-board_by auction (Answered kept challenge) seed is = ap (λ s. board_of (in_phase auction (Proved s))) (same_Some kept seed is)
+board_by auction (Proved kept) seed is =
+    ap (λ s. board_of (in_phase auction (Proved s))) (same_Some kept seed is)
+board_by auction (Answered kept challenge) seed is =
+    ap (λ s. board_of (in_phase auction (Proved s))) (same_Some kept seed is)
 
-board_kept : (auction : Auction) (seed : List ℕ) (later : Auction) → seed_of auction.phase ≡ Some seed
+board_kept : (auction : Auction) (seed : List ℕ) (later : Auction)
+    → seed_of auction.phase ≡ Some seed
     → KeepsSeed auction seed later → board_of later ≡ board_of auction
 board_kept auction seed later is keeps =
-    ap board_of keeps.same ∙ board_by auction later.phase seed keeps.seed ∙ sym (board_by auction auction.phase seed is)
+    ap board_of keeps.same ∙ board_by auction later.phase seed keeps.seed
+    ∙ sym (board_by auction auction.phase seed is)
 
 -- ---- what stands in the last ledger
 
@@ -56,26 +60,37 @@ record Replied (last : Ledger) (id given shown : List ℕ) : Type 0 where
   shown_is : shown ≡ reply_of auction answered
   accepted : Accepts (board_of auction) (challenge_text answered) (reply_of auction answered)
 
-keeps_at : (old new : Ledger) (id : List ℕ) (auction : Auction) → KeepsAnswers old new → get old id ≡ Some auction → KeepsAnswer auction auction.phase (get new id)
-keeps_at old new id auction keeps stands = subst (λ found. IfSome found (λ (a : Auction). KeepsAnswer a a.phase (get new id))) stands (keeps id)
+keeps_at : (old new : Ledger) (id : List ℕ) (auction : Auction) → KeepsAnswers old new
+    → get old id ≡ Some auction → KeepsAnswer auction auction.phase (get new id)
+keeps_at old new id auction keeps stands =
+    subst (λ found. IfSome found (λ (a : Auction). KeepsAnswer a a.phase (get new id))) stands
+    (keeps id)
 
 -- an auction that is proved keeps its board
-board_stays : (auction : Auction) (seed : List ℕ) (phase : Phase) (later : Option Auction) → seed_of phase ≡ Some seed → seed_of auction.phase ≡ Some seed → KeepsAnswer auction phase later
+board_stays : (auction : Auction) (seed : List ℕ) (phase : Phase) (later : Option Auction)
+    → seed_of phase ≡ Some seed → seed_of auction.phase ≡ Some seed
+    → KeepsAnswer auction phase later
     → IsSomeAnd later (λ last. board_of last ≡ board_of auction)
 board_stays auction seed Taking later is whole keeps = cc
 board_stays auction seed (Proved kept) None is whole keeps = absurd keeps
-board_stays auction seed (Proved kept) (Some last) is whole keeps = board_kept auction kept last (whole ∙ sym is) keeps
-board_stays auction seed (Answered kept challenge) later is whole keeps = subst (λ l. IsSomeAnd l (λ last. board_of last ≡ board_of auction)) (sym keeps) refl
+board_stays auction seed (Proved kept) (Some last) is whole keeps =
+    board_kept auction kept last (whole ∙ sym is) keeps
+board_stays auction seed (Answered kept challenge) later is whole keeps =
+    subst (λ l. IsSomeAnd l (λ last. board_of last ≡ board_of auction)) (sym keeps) refl
 
 -- and one that was answered stays
-reply_stays : (auction : Auction) (answered : Challenge) (phase : Phase) (later : Option Auction) → challenge_of phase ≡ Some answered → KeepsAnswer auction phase later → later ≡ Some auction
+reply_stays : (auction : Auction) (answered : Challenge) (phase : Phase) (later : Option Auction)
+    → challenge_of phase ≡ Some answered → KeepsAnswer auction phase later → later ≡ Some auction
 reply_stays auction answered Taking later is keeps = cc
 reply_stays auction answered (Proved seed) later is keeps = cc
 reply_stays auction answered (Answered seed kept) later is keeps = keeps
 
-published_by : (last : Ledger) (id published : List ℕ) (auction : Auction) (found : Option Auction) → get last id ≡ found → published ≡ board_of auction → IsSomeAnd found (λ later. board_of later ≡ board_of auction) → Published last id published
+published_by : (last : Ledger) (id published : List ℕ) (auction : Auction) (found : Option Auction)
+    → get last id ≡ found → published ≡ board_of auction
+    → IsSomeAnd found (λ later. board_of later ≡ board_of auction) → Published last id published
 published_by last id published auction None at is stays = absurd stays
-published_by last id published auction (Some later) at is stays = record { auction = later; stands = at; board_is = is ∙ sym stays }
+published_by last id published auction (Some later) at is stays =
+    record { auction = later; stands = at; board_is = is ∙ sym stays }
 
 -- ---- acts
 
@@ -85,37 +100,48 @@ record Lasts (act : HouseAct) (last : Ledger) : Type 0 where
   replies : PublishesReply act
   keeps : KeepsAnswers act.kept last
 
-proved_lasts : (act : HouseAct) (last : Ledger) (id published : List ℕ) → Lasts act last → Proves act id published → Published last id published
+proved_lasts : (act : HouseAct) (last : Ledger) (id published : List ℕ) → Lasts act last
+    → Proves act id published → Published last id published
 proved_lasts act last id published lasts proves =
     let left = lasts.boards id proves.seed proves.board proves.order_is proves.done in
     published_by last id published left.auction (get last id) refl
-    (same_Some published (board_of left.auction) (sym proves.published_is ∙ ap (λ files. get files proves.board) left.written ∙ get_own act.files proves.board (board_of left.auction)))
-    (board_stays left.auction proves.seed left.auction.phase (get last id) left.seed_is left.seed_is (keeps_at act.kept last id left.auction lasts.keeps left.stands))
+    (same_Some published (board_of left.auction)
+    (sym proves.published_is ∙ ap (λ files. get files proves.board) left.written
+    ∙ get_own act.files proves.board (board_of left.auction)))
+    (board_stays left.auction proves.seed left.auction.phase (get last id) left.seed_is left.seed_is
+    (keeps_at act.kept last id left.auction lasts.keeps left.stands))
 
-answered_lasts : (act : HouseAct) (last : Ledger) (id given shown : List ℕ) → Lasts act last → Answers act id given shown → Replied last id given shown
+answered_lasts : (act : HouseAct) (last : Ledger) (id given shown : List ℕ) → Lasts act last
+    → Answers act id given shown → Replied last id given shown
 answered_lasts act last id given shown lasts answers =
     let left = lasts.replies id answers.challenge answers.reply answers.order_is answers.done in
     record {
       auction = left.auction;
       answered = left.answered;
-      stands = reply_stays left.auction left.answered left.auction.phase (get last id) left.answered_is (keeps_at act.kept last id left.auction lasts.keeps left.stands);
+      stands = reply_stays left.auction left.answered left.auction.phase (get last id)
+          left.answered_is (keeps_at act.kept last id left.auction lasts.keeps left.stands);
       answered_is = left.answered_is;
       given_is = same_Some given (challenge_text left.answered) (sym answers.given_is ∙ left.read);
       shown_is = same_Some shown (reply_of left.auction left.answered)
-          (sym answers.shown_is ∙ ap (λ files. get files answers.reply) left.written ∙ get_own act.files answers.reply (reply_of left.auction left.answered));
+          (sym answers.shown_is ∙ ap (λ files. get files answers.reply) left.written
+          ∙ get_own act.files answers.reply (reply_of left.auction left.answered));
       accepted = left.accepted;
     }
 
 -- ---- runs
 
 run_keeps : (one : Run) → IsRun one → KeepsAnswers one.ledger one.kept
-run_keeps one is = served_keeps (orders_of one.files (command_words one.words)) one.files one.ledger one.acts (Some one.left) one.kept is.performs
+run_keeps one is = served_keeps (orders_of one.files (command_words one.words)) one.files one.ledger
+    one.acts (Some one.left) one.kept is.performs
 
-run_lasts : (one : Run) (last : Ledger) (act : HouseAct) → IsRun one → IsLedger one.ledger → KeepsAnswers one.kept last → Contains one.acts act → Lasts act last
+run_lasts : (one : Run) (last : Ledger) (act : HouseAct) → IsRun one → IsLedger one.ledger
+    → KeepsAnswers one.kept last → Contains one.acts act → Lasts act last
 run_lasts one last act is right keeps among = record {
   boards = is.boards right act among;
   replies = is.replies right act among;
-  keeps = keeps_on act.kept one.kept last (served_found one.words one.files one.ledger one.acts (Some one.left) (Some one.kept) one.kept act is.performs refl right among).keeps keeps;
+  keeps = keeps_on act.kept one.kept last
+      (served_found one.words one.files one.ledger one.acts (Some one.left) (Some one.kept) one.kept
+      act is.performs refl right among).keeps keeps;
 }
 
 runs_keep : (runs : List Run) (old new : Ledger) → AreRuns runs old new → KeepsAnswers old new
@@ -125,48 +151,75 @@ runs_keep (one ∷ later) old new (begins, is, rest) =
     (subst (λ ledger. KeepsAnswers ledger one.kept) begins (run_keeps one is))
     (runs_keep later one.kept new rest)
 
-lasts : (runs : List Run) (old new : Ledger) (one : Run) (act : HouseAct) → IsLedger old → AreRuns runs old new → Contains runs one → Contains one.acts act → Lasts act new
+lasts : (runs : List Run) (old new : Ledger) (one : Run) (act : HouseAct) → IsLedger old
+    → AreRuns runs old new → Contains runs one → Contains one.acts act → Lasts act new
 lasts [] old new one act right are (k, below, at) among = absurd (omega arith)
 lasts (first ∷ later) old new one act right (begins, is, rest) (zero, below, at) among =
-    run_lasts one new act (subst IsRun at is) (subst (λ (r : Run). IsLedger r.ledger) at (subst IsLedger (sym begins) right))
+    run_lasts one new act (subst IsRun at is)
+    (subst (λ (r : Run). IsLedger r.ledger) at (subst IsLedger (sym begins) right))
     (subst (λ (r : Run). KeepsAnswers r.kept new) at (runs_keep later first.kept new rest)) among
 lasts (first ∷ later) old new one act right (begins, is, rest) (suc k, below, at) among =
-    lasts later first.kept new one act (is.ledgers (subst IsLedger (sym begins) right)) rest (k, omega arith, at) among
+    lasts later first.kept new one act (is.ledgers (subst IsLedger (sym begins) right)) rest
+    (k, omega arith, at) among
 
-act_lasts : (runs : List Run) (old new : Ledger) (act : HouseAct) → IsLedger old → AreRuns runs old new → IsActOf runs act → Lasts act new
+act_lasts : (runs : List Run) (old new : Ledger) (act : HouseAct) → IsLedger old
+    → AreRuns runs old new → IsActOf runs act → Lasts act new
 act_lasts runs old new act right are of = lasts runs old new of.0 act right are of.1 of.2
 
 -- ---- the laws
 
-same_auction : (last : Ledger) (id : List ℕ) (one other : Auction) → get last id ≡ Some one → get last id ≡ Some other → one ≡ other
+same_auction : (last : Ledger) (id : List ℕ) (one other : Auction) → get last id ≡ Some one
+    → get last id ≡ Some other → one ≡ other
 same_auction last id one other here there = same_Some one other (sym here ∙ there)
 
-pub boards_are_one : (runs : List Run) (old new : Ledger) (one other : HouseAct) (id published shown : List ℕ) → IsLedger old → AreRuns runs old new → IsActOf runs one → IsActOf runs other
+pub boards_are_one : (runs : List Run) (old new : Ledger) (one other : HouseAct)
+    (id published shown : List ℕ) → IsLedger old → AreRuns runs old new → IsActOf runs one
+    → IsActOf runs other
     → Proves one id published → Proves other id shown → published ≡ shown
 boards_are_one runs old new one other id published shown right are first second proves next =
-    let here = proved_lasts one new id published (act_lasts runs old new one right are first) proves in
-    let there = proved_lasts other new id shown (act_lasts runs old new other right are second) next in
-    here.board_is ∙ ap board_of (same_auction new id here.auction there.auction here.stands there.stands) ∙ sym there.board_is
+    let here = proved_lasts one new id published (act_lasts runs old new one right are first) proves
+    in
+    let there = proved_lasts other new id shown (act_lasts runs old new other right are second) next
+    in
+    here.board_is ∙ ap board_of
+    (same_auction new id here.auction there.auction here.stands there.stands)
+    ∙ sym there.board_is
 
-pub answers_are_one : (runs : List Run) (old new : Ledger) (one other : HouseAct) (id given shown next_given next_shown : List ℕ) → IsLedger old → AreRuns runs old new → IsActOf runs one → IsActOf runs other
-    → Answers one id given shown → Answers other id next_given next_shown → (given ≡ next_given) × (shown ≡ next_shown)
-answers_are_one runs old new one other id given shown next_given next_shown right are first second answers next =
-    let here = answered_lasts one new id given shown (act_lasts runs old new one right are first) answers in
-    let there = answered_lasts other new id next_given next_shown (act_lasts runs old new other right are second) next in
+pub answers_are_one : (runs : List Run) (old new : Ledger) (one other : HouseAct)
+    (id given shown next_given next_shown : List ℕ) → IsLedger old → AreRuns runs old new
+    → IsActOf runs one → IsActOf runs other
+    → Answers one id given shown → Answers other id next_given next_shown → (given ≡ next_given)
+    × (shown ≡ next_shown)
+answers_are_one runs old new one other id given shown next_given next_shown right are first second
+    answers next =
+    let here = answered_lasts one new id given shown (act_lasts runs old new one right are first)
+    answers in
+    let there = answered_lasts other new id next_given next_shown
+    (act_lasts runs old new other right are second) next in
     let auction = same_auction new id here.auction there.auction here.stands there.stands in
     let challenges : here.answered ≡ there.answered =
-    same_Some here.answered there.answered (sym here.answered_is ∙ ap (λ (a : Auction). challenge_of a.phase) auction ∙ there.answered_is) in (
+    same_Some here.answered there.answered
+    (sym here.answered_is ∙ ap (λ (a : Auction). challenge_of a.phase) auction
+    ∙ there.answered_is) in (
       here.given_is ∙ ap challenge_text challenges ∙ sym there.given_is,
-      here.shown_is ∙ ap (λ (a : Auction). reply_of a here.answered) auction ∙ ap (reply_of there.auction) challenges ∙ sym there.shown_is,
+      here.shown_is ∙ ap (λ (a : Auction). reply_of a here.answered) auction
+          ∙ ap (reply_of there.auction) challenges ∙ sym there.shown_is,
     )
 
-pub answers_are_accepted : (runs : List Run) (old new : Ledger) (one other : HouseAct) (id published given shown : List ℕ) → IsLedger old → AreRuns runs old new → IsActOf runs one → IsActOf runs other
+pub answers_are_accepted : (runs : List Run) (old new : Ledger) (one other : HouseAct)
+    (id published given shown : List ℕ) → IsLedger old → AreRuns runs old new → IsActOf runs one
+    → IsActOf runs other
     → Proves one id published → Answers other id given shown → Accepts published given shown
-answers_are_accepted runs old new one other id published given shown right are first second proves answers =
-    let here = proved_lasts one new id published (act_lasts runs old new one right are first) proves in
-    let there = answered_lasts other new id given shown (act_lasts runs old new other right are second) answers in
+answers_are_accepted runs old new one other id published given shown right are first second proves
+    answers =
+    let here = proved_lasts one new id published (act_lasts runs old new one right are first) proves
+    in
+    let there = answered_lasts other new id given shown
+    (act_lasts runs old new other right are second) answers in
     let board : board_of there.auction ≡ published =
-    ap board_of (same_auction new id there.auction here.auction there.stands here.stands) ∙ sym here.board_is in
+    ap board_of (same_auction new id there.auction here.auction there.stands here.stands)
+    ∙ sym here.board_is in
     subst (λ b. Accepts b given shown) board
     (subst (λ g. Accepts (board_of there.auction) g shown) (sym there.given_is)
-    (subst (Accepts (board_of there.auction) (challenge_text there.answered)) (sym there.shown_is) there.accepted))
+    (subst (Accepts (board_of there.auction) (challenge_text there.answered)) (sym there.shown_is)
+    there.accepted))

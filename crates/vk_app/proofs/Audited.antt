@@ -31,56 +31,85 @@ module _ (files : Files) (ledger : Option Ledger) (words : List (List ℕ)) (sta
   abbrev EndsIt : Work → Type 0
   EndsIt work = DoesWork status work (outside (stores (Some files) ledger) old) new
 
-  pub done_is : (command : CommandWords) → command_words words ≡ Some command → IfSome (work_of (Some files) ledger (Some command)) EndsIt
+  pub done_is : (command : CommandWords) → command_words words ≡ Some command
+      → IfSome (work_of (Some files) ledger (Some command)) EndsIt
   done_is command is = subst (λ found. IfSome (work_of (Some files) ledger found) EndsIt) is ended
 
   -- what holds of the status and the text that are said holds of the end
-  from_said : (said : SaidValue) (P : ℕ → Option (List ℕ) → Type 0) → Done status (says ledger said) (outside (stores (Some files) ledger) old) new → P said.status (puts said.text old) → P status new.taken
-  from_said said P done is = subst (λ text. P status text) (sym done.taken_is) (subst (λ n. P n (puts said.text old)) (sym done.status_is) is)
+  from_said : (said : SaidValue) (P : ℕ → Option (List ℕ) → Type 0)
+      → Done status (says ledger said) (outside (stores (Some files) ledger) old) new
+      → P said.status (puts said.text old) → P status new.taken
+  from_said said P done is = subst (λ text. P status text) (sym done.taken_is)
+      (subst (λ n. P n (puts said.text old)) (sym done.status_is) is)
 
   pub ended_headline : Headline files words status old new.taken
   ended_headline = record {
     found = λ names is accepted _ _.
-        from_said (extract_said files names) (λ n text. IsExtracted accepted.two n old text) (done_is (Extract names) is) ((extracts_exactly files names old).0 accepted);
-    only = λ names is. from_said (extract_said files names) (λ n _. (n ≡ 0) ⊎ (n ≡ 3) → AcceptsTwoFiles files names) (done_is (Extract names) is) (extracts_exactly files names old).1;
+        from_said (extract_said files names) (λ n text. IsExtracted accepted.two n old text)
+        (done_is (Extract names) is) ((extracts_exactly files names old).0 accepted);
+    only = λ names is. from_said (extract_said files names)
+        (λ n _. (n ≡ 0) ⊎ (n ≡ 3) → AcceptsTwoFiles files names) (done_is (Extract names) is)
+        (extracts_exactly files names old).1;
   }
 
   pub ended_audits : Audits files words status old new.taken
   ended_audits = record {
     verify = λ names is. record {
-      accepts = from_said (verify_said files names) (λ n _. IsVerified files names n) (done_is (Verify names) is) (verifies_exactly files names);
-      tells = λ _ _. from_said (verify_said files names) (λ n text. TellsVerdict files names n old text) (done_is (Verify names) is) (tells_verdicts files names old);
+      accepts = from_said (verify_said files names) (λ n _. IsVerified files names n)
+          (done_is (Verify names) is) (verifies_exactly files names);
+      tells = λ _ _. from_said (verify_said files names)
+          (λ n text. TellsVerdict files names n old text) (done_is (Verify names) is)
+          (tells_verdicts files names old);
     };
     extract = λ names is. record {
-      same = from_said (extract_said files names) (λ n _. IsSame files names n) (done_is (Extract names) is) (tells_same_exactly files names);
-      tells = λ _ _. from_said (extract_said files names) (λ n text. TellsExtraction files names n old text) (done_is (Extract names) is) (tells_extractions files names old);
+      same = from_said (extract_said files names) (λ n _. IsSame files names n)
+          (done_is (Extract names) is) (tells_same_exactly files names);
+      tells = λ _ _. from_said (extract_said files names)
+          (λ n text. TellsExtraction files names n old text) (done_is (Extract names) is)
+          (tells_extractions files names old);
     };
     confront = λ names is. record {
-      binds = from_said (confront_said files names) (λ n text. BindsSecret files names n old text) (done_is (Confront names) is) (binds_exactly files names old);
-      tells = λ _ _. from_said (confront_said files names) (λ n text. TellsConfrontation files names n old text) (done_is (Confront names) is) (tells_confrontations files names old);
+      binds = from_said (confront_said files names) (λ n text. BindsSecret files names n old text)
+          (done_is (Confront names) is) (binds_exactly files names old);
+      tells = λ _ _. from_said (confront_said files names)
+          (λ n text. TellsConfrontation files names n old text) (done_is (Confront names) is)
+          (tells_confrontations files names old);
     };
     report = λ board is. record {
-      reports = from_said (report_said files board) (λ n text. IsReported files board n old text) (done_is (Report board) is) (reports_exactly files board old);
-      tells = λ _ _. from_said (report_said files board) (λ n text. TellsReport files board n old text) (done_is (Report board) is) (tells_reports files board old);
+      reports = from_said (report_said files board) (λ n text. IsReported files board n old text)
+          (done_is (Report board) is) (reports_exactly files board old);
+      tells = λ _ _. from_said (report_said files board)
+          (λ n text. TellsReport files board n old text) (done_is (Report board) is)
+          (tells_reports files board old);
     };
   }
 
   pub ended_claim_headline : ClaimHeadline files words status old new.taken
   ended_claim_headline = record {
     found = λ names is accepted _ _.
-        from_said (claim_extract_said files names) (λ n text. IsClaimExtracted accepted.two n old text) (done_is (ClaimExtract names) is) ((extracts_claims_exactly files names old).0 accepted);
-    only = λ names is. from_said (claim_extract_said files names) (λ n _. (n ≡ 0) ⊎ (n ≡ 3) → AcceptsTwoClaims files names) (done_is (ClaimExtract names) is) (extracts_claims_exactly files names old).1;
+        from_said (claim_extract_said files names)
+        (λ n text. IsClaimExtracted accepted.two n old text) (done_is (ClaimExtract names) is)
+        ((extracts_claims_exactly files names old).0 accepted);
+    only = λ names is. from_said (claim_extract_said files names)
+        (λ n _. (n ≡ 0) ⊎ (n ≡ 3) → AcceptsTwoClaims files names) (done_is (ClaimExtract names) is)
+        (extracts_claims_exactly files names old).1;
   }
 
   pub ended_claims : Claims files words status old new.taken
   ended_claims = record {
     verify = λ names is. record {
-      accepts = from_said (claim_verify_said files names) (λ n _. IsClaimVerified files names n) (done_is (ClaimVerify names) is) (verifies_claims_exactly files names);
-      tells = λ _ _. from_said (claim_verify_said files names) (λ n text. TellsClaimVerdict files names n old text) (done_is (ClaimVerify names) is) (tells_claim_verdicts files names old);
+      accepts = from_said (claim_verify_said files names) (λ n _. IsClaimVerified files names n)
+          (done_is (ClaimVerify names) is) (verifies_claims_exactly files names);
+      tells = λ _ _. from_said (claim_verify_said files names)
+          (λ n text. TellsClaimVerdict files names n old text) (done_is (ClaimVerify names) is)
+          (tells_claim_verdicts files names old);
     };
     extract = λ names is. record {
-      same = from_said (claim_extract_said files names) (λ n _. IsSameClaim files names n) (done_is (ClaimExtract names) is) (tells_same_claims_exactly files names);
-      tells = λ _ _. from_said (claim_extract_said files names) (λ n text. TellsClaimExtraction files names n old text) (done_is (ClaimExtract names) is) (tells_claim_extractions files names old);
+      same = from_said (claim_extract_said files names) (λ n _. IsSameClaim files names n)
+          (done_is (ClaimExtract names) is) (tells_same_claims_exactly files names);
+      tells = λ _ _. from_said (claim_extract_said files names)
+          (λ n text. TellsClaimExtraction files names n old text) (done_is (ClaimExtract names) is)
+          (tells_claim_extractions files names old);
     };
   }
 
@@ -88,8 +117,11 @@ module _ (files : Files) (ledger : Option Ledger) (words : List (List ℕ)) (sta
 
 -- so it is said of the files where they are modelled
 abbrev TellsOf : (Files → List (List ℕ) → ℕ → Option (List ℕ) → Option (List ℕ) → Type 0) → Type 0
-TellsOf P = (held : Option Files) (ledger : Option Ledger) (words : List (List ℕ)) (status : ℕ) (old : Option (List ℕ)) (new : Outside)
-    → IfSome (work_on held ledger words) (λ work. DoesWork status work (outside (stores held ledger) old) new) → IfSome held (λ files. P files words status old new.taken)
+TellsOf P = (held : Option Files) (ledger : Option Ledger) (words : List (List ℕ)) (status : ℕ)
+    (old : Option (List ℕ)) (new : Outside)
+    → IfSome (work_on held ledger words)
+    (λ work. DoesWork status work (outside (stores held ledger) old) new)
+    → IfSome held (λ files. P files words status old new.taken)
 
 module _ (P : Files → List (List ℕ) → ℕ → Option (List ℕ) → Option (List ℕ) → Type 0)
     (ended : (files : Files) (ledger : Option Ledger) (words : List (List ℕ)) (status : ℕ) (old : Option (List ℕ)) (new : Outside)

@@ -8,21 +8,27 @@ use Rattle.vk_effect.specs.Ends.{Ends}
 use Rattle.vk_app.specs.Commands.{Work, Command, Script, EndsWork, StopsWork, script_in}
 
 -- a command that is no ceremony
-pub ends_command : (result : Result ℕ OutsideErr) (found : Option Effect) (old new : Outside) → IfSome found (λ effect. Ends result effect old new) → IfSome (option_map Command found) (λ work. EndsWork result work old new)
+pub ends_command : (result : Result ℕ OutsideErr) (found : Option Effect) (old new : Outside)
+    → IfSome found (λ effect. Ends result effect old new)
+    → IfSome (option_map Command found) (λ work. EndsWork result work old new)
 ends_command result None old new is = tt
 ends_command result (Some effect) old new is = is
 
 -- the cause of a stop says nothing of what is left
-stops_so : (stop : OutsideErr) (work : Work) (old new : Outside) → EndsWork (Err stop) work old new → StopsWork work old new
+stops_so : (stop : OutsideErr) (work : Work) (old new : Outside) → EndsWork (Err stop) work old new
+    → StopsWork work old new
 stops_so stop (Command effect) old new is = is
 stops_so stop (Script whole) old new is = is
 
-pub stops : (stop : OutsideErr) (found : Option Work) (old new : Outside) → IfSome found (λ work. EndsWork (Err stop) work old new) → IfSome found (λ work. StopsWork work old new)
+pub stops : (stop : OutsideErr) (found : Option Work) (old new : Outside)
+    → IfSome found (λ work. EndsWork (Err stop) work old new)
+    → IfSome found (λ work. StopsWork work old new)
 stops stop None old new is = tt
 stops stop (Some work) old new is = stops_so stop work old new is
 
 -- a ceremony asks the keeper
-pub no_script : (command : Option CommandWords) (script : List ℕ) → script_in command ≡ Some script → AsksNoKeeper command → ⊥
+pub no_script : (command : Option CommandWords) (script : List ℕ) → script_in command ≡ Some script
+    → AsksNoKeeper command → ⊥
 no_script None script is = cc
 no_script (Some (Seal order)) script is = cc
 no_script (Some (House order)) script is = cc

@@ -1,4 +1,5 @@
--- What a whole run keeps of its promises on the house, on a ceremony, on a seal, and on words of no form.
+-- What a whole run keeps of its promises on the house, on a ceremony, on a seal, and on words of no
+-- form.
 use Rattle.std.proofs.Common.{ap, sym, ◌∙◌, ◌≡◌, ◌≢◌, ℕ, List, Option, Some, None, IfSome, IsSomeAnd, Result, Ok, Err, refl, subst, inl, inr, ◌^◌, length, Bool, false, [], ◌≤◌}
 use Rattle.std.specs.Prelude.{◌⊎◌, option_map}
 use Rattle.std.specs.FinMap.{get}
@@ -45,69 +46,108 @@ neither P status (inr wanting) no_fault no_want = absurd (no_want wanting)
 
 -- it says it at its end, or a command ended it, and nothing more is said
 abbrev Closes : (Bool → SaidValue) → Ceremony → Type 0
-Closes closing whole = ((refused : Bool) × (whole.closing ≡ closing refused)) ⊎ (whole.closing.text ≡ [])
+Closes closing whole = ((refused : Bool) × (whole.closing ≡ closing refused))
+    ⊎ (whole.closing.text ≡ [])
 
 each_some : {X : Type 0} (P : X → Type 0) → ((x : X) → P x) → (found : Option X) → IfSome found P
 each_some P each None = tt
 each_some P each (Some x) = each x
 
-closes_from : (closing : Bool → SaidValue) (refused : Bool) (orders : List HouseWords) (old : Stores) → IfSome (ceremony_from closing refused orders old) (Closes closing)
+closes_from : (closing : Bool → SaidValue) (refused : Bool) (orders : List HouseWords)
+    (old : Stores) → IfSome (ceremony_from closing refused orders old) (Closes closing)
 closes_from closing =
     from_each (Closes closing) (λ effect later is. is) closing (λ refused. inl (refused, refl))
-    (λ order old. each_some (λ effect. Closes closing (ended_by effect)) (λ effect. inr refl) (house_effect old.files old.ledger order))
+    (λ order old. each_some (λ effect. Closes closing (ended_by effect)) (λ effect. inr refl)
+    (house_effect old.files old.ledger order))
 
 -- by what the first line is, and the fault line that follows from it
-closes_by : (script : List ℕ) (old : Stores) (read : Result (Unit × Rest) ℕ) → IfSome (ceremony_behind script old (behind_heading script read)) (Closes (closing_said script (fault_by script read)))
-closes_by script old (Ok read) = closes_from (closing_said script (script_at script read.1).fault) false (script_at script read.1).orders old
+closes_by : (script : List ℕ) (old : Stores) (read : Result (Unit × Rest) ℕ)
+    → IfSome (ceremony_behind script old (behind_heading script read))
+    (Closes (closing_said script (fault_by script read)))
+closes_by script old (Ok read) =
+    closes_from (closing_said script (script_at script read.1).fault) false
+    (script_at script read.1).orders old
 closes_by script old (Err number) = inl (false, refl)
 
 -- a script by what its file is
-begun_script : (files : Files) (script : List ℕ) (begun : Result Rest SaidValue) → begun_in script (get files script) ≡ begun → script_begun files script ≡ (begun >>= λ rest. behind_heading script (line_by (word_of heading) rest))
+begun_script : (files : Files) (script : List ℕ) (begun : Result Rest SaidValue)
+    → begun_in script (get files script) ≡ begun
+    → script_begun files script
+    ≡ (begun >>= λ rest. behind_heading script (line_by (word_of heading) rest))
 unfolding script_begun
-begun_script files script begun is = ap (λ b. b >>= λ rest. behind_heading script (line_by (word_of heading) rest)) is
+begun_script files script begun is =
+    ap (λ b. b >>= λ rest. behind_heading script (line_by (word_of heading) rest)) is
 
-held_script : (files : Files) (script file : List ℕ) → get files script ≡ Some file → length file ≤ 2 ^ 30 → script_begun files script ≡ behind_heading script (line_by (word_of heading) (from_first file))
-held_script files script file is short = begun_script files script (Ok (from_first file)) (ap (begun_in script) is ∙ begun_short script file short)
+held_script : (files : Files) (script file : List ℕ) → get files script ≡ Some file
+    → length file ≤ 2 ^ 30 → script_begun files script
+    ≡ behind_heading script (line_by (word_of heading) (from_first file))
+held_script files script file is short =
+    begun_script files script (Ok (from_first file))
+    (ap (begun_in script) is ∙ begun_short script file short)
 
-of_some : {X : Type 0} (P : X → Type 0) (found : Option X) (x : X) → found ≡ Some x → IfSome found P → P x
+of_some : {X : Type 0} (P : X → Type 0) (found : Option X) (x : X) → found ≡ Some x → IfSome found P
+    → P x
 of_some P found x is each = subst (λ f. IfSome f P) is each
 
-closes_so : (files : Files) (old : Stores) (script file : List ℕ) (whole : Ceremony) → get files script ≡ Some file → length file ≤ 2 ^ 30 → ceremony_behind script old (script_begun files script) ≡ Some whole
+closes_so : (files : Files) (old : Stores) (script file : List ℕ) (whole : Ceremony)
+    → get files script ≡ Some file → length file ≤ 2 ^ 30
+    → ceremony_behind script old (script_begun files script) ≡ Some whole
     → Closes (closing_said script (fault_line (script_table script) file)) whole
 closes_so files old script file whole is short at =
     let read = line_by (word_of heading) (from_first file) in
     subst (λ fault. Closes (closing_said script fault) whole) (sym (script_fault script file))
-    (of_some (Closes (closing_said script (fault_by script read))) (ceremony_behind script old (behind_heading script read)) whole (ap (ceremony_behind script old) (sym (held_script files script file is short)) ∙ at) (closes_by script old read))
+    (of_some (Closes (closing_said script (fault_by script read)))
+    (ceremony_behind script old (behind_heading script read)) whole
+    (ap (ceremony_behind script old) (sym (held_script files script file is short)) ∙ at)
+    (closes_by script old read))
 
 module _ (files : Files) (ledger : Ledger) (words : List (List ℕ)) (status : ℕ) (old : Option (List ℕ)) (new : Outside) where
   abbrev EndsSo : Result ℕ OutsideErr → Option CommandWords → Type 0
-  EndsSo result command = IfSome (work_of (Some files) (Some ledger) command) (λ work. EndsWork result work (outside (stores (Some files) (Some ledger)) old) new)
+  EndsSo result command = IfSome (work_of (Some files) (Some ledger) command)
+      (λ work. EndsWork result work (outside (stores (Some files) (Some ledger)) old) new)
 
   -- ---- at its end
 
   abbrev EndsFree : Result ℕ OutsideErr → Type 0
-  EndsFree result = CommandEndsFreely (command_words words) result (outside (stores (Some files) (Some ledger)) old) new
+  EndsFree result = CommandEndsFreely (command_words words) result
+      (outside (stores (Some files) (Some ledger)) old) new
 
-  pub ended_house : EndsSo (Ok status) (command_words words) → EndsFree (Ok status) → KeepsHouse files ledger words status new.files new.ledger old new.taken
+  pub ended_house : EndsSo (Ok status) (command_words words) → EndsFree (Ok status)
+      → KeepsHouse files ledger words status new.files new.ledger old new.taken
   ended_house ends free = record {
     serves = serves files ledger (Ok status) old new words ends free;
-    command = λ order is _ _. command_done files ledger order status old new (subst (EndsSo (Ok status)) is ends);
+    command = λ order is _ _. command_done files ledger order status old new
+        (subst (EndsSo (Ok status)) is ends);
   }
 
   -- a script that can't be read
-  closed_by : (script : List ℕ) (said : SaidValue) (begun : Result Rest SaidValue) (whole : Ceremony) → begun ≡ Err said → ceremony_behind script (stores (Some files) (Some ledger)) begun ≡ Some whole
-      → EndsAll (Ok status) whole (outside (stores (Some files) (Some ledger)) old) new → IsSaid said status old new.taken
+  closed_by : (script : List ℕ) (said : SaidValue) (begun : Result Rest SaidValue)
+      (whole : Ceremony) → begun ≡ Err said
+      → ceremony_behind script (stores (Some files) (Some ledger)) begun ≡ Some whole
+      → EndsAll (Ok status) whole (outside (stores (Some files) (Some ledger)) old) new
+      → IsSaid said status old new.taken
   closed_by script said (Ok rest) whole is at ends = cc
   closed_by script said (Err other) whole is at ends =
-      let here : closed said ≡ whole = ap closed (sym (same_Err {T = Rest} other said is)) ∙ same_Some (closed other) whole at in
-      let end : EndsAll (Ok status) (closed said) (outside (stores (Some files) (Some ledger)) old) new = subst (λ w. EndsAll (Ok status) w (outside (stores (Some files) (Some ledger)) old) new) (sym here) ends in
+      let here : closed said ≡ whole = ap closed (sym (same_Err {T = Rest} other said is))
+      ∙ same_Some (closed other) whole at in
+      let end : EndsAll (Ok status) (closed said) (outside (stores (Some files) (Some ledger)) old)
+      new = subst (λ w. EndsAll (Ok status) w (outside (stores (Some files) (Some ledger)) old)
+      new) (sym here) ends in
       (end.0, ap (λ (left : Outside). left.taken) end.1)
 
-  unread_script : (script : List ℕ) (said : SaidValue) (file : Option (List ℕ)) → get files script ≡ file → begun_in script file ≡ Err said → script_begun files script ≡ Err said
-  unread_script script said file is unread = begun_script files script (Err said) (ap (begun_in script) is ∙ unread)
+  unread_script : (script : List ℕ) (said : SaidValue) (file : Option (List ℕ))
+      → get files script ≡ file → begun_in script file ≡ Err said
+      → script_begun files script ≡ Err said
+  unread_script script said file is unread =
+      begun_script files script (Err said) (ap (begun_in script) is ∙ unread)
 
-  held_by : (script : List ℕ) (found : Option Ceremony) → ceremony_on (Some files) (Some ledger) script ≡ found → IfSome (option_map Script found) (λ work. EndsWork (Ok status) work (outside (stores (Some files) (Some ledger)) old) new)
-      → IsSomeAnd found (λ whole. EndsAll (Ok status) whole (outside (stores (Some files) (Some ledger)) old) new → PerformsAll (orders_in files script) files ledger whole.closing.text old new)
+  held_by : (script : List ℕ) (found : Option Ceremony)
+      → ceremony_on (Some files) (Some ledger) script ≡ found
+      → IfSome (option_map Script found)
+      (λ work. EndsWork (Ok status) work (outside (stores (Some files) (Some ledger)) old) new)
+      → IsSomeAnd found (λ whole. EndsAll (Ok status) whole
+      (outside (stores (Some files) (Some ledger)) old) new
+      → PerformsAll (orders_in files script) files ledger whole.closing.text old new)
       → CeremonyIsDone script files ledger status new.files new.ledger old new.taken
   held_by script None is ends performs = absurd performs
   held_by script (Some whole) is ends performs = record {
@@ -115,24 +155,36 @@ module _ (files : Files) (ledger : Ledger) (words : List (List ℕ)) (status : �
     is = is;
     status_is = ends.0;
     acts = performs ends;
-    missing = λ none. closed_by script (missing_said script) (script_begun files script) whole (unread_script script (missing_said script) None none refl) is ends;
-    too_long = λ file held long. closed_by script (too_long_said script) (script_begun files script) whole (unread_script script (too_long_said script) (Some file) held (begun_long script file long)) is ends;
-    closing = λ file held short. closes_so files (stores (Some files) (Some ledger)) script file whole held short is;
+    missing = λ none. closed_by script (missing_said script) (script_begun files script) whole
+        (unread_script script (missing_said script) None none refl) is ends;
+    too_long = λ file held long. closed_by script (too_long_said script) (script_begun files script)
+        whole (unread_script script (too_long_said script) (Some file) held
+        (begun_long script file long)) is ends;
+    closing = λ file held short. closes_so files (stores (Some files) (Some ledger)) script file
+        whole held short is;
   }
 
-  pub ended_ceremony : EndsSo (Ok status) (command_words words) → HoldsCeremony files ledger words status new.files new.ledger old new.taken
+  pub ended_ceremony : EndsSo (Ok status) (command_words words)
+      → HoldsCeremony files ledger words status new.files new.ledger old new.taken
   ended_ceremony ends script is _ _ =
-      held_by script (ceremony_on (Some files) (Some ledger) script) refl (subst (EndsSo (Ok status)) is ends) (ceremony_performs_all files ledger script old status new)
+      held_by script (ceremony_on (Some files) (Some ledger) script) refl
+      (subst (EndsSo (Ok status)) is ends)
+      (ceremony_performs_all files ledger script old status new)
 
-  pub ended_usage : EndsSo (Ok status) (command_words words) → EndsFree (Ok status) → TellsUsage words status old new.taken
+  pub ended_usage : EndsSo (Ok status) (command_words words) → EndsFree (Ok status)
+      → TellsUsage words status old new.taken
   ended_usage ends free = record {
     only = no_command files ledger status old new (command_words words) ends free;
-    always = λ is _ _. (let done : Done status (says (Some ledger) usage_said) (outside (stores (Some files) (Some ledger)) old) new = subst (EndsSo (Ok status)) is ends in (done.status_is, done.taken_is));
+    always = λ is _ _. (let done : Done status (says (Some ledger) usage_said)
+        (outside (stores (Some files) (Some ledger)) old) new = subst (EndsSo (Ok status)) is ends
+        in (done.status_is, done.taken_is));
   }
 
   -- ---- after a stop
 
-  pub stopped_house : (stop : OutsideErr) → EndsSo (Err stop) (command_words words) → EndsFree (Err stop) → (status ≡ 6) ⊎ (status ≡ 9) → KeepsHouse files ledger words status new.files new.ledger old new.taken
+  pub stopped_house : (stop : OutsideErr) → EndsSo (Err stop) (command_words words)
+      → EndsFree (Err stop) → (status ≡ 6) ⊎ (status ≡ 9)
+      → KeepsHouse files ledger words status new.files new.ledger old new.taken
   stopped_house stop ends free is = record {
     serves = serves files ledger (Err stop) old new words ends free;
     command = λ order asks. neither _ status is;
@@ -141,7 +193,9 @@ module _ (files : Files) (ledger : Ledger) (words : List (List ℕ)) (status : �
 -- ---- as far as it is modelled
 
 -- what follows where files and a ledger are modelled
-told_both : (P : Files → Ledger → Type 0) (Q : Option Files → Option Ledger → Type 0) → ((files : Files) (ledger : Ledger) → Q (Some files) (Some ledger) → P files ledger) → (held : Option Files) (ledger : Option Ledger) → Q held ledger
+told_both : (P : Files → Ledger → Type 0) (Q : Option Files → Option Ledger → Type 0)
+    → ((files : Files) (ledger : Ledger) → Q (Some files) (Some ledger) → P files ledger)
+    → (held : Option Files) (ledger : Option Ledger) → Q held ledger
     → IfSome held (λ files. IfSome ledger (λ kept. P files kept))
 told_both P Q each None ledger is = tt
 told_both P Q each (Some files) None is = tt
@@ -149,39 +203,71 @@ told_both P Q each (Some files) (Some ledger) is = each files ledger is
 
 module _ (held : Option Files) (ledger : Option Ledger) (words : List (List ℕ)) (status : ℕ) (old : Option (List ℕ)) (new : Outside) where
   abbrev pub Ends : Result ℕ OutsideErr → Option Files → Option Ledger → Type 0
-  Ends result files kept = IfSome (work_on files kept words) (λ work. EndsWork result work (outside (stores files kept) old) new)
+  Ends result files kept = IfSome (work_on files kept words)
+      (λ work. EndsWork result work (outside (stores files kept) old) new)
 
   -- and it ended freely where it has no single effect
   abbrev pub AlsoFree : Result ℕ OutsideErr → Option Files → Option Ledger → Type 0
-  AlsoFree result files kept = Ends result files kept × CommandEndsFreely (command_words words) result (outside (stores files kept) old) new
+  AlsoFree result files kept = Ends result files kept
+      × CommandEndsFreely (command_words words) result (outside (stores files kept) old) new
 
-  pub told_house : AlsoFree (Ok status) held ledger → IfSome held (λ files. IfSome ledger (λ kept. KeepsHouse files kept words status new.files new.ledger old new.taken))
-  told_house = told_both (λ files kept. KeepsHouse files kept words status new.files new.ledger old new.taken) (AlsoFree (Ok status)) (λ files kept ends. ended_house files kept words status old new ends.0 ends.1) held ledger
+  pub told_house : AlsoFree (Ok status) held ledger
+      → IfSome held (λ files. IfSome ledger
+      (λ kept. KeepsHouse files kept words status new.files new.ledger old new.taken))
+  told_house = told_both (λ files kept. KeepsHouse files kept words status new.files new.ledger old
+      new.taken) (AlsoFree (Ok status))
+      (λ files kept ends. ended_house files kept words status old new ends.0 ends.1) held ledger
 
-  pub told_ceremony : Ends (Ok status) held ledger → IfSome held (λ files. IfSome ledger (λ kept. HoldsCeremony files kept words status new.files new.ledger old new.taken))
-  told_ceremony = told_both (λ files kept. HoldsCeremony files kept words status new.files new.ledger old new.taken) (Ends (Ok status)) (λ files kept. ended_ceremony files kept words status old new) held ledger
+  pub told_ceremony : Ends (Ok status) held ledger
+      → IfSome held (λ files. IfSome ledger
+      (λ kept. HoldsCeremony files kept words status new.files new.ledger old new.taken))
+  told_ceremony = told_both (λ files kept. HoldsCeremony files kept words status new.files
+      new.ledger old new.taken) (Ends (Ok status))
+      (λ files kept. ended_ceremony files kept words status old new) held ledger
 
-  pub told_usage : AlsoFree (Ok status) held ledger → IfSome held (λ files. IfSome ledger (λ kept. TellsUsage words status old new.taken))
-  told_usage = told_both (λ files kept. TellsUsage words status old new.taken) (AlsoFree (Ok status)) (λ files kept ends. ended_usage files kept words status old new ends.0 ends.1) held ledger
+  pub told_usage : AlsoFree (Ok status) held ledger
+      → IfSome held (λ files. IfSome ledger (λ kept. TellsUsage words status old new.taken))
+  told_usage = told_both (λ files kept. TellsUsage words status old new.taken)
+      (AlsoFree (Ok status)) (λ files kept ends. ended_usage files kept words status old new ends.0
+      ends.1) held ledger
 
-  pub unended_house : (stop : OutsideErr) → (status ≡ 6) ⊎ (status ≡ 9) → AlsoFree (Err stop) held ledger → IfSome held (λ files. IfSome ledger (λ kept. KeepsHouse files kept words status new.files new.ledger old new.taken))
+  pub unended_house : (stop : OutsideErr) → (status ≡ 6) ⊎ (status ≡ 9)
+      → AlsoFree (Err stop) held ledger
+      → IfSome held (λ files. IfSome ledger
+      (λ kept. KeepsHouse files kept words status new.files new.ledger old new.taken))
   unended_house stop is =
-      told_both (λ files kept. KeepsHouse files kept words status new.files new.ledger old new.taken) (AlsoFree (Err stop)) (λ files kept ends. stopped_house files kept words status old new stop ends.0 ends.1 is) held ledger
+      told_both (λ files kept. KeepsHouse files kept words status new.files new.ledger old
+      new.taken) (AlsoFree (Err stop))
+      (λ files kept ends. stopped_house files kept words status old new stop ends.0 ends.1 is)
+      held ledger
 
-  of_command : (found : Option Effect) → IfSome (option_map Command found) (λ work. EndsWork (Ok status) work (outside (stores held ledger) old) new) → IfSome found (λ effect. Done status effect (outside (stores held ledger) old) new)
+  of_command : (found : Option Effect)
+      → IfSome (option_map Command found)
+      (λ work. EndsWork (Ok status) work (outside (stores held ledger) old) new)
+      → IfSome found (λ effect. Done status effect (outside (stores held ledger) old) new)
   of_command None ends = tt
   of_command (Some effect) ends = ends
 
-  sealed_by : (order : SealWords) → IfSome (work_of held ledger (Some (Seal order))) (λ work. EndsWork (Ok status) work (outside (stores held ledger) old) new) → Done status (seal_effect ledger order) (outside (stores held ledger) old) new
+  sealed_by : (order : SealWords)
+      → IfSome (work_of held ledger (Some (Seal order)))
+      (λ work. EndsWork (Ok status) work (outside (stores held ledger) old) new)
+      → Done status (seal_effect ledger order) (outside (stores held ledger) old) new
   unfolding seal_on
   sealed_by order ends = ends
 
-  pub told_seal : Ends (Ok status) held ledger → (order : SealWords) → command_words words ≡ Some (Seal order) → status ≢ 6 → status ≢ 9 → Seals order held new.files status old new.taken
+  pub told_seal : Ends (Ok status) held ledger → (order : SealWords)
+      → command_words words ≡ Some (Seal order) → status ≢ 6 → status ≢ 9
+      → Seals order held new.files status old new.taken
   told_seal ends order is _ _ =
       seals order ledger held status old new
-      (sealed_by order (subst (λ found. IfSome (work_of held ledger found) (λ work. EndsWork (Ok status) work (outside (stores held ledger) old) new)) is ends))
+      (sealed_by order (subst (λ found. IfSome (work_of held ledger found)
+      (λ work. EndsWork (Ok status) work (outside (stores held ledger) old) new)) is ends))
 
-  pub told_coin : Ends (Ok status) held ledger → (order : CoinWords) → command_words words ≡ Some (Coin order) → status ≢ 6 → status ≢ 9 → MakesChallenge order held new.files status old new.taken
+  pub told_coin : Ends (Ok status) held ledger → (order : CoinWords)
+      → command_words words ≡ Some (Coin order) → status ≢ 6 → status ≢ 9
+      → MakesChallenge order held new.files status old new.taken
   told_coin ends order is _ _ =
       makes ledger status old new held order
-      (of_command (coin_on held ledger order) (subst (λ found. IfSome (work_of held ledger found) (λ work. EndsWork (Ok status) work (outside (stores held ledger) old) new)) is ends))
+      (of_command (coin_on held ledger order)
+      (subst (λ found. IfSome (work_of held ledger found)
+      (λ work. EndsWork (Ok status) work (outside (stores held ledger) old) new)) is ends))

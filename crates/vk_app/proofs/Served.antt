@@ -62,48 +62,71 @@ pub record Found (act : HouseAct) (last : Ledger) : Type 0 where
   pub keeps : KeepsAnswers act.kept last
 
 -- what is said where a file couldn't be read
-read_fault : {X : Type 0} (ledger : Ledger) (read : Result X SaidValue) (writes : X → HouseReply → Writes) (command : X → HouseCommand) (effect : Effect)
-    → Some (if_read ledger (λ x. asked (writes x) ledger (command x)) read) ≡ Some effect → option_map command (result_ok read) ≡ None → Some (said_of effect) ≡ result_err read
+read_fault : {X : Type 0} (ledger : Ledger) (read : Result X SaidValue)
+    (writes : X → HouseReply → Writes) (command : X → HouseCommand) (effect : Effect)
+    → Some (if_read ledger (λ x. asked (writes x) ledger (command x)) read) ≡ Some effect
+    → option_map command (result_ok read) ≡ None → Some (said_of effect) ≡ result_err read
 read_fault ledger (Ok x) writes command effect is none = cc
-read_fault ledger (Err said) writes command effect is none = ap (λ (e : Effect). Some (said_of e)) (sym (same_Some (says (Some ledger) said) effect is))
+read_fault ledger (Err said) writes command effect is none =
+    ap (λ (e : Effect). Some (said_of e)) (sym (same_Some (says (Some ledger) said) effect is))
 
-fault_said : (files : Files) (ledger : Ledger) (order : HouseWords) (effect : Effect) → house_effect (Some files) (Some ledger) order ≡ Some effect → asked_in files order ≡ None → Some (said_of effect) ≡ input_fault files order
+fault_said : (files : Files) (ledger : Ledger) (order : HouseWords) (effect : Effect)
+    → house_effect (Some files) (Some ledger) order ≡ Some effect → asked_in files order ≡ None
+    → Some (said_of effect) ≡ input_fault files order
 fault_said files ledger (Announce id width lanes) effect is none = cc
 fault_said files ledger (AnnounceReserve id width lanes reserve) effect is none = cc
 fault_said files ledger (Submit id seal secret) effect is none =
-    read_fault ledger (row_in files seal secret) (λ _. no_file) (λ (row : SealRow). house.Submit id row.seal row.secret) effect is none ∙ (reads_row files seal secret).said
+    read_fault ledger (row_in files seal secret) (λ _. no_file)
+    (λ (row : SealRow). house.Submit id row.seal row.secret) effect is none
+    ∙ (reads_row files seal secret).said
 fault_said files ledger (Prove id seed board) effect is none = cc
 fault_said files ledger (Answer id challenge reply) effect is none =
-    read_fault ledger (challenge_in files challenge) (reply_file reply) (house.Answer id) effect is none ∙ (reads_challenge files challenge).said
+    read_fault ledger (challenge_in files challenge) (reply_file reply) (house.Answer id) effect is
+    none ∙ (reads_challenge files challenge).said
 fault_said files ledger (Show id) effect is none = cc
 
 keeps_to_steps : (act : HouseAct) → IsAct act → KeepsToSteps act
 keeps_to_steps act is = record {
-  step = λ command asks. (let step = act_steps act command is asks in record { kept = step.0; said = step.1 });
-  unasked = λ none. ap Some is.said_is ∙ fault_said act.files act.ledger act.order is.effect is.effect_is none;
+  step = λ command asks. (let step = act_steps act command is asks in
+      record { kept = step.0; said = step.1 });
+  unasked = λ none. ap Some is.said_is
+      ∙ fault_said act.files act.ledger act.order is.effect is.effect_is none;
   refused = act_same act is;
 }
 
 -- its effect, by its order
-effect_is : (act : HouseAct) (is : IsAct act) (order : HouseWords) (effect : Effect) → act.order ≡ order → house_effect (Some act.files) (Some act.ledger) order ≡ Some effect → is.effect ≡ effect
+effect_is : (act : HouseAct) (is : IsAct act) (order : HouseWords) (effect : Effect)
+    → act.order ≡ order → house_effect (Some act.files) (Some act.ledger) order ≡ Some effect
+    → is.effect ≡ effect
 effect_is act is order effect same told =
-    same_Some is.effect effect (sym is.effect_is ∙ ap (house_effect (Some act.files) (Some act.ledger)) same ∙ told)
+    same_Some is.effect effect
+    (sym is.effect_is ∙ ap (house_effect (Some act.files) (Some act.ledger)) same ∙ told)
 
-status_is : (act : HouseAct) (is : IsAct act) (effect : Effect) → is.effect ≡ effect → act.said.status ≡ 0 → effect.status ≡ 0
-status_is act is effect same done = ap (λ (e : Effect). e.status) (sym same) ∙ ap (λ (said : SaidValue). said.status) (sym is.said_is) ∙ done
+status_is : (act : HouseAct) (is : IsAct act) (effect : Effect) → is.effect ≡ effect
+    → act.said.status ≡ 0 → effect.status ≡ 0
+status_is act is effect same done = ap (λ (e : Effect). e.status) (sym same)
+    ∙ ap (λ (said : SaidValue). said.status) (sym is.said_is) ∙ done
 
-left_is : (act : HouseAct) (is : IsAct act) (effect : Effect) (name text : List ℕ) → is.effect ≡ effect → effect.writes ≡ (name, text) ∷ [] → act.left ≡ insert act.files name text
-left_is act is effect name text same writes = is.left_is ∙ ap (λ (e : Effect). written e.writes act.files) same ∙ ap (λ texts. written texts act.files) writes
+left_is : (act : HouseAct) (is : IsAct act) (effect : Effect) (name text : List ℕ)
+    → is.effect ≡ effect → effect.writes ≡ (name, text) ∷ [] → act.left ≡ insert act.files name text
+left_is act is effect name text same writes =
+    is.left_is ∙ ap (λ (e : Effect). written e.writes act.files) same
+    ∙ ap (λ texts. written texts act.files) writes
 
-stands : (act : HouseAct) (is : IsAct act) (effect : Effect) (id : List ℕ) (auction : Auction) → is.effect ≡ effect → LeavesAuction effect id auction → get act.kept id ≡ Some auction
-stands act is effect id auction same leaves = subst (λ told. IsSomeAnd told (λ ledger. get ledger id ≡ Some auction)) (ap (λ (e : Effect). e.ledger) (sym same) ∙ is.kept_is) leaves
+stands : (act : HouseAct) (is : IsAct act) (effect : Effect) (id : List ℕ) (auction : Auction)
+    → is.effect ≡ effect → LeavesAuction effect id auction → get act.kept id ≡ Some auction
+stands act is effect id auction same leaves =
+    subst (λ told. IsSomeAnd told (λ ledger. get ledger id ≡ Some auction))
+    (ap (λ (e : Effect). e.ledger) (sym same) ∙ is.kept_is) leaves
 
-publishes_board : (act : HouseAct) → IsAct act → AreHouseWords act.order → IsLedger act.ledger → PublishesBoard act
+publishes_board : (act : HouseAct) → IsAct act → AreHouseWords act.order → IsLedger act.ledger
+    → PublishesBoard act
 publishes_board act is words right id seed board order done =
     let effect = prove_effect act.ledger id seed board in
     let same = effect_is act is (Prove id seed board) effect order refl in
     let bytes = subst AreHouseWords order words in
-    let wrote = boards_are_written act.ledger id seed board right bytes.0 bytes.1 (status_is act is effect same done) in
+    let wrote = boards_are_written act.ledger id seed board right bytes.0 bytes.1
+    (status_is act is effect same done) in
     record {
       auction = wrote.0;
       stands = stands act is effect id wrote.0 same wrote.1.kept;
@@ -112,11 +135,13 @@ publishes_board act is words right id seed board order done =
       written = left_is act is effect board (board_of wrote.0) same wrote.1.written;
     }
 
-publishes_reply : (act : HouseAct) → IsAct act → AreHouseWords act.order → IsLedger act.ledger → PublishesReply act
+publishes_reply : (act : HouseAct) → IsAct act → AreHouseWords act.order → IsLedger act.ledger
+    → PublishesReply act
 publishes_reply act is words right id challenge reply order done =
     let effect = answer_effect act.files act.ledger id challenge reply in
     let same = effect_is act is (Answer id challenge reply) effect order refl in
-    let wrote = replies_are_written act.files act.ledger id challenge reply right (subst AreHouseWords order words) (status_is act is effect same done) in
+    let wrote = replies_are_written act.files act.ledger id challenge reply right
+    (subst AreHouseWords order words) (status_is act is effect same done) in
     let auction = wrote.0 in
     let answered = wrote.1.0 in
     let told = wrote.1.1 in
@@ -133,103 +158,183 @@ publishes_reply act is words right id challenge reply order done =
 
 -- ---- one of the acts
 
-words_within : (acts : List HouseAct) (act : HouseAct) → AllByRecursion AreHouseWords (map (λ (one : HouseAct). one.order) acts) → Contains acts act → AreHouseWords act.order
+words_within : (acts : List HouseAct) (act : HouseAct)
+    → AllByRecursion AreHouseWords (map (λ (one : HouseAct). one.order) acts) → Contains acts act
+    → AreHouseWords act.order
 words_within [] act words (k, below, at) = absurd (omega arith)
-words_within (first ∷ acts) act words (zero, below, at) = subst (λ (one : HouseAct). AreHouseWords one.order) at words.0
-words_within (first ∷ acts) act words (suc k, below, at) = words_within acts act words.1 (k, omega arith, at)
+words_within (first ∷ acts) act words (zero, below, at) =
+    subst (λ (one : HouseAct). AreHouseWords one.order) at words.0
+words_within (first ∷ acts) act words (suc k, below, at) =
+    words_within acts act words.1 (k, omega arith, at)
 
-all_first : (P : HouseWords → Type 0) (first later : List HouseWords) → AllByRecursion P (first ++ later) → AllByRecursion P first
+all_first : (P : HouseWords → Type 0) (first later : List HouseWords)
+    → AllByRecursion P (first ++ later) → AllByRecursion P first
 all_first P [] later all = tt
 all_first P (order ∷ orders) later all = (all.0, all_first P orders later all.1)
 
-found_in : (orders : List HouseWords) (files : Files) (ledger : Ledger) (acts : List HouseAct) (left : Files) (kept : Ledger) (act : HouseAct)
-    → AllByRecursion AreHouseWords orders → Performs orders files ledger acts left kept → IsLedger ledger → Contains acts act → Found act kept
+found_in : (orders : List HouseWords) (files : Files) (ledger : Ledger) (acts : List HouseAct)
+    (left : Files) (kept : Ledger) (act : HouseAct)
+    → AllByRecursion AreHouseWords orders → Performs orders files ledger acts left kept
+    → IsLedger ledger → Contains acts act → Found act kept
 found_in orders files ledger acts left kept act are performs right among =
     let between = performs.files_between in
     let ledger_between = performs.ledger_between in
-    let words = all_first AreHouseWords (map (λ (one : HouseAct). one.order) acts) performs.later (subst (AllByRecursion AreHouseWords) performs.orders_are are) in
+    let words = all_first AreHouseWords (map (λ (one : HouseAct). one.order) acts) performs.later
+    (subst (AllByRecursion AreHouseWords) performs.orders_are are) in
     let stop : Performs performs.later between ledger_between [] left kept =
-    record { later = performs.later; orders_are = refl; files_between = between; ledger_between = ledger_between; done = (refl, refl); last = performs.last } in
+    record {
+      later = performs.later;
+      orders_are = refl;
+      files_between = between;
+      ledger_between = ledger_between;
+      done = (refl, refl);
+      last = performs.last;
+    } in
     record {
       is = is_act_within acts files ledger between ledger_between act performs.done among;
       words = words_within acts act words among;
-      right = right_within acts files ledger between ledger_between act words performs.done among right;
-      keeps = keeps_on act.kept ledger_between kept (keeps_within acts files ledger between ledger_between act performs.done among).1 (performs_keeps performs.later between ledger_between [] left kept stop);
+      right = right_within acts files ledger between ledger_between act words performs.done among
+          right;
+      keeps = keeps_on act.kept ledger_between kept
+          (keeps_within acts files ledger between ledger_between act performs.done among).1
+          (performs_keeps performs.later between ledger_between [] left kept stop);
     }
 
 -- ---- a run
 
 -- the words of what is meant may ask the house
-meant_words : (files : Files) (words : List (List ℕ)) (orders : List HouseWords) → orders_of files (command_words words) ≡ Some orders → AllByRecursion AreHouseWords orders
+meant_words : (files : Files) (words : List (List ℕ)) (orders : List HouseWords)
+    → orders_of files (command_words words) ≡ Some orders → AllByRecursion AreHouseWords orders
 meant_words files words orders is = by_command (command_words words) refl where
-  by_command : (command : Option CommandWords) → command_words words ≡ command → AllByRecursion AreHouseWords orders
-  by_command None at = (let no : orders_of files None ≡ Some orders = ap (orders_of files) (sym at) ∙ is in cc)
+  by_command : (command : Option CommandWords) → command_words words ≡ command
+      → AllByRecursion AreHouseWords orders
+  by_command None at = (let no : orders_of files None ≡ Some orders = ap (orders_of files) (sym at)
+      ∙ is in cc)
   by_command (Some (House order)) at =
-      subst (AllByRecursion AreHouseWords) (same_Some (order ∷ []) orders (ap (orders_of files) (sym at) ∙ is)) (house_bytes words order at, tt)
-  by_command (Some (commands.Ceremony script)) at = subst (AllByRecursion AreHouseWords) (same_Some (orders_in files script) orders (ap (orders_of files) (sym at) ∙ is)) (orders_are files script)
-  by_command (Some (Seal order)) at = (let no : orders_of files (Some (Seal order)) ≡ Some orders = ap (orders_of files) (sym at) ∙ is in cc)
-  by_command (Some (Verify names)) at = (let no : orders_of files (Some (Verify names)) ≡ Some orders = ap (orders_of files) (sym at) ∙ is in cc)
-  by_command (Some (Extract names)) at = (let no : orders_of files (Some (Extract names)) ≡ Some orders = ap (orders_of files) (sym at) ∙ is in cc)
-  by_command (Some (Confront names)) at = (let no : orders_of files (Some (Confront names)) ≡ Some orders = ap (orders_of files) (sym at) ∙ is in cc)
-  by_command (Some (Report board)) at = (let no : orders_of files (Some (Report board)) ≡ Some orders = ap (orders_of files) (sym at) ∙ is in cc)
-  by_command (Some (ClaimVerify names)) at = (let no : orders_of files (Some (ClaimVerify names)) ≡ Some orders = ap (orders_of files) (sym at) ∙ is in cc)
-  by_command (Some (ClaimExtract names)) at = (let no : orders_of files (Some (ClaimExtract names)) ≡ Some orders = ap (orders_of files) (sym at) ∙ is in cc)
-  by_command (Some (ClaimSample kind number)) at = (let no : orders_of files (Some (ClaimSample kind number)) ≡ Some orders = ap (orders_of files) (sym at) ∙ is in cc)
-  by_command (Some (Coin order)) at = (let no : orders_of files (Some (Coin order)) ≡ Some orders = ap (orders_of files) (sym at) ∙ is in cc)
-  by_command (Some (Sample number)) at = (let no : orders_of files (Some (Sample number)) ≡ Some orders = ap (orders_of files) (sym at) ∙ is in cc)
+      subst (AllByRecursion AreHouseWords)
+      (same_Some (order ∷ []) orders (ap (orders_of files) (sym at) ∙ is))
+      (house_bytes words order at, tt)
+  by_command (Some (commands.Ceremony script)) at =
+      subst (AllByRecursion AreHouseWords)
+      (same_Some (orders_in files script) orders (ap (orders_of files) (sym at) ∙ is))
+      (orders_are files script)
+  by_command (Some (Seal order)) at =
+      (let no : orders_of files (Some (Seal order)) ≡ Some orders = ap (orders_of files) (sym at)
+      ∙ is in cc)
+  by_command (Some (Verify names)) at =
+      (let no : orders_of files (Some (Verify names)) ≡ Some orders = ap (orders_of files) (sym at)
+      ∙ is in cc)
+  by_command (Some (Extract names)) at =
+      (let no : orders_of files (Some (Extract names)) ≡ Some orders = ap (orders_of files) (sym at)
+      ∙ is in cc)
+  by_command (Some (Confront names)) at =
+      (let no : orders_of files (Some (Confront names))
+      ≡ Some orders = ap (orders_of files) (sym at) ∙ is in cc)
+  by_command (Some (Report board)) at =
+      (let no : orders_of files (Some (Report board)) ≡ Some orders = ap (orders_of files) (sym at)
+      ∙ is in cc)
+  by_command (Some (ClaimVerify names)) at =
+      (let no : orders_of files (Some (ClaimVerify names))
+      ≡ Some orders = ap (orders_of files) (sym at) ∙ is in cc)
+  by_command (Some (ClaimExtract names)) at =
+      (let no : orders_of files (Some (ClaimExtract names))
+      ≡ Some orders = ap (orders_of files) (sym at) ∙ is in cc)
+  by_command (Some (ClaimSample kind number)) at =
+      (let no : orders_of files (Some (ClaimSample kind number))
+      ≡ Some orders = ap (orders_of files) (sym at) ∙ is in cc)
+  by_command (Some (Coin order)) at =
+      (let no : orders_of files (Some (Coin order)) ≡ Some orders = ap (orders_of files) (sym at)
+      ∙ is in cc)
+  by_command (Some (Sample number)) at =
+      (let no : orders_of files (Some (Sample number)) ≡ Some orders = ap (orders_of files) (sym at)
+      ∙ is in cc)
 
 -- what is kept after a run of which all that is kept is kept until the last ledger
-pub served_keeps : (meant : Option (List HouseWords)) (files : Files) (ledger : Ledger) (acts : List HouseAct) (held : Option Files) (kept : Ledger) → PerformsAt meant files ledger acts held (Some kept) → KeepsAnswers ledger kept
-served_keeps None files ledger acts held kept performs = subst (KeepsAnswers ledger) (same_Some ledger kept (sym performs.1)) (keeps_same ledger)
+pub served_keeps : (meant : Option (List HouseWords)) (files : Files) (ledger : Ledger)
+    (acts : List HouseAct) (held : Option Files) (kept : Ledger)
+    → PerformsAt meant files ledger acts held (Some kept) → KeepsAnswers ledger kept
+served_keeps None files ledger acts held kept performs =
+    subst (KeepsAnswers ledger) (same_Some ledger kept (sym performs.1)) (keeps_same ledger)
 served_keeps (Some orders) files ledger acts held kept to =
-    subst (KeepsAnswers ledger) (same_Some to.last kept (sym to.kept_is)) (performs_keeps orders files ledger acts to.left to.last to.performs)
+    subst (KeepsAnswers ledger) (same_Some to.last kept (sym to.kept_is))
+    (performs_keeps orders files ledger acts to.left to.last to.performs)
 
 no_act : (act : HouseAct) → Contains [] act → ⊥
 no_act act (k, below, at) = omega arith
 
 -- what is kept is modelled
-kept_told : (meant : Option (List HouseWords)) (files : Files) (ledger : Ledger) (acts : List HouseAct) (held : Option Files) (kept : Option Ledger) → PerformsAt meant files ledger acts held kept → (last : Ledger) × (kept ≡ Some last)
+kept_told : (meant : Option (List HouseWords)) (files : Files) (ledger : Ledger)
+    (acts : List HouseAct) (held : Option Files) (kept : Option Ledger)
+    → PerformsAt meant files ledger acts held kept → (last : Ledger) × (kept ≡ Some last)
 kept_told None files ledger acts held kept performs = (ledger, performs.1)
 kept_told (Some orders) files ledger acts held kept to = (to.last, to.kept_is)
 
-act_is : (meant : Option (List HouseWords)) (files : Files) (ledger : Ledger) (acts : List HouseAct) (held : Option Files) (kept : Option Ledger) (act : HouseAct) → PerformsAt meant files ledger acts held kept → Contains acts act → IsAct act
-act_is None files ledger acts held kept act performs among = absurd (no_act act (subst (λ (l : List HouseAct). Contains l act) performs.0 among))
+act_is : (meant : Option (List HouseWords)) (files : Files) (ledger : Ledger) (acts : List HouseAct)
+    (held : Option Files) (kept : Option Ledger) (act : HouseAct)
+    → PerformsAt meant files ledger acts held kept → Contains acts act → IsAct act
+act_is None files ledger acts held kept act performs among =
+    absurd (no_act act (subst (λ (l : List HouseAct). Contains l act) performs.0 among))
 act_is (Some orders) files ledger acts held kept act to among =
-    is_act_within acts files ledger to.performs.files_between to.performs.ledger_between act to.performs.done among
+    is_act_within acts files ledger to.performs.files_between to.performs.ledger_between act
+    to.performs.done among
 
-act_found : (meant : Option (List HouseWords)) (files : Files) (ledger : Ledger) (acts : List HouseAct) (held : Option Files) (kept : Option Ledger) (last : Ledger) (act : HouseAct)
-    → ((orders : List HouseWords) → meant ≡ Some orders → AllByRecursion AreHouseWords orders) → PerformsAt meant files ledger acts held kept → kept ≡ Some last → IsLedger ledger → Contains acts act → Found act last
-act_found None files ledger acts held kept last act words performs is right among = absurd (no_act act (subst (λ (l : List HouseAct). Contains l act) performs.0 among))
+act_found : (meant : Option (List HouseWords)) (files : Files) (ledger : Ledger)
+    (acts : List HouseAct) (held : Option Files) (kept : Option Ledger) (last : Ledger)
+    (act : HouseAct)
+    → ((orders : List HouseWords) → meant ≡ Some orders → AllByRecursion AreHouseWords orders)
+    → PerformsAt meant files ledger acts held kept → kept ≡ Some last → IsLedger ledger
+    → Contains acts act → Found act last
+act_found None files ledger acts held kept last act words performs is right among =
+    absurd (no_act act (subst (λ (l : List HouseAct). Contains l act) performs.0 among))
 act_found (Some orders) files ledger acts held kept last act words to is right among =
-    subst (Found act) (same_Some to.last last (sym to.kept_is ∙ is)) (found_in orders files ledger acts to.left to.last act (words orders refl) to.performs right among)
+    subst (Found act) (same_Some to.last last (sym to.kept_is ∙ is))
+    (found_in orders files ledger acts to.left to.last act (words orders refl) to.performs right
+    among)
 
-pub served_found : (words : List (List ℕ)) (files : Files) (ledger : Ledger) (acts : List HouseAct) (held : Option Files) (kept : Option Ledger) (last : Ledger) (act : HouseAct)
-    → PerformsAt (orders_of files (command_words words)) files ledger acts held kept → kept ≡ Some last → IsLedger ledger → Contains acts act → Found act last
+pub served_found : (words : List (List ℕ)) (files : Files) (ledger : Ledger) (acts : List HouseAct)
+    (held : Option Files) (kept : Option Ledger) (last : Ledger) (act : HouseAct)
+    → PerformsAt (orders_of files (command_words words)) files ledger acts held kept
+    → kept ≡ Some last → IsLedger ledger → Contains acts act → Found act last
 served_found words files ledger acts held kept last act performs is right among =
-    act_found (orders_of files (command_words words)) files ledger acts held kept last act (meant_words files words) performs is right among
+    act_found (orders_of files (command_words words)) files ledger acts held kept last act
+    (meant_words files words) performs is right among
 
 -- what is kept is a ledger
-stays_right : (meant : Option (List HouseWords)) (files : Files) (ledger : Ledger) (acts : List HouseAct) (held : Option Files) (kept : Option Ledger)
-    → ((orders : List HouseWords) → meant ≡ Some orders → AllByRecursion AreHouseWords orders) → PerformsAt meant files ledger acts held kept → IsLedger ledger → IsSomeAnd kept IsLedger
-stays_right None files ledger acts held kept words performs right = subst (λ l. IsSomeAnd l IsLedger) (sym performs.1) right
+stays_right : (meant : Option (List HouseWords)) (files : Files) (ledger : Ledger)
+    (acts : List HouseAct) (held : Option Files) (kept : Option Ledger)
+    → ((orders : List HouseWords) → meant ≡ Some orders → AllByRecursion AreHouseWords orders)
+    → PerformsAt meant files ledger acts held kept → IsLedger ledger → IsSomeAnd kept IsLedger
+stays_right None files ledger acts held kept words performs right =
+    subst (λ l. IsSomeAnd l IsLedger) (sym performs.1) right
 stays_right (Some orders) files ledger acts held kept words to right =
-    subst (λ l. IsSomeAnd l IsLedger) (sym to.kept_is) (performs_right orders files ledger acts to.left to.last (words orders refl) to.performs right)
+    subst (λ l. IsSomeAnd l IsLedger) (sym to.kept_is)
+    (performs_right orders files ledger acts to.left to.last (words orders refl) to.performs
+    right)
 
-serves_by : (words : List (List ℕ)) (files : Files) (ledger : Ledger) (acts : List HouseAct) (held : Option Files) (kept : Option Ledger) → PerformsAt (orders_of files (command_words words)) files ledger acts held kept → ServesHouse words files ledger acts held kept
+serves_by : (words : List (List ℕ)) (files : Files) (ledger : Ledger) (acts : List HouseAct)
+    (held : Option Files) (kept : Option Ledger)
+    → PerformsAt (orders_of files (command_words words)) files ledger acts held kept
+    → ServesHouse words files ledger acts held kept
 serves_by words files ledger acts held kept performs =
     let meant = orders_of files (command_words words) in
     let last = kept_told meant files ledger acts held kept performs in
     record {
       performs = performs;
-      steps = λ act among. keeps_to_steps act (act_is meant files ledger acts held kept act performs among);
+      steps = λ act among. keeps_to_steps act
+          (act_is meant files ledger acts held kept act performs among);
       ledgers = stays_right meant files ledger acts held kept (meant_words files words) performs;
-      boards = λ right act among. (let found = served_found words files ledger acts held kept last.0 act performs last.1 right among in publishes_board act found.is found.words found.right);
-      replies = λ right act among. (let found = served_found words files ledger acts held kept last.0 act performs last.1 right among in publishes_reply act found.is found.words found.right);
+      boards = λ right act among.
+          (let found = served_found words files ledger acts held kept last.0 act performs last.1
+          right among in publishes_board act found.is found.words found.right);
+      replies = λ right act among.
+          (let found = served_found words files ledger acts held kept last.0 act performs last.1
+          right among in publishes_reply act found.is found.words found.right);
     }
 
 -- ---- how a run ends
 
-ends_ledger : (result : Result ℕ OutsideErr) (effect : Effect) (old new : Outside) → Ends result effect old new → effect.ledger ≡ old.ledger → new.ledger ≡ old.ledger
+ends_ledger : (result : Result ℕ OutsideErr) (effect : Effect) (old new : Outside)
+    → Ends result effect old new → effect.ledger ≡ old.ledger → new.ledger ≡ old.ledger
 ends_ledger (Ok status) effect old new ends same = ends.ledger_is ∙ same
 ends_ledger (Err stop) effect old new (inl still) same = ap (λ (left : Outside). left.ledger) still
 ends_ledger (Err stop) effect old new (inr stopped) same = stopped.0 ∙ same
@@ -239,26 +344,39 @@ module _ (files : Files) (ledger : Ledger) where
   abbrev StaysSo : Effect → Type 0
   StaysSo effect = effect.ledger ≡ Some ledger
 
-  claim_still_by : (kind : ClaimKind) (number : ℕ) (case : SampleCase) (numbers : List ℕ) (made : Result ProofValue DrySeed)
-      → IsSomeAnd (claimed.effect_by kind (Some files) (Some ledger) number case numbers made) StaysSo
+  claim_still_by : (kind : ClaimKind) (number : ℕ) (case : SampleCase) (numbers : List ℕ)
+      (made : Result ProofValue DrySeed)
+      → IsSomeAnd (claimed.effect_by kind (Some files) (Some ledger) number case numbers made)
+      StaysSo
   claim_still_by kind number case numbers (Ok proof) = refl
   claim_still_by kind number case numbers (Err dry) = refl
 
-  claim_still : (kind : ClaimKind) (number : ℕ) (numbers : List ℕ) → IsSomeAnd (effect_with kind (Some files) (Some ledger) number numbers) StaysSo
+  claim_still : (kind : ClaimKind) (number : ℕ) (numbers : List ℕ)
+      → IsSomeAnd (effect_with kind (Some files) (Some ledger) number numbers) StaysSo
   unfolding effect_with
-  claim_still kind number numbers = claim_still_by kind number (claim_case kind number) numbers (proof_by kind (claim_case kind number) numbers)
+  claim_still kind number numbers =
+      claim_still_by kind number (claim_case kind number) numbers
+      (proof_by kind (claim_case kind number) numbers)
 
   module _ (old : Option (List ℕ)) (new : Outside) where
-    ends_so : (result : Result ℕ OutsideErr) (found : Option Effect) → IsSomeAnd found StaysSo → IfSome found (λ effect. Ends result effect (outside (stores (Some files) (Some ledger)) old) new) → new.ledger ≡ Some ledger
+    ends_so : (result : Result ℕ OutsideErr) (found : Option Effect) → IsSomeAnd found StaysSo
+        → IfSome found (λ effect.
+        Ends result effect (outside (stores (Some files) (Some ledger)) old) new)
+        → new.ledger ≡ Some ledger
     ends_so result None told ends = absurd told
-    ends_so result (Some effect) told ends = ends_ledger result effect (outside (stores (Some files) (Some ledger)) old) new ends told
+    ends_so result (Some effect) told ends =
+        ends_ledger result effect (outside (stores (Some files) (Some ledger)) old) new ends told
 
-  matching_kept : (number : ℕ) (result : Result ℕ OutsideErr) (old : Option (List ℕ)) (new : Outside) → EndsFreely Matching number result (outside (stores (Some files) (Some ledger)) old) new → new.ledger ≡ Some ledger
+  matching_kept : (number : ℕ) (result : Result ℕ OutsideErr) (old : Option (List ℕ))
+      (new : Outside) → EndsFreely Matching number result
+      (outside (stores (Some files) (Some ledger)) old) new → new.ledger ≡ Some ledger
   matching_kept number (Ok status) old new (numbers, published, ends) =
-      ends_so old new (Ok status) (effect_with Matching (Some files) (Some ledger) number numbers) (claim_still Matching number numbers) ends
+      ends_so old new (Ok status) (effect_with Matching (Some files) (Some ledger) number numbers)
+      (claim_still Matching number numbers) ends
   matching_kept number (Err stop) old new (inl same) = ap (λ (left : Outside). left.ledger) same
   matching_kept number (Err stop) old new (inr (numbers, published, ends)) =
-      ends_so old new (Err stop) (effect_with Matching (Some files) (Some ledger) number numbers) (claim_still Matching number numbers) ends
+      ends_so old new (Err stop) (effect_with Matching (Some files) (Some ledger) number numbers)
+      (claim_still Matching number numbers) ends
 
 module _ (files : Files) (ledger : Ledger) (result : Result ℕ OutsideErr) (old : Option (List ℕ)) (new : Outside) where
   abbrev before : Outside
@@ -268,74 +386,127 @@ module _ (files : Files) (ledger : Ledger) (result : Result ℕ OutsideErr) (old
   EndsSo work = EndsWork result work before new
 
   abbrev Performed : Option CommandWords → Type 0
-  Performed command = (acts : List HouseAct) × PerformsAt (orders_of files command) files ledger acts new.files new.ledger
+  Performed command = (acts : List HouseAct)
+      × PerformsAt (orders_of files command) files ledger acts new.files new.ledger
 
   -- a command that asks nothing of the house
-  still : (found : Option Effect) → IsSomeAnd found (λ effect. effect.ledger ≡ Some ledger) → IfSome (option_map Command found) EndsSo → (acts : List HouseAct) × ((acts ≡ []) × (new.ledger ≡ Some ledger))
+  still : (found : Option Effect) → IsSomeAnd found (λ effect. effect.ledger ≡ Some ledger)
+      → IfSome (option_map Command found) EndsSo → (acts : List HouseAct)
+      × ((acts ≡ []) × (new.ledger ≡ Some ledger))
   still None told ends = absurd told
   still (Some effect) told ends = ([], (refl, ends_ledger result effect before new ends told))
 
-  from_command : (found : Option Effect) → IfSome (option_map Command found) EndsSo → IfSome found (λ effect. Ends result effect before new)
+  from_command : (found : Option Effect) → IfSome (option_map Command found) EndsSo
+      → IfSome found (λ effect. Ends result effect before new)
   from_command None ends = tt
   from_command (Some effect) ends = ends
 
-  from_script : (found : Option Ceremony) → IfSome (option_map Script found) EndsSo → IfSome found (λ whole. EndsAll result whole before new)
+  from_script : (found : Option Ceremony) → IfSome (option_map Script found) EndsSo
+      → IfSome found (λ whole. EndsAll result whole before new)
   from_script None ends = tt
   from_script (Some whole) ends = ends
 
-  acts_of : (orders : List HouseWords) → PerformsSome orders files ledger new.files new.ledger → (acts : List HouseAct) × PerformsAt (Some orders) files ledger acts new.files new.ledger
-  acts_of orders some = (some.acts, record { left = some.files_left; last = some.ledger_left; held_is = some.held_is; kept_is = some.kept_is; performs = some.performs })
+  acts_of : (orders : List HouseWords) → PerformsSome orders files ledger new.files new.ledger
+      → (acts : List HouseAct) × PerformsAt (Some orders) files ledger acts new.files new.ledger
+  acts_of orders some = (
+    some.acts,
+    record {
+      left = some.files_left;
+      last = some.ledger_left;
+      held_is = some.held_is;
+      kept_is = some.kept_is;
+      performs = some.performs;
+    },
+  )
 
-  sampled : (number : ℕ) (made : Result Auction DrySeed) → IsSomeAnd (effect_by (Some files) (Some ledger) number (sample_of number) made) (λ effect. effect.ledger ≡ Some ledger)
+  sampled : (number : ℕ) (made : Result Auction DrySeed)
+      → IsSomeAnd (effect_by (Some files) (Some ledger) number (sample_of number) made)
+      (λ effect. effect.ledger ≡ Some ledger)
   sampled number (Ok auction) = refl
   sampled number (Err dry) = refl
 
-  sample_still : (number : ℕ) → IsSomeAnd (sample_on (Some files) (Some ledger) number) (λ effect. effect.ledger ≡ Some ledger)
+  sample_still : (number : ℕ) → IsSomeAnd (sample_on (Some files) (Some ledger) number)
+      (λ effect. effect.ledger ≡ Some ledger)
   unfolding sample_on
   sample_still number = sampled number (auction_of (sample_of number))
 
-  seal_still : (order : SealWords) → IsSomeAnd (seal_on (Some ledger) order) (λ effect. effect.ledger ≡ Some ledger)
+  seal_still : (order : SealWords)
+      → IsSomeAnd (seal_on (Some ledger) order) (λ effect. effect.ledger ≡ Some ledger)
   unfolding seal_on
   seal_still order = refl
 
-  coin_still : (order : CoinWords) → IsSomeAnd (coin_on (Some files) (Some ledger) order) (λ effect. effect.ledger ≡ Some ledger)
+  coin_still : (order : CoinWords)
+      → IsSomeAnd (coin_on (Some files) (Some ledger) order) (λ effect. effect.ledger ≡ Some ledger)
   coin_still (coins.Part order) = refl
   coin_still (coins.Join names) = refl
   coin_still (coins.Board names) = refl
 
-  performed : (command : Option CommandWords) → IfSome (work_of (Some files) (Some ledger) command) EndsSo → CommandEndsFreely command result before new → Performed command
+  performed : (command : Option CommandWords)
+      → IfSome (work_of (Some files) (Some ledger) command) EndsSo
+      → CommandEndsFreely command result before new → Performed command
   performed None ends free = still (command_effect (Some files) (Some ledger) None) refl ends
-  performed (Some (Seal order)) ends free = still (seal_on (Some ledger) order) (seal_still order) ends
+  performed (Some (Seal order)) ends free =
+      still (seal_on (Some ledger) order) (seal_still order) ends
   performed (Some (House order)) ends free =
-      acts_of (order ∷ []) (command_performs files ledger order old result new (from_command (house_effect (Some files) (Some ledger) order) ends))
-  performed (Some (Verify names)) ends free = still (command_effect (Some files) (Some ledger) (Some (Verify names))) refl ends
-  performed (Some (Extract names)) ends free = still (command_effect (Some files) (Some ledger) (Some (Extract names))) refl ends
-  performed (Some (Confront names)) ends free = still (command_effect (Some files) (Some ledger) (Some (Confront names))) refl ends
-  performed (Some (Report board)) ends free = still (command_effect (Some files) (Some ledger) (Some (Report board))) refl ends
-  performed (Some (ClaimVerify names)) ends free = still (command_effect (Some files) (Some ledger) (Some (ClaimVerify names))) refl ends
-  performed (Some (ClaimExtract names)) ends free = still (command_effect (Some files) (Some ledger) (Some (ClaimExtract names))) refl ends
+      acts_of (order ∷ []) (command_performs files ledger order old result new
+      (from_command (house_effect (Some files) (Some ledger) order) ends))
+  performed (Some (Verify names)) ends free =
+      still (command_effect (Some files) (Some ledger) (Some (Verify names))) refl ends
+  performed (Some (Extract names)) ends free =
+      still (command_effect (Some files) (Some ledger) (Some (Extract names))) refl ends
+  performed (Some (Confront names)) ends free =
+      still (command_effect (Some files) (Some ledger) (Some (Confront names))) refl ends
+  performed (Some (Report board)) ends free =
+      still (command_effect (Some files) (Some ledger) (Some (Report board))) refl ends
+  performed (Some (ClaimVerify names)) ends free =
+      still (command_effect (Some files) (Some ledger) (Some (ClaimVerify names))) refl ends
+  performed (Some (ClaimExtract names)) ends free =
+      still (command_effect (Some files) (Some ledger) (Some (ClaimExtract names))) refl ends
   performed (Some (ClaimSample Uniform number)) ends free =
-      still (claim_sample_on (Some files) (Some ledger) Uniform number) (claim_still files ledger Uniform number (numbers_of number)) ends
-  performed (Some (ClaimSample Matching number)) ends free = ([], (refl, matching_kept files ledger number result old new free))
-  performed (Some (Coin order)) ends free = still (coin_on (Some files) (Some ledger) order) (coin_still order) ends
-  performed (Some (Sample number)) ends free = still (sample_on (Some files) (Some ledger) number) (sample_still number) ends
+      still (claim_sample_on (Some files) (Some ledger) Uniform number)
+      (claim_still files ledger Uniform number (numbers_of number)) ends
+  performed (Some (ClaimSample Matching number)) ends free =
+      ([], (refl, matching_kept files ledger number result old new free))
+  performed (Some (Coin order)) ends free =
+      still (coin_on (Some files) (Some ledger) order) (coin_still order) ends
+  performed (Some (Sample number)) ends free =
+      still (sample_on (Some files) (Some ledger) number) (sample_still number) ends
   performed (Some (commands.Ceremony script)) ends free =
-      acts_of (orders_in files script) (ceremony_performs files ledger script old result new (from_script (ceremony_on (Some files) (Some ledger) script) ends))
+      acts_of (orders_in files script)
+      (ceremony_performs files ledger script old result new
+      (from_script (ceremony_on (Some files) (Some ledger) script) ends))
 
-  pub serves : (words : List (List ℕ)) → IfSome (work_on (Some files) (Some ledger) words) EndsSo → CommandEndsFreely (command_words words) result before new → Serves words files ledger new.files new.ledger
+  pub serves : (words : List (List ℕ)) → IfSome (work_on (Some files) (Some ledger) words) EndsSo
+      → CommandEndsFreely (command_words words) result before new
+      → Serves words files ledger new.files new.ledger
   serves words ends free =
       let acts = performed (command_words words) ends free in
-      record { acts = acts.0; serves = serves_by words files ledger acts.0 new.files new.ledger acts.1 }
+      record {
+        acts = acts.0;
+        serves =
+            serves_by words files ledger acts.0 new.files new.ledger acts.1;
+      }
 
 -- ---- one command at its end
 
 module _ (files : Files) (ledger : Ledger) (order : HouseWords) (status : ℕ) (old : Option (List ℕ)) (new : Outside) where
-  done_by : (effect : Effect) → house_effect (Some files) (Some ledger) order ≡ Some effect → effect.ledger ≡ Some (ledger_by (asked_in files order) ledger) → Ends (Ok status) effect (outside (stores (Some files) (Some ledger)) old) new
+  done_by : (effect : Effect) → house_effect (Some files) (Some ledger) order ≡ Some effect
+      → effect.ledger ≡ Some (ledger_by (asked_in files order) ledger)
+      → Ends (Ok status) effect (outside (stores (Some files) (Some ledger)) old) new
       → CommandIsDone order files ledger new.files new.ledger status old new.taken
   done_by effect is kept ends =
       let act : HouseAct =
-      record { order = order; files = files; ledger = ledger; said = said_of effect; left = written effect.writes files; kept = ledger_by (asked_in files order) ledger } in
-      let is_act : IsAct act = record { effect = effect; effect_is = is; said_is = refl; left_is = refl; kept_is = kept } in
+      record {
+        order = order;
+        files = files;
+        ledger = ledger;
+        said = said_of effect;
+        left = written effect.writes files;
+        kept = ledger_by (asked_in files order) ledger;
+      } in
+      let is_act : IsAct act =
+      record { effect = effect; effect_is = is; said_is = refl; left_is = refl; kept_is = kept }
+      in
       record {
         act = act;
         is = is_act;
@@ -346,9 +517,14 @@ module _ (files : Files) (ledger : Ledger) (order : HouseWords) (status : ℕ) (
         says = (ends.status_is, ends.taken_is);
       }
 
-  pub command_done : IfSome (work_of (Some files) (Some ledger) (Some (House order))) (EndsSo files ledger (Ok status) old new) → CommandIsDone order files ledger new.files new.ledger status old new.taken
+  pub command_done : IfSome (work_of (Some files) (Some ledger) (Some (House order)))
+      (EndsSo files ledger (Ok status) old new)
+      → CommandIsDone order files ledger new.files new.ledger status old new.taken
   command_done ends =
       let told = order_told files ledger order in
       done_by told.0 told.1 (ledger_left (asked_in files order) ledger told.0 told.2)
-      (subst (λ found. IfSome found (λ effect. Ends (Ok status) effect (outside (stores (Some files) (Some ledger)) old) new)) told.1
-      (from_command files ledger (Ok status) old new (house_effect (Some files) (Some ledger) order) ends))
+      (subst (λ found. IfSome found
+      (λ effect. Ends (Ok status) effect (outside (stores (Some files) (Some ledger)) old) new))
+      told.1
+      (from_command files ledger (Ok status) old new (house_effect (Some files) (Some ledger) order)
+      ends))

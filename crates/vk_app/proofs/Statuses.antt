@@ -95,11 +95,14 @@ SaysOther said = IsOther said.status
 
 -- ---- an auditor's command
 
-by_answer : {X E : Type 0} (of_value : X → SaidValue) (of_fault : E → SaidValue) (answer : Result X E) → ((x : X) → SaysOther (of_value x)) → ((e : E) → SaysOther (of_fault e)) → SaysOther (answer_said of_value of_fault answer)
+by_answer : {X E : Type 0} (of_value : X → SaidValue) (of_fault : E → SaidValue)
+    (answer : Result X E) → ((x : X) → SaysOther (of_value x)) → ((e : E) → SaysOther (of_fault e))
+    → SaysOther (answer_said of_value of_fault answer)
 by_answer of_value of_fault (Ok x) values faults = values x
 by_answer of_value of_fault (Err e) values faults = faults e
 
-judged : (names : ExtractWords) (second : Bool) (verdict : BoardVerdict) → SaysOther (judged_said names second verdict)
+judged : (names : ExtractWords) (second : Bool) (verdict : BoardVerdict)
+    → SaysOther (judged_said names second verdict)
 judged names second verdicts.Accepted = refl
 judged names second (verdicts.Malformed part line) = refl
 judged names second verdicts.Price = refl
@@ -114,13 +117,15 @@ unread_files names (unread.TooLong part) = refl
 unread_files names unread.Failed = refl
 unread_files names unread.NoMemory = refl
 
-extracted : (names : ExtractWords) (extraction : Extraction) → SaysOther (extraction_said names extraction)
+extracted : (names : ExtractWords) (extraction : Extraction)
+    → SaysOther (extraction_said names extraction)
 extracted names (extractions.Refused second verdict) = judged names second verdict
 extracted names extractions.Same = refl
 extracted names (extractions.Clash two) = refl
 extracted names (extractions.Bids found) = refl
 
-confronted : (names : ConfrontWords) (confrontation : Confrontation) → SaysOther (confrontation_said names confrontation)
+confronted : (names : ConfrontWords) (confrontation : Confrontation)
+    → SaysOther (confrontation_said names confrontation)
 confronted names (confrontations.Refused second verdict) = judged names.replies second verdict
 confronted names confrontations.Same = refl
 confronted names (confrontations.Malformed line) = refl
@@ -129,7 +134,8 @@ confronted names (confrontations.Mismatch mismatch) = refl
 confronted names (confrontations.Clash two) = refl
 confronted names (confrontations.Held seat) = refl
 
-unconfronted_files : (names : ConfrontWords) (fault : ConfrontErr) → SaysOther (confront_unread_said names fault)
+unconfronted_files : (names : ConfrontWords) (fault : ConfrontErr)
+    → SaysOther (confront_unread_said names fault)
 unconfronted_files names (confront_unread.Unread fault) = unread_files names.replies fault
 unconfronted_files names confront_unread.MissingSecret = refl
 unconfronted_files names confront_unread.TooLongSecret = refl
@@ -145,7 +151,8 @@ unreported_file board unreported.NoMemory = refl
 
 -- ---- a command on claims
 
-claim_told : (names : ExtractWords) (second : Bool) (verdict : ClaimVerdict) → SaysOther (claim_judged_said names second verdict)
+claim_told : (names : ExtractWords) (second : Bool) (verdict : ClaimVerdict)
+    → SaysOther (claim_judged_said names second verdict)
 claim_told names second claim_verdicts.Accepted = refl
 claim_told names second (claim_verdicts.Malformed part line) = refl
 claim_told names second claim_verdicts.Public = refl
@@ -153,7 +160,8 @@ claim_told names second claim_verdicts.Lanes = refl
 claim_told names second (claim_verdicts.Wire lane wire fault) = refl
 claim_told names second (claim_verdicts.Row lane row) = refl
 
-values_told : (names : ExtractWords) (extraction : ClaimExtraction) → SaysOther (claim_extraction_said names extraction)
+values_told : (names : ExtractWords) (extraction : ClaimExtraction)
+    → SaysOther (claim_extraction_said names extraction)
 values_told names (extractions.Refused second verdict) = claim_told names second verdict
 values_told names extractions.Same = refl
 values_told names (extractions.Clash two) = refl
@@ -161,29 +169,35 @@ values_told names (extractions.Bids found) = refl
 
 claimed : (files : Files) (order : ClaimWords) → SaysOther (claim_said files order)
 claimed files (claims.Verify names) =
-    by_answer _ _ (claim_verdict_on admitted_plan files names.board names.attempt.challenge names.attempt.reply) (claim_told (verified_words names) false)
+    by_answer _ _ (claim_verdict_on admitted_plan files names.board names.attempt.challenge
+    names.attempt.reply) (claim_told (verified_words names) false)
     (unread_files (verified_words names))
 claimed files (claims.Extract names) =
-    by_answer _ _ (claim_extraction_on admitted_plan files names.board names.first.challenge names.first.reply names.second.challenge names.second.reply)
+    by_answer _ _ (claim_extraction_on admitted_plan files names.board names.first.challenge
+    names.first.reply names.second.challenge names.second.reply)
     (values_told names) (unread_files names)
 
 -- ---- a challenge that is made without the auctioneer
 
-joined_or : (names : ChallengeWords) (coin : Coin) (unmet : Option ℕ) → SaysOther (joined_if names coin unmet).said
+joined_or : (names : ChallengeWords) (coin : Coin) (unmet : Option ℕ)
+    → SaysOther (joined_if names coin unmet).said
 joined_or names coin None = refl
 joined_or names coin (Some auditor) = refl
 
-joined : (names : ChallengeWords) (read : Result Coin SaidValue) → IfErr read SaysOther → SaysOther (deed_by (coin_deed names) read).said
+joined : (names : ChallengeWords) (read : Result Coin SaidValue) → IfErr read SaysOther
+    → SaysOther (deed_by (coin_deed names) read).said
 joined names (Ok coin) is = joined_or names coin (unmet_part coin)
 joined names (Err said) is = is
 
-derived : (names : ChallengeWords) (answer : Result Challenge ReportErr) → SaysOther (derive_deed names answer).said
+derived : (names : ChallengeWords) (answer : Result Challenge ReportErr)
+    → SaysOther (derive_deed names answer).said
 derived names (Ok challenge) = refl
 derived names (Err fault) = unreported_file names.from fault
 
 -- ---- a bidder's
 
-sealed : (order : SealWords) (made : Result (Secret × MadeSeal) SealErr) → SaysOther (made_said order made)
+sealed : (order : SealWords) (made : Result (Secret × MadeSeal) SealErr)
+    → SaysOther (made_said order made)
 sealed order (Ok made) = refl
 sealed order (Err unmade.BidTooLarge) = refl
 sealed order (Err (unmade.DrySeed lane)) = refl
@@ -201,101 +215,132 @@ replied command (replies.Refused refusal) = refl
 is_begun : (files : Files) (name : List ℕ) → IfErr (begun_in name (get files name)) SaysOther
 is_begun files name = begun_says SaysOther name (get files name) refl refl
 
-is_value : {X : Type 0} (name : List ℕ) (read : Result (X × Rest) ℕ) → IfErr (value_in name read) SaysOther
+is_value : {X : Type 0} (name : List ℕ) (read : Result (X × Rest) ℕ)
+    → IfErr (value_in name read) SaysOther
 is_value name read = value_says SaysOther name read (λ line. refl)
 
 row_read : (files : Files) (seal secret : List ℕ) → IfErr (row_in files seal secret) SaysOther
 unfolding row_in
 row_read files seal secret =
     then_says SaysOther (begun_in seal (get files seal)) _ (is_begun files seal) (λ seal_file.
-    then_says SaysOther (begun_in secret (get files secret)) _ (is_begun files secret) (λ secret_file.
-    then_says SaysOther (value_in seal (seal_at seal_file)) _ (is_value seal (seal_at seal_file)) (λ made.
-    then_says SaysOther (value_in secret (secret_at secret_file)) _ (is_value secret (secret_at secret_file)) (λ known. tt))))
+    then_says SaysOther (begun_in secret (get files secret)) _ (is_begun files secret)
+    (λ secret_file.
+    then_says SaysOther (value_in seal (seal_at seal_file)) _ (is_value seal (seal_at seal_file))
+    (λ made.
+    then_says SaysOther (value_in secret (secret_at secret_file)) _
+    (is_value secret (secret_at secret_file)) (λ known. tt))))
 
-file_read : {X : Type 0} (read : Rest → Result (X × Rest) ℕ) (files : Files) (name : List ℕ) → IfErr (named_in read files name) SaysOther
+file_read : {X : Type 0} (read : Rest → Result (X × Rest) ℕ) (files : Files) (name : List ℕ)
+    → IfErr (named_in read files name) SaysOther
 file_read = named_says SaysOther (λ name. refl) (λ name. refl) (λ name line. refl)
 
 abbrev EndsOther : Effect → Type 0
 EndsOther effect = IsOther effect.status
 
-asks_read : {X : Type 0} (ledger : Ledger) (read : Result X SaidValue) (writes : X → HouseReply → Writes) (command : X → HouseCommand) → IfErr read SaysOther → EndsOther (if_read ledger (λ x. asked (writes x) ledger (command x)) read)
+asks_read : {X : Type 0} (ledger : Ledger) (read : Result X SaidValue)
+    (writes : X → HouseReply → Writes) (command : X → HouseCommand) → IfErr read SaysOther
+    → EndsOther (if_read ledger (λ x. asked (writes x) ledger (command x)) read)
 asks_read ledger (Ok x) writes command is = replied (command x) (house_step ledger (command x)).0
 asks_read ledger (Err said) writes command is = is
 
-asks_house : (kept : Option Ledger) (writes : HouseReply → Writes) (command : HouseCommand) → IfSome (on_ledger (λ ledger. asked writes ledger command) kept) EndsOther
+asks_house : (kept : Option Ledger) (writes : HouseReply → Writes) (command : HouseCommand)
+    → IfSome (on_ledger (λ ledger. asked writes ledger command) kept) EndsOther
 asks_house None writes command = tt
 asks_house (Some ledger) writes command = replied command (house_step ledger command).0
 
-served : (held : Option Files) (kept : Option Ledger) (order : HouseWords) → IfSome (house_effect held kept order) EndsOther
+served : (held : Option Files) (kept : Option Ledger) (order : HouseWords)
+    → IfSome (house_effect held kept order) EndsOther
 served held kept (Announce id width lanes) = asks_house kept no_file (house.Announce id width lanes)
-served held kept (AnnounceReserve id width lanes reserve) = asks_house kept no_file (house.AnnounceReserve id width lanes reserve)
+served held kept (AnnounceReserve id width lanes reserve) =
+    asks_house kept no_file (house.AnnounceReserve id width lanes reserve)
 served held kept (Prove id seed board) = asks_house kept (board_file board) (house.Prove id seed)
 served held kept (Show id) = asks_house kept no_file (house.Show id)
 served None kept (Submit id seal secret) = tt
 served (Some files) None (Submit id seal secret) = tt
 served (Some files) (Some ledger) (Submit id seal secret) =
-    asks_read ledger (row_in files seal secret) (λ _. no_file) (λ (row : SealRow). house.Submit id row.seal row.secret) (row_read files seal secret)
+    asks_read ledger (row_in files seal secret) (λ _. no_file)
+    (λ (row : SealRow). house.Submit id row.seal row.secret) (row_read files seal secret)
 served None kept (Answer id challenge reply) = tt
 served (Some files) None (Answer id challenge reply) = tt
 served (Some files) (Some ledger) (Answer id challenge reply) =
-    asks_read ledger (challenge_in files challenge) (reply_file reply) (house.Answer id) (file_read challenge_at files challenge)
+    asks_read ledger (challenge_in files challenge) (reply_file reply) (house.Answer id)
+    (file_read challenge_at files challenge)
 
 -- ---- a ceremony
 
 abbrev ClosesOther : ceremonies.Ceremony → Type 0
 ClosesOther whole = SaysOther whole.closing
 
-closes : (script : List ℕ) (fault : Option ℕ) (refused : Bool) → SaysOther (closing_said script fault refused)
+closes : (script : List ℕ) (fault : Option ℕ) (refused : Bool)
+    → SaysOther (closing_said script fault refused)
 closes script None true = refl
 closes script None false = refl
 closes script (Some line) refused = refl
 
-reached : (script : List ℕ) (fault : Option ℕ) (refused : Bool) (orders : List HouseWords) (old : Stores) → IfSome (ceremony_from (closing_said script fault) refused orders old) ClosesOther
-reached script fault = from_each ClosesOther (λ effect later is. is) (closing_said script fault) (closes script fault) (λ order old. served old.files old.ledger order)
+reached : (script : List ℕ) (fault : Option ℕ) (refused : Bool) (orders : List HouseWords)
+    (old : Stores) → IfSome (ceremony_from (closing_said script fault) refused orders old)
+    ClosesOther
+reached script fault = from_each ClosesOther (λ effect later is. is) (closing_said script fault)
+    (closes script fault) (λ order old. served old.files old.ledger order)
 
-behind : (script : List ℕ) (old : Stores) (rest : Result Rest SaidValue) → IfErr rest SaysOther → IfSome (ceremony_behind script old rest) ClosesOther
-behind script old (Ok rest) is = reached script (script_at script rest).fault false (script_at script rest).orders old
+behind : (script : List ℕ) (old : Stores) (rest : Result Rest SaidValue) → IfErr rest SaysOther
+    → IfSome (ceremony_behind script old rest) ClosesOther
+behind script old (Ok rest) is =
+    reached script (script_at script rest).fault false (script_at script rest).orders old
 behind script old (Err said) is = is
 
-is_headed : (script : List ℕ) (read : Result (Unit × Rest) ℕ) → IfErr (behind_heading script read) SaysOther
+is_headed : (script : List ℕ) (read : Result (Unit × Rest) ℕ)
+    → IfErr (behind_heading script read) SaysOther
 is_headed script (Ok read) = tt
 is_headed script (Err line) = refl
 
 script_read : (files : Files) (script : List ℕ) → IfErr (script_begun files script) SaysOther
 unfolding script_begun
-script_read files script = then_says SaysOther (begun_in script (get files script)) _ (is_begun files script) (λ file. is_headed script (line_by (word_of heading) file))
+script_read files script = then_says SaysOther (begun_in script (get files script)) _
+    (is_begun files script) (λ file. is_headed script (line_by (word_of heading) file))
 
-held : (files : Option Files) (kept : Option Ledger) (script : List ℕ) → IfSome (ceremony_on files kept script) ClosesOther
+held : (files : Option Files) (kept : Option Ledger) (script : List ℕ)
+    → IfSome (ceremony_on files kept script) ClosesOther
 held None kept script = tt
-held (Some files) kept script = behind script (stores (Some files) kept) (script_begun files script) (script_read files script)
+held (Some files) kept script =
+    behind script (stores (Some files) kept) (script_begun files script) (script_read files script)
 
 -- ---- every command
 
-sampled : (files : Files) (kept : Option Ledger) (number : ℕ) (made : Result Auction DrySeed) → IsSomeAnd (effect_by (Some files) kept number (sample_of number) made) EndsOther
+sampled : (files : Files) (kept : Option Ledger) (number : ℕ) (made : Result Auction DrySeed)
+    → IsSomeAnd (effect_by (Some files) kept number (sample_of number) made) EndsOther
 sampled files kept number (Ok auction) = refl
 sampled files kept number (Err dry) = refl
 
-claim_sampled : (kind : ClaimKind) (files : Files) (kept : Option Ledger) (number : ℕ) (case : SampleCase) (numbers : List ℕ) (made : Result ProofValue DrySeed)
+claim_sampled : (kind : ClaimKind) (files : Files) (kept : Option Ledger) (number : ℕ)
+    (case : SampleCase) (numbers : List ℕ) (made : Result ProofValue DrySeed)
     → IsSomeAnd (claim_samples.effect_by kind (Some files) kept number case numbers made) EndsOther
 claim_sampled kind files kept number case numbers (Ok proof) = refl
 claim_sampled kind files kept number case numbers (Err dry) = refl
 
 audited : (files : Files) (order : AuditWords) → SaysOther (audit_said files order)
 audited files (audits.Verify names) =
-    by_answer _ _ (verdict_on files names.board names.attempt.challenge names.attempt.reply) (judged (verified_words names) false) (unread_files (verified_words names))
+    by_answer _ _ (verdict_on files names.board names.attempt.challenge names.attempt.reply)
+    (judged (verified_words names) false) (unread_files (verified_words names))
 audited files (audits.Extract names) =
-    by_answer _ _ (extraction_on files names.board names.first.challenge names.first.reply names.second.challenge names.second.reply) (extracted names) (unread_files names)
-audited files (audits.Confront names) = by_answer _ _ (confrontation_in files names) (confronted names) (unconfronted_files names)
-audited files (audits.Report board) = by_answer _ _ (report_on files board) (λ report. refl) (unreported_file board)
+    by_answer _ _ (extraction_on files names.board names.first.challenge names.first.reply
+    names.second.challenge names.second.reply) (extracted names) (unread_files names)
+audited files (audits.Confront names) =
+    by_answer _ _ (confrontation_in files names) (confronted names) (unconfronted_files names)
+audited files (audits.Report board) =
+    by_answer _ _ (report_on files board) (λ report. refl) (unreported_file board)
 
 -- ---- no end with that status
 
 -- an end of what is known has another status
-two_told : {X : Type 0} (Ends : X → Type 0) (status_of : X → ℕ) (found : Option X) (status : ℕ) → IsSomeAnd found (λ x. IsOther (status_of x)) → IfSome found Ends → ((x : X) → Ends x → status ≡ status_of x) → status ≡ 2 → ⊥
+two_told : {X : Type 0} (Ends : X → Type 0) (status_of : X → ℕ) (found : Option X) (status : ℕ)
+    → IsSomeAnd found (λ x. IsOther (status_of x)) → IfSome found Ends
+    → ((x : X) → Ends x → status ≡ status_of x) → status ≡ 2 → ⊥
 two_told Ends status_of None status told ends is two = absurd told
 two_told Ends status_of (Some x) status told ends is two = absurd (cc (told, is x ends, two))
 
-told_other : {X : Type 0} (P Q : X → Type 0) (found : Option X) → IsSomeAnd found Q → IfSome found P → IsSomeAnd found P
+told_other : {X : Type 0} (P Q : X → Type 0) (found : Option X) → IsSomeAnd found Q → IfSome found P
+    → IsSomeAnd found P
 told_other P Q None told each = absurd told
 told_other P Q (Some x) told each = each
 
@@ -306,19 +351,27 @@ module _ (files : Files) (ledger : Ledger) (status : ℕ) (old : Option (List �
   abbrev EndsThis : Work → Type 0
   EndsThis work = EndsWork (Ok status) work before new
 
-  by_command : (found : Option Effect) → IfSome (option_map Command found) EndsThis → IfSome found (λ effect. Ends (Ok status) effect before new)
+  by_command : (found : Option Effect) → IfSome (option_map Command found) EndsThis
+      → IfSome found (λ effect. Ends (Ok status) effect before new)
   by_command None ends = tt
   by_command (Some effect) ends = ends
 
-  by_script : (found : Option ceremonies.Ceremony) → IfSome (option_map Script found) EndsThis → IfSome found (λ whole. EndsAll (Ok status) whole before new)
+  by_script : (found : Option ceremonies.Ceremony) → IfSome (option_map Script found) EndsThis
+      → IfSome found (λ whole. EndsAll (Ok status) whole before new)
   by_script None ends = tt
   by_script (Some whole) ends = ends
 
-  command_other : (found : Option Effect) → IsSomeAnd found EndsOther → IfSome (option_map Command found) EndsThis → status ≡ 2 → ⊥
-  command_other found told ends = two_told (λ effect. Ends (Ok status) effect before new) (λ effect. effect.status) found status told (by_command found ends) (λ effect done. done.status_is)
+  command_other : (found : Option Effect) → IsSomeAnd found EndsOther
+      → IfSome (option_map Command found) EndsThis → status ≡ 2 → ⊥
+  command_other found told ends =
+      two_told (λ effect. Ends (Ok status) effect before new) (λ effect. effect.status) found status
+      told (by_command found ends) (λ effect done. done.status_is)
 
-  script_other : (found : Option ceremonies.Ceremony) → IsSomeAnd found ClosesOther → IfSome (option_map Script found) EndsThis → status ≡ 2 → ⊥
-  script_other found told ends = two_told (λ whole. EndsAll (Ok status) whole before new) (λ whole. whole.closing.status) found status told (by_script found ends) (λ whole done. done.0)
+  script_other : (found : Option ceremonies.Ceremony) → IsSomeAnd found ClosesOther
+      → IfSome (option_map Script found) EndsThis → status ≡ 2 → ⊥
+  script_other found told ends =
+      two_told (λ whole. EndsAll (Ok status) whole before new) (λ whole. whole.closing.status) found
+      status told (by_script found ends) (λ whole done. done.0)
 
   sealed_told : (order : SealWords) → IsSomeAnd (seal_on (Some ledger) order) EndsOther
   unfolding seal_on
@@ -328,14 +381,17 @@ module _ (files : Files) (ledger : Ledger) (status : ℕ) (old : Option (List �
   unfolding sample_on
   sampled_told number = sampled files (Some ledger) number (auction_of (sample_of number))
 
-  claim_sampled_told : (kind : ClaimKind) (number : ℕ) (numbers : List ℕ) → IsSomeAnd (effect_with kind (Some files) (Some ledger) number numbers) EndsOther
+  claim_sampled_told : (kind : ClaimKind) (number : ℕ) (numbers : List ℕ)
+      → IsSomeAnd (effect_with kind (Some files) (Some ledger) number numbers) EndsOther
   unfolding effect_with
   claim_sampled_told kind number numbers =
-      claim_sampled kind files (Some ledger) number (claim_case kind number) numbers (proof_by kind (claim_case kind number) numbers)
+      claim_sampled kind files (Some ledger) number (claim_case kind number) numbers
+      (proof_by kind (claim_case kind number) numbers)
 
   matching_other : (number : ℕ) → EndsFreely Matching number (Ok status) before new → status ≡ 2 → ⊥
   matching_other number (numbers, published, ends) =
-      two_told (λ effect. Ends (Ok status) effect before new) (λ effect. effect.status) (effect_with Matching (Some files) (Some ledger) number numbers) status
+      two_told (λ effect. Ends (Ok status) effect before new) (λ effect. effect.status)
+      (effect_with Matching (Some files) (Some ledger) number numbers) status
       (claim_sampled_told Matching number numbers) ends (λ effect done. done.status_is)
 
   made_told : (order : CoinWords) → IsSomeAnd (coin_on (Some files) (Some ledger) order) EndsOther
@@ -344,28 +400,56 @@ module _ (files : Files) (ledger : Ledger) (status : ℕ) (old : Option (List �
       joined names (named_in coin_at files names.from) (file_read coin_at files names.from)
   made_told (coins.Board names) = derived names (derived_in files names.from)
 
-  order_is_told : (order : HouseWords) → IsSomeAnd (house_effect (Some files) (Some ledger) order) EndsOther
+  order_is_told : (order : HouseWords)
+      → IsSomeAnd (house_effect (Some files) (Some ledger) order) EndsOther
   order_is_told order =
       let told = order_told files ledger order in
-      subst (λ found. IsSomeAnd found EndsOther) (sym told.1) (subst (λ found. IfSome found EndsOther) told.1 (served (Some files) (Some ledger) order))
+      subst (λ found. IsSomeAnd found EndsOther) (sym told.1)
+      (subst (λ found. IfSome found EndsOther) told.1 (served (Some files) (Some ledger) order))
 
-  script_is_told : (script : List ℕ) → IsSomeAnd (ceremony_on (Some files) (Some ledger) script) ClosesOther
+  script_is_told : (script : List ℕ)
+      → IsSomeAnd (ceremony_on (Some files) (Some ledger) script) ClosesOther
   script_is_told script =
-      told_other ClosesOther _ (ceremony_on (Some files) (Some ledger) script) (ceremony_follows files ledger script) (held (Some files) (Some ledger) script)
+      told_other ClosesOther _ (ceremony_on (Some files) (Some ledger) script)
+      (ceremony_follows files ledger script) (held (Some files) (Some ledger) script)
 
-  pub no_command : (command : Option CommandWords) → IfSome (work_of (Some files) (Some ledger) command) EndsThis → CommandEndsFreely command (Ok status) before new → status ≡ 2 → command ≡ None
+  pub no_command : (command : Option CommandWords)
+      → IfSome (work_of (Some files) (Some ledger) command) EndsThis
+      → CommandEndsFreely command (Ok status) before new → status ≡ 2 → command ≡ None
   no_command None ends free two = refl
-  no_command (Some (Seal order)) ends free two = absurd (command_other (seal_on (Some ledger) order) (sealed_told order) ends two)
-  no_command (Some (House order)) ends free two = absurd (command_other (house_effect (Some files) (Some ledger) order) (order_is_told order) ends two)
-  no_command (Some (Verify names)) ends free two = absurd (command_other (audit_on (Some files) (Some ledger) (audits.Verify names)) (audited files (audits.Verify names)) ends two)
-  no_command (Some (Extract names)) ends free two = absurd (command_other (audit_on (Some files) (Some ledger) (audits.Extract names)) (audited files (audits.Extract names)) ends two)
-  no_command (Some (Confront names)) ends free two = absurd (command_other (audit_on (Some files) (Some ledger) (audits.Confront names)) (audited files (audits.Confront names)) ends two)
-  no_command (Some (Report board)) ends free two = absurd (command_other (audit_on (Some files) (Some ledger) (audits.Report board)) (audited files (audits.Report board)) ends two)
-  no_command (Some (ClaimVerify names)) ends free two = absurd (command_other (claim_on (Some files) (Some ledger) (claims.Verify names)) (claimed files (claims.Verify names)) ends two)
-  no_command (Some (ClaimExtract names)) ends free two = absurd (command_other (claim_on (Some files) (Some ledger) (claims.Extract names)) (claimed files (claims.Extract names)) ends two)
+  no_command (Some (Seal order)) ends free two =
+      absurd (command_other (seal_on (Some ledger) order) (sealed_told order) ends two)
+  no_command (Some (House order)) ends free two =
+      absurd (command_other (house_effect (Some files) (Some ledger) order) (order_is_told order)
+      ends two)
+  no_command (Some (Verify names)) ends free two =
+      absurd (command_other (audit_on (Some files) (Some ledger) (audits.Verify names))
+      (audited files (audits.Verify names)) ends two)
+  no_command (Some (Extract names)) ends free two =
+      absurd (command_other (audit_on (Some files) (Some ledger) (audits.Extract names))
+      (audited files (audits.Extract names)) ends two)
+  no_command (Some (Confront names)) ends free two =
+      absurd (command_other (audit_on (Some files) (Some ledger) (audits.Confront names))
+      (audited files (audits.Confront names)) ends two)
+  no_command (Some (Report board)) ends free two =
+      absurd (command_other (audit_on (Some files) (Some ledger) (audits.Report board))
+      (audited files (audits.Report board)) ends two)
+  no_command (Some (ClaimVerify names)) ends free two =
+      absurd (command_other (claim_on (Some files) (Some ledger) (claims.Verify names))
+      (claimed files (claims.Verify names)) ends two)
+  no_command (Some (ClaimExtract names)) ends free two =
+      absurd (command_other (claim_on (Some files) (Some ledger) (claims.Extract names))
+      (claimed files (claims.Extract names)) ends two)
   no_command (Some (ClaimSample Uniform number)) ends free two =
-      absurd (command_other (claim_sample_on (Some files) (Some ledger) Uniform number) (claim_sampled_told Uniform number (numbers_of number)) ends two)
-  no_command (Some (ClaimSample Matching number)) ends free two = absurd (matching_other number free two)
-  no_command (Some (commands.Coin order)) ends free two = absurd (command_other (coin_on (Some files) (Some ledger) order) (made_told order) ends two)
-  no_command (Some (Sample number)) ends free two = absurd (command_other (sample_on (Some files) (Some ledger) number) (sampled_told number) ends two)
-  no_command (Some (Ceremony script)) ends free two = absurd (script_other (ceremony_on (Some files) (Some ledger) script) (script_is_told script) ends two)
+      absurd (command_other (claim_sample_on (Some files) (Some ledger) Uniform number)
+      (claim_sampled_told Uniform number (numbers_of number)) ends two)
+  no_command (Some (ClaimSample Matching number)) ends free two =
+      absurd (matching_other number free two)
+  no_command (Some (commands.Coin order)) ends free two =
+      absurd (command_other (coin_on (Some files) (Some ledger) order) (made_told order) ends two)
+  no_command (Some (Sample number)) ends free two =
+      absurd (command_other (sample_on (Some files) (Some ledger) number) (sampled_told number) ends
+      two)
+  no_command (Some (Ceremony script)) ends free two =
+      absurd (script_other (ceremony_on (Some files) (Some ledger) script) (script_is_told script)
+      ends two)

@@ -18,9 +18,10 @@ use Rattle.vk_auctioneer.specs.Effects.{answer_effect}
 use Rattle.vk_auctioneer.specs.Laws.{LeavesAuction}
 use Rattle.vk_auctioneer.specs.Leaving.{LeavesReply}
 
--- the effect of `answer`: it leaves an auction with whose board, and the challenge of the named file, what it writes
--- is accepted
-pub record WritesAccepted (files : Files) (id challenge_name reply : List ℕ) (effect : Effect) (auction : Auction) (challenge_file reply_file : List ℕ) : Type 0 where
+-- the effect of `answer`: it leaves an auction with whose board, and the challenge of the named
+-- file, what it writes is accepted
+pub record WritesAccepted (files : Files) (id challenge_name reply : List ℕ) (effect : Effect)
+    (auction : Auction) (challenge_file reply_file : List ℕ) : Type 0 where
   pub kept : LeavesAuction effect id auction
   pub read : get files challenge_name ≡ Some challenge_file
   pub written : effect.writes ≡ (reply, reply_file) ∷ []
@@ -29,12 +30,17 @@ pub record WritesAccepted (files : Files) (id challenge_name reply : List ℕ) (
 -- each `answer` that ends with status 0 does so
 abbrev pub RepliesAreAccepted : Type 0
 RepliesAreAccepted =
-    (files : Files) (ledger : Ledger) (id challenge_name reply : List ℕ) → IsLedger ledger → AreBytes 16 id
+    (files : Files) (ledger : Ledger) (id challenge_name reply : List ℕ) → IsLedger ledger
+    → AreBytes 16 id
     → (answer_effect files ledger id challenge_name reply).status ≡ 0
-    → (auction : Auction) × ((challenge_file reply_file : List ℕ) × WritesAccepted files id challenge_name reply (answer_effect files ledger id challenge_name reply) auction challenge_file reply_file)
+    → (auction : Auction) × ((challenge_file reply_file : List ℕ)
+    × WritesAccepted files id challenge_name reply
+    (answer_effect files ledger id challenge_name reply) auction challenge_file reply_file)
 
--- the auction is proved and was not answered, and the named file is a challenge with a bit for each of its lanes
-pub record IsAsked (files : Files) (ledger : Ledger) (id challenge_name : List ℕ) (auction : Auction) (seed : List ℕ) (challenge : Challenge) : Type 0 where
+-- the auction is proved and was not answered, and the named file is a challenge with a bit for each
+-- of its lanes
+pub record IsAsked (files : Files) (ledger : Ledger) (id challenge_name : List ℕ)
+    (auction : Auction) (seed : List ℕ) (challenge : Challenge) : Type 0 where
   pub held : get ledger id ≡ Some auction
   pub phase : auction.phase ≡ Proved seed
   pub proved : IsProvedAuction auction
@@ -44,12 +50,13 @@ pub record IsAsked (files : Files) (ledger : Ledger) (id challenge_name : List �
 -- every such challenge is answered
 abbrev pub ChallengesAreAnswered : Type 0
 ChallengesAreAnswered =
-    (files : Files) (ledger : Ledger) (id challenge_name reply : List ℕ) (auction : Auction) (seed : List ℕ) (challenge : Challenge)
+    (files : Files) (ledger : Ledger) (id challenge_name reply : List ℕ) (auction : Auction)
+    (seed : List ℕ) (challenge : Challenge)
     → IsAsked files ledger id challenge_name auction seed challenge
     → (answer_effect files ledger id challenge_name reply).status ≡ 0
 
--- a reply that is left, whether or not the keeper is modelled: the file of the challenge's name held the challenge's
--- text, and with that the reply is accepted with the board of its auction
+-- a reply that is left, whether or not the keeper is modelled: the file of the challenge's name
+-- held the challenge's text, and with that the reply is accepted with the board of its auction
 abbrev pub LeftRepliesAreAccepted : Type 0
 LeftRepliesAreAccepted =
     (id challenge_name reply : List ℕ) (old new : Files) (auction : Auction) (challenge : Challenge)
@@ -60,19 +67,25 @@ LeftRepliesAreAccepted =
 -- ---- a challenge that is derived
 
 -- the auction is proved and was not answered, and the named file is its board
-pub record IsPublished (files : Files) (ledger : Ledger) (id board : List ℕ) (auction : Auction) (seed : List ℕ) : Type 0 where
+pub record IsPublished (files : Files) (ledger : Ledger) (id board : List ℕ) (auction : Auction)
+    (seed : List ℕ) : Type 0 where
   pub held : get ledger id ≡ Some auction
   pub phase : auction.phase ≡ Proved seed
   pub proved : IsProvedAuction auction
   pub file : get files board ≡ Some (board_of auction)
 
 -- `coin-board` is done on it, and then `answer` with the challenge that was written
-pub record DerivesAnswered (files : Files) (ledger : Ledger) (id board challenge reply : List ℕ) : Type 0 where
+pub record DerivesAnswered (files : Files) (ledger : Ledger)
+    (id board challenge reply : List ℕ) : Type 0 where
   pub derived : (board_deed (record { from = board; challenge = challenge }) files).said.status ≡ 0
-  pub answered : (answer_effect (written (board_deed (record { from = board; challenge = challenge }) files).writes files) ledger id challenge reply).status ≡ 0
+  pub answered : (answer_effect
+      (written (board_deed (record { from = board; challenge = challenge }) files).writes files)
+      ledger id challenge reply).status ≡ 0
 
 -- so is each such board
 abbrev pub DerivedAreAnswered : Type 0
 DerivedAreAnswered =
-    (files : Files) (ledger : Ledger) (id board challenge reply : List ℕ) (auction : Auction) (seed : List ℕ)
-    → IsPublished files ledger id board auction seed → DerivesAnswered files ledger id board challenge reply
+    (files : Files) (ledger : Ledger) (id board challenge reply : List ℕ) (auction : Auction)
+    (seed : List ℕ)
+    → IsPublished files ledger id board auction seed
+    → DerivesAnswered files ledger id board challenge reply

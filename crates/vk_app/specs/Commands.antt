@@ -35,8 +35,8 @@ audit_on files ledger order = option_map (λ modelled. says ledger (audit_said m
 abbrev pub claim_on : Option Files → Option Ledger → ClaimWords → Option Effect
 claim_on files ledger order = option_map (λ modelled. says ledger (claim_said modelled order)) files
 
--- what reads nothing has its effect over any files, and what asks the house over a ledger that is modelled. A ceremony
--- is no single command, and `claim-sample matching` has no single effect
+-- what reads nothing has its effect over any files, and what asks the house over a ledger that is
+-- modelled. A ceremony is no single command, and `claim-sample matching` has no single effect
 abbrev pub command_effect : Option Files → Option Ledger → Option CommandWords → Option Effect
 command_effect files ledger None = Some (says ledger usage_said)
 command_effect files ledger (Some (Seal order)) = seal_on ledger order
@@ -47,21 +47,27 @@ command_effect files ledger (Some (Report board)) = audit_on files ledger (audit
 command_effect files ledger (Some (House order)) = house_effect files ledger order
 command_effect files ledger (Some (Sample number)) = sample_on files ledger number
 command_effect files ledger (Some (ClaimVerify names)) = claim_on files ledger (claims.Verify names)
-command_effect files ledger (Some (ClaimExtract names)) = claim_on files ledger (claims.Extract names)
-command_effect files ledger (Some (ClaimSample kind number)) = claim_sample_on files ledger kind number
+command_effect files ledger (Some (ClaimExtract names)) =
+    claim_on files ledger (claims.Extract names)
+command_effect files ledger (Some (ClaimSample kind number)) =
+    claim_sample_on files ledger kind number
 command_effect files ledger (Some (Coin order)) = coin_on files ledger order
 command_effect files ledger (Some (Ceremony script)) = None
 
 -- ---- what is free
 
 -- what a command did that has no single effect: `claim-sample matching` did one of its effects
-abbrev pub CommandActsFreely : Option CommandWords → Result SaidValue OutsideErr → Stores → Stores → Type 0
-CommandActsFreely (Some (ClaimSample kind number)) answer old new = ActsFreely kind number answer old new
+abbrev pub CommandActsFreely : Option CommandWords → Result SaidValue OutsideErr → Stores → Stores
+    → Type 0
+CommandActsFreely (Some (ClaimSample kind number)) answer old new =
+    ActsFreely kind number answer old new
 CommandActsFreely command answer old new = Unit {0}
 
 -- the same of the whole command, with its printing
-abbrev pub CommandEndsFreely : Option CommandWords → Result ℕ OutsideErr → Outside → Outside → Type 0
-CommandEndsFreely (Some (ClaimSample kind number)) result old new = EndsFreely kind number result old new
+abbrev pub CommandEndsFreely : Option CommandWords → Result ℕ OutsideErr → Outside → Outside
+    → Type 0
+CommandEndsFreely (Some (ClaimSample kind number)) result old new =
+    EndsFreely kind number result old new
 CommandEndsFreely command result old new = Unit {0}
 
 -- ---- a whole command line
@@ -76,7 +82,8 @@ abbrev pub script_in : Option CommandWords → Option (List ℕ)
 script_in (Some (Ceremony script)) = Some script
 script_in command = None
 
-abbrev pub work_by : Option (List ℕ) → Option Files → Option Ledger → Option CommandWords → Option Work
+abbrev pub work_by : Option (List ℕ) → Option Files → Option Ledger → Option CommandWords
+    → Option Work
 work_by (Some script) files ledger command = option_map Script (ceremony_on files ledger script)
 work_by None files ledger command = option_map Command (command_effect files ledger command)
 

@@ -1,4 +1,5 @@
--- What `run` promises, one record for each family of commands, over files and a ledger that are modelled.
+-- What `run` promises, one record for each family of commands, over files and a ledger that are
+-- modelled.
 use Rattle.std.specs.Prelude.{◌≡◌, ◌≢◌, ◌⊎◌, ℕ, ◌^◌, ◌<◌, ◌≤◌, Bool, List, [], length, Option, Some, None}
 use Rattle.std.specs.FinMap.{get}
 use Rattle.vk_io.specs.Files.{Files, Modelled}
@@ -26,127 +27,170 @@ use Rattle.vk_app.specs.Commands.{script_in, usage_said}
 
 -- ---- the headline
 
--- of two replies that are accepted with one board for different challenges, `extract` puts the bids of each lane whose bits
--- differ: they are below 2^width, open the lane's seals, and have the Vickrey outcome that the board publishes, which is the
--- published sale under the board's reserve, 0 in version 1. Or it puts two openings of one commitment. It puts such of no others
-pub record Headline (files : Files) (words : List (List ℕ)) (status : ℕ) (old new : Option (List ℕ)) : Type 0 where
-  pub found : (names : ExtractWords) → command_words words ≡ Some (Extract names) → (accepted : AcceptsTwoFiles files names)
+-- of two replies that are accepted with one board for different challenges, `extract` puts the bids
+-- of each lane whose bits differ: they are below 2^width, open the lane's seals, and have the
+-- Vickrey outcome that the board publishes, which is the published sale under the board's reserve,
+-- 0 in version 1. Or it puts two openings of one commitment. It puts such of no others
+pub record Headline (files : Files) (words : List (List ℕ)) (status : ℕ)
+    (old new : Option (List ℕ)) : Type 0 where
+  pub found : (names : ExtractWords) → command_words words ≡ Some (Extract names)
+      → (accepted : AcceptsTwoFiles files names)
       → status ≢ 6 → status ≢ 9 → IsExtracted accepted.two status old new
-  pub only : (names : ExtractWords) → command_words words ≡ Some (Extract names) → (status ≡ 0) ⊎ (status ≡ 3) → AcceptsTwoFiles files names
+  pub only : (names : ExtractWords) → command_words words ≡ Some (Extract names)
+      → (status ≡ 0) ⊎ (status ≡ 3) → AcceptsTwoFiles files names
 
--- of two replies that are accepted with one claim file for different challenges, `claim-extract` puts the values of each lane
--- whose bits differ: they open the lane's seals, and the file's claim holds of them. Or it puts two openings of one
--- commitment. It puts such of no others
-pub record ClaimHeadline (files : Files) (words : List (List ℕ)) (status : ℕ) (old new : Option (List ℕ)) : Type 0 where
-  pub found : (names : ExtractWords) → command_words words ≡ Some (ClaimExtract names) → (accepted : AcceptsTwoClaims files names)
+-- of two replies that are accepted with one claim file for different challenges, `claim-extract`
+-- puts the values of each lane whose bits differ: they open the lane's seals, and the file's claim
+-- holds of them. Or it puts two openings of one commitment. It puts such of no others
+pub record ClaimHeadline (files : Files) (words : List (List ℕ)) (status : ℕ)
+    (old new : Option (List ℕ)) : Type 0 where
+  pub found : (names : ExtractWords) → command_words words ≡ Some (ClaimExtract names)
+      → (accepted : AcceptsTwoClaims files names)
       → status ≢ 6 → status ≢ 9 → IsClaimExtracted accepted.two status old new
-  pub only : (names : ExtractWords) → command_words words ≡ Some (ClaimExtract names) → (status ≡ 0) ⊎ (status ≡ 3) → AcceptsTwoClaims files names
+  pub only : (names : ExtractWords) → command_words words ≡ Some (ClaimExtract names)
+      → (status ≡ 0) ⊎ (status ≡ 3) → AcceptsTwoClaims files names
 
 -- ---- the auditor's commands
 
--- status 0 of a `verify` is that the reply is accepted. Every end says the verdict that holds of the files, or which of them is
--- missing or too long
-pub record Verifies (files : Files) (names : VerifyWords) (status : ℕ) (old new : Option (List ℕ)) : Type 0 where
+-- status 0 of a `verify` is that the reply is accepted. Every end says the verdict that holds of
+-- the files, or which of them is missing or too long
+pub record Verifies (files : Files) (names : VerifyWords) (status : ℕ)
+    (old new : Option (List ℕ)) : Type 0 where
   pub accepts : IsVerified files names status
   pub tells : status ≢ 6 → status ≢ 9 → TellsVerdict files names status old new
 
--- status 7 of an `extract` is that both replies are accepted and the challenges don't differ. Every end says what holds of
--- the files: the bids, a clash, the verdict on a reply that isn't accepted, or which file is missing or too long
-pub record Extracts (files : Files) (names : ExtractWords) (status : ℕ) (old new : Option (List ℕ)) : Type 0 where
+-- status 7 of an `extract` is that both replies are accepted and the challenges don't differ. Every
+-- end says what holds of the files: the bids, a clash, the verdict on a reply that isn't accepted,
+-- or which file is missing or too long
+pub record Extracts (files : Files) (names : ExtractWords) (status : ℕ)
+    (old new : Option (List ℕ)) : Type 0 where
   pub same : IsSame files names status
   pub tells : status ≢ 6 → status ≢ 9 → TellsExtraction files names status old new
 
--- status 0 of a `confront` is that the secret has the board's seal of its seat, and that the replies open just its halves.
--- Where the seal is the secret's and they open another, two openings of one commitment are put. Every end says what holds of the
--- files; where the replies themselves open a commitment with two values, that
-pub record Confronts (files : Files) (names : ConfrontWords) (status : ℕ) (old new : Option (List ℕ)) : Type 0 where
+-- status 0 of a `confront` is that the secret has the board's seal of its seat, and that the
+-- replies open just its halves. Where the seal is the secret's and they open another, two openings
+-- of one commitment are put. Every end says what holds of the files; where the replies themselves
+-- open a commitment with two values, that
+pub record Confronts (files : Files) (names : ConfrontWords) (status : ℕ)
+    (old new : Option (List ℕ)) : Type 0 where
   pub binds : BindsSecret files names status old new
   pub tells : status ≢ 6 → status ≢ 9 → TellsConfrontation files names status old new
 
--- status 0 of a `report` is that the file is a board whose price and winner may stand, and what it publishes is put. Every
--- end says that, or the first fault of the file
-pub record Reports (files : Files) (board : List ℕ) (status : ℕ) (old new : Option (List ℕ)) : Type 0 where
+-- status 0 of a `report` is that the file is a board whose price and winner may stand, and what it
+-- publishes is put. Every end says that, or the first fault of the file
+pub record Reports (files : Files) (board : List ℕ) (status : ℕ)
+    (old new : Option (List ℕ)) : Type 0 where
   pub reports : IsReported files board status old new
   pub tells : status ≢ 6 → status ≢ 9 → TellsReport files board status old new
 
-pub record Audits (files : Files) (words : List (List ℕ)) (status : ℕ) (old new : Option (List ℕ)) : Type 0 where
-  pub verify : (names : VerifyWords) → command_words words ≡ Some (Verify names) → Verifies files names status old new
-  pub extract : (names : ExtractWords) → command_words words ≡ Some (Extract names) → Extracts files names status old new
-  pub confront : (names : ConfrontWords) → command_words words ≡ Some (Confront names) → Confronts files names status old new
-  pub report : (board : List ℕ) → command_words words ≡ Some (Report board) → Reports files board status old new
+pub record Audits (files : Files) (words : List (List ℕ)) (status : ℕ)
+    (old new : Option (List ℕ)) : Type 0 where
+  pub verify : (names : VerifyWords) → command_words words ≡ Some (Verify names)
+      → Verifies files names status old new
+  pub extract : (names : ExtractWords) → command_words words ≡ Some (Extract names)
+      → Extracts files names status old new
+  pub confront : (names : ConfrontWords) → command_words words ≡ Some (Confront names)
+      → Confronts files names status old new
+  pub report : (board : List ℕ) → command_words words ≡ Some (Report board)
+      → Reports files board status old new
 
 -- ---- the commands on claims
 
--- status 0 of a `claim-verify` is that the reply is accepted. Every end says the verdict that holds of the files, or which of
--- them is missing or too long
-pub record VerifiesClaim (files : Files) (names : VerifyWords) (status : ℕ) (old new : Option (List ℕ)) : Type 0 where
+-- status 0 of a `claim-verify` is that the reply is accepted. Every end says the verdict that holds
+-- of the files, or which of them is missing or too long
+pub record VerifiesClaim (files : Files) (names : VerifyWords) (status : ℕ)
+    (old new : Option (List ℕ)) : Type 0 where
   pub accepts : IsClaimVerified files names status
   pub tells : status ≢ 6 → status ≢ 9 → TellsClaimVerdict files names status old new
 
--- status 7 of a `claim-extract` is that both replies are accepted and the challenges don't differ. Every end says what holds
--- of the files: the values, a clash, the verdict on a reply that isn't accepted, or which file is missing or too long
-pub record ExtractsClaim (files : Files) (names : ExtractWords) (status : ℕ) (old new : Option (List ℕ)) : Type 0 where
+-- status 7 of a `claim-extract` is that both replies are accepted and the challenges don't differ.
+-- Every end says what holds of the files: the values, a clash, the verdict on a reply that isn't
+-- accepted, or which file is missing or too long
+pub record ExtractsClaim (files : Files) (names : ExtractWords) (status : ℕ)
+    (old new : Option (List ℕ)) : Type 0 where
   pub same : IsSameClaim files names status
   pub tells : status ≢ 6 → status ≢ 9 → TellsClaimExtraction files names status old new
 
-pub record Claims (files : Files) (words : List (List ℕ)) (status : ℕ) (old new : Option (List ℕ)) : Type 0 where
-  pub verify : (names : VerifyWords) → command_words words ≡ Some (ClaimVerify names) → VerifiesClaim files names status old new
-  pub extract : (names : ExtractWords) → command_words words ≡ Some (ClaimExtract names) → ExtractsClaim files names status old new
+pub record Claims (files : Files) (words : List (List ℕ)) (status : ℕ)
+    (old new : Option (List ℕ)) : Type 0 where
+  pub verify : (names : VerifyWords) → command_words words ≡ Some (ClaimVerify names)
+      → VerifiesClaim files names status old new
+  pub extract : (names : ExtractWords) → command_words words ≡ Some (ClaimExtract names)
+      → ExtractsClaim files names status old new
 
--- which stable matching `claim-sample matching` publishes is free, and nothing else is. At its end it did all that one of them
--- comes to; stopped, nothing changed, or it was stopped doing that
+-- which stable matching `claim-sample matching` publishes is free, and nothing else is. At its end
+-- it did all that one of them comes to; stopped, nothing changed, or it was stopped doing that
 pub record SamplesMatching (number status : ℕ) (old new : Outside) : Type 0 where
-  pub done : status ≢ 6 → status ≢ 9 → OfSomeMatching old.files old.ledger number (λ effect. Done status effect old new)
-  pub stopped : (status ≡ 6) ⊎ (status ≡ 9) → (new ≡ old) ⊎ OfSomeMatching old.files old.ledger number (λ effect. Stopped effect old new)
+  pub done : status ≢ 6 → status ≢ 9
+      → OfSomeMatching old.files old.ledger number (λ effect. Done status effect old new)
+  pub stopped : (status ≡ 6) ⊎ (status ≡ 9)
+      → (new ≡ old) ⊎ OfSomeMatching old.files old.ledger number (λ effect. Stopped effect old new)
 
 -- ---- the house's
 
--- whatever the words and the status, what was done at the house is done command by command, and each keeps its promises. A single
--- command that came to its end is one of these, and what it says was put
-pub record KeepsHouse (files : Files) (ledger : Ledger) (words : List (List ℕ)) (status : ℕ) (held : Option Files) (kept : Option Ledger) (old new : Option (List ℕ)) : Type 0 where
+-- whatever the words and the status, what was done at the house is done command by command, and
+-- each keeps its promises. A single command that came to its end is one of these, and what it says
+-- was put
+pub record KeepsHouse (files : Files) (ledger : Ledger) (words : List (List ℕ)) (status : ℕ)
+    (held : Option Files) (kept : Option Ledger) (old new : Option (List ℕ)) : Type 0 where
   pub serves : Serves words files ledger held kept
-  pub command : (order : HouseWords) → command_words words ≡ Some (House order) → status ≢ 6 → status ≢ 9
+  pub command : (order : HouseWords) → command_words words ≡ Some (House order) → status ≢ 6
+      → status ≢ 9
       → CommandIsDone order files ledger held kept status old new
 
 -- ---- a ceremony's
 
--- it came to its end: its commands were done one after another up to the first that ends it, what they say was put, and then
--- what is said for the script itself, of which this is the status. A script that isn't held, or is too long, is said to be so. Of
--- another its fault line by its table is said, or that it has none; or a command ended it, and nothing more is said
-pub record CeremonyIsDone (script : List ℕ) (files : Files) (ledger : Ledger) (status : ℕ) (held : Option Files) (kept : Option Ledger) (old new : Option (List ℕ)) : Type 0 where
+-- it came to its end: its commands were done one after another up to the first that ends it, what
+-- they say was put, and then what is said for the script itself, of which this is the status. A
+-- script that isn't held, or is too long, is said to be so. Of another its fault line by its table
+-- is said, or that it has none; or a command ended it, and nothing more is said
+pub record CeremonyIsDone (script : List ℕ) (files : Files) (ledger : Ledger) (status : ℕ)
+    (held : Option Files) (kept : Option Ledger) (old new : Option (List ℕ)) : Type 0 where
   pub whole : Ceremony
   pub is : ceremony_on (Some files) (Some ledger) script ≡ Some whole
   pub status_is : status ≡ whole.closing.status
-  pub acts : PerformsAll (orders_in files script) files ledger whole.closing.text old (outside (stores held kept) new)
+  pub acts : PerformsAll (orders_in files script) files ledger whole.closing.text old
+      (outside (stores held kept) new)
   pub missing : get files script ≡ None → IsSaid (missing_said script) status old new
-  pub too_long : (file : List ℕ) → get files script ≡ Some file → 2 ^ 30 < length file → IsSaid (too_long_said script) status old new
+  pub too_long : (file : List ℕ) → get files script ≡ Some file → 2 ^ 30 < length file
+      → IsSaid (too_long_said script) status old new
   pub closing : (file : List ℕ) → get files script ≡ Some file → length file ≤ 2 ^ 30
-      → ((refused : Bool) × (whole.closing ≡ closing_said script (fault_line (script_table script) file) refused)) ⊎ (whole.closing.text ≡ [])
+      → ((refused : Bool) × (whole.closing
+      ≡ closing_said script (fault_line (script_table script) file) refused))
+      ⊎ (whole.closing.text ≡ [])
 
-abbrev pub HoldsCeremony : Files → Ledger → List (List ℕ) → ℕ → Option Files → Option Ledger → Option (List ℕ) → Option (List ℕ) → Type 0
+abbrev pub HoldsCeremony : Files → Ledger → List (List ℕ) → ℕ → Option Files → Option Ledger
+    → Option (List ℕ) → Option (List ℕ) → Type 0
 HoldsCeremony files ledger words status held kept old new =
-    (script : List ℕ) → command_words words ≡ Some (commands.Ceremony script) → status ≢ 6 → status ≢ 9 → CeremonyIsDone script files ledger status held kept old new
+    (script : List ℕ) → command_words words ≡ Some (commands.Ceremony script) → status ≢ 6
+    → status ≢ 9 → CeremonyIsDone script files ledger status held kept old new
 
 -- ---- the files, whether or not the keeper is modelled
 
--- what a single command leaves of files that are modelled, ended with that status: said of the house's
+-- what a single command leaves of files that are modelled, ended with that status: said of the
+-- house's
 abbrev pub CommandLeaves : Option CommandWords → (status : ℕ) → (held now : Option Files) → Type 0
 CommandLeaves (Some (House order)) status held now = Modelled (LeavesFiles order status) held now
 CommandLeaves command status held now = Unit {0}
 
-abbrev pub LeavesBy : Option (List ℕ) → Option CommandWords → (status : ℕ) → (held now : Option Files) → Type 0
+abbrev pub LeavesBy : Option (List ℕ) → Option CommandWords → (status : ℕ)
+    → (held now : Option Files) → Type 0
 LeavesBy (Some script) command status held now = Modelled (CeremonyLeaves script status) held now
 LeavesBy None command status held now = CommandLeaves command status held now
 
--- the same of whatever words, and of a ceremony command by command: with status 0 a board is that of some auction that is
--- proved with the seed, and a reply is that of some auction that is proved, to the challenge of the named file; both have the
--- id. All other files stay, and with any other status all do
+-- the same of whatever words, and of a ceremony command by command: with status 0 a board is that
+-- of some auction that is proved with the seed, and a reply is that of some auction that is proved,
+-- to the challenge of the named file; both have the id. All other files stay, and with any other
+-- status all do
 abbrev pub RunLeaves : List (List ℕ) → (status : ℕ) → (held now : Option Files) → Type 0
-RunLeaves words status held now = LeavesBy (script_in (command_words words)) (command_words words) status held now
+RunLeaves words status held now =
+    LeavesBy (script_in (command_words words)) (command_words words) status held now
 
 -- ---- words of no form
 
 -- status 2 is that the words are no command, and then the usage line is put
-pub record TellsUsage (words : List (List ℕ)) (status : ℕ) (old new : Option (List ℕ)) : Type 0 where
-  pub only : status ≡ 2 → command_words words ≡ None
-  pub always : command_words words ≡ None → status ≢ 6 → status ≢ 9 → IsSaid usage_said status old new
+pub record TellsUsage (words : List (List ℕ)) (status : ℕ) (old new : Option (List ℕ)) : Type 0
+  where
+    pub only : status ≡ 2 → command_words words ≡ None
+    pub always : command_words words ≡ None → status ≢ 6 → status ≢ 9
+        → IsSaid usage_said status old new

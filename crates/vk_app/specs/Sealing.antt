@@ -21,7 +21,8 @@ stream_of seat = 65536 + seat
 
 -- the line of a seal that was made
 abbrev pub sealed_line : ℕ → ℕ → List ℕ
-sealed_line seat lanes = codes "sealed seat " +++ decimal seat +++ codes " lanes " +++ decimal lanes +++ line_feed
+sealed_line seat lanes = codes "sealed seat " +++ decimal seat +++ codes " lanes " +++ decimal lanes
+    +++ line_feed
 
 -- a refusal, before any file is made
 abbrev pub refused_said : List ℕ → SaidValue
@@ -35,7 +36,8 @@ made_said order (Err NoMemory) = refused_said []
 
 -- the secret's file is written, then the seal's
 abbrev pub made_writes : SealWords → Result (Secret × Seal) SealErr → List (List ℕ × List ℕ)
-made_writes order (Ok made) = (order.secret, secret_text made.0) ∷ (order.seal, seal_text made.1) ∷ []
+made_writes order (Ok made) = (order.secret, secret_text made.0) ∷ (order.seal, seal_text made.1)
+    ∷ []
 made_writes order (Err refusal) = []
 
 abbrev pub made_deed : SealWords → Result (Secret × Seal) SealErr → DeedValue
@@ -46,7 +48,8 @@ made_effect ledger order made = does ledger (made_deed order made)
 
 -- what making the seal gives: it is drawn from the seed's words in the stream of the seat
 unfoldable pub seal_made : SealWords → Result (Secret × Seal) SealErr
-seal_made order = made_seal order.bid order.seat order.auction order.width order.lanes (word_at order.seed order.auction (stream_of order.seat))
+seal_made order = made_seal order.bid order.seat order.auction order.width order.lanes
+    (word_at order.seed order.auction (stream_of order.seat))
 
 -- the ledger is left as it is
 abbrev pub seal_effect : Option Ledger → SealWords → Effect
@@ -60,13 +63,20 @@ seal_on ledger order = Some (seal_effect ledger order)
 
 -- the secret that is drawn, or the first lane for which no residue can be
 abbrev pub secret_drawn : SealWords → Result Secret ℕ
-secret_drawn order = secret_of order.bid order.seat order.auction order.lanes (word_at order.seed order.auction (stream_of order.seat))
+secret_drawn order = secret_of order.bid order.seat order.auction order.lanes
+    (word_at order.seed order.auction (stream_of order.seat))
 
--- a `seal` that came to its end: a bid that isn't below 2^width is refused, and so is a seed that gives no secret; no
--- file is written then. Else the secret's file is the text of the secret, and the seal's file that of its seal
-pub record Seals (order : SealWords) (held left : Option Files) (status : ℕ) (old new : Option (List ℕ)) : Type 0 where
-  pub too_large : 2 ^ order.width ≤ order.bid → IsSaid (refused_said (codes "seal bid too large" ++ line_feed)) status old new × (left ≡ held)
-  pub dry : (lane : ℕ) → order.bid < 2 ^ order.width → secret_drawn order ≡ Err lane → IsSaid (refused_said (bidder_dry_line lane)) status old new × (left ≡ held)
+-- a `seal` that came to its end: a bid that isn't below 2^width is refused, and so is a seed that
+-- gives no secret; no file is written then. Else the secret's file is the text of the secret, and
+-- the seal's file that of its seal
+pub record Seals (order : SealWords) (held left : Option Files) (status : ℕ)
+    (old new : Option (List ℕ)) : Type 0 where
+  pub too_large : 2 ^ order.width ≤ order.bid
+      → IsSaid (refused_said (codes "seal bid too large" ++ line_feed)) status old new
+      × (left ≡ held)
+  pub dry : (lane : ℕ) → order.bid < 2 ^ order.width → secret_drawn order ≡ Err lane
+      → IsSaid (refused_said (bidder_dry_line lane)) status old new × (left ≡ held)
   pub made : (secret : Secret) → order.bid < 2 ^ order.width → secret_drawn order ≡ Ok secret
       → IsSaid (record { status = 0; text = sealed_line order.seat order.lanes }) status old new
-      × (left ≡ option_map (written ((order.secret, secret_text secret) ∷ (order.seal, seal_text (seal_of secret)) ∷ [])) held)
+      × (left ≡ option_map (written
+      ((order.secret, secret_text secret) ∷ (order.seal, seal_text (seal_of secret)) ∷ [])) held)

@@ -36,9 +36,12 @@ use vk_words::{Command, command_of};
 
 /// Does an auditor's command, but for printing.
 fn read<S: Shelf>(alloc: Global, shelf: &mut S, order: &AuditOrder<'_>) -> Result<Said, OutsideErr>
-    ensures acts { (ledger : Option Ledger) → IfSome (audit_on (S.held shelf.old) ledger (audit_seen order.now))
-        (λ effect. Acts result effect (stores (S.held shelf.old) ledger) (stores (S.held shelf.new) ledger)) }
-    ensures causes { Causes OutsideErr.Failed result (S.Shelf.faults shelf.old) (S.Shelf.faults shelf.new) }
+    ensures acts { (ledger : Option Ledger)
+        → IfSome (audit_on (S.held shelf.old) ledger (audit_seen order.now))
+        (λ effect. Acts result effect (stores (S.held shelf.old) ledger)
+        (stores (S.held shelf.new) ledger)) }
+    ensures causes { Causes OutsideErr.Failed result (S.Shelf.faults shelf.old)
+        (S.Shelf.faults shelf.new) }
 {
     let said = audit(alloc, shelf, order);
     said
@@ -50,9 +53,12 @@ fn read_claim<S: Shelf>(
     shelf: &mut S,
     order: &ClaimOrder<'_>,
 ) -> Result<Said, OutsideErr>
-    ensures acts { (ledger : Option Ledger) → IfSome (claim_on (S.held shelf.old) ledger (claim_order_seen order.now))
-        (λ effect. Acts result effect (stores (S.held shelf.old) ledger) (stores (S.held shelf.new) ledger)) }
-    ensures causes { Causes OutsideErr.Failed result (S.Shelf.faults shelf.old) (S.Shelf.faults shelf.new) }
+    ensures acts { (ledger : Option Ledger)
+        → IfSome (claim_on (S.held shelf.old) ledger (claim_order_seen order.now))
+        (λ effect. Acts result effect (stores (S.held shelf.old) ledger)
+        (stores (S.held shelf.new) ledger)) }
+    ensures causes { Causes OutsideErr.Failed result (S.Shelf.faults shelf.old)
+        (S.Shelf.faults shelf.new) }
 {
     let said = audit_claim(alloc, shelf, order);
     said
@@ -67,15 +73,22 @@ fn act<S: Shelf, K: Keeper + Drop>(
     command: Option<Command<'_>>,
 ) -> Result<Said, OutsideErr>
     requires { IfSome command IsCommand }
-    ensures acts { IfSome (command_effect (S.held shelf.old) (K.ledger keeper.old) (option_map command_seen command.entry))
-        (λ effect. Acts result effect (stores (S.held shelf.old) (K.ledger keeper.old)) (stores (S.held shelf.new) (K.ledger keeper.new))) }
+    ensures acts { IfSome (command_effect (S.held shelf.old) (K.ledger keeper.old)
+        (option_map command_seen command.entry))
+        (λ effect. Acts result effect (stores (S.held shelf.old) (K.ledger keeper.old))
+        (stores (S.held shelf.new) (K.ledger keeper.new))) }
     ensures free { CommandActsFreely (option_map command_seen command.entry) result
-        (stores (S.held shelf.old) (K.ledger keeper.old)) (stores (S.held shelf.new) (K.ledger keeper.new)) }
-    ensures files { IfOk result (λ said. CommandLeaves (option_map command_seen command.entry) said.status (S.held shelf.old) (S.held shelf.new)) }
+        (stores (S.held shelf.old) (K.ledger keeper.old))
+        (stores (S.held shelf.new) (K.ledger keeper.new)) }
+    ensures files { IfOk result
+        (λ said. CommandLeaves (option_map command_seen command.entry) said.status
+        (S.held shelf.old) (S.held shelf.new)) }
     ensures once { Modelled KeepsAnswers (K.ledger keeper.old) (K.ledger keeper.new) }
     ensures keeper { AsksNoKeeper (option_map command_seen command.entry)
-        → (K.ledger keeper.new ≡ K.ledger keeper.old) × (K.Keeper.faults keeper.new ≡ K.Keeper.faults keeper.old) }
-    ensures causes { CausesTwo OutsideErr.Failed result (S.Shelf.faults shelf.old) (S.Shelf.faults shelf.new)
+        → (K.ledger keeper.new ≡ K.ledger keeper.old)
+        × (K.Keeper.faults keeper.new ≡ K.Keeper.faults keeper.old) }
+    ensures causes { CausesTwo OutsideErr.Failed result (S.Shelf.faults shelf.old)
+        (S.Shelf.faults shelf.new)
         (K.Keeper.faults keeper.old) (K.Keeper.faults keeper.new) }
 {
     match command {
@@ -136,19 +149,26 @@ fn answer<S: Shelf, K: Keeper + Drop, W: Sink>(
     command: Option<Command<'_>>,
 ) -> Result<u8, OutsideErr>
     requires { IfSome command IsCommand }
-    ensures ends { IfSome (command_effect (S.held shelf.old) (K.ledger keeper.old) (option_map command_seen command.entry))
-        (λ effect. Ends result effect (outside (stores (S.held shelf.old) (K.ledger keeper.old)) (W.taken out.old))
+    ensures ends { IfSome (command_effect (S.held shelf.old) (K.ledger keeper.old)
+        (option_map command_seen command.entry))
+        (λ effect. Ends result effect
+        (outside (stores (S.held shelf.old) (K.ledger keeper.old)) (W.taken out.old))
         (outside (stores (S.held shelf.new) (K.ledger keeper.new)) (W.taken out.new))) }
     ensures free { CommandEndsFreely (option_map command_seen command.entry) result
         (outside (stores (S.held shelf.old) (K.ledger keeper.old)) (W.taken out.old))
         (outside (stores (S.held shelf.new) (K.ledger keeper.new)) (W.taken out.new)) }
     ensures end { IfOk result IsEnd }
-    ensures files { IfOk result (λ status. CommandLeaves (option_map command_seen command.entry) status (S.held shelf.old) (S.held shelf.new)) }
+    ensures files { IfOk result
+        (λ status. CommandLeaves (option_map command_seen command.entry) status (S.held shelf.old)
+        (S.held shelf.new)) }
     ensures once { Modelled KeepsAnswers (K.ledger keeper.old) (K.ledger keeper.new) }
     ensures keeper { AsksNoKeeper (option_map command_seen command.entry)
-        → (K.ledger keeper.new ≡ K.ledger keeper.old) × (K.Keeper.faults keeper.new ≡ K.Keeper.faults keeper.old) }
-    ensures causes { CausesThree OutsideErr.Failed result (S.Shelf.faults shelf.old) (S.Shelf.faults shelf.new)
-        (K.Keeper.faults keeper.old) (K.Keeper.faults keeper.new) (W.Sink.faults out.old) (W.Sink.faults out.new) }
+        → (K.ledger keeper.new ≡ K.ledger keeper.old)
+        × (K.Keeper.faults keeper.new ≡ K.Keeper.faults keeper.old) }
+    ensures causes { CausesThree OutsideErr.Failed result (S.Shelf.faults shelf.old)
+        (S.Shelf.faults shelf.new)
+        (K.Keeper.faults keeper.old) (K.Keeper.faults keeper.new) (W.Sink.faults out.old)
+        (W.Sink.faults out.new) }
 {
     let said = act(alloc, shelf, keeper, command)?;
     said.print(out)?;
@@ -157,7 +177,8 @@ fn answer<S: Shelf, K: Keeper + Drop, W: Sink>(
 
 /// The name of the script, where the command is a ceremony.
 fn script_of<'a>(command: Option<Command<'a>>) -> Option<&'a str>
-    ensures { option_map (λ name. name.now) result ≡ script_in (option_map command_seen command.entry) }
+    ensures { option_map (λ name. name.now) result
+        ≡ script_in (option_map command_seen command.entry) }
 {
     match command {
         Some(Command::Ceremony(script)) => Some(script),
@@ -184,19 +205,26 @@ fn perform<S: Shelf, K: Keeper + Drop, W: Sink>(
     keeper: &mut K,
     out: &mut W,
 ) -> Result<u8, OutsideErr>
-    ensures ends { IfSome (work_on (S.held shelf.old) (K.ledger keeper.old) (map string_bytes words.now))
-        (λ work. EndsWork result work (outside (stores (S.held shelf.old) (K.ledger keeper.old)) (W.taken out.old))
+    ensures ends { IfSome (work_on (S.held shelf.old) (K.ledger keeper.old)
+        (map string_bytes words.now))
+        (λ work. EndsWork result work
+        (outside (stores (S.held shelf.old) (K.ledger keeper.old)) (W.taken out.old))
         (outside (stores (S.held shelf.new) (K.ledger keeper.new)) (W.taken out.new))) }
     ensures free { CommandEndsFreely (command_words (map string_bytes words.now)) result
         (outside (stores (S.held shelf.old) (K.ledger keeper.old)) (W.taken out.old))
         (outside (stores (S.held shelf.new) (K.ledger keeper.new)) (W.taken out.new)) }
     ensures end { IfOk result IsEnd }
-    ensures files { IfOk result (λ status. RunLeaves (map string_bytes words.now) status (S.held shelf.old) (S.held shelf.new)) }
+    ensures files { IfOk result
+        (λ status. RunLeaves (map string_bytes words.now) status (S.held shelf.old)
+        (S.held shelf.new)) }
     ensures once { Modelled KeepsAnswers (K.ledger keeper.old) (K.ledger keeper.new) }
     ensures keeper { AsksNoKeeper (command_words (map string_bytes words.now))
-        → (K.ledger keeper.new ≡ K.ledger keeper.old) × (K.Keeper.faults keeper.new ≡ K.Keeper.faults keeper.old) }
-    ensures causes { CausesThree OutsideErr.Failed result (S.Shelf.faults shelf.old) (S.Shelf.faults shelf.new)
-        (K.Keeper.faults keeper.old) (K.Keeper.faults keeper.new) (W.Sink.faults out.old) (W.Sink.faults out.new) }
+        → (K.ledger keeper.new ≡ K.ledger keeper.old)
+        × (K.Keeper.faults keeper.new ≡ K.Keeper.faults keeper.old) }
+    ensures causes { CausesThree OutsideErr.Failed result (S.Shelf.faults shelf.old)
+        (S.Shelf.faults shelf.new)
+        (K.Keeper.faults keeper.old) (K.Keeper.faults keeper.new) (W.Sink.faults out.old)
+        (W.Sink.faults out.new) }
 {
     let command = command_of(words);
     match script_of(command) {
@@ -211,8 +239,8 @@ fn perform<S: Shelf, K: Keeper + Drop, W: Sink>(
     }
 }
 
-/// Does what the words say over the shelf and the keeper, prints to the sink, and answers the status: that of
-/// the command, 6 where the outside failed, or 9 for want of memory.
+/// Does what the words say over the shelf and the keeper, prints to the sink, and answers the
+/// status: that of the command, 6 where the outside failed, or 9 for want of memory.
 pub fn run<S: Shelf, K: Keeper + Drop, W: Sink>(
     alloc: Global,
     words: &[String],
@@ -220,45 +248,69 @@ pub fn run<S: Shelf, K: Keeper + Drop, W: Sink>(
     keeper: &mut K,
     out: &mut W,
 ) -> u8
-    ensures done { IfSome (work_on (S.held shelf.old) (K.ledger keeper.old) (map string_bytes words.now))
+    ensures done { IfSome (work_on (S.held shelf.old) (K.ledger keeper.old)
+        (map string_bytes words.now))
         (λ work. result ≢ 6 → result ≢ 9
-        → DoesWork result work (outside (stores (S.held shelf.old) (K.ledger keeper.old)) (W.taken out.old))
+        → DoesWork result work
+        (outside (stores (S.held shelf.old) (K.ledger keeper.old)) (W.taken out.old))
         (outside (stores (S.held shelf.new) (K.ledger keeper.new)) (W.taken out.new))) }
-    ensures stopped { IfSome (work_on (S.held shelf.old) (K.ledger keeper.old) (map string_bytes words.now))
+    ensures stopped { IfSome (work_on (S.held shelf.old) (K.ledger keeper.old)
+        (map string_bytes words.now))
         (λ work. (result ≡ 6) ⊎ (result ≡ 9)
-        → StopsWork work (outside (stores (S.held shelf.old) (K.ledger keeper.old)) (W.taken out.old))
+        → StopsWork work (outside (stores (S.held shelf.old) (K.ledger keeper.old))
+        (W.taken out.old))
         (outside (stores (S.held shelf.new) (K.ledger keeper.new)) (W.taken out.new))) }
 
-    // Of two replies that are accepted for different challenges, an `extract` puts the bids whose outcome
-    // the board publishes, or two openings of one commitment; and it puts such of no others.
-    ensures headline { IfSome (S.held shelf.old) (λ files. Headline files (map string_bytes words.now) result (W.taken out.old) (W.taken out.new)) }
+    // Of two replies that are accepted for different challenges, an `extract` puts the bids whose
+    // outcome the board publishes, or two openings of one commitment; and it puts such of no
+    // others.
+    ensures headline { IfSome (S.held shelf.old)
+        (λ files. Headline files (map string_bytes words.now) result (W.taken out.old)
+        (W.taken out.new)) }
 
-    // What each status of `verify`, `extract`, `confront` and `report` means, by the bytes of the named files.
-    ensures audits { IfSome (S.held shelf.old) (λ files. Audits files (map string_bytes words.now) result (W.taken out.old) (W.taken out.new)) }
+    // What each status of `verify`, `extract`, `confront` and `report` means, by the bytes of the
+    // named files.
+    ensures audits { IfSome (S.held shelf.old)
+        (λ files. Audits files (map string_bytes words.now) result (W.taken out.old)
+        (W.taken out.new)) }
 
-    // Of two replies to a claim file that are accepted for different challenges, a `claim-extract` puts values that open the
-    // seals and of which the file's claim holds, or two openings of one commitment; and it puts such of no others.
-    ensures claim_headline { IfSome (S.held shelf.old) (λ files. ClaimHeadline files (map string_bytes words.now) result (W.taken out.old) (W.taken out.new)) }
+    // Of two replies to a claim file that are accepted for different challenges, a `claim-extract`
+    // puts values that open the seals and of which the file's claim holds, or two openings of one
+    // commitment; and it puts such of no others.
+    ensures claim_headline { IfSome (S.held shelf.old)
+        (λ files. ClaimHeadline files (map string_bytes words.now) result (W.taken out.old)
+        (W.taken out.new)) }
 
-    // What each status of `claim-verify` and `claim-extract` means, by the bytes of the named files.
-    ensures claims { IfSome (S.held shelf.old) (λ files. Claims files (map string_bytes words.now) result (W.taken out.old) (W.taken out.new)) }
+    // What each status of `claim-verify` and `claim-extract` means, by the bytes of the named
+    // files.
+    ensures claims { IfSome (S.held shelf.old)
+        (λ files. Claims files (map string_bytes words.now) result (W.taken out.old)
+        (W.taken out.new)) }
 
     // What each status of `seal` means, and which files it leaves.
-    ensures seals { (order : SealWords) → command_words (map string_bytes words.now) ≡ Some (Seal order) → result ≢ 6 → result ≢ 9
-        → Seals order (S.held shelf.old) (S.held shelf.new) result (W.taken out.old) (W.taken out.new) }
+    ensures seals { (order : SealWords)
+        → command_words (map string_bytes words.now) ≡ Some (Seal order) → result ≢ 6 → result ≢ 9
+        → Seals order (S.held shelf.old) (S.held shelf.new) result (W.taken out.old)
+        (W.taken out.new) }
 
     // Which stable matching a `claim-sample matching` publishes is free, and nothing else is.
-    ensures matching { (number : ℕ) → command_words (map string_bytes words.now) ≡ Some (ClaimSample Matching number)
-        → SamplesMatching number result (outside (stores (S.held shelf.old) (K.ledger keeper.old)) (W.taken out.old))
+    ensures matching { (number : ℕ)
+        → command_words (map string_bytes words.now) ≡ Some (ClaimSample Matching number)
+        → SamplesMatching number result
+        (outside (stores (S.held shelf.old) (K.ledger keeper.old)) (W.taken out.old))
         (outside (stores (S.held shelf.new) (K.ledger keeper.new)) (W.taken out.new)) }
 
-    // What each status of `coin-part`, `coin-join` and `coin-board` means, and which file it leaves: the share that is drawn; the
-    // challenge of the shown bits, each share opening its part; the challenge that a board's bytes give.
-    ensures coins { (order : CoinWords) → command_words (map string_bytes words.now) ≡ Some (Coin order) → result ≢ 6 → result ≢ 9
-        → MakesChallenge order (S.held shelf.old) (S.held shelf.new) result (W.taken out.old) (W.taken out.new) }
+    // What each status of `coin-part`, `coin-join` and `coin-board` means, and which file it
+    // leaves: the share that is drawn; the challenge of the shown bits, each share opening its
+    // part; the challenge that a board's bytes give.
+    ensures coins { (order : CoinWords)
+        → command_words (map string_bytes words.now) ≡ Some (Coin order) → result ≢ 6 → result ≢ 9
+        → MakesChallenge order (S.held shelf.old) (S.held shelf.new) result (W.taken out.old)
+        (W.taken out.new) }
 
-    // Whatever the words and the status, the house does what it does command by command, in a ceremony too, also where that was
-    // stopped: each is a step of the house, a board is that of the auction that is kept, and a reply is accepted with it.
+    // Whatever the words and the status, the house does what it does command by command, in a
+    // ceremony too, also where that was stopped: each is a step of the house, a board is that of
+    // the auction that is kept, and a reply is accepted with it.
     ensures house { IfSome (S.held shelf.old) (λ files. IfSome (K.ledger keeper.old) (λ ledger.
         KeepsHouse files ledger (map string_bytes words.now) result (S.held shelf.new) (K.ledger keeper.new) (W.taken out.old) (W.taken out.new))) }
 
@@ -266,27 +318,32 @@ pub fn run<S: Shelf, K: Keeper + Drop, W: Sink>(
     ensures ceremony { IfSome (S.held shelf.old) (λ files. IfSome (K.ledger keeper.old) (λ ledger.
         HoldsCeremony files ledger (map string_bytes words.now) result (S.held shelf.new) (K.ledger keeper.new) (W.taken out.old) (W.taken out.new))) }
 
-    // Whether or not the keeper is modelled, as a database isn't: what a command of the house, or a ceremony, leaves
-    // of the files. A board is that of some proved auction, and a reply is one to the challenge of the named file.
-    ensures files { result ≢ 6 → result ≢ 9 → RunLeaves (map string_bytes words.now) result (S.held shelf.old) (S.held shelf.new) }
+    // Whether or not the keeper is modelled, as a database isn't: what a command of the house, or a
+    // ceremony, leaves of the files. A board is that of some proved auction, and a reply is one to
+    // the challenge of the named file.
+    ensures files { result ≢ 6 → result ≢ 9
+        → RunLeaves (map string_bytes words.now) result (S.held shelf.old) (S.held shelf.new) }
 
     // Status 2 is that the words are no command.
     ensures usage { IfSome (S.held shelf.old) (λ files. IfSome (K.ledger keeper.old) (λ ledger.
         TellsUsage (map string_bytes words.now) result (W.taken out.old) (W.taken out.new))) }
 
-    // Whatever the words and the status, an auction that was answered is the same after, and one that was proved has its
-    // seed and its seals.
+    // Whatever the words and the status, an auction that was answered is the same after, and one
+    // that was proved has its seed and its seals.
     ensures once { Modelled KeepsAnswers (K.ledger keeper.old) (K.ledger keeper.new) }
 
     // A command that asks no keeper leaves it alone.
     ensures keeper { AsksNoKeeper (command_words (map string_bytes words.now))
-        → (K.ledger keeper.new ≡ K.ledger keeper.old) × (K.Keeper.faults keeper.new ≡ K.Keeper.faults keeper.old) }
+        → (K.ledger keeper.new ≡ K.ledger keeper.old)
+        × (K.Keeper.faults keeper.new ≡ K.Keeper.faults keeper.old) }
 
     // Status 6 comes exactly where a count rose in this call.
     ensures fault { result ≡ 6 → Rose (S.Shelf.faults shelf.old) (S.Shelf.faults shelf.new)
-        ⊎ Rose (K.Keeper.faults keeper.old) (K.Keeper.faults keeper.new) ⊎ Rose (W.Sink.faults out.old) (W.Sink.faults out.new) }
+        ⊎ Rose (K.Keeper.faults keeper.old) (K.Keeper.faults keeper.new)
+        ⊎ Rose (W.Sink.faults out.old) (W.Sink.faults out.new) }
     ensures no_fault { result ≢ 6 → (S.Shelf.faults shelf.new ≡ S.Shelf.faults shelf.old)
-        × (K.Keeper.faults keeper.new ≡ K.Keeper.faults keeper.old) × (W.Sink.faults out.new ≡ W.Sink.faults out.old) }
+        × (K.Keeper.faults keeper.new ≡ K.Keeper.faults keeper.old)
+        × (W.Sink.faults out.new ≡ W.Sink.faults out.old) }
 {
     match perform(alloc, words, shelf, keeper, out) {
         Ok(status) => status,

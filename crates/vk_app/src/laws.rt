@@ -7,26 +7,32 @@ ghost use Rattle.vk_verifier.specs.Acceptance.{Accepts};
 ghost use Rattle.vk_app.specs.Accepted.{ChallengesAreAnswered, DerivedAreAnswered, LeftRepliesAreAccepted, RepliesAreAccepted};
 ghost use Rattle.vk_app.specs.Auctions.{Answers, AreRuns, IsActOf, Proves, Run};
 
-/// A law of every list of runs on one keeper, whatever their words and their statuses and whatever becomes of the files
-/// between them. All that was answered for one auction, by a command or in a ceremony, had the same challenge, and was the
-/// same reply. All boards of it that were left by a `prove` are one. And with that board every such reply is accepted.
+/// A law of every list of runs on one keeper, whatever their words and their statuses and whatever
+/// becomes of the files between them. All that was answered for one auction, by a command or in a
+/// ceremony, had the same challenge, and was the same reply. All boards of it that were left by a
+/// `prove` are one. And with that board every such reply is accepted.
 ///
 /// The first ledger is one (`Keeper::get` and `put` say so of theirs), and each run hands that on.
 pub fn every_answer_of_an_auction_is_the_same()
-    ensures answers { (runs : List Run) (old new : Ledger) (one other : HouseAct) (id given shown next_given next_shown : List ℕ)
+    ensures answers { (runs : List Run) (old new : Ledger) (one other : HouseAct)
+        (id given shown next_given next_shown : List ℕ)
         → IsLedger old → AreRuns runs old new → IsActOf runs one → IsActOf runs other
-        → Answers one id given shown → Answers other id next_given next_shown → (given ≡ next_given) × (shown ≡ next_shown) }
-    ensures boards { (runs : List Run) (old new : Ledger) (one other : HouseAct) (id published next_published : List ℕ)
+        → Answers one id given shown → Answers other id next_given next_shown → (given ≡ next_given)
+        × (shown ≡ next_shown) }
+    ensures boards { (runs : List Run) (old new : Ledger) (one other : HouseAct)
+        (id published next_published : List ℕ)
         → IsLedger old → AreRuns runs old new → IsActOf runs one → IsActOf runs other
         → Proves one id published → Proves other id next_published → published ≡ next_published }
-    ensures accepted { (runs : List Run) (old new : Ledger) (one other : HouseAct) (id published given shown : List ℕ)
+    ensures accepted { (runs : List Run) (old new : Ledger) (one other : HouseAct)
+        (id published given shown : List ℕ)
         → IsLedger old → AreRuns runs old new → IsActOf runs one → IsActOf runs other
         → Proves one id published → Answers other id given shown → Accepts published given shown }
 {}
 
-/// A law: what `answer` writes is accepted with the board of the ledger's auction and the challenge of the file; and where
-/// the keeper isn't modelled, with the board of the auction whose reply is left. And every challenge with a bit for
-/// each lane is answered, so there is none that the auctioneer can't answer: so is the one that its board's bytes give.
+/// A law: what `answer` writes is accepted with the board of the ledger's auction and the challenge
+/// of the file; and where the keeper isn't modelled, with the board of the auction whose reply is
+/// left. And every challenge with a bit for each lane is answered, so there is none that the
+/// auctioneer can't answer: so is the one that its board's bytes give.
 pub fn what_is_answered_is_accepted()
     ensures accepted { RepliesAreAccepted }
     ensures left { LeftRepliesAreAccepted }

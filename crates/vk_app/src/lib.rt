@@ -1,5 +1,5 @@
-//! The top call: what the words of a command line do, over any shelf of files, any keeper of auctions and any
-//! sink of text.
+//! The top call: what the words of a command line do, over any shelf of files, any keeper of
+//! auctions and any sink of text.
 #![tactic(auto)]
 
 mod command;

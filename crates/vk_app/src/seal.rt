@@ -53,7 +53,8 @@ fn made(
     secret: &Secret,
     seal: &Seal,
 ) -> Result<Deed, NoMemory>
-    ensures { IfOk result (λ deed. deed ≡ made_deed (seal_seen order.now) (Ok (secret.now, seal.now))) }
+    ensures { IfOk result (λ deed. deed
+        ≡ made_deed (seal_seen order.now) (Ok (secret.now, seal.now))) }
 {
     let secret = secret_text(alloc, secret)?;
     let seal = seal_text(alloc, seal)?;
@@ -66,7 +67,8 @@ fn made(
 #[tactic(auto, unfolding(crate::specs::Sealing::seal_made))]
 fn make(alloc: Global, order: &SealOrder<'_>) -> Result<Deed, NoMemory>
     requires { IsSealOrder (seal_seen order.now) }
-    ensures { IfOk result (λ deed. deed ≡ made_deed (seal_seen order.now) (seal_made (seal_seen order.now))) }
+    ensures { IfOk result (λ deed. deed
+        ≡ made_deed (seal_seen order.now) (seal_made (seal_seen order.now))) }
 {
     let stream = 65536 + u64::from(order.seat);
     let mut words = ChaChaWords::of(&order.seed, &order.auction, stream);
@@ -83,8 +85,8 @@ fn make(alloc: Global, order: &SealOrder<'_>) -> Result<Deed, NoMemory>
     deed
 }
 
-/// What comes of a seal that was made, or of why none was. Only a seal that was made takes memory: a refusal is told
-/// as it is.
+/// What comes of a seal that was made, or of why none was. Only a seal that was made takes memory:
+/// a refusal is told as it is.
 fn told(
     alloc: Global,
     order: &SealOrder<'_>,
@@ -111,8 +113,10 @@ pub fn seal<S: Shelf>(
 ) -> Result<Said, OutsideErr>
     requires { IsSealOrder (seal_seen order.now) }
     ensures acts { (ledger : Option Ledger) → IfSome (seal_on ledger (seal_seen order.now))
-        (λ effect. Acts result effect (stores (S.held shelf.old) ledger) (stores (S.held shelf.new) ledger)) }
-    ensures causes { Causes OutsideErr.Failed result (S.Shelf.faults shelf.old) (S.Shelf.faults shelf.new) }
+        (λ effect. Acts result effect (stores (S.held shelf.old) ledger)
+        (stores (S.held shelf.new) ledger)) }
+    ensures causes { Causes OutsideErr.Failed result (S.Shelf.faults shelf.old)
+        (S.Shelf.faults shelf.new) }
 {
     let deed = make(alloc, order)?;
     let said = deed.done(alloc, shelf)?;

@@ -26,21 +26,31 @@ use Rattle.vk_auctioneer.specs.Effects.{Writes, asked, effect_by, if_read, on_bo
 
 -- ---- files
 
-no_files_left : (T : Type 0) (stop : OutsideErr) (held now : Option Files) → Modelled (Leaves {T = T} [] (Err stop)) held now → now ≡ held
+no_files_left : (T : Type 0) (stop : OutsideErr) (held now : Option Files)
+    → Modelled (Leaves {T = T} [] (Err stop)) held now → now ≡ held
 no_files_left T stop None now left = left
 no_files_left T stop (Some files) None left = absurd left
 no_files_left T stop (Some files) (Some later) left = ap Some left
 
 -- a file that was written in pieces holds the text that they make
-pub text_done : (name text : List ℕ) (pieces : List (List ℕ)) (said : SaidValue) (held now : Option Files) → concat pieces ≡ text → Modelled (WritesAll {E = OutsideErr} ((name, concat pieces) ∷ []) (Ok tt)) held now → Modelled (Leaves ((name, text) ∷ []) (Ok said)) held now
-text_done name text pieces said held now is left = subst (λ t. Modelled (Leaves ((name, t) ∷ []) (Ok said)) held now) is left
+pub text_done : (name text : List ℕ) (pieces : List (List ℕ)) (said : SaidValue)
+    (held now : Option Files) → concat pieces ≡ text
+    → Modelled (WritesAll {E = OutsideErr} ((name, concat pieces) ∷ []) (Ok tt)) held now
+    → Modelled (Leaves ((name, text) ∷ []) (Ok said)) held now
+text_done name text pieces said held now is left =
+    subst (λ t. Modelled (Leaves ((name, t) ∷ []) (Ok said)) held now) is left
 
 -- one whose writing was stopped holds a part of it
-pub text_stopped : (name text : List ℕ) (pieces : List (List ℕ)) (stop : OutsideErr) (held now : Option Files) → concat pieces ≡ text → Modelled (WritesAll ((name, concat pieces) ∷ []) (Err stop)) held now → Modelled (Leaves {T = SaidValue} ((name, text) ∷ []) (Err stop)) held now
-text_stopped name text pieces stop held now is left = subst (λ t. Modelled (Leaves {T = SaidValue} ((name, t) ∷ []) (Err stop)) held now) is left
+pub text_stopped : (name text : List ℕ) (pieces : List (List ℕ)) (stop : OutsideErr)
+    (held now : Option Files) → concat pieces ≡ text
+    → Modelled (WritesAll ((name, concat pieces) ∷ []) (Err stop)) held now
+    → Modelled (Leaves {T = SaidValue} ((name, text) ∷ []) (Err stop)) held now
+text_stopped name text pieces stop held now is left =
+    subst (λ t. Modelled (Leaves {T = SaidValue} ((name, t) ∷ []) (Err stop)) held now) is left
 
 -- where no file is written all files stay
-pub leaves_same : {T : Type 0} (answer : Result T OutsideErr) (held : Option Files) → Modelled (Leaves [] answer) held held
+pub leaves_same : {T : Type 0} (answer : Result T OutsideErr) (held : Option Files)
+    → Modelled (Leaves [] answer) held held
 leaves_same answer None = refl
 leaves_same (Ok done) (Some files) = refl
 leaves_same (Err stop) (Some files) = refl
@@ -48,41 +58,67 @@ leaves_same (Err stop) (Some files) = refl
 -- ---- a call of the house
 
 -- a call that is a step
-acts_here : (files_of : HouseReply → Writes) (command : HouseCommand) (reply : HouseReply) (new : Ledger) (held now : Option Files) (old : Option Ledger) (answer : Result SaidValue OutsideErr) → Says command reply answer → Modelled (Leaves (files_of reply) answer) held now
-    → Acts answer (effect_by files_of command (reply, new)) (stores held old) (stores now (Some new))
-acts_here files_of command reply new held now old (Ok said) says left =
-    (says.1, ap (λ files. stores files (Some new)) (told_map (written (files_of reply)) held now left))
+acts_here : (files_of : HouseReply → Writes) (command : HouseCommand) (reply : HouseReply)
+    (new : Ledger) (held now : Option Files) (old : Option Ledger)
+    (answer : Result SaidValue OutsideErr) → Says command reply answer
+    → Modelled (Leaves (files_of reply) answer) held now
+    → Acts answer (effect_by files_of command (reply, new)) (stores held old)
+    (stores now (Some new))
+acts_here files_of command reply new held now old (Ok said) says left = (
+  says.1,
+  ap (λ files. stores files (Some new))
+      (told_map (written (files_of reply)) held now left),
+)
 acts_here files_of command reply new held now old (Err stop) says left = inr (refl, left)
 
 -- a call that changed nothing
-stopped_here : (files_of : HouseReply → Writes) (command : HouseCommand) (refusal : HouseErr) (effect : Effect) (held now : Option Files) (old new : Ledger) (stop : OutsideErr) → files_of (Refused refusal) ≡ [] → new ≡ old → Modelled (Leaves {T = SaidValue} (files_of (Refused refusal)) (Err stop)) held now
+stopped_here : (files_of : HouseReply → Writes) (command : HouseCommand) (refusal : HouseErr)
+    (effect : Effect) (held now : Option Files) (old new : Ledger) (stop : OutsideErr)
+    → files_of (Refused refusal) ≡ [] → new ≡ old
+    → Modelled (Leaves {T = SaidValue} (files_of (Refused refusal)) (Err stop)) held now
     → Acts (Err stop) effect (stores held (Some old)) (stores now (Some new))
 stopped_here files_of command refusal effect held now old new stop none same left =
-    inl (ap (λ files. stores files (Some new)) (no_files_left SaidValue stop held now (subst (λ writes. Modelled (Leaves {T = SaidValue} writes (Err stop)) held now) none left))
+    inl (ap (λ files. stores files (Some new))
+    (no_files_left SaidValue stop held now
+    (subst (λ writes. Modelled (Leaves {T = SaidValue} writes (Err stop)) held now) none left))
     ∙ ap (λ ledger. stores held (Some ledger)) same)
 
-call_acts : (files_of : HouseReply → Writes) (command : HouseCommand) (reply : HouseReply) (held now : Option Files) (old new : Ledger) (answer : Result SaidValue OutsideErr) → ((refusal : HouseErr) → files_of (Refused refusal) ≡ []) → HouseCall old command reply new → Says command reply answer → Modelled (Leaves (files_of reply) answer) held now
+call_acts : (files_of : HouseReply → Writes) (command : HouseCommand) (reply : HouseReply)
+    (held now : Option Files) (old new : Ledger) (answer : Result SaidValue OutsideErr)
+    → ((refusal : HouseErr) → files_of (Refused refusal) ≡ []) → HouseCall old command reply new
+    → Says command reply answer → Modelled (Leaves (files_of reply) answer) held now
     → Acts answer (asked files_of old command) (stores held (Some old)) (stores now (Some new))
-call_acts files_of command (Refused KeeperFailed) held now old new (Ok said) none call says left = absurd says.0
-call_acts files_of command (Refused NoMemory) held now old new (Ok said) none call says left = absurd says.0
+call_acts files_of command (Refused KeeperFailed) held now old new (Ok said) none call says left =
+    absurd says.0
+call_acts files_of command (Refused NoMemory) held now old new (Ok said) none call says left =
+    absurd says.0
 call_acts files_of command (Refused KeeperFailed) held now old new (Err stop) none call says left =
-    stopped_here files_of command KeeperFailed (asked files_of old command) held now old new stop (none KeeperFailed) call left
+    stopped_here files_of command KeeperFailed (asked files_of old command) held now old new stop
+    (none KeeperFailed) call left
 call_acts files_of command (Refused NoMemory) held now old new (Err stop) none call says left =
-    stopped_here files_of command NoMemory (asked files_of old command) held now old new stop (none NoMemory) call left
+    stopped_here files_of command NoMemory (asked files_of old command) held now old new stop
+    (none NoMemory) call left
 call_acts files_of command reply held now old new answer none call says left =
-    subst (λ step. Acts answer (effect_by files_of command step) (stores held (Some old)) (stores now (Some new))) (sym call)
+    subst (λ step. Acts answer (effect_by files_of command step) (stores held (Some old))
+    (stores now (Some new))) (sym call)
     (acts_here files_of command reply new held now (Some old) answer says left)
 
 -- a command that asked the house, and wrote the files of its reply
-pub asked_acts : (files_of : HouseReply → Writes) (command : HouseCommand) (reply : HouseReply) (held now : Option Files) (old new : Option Ledger) (answer : Result SaidValue OutsideErr) → ((refusal : HouseErr) → files_of (Refused refusal) ≡ []) → MakesCall command reply old new → Says command reply answer → Modelled (Leaves (files_of reply) answer) held now
-    → IfSome (on_ledger (λ kept. asked files_of kept command) old) (λ effect. Acts answer effect (stores held old) (stores now new))
+pub asked_acts : (files_of : HouseReply → Writes) (command : HouseCommand) (reply : HouseReply)
+    (held now : Option Files) (old new : Option Ledger) (answer : Result SaidValue OutsideErr)
+    → ((refusal : HouseErr) → files_of (Refused refusal) ≡ []) → MakesCall command reply old new
+    → Says command reply answer → Modelled (Leaves (files_of reply) answer) held now
+    → IfSome (on_ledger (λ kept. asked files_of kept command) old)
+    (λ effect. Acts answer effect (stores held old) (stores now new))
 asked_acts files_of command reply held now None new answer none calls says left = tt
-asked_acts files_of command reply held now (Some old) None answer none calls says left = absurd calls
+asked_acts files_of command reply held now (Some old) None answer none calls says left =
+    absurd calls
 asked_acts files_of command reply held now (Some old) (Some new) answer none calls says left =
     call_acts files_of command reply held now old new answer none calls says left
 
 -- no auction that is proved or answered is another one after a call
-pub calls_keep : (command : HouseCommand) (reply : HouseReply) (old new : Option Ledger) → MakesCall command reply old new → Modelled KeepsAnswers old new
+pub calls_keep : (command : HouseCommand) (reply : HouseReply) (old new : Option Ledger)
+    → MakesCall command reply old new → Modelled KeepsAnswers old new
 calls_keep command reply None new calls = calls
 calls_keep command reply (Some old) None calls = absurd calls
 calls_keep command reply (Some old) (Some new) calls = call_keeps old new command reply calls
@@ -90,26 +126,41 @@ calls_keep command reply (Some old) (Some new) calls = call_keeps old new comman
 -- ---- what was read before
 
 -- a file that the command is given was not read
-unread_here : {X : Type 0} (effect : X → Effect) (ledger : Ledger) (files : Files) (refusal : Unread) (read : Result X SaidValue) → Gives {T = X} said_of_unread (λ x. x) (Err refusal) read
-    → Acts (said_or_stopped refusal) (if_read ledger effect read) (stores (Some files) (Some ledger)) (stores (Some files) (Some ledger))
+unread_here : {X : Type 0} (effect : X → Effect) (ledger : Ledger) (files : Files)
+    (refusal : Unread) (read : Result X SaidValue)
+    → Gives {T = X} said_of_unread (λ x. x) (Err refusal) read
+    → Acts (said_or_stopped refusal) (if_read ledger effect read)
+    (stores (Some files) (Some ledger)) (stores (Some files) (Some ledger))
 unread_here effect ledger files (unread.Said said) read is =
-    subst (λ r. Acts (Ok said) (if_read ledger effect r) (stores (Some files) (Some ledger)) (stores (Some files) (Some ledger))) (sym is) (refl, refl)
+    subst (λ r. Acts (Ok said) (if_read ledger effect r) (stores (Some files) (Some ledger))
+    (stores (Some files) (Some ledger))) (sym is) (refl, refl)
 unread_here effect ledger files unread.Failed read is = inl refl
 unread_here effect ledger files unread.NoMemory read is = inl refl
 
-pub unread_acts : {X : Type 0} (effect : Ledger → X → Effect) (read : Files → Result X SaidValue) (refusal : Unread) (held now : Option Files) (ledger : Option Ledger) → now ≡ held → IfSome held (λ files. Gives {T = X} said_of_unread (λ x. x) (Err refusal) (read files))
-    → IfSome (on_both (λ files kept. if_read kept (effect kept) (read files)) held ledger) (λ whole. Acts (said_or_stopped refusal) whole (stores held ledger) (stores now ledger))
+pub unread_acts : {X : Type 0} (effect : Ledger → X → Effect) (read : Files → Result X SaidValue)
+    (refusal : Unread) (held now : Option Files) (ledger : Option Ledger) → now ≡ held
+    → IfSome held (λ files. Gives {T = X} said_of_unread (λ x. x) (Err refusal) (read files))
+    → IfSome (on_both (λ files kept. if_read kept (effect kept) (read files)) held ledger)
+    (λ whole. Acts (said_or_stopped refusal) whole (stores held ledger) (stores now ledger))
 unread_acts effect read refusal None now ledger same is = tt
 unread_acts effect read refusal (Some files) now None same is = tt
 unread_acts effect read refusal (Some files) now (Some ledger) same is =
-    subst (λ left. Acts (said_or_stopped refusal) (if_read ledger (effect ledger) (read files)) (stores (Some files) (Some ledger)) (stores left (Some ledger))) (sym same)
+    subst (λ left. Acts (said_or_stopped refusal) (if_read ledger (effect ledger) (read files))
+    (stores (Some files) (Some ledger)) (stores left (Some ledger))) (sym same)
     (unread_here (effect ledger) ledger files refusal (read files) is)
 
 -- it was read, which changed nothing, and the command went on by what it says
-pub read_acts : {X : Type 0} (effect : Ledger → X → Effect) (read : Files → Result X SaidValue) (x : X) (held between now : Option Files) (old new : Option Ledger) (answer : Result SaidValue OutsideErr) → between ≡ held → IfSome held (λ files. Gives said_of_unread (λ x. x) (Ok x) (read files)) → IfSome (on_ledger (λ kept. effect kept x) old) (λ whole. Acts answer whole (stores between old) (stores now new))
-    → IfSome (on_both (λ files kept. if_read kept (effect kept) (read files)) held old) (λ whole. Acts answer whole (stores held old) (stores now new))
+pub read_acts : {X : Type 0} (effect : Ledger → X → Effect) (read : Files → Result X SaidValue)
+    (x : X) (held between now : Option Files) (old new : Option Ledger)
+    (answer : Result SaidValue OutsideErr) → between ≡ held
+    → IfSome held (λ files. Gives said_of_unread (λ x. x) (Ok x) (read files))
+    → IfSome (on_ledger (λ kept. effect kept x) old)
+    (λ whole. Acts answer whole (stores between old) (stores now new))
+    → IfSome (on_both (λ files kept. if_read kept (effect kept) (read files)) held old)
+    (λ whole. Acts answer whole (stores held old) (stores now new))
 read_acts effect read x None between now old new answer same is acts = tt
 read_acts effect read x (Some files) between now None new answer same is acts = tt
 read_acts effect read x (Some files) between now (Some old) new answer same is acts =
-    subst (λ r. Acts answer (if_read old (effect old) r) (stores (Some files) (Some old)) (stores now new)) (sym is)
+    subst (λ r. Acts answer (if_read old (effect old) r) (stores (Some files) (Some old))
+    (stores now new)) (sym is)
     (subst (λ left. Acts answer (effect old x) (stores left (Some old)) (stores now new)) same acts)

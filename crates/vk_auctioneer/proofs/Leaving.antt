@@ -27,18 +27,23 @@ use Rattle.vk_auctioneer.proofs.Reading.{challenge_refused, reads_challenge}
 -- ---- one end
 
 -- all files stay, and the command was not done
-files_refused : (words : HouseWords) (said : SaidValue) (old new : Files) → said.status ≢ 0 → new ≡ old → LeavesFiles words said.status old new
-files_refused words said old new not_done same = record { done = λ is_done. absurd (not_done is_done); refused = λ _. same }
+files_refused : (words : HouseWords) (said : SaidValue) (old new : Files) → said.status ≢ 0
+    → new ≡ old → LeavesFiles words said.status old new
+files_refused words said old new not_done same =
+    record { done = λ is_done. absurd (not_done is_done); refused = λ _. same }
 
 -- it was done
-files_done : (words : HouseWords) (said : SaidValue) (old new : Files) → said.status ≡ 0 → LeavesDone words old new → LeavesFiles words said.status old new
-files_done words said old new is_done left = record { done = λ _. left; refused = λ not_done. absurd (not_done is_done) }
+files_done : (words : HouseWords) (said : SaidValue) (old new : Files) → said.status ≡ 0
+    → LeavesDone words old new → LeavesFiles words said.status old new
+files_done words said old new is_done left =
+    record { done = λ _. left; refused = λ not_done. absurd (not_done is_done) }
 
 -- a command whose files stay however it ends
 abbrev pub WritesNone : HouseWords → Type 0
 WritesNone words = (old new : Files) → new ≡ old → LeavesDone words old new
 
-pub files_stay : (words : HouseWords) (answer : Result SaidValue OutsideErr) (held now : Option Files) → WritesNone words → now ≡ held → LeavesAsSaid words answer held now
+pub files_stay : (words : HouseWords) (answer : Result SaidValue OutsideErr)
+    (held now : Option Files) → WritesNone words → now ≡ held → LeavesAsSaid words answer held now
 files_stay words answer None now none same = same
 files_stay words answer (Some old) None none same = cc
 files_stay words (Err stop) (Some old) (Some new) none same = tt
@@ -52,26 +57,44 @@ files_stay words (Ok said) (Some old) (Some new) none same =
 abbrev pub AreProved : Result JobValue HouseErr → Type 0
 AreProved answer = IfOk answer (λ job. IsProvedAuction job.auction)
 
-pub board_left : (id seed board : List ℕ) (answer : Result JobValue HouseErr) (result : Result SaidValue OutsideErr) (held now : Option Files) → Says (house.Prove id seed) (as_reply work_of answer) result → Modelled (Leaves (board_file board (as_reply work_of answer)) result) held now
-    → IfOk answer (λ job. job.auction.id ≡ id) → IfOk answer (λ job. seed_of job.auction.phase ≡ Some seed) → AreProved answer → LeavesAsSaid (Prove id seed board) result held now
+pub board_left : (id seed board : List ℕ) (answer : Result JobValue HouseErr)
+    (result : Result SaidValue OutsideErr) (held now : Option Files)
+    → Says (house.Prove id seed) (as_reply work_of answer) result
+    → Modelled (Leaves (board_file board (as_reply work_of answer)) result) held now
+    → IfOk answer (λ job. job.auction.id ≡ id)
+    → IfOk answer (λ job. seed_of job.auction.phase ≡ Some seed) → AreProved answer
+    → LeavesAsSaid (Prove id seed board) result held now
 board_left id seed board answer result None now says left id_is seed_is proved = left
 board_left id seed board answer result (Some old) None says left id_is seed_is proved = absurd left
 board_left id seed board answer (Err stop) (Some old) (Some new) says left id_is seed_is proved = tt
 board_left id seed board (Ok job) (Ok said) (Some old) (Some new) says left id_is seed_is proved =
     files_done (Prove id seed board) said old new (ap (λ (s : SaidValue). s.status) says.1)
     (job.auction, record { id_is = id_is; proved = proved; seed_is = seed_is; files_are = left })
-board_left id seed board (Err refusal) (Ok said) (Some old) (Some new) says left id_is seed_is proved =
-    files_refused (Prove id seed board) said old new (λ is_done. omega (arith, ap (λ (s : SaidValue). s.status) says.1, is_done)) left
+board_left id seed board (Err refusal) (Ok said) (Some old) (Some new) says left id_is seed_is
+    proved =
+    files_refused (Prove id seed board) said old new
+    (λ is_done. omega (arith, ap (λ (s : SaidValue). s.status) says.1, is_done)) left
 
 -- ---- `answer`
 
-pub reply_left : (id name reply : List ℕ) (challenge : Challenge) (answer : Result JobValue HouseErr) (result : Result SaidValue OutsideErr) (held now : Option Files) → Says (house.Answer id challenge) (as_reply work_of answer) result → Modelled (Leaves (reply_file reply challenge (as_reply work_of answer)) result) held now
-    → IfOk answer (λ job. job.auction.id ≡ id) → IfOk answer (λ job. challenge_of job.auction.phase ≡ Some challenge) → AreProved answer → IfSome held (λ files. IsText files name challenge) → LeavesAsSaid (Answer id name reply) result held now
-reply_left id name reply challenge answer result None now says left id_is answered proved text = left
-reply_left id name reply challenge answer result (Some old) None says left id_is answered proved text = absurd left
-reply_left id name reply challenge answer (Err stop) (Some old) (Some new) says left id_is answered proved text = tt
-reply_left id name reply challenge (Ok job) (Ok said) (Some old) (Some new) says left id_is answered proved text =
-    let bits = subst (λ found. IfSome found (λ (c : Challenge). length c.bits ≡ job.auction.lanes)) answered proved.right.held.bits in
+pub reply_left : (id name reply : List ℕ) (challenge : Challenge)
+    (answer : Result JobValue HouseErr) (result : Result SaidValue OutsideErr)
+    (held now : Option Files) → Says (house.Answer id challenge) (as_reply work_of answer) result
+    → Modelled (Leaves (reply_file reply challenge (as_reply work_of answer)) result) held now
+    → IfOk answer (λ job. job.auction.id ≡ id)
+    → IfOk answer (λ job. challenge_of job.auction.phase ≡ Some challenge) → AreProved answer
+    → IfSome held (λ files. IsText files name challenge)
+    → LeavesAsSaid (Answer id name reply) result held now
+reply_left id name reply challenge answer result None now says left id_is answered proved text =
+    left
+reply_left id name reply challenge answer result (Some old) None says left id_is answered proved
+    text = absurd left
+reply_left id name reply challenge answer (Err stop) (Some old) (Some new) says left id_is answered
+    proved text = tt
+reply_left id name reply challenge (Ok job) (Ok said) (Some old) (Some new) says left id_is answered
+    proved text =
+    let bits = subst (λ found. IfSome found (λ (c : Challenge). length c.bits ≡ job.auction.lanes))
+    answered proved.right.held.bits in
     files_done (Answer id name reply) said old new (ap (λ (s : SaidValue). s.status) says.1) (
       job.auction,
       (
@@ -86,22 +109,36 @@ reply_left id name reply challenge (Ok job) (Ok said) (Some old) (Some new) says
         },
       ),
     )
-reply_left id name reply challenge (Err refusal) (Ok said) (Some old) (Some new) says left id_is answered proved text =
-    files_refused (Answer id name reply) said old new (λ is_done. omega (arith, ap (λ (s : SaidValue). s.status) says.1, is_done)) left
+reply_left id name reply challenge (Err refusal) (Ok said) (Some old) (Some new) says left id_is
+    answered proved text =
+    files_refused (Answer id name reply) said old new
+    (λ is_done. omega (arith, ap (λ (s : SaidValue). s.status) says.1, is_done)) left
 
 -- its challenge was read, which left all files, and the command went on
-text_read : (name : List ℕ) (challenge : Challenge) (files : Option Files) → IfSome files (λ f. challenge_in f name ≡ Ok challenge) → IfSome files (λ f. IsText f name challenge)
+text_read : (name : List ℕ) (challenge : Challenge) (files : Option Files)
+    → IfSome files (λ f. challenge_in f name ≡ Ok challenge)
+    → IfSome files (λ f. IsText f name challenge)
 text_read name challenge None read = tt
 text_read name challenge (Some f) read = ((reads_challenge f name).read challenge).0 read
 
-pub after_reading : (words : HouseWords) (name : List ℕ) (challenge : Challenge) (answer : Result SaidValue OutsideErr) (held between now : Option Files) → between ≡ held → IfSome held (λ files. challenge_in files name ≡ Ok challenge) → (IfSome between (λ files. IsText files name challenge) → LeavesAsSaid words answer between now) → LeavesAsSaid words answer held now
+pub after_reading : (words : HouseWords) (name : List ℕ) (challenge : Challenge)
+    (answer : Result SaidValue OutsideErr) (held between now : Option Files) → between ≡ held
+    → IfSome held (λ files. challenge_in files name ≡ Ok challenge)
+    → (IfSome between (λ files. IsText files name challenge)
+    → LeavesAsSaid words answer between now) → LeavesAsSaid words answer held now
 after_reading words name challenge answer held between now same read left =
-    subst (λ files. LeavesAsSaid words answer files now) same (left (text_read name challenge between (subst (λ files. IfSome files (λ f. challenge_in f name ≡ Ok challenge)) (sym same) read)))
+    subst (λ files. LeavesAsSaid words answer files now) same
+    (left (text_read name challenge between
+    (subst (λ files. IfSome files (λ f. challenge_in f name ≡ Ok challenge)) (sym same) read)))
 
 -- it wasn't read
-pub unread_left : (words : HouseWords) (name : List ℕ) (refusal : Unread) (held now : Option Files) → now ≡ held → IfSome held (λ files. Gives {T = Challenge} said_of_unread (λ x. x) (Err refusal) (challenge_in files name)) → LeavesAsSaid words (said_or_stopped refusal) held now
+pub unread_left : (words : HouseWords) (name : List ℕ) (refusal : Unread) (held now : Option Files)
+    → now ≡ held → IfSome held
+    (λ files. Gives {T = Challenge} said_of_unread (λ x. x) (Err refusal) (challenge_in files name))
+    → LeavesAsSaid words (said_or_stopped refusal) held now
 unread_left words name refusal None now same is = same
 unread_left words name refusal (Some old) None same is = cc
-unread_left words name (unread.Said said) (Some old) (Some new) same is = files_refused words said old new (challenge_refused old name said is) (same_Some new old same)
+unread_left words name (unread.Said said) (Some old) (Some new) same is =
+    files_refused words said old new (challenge_refused old name said is) (same_Some new old same)
 unread_left words name unread.Failed (Some old) (Some new) same is = tt
 unread_left words name unread.NoMemory (Some old) (Some new) same is = tt

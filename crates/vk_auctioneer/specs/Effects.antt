@@ -34,7 +34,8 @@ reply_file name challenge _ = []
 
 -- the effect of a reply and of the ledger that is left with it
 abbrev pub effect_by : (HouseReply → Writes) → HouseCommand → HouseReply × Ledger → Effect
-effect_by written command step = writes_and_says (Some step.1) (written step.0) (reply_said command step.0)
+effect_by written command step =
+    writes_and_says (Some step.1) (written step.0) (reply_said command step.0)
 
 -- the effect of asking a house this: its reply is said, and files are written of it
 abbrev pub asked : (HouseReply → Writes) → Ledger → HouseCommand → Effect
@@ -51,18 +52,21 @@ abbrev pub announce_effect : Ledger → (id : List ℕ) (width lanes : ℕ) → 
 announce_effect ledger id width lanes = asked no_file ledger (house.Announce id width lanes)
 
 abbrev pub announce_reserve_effect : Ledger → (id : List ℕ) (width lanes reserve : ℕ) → Effect
-announce_reserve_effect ledger id width lanes reserve = asked no_file ledger (house.AnnounceReserve id width lanes reserve)
+announce_reserve_effect ledger id width lanes reserve =
+    asked no_file ledger (house.AnnounceReserve id width lanes reserve)
 
 abbrev pub submit_effect : Files → Ledger → (id seal secret : List ℕ) → Effect
 submit_effect files ledger id seal secret =
-    if_read ledger (λ row. asked no_file ledger (house.Submit id row.seal row.secret)) (row_in files seal secret)
+    if_read ledger (λ row. asked no_file ledger (house.Submit id row.seal row.secret))
+    (row_in files seal secret)
 
 abbrev pub prove_effect : Ledger → (id seed board : List ℕ) → Effect
 prove_effect ledger id seed board = asked (board_file board) ledger (house.Prove id seed)
 
 abbrev pub answer_effect : Files → Ledger → (id challenge reply : List ℕ) → Effect
 answer_effect files ledger id challenge reply =
-    if_read ledger (λ given. asked (reply_file reply given) ledger (house.Answer id given)) (challenge_in files challenge)
+    if_read ledger (λ given. asked (reply_file reply given) ledger (house.Answer id given))
+    (challenge_in files challenge)
 
 abbrev pub show_effect : Ledger → List ℕ → Effect
 show_effect ledger id = asked no_file ledger (house.Show id)
@@ -79,9 +83,14 @@ on_both effect files ledger = option_and_then (λ held. on_ledger (effect held) 
 
 -- the effect of a command of the house
 abbrev pub house_effect : Option Files → Option Ledger → HouseWords → Option Effect
-house_effect files ledger (Announce id width lanes) = on_ledger (λ kept. announce_effect kept id width lanes) ledger
-house_effect files ledger (AnnounceReserve id width lanes reserve) = on_ledger (λ kept. announce_reserve_effect kept id width lanes reserve) ledger
-house_effect files ledger (Submit id seal secret) = on_both (λ held kept. submit_effect held kept id seal secret) files ledger
-house_effect files ledger (Prove id seed board) = on_ledger (λ kept. prove_effect kept id seed board) ledger
-house_effect files ledger (Answer id challenge reply) = on_both (λ held kept. answer_effect held kept id challenge reply) files ledger
+house_effect files ledger (Announce id width lanes) =
+    on_ledger (λ kept. announce_effect kept id width lanes) ledger
+house_effect files ledger (AnnounceReserve id width lanes reserve) =
+    on_ledger (λ kept. announce_reserve_effect kept id width lanes reserve) ledger
+house_effect files ledger (Submit id seal secret) =
+    on_both (λ held kept. submit_effect held kept id seal secret) files ledger
+house_effect files ledger (Prove id seed board) =
+    on_ledger (λ kept. prove_effect kept id seed board) ledger
+house_effect files ledger (Answer id challenge reply) =
+    on_both (λ held kept. answer_effect held kept id challenge reply) files ledger
 house_effect files ledger (Show id) = on_ledger (λ kept. show_effect kept id) ledger

@@ -10,8 +10,8 @@ use Rattle.vk_keeper.specs.declared.auction.SealRow.{SealRow}
 use Rattle.vk_effect.specs.Effects.{SaidValue}
 use Rattle.vk_effect.specs.Reading.{begun_in, named_in, value_in}
 
--- the seal and the secret that `submit` names; or what is said of the first of these tests that fails: both files are
--- held and not too long, then both are of their forms
+-- the seal and the secret that `submit` names; or what is said of the first of these tests that
+-- fails: both files are held and not too long, then both are of their forms
 unfoldable pub row_in : Files → (seal_name secret_name : List ℕ) → Result SealRow SaidValue
 row_in files seal_name secret_name = do
   seal_file ← begun_in seal_name (get files seal_name)

@@ -27,11 +27,12 @@ use Rattle.vk_auctioneer.specs.Inputs.{challenge_in, row_in}
 
 -- ---- what the words ask
 
--- words by which the house may be asked: the id has 16 bytes and the seed 32, and an auction may have the width and
--- the lanes, and the reserve
+-- words by which the house may be asked: the id has 16 bytes and the seed 32, and an auction may
+-- have the width and the lanes, and the reserve
 abbrev pub AreHouseWords : HouseWords → Type 0
 AreHouseWords (Announce id width lanes) = AreBytes 16 id × IsSize width lanes
-AreHouseWords (AnnounceReserve id width lanes reserve) = AreBytes 16 id × IsSize width lanes × (reserve < 2 ^ width)
+AreHouseWords (AnnounceReserve id width lanes reserve) = AreBytes 16 id × IsSize width lanes
+    × (reserve < 2 ^ width)
 AreHouseWords (Submit id seal secret) = AreBytes 16 id
 AreHouseWords (Prove id seed board) = AreBytes 16 id × AreBytes 32 seed
 AreHouseWords (Answer id challenge reply) = AreBytes 16 id
@@ -50,10 +51,11 @@ pub record AreTexts (files : Files) (seal_name secret_name : List ℕ) (row : Se
 abbrev pub IsText : Files → List ℕ → Challenge → Type 0
 IsText files name challenge = IsFileOf IsChallenge challenge_text files name challenge
 
--- a seal and a secret are read exactly where the files hold their texts. Otherwise the first of these tests that fails
--- is said
+-- a seal and a secret are read exactly where the files hold their texts. Otherwise the first of
+-- these tests that fails is said
 pub record ReadsRow (files : Files) (seal_name secret_name : List ℕ) : Type 0 where
-  pub read : (row : SealRow) → (row_in files seal_name secret_name ≡ Ok row) ↔ AreTexts files seal_name secret_name row
+  pub read : (row : SealRow) → (row_in files seal_name secret_name ≡ Ok row)
+      ↔ AreTexts files seal_name secret_name row
   pub said : result_err (row_in files seal_name secret_name) ≡ first_of
       (unheld_said seal_name (get files seal_name)
       ∷ unheld_said secret_name (get files secret_name)
@@ -63,7 +65,8 @@ pub record ReadsRow (files : Files) (seal_name secret_name : List ℕ) : Type 0 
 
 -- and so is a challenge
 pub record ReadsChallenge (files : Files) (name : List ℕ) : Type 0 where
-  pub read : (challenge : Challenge) → (challenge_in files name ≡ Ok challenge) ↔ IsText files name challenge
+  pub read : (challenge : Challenge) → (challenge_in files name ≡ Ok challenge)
+      ↔ IsText files name challenge
   pub said : result_err (challenge_in files name) ≡ first_of
       (unheld_said name (get files name)
       ∷ faulty_said challenge_table name (get files name)
@@ -89,9 +92,10 @@ BoardsAreWritten =
     → (prove_effect ledger id seed board).status ≡ 0
     → (auction : Auction) × WritesBoard id seed board (prove_effect ledger id seed board) auction
 
--- the effect of `answer`: it leaves an auction that is proved and has answered the challenge of the named file, and
--- writes its reply to that challenge
-pub record WritesReply (files : Files) (id challenge_name reply : List ℕ) (effect : Effect) (auction : Auction) (challenge : Challenge) : Type 0 where
+-- the effect of `answer`: it leaves an auction that is proved and has answered the challenge of the
+-- named file, and writes its reply to that challenge
+pub record WritesReply (files : Files) (id challenge_name reply : List ℕ) (effect : Effect)
+    (auction : Auction) (challenge : Challenge) : Type 0 where
   pub kept : LeavesAuction effect id auction
   pub proved : IsProvedAuction auction
   pub asked : IsChallengeTo auction challenge
@@ -102,6 +106,9 @@ pub record WritesReply (files : Files) (id challenge_name reply : List ℕ) (eff
 -- each `answer` that ends with status 0 does so
 abbrev pub RepliesAreWritten : Type 0
 RepliesAreWritten =
-    (files : Files) (ledger : Ledger) (id challenge_name reply : List ℕ) → IsLedger ledger → AreBytes 16 id
+    (files : Files) (ledger : Ledger) (id challenge_name reply : List ℕ) → IsLedger ledger
+    → AreBytes 16 id
     → (answer_effect files ledger id challenge_name reply).status ≡ 0
-    → (auction : Auction) × ((challenge : Challenge) × WritesReply files id challenge_name reply (answer_effect files ledger id challenge_name reply) auction challenge)
+    → (auction : Auction) × ((challenge : Challenge)
+    × WritesReply files id challenge_name reply (answer_effect files ledger id challenge_name reply)
+    auction challenge)

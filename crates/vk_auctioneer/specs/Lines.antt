@@ -25,21 +25,26 @@ phase_word Taking = codes "taking"
 phase_word Proved = codes "proved"
 phase_word Answered = codes "answered"
 
--- the line of a refusal, where the seal that was handed in has this seat. The failure of the keeper and want of memory
--- have none
+-- the line of a refusal, where the seal that was handed in has this seat. The failure of the keeper
+-- and want of memory have none
 abbrev pub refusal_line : ℕ → HouseErr → List ℕ
 refusal_line seat house.Known = codes "house known" +++ line_feed
 refusal_line seat house.Unknown = codes "house unknown" +++ line_feed
 refusal_line seat (house.Phase kept) = codes "house phase " +++ phase_word kept +++ line_feed
 refusal_line seat house.Full = codes "house full" +++ line_feed
-refusal_line seat (house.OtherAuction given) = codes "house other auction " +++ hex_text given +++ line_feed
+refusal_line seat (house.OtherAuction given) =
+    codes "house other auction " +++ hex_text given +++ line_feed
 refusal_line seat house.SeatTaken = codes "house seat taken " +++ decimal seat +++ line_feed
-refusal_line seat (house.Length kept given) = codes "house length kept " +++ decimal kept +++ codes " given " +++ decimal given +++ line_feed
+refusal_line seat (house.Length kept given) =
+    codes "house length kept " +++ decimal kept +++ codes " given " +++ decimal given +++ line_feed
 refusal_line seat house.BidTooLarge = codes "house bid too large" +++ line_feed
-refusal_line seat (house.Mismatch mismatch) = codes "house mismatch " +++ mismatch_fields mismatch +++ line_feed
+refusal_line seat (house.Mismatch mismatch) =
+    codes "house mismatch " +++ mismatch_fields mismatch +++ line_feed
 refusal_line seat house.NoSeals = codes "house no seals" +++ line_feed
-refusal_line seat (house.OtherSeed kept) = codes "house other seed kept " +++ hex_text kept +++ line_feed
-refusal_line seat (house.OtherChallenge kept) = codes "house other challenge kept " +++ bits_text kept.bits +++ line_feed
+refusal_line seat (house.OtherSeed kept) =
+    codes "house other seed kept " +++ hex_text kept +++ line_feed
+refusal_line seat (house.OtherChallenge kept) =
+    codes "house other challenge kept " +++ bits_text kept.bits +++ line_feed
 refusal_line seat (house.DrySeed lane wire) = house_dry_line lane wire
 refusal_line seat house.KeeperFailed = []
 refusal_line seat house.NoMemory = []
@@ -60,11 +65,13 @@ abbrev pub announced_line : List ℕ → List ℕ
 announced_line id = codes "announced " +++ hex_text id +++ line_feed
 
 abbrev pub taken_line : ℕ → ℕ → List ℕ
-taken_line seat position = codes "taken seat " +++ decimal seat +++ codes " position " +++ decimal position +++ line_feed
+taken_line seat position = codes "taken seat " +++ decimal seat +++ codes " position " +++ decimal
+    position +++ line_feed
 
 -- the line of a sale to the bidder in that seat, or of none
 abbrev pub proved_line : Option ℕ → Sale → List ℕ
-proved_line (Some winner) (Sold position price) = codes "proved winner " +++ decimal winner +++ codes " price " +++ decimal price +++ line_feed
+proved_line (Some winner) (Sold position price) =
+    codes "proved winner " +++ decimal winner +++ codes " price " +++ decimal price +++ line_feed
 proved_line _ _ = codes "proved unsold" +++ line_feed
 
 abbrev pub answered_line : List ℕ
@@ -78,11 +85,13 @@ reserve_words None = []
 -- how far an auction has come that stands so
 abbrev pub progress_words : Standing → List ℕ
 progress_words standing =
-    codes " seals " +++ decimal standing.seals +++ codes " phase " +++ phase_word standing.phase +++ reserve_words standing.reserve +++ line_feed
+    codes " seals " +++ decimal standing.seals +++ codes " phase " +++ phase_word standing.phase +++
+    reserve_words standing.reserve +++ line_feed
 
 abbrev pub standing_line : List ℕ → Standing → List ℕ
 standing_line id standing =
-    codes "auction " +++ hex_text id +++ codes " width " +++ decimal standing.width +++ codes " lanes " +++ decimal standing.lanes
+    codes "auction " +++ hex_text id +++ codes " width " +++ decimal standing.width +++ codes
+    " lanes " +++ decimal standing.lanes
     +++ progress_words standing
 
 -- ---- a reply

@@ -1,4 +1,5 @@
-//! The auctioneer's commands: what each asks the house, which files it reads and writes, and what it says.
+//! The auctioneer's commands: what each asks the house, which files it reads and writes, and what
+//! it says.
 #![tactic(auto)]
 
 mod command;

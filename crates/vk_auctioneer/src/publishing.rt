@@ -1,4 +1,5 @@
-//! `prove` and `answer`, each of which writes a file of the auction: its board, and the reply to a challenge.
+//! `prove` and `answer`, each of which writes a file of the auction: its board, and the reply to a
+//! challenge.
 
 ghost use Rattle.std.specs.Prelude.{◌≡◌, ◌∷◌, [], ℕ, IfErr, IfOk, IfSome, IsOk, List, Some, length};
 ghost use Rattle.vk_reply.specs.Values.{IsChallenge};
@@ -37,12 +38,16 @@ pub fn prove<S: Shelf, K: Keeper + Drop>(
     seed: &[u8; 32],
     board: &str,
 ) -> Result<Said, OutsideErr>
-    ensures acts { IfSome (on_ledger (λ kept. prove_effect kept id.now seed.now board.now) (K.ledger keeper.old))
-        (λ effect. Acts result effect (stores (S.held shelf.old) (K.ledger keeper.old)) (stores (S.held shelf.new) (K.ledger keeper.new))) }
-    ensures files { LeavesAsSaid (ProveWords id.now seed.now board.now) result (S.held shelf.old) (S.held shelf.new) }
+    ensures acts { IfSome (on_ledger (λ kept. prove_effect kept id.now seed.now board.now)
+        (K.ledger keeper.old))
+        (λ effect. Acts result effect (stores (S.held shelf.old) (K.ledger keeper.old))
+        (stores (S.held shelf.new) (K.ledger keeper.new))) }
+    ensures files { LeavesAsSaid (ProveWords id.now seed.now board.now) result (S.held shelf.old)
+        (S.held shelf.new) }
     ensures once { Modelled KeepsAnswers (K.ledger keeper.old) (K.ledger keeper.new) }
     ensures turns { GetsOnce (K.turns keeper.old) (K.turns keeper.new) }
-    ensures causes { CausesTwo OutsideErr.Failed result (S.Shelf.faults shelf.old) (S.Shelf.faults shelf.new) (K.faults keeper.old) (K.faults keeper.new) }
+    ensures causes { CausesTwo OutsideErr.Failed result (S.Shelf.faults shelf.old)
+        (S.Shelf.faults shelf.new) (K.faults keeper.old) (K.faults keeper.new) }
 {
     let answer = House::over(keeper).prove(alloc, id, seed);
     let said = proved(alloc, shelf, board, answer);
@@ -57,11 +62,13 @@ fn proved<S: Shelf>(
     answer: Result<Job, HouseErr>,
 ) -> Result<Said, OutsideErr>
     ensures said { (id seed : List ℕ) → Says (Prove id seed) (as_reply work_of answer) result }
-    ensures written { Modelled (Leaves (board_file name.now (as_reply work_of answer)) result) (S.held shelf.old) (S.held shelf.new) }
+    ensures written { Modelled (Leaves (board_file name.now (as_reply work_of answer)) result)
+        (S.held shelf.old) (S.held shelf.new) }
     ensures proved { IfOk answer (λ job. IsProvedAuction job.auction) }
     ensures told { IfErr answer (λ refusal. TakesNoMemory refusal → IsOk result) }
     ensures causes { (before after : ℕ) → Causes HouseErr.KeeperFailed answer before after
-        → CausesTwo OutsideErr.Failed result (S.Shelf.faults shelf.old) (S.Shelf.faults shelf.new) before after }
+        → CausesTwo OutsideErr.Failed result (S.Shelf.faults shelf.old) (S.Shelf.faults shelf.new)
+        before after }
 {
     match answer {
         Ok(job) => {
@@ -82,10 +89,13 @@ fn publish<S: Shelf>(
     name: &str,
     job: &Job,
 ) -> Result<Said, OutsideErr>
-    ensures said { IfOk result (λ said. said ≡ done_said (proved_line (winner_of job.now.auction) job.now.sale)) }
-    ensures written { Modelled (Leaves ((name.now, board_of job.now.auction) ∷ []) result) (S.held shelf.old) (S.held shelf.new) }
+    ensures said { IfOk result
+        (λ said. said ≡ done_said (proved_line (winner_of job.now.auction) job.now.sale)) }
+    ensures written { Modelled (Leaves ((name.now, board_of job.now.auction) ∷ []) result)
+        (S.held shelf.old) (S.held shelf.new) }
     ensures proved { IsProvedAuction job.now.auction }
-    ensures causes { Causes OutsideErr.Failed result (S.Shelf.faults shelf.old) (S.Shelf.faults shelf.new) }
+    ensures causes { Causes OutsideErr.Failed result (S.Shelf.faults shelf.old)
+        (S.Shelf.faults shelf.new) }
 {
     let auction = job.auction();
     let said = Said::of_short(0, proved_line(job.winner(), job.sale()));
@@ -119,7 +129,8 @@ impl<'a> WrittenFiles for BoardFile<'a> {
     ghost use Rattle.std.specs.Prelude.{[], ◌∷◌};
     ghost use Rattle.vk_job.specs.Published.{board_pieces};
 
-    ghost files = { λ f. record { name = f.name.now; pieces = board_pieces f.job.now.auction } ∷ [] };
+    ghost files = { λ f. record { name = f.name.now; pieces = board_pieces f.job.now.auction }
+        ∷ [] };
 
     fn count(&self) -> usize {
         1
@@ -148,12 +159,17 @@ pub fn answer<S: Shelf, K: Keeper + Drop>(
     challenge: &str,
     reply: &str,
 ) -> Result<Said, OutsideErr>
-    ensures acts { IfSome (on_both (λ held kept. answer_effect held kept id.now challenge.now reply.now) (S.held shelf.old) (K.ledger keeper.old))
-        (λ effect. Acts result effect (stores (S.held shelf.old) (K.ledger keeper.old)) (stores (S.held shelf.new) (K.ledger keeper.new))) }
-    ensures files { LeavesAsSaid (AnswerWords id.now challenge.now reply.now) result (S.held shelf.old) (S.held shelf.new) }
+    ensures acts { IfSome (on_both
+        (λ held kept. answer_effect held kept id.now challenge.now reply.now) (S.held shelf.old)
+        (K.ledger keeper.old))
+        (λ effect. Acts result effect (stores (S.held shelf.old) (K.ledger keeper.old))
+        (stores (S.held shelf.new) (K.ledger keeper.new))) }
+    ensures files { LeavesAsSaid (AnswerWords id.now challenge.now reply.now) result
+        (S.held shelf.old) (S.held shelf.new) }
     ensures once { Modelled KeepsAnswers (K.ledger keeper.old) (K.ledger keeper.new) }
     ensures turns { AsksOnce (K.turns keeper.old) (K.turns keeper.new) }
-    ensures causes { CausesTwo OutsideErr.Failed result (S.Shelf.faults shelf.old) (S.Shelf.faults shelf.new) (K.faults keeper.old) (K.faults keeper.new) }
+    ensures causes { CausesTwo OutsideErr.Failed result (S.Shelf.faults shelf.old)
+        (S.Shelf.faults shelf.new) (K.faults keeper.old) (K.faults keeper.new) }
 {
     match asked_challenge(alloc, shelf, challenge) {
         Ok(challenge) => {
@@ -167,7 +183,9 @@ pub fn answer<S: Shelf, K: Keeper + Drop>(
 /// Reads the named challenge.
 #[tactic(auto, unfolding(vk_effect::specs::Reading::named_in))]
 fn asked_challenge<S: Shelf>(alloc: Global, shelf: &mut S, name: &str) -> Result<Challenge, Unread>
-    ensures modelled { IfSome (S.held shelf.old) (λ files. Gives said_of_unread (λ challenge. challenge) result (challenge_in files name.now)) }
+    ensures modelled { IfSome (S.held shelf.old)
+        (λ files. Gives said_of_unread (λ challenge. challenge) result
+        (challenge_in files name.now)) }
     ensures right { IfOk result IsChallenge }
     ensures shelf { OnlyReads S.held S.Shelf.faults Unread.Failed result shelf.old shelf.new }
 {
@@ -187,20 +205,27 @@ fn answer_challenge<S: Shelf, K: Keeper + Drop>(
     reply: &str,
 ) -> Result<Said, OutsideErr>
     requires { IsChallenge challenge.now }
-    ensures acts { IfSome (on_ledger (λ kept. asked (reply_file reply.now challenge.now) kept (Answer id.now challenge.now)) (K.ledger keeper.old))
-        (λ effect. Acts result effect (stores (S.held shelf.old) (K.ledger keeper.old)) (stores (S.held shelf.new) (K.ledger keeper.new))) }
-    ensures files { (name : List ℕ) → IfSome (S.held shelf.old) (λ files. IsText files name challenge.now)
-        → LeavesAsSaid (AnswerWords id.now name reply.now) result (S.held shelf.old) (S.held shelf.new) }
+    ensures acts { IfSome (on_ledger
+        (λ kept. asked (reply_file reply.now challenge.now) kept (Answer id.now challenge.now))
+        (K.ledger keeper.old))
+        (λ effect. Acts result effect (stores (S.held shelf.old) (K.ledger keeper.old))
+        (stores (S.held shelf.new) (K.ledger keeper.new))) }
+    ensures files { (name : List ℕ)
+        → IfSome (S.held shelf.old) (λ files. IsText files name challenge.now)
+        → LeavesAsSaid (AnswerWords id.now name reply.now) result (S.held shelf.old)
+        (S.held shelf.new) }
     ensures once { Modelled KeepsAnswers (K.ledger keeper.old) (K.ledger keeper.new) }
     ensures turns { GetsOnce (K.turns keeper.old) (K.turns keeper.new) }
-    ensures causes { CausesTwo OutsideErr.Failed result (S.Shelf.faults shelf.old) (S.Shelf.faults shelf.new) (K.faults keeper.old) (K.faults keeper.new) }
+    ensures causes { CausesTwo OutsideErr.Failed result (S.Shelf.faults shelf.old)
+        (S.Shelf.faults shelf.new) (K.faults keeper.old) (K.faults keeper.new) }
 {
     let answer = House::over(keeper).answer(alloc, id, challenge);
     let said = answered(alloc, shelf, reply, challenge, answer);
     said
 }
 
-/// What `answer` says by the house's answer. The reply of a job to the challenge is written to the named file.
+/// What `answer` says by the house's answer. The reply of a job to the challenge is written to the
+/// named file.
 fn answered<S: Shelf>(
     alloc: Global,
     shelf: &mut S,
@@ -210,11 +235,14 @@ fn answered<S: Shelf>(
 ) -> Result<Said, OutsideErr>
     requires { IfOk answer (λ job. challenge_of job.auction.phase ≡ Some challenge.now) }
     ensures said { (id : List ℕ) → Says (Answer id challenge.now) (as_reply work_of answer) result }
-    ensures written { Modelled (Leaves (reply_file name.now challenge.now (as_reply work_of answer)) result) (S.held shelf.old) (S.held shelf.new) }
+    ensures written { Modelled
+        (Leaves (reply_file name.now challenge.now (as_reply work_of answer)) result)
+        (S.held shelf.old) (S.held shelf.new) }
     ensures told { IfErr answer (λ refusal. TakesNoMemory refusal → IsOk result) }
     ensures proved { IfOk answer (λ job. IsProvedAuction job.auction) }
     ensures causes { (before after : ℕ) → Causes HouseErr.KeeperFailed answer before after
-        → CausesTwo OutsideErr.Failed result (S.Shelf.faults shelf.old) (S.Shelf.faults shelf.new) before after }
+        → CausesTwo OutsideErr.Failed result (S.Shelf.faults shelf.old) (S.Shelf.faults shelf.new)
+        before after }
 {
     match answer {
         Err(refusal) => {
@@ -238,9 +266,12 @@ fn show_halves<S: Shelf>(
 ) -> Result<Said, OutsideErr>
     requires { challenge_of job.now.auction.phase ≡ Some challenge.now }
     ensures said { IfOk result (λ said. said ≡ done_said answered_line) }
-    ensures written { Modelled (Leaves ((name.now, reply_of job.now.auction challenge.now) ∷ []) result) (S.held shelf.old) (S.held shelf.new) }
+    ensures written { Modelled
+        (Leaves ((name.now, reply_of job.now.auction challenge.now) ∷ []) result) (S.held shelf.old)
+        (S.held shelf.new) }
     ensures proved { IsProvedAuction job.now.auction }
-    ensures causes { Causes OutsideErr.Failed result (S.Shelf.faults shelf.old) (S.Shelf.faults shelf.new) }
+    ensures causes { Causes OutsideErr.Failed result (S.Shelf.faults shelf.old)
+        (S.Shelf.faults shelf.new) }
 {
     let auction = job.auction();
     let said = Said::of_line(alloc, 0, "answered\n")?;
@@ -269,7 +300,10 @@ impl<'a> WrittenFiles for ReplyFile<'a> {
     ghost use Rattle.std.specs.Prelude.{[], ◌∷◌};
     ghost use Rattle.vk_job.specs.Published.{reply_pieces};
 
-    ghost files = { λ f. record { name = f.name.now; pieces = reply_pieces f.job.now.auction f.challenge.now } ∷ [] };
+    ghost files = { λ f. record {
+      name = f.name.now;
+      pieces = reply_pieces f.job.now.auction f.challenge.now;
+    } ∷ [] };
 
     fn count(&self) -> usize {
         1

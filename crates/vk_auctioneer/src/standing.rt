@@ -1,4 +1,5 @@
-//! `announce` and `show`, which read and write no file: an auction begins, and how it stands is said.
+//! `announce` and `show`, which read and write no file: an auction begins, and how it stands is
+//! said.
 
 ghost use Rattle.std.specs.Prelude.{◌≡◌, ◌≤◌, ◌+◌, ◌^◌, ◌<◌, ◌++◌, ℕ, IfErr, IfOk, IfSome, IsOk, Option, length};
 ghost use Rattle.vk_residue.specs.Limits.{IsSize};
@@ -27,8 +28,10 @@ pub fn announce<K: Keeper + Drop>(
     lanes: u32,
 ) -> Result<Said, OutsideErr>
     requires { IsSize width lanes }
-    ensures acts { (files : Option Files) → IfSome (on_ledger (λ kept. announce_effect kept id.now width lanes) (K.ledger keeper.old))
-        (λ effect. Acts result effect (stores files (K.ledger keeper.old)) (stores files (K.ledger keeper.new))) }
+    ensures acts { (files : Option Files)
+        → IfSome (on_ledger (λ kept. announce_effect kept id.now width lanes) (K.ledger keeper.old))
+        (λ effect. Acts result effect (stores files (K.ledger keeper.old))
+        (stores files (K.ledger keeper.new))) }
     ensures once { Modelled KeepsAnswers (K.ledger keeper.old) (K.ledger keeper.new) }
     ensures turns { GetsOnce (K.turns keeper.old) (K.turns keeper.new) }
     ensures causes { Causes OutsideErr.Failed result (K.faults keeper.old) (K.faults keeper.new) }
@@ -49,8 +52,11 @@ pub fn announce_reserve<K: Keeper + Drop>(
 ) -> Result<Said, OutsideErr>
     requires size { IsSize width lanes }
     requires small { reserve < 2 ^ width }
-    ensures acts { (files : Option Files) → IfSome (on_ledger (λ kept. announce_reserve_effect kept id.now width lanes reserve) (K.ledger keeper.old))
-        (λ effect. Acts result effect (stores files (K.ledger keeper.old)) (stores files (K.ledger keeper.new))) }
+    ensures acts { (files : Option Files)
+        → IfSome (on_ledger (λ kept. announce_reserve_effect kept id.now width lanes reserve)
+        (K.ledger keeper.old))
+        (λ effect. Acts result effect (stores files (K.ledger keeper.old))
+        (stores files (K.ledger keeper.new))) }
     ensures once { Modelled KeepsAnswers (K.ledger keeper.old) (K.ledger keeper.new) }
     ensures turns { GetsOnce (K.turns keeper.old) (K.turns keeper.new) }
     ensures causes { Causes OutsideErr.Failed result (K.faults keeper.old) (K.faults keeper.new) }
@@ -62,10 +68,13 @@ pub fn announce_reserve<K: Keeper + Drop>(
 
 /// What `announce` says by the house's answer, with a reserve and without.
 fn announced(alloc: Global, id: &[u8; 16], answer: Result<(), HouseErr>) -> Result<Said, OutsideErr>
-    ensures said { (width lanes : ℕ) → Says (Announce id.now width lanes) (as_reply (λ _. Done) answer) result }
-    ensures reserved { (width lanes reserve : ℕ) → Says (AnnounceReserve id.now width lanes reserve) (as_reply (λ _. Done) answer) result }
+    ensures said { (width lanes : ℕ)
+        → Says (Announce id.now width lanes) (as_reply (λ _. Done) answer) result }
+    ensures reserved { (width lanes reserve : ℕ)
+        → Says (AnnounceReserve id.now width lanes reserve) (as_reply (λ _. Done) answer) result }
     ensures told { IfErr answer (λ refusal. TakesNoMemory refusal → IsOk result) }
-    ensures causes { (before after : ℕ) → Causes HouseErr.KeeperFailed answer before after → Causes OutsideErr.Failed result before after }
+    ensures causes { (before after : ℕ) → Causes HouseErr.KeeperFailed answer before after
+        → Causes OutsideErr.Failed result before after }
 {
     match answer {
         Ok(()) => Ok(opened(alloc, id)?),
@@ -89,8 +98,10 @@ pub fn show<K: Keeper + Drop>(
     keeper: &mut K,
     id: &[u8; 16],
 ) -> Result<Said, OutsideErr>
-    ensures acts { (files : Option Files) → IfSome (on_ledger (λ kept. show_effect kept id.now) (K.ledger keeper.old))
-        (λ effect. Acts result effect (stores files (K.ledger keeper.old)) (stores files (K.ledger keeper.new))) }
+    ensures acts { (files : Option Files)
+        → IfSome (on_ledger (λ kept. show_effect kept id.now) (K.ledger keeper.old))
+        (λ effect. Acts result effect (stores files (K.ledger keeper.old))
+        (stores files (K.ledger keeper.new))) }
     ensures once { Modelled KeepsAnswers (K.ledger keeper.old) (K.ledger keeper.new) }
     ensures turns { GetsOnce (K.turns keeper.old) (K.turns keeper.new) }
     ensures causes { Causes OutsideErr.Failed result (K.faults keeper.old) (K.faults keeper.new) }
@@ -108,7 +119,8 @@ fn shown(
 ) -> Result<Said, OutsideErr>
     ensures said { Says (Show id.now) (as_reply Stands answer) result }
     ensures told { IfErr answer (λ refusal. TakesNoMemory refusal → IsOk result) }
-    ensures causes { (before after : ℕ) → Causes HouseErr.KeeperFailed answer before after → Causes OutsideErr.Failed result before after }
+    ensures causes { (before after : ℕ) → Causes HouseErr.KeeperFailed answer before after
+        → Causes OutsideErr.Failed result before after }
 {
     match answer {
         Ok(standing) => Ok(Said::of_short(0, standing_line(id, &standing))),

@@ -31,12 +31,15 @@ pub fn submit<S: Shelf, K: Keeper + Drop>(
     seal: &str,
     secret: &str,
 ) -> Result<Said, OutsideErr>
-    ensures acts { IfSome (on_both (λ held kept. submit_effect held kept id.now seal.now secret.now) (S.held shelf.old) (K.ledger keeper.old))
-        (λ effect. Acts result effect (stores (S.held shelf.old) (K.ledger keeper.old)) (stores (S.held shelf.new) (K.ledger keeper.new))) }
+    ensures acts { IfSome (on_both (λ held kept. submit_effect held kept id.now seal.now secret.now)
+        (S.held shelf.old) (K.ledger keeper.old))
+        (λ effect. Acts result effect (stores (S.held shelf.old) (K.ledger keeper.old))
+        (stores (S.held shelf.new) (K.ledger keeper.new))) }
     ensures held { S.held shelf.new ≡ S.held shelf.old }
     ensures once { Modelled KeepsAnswers (K.ledger keeper.old) (K.ledger keeper.new) }
     ensures turns { AsksOnce (K.turns keeper.old) (K.turns keeper.new) }
-    ensures causes { CausesTwo OutsideErr.Failed result (S.Shelf.faults shelf.old) (S.Shelf.faults shelf.new) (K.faults keeper.old) (K.faults keeper.new) }
+    ensures causes { CausesTwo OutsideErr.Failed result (S.Shelf.faults shelf.old)
+        (S.Shelf.faults shelf.new) (K.faults keeper.old) (K.faults keeper.new) }
 {
     match row(alloc, shelf, seal, secret) {
         Ok(row) => {
@@ -55,7 +58,9 @@ fn row<S: Shelf>(
     seal_name: &str,
     secret_name: &str,
 ) -> Result<SealRow, Unread>
-    ensures modelled { IfSome (S.held shelf.old) (λ files. Gives said_of_unread (λ row. row) result (row_in files seal_name.now secret_name.now)) }
+    ensures modelled { IfSome (S.held shelf.old)
+        (λ files. Gives said_of_unread (λ row. row) result
+        (row_in files seal_name.now secret_name.now)) }
     ensures seal { IfOk result (λ row. IsSeal row.seal) }
     ensures secret { IfOk result (λ row. IsSecret row.secret) }
     ensures shelf { OnlyReads S.held S.Shelf.faults Unread.Failed result shelf.old shelf.new }
@@ -78,8 +83,11 @@ fn hand_in<K: Keeper + Drop>(
 ) -> Result<Said, OutsideErr>
     requires seal { IsSeal row.seal }
     requires secret { IsSecret row.secret }
-    ensures acts { (files : Option Files) → IfSome (on_ledger (λ kept. asked no_file kept (Submit id.now row.seal row.secret)) (K.ledger keeper.old))
-        (λ effect. Acts result effect (stores files (K.ledger keeper.old)) (stores files (K.ledger keeper.new))) }
+    ensures acts { (files : Option Files)
+        → IfSome (on_ledger (λ kept. asked no_file kept (Submit id.now row.seal row.secret))
+        (K.ledger keeper.old))
+        (λ effect. Acts result effect (stores files (K.ledger keeper.old))
+        (stores files (K.ledger keeper.new))) }
     ensures once { Modelled KeepsAnswers (K.ledger keeper.old) (K.ledger keeper.new) }
     ensures turns { GetsOnce (K.turns keeper.old) (K.turns keeper.new) }
     ensures causes { Causes OutsideErr.Failed result (K.faults keeper.old) (K.faults keeper.new) }
@@ -93,9 +101,11 @@ fn hand_in<K: Keeper + Drop>(
 
 /// What `submit` says by the house's answer to a seal of that seat.
 fn handed_in(alloc: Global, seat: u16, answer: Result<u32, HouseErr>) -> Result<Said, OutsideErr>
-    ensures said { (id : List ℕ) (seal : Seal) (secret : Secret) → seal.seat ≡ seat → Says (Submit id seal secret) (as_reply Position answer) result }
+    ensures said { (id : List ℕ) (seal : Seal) (secret : Secret) → seal.seat ≡ seat
+        → Says (Submit id seal secret) (as_reply Position answer) result }
     ensures told { IfErr answer (λ refusal. TakesNoMemory refusal → IsOk result) }
-    ensures causes { (before after : ℕ) → Causes HouseErr.KeeperFailed answer before after → Causes OutsideErr.Failed result before after }
+    ensures causes { (before after : ℕ) → Causes HouseErr.KeeperFailed answer before after
+        → Causes OutsideErr.Failed result before after }
 {
     match answer {
         Ok(position) => Ok(taken(alloc, seat, position)?),

@@ -1,4 +1,5 @@
--- What is answered of named files that are read one after another: it holds of them, and what settles what is said is said.
+-- What is answered of named files that are read one after another: it holds of them, and what
+-- settles what is said is said.
 use Rattle.std.proofs.Common.{◌≡◌, ℕ, Bool, false, true, List, [], ◌∷◌, map, Option, Some, None, Result, Ok, Err, refl, sym, ap, subst, ◌∙◌}
 use Rattle.std.specs.List.{AllByRecursion}
 use Rattle.std.specs.FinMap.{get}
@@ -28,83 +29,127 @@ verify_parts = part.Board ∷ part.Challenge ∷ part.Reply ∷ []
 
 module _ {X : Type 0} (whole : Rest → Rest → Rest → X) (files : Files) (names : VerifyWords) where
   abbrev of_reply : Rest → Rest → Result X VErr
-  of_reply board challenge = begun_file part.Reply (get files names.attempt.reply) >>= λ reply. Ok (whole board challenge reply)
+  of_reply board challenge = begun_file part.Reply (get files names.attempt.reply) >>= λ reply.
+      Ok (whole board challenge reply)
 
   abbrev of_challenge : Rest → Result X VErr
-  of_challenge board = begun_file part.Challenge (get files names.attempt.challenge) >>= of_reply board
+  of_challenge board = begun_file part.Challenge (get files names.attempt.challenge) >>= of_reply
+      board
 
-  pub attempt_unread : (unread : Part × Bool) → first_unread files (name_of (verified_words names)) verify_parts ≡ Some unread
-      → of_attempt whole files names.board names.attempt.challenge names.attempt.reply ≡ Err (fault_of unread)
+  pub attempt_unread : (unread : Part × Bool)
+      → first_unread files (name_of (verified_words names)) verify_parts ≡ Some unread
+      → of_attempt whole files names.board names.attempt.challenge names.attempt.reply
+      ≡ Err (fault_of unread)
   attempt_unread unread is =
       begun_unread part.Board _ of_challenge unread (λ board rest.
       begun_unread part.Challenge _ (of_reply board) unread (λ challenge rest.
-      begun_unread part.Reply None (λ reply. Ok (whole board challenge reply)) unread (λ reply none. absurd (never_none unread none))
-      (get files names.attempt.reply) rest) (get files names.attempt.challenge) rest) (get files names.board) is
+      begun_unread part.Reply None (λ reply. Ok (whole board challenge reply)) unread
+      (λ reply none. absurd (never_none unread none))
+      (get files names.attempt.reply) rest) (get files names.attempt.challenge) rest)
+      (get files names.board) is
 
-  pub attempt_read : (board : List ℕ) → IsHeldFile files names.board board → (attempt : HeldAttempt files names.attempt.challenge names.attempt.reply)
+  pub attempt_read : (board : List ℕ) → IsHeldFile files names.board board
+      → (attempt : HeldAttempt files names.attempt.challenge names.attempt.reply)
       → of_attempt whole files names.board names.attempt.challenge names.attempt.reply
-      ≡ Ok (whole (from_start board) (from_start attempt.challenge_bytes) (from_start attempt.reply_bytes))
+      ≡ Ok (whole (from_start board) (from_start attempt.challenge_bytes)
+      (from_start attempt.reply_bytes))
   attempt_read board is attempt =
       begun_found files names.board board part.Board of_challenge is
-      ∙ attempt_found files part.Challenge part.Reply names.attempt.challenge names.attempt.reply (λ challenge reply. Ok (whole
+      ∙ attempt_found files part.Challenge part.Reply names.attempt.challenge names.attempt.reply
+      (λ challenge reply. Ok (whole
       (from_start board) challenge reply)) attempt
 
-pub attempt_held : {files : Files} {names : VerifyWords} → AllByRecursion (CanBeRead files) (verify_inputs names)
+pub attempt_held : {files : Files} {names : VerifyWords}
+    → AllByRecursion (CanBeRead files) (verify_inputs names)
     → HeldAttempt files names.attempt.challenge names.attempt.reply
-attempt_held read = record { challenge_bytes = read.1.0.0; reply_bytes = read.1.1.0.0; challenge_is = read.1.0.1; reply_is = read.1.1.0.1 }
+attempt_held read = record {
+  challenge_bytes = read.1.0.0;
+  reply_bytes = read.1.1.0.0;
+  challenge_is = read.1.0.1;
+  reply_is = read.1.1.0.1;
+}
 
 -- ---- five files
 
 abbrev pub extract_parts : List Part
-extract_parts = part.Board ∷ part.Challenge ∷ part.Reply ∷ part.SecondChallenge ∷ part.SecondReply ∷ []
+extract_parts = part.Board ∷ part.Challenge ∷ part.Reply ∷ part.SecondChallenge ∷ part.SecondReply
+    ∷ []
 
 module _ {X : Type 0} (whole : Rest → Rest → Rest → Rest → Rest → X) (files : Files) (names : ExtractWords) where
   abbrev last_then : Rest → Rest → Rest → Rest → Result X VErr
-  last_then board challenge reply other = begun_file part.SecondReply (get files names.second.reply) >>= λ second. Ok (whole board challenge reply other second)
+  last_then board challenge reply other =
+      begun_file part.SecondReply (get files names.second.reply) >>= λ second.
+      Ok (whole board challenge reply other second)
 
   abbrev other_then : Rest → Rest → Rest → Result X VErr
-  other_then board challenge reply = begun_file part.SecondChallenge (get files names.second.challenge) >>= last_then board challenge reply
+  other_then board challenge reply =
+      begun_file part.SecondChallenge (get files names.second.challenge) >>= last_then board
+      challenge reply
 
   abbrev reply_then : Rest → Rest → Result X VErr
-  reply_then board challenge = begun_file part.Reply (get files names.first.reply) >>= other_then board challenge
+  reply_then board challenge =
+      begun_file part.Reply (get files names.first.reply) >>= other_then board challenge
 
   abbrev challenge_then : Rest → Result X VErr
-  challenge_then board = begun_file part.Challenge (get files names.first.challenge) >>= reply_then board
+  challenge_then board = begun_file part.Challenge (get files names.first.challenge) >>= reply_then
+      board
 
-  pub files_unread : (unread : Part × Bool) → first_unread files (name_of names) extract_parts ≡ Some unread
-      → of_files whole files names.board names.first.challenge names.first.reply names.second.challenge names.second.reply ≡ Err (fault_of unread)
+  pub files_unread : (unread : Part × Bool)
+      → first_unread files (name_of names) extract_parts ≡ Some unread
+      → of_files whole files names.board names.first.challenge names.first.reply
+      names.second.challenge names.second.reply ≡ Err (fault_of unread)
   files_unread unread is =
       begun_unread part.Board _ challenge_then unread (λ board rest.
       begun_unread part.Challenge _ (reply_then board) unread (λ challenge rest.
       begun_unread part.Reply _ (other_then board challenge) unread (λ reply rest.
       begun_unread part.SecondChallenge _ (last_then board challenge reply) unread (λ other rest.
-      begun_unread part.SecondReply None (λ second. Ok (whole board challenge reply other second)) unread (λ second none. absurd (never_none unread none))
-      (get files names.second.reply) rest) (get files names.second.challenge) rest) (get files names.first.reply) rest)
+      begun_unread part.SecondReply None (λ second. Ok (whole board challenge reply other second))
+      unread (λ second none. absurd (never_none unread none))
+      (get files names.second.reply) rest) (get files names.second.challenge) rest)
+      (get files names.first.reply) rest)
       (get files names.first.challenge) rest) (get files names.board) is
 
-pub files_held : {files : Files} {names : ExtractWords} → AllByRecursion (CanBeRead files) (extract_inputs names) → HoldsFiles files names
+pub files_held : {files : Files} {names : ExtractWords}
+    → AllByRecursion (CanBeRead files) (extract_inputs names) → HoldsFiles files names
 files_held read = record {
   board_bytes = read.0.0;
   board_is = read.0.1;
-  first = record { challenge_bytes = read.1.0.0; reply_bytes = read.1.1.0.0; challenge_is = read.1.0.1; reply_is = read.1.1.0.1 };
-  second = record { challenge_bytes = read.1.1.1.0.0; reply_bytes = read.1.1.1.1.0.0; challenge_is = read.1.1.1.0.1; reply_is = read.1.1.1.1.0.1 };
+  first = record {
+    challenge_bytes = read.1.0.0;
+    reply_bytes = read.1.1.0.0;
+    challenge_is = read.1.0.1;
+    reply_is = read.1.1.0.1;
+  };
+  second = record {
+    challenge_bytes = read.1.1.1.0.0;
+    reply_bytes = read.1.1.1.1.0.0;
+    challenge_is = read.1.1.1.0.1;
+    reply_is = read.1.1.1.1.0.1;
+  };
 }
 
 -- ---- the answer
 
--- an answer that names the first of these parts whose file can't be read, and holds where all can be
+-- an answer that names the first of these parts whose file can't be read, and holds where all can
+-- be
 module _ {X : Type 0} (files : Files) (names : ExtractWords) (parts : List Part) (Holds : X → Type 0) (answer : Result X VErr)
     (unread : (unread : Part × Bool) → first_unread files (name_of names) parts ≡ Some unread → answer ≡ Err (fault_of unread)) where
   abbrev Answers : Result X VErr → Type 0
   Answers = AnswerHolds files names (map (name_of names) parts) Holds
 
   answer_by : (AllByRecursion (CanBeRead files) (map (name_of names) parts) → Answers answer)
-      → (found : Option (Part × Bool)) → first_unread files (name_of names) parts ≡ found → Answers answer
-  answer_by read (Some (part, true)) is = subst Answers (sym (unread (part, true) is)) (unread_shown files (name_of names) parts (part, true) is)
-  answer_by read (Some (part, false)) is = subst Answers (sym (unread (part, false) is)) (unread_shown files (name_of names) parts (part, false) is)
+      → (found : Option (Part × Bool)) → first_unread files (name_of names) parts ≡ found
+      → Answers answer
+  answer_by read (Some (part, true)) is =
+      subst Answers (sym (unread (part, true) is))
+      (unread_shown files (name_of names) parts (part, true) is)
+  answer_by read (Some (part, false)) is =
+      subst Answers (sym (unread (part, false) is))
+      (unread_shown files (name_of names) parts (part, false) is)
   answer_by read None is = read (all_read files (name_of names) parts is)
 
-  pub answered_holds : (AllByRecursion (CanBeRead files) (map (name_of names) parts) → Answers answer) → Answers answer
+  pub answered_holds : (AllByRecursion (CanBeRead files) (map (name_of names) parts)
+      → Answers answer) → Answers answer
   answered_holds read = answer_by read (first_unread files (name_of names) parts) refl
 
   -- it is said like every answer that holds and is the only one of its kind
@@ -112,7 +157,8 @@ module _ {X : Type 0} (files : Files) (names : ExtractWords) (parts : List Part)
     abbrev said_of : Result X VErr → SaidValue
     said_of answered = answer_said said (unread_said names) answered
 
-    pub answered_settled : (Settles : Result X VErr → Type 0) → ((value : X) → Settles (Ok value) → Holds value → answer ≡ Ok value)
+    pub answered_settled : (Settles : Result X VErr → Type 0)
+        → ((value : X) → Settles (Ok value) → Holds value → answer ≡ Ok value)
         → (other : Result X VErr) → Settles other → Answers other → said_of answer ≡ said_of other
     answered_settled Settles alone (Ok value) settles holds = ap said_of (alone value settles holds)
     answered_settled Settles alone (Err (Missing part)) settles holds =

@@ -1,4 +1,5 @@
--- What `extract` says holds of the files: of two replies that are accepted for different challenges, bids or a clash, and of no others.
+-- What `extract` says holds of the files: of two replies that are accepted for different
+-- challenges, bids or a clash, and of no others.
 use Rattle.std.proofs.Common.{◌≡◌, ◌≢◌, ℕ, ◌<◌, Bool, true, false, List, ◌++◌, Option, Some, None, Result, Ok, Err, refl, sym, ap, subst, ◌∙◌, arith, inl, inr}
 use Rattle.std.specs.Prelude.{◌⊎◌}
 use Rattle.vk_residue.specs.Steps.{◌>>=◌}
@@ -32,42 +33,55 @@ use Rattle.vk_audit.proofs.Verifying.{status_accepted, status_within}
 
 module _ (files : Files) (names : ExtractWords) where
   abbrev pub answer : Result Extraction VErr
-  answer = extraction_on files names.board names.first.challenge names.first.reply names.second.challenge names.second.reply
+  answer = extraction_on files names.board names.first.challenge names.first.reply
+      names.second.challenge names.second.reply
 
-  two_unread : (unread : Part × Bool) → first_unread files (name_of names) extract_parts ≡ Some unread
-      → two_on files names.board names.first.challenge names.first.reply names.second.challenge names.second.reply ≡ Err (fault_of unread)
+  two_unread : (unread : Part × Bool)
+      → first_unread files (name_of names) extract_parts ≡ Some unread
+      → two_on files names.board names.first.challenge names.first.reply names.second.challenge
+      names.second.reply ≡ Err (fault_of unread)
   unfolding two_on
   two_unread unread is = files_unread ahead_at files names unread is
 
-  pub answer_unread : (unread : Part × Bool) → first_unread files (name_of names) extract_parts ≡ Some unread → answer ≡ Err (fault_of unread)
+  pub answer_unread : (unread : Part × Bool)
+      → first_unread files (name_of names) extract_parts ≡ Some unread
+      → answer ≡ Err (fault_of unread)
   unfolding extraction_on
   answer_unread unread is =
-      ap (λ ahead. ahead >>= λ ahead. base_on files names.board names.first.challenge names.first.reply names.second.challenge names.second.reply >>= λ base. Ok (extraction_of base ahead))
+      ap (λ ahead. ahead >>= λ ahead. base_on files names.board names.first.challenge
+      names.first.reply names.second.challenge names.second.reply >>= λ base.
+      Ok (extraction_of base ahead))
       (two_unread unread is)
 
   pub answer_read : (held : HoldsFiles files names) → answer ≡ Ok (extraction_of_held held)
   answer_read held =
-      (files_are_extracted files names.board names.first.challenge names.first.reply names.second.challenge names.second.reply (extraction_of_held held)).1
+      (files_are_extracted files names.board names.first.challenge names.first.reply
+      names.second.challenge names.second.reply (extraction_of_held held)).1
       (record { held = held; is = refl })
 
   answer_holds : ExtractHolds files names answer
   answer_holds =
-      answered_holds files names extract_parts (HasExtraction files names) answer answer_unread (λ read.
+      answered_holds files names extract_parts (HasExtraction files names) answer answer_unread
+      (λ read.
       let held : HoldsFiles files names = files_held read in
       subst (ExtractHolds files names) (sym (answer_read held)) (record {
         held = held;
-        holds = extraction_holds held.board_bytes held.first.challenge_bytes held.first.reply_bytes held.second.challenge_bytes held.second.reply_bytes;
+        holds = extraction_holds held.board_bytes held.first.challenge_bytes held.first.reply_bytes
+            held.second.challenge_bytes held.second.reply_bytes;
       }))
 
   abbrev said_of : Result Extraction VErr → SaidValue
   said_of answered = answer_said (extraction_said names) (unread_said names) answered
 
-  answer_settled : (other : Result Extraction VErr) → SettlesExtract other → ExtractHolds files names other → said_of answer ≡ said_of other
+  answer_settled : (other : Result Extraction VErr) → SettlesExtract other
+      → ExtractHolds files names other → said_of answer ≡ said_of other
   answer_settled =
-      answered_settled files names extract_parts (HasExtraction files names) answer answer_unread (extraction_said names) SettlesExtract (λ extraction settles has.
+      answered_settled files names extract_parts (HasExtraction files names) answer answer_unread
+      (extraction_said names) SettlesExtract (λ extraction settles has.
       let held = has.held in
       answer_read held ∙ ap (λ e. Ok e)
-      (unfound_found held.board_bytes held.first.challenge_bytes held.first.reply_bytes held.second.challenge_bytes held.second.reply_bytes extraction settles has.holds))
+      (unfound_found held.board_bytes held.first.challenge_bytes held.first.reply_bytes
+      held.second.challenge_bytes held.second.reply_bytes extraction settles has.holds))
 
 pub tells_extractions : TellsExtractions
 tells_extractions files names taken =
@@ -76,7 +90,8 @@ tells_extractions files names taken =
 
 -- ---- the status and the text
 
-pub put_told : (Puts : List ℕ → List ℕ → Type 0) (text : List ℕ) → ((before : List ℕ) → Puts before (before ++ text)) → (taken : Option (List ℕ))
+pub put_told : (Puts : List ℕ → List ℕ → Type 0) (text : List ℕ)
+    → ((before : List ℕ) → Puts before (before ++ text)) → (taken : Option (List ℕ))
     → Modelled Puts taken (puts text taken)
 put_told Puts text is None = refl
 put_told Puts text is (Some before) = is before
@@ -84,42 +99,64 @@ put_told Puts text is (Some before) = is before
 -- what is said of an extraction that is bids of the replies, or a clash of them
 module _ {board first_challenge first_reply second_challenge second_reply : List ℕ} (two : TwoAccepted board first_challenge first_reply second_challenge second_reply) (names : ExtractWords) (taken : Option (List ℕ)) where
   said_extracted : (extraction : Extraction) → IsOf two extraction
-      → let said = extraction_said names extraction in IsExtracted two said.status taken (puts said.text taken)
+      → let said = extraction_said names extraction in
+      IsExtracted two said.status taken (puts said.text taken)
   said_extracted (Refused second refused) is = absurd is
   said_extracted Same is = absurd is
-  said_extracted (Clash clash) is = inr (refl, put_told (PutsClash two) (clash_text clash) (λ before. record { clash = clash; is = is; put = refl }) taken)
+  said_extracted (Clash clash) is =
+      inr (
+        refl,
+        put_told (PutsClash two) (clash_text clash)
+            (λ before. record { clash = clash; is = is; put = refl }) taken,
+      )
   said_extracted (Bids found) is =
-      inl (refl, put_told (PutsExtraction two) (extraction_text found) (λ before. record { found = found; is = is; put = refl }) taken)
+      inl (
+        refl,
+        put_told (PutsExtraction two) (extraction_text found)
+            (λ before. record { found = found; is = is; put = refl }) taken,
+      )
 
-said_of_accepted : (files : Files) (names : ExtractWords) (taken : Option (List ℕ)) (accepted : AcceptsTwoFiles files names)
-    → let said = extract_said files names in IsExtracted accepted.two said.status taken (puts said.text taken)
+said_of_accepted : (files : Files) (names : ExtractWords) (taken : Option (List ℕ))
+    (accepted : AcceptsTwoFiles files names)
+    → let said = extract_said files names in
+    IsExtracted accepted.two said.status taken (puts said.text taken)
 said_of_accepted files names taken accepted =
     let held = accepted.held in
-    let P : Result Extraction VErr → Type 0 = λ answer. let said = said_of files names answer in IsExtracted accepted.two said.status taken
+    let P : Result Extraction VErr → Type 0 = λ answer. let said = said_of files names answer in
+    IsExtracted accepted.two said.status taken
     (puts said.text taken) in
     subst P (sym (answer_read files names held))
     (said_extracted accepted.two names taken (extraction_of_held held)
-    (accepted_are_extracted held.board_bytes held.first.challenge_bytes held.first.reply_bytes held.second.challenge_bytes held.second.reply_bytes accepted.two))
+    (accepted_are_extracted held.board_bytes held.first.challenge_bytes held.first.reply_bytes
+    held.second.challenge_bytes held.second.reply_bytes accepted.two))
 
 -- ---- only such files
 
 -- no reply is refused by the verdict that it is accepted
-pub refused_never : (second : Bool) (refused : BoardVerdict) (board first_challenge first_reply second_challenge second_reply : List ℕ)
-    → ExtractionHolds (Refused second refused) board first_challenge first_reply second_challenge second_reply → refused ≢ verdict.Accepted
-refused_never false refused board first_challenge first_reply second_challenge second_reply holds = holds.0
+pub refused_never : (second : Bool) (refused : BoardVerdict)
+    (board first_challenge first_reply second_challenge second_reply : List ℕ)
+    → ExtractionHolds (Refused second refused) board first_challenge first_reply second_challenge
+    second_reply → refused ≢ verdict.Accepted
+refused_never false refused board first_challenge first_reply second_challenge second_reply holds =
+    holds.0
 refused_never true refused board first_challenge first_reply second_challenge second_reply holds =
     second_refused second_accepted holds.1
 
-only_said : (files : Files) (names : ExtractWords) (answered : Result Extraction VErr) → ExtractHolds files names answered
-    → (said_of files names answered).status ≢ 1 → (said_of files names answered).status < 4 → AcceptsTwoFiles files names
+only_said : (files : Files) (names : ExtractWords) (answered : Result Extraction VErr)
+    → ExtractHolds files names answered
+    → (said_of files names answered).status ≢ 1 → (said_of files names answered).status < 4
+    → AcceptsTwoFiles files names
 only_said files names =
-    only_found files names (extract_inputs names) (HasExtraction files names) (extraction_said names) refl (λ _. refl) (λ _. refl) (status_within names)
+    only_found files names (extract_inputs names) (HasExtraction files names)
+    (extraction_said names) refl (λ _. refl) (λ _. refl) (status_within names)
     (AcceptsTwoFiles files names)
     (λ second refused holds other small.
     let held = holds.held in
-    refused_never second refused held.board_bytes held.first.challenge_bytes held.first.reply_bytes held.second.challenge_bytes held.second.reply_bytes holds.holds
+    refused_never second refused held.board_bytes held.first.challenge_bytes held.first.reply_bytes
+    held.second.challenge_bytes held.second.reply_bytes holds.holds
     (status_accepted names second refused other small))
-    (λ clash holds. record { held = holds.held; two = holds.holds.0 }) (λ found holds. record { held = holds.held; two = holds.holds.0 })
+    (λ clash holds. record { held = holds.held; two = holds.holds.0 })
+    (λ found holds. record { held = holds.held; two = holds.holds.0 })
 
 -- 0 and 3 are told from all other statuses that end a command
 pub told_apart : (status : ℕ) → (status ≡ 0) ⊎ (status ≡ 3) → (status ≢ 1) × (status < 4)
@@ -129,19 +166,23 @@ told_apart status (inr three_is) = (λ one. omega arith, omega arith)
 pub extracts_exactly : ExtractsExactly
 extracts_exactly files names taken = (
   said_of_accepted files names taken,
-  λ found. let apart = told_apart (extract_said files names).status found in only_said files names (answer files names)
+  λ found. let apart = told_apart (extract_said files names).status found in
+      only_said files names (answer files names)
       (answer_holds files names) apart.0 apart.1,
 )
 
 -- ---- equal challenges
 
-same_shown : (files : Files) (names : ExtractWords) (answered : Result Extraction VErr) → ExtractHolds files names answered
+same_shown : (files : Files) (names : ExtractWords) (answered : Result Extraction VErr)
+    → ExtractHolds files names answered
     → (said_of files names answered).status ≡ 7 → AcceptsSameFiles files names
 same_shown files names =
-    only_same files names (extract_inputs names) (HasExtraction files names) (extraction_said names) refl (λ _. refl) (λ _. refl) (status_within names)
+    only_same files names (extract_inputs names) (HasExtraction files names) (extraction_said names)
+    refl (λ _. refl) (λ _. refl) (status_within names)
 
 pub tells_same_exactly : TellsSameExactly
 tells_same_exactly files names = record {
   only = λ seven. same_shown files names (answer files names) (answer_holds files names) seven;
-  always = λ same _ _. ap (λ (said : SaidValue). said.status) (answer_settled files names (Ok Same) (λ found. found) same);
+  always = λ same _ _. ap (λ (said : SaidValue). said.status)
+      (answer_settled files names (Ok Same) (λ found. found) same);
 }

@@ -22,7 +22,8 @@ use Rattle.vk_audit.proofs.Telling.{only_value, tells}
 -- ---- verdicts
 
 -- only that a reply is accepted has a status below 4 other than 1
-pub status_accepted : (names : ExtractWords) (second : Bool) (answered : BoardVerdict) → (judged_said names second answered).status ≢ 1
+pub status_accepted : (names : ExtractWords) (second : Bool) (answered : BoardVerdict)
+    → (judged_said names second answered).status ≢ 1
     → (judged_said names second answered).status < 4 → answered ≡ verdict.Accepted
 status_accepted names second verdict.Accepted other small = refl
 status_accepted names second (verdict.Malformed file line) other small = absurd (omega arith)
@@ -32,7 +33,8 @@ status_accepted names second verdict.Lanes other small = absurd (omega arith)
 status_accepted names second (verdict.Wire lane wire fault) other small = absurd (omega arith)
 status_accepted names second (verdict.Row lane row) other small = absurd (omega arith)
 
-pub status_within : (names : ExtractWords) (second : Bool) (answered : BoardVerdict) → (judged_said names second answered).status ≤ 4
+pub status_within : (names : ExtractWords) (second : Bool) (answered : BoardVerdict)
+    → (judged_said names second answered).status ≤ 4
 status_within names second verdict.Accepted = omega arith
 status_within names second (verdict.Malformed file line) = omega arith
 status_within names second verdict.Price = omega arith
@@ -50,31 +52,45 @@ module _ (files : Files) (names : VerifyWords) where
   abbrev answer : Result BoardVerdict VErr
   answer = verdict_on files names.board names.attempt.challenge names.attempt.reply
 
-  answer_unread : (unread : Part × Bool) → first_unread files (name_of (verified_words names)) verify_parts ≡ Some unread → answer ≡ Err (fault_of unread)
+  answer_unread : (unread : Part × Bool)
+      → first_unread files (name_of (verified_words names)) verify_parts ≡ Some unread
+      → answer ≡ Err (fault_of unread)
   unfolding verdict_on
   answer_unread unread is = attempt_unread judging files names unread is
 
-  answer_read : (board : List ℕ) → IsHeldFile files names.board board → (attempt : HeldAttempt files names.attempt.challenge names.attempt.reply)
+  answer_read : (board : List ℕ) → IsHeldFile files names.board board
+      → (attempt : HeldAttempt files names.attempt.challenge names.attempt.reply)
       → answer ≡ Ok (verdict_of board attempt.challenge_bytes attempt.reply_bytes)
   unfolding verdict_on
   answer_read board is attempt = attempt_read judging files names board is attempt
 
   answer_holds : VerifyHolds files names answer
   answer_holds =
-      answered_holds files (verified_words names) verify_parts (HasVerdict files names) answer answer_unread (λ read.
-      let attempt : HeldAttempt files names.attempt.challenge names.attempt.reply = attempt_held read in
+      answered_holds files (verified_words names) verify_parts (HasVerdict files names) answer
+      answer_unread (λ read.
+      let attempt : HeldAttempt files names.attempt.challenge names.attempt.reply =
+      attempt_held read in
       subst (VerifyHolds files names) (sym (answer_read read.0.0 read.0.1 attempt))
-      (record { board = read.0.0; board_is = read.0.1; attempt = attempt; holds = verdict_holds read.0.0 attempt.challenge_bytes attempt.reply_bytes }))
+      (record {
+        board = read.0.0;
+        board_is = read.0.1;
+        attempt = attempt;
+        holds = verdict_holds read.0.0 attempt.challenge_bytes attempt.reply_bytes;
+      }))
 
   abbrev said_of : Result BoardVerdict VErr → SaidValue
-  said_of answered = answer_said (judged_said (verified_words names) false) (unread_said (verified_words names)) answered
+  said_of answered = answer_said (judged_said (verified_words names) false)
+      (unread_said (verified_words names)) answered
 
-  answer_settled : (other : Result BoardVerdict VErr) → VerifyHolds files names other → said_of answer ≡ said_of other
+  answer_settled : (other : Result BoardVerdict VErr) → VerifyHolds files names other
+      → said_of answer ≡ said_of other
   answer_settled other holds =
-      answered_settled files (verified_words names) verify_parts (HasVerdict files names) answer answer_unread (judged_said (verified_words names) false)
+      answered_settled files (verified_words names) verify_parts (HasVerdict files names) answer
+      answer_unread (judged_said (verified_words names) false)
       (λ _. Unit {0}) (λ answered _ has.
       answer_read has.board has.board_is has.attempt
-      ∙ ap (λ v. Ok v) ((verdicts_exact answered has.board has.attempt.challenge_bytes has.attempt.reply_bytes).1 has.holds)) other tt holds
+      ∙ ap (λ v. Ok v) ((verdicts_exact answered has.board has.attempt.challenge_bytes
+      has.attempt.reply_bytes).1 has.holds)) other tt holds
 
 pub tells_verdicts : TellsVerdicts
 tells_verdicts files names taken =
@@ -83,14 +99,20 @@ tells_verdicts files names taken =
 
 -- ---- status 0
 
-only_accepted : (files : Files) (names : VerifyWords) (answered : Result BoardVerdict VErr) → VerifyHolds files names answered
+only_accepted : (files : Files) (names : VerifyWords) (answered : Result BoardVerdict VErr)
+    → VerifyHolds files names answered
     → (said_of files names answered).status ≡ 0 → AcceptsFiles files names
 only_accepted files names =
-    only_value files (verified_words names) (verify_inputs names) (HasVerdict files names) (judged_said (verified_words names) false) (AcceptsFiles files names)
-    (λ answered holds zero_is. subst (HasVerdict files names) (status_accepted (verified_words names) false answered (λ one. omega arith) (omega arith)) holds)
+    only_value files (verified_words names) (verify_inputs names) (HasVerdict files names)
+    (judged_said (verified_words names) false) (AcceptsFiles files names)
+    (λ answered holds zero_is. subst (HasVerdict files names)
+    (status_accepted (verified_words names) false answered (λ one. omega arith) (omega arith))
+    holds)
 
 pub verifies_exactly : VerifiesExactly
 verifies_exactly files names = record {
-  only = λ zero_is. only_accepted files names (answer files names) (answer_holds files names) zero_is;
-  always = λ accepts _ _. ap (λ (said : SaidValue). said.status) (answer_settled files names (Ok verdict.Accepted) accepts);
+  only = λ zero_is. only_accepted files names (answer files names) (answer_holds files names)
+      zero_is;
+  always = λ accepts _ _. ap (λ (said : SaidValue). said.status)
+      (answer_settled files names (Ok verdict.Accepted) accepts);
 }

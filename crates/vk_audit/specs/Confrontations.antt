@@ -13,7 +13,8 @@ use Rattle.vk_effect.specs.Effects.{SaidValue}
 use Rattle.vk_effect.specs.NamedFiles.{malformed_said, missing_said, too_long_said}
 use Rattle.vk_audit.specs.Verdicts.{IsOfFile, answer_said, judged_said, same_said, unread_said}
 
--- the verdict on a reply that isn't accepted, or what the secret comes to against two accepted replies
+-- the verdict on a reply that isn't accepted, or what the secret comes to against two accepted
+-- replies
 abbrev pub confrontation_said : ConfrontWords → Confrontation → SaidValue
 confrontation_said names (Refused second verdict) = judged_said names.replies second verdict
 confrontation_said names Same = same_said
@@ -23,7 +24,8 @@ confrontation_said names (Mismatch mismatch) = record { status = 8; text = misma
 confrontation_said names (Clash two) = record { status = 3; text = clash_text two }
 confrontation_said names (Held seat) = record { status = 0; text = held_line seat }
 
--- what names no file: all that comes after both replies are accepted, but that the secret's file is none
+-- what names no file: all that comes after both replies are accepted, but that the secret's file is
+-- none
 abbrev pub NamesNoFile : Confrontation → Type 0
 NamesNoFile (Refused second verdict) = ⊥
 NamesNoFile Same = Unit {0}
@@ -51,8 +53,10 @@ confront_unread_said names TooLongSecret = too_long_said names.secret
 abbrev pub confrontation_in : Files → ConfrontWords → Result Confrontation ConfrontErr
 confrontation_in files names =
     let replies = names.replies in
-    confrontation_on files replies.board replies.first.challenge replies.first.reply replies.second.challenge replies.second.reply names.secret
+    confrontation_on files replies.board replies.first.challenge replies.first.reply
+    replies.second.challenge replies.second.reply names.secret
 
 -- what `confront` says
 abbrev pub confront_said : Files → ConfrontWords → SaidValue
-confront_said files names = answer_said (confrontation_said names) (confront_unread_said names) (confrontation_in files names)
+confront_said files names = answer_said (confrontation_said names) (confront_unread_said names)
+    (confrontation_in files names)

@@ -27,4 +27,5 @@ extraction_said names (Bids found) = record { status = 0; text = extraction_text
 abbrev pub extract_said : Files → ExtractWords → SaidValue
 extract_said files names =
     answer_said (extraction_said names) (unread_said names)
-    (extraction_on files names.board names.first.challenge names.first.reply names.second.challenge names.second.reply)
+    (extraction_on files names.board names.first.challenge names.first.reply names.second.challenge
+    names.second.reply)

@@ -20,41 +20,51 @@ use Rattle.vk_bids.specs.Binding.{IsConfrontationOf}
 
 -- ---- two replies
 
--- a verdict that holds of a reply, and is another than that it is accepted, with the parts of the second reply
-pub record RefusesSecond {V : Type 0} (accepted : V) (of_second : V → V) (Holds : V → Type 0) (verdict : V) : Type 0 where
+-- a verdict that holds of a reply, and is another than that it is accepted, with the parts of the
+-- second reply
+pub record RefusesSecond {V : Type 0} (accepted : V) (of_second : V → V) (Holds : V → Type 0)
+    (verdict : V) : Type 0 where
   pub fault : V
   pub refuses : fault ≢ accepted
   pub holds : Holds fault
   pub verdict_is : verdict ≡ of_second fault
 
 abbrev pub SecondFails : BoardVerdict → List ℕ → List ℕ → List ℕ → Type 0
-SecondFails verdict board challenge reply = RefusesSecond Accepted as_second (λ fault. VerdictHolds fault board challenge reply) verdict
+SecondFails verdict board challenge reply =
+    RefusesSecond Accepted as_second (λ fault. VerdictHolds fault board challenge reply) verdict
 
--- the first reply is refused; or it is accepted, and the second is refused; or both are accepted, and the challenges
--- are the same, one commitment is opened with two values, or there are the bids
+-- the first reply is refused; or it is accepted, and the second is refused; or both are accepted,
+-- and the challenges are the same, one commitment is opened with two values, or there are the bids
 abbrev pub ExtractionHolds : Extraction → List ℕ → List ℕ → List ℕ → List ℕ → List ℕ → Type 0
-ExtractionHolds (Refused false verdict) board first_challenge first_reply second_challenge second_reply =
+ExtractionHolds (Refused false verdict) board first_challenge first_reply second_challenge
+    second_reply =
     (verdict ≢ Accepted) × VerdictHolds verdict board first_challenge first_reply
-ExtractionHolds (Refused true verdict) board first_challenge first_reply second_challenge second_reply =
-    Accepts board first_challenge first_reply × SecondFails verdict board second_challenge second_reply
+ExtractionHolds (Refused true verdict) board first_challenge first_reply second_challenge
+    second_reply =
+    Accepts board first_challenge first_reply
+    × SecondFails verdict board second_challenge second_reply
 ExtractionHolds Same board first_challenge first_reply second_challenge second_reply =
     SameAccepted board first_challenge first_reply second_challenge second_reply
 ExtractionHolds (Clash clash) board first_challenge first_reply second_challenge second_reply =
-    (two : TwoAccepted board first_challenge first_reply second_challenge second_reply) × IsExtractionClash two clash
+    (two : TwoAccepted board first_challenge first_reply second_challenge second_reply)
+    × IsExtractionClash two clash
 ExtractionHolds (Bids found) board first_challenge first_reply second_challenge second_reply =
-    (two : TwoAccepted board first_challenge first_reply second_challenge second_reply) × IsExtraction two found
+    (two : TwoAccepted board first_challenge first_reply second_challenge second_reply)
+    × IsExtraction two found
 
 -- ---- a secret against two replies
 
 -- the replies give bids, and the file has that fault line as a secret
-pub record SecretFails (board first_challenge first_reply second_challenge second_reply file : List ℕ) (line : ℕ) : Type 0 where
+pub record SecretFails (board first_challenge first_reply second_challenge second_reply file : List
+    ℕ) (line : ℕ) : Type 0 where
   pub two : TwoAccepted board first_challenge first_reply second_challenge second_reply
   pub found : Extracted
   pub bids : IsExtraction two found
   pub fault : fault_line secret_table file ≡ Some line
 
 -- the replies give bids, the file is the text of a secret, and against them it comes to this
-pub record SecretComes (board first_challenge first_reply second_challenge second_reply file : List ℕ) (confrontation : Confrontation) : Type 0 where
+pub record SecretComes (board first_challenge first_reply second_challenge second_reply file : List
+    ℕ) (confrontation : Confrontation) : Type 0 where
   pub two : TwoAccepted board first_challenge first_reply second_challenge second_reply
   pub found : Extracted
   pub bids : IsExtraction two found
@@ -63,20 +73,33 @@ pub record SecretComes (board first_challenge first_reply second_challenge secon
   pub text : file ≡ secret_text secret
   pub comes : IsConfrontationOf secret found confrontation
 
--- what the replies come to by themselves, but for bids; and against bids, what the secret's file does
-abbrev pub ConfrontationHolds : Confrontation → List ℕ → List ℕ → List ℕ → List ℕ → List ℕ → List ℕ → Type 0
-ConfrontationHolds (comes.Refused second verdict) board first_challenge first_reply second_challenge second_reply file =
-    ExtractionHolds (Refused second verdict) board first_challenge first_reply second_challenge second_reply
+-- what the replies come to by themselves, but for bids; and against bids, what the secret's file
+-- does
+abbrev pub ConfrontationHolds : Confrontation → List ℕ → List ℕ → List ℕ → List ℕ → List ℕ → List ℕ
+    → Type 0
+ConfrontationHolds (comes.Refused second verdict) board first_challenge first_reply second_challenge
+    second_reply file =
+    ExtractionHolds (Refused second verdict) board first_challenge first_reply second_challenge
+    second_reply
 ConfrontationHolds comes.Same board first_challenge first_reply second_challenge second_reply file =
     ExtractionHolds Same board first_challenge first_reply second_challenge second_reply
-ConfrontationHolds (comes.Malformed line) board first_challenge first_reply second_challenge second_reply file =
+ConfrontationHolds (comes.Malformed line) board first_challenge first_reply second_challenge
+    second_reply file =
     SecretFails board first_challenge first_reply second_challenge second_reply file line
-ConfrontationHolds (comes.NoSeal seat) board first_challenge first_reply second_challenge second_reply file =
-    SecretComes board first_challenge first_reply second_challenge second_reply file (comes.NoSeal seat)
-ConfrontationHolds (comes.Mismatch mismatch) board first_challenge first_reply second_challenge second_reply file =
-    SecretComes board first_challenge first_reply second_challenge second_reply file (comes.Mismatch mismatch)
-ConfrontationHolds (comes.Clash clash) board first_challenge first_reply second_challenge second_reply file =
+ConfrontationHolds (comes.NoSeal seat) board first_challenge first_reply second_challenge
+    second_reply file =
+    SecretComes board first_challenge first_reply second_challenge second_reply file
+    (comes.NoSeal seat)
+ConfrontationHolds (comes.Mismatch mismatch) board first_challenge first_reply second_challenge
+    second_reply file =
+    SecretComes board first_challenge first_reply second_challenge second_reply file
+    (comes.Mismatch mismatch)
+ConfrontationHolds (comes.Clash clash) board first_challenge first_reply second_challenge
+    second_reply file =
     ExtractionHolds (Clash clash) board first_challenge first_reply second_challenge second_reply
-    ⊎ SecretComes board first_challenge first_reply second_challenge second_reply file (comes.Clash clash)
-ConfrontationHolds (comes.Held seat) board first_challenge first_reply second_challenge second_reply file =
-    SecretComes board first_challenge first_reply second_challenge second_reply file (comes.Held seat)
+    ⊎ SecretComes board first_challenge first_reply second_challenge second_reply file
+    (comes.Clash clash)
+ConfrontationHolds (comes.Held seat) board first_challenge first_reply second_challenge second_reply
+    file =
+    SecretComes board first_challenge first_reply second_challenge second_reply file
+    (comes.Held seat)

@@ -19,7 +19,8 @@ abbrev pub IsLong : Files → List ℕ → Type 0
 IsLong files name = (bytes : List ℕ) × (get files name ≡ Some bytes) × (2 ^ 30 < length bytes)
 
 -- of these names, in their order, this is the first whose file can't be read, and that is why
-pub record IsFirstUnread (files : Files) (names : List (List ℕ)) (name : List ℕ) (Why : Files → List ℕ → Type 0) : Type 0 where
+pub record IsFirstUnread (files : Files) (names : List (List ℕ)) (name : List ℕ)
+    (Why : Files → List ℕ → Type 0) : Type 0 where
   pub earlier : List (List ℕ)
   pub later : List (List ℕ)
   pub names_are : names ≡ earlier ++ name ∷ later
@@ -38,11 +39,13 @@ abbrev pub verify_inputs : VerifyWords → List (List ℕ)
 verify_inputs names = names.board ∷ names.attempt.challenge ∷ names.attempt.reply ∷ []
 
 abbrev pub extract_inputs : ExtractWords → List (List ℕ)
-extract_inputs names = names.board ∷ names.first.challenge ∷ names.first.reply ∷ names.second.challenge ∷ names.second.reply ∷ []
+extract_inputs names = names.board ∷ names.first.challenge ∷ names.first.reply
+    ∷ names.second.challenge ∷ names.second.reply ∷ []
 
 abbrev pub confront_inputs : ConfrontWords → List (List ℕ)
 confront_inputs names = extract_inputs names.replies ++ names.secret ∷ []
 
 -- the named files of `extract` are held
 abbrev pub HoldsFiles : Files → ExtractWords → Type 0
-HoldsFiles files names = HeldFiles files names.board names.first.challenge names.first.reply names.second.challenge names.second.reply
+HoldsFiles files names = HeldFiles files names.board names.first.challenge names.first.reply
+    names.second.challenge names.second.reply

@@ -40,20 +40,22 @@ fault_text NotASet = codes "set"
 
 -- for what a reply is refused: the wire of the lane, or the row
 abbrev pub wire_cause : ℕ → ℕ → WireFault → List ℕ
-wire_cause lane wire fault = codes "lane " +++ decimal lane +++ codes " wire " +++ decimal wire +++ codes " " +++ fault_text fault
+wire_cause lane wire fault = codes "lane " +++ decimal lane +++ codes " wire " +++ decimal wire +++
+    codes " " +++ fault_text fault
 
 abbrev pub row_cause : ℕ → ℕ → List ℕ
 row_cause lane row = codes "lane " +++ decimal lane +++ codes " row " +++ decimal row
 
--- what is said of the verdict on the first reply, or on the second: refused is the board for its price and its winner,
--- and that reply for all else
+-- what is said of the verdict on the first reply, or on the second: refused is the board for its
+-- price and its winner, and that reply for all else
 abbrev pub judged_said : ExtractWords → Bool → BoardVerdict → SaidValue
 judged_said names second Accepted = record { status = 0; text = codes "accepted" +++ line_feed }
 judged_said names second (Malformed part line) = malformed_said (name_of names part) line
 judged_said names second Price = refused_said names.board (codes "price")
 judged_said names second Winner = refused_said names.board (codes "winner")
 judged_said names second Lanes = refused_said (reply_of names second) (codes "lanes")
-judged_said names second (Wire lane wire fault) = refused_said (reply_of names second) (wire_cause lane wire fault)
+judged_said names second (Wire lane wire fault) =
+    refused_said (reply_of names second) (wire_cause lane wire fault)
 judged_said names second (Row lane row) = refused_said (reply_of names second) (row_cause lane row)
 
 -- both replies are accepted, and the challenges don't differ
@@ -69,7 +71,8 @@ IsOfFile (TooLong part) = Unit {0}
 IsOfFile Failed = ⊥
 IsOfFile NoMemory = ⊥
 
--- what is said of the first file that is missing or too long; of a failure of the outside and of want of memory nothing is said
+-- what is said of the first file that is missing or too long; of a failure of the outside and of
+-- want of memory nothing is said
 abbrev pub unread_said : ExtractWords → VErr → SaidValue
 unread_said names (Missing part) = missing_said (name_of names part)
 unread_said names (TooLong part) = too_long_said (name_of names part)

@@ -62,7 +62,8 @@ pub fn audit<S: Shelf>(
     shelf: &mut S,
     audit: &AuditOrder<'_>,
 ) -> Result<Said, OutsideErr>
-    ensures said { IfSome (S.held shelf.old) (λ files. IfOk result (λ said. said ≡ audit_said files (audit_seen audit.now))) }
+    ensures said { IfSome (S.held shelf.old)
+        (λ files. IfOk result (λ said. said ≡ audit_said files (audit_seen audit.now))) }
     ensures shelf { OnlyReads S.held S.Shelf.faults OutsideErr.Failed result shelf.old shelf.new }
 {
     match audit {
@@ -102,8 +103,10 @@ fn confronted_in<S: Shelf>(
     names: &ConfrontNames<'_>,
 ) -> Result<Confrontation, ConfrontErr>
     ensures modelled { IfSome (S.held shelf.old) (λ files.
-        Gives fault_of (λ confrontation. confrontation) result (confrontation_in files (confront_seen names.now))) }
-    ensures shelf { OnlyReads S.held S.Shelf.faults (ConfrontErr.Unread VErr.Failed) result shelf.old shelf.new }
+        Gives fault_of (λ confrontation. confrontation) result
+        (confrontation_in files (confront_seen names.now))) }
+    ensures shelf { OnlyReads S.held S.Shelf.faults (ConfrontErr.Unread VErr.Failed) result
+        shelf.old shelf.new }
 {
     let files = SecretAndReplies {
         replies: replies_of(&names.replies),

@@ -31,15 +31,16 @@ fn printed(status: u8, confrontation: &Confrontation) -> Said
     Said::of_short(status, confrontation_line(confrontation))
 }
 
-/// What is said of a reply that isn't accepted, or of what the secret comes to against two accepted replies. Only
-/// a line that names a file takes memory.
+/// What is said of a reply that isn't accepted, or of what the secret comes to against two accepted
+/// replies. Only a line that names a file takes memory.
 pub fn confronted(
     alloc: Global,
     names: &ConfrontNames<'_>,
     confrontation: &Confrontation,
 ) -> Result<Said, NoMemory>
     ensures no_file { NamesNoFile confrontation.now → IsOk result }
-    ensures said { IfOk result (λ said. said ≡ confrontation_said (confront_seen names.now) confrontation.now) }
+    ensures said { IfOk result
+        (λ said. said ≡ confrontation_said (confront_seen names.now) confrontation.now) }
     ensures clash { (two : TwoOpeningsSeen) → confrontation.now ≡ Confrontation.Clash two
         → result ≡ Ok (record { status = 3; text = clash_text two }) }
 {
@@ -67,9 +68,12 @@ pub fn confront_unread(
     names: &ConfrontNames<'_>,
     fault: ConfrontErr,
 ) -> Result<Said, OutsideErr>
-    ensures said { IfOk result (λ said. said ≡ confront_unread_said (confront_seen names.now) fault) }
+    ensures said { IfOk result
+        (λ said. said ≡ confront_unread_said (confront_seen names.now) fault) }
     ensures file { OnOk result (IsOfNamedFile fault) }
-    ensures causes { (before after : ℕ) → Causes {T = Unit {0}} (ConfrontErr.Unread VErr.Failed) (Err fault) before after → Causes OutsideErr.Failed result before after }
+    ensures causes { (before after : ℕ)
+        → Causes {T = Unit {0}} (ConfrontErr.Unread VErr.Failed) (Err fault) before after
+        → Causes OutsideErr.Failed result before after }
 {
     let said = match fault {
         ConfrontErr::Unread(fault) => unread(alloc, &names.replies, fault)?,
@@ -79,7 +83,8 @@ pub fn confront_unread(
     Ok(said)
 }
 
-/// What is said of what the files came to, or of the first that is missing or too long. A failure is handed on.
+/// What is said of what the files came to, or of the first that is missing or too long. A failure
+/// is handed on.
 pub fn confront_answered(
     alloc: Global,
     names: &ConfrontNames<'_>,
@@ -87,9 +92,14 @@ pub fn confront_answered(
 ) -> Result<Said, OutsideErr>
     ensures clash { (two : TwoOpeningsSeen) → answer ≡ Ok (Confrontation.Clash two)
         → result ≡ Ok (record { status = 3; text = clash_text two }) }
-    ensures said { (expected : Result Confrontation ConfrontErr) → Gives fault_of (λ confrontation. confrontation) answer expected
-        → IfOk result (λ said. said ≡ answer_said (confrontation_said (confront_seen names.now)) (confront_unread_said (confront_seen names.now)) expected) }
-    ensures causes { (before after : ℕ) → Causes (ConfrontErr.Unread VErr.Failed) answer before after → Causes OutsideErr.Failed result before after }
+    ensures said { (expected : Result Confrontation ConfrontErr)
+        → Gives fault_of (λ confrontation. confrontation) answer expected
+        → IfOk result (λ said. said
+        ≡ answer_said (confrontation_said (confront_seen names.now))
+        (confront_unread_said (confront_seen names.now)) expected) }
+    ensures causes { (before after : ℕ)
+        → Causes (ConfrontErr.Unread VErr.Failed) answer before after
+        → Causes OutsideErr.Failed result before after }
 {
     match answer {
         Err(fault) => {

@@ -21,13 +21,15 @@ use vk_residue::NoMemory;
 use vk_verifier::VErr;
 use vk_words::ExtractNames;
 
-/// What is said of a reply that isn't accepted, or of what two accepted replies come to. A clash takes no memory.
+/// What is said of a reply that isn't accepted, or of what two accepted replies come to. A clash
+/// takes no memory.
 pub fn extracted(
     alloc: Global,
     names: &ExtractNames<'_>,
     extraction: &Extraction,
 ) -> Result<Said, NoMemory>
-    ensures said { IfOk result (λ said. said ≡ extraction_said (extract_seen names.now) extraction.now) }
+    ensures said { IfOk result
+        (λ said. said ≡ extraction_said (extract_seen names.now) extraction.now) }
     ensures clash { (two : TwoOpeningsSeen) → extraction.now ≡ Extraction.Clash two
         → result ≡ Ok (record { status = 3; text = clash_text two }) }
 {
@@ -45,17 +47,22 @@ pub fn extracted(
     }
 }
 
-/// What is said of what the files came to, or of the first that is missing or too long. A failure is handed on.
+/// What is said of what the files came to, or of the first that is missing or too long. A failure
+/// is handed on.
 pub fn extract_answered(
     alloc: Global,
     names: &ExtractNames<'_>,
     answer: Result<Extraction, VErr>,
 ) -> Result<Said, OutsideErr>
-    ensures said { (expected : Result BoardExtraction VErr) → Gives unread_file (λ extraction. extraction) answer expected
-        → IfOk result (λ said. said ≡ answer_said (extraction_said (extract_seen names.now)) (unread_said (extract_seen names.now)) expected) }
+    ensures said { (expected : Result BoardExtraction VErr)
+        → Gives unread_file (λ extraction. extraction) answer expected
+        → IfOk result (λ said. said
+        ≡ answer_said (extraction_said (extract_seen names.now))
+        (unread_said (extract_seen names.now)) expected) }
     ensures clash { (two : TwoOpeningsSeen) → answer ≡ Ok (Extraction.Clash two)
         → result ≡ Ok (record { status = 3; text = clash_text two }) }
-    ensures causes { (before after : ℕ) → Causes VErr.Failed answer before after → Causes OutsideErr.Failed result before after }
+    ensures causes { (before after : ℕ) → Causes VErr.Failed answer before after
+        → Causes OutsideErr.Failed result before after }
 {
     match answer {
         Ok(extraction) => {

@@ -24,7 +24,9 @@ pub fn reported(alloc: Global, report: &Report) -> Result<Said, NoMemory>
 pub fn unreported(alloc: Global, board: &str, fault: ReportErr) -> Result<Said, OutsideErr>
     ensures said { IfOk result (λ said. said ≡ unreported_said board.now fault) }
     ensures file { OnOk result (fault_of fault ≡ Some fault) }
-    ensures causes { (before after : ℕ) → Causes {T = Unit {0}} ReportErr.Failed (Err fault) before after → Causes OutsideErr.Failed result before after }
+    ensures causes { (before after : ℕ)
+        → Causes {T = Unit {0}} ReportErr.Failed (Err fault) before after
+        → Causes OutsideErr.Failed result before after }
 {
     let said = match fault {
         ReportErr::Missing => missing(alloc, board)?,

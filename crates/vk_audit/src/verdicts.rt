@@ -76,15 +76,16 @@ fn row_refused(alloc: Global, reply: &str, lane: u32, row: u32) -> Result<Said, 
     Ok(said)
 }
 
-/// What is said of the verdict on the first reply, or on the second. Of one reply alone both names are the same. That it is
-/// accepted takes no memory.
+/// What is said of the verdict on the first reply, or on the second. Of one reply alone both names
+/// are the same. That it is accepted takes no memory.
 pub fn judged(
     alloc: Global,
     names: &ExtractNames<'_>,
     second: bool,
     verdict: BoardVerdict,
 ) -> Result<Said, NoMemory>
-    ensures said { IfOk result (λ said. said ≡ judged_said (extract_seen names.now) second verdict) }
+    ensures said { IfOk result
+        (λ said. said ≡ judged_said (extract_seen names.now) second verdict) }
     ensures accepted { verdict ≡ BoardVerdict.Accepted → IsOk result }
 {
     let board = names.board;
@@ -108,11 +109,13 @@ pub fn same_challenge() -> Said
     Said::of_short(7, ShortText::new().word("same challenge\n"))
 }
 
-/// What is said of the first file that is missing or too long, so that there is no verdict. A failure is handed on.
+/// What is said of the first file that is missing or too long, so that there is no verdict. A
+/// failure is handed on.
 pub fn unread(alloc: Global, names: &ExtractNames<'_>, fault: VErr) -> Result<Said, OutsideErr>
     ensures said { IfOk result (λ said. said ≡ unread_said (extract_seen names.now) fault) }
     ensures file { OnOk result (IsOfFile fault) }
-    ensures causes { (before after : ℕ) → Causes {T = Unit {0}} VErr.Failed (Err fault) before after → Causes OutsideErr.Failed result before after }
+    ensures causes { (before after : ℕ) → Causes {T = Unit {0}} VErr.Failed (Err fault) before after
+        → Causes OutsideErr.Failed result before after }
 {
     let said = match fault {
         VErr::Missing(part) => missing(alloc, name_of(names, part))?,

@@ -38,15 +38,21 @@ use Rattle.vk_bids.proofs.Showing.{opens_shows}
 abbrev with_its_front : (StatementValue → Front) → Option Base → Option BoardBase
 with_its_front front base = option_map (λ base. with_front (front base.statement) base) base
 
-opened_shown : (front : StatementValue → Front) (s : StatementValue) (gathered : Result (List LaneBids) TwoOpeningsSeen)
-    → given_by (shown_on (front s)) gathered ≡ extraction_with front (given_by (opened_of s) gathered)
+opened_shown : (front : StatementValue → Front) (s : StatementValue)
+    (gathered : Result (List LaneBids) TwoOpeningsSeen)
+    → given_by (shown_on (front s)) gathered
+    ≡ extraction_with front (given_by (opened_of s) gathered)
 opened_shown front s (Ok lanes) = refl
 opened_shown front s (Err two) = refl
 
-by_finding : (front : StatementValue → Front) (base : Option Base) (lanes : List TwoLane) (finding : Finding Fault)
+by_finding : (front : StatementValue → Front) (base : Option Base) (lanes : List TwoLane)
+    (finding : Finding Fault)
     → IfSome base (λ base. base.statement ≡ statement_of (front base.statement))
-    → found_by (λ (base : BoardBase). shown_on base.front) (with_its_front front base) (as_two finding) (gathered_after (λ (base : BoardBase). statement_of base.front) (with_its_front front base) lanes)
-    ≡ extraction_with front (found_by (λ (base : Base). opened_of base.statement) base finding (gathered_after (λ (base : Base). base.statement) base lanes))
+    → found_by (λ (base : BoardBase). shown_on base.front) (with_its_front front base)
+    (as_two finding) (gathered_after (λ (base : BoardBase). statement_of base.front)
+    (with_its_front front base) lanes)
+    ≡ extraction_with front (found_by (λ (base : Base). opened_of base.statement) base finding
+    (gathered_after (λ (base : Base). base.statement) base lanes))
 by_finding front base lanes (ends.Refused second fault) is = refl
 by_finding front base lanes ends.Same is = refl
 by_finding front None lanes ends.Ready is = refl
@@ -54,18 +60,22 @@ by_finding front (Some base) lanes ends.Ready is =
     ap (λ s. given_by (shown_on (front base.statement)) (gathered_from s (Ok []) 1 lanes)) (sym is)
     ∙ opened_shown front base.statement (gathered_from base.statement (Ok []) 1 lanes)
 
--- where the statement is that of the front, the extraction of the board is what the replies come to behind it
+-- where the statement is that of the front, the extraction of the board is what the replies come to
+-- behind it
 pub board_extraction : (front : StatementValue → Front) (base : Option Base) (ahead : Ahead Fault)
     → IfSome base (λ base. base.statement ≡ statement_of (front base.statement))
-    → extraction_of (with_its_front front base) (as_ahead ahead) ≡ extraction_with front (lane_extraction base ahead)
+    → extraction_of (with_its_front front base) (as_ahead ahead)
+    ≡ extraction_with front (lane_extraction base ahead)
 board_extraction front base ahead is = by_finding front base ahead.lanes ahead.finding is
 
 -- the front of the statement that was read may stand, and its lanes are those that were opened
 abbrev pub StandsBefore : (StatementValue → Front) → Option Base → Type 0
 StandsBefore front base =
-    IfSome base (λ base. IsFront (front base.statement) × (base.statement ≡ statement_of (front base.statement)))
+    IfSome base (λ base. IsFront (front base.statement)
+    × (base.statement ≡ statement_of (front base.statement)))
 
-pub of_front : (front : StatementValue → Front) (base : Option Base) (found : LaneExtraction) → StandsBefore front base
+pub of_front : (front : StatementValue → Front) (base : Option Base) (found : LaneExtraction)
+    → StandsBefore front base
     → AreOfBase base found
     → AreOfFront front found
 of_front front base (Refused second fault) stands are = tt
@@ -73,7 +83,8 @@ of_front front base Same stands are = tt
 of_front front base (Clash two) stands are = tt
 of_front front None (Bids opened) stands are = absurd are
 of_front front (Some base) (Bids opened) stands are =
-    let P : StatementValue → Type 0 = λ s. IsFront (front s) × (s ≡ statement_of (front s)) in subst P are stands
+    let P : StatementValue → Type 0 = λ s. IsFront (front s) × (s ≡ statement_of (front s)) in
+    subst P are stands
 
 pub same_statement : (front : StatementValue → Front) (base : Option Base) → StandsBefore front base
     → IfSome base (λ base. base.statement ≡ statement_of (front base.statement))
@@ -81,15 +92,18 @@ same_statement front None stands = tt
 same_statement front (Some base) stands = stands.1
 
 -- the lanes of a board show its sale
-pub lanes_show : (front : Front) (s : StatementValue) (lanes : List LaneBids) → IsFront front → s ≡ statement_of front
+pub lanes_show : (front : Front) (s : StatementValue) (lanes : List LaneBids) → IsFront front
+    → s ≡ statement_of front
     → All (LaneOpens s) lanes
     → All (LaneShows front) lanes
 lanes_show front s lanes is same opens =
     let P : StatementValue → Type 0 = λ s. All (LaneOpens s) lanes in
-    All-weaker (LaneOpens (statement_of front)) (LaneShows front) (λ lane. opens_shows front lane.number lane.bids is) lanes
+    All-weaker (LaneOpens (statement_of front)) (LaneShows front)
+    (λ lane. opens_shows front lane.number lane.bids is) lanes
     (subst P same opens)
 
-pub opened_show : (front : StatementValue → Front) (made : Front) (found : LaneExtraction) (opened : OpenedLanes)
+pub opened_show : (front : StatementValue → Front) (made : Front) (found : LaneExtraction)
+    (opened : OpenedLanes)
     → found ≡ Bids opened
     → made ≡ front opened.statement → OpensLanes found → AreOfFront front found
     → IsFront made × All (LaneShows made) opened.lanes
@@ -98,40 +112,64 @@ opened_show front made found opened is same opens are =
     let P : Front → Type 0 = λ made. IsFront made × All (LaneShows made) opened.lanes in
     let of_it = subst F is are in
     let open_values = subst OpensLanes is opens in
-    subst P (sym same)
-    (of_it.0, lanes_show (front opened.statement) opened.statement opened.lanes of_it.0 of_it.1 open_values.1)
+    subst P (sym same) (
+      of_it.0,
+      lanes_show (front opened.statement) opened.statement opened.lanes of_it.0 of_it.1
+          open_values.1,
+    )
 
 -- ---- the files
 
 -- of named files
-pub extracted : (files : Files) (board first_challenge first_reply second_challenge second_reply : List ℕ) (base : Option BoardBase) (ahead : Ahead BoardVerdict) (extraction : Extraction)
+pub extracted : (files : Files)
+    (board first_challenge first_reply second_challenge second_reply : List ℕ)
+    (base : Option BoardBase) (ahead : Ahead BoardVerdict) (extraction : Extraction)
     → two_on files board first_challenge first_reply second_challenge second_reply ≡ Ok ahead
     → base_on files board first_challenge first_reply second_challenge second_reply ≡ Ok base
     → extraction_of base ahead ≡ extraction
-    → extraction_on files board first_challenge first_reply second_challenge second_reply ≡ Ok extraction
+    → extraction_on files board first_challenge first_reply second_challenge second_reply
+    ≡ Ok extraction
 unfolding extraction_on
-extracted files board first_challenge first_reply second_challenge second_reply base ahead extraction ahead_is base_is is =
+extracted files board first_challenge first_reply second_challenge second_reply base ahead
+    extraction ahead_is base_is is =
     let bases = base_on files board first_challenge first_reply second_challenge second_reply in
-    bind_found (two_on files board first_challenge first_reply second_challenge second_reply) (λ ahead. bases >>= λ base. Ok (extraction_of base ahead)) ahead ahead_is
+    bind_found (two_on files board first_challenge first_reply second_challenge second_reply)
+    (λ ahead. bases >>= λ base. Ok (extraction_of base ahead)) ahead ahead_is
     ∙ (bind_found bases (λ base. Ok (extraction_of base ahead)) base base_is ∙ ap (λ e. Ok e) is)
 
-not_extracted : (files : Files) (board first_challenge first_reply second_challenge second_reply : List ℕ) (refusal : VErr)
+not_extracted : (files : Files)
+    (board first_challenge first_reply second_challenge second_reply : List ℕ) (refusal : VErr)
     → two_on files board first_challenge first_reply second_challenge second_reply ≡ Err refusal
-    → extraction_on files board first_challenge first_reply second_challenge second_reply ≡ Err refusal
+    → extraction_on files board first_challenge first_reply second_challenge second_reply
+    ≡ Err refusal
 unfolding extraction_on
 not_extracted files board first_challenge first_reply second_challenge second_reply refusal is =
-    ap (λ ahead. ahead >>= λ ahead. base_on files board first_challenge first_reply second_challenge second_reply >>= λ base. Ok (extraction_of base ahead)) is
+    ap (λ ahead. ahead >>= λ ahead. base_on files board first_challenge first_reply second_challenge
+    second_reply >>= λ base. Ok (extraction_of base ahead)) is
 
 -- a checker that was begun, or a file of it that is missing or too long
-pub begun : {T : Type 0} (base : T → Option BoardBase) (ahead : T → Ahead BoardVerdict) (files : Files) (board first_challenge first_reply second_challenge second_reply : List ℕ) (answer : Result T VErr)
-    → Gives unread_file ahead answer (two_on files board first_challenge first_reply second_challenge second_reply)
-    → Gives unread_file base answer (base_on files board first_challenge first_reply second_challenge second_reply)
-    → Gives unread_file (λ checker. extraction_of (base checker) (ahead checker)) answer (extraction_on files board first_challenge first_reply second_challenge second_reply)
-begun base ahead files board first_challenge first_reply second_challenge second_reply (Ok checker) ahead_is base_is =
-    extracted files board first_challenge first_reply second_challenge second_reply (base checker) (ahead checker) (extraction_of (base checker) (ahead checker)) ahead_is base_is refl
-begun base ahead files board first_challenge first_reply second_challenge second_reply (Err (Missing file)) ahead_is base_is =
-    not_extracted files board first_challenge first_reply second_challenge second_reply (Missing file) ahead_is
-begun base ahead files board first_challenge first_reply second_challenge second_reply (Err (TooLong file)) ahead_is base_is =
-    not_extracted files board first_challenge first_reply second_challenge second_reply (TooLong file) ahead_is
-begun base ahead files board first_challenge first_reply second_challenge second_reply (Err Failed) ahead_is base_is = tt
-begun base ahead files board first_challenge first_reply second_challenge second_reply (Err NoMemory) ahead_is base_is = tt
+pub begun : {T : Type 0} (base : T → Option BoardBase) (ahead : T → Ahead BoardVerdict)
+    (files : Files) (board first_challenge first_reply second_challenge second_reply : List ℕ)
+    (answer : Result T VErr)
+    → Gives unread_file ahead answer
+    (two_on files board first_challenge first_reply second_challenge second_reply)
+    → Gives unread_file base answer
+    (base_on files board first_challenge first_reply second_challenge second_reply)
+    → Gives unread_file (λ checker. extraction_of (base checker) (ahead checker)) answer
+    (extraction_on files board first_challenge first_reply second_challenge second_reply)
+begun base ahead files board first_challenge first_reply second_challenge second_reply (Ok checker)
+    ahead_is base_is =
+    extracted files board first_challenge first_reply second_challenge second_reply (base checker)
+    (ahead checker) (extraction_of (base checker) (ahead checker)) ahead_is base_is refl
+begun base ahead files board first_challenge first_reply second_challenge second_reply
+    (Err (Missing file)) ahead_is base_is =
+    not_extracted files board first_challenge first_reply second_challenge second_reply
+    (Missing file) ahead_is
+begun base ahead files board first_challenge first_reply second_challenge second_reply
+    (Err (TooLong file)) ahead_is base_is =
+    not_extracted files board first_challenge first_reply second_challenge second_reply
+    (TooLong file) ahead_is
+begun base ahead files board first_challenge first_reply second_challenge second_reply (Err Failed)
+    ahead_is base_is = tt
+begun base ahead files board first_challenge first_reply second_challenge second_reply
+    (Err NoMemory) ahead_is base_is = tt

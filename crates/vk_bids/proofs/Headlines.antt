@@ -1,5 +1,5 @@
--- Two replies that are accepted for different challenges give values for which the circuit holds, on a board those
--- of the published sale; or a clash. Only such replies do.
+-- Two replies that are accepted for different challenges give values for which the circuit holds,
+-- on a board those of the published sale; or a clash. Only such replies do.
 use Rattle.std.proofs.Common.{◌≡◌, ◌≢◌, ℕ, suc, ◌+◌, ◌-◌, ◌<◌, ◌≤◌, ◌&&◌, Bool, true, false, if◌then◌else◌, List, [], ◌∷◌, length, Option, Some, Result, Ok, Err, refl, sym, ap, subst, ◌∙◌, arith}
 use Rattle.std.specs.Prelude.{slice_get, slice_index_or}
 use Rattle.std.proofs.lemmas.List.Elements.{All-weaker}
@@ -57,7 +57,8 @@ same_bits_are [] (bit ∷ second) same = cc
 same_bits_are (bit ∷ first) [] same = cc
 same_bits_are (bit ∷ first) (other ∷ second) same =
     let both = both_true (same_bit bit other) (same_bits first second) same in
-    ap (λ b. b ∷ first) (same_bit_is bit other both.0) ∙ ap (λ bits. other ∷ bits) (same_bits_are first second both.1)
+    ap (λ b. b ∷ first) (same_bit_is bit other both.0)
+    ∙ ap (λ bits. other ∷ bits) (same_bits_are first second both.1)
 
 same_itself : (bits : List Bool) → same_bits bits bits ≡ true
 same_itself [] = refl
@@ -68,50 +69,72 @@ same_itself (false ∷ bits) = same_itself bits
 abbrev of_test : {V : Type 0} → Bool → Finding V
 of_test test = if test then ends.Same else ends.Ready
 
-accepted_same : {V : Type 0} (first second : List Bool) → first ≡ second → accepted_of {V = V} first second ≡ ends.Same
-accepted_same {V} first second same = ap (λ bits. accepted_of {V = V} first bits) (sym same) ∙ ap (of_test {V = V}) (same_itself first)
+accepted_same : {V : Type 0} (first second : List Bool) → first ≡ second
+    → accepted_of {V = V} first second ≡ ends.Same
+accepted_same {V} first second same = ap (λ bits. accepted_of {V = V} first bits) (sym same)
+    ∙ ap (of_test {V = V}) (same_itself first)
 
-by_test : {V : Type 0} (first second : List Bool) (test : Bool) → same_bits first second ≡ test → first ≢ second
+by_test : {V : Type 0} (first second : List Bool) (test : Bool) → same_bits first second ≡ test
+    → first ≢ second
     → of_test {V = V} test ≡ ends.Ready
 by_test first second true is differ = absurd (differ (same_bits_are first second is))
 by_test first second false is differ = refl
 
 accepted_differ : {V : Type 0} (first second : List Bool) → first ≢ second
     → accepted_of {V = V} first second ≡ ends.Ready
-accepted_differ {V} first second differ = by_test {V = V} first second (same_bits first second) refl differ
+accepted_differ {V} first second differ =
+    by_test {V = V} first second (same_bits first second) refl differ
 
-bits_differ : {V : Type 0} (first second : List Bool) → accepted_of {V = V} first second ≡ ends.Ready → first ≢ second
-bits_differ {V} first second ready same = let alike : accepted_of {V = V} first second ≡ ends.Same = accepted_same {V = V} first second same in cc
+bits_differ : {V : Type 0} (first second : List Bool)
+    → accepted_of {V = V} first second ≡ ends.Ready → first ≢ second
+bits_differ {V} first second ready same = let alike : accepted_of {V = V} first second ≡ ends.Same =
+    accepted_same {V = V} first second same in cc
 
 -- ---- the lanes
 
 -- lanes by their indices are the lanes from that number on
-are_given : (s : StatementValue) (at : ℕ → TwoLane) (number : ℕ) (first second : List Bool) (lanes : List TwoLane)
+are_given : (s : StatementValue) (at : ℕ → TwoLane) (number : ℕ) (first second : List Bool)
+    (lanes : List TwoLane)
     → length first ≡ length lanes → length second ≡ length lanes
-    → ((index : ℕ) (lane : TwoLane) → slice_get lanes index ≡ Some lane → lane ≡ at (number + index))
+    → ((index : ℕ) (lane : TwoLane) → slice_get lanes index ≡ Some lane
+    → lane ≡ at (number + index))
     → ((index : ℕ) → slice_index_or first index false ≡ (at (number + index)).first_bit)
     → ((index : ℕ) → slice_index_or second index false ≡ (at (number + index)).second_bit)
     → AreGiven s at number first second lanes
 are_given s at number [] [] [] first_each second_each are firsts seconds = tt
-are_given s at number [] second (lane ∷ lanes) first_each second_each are firsts seconds = absurd (omega (arith, first_each))
-are_given s at number [] (bit ∷ second) [] first_each second_each are firsts seconds = absurd (omega (arith, second_each))
-are_given s at number (bit ∷ first) second [] first_each second_each are firsts seconds = absurd (omega (arith, first_each))
-are_given s at number (bit ∷ first) [] (lane ∷ lanes) first_each second_each are firsts seconds = absurd (omega (arith, second_each))
-are_given s at number (bit ∷ first) (other ∷ second) (lane ∷ lanes) first_each second_each are firsts seconds =
+are_given s at number [] second (lane ∷ lanes) first_each second_each are firsts seconds =
+    absurd (omega (arith, first_each))
+are_given s at number [] (bit ∷ second) [] first_each second_each are firsts seconds =
+    absurd (omega (arith, second_each))
+are_given s at number (bit ∷ first) second [] first_each second_each are firsts seconds =
+    absurd (omega (arith, first_each))
+are_given s at number (bit ∷ first) [] (lane ∷ lanes) first_each second_each are firsts seconds =
+    absurd (omega (arith, second_each))
+are_given s at number (bit ∷ first) (other ∷ second) (lane ∷ lanes) first_each second_each are
+    firsts seconds =
     let here : number + 0 ≡ number = omega arith in
     let next : (index : ℕ) → number + suc index ≡ number + 1 + index = λ index. omega arith in (
-      (are 0 lane refl ∙ ap at here, firsts 0 ∙ ap (λ n. (at n).first_bit) here, seconds 0 ∙ ap (λ n. (at n).second_bit) here),
-      are_given s at (number + 1) first second lanes (omega (arith, first_each)) (omega (arith, second_each))
+      (
+        are 0 lane refl ∙ ap at here,
+        firsts 0 ∙ ap (λ n. (at n).first_bit) here,
+        seconds 0
+            ∙ ap (λ n. (at n).second_bit) here,
+      ),
+      are_given s at (number + 1) first second lanes (omega (arith, first_each))
+          (omega (arith, second_each))
           (λ index given get. are (suc index) given get ∙ ap at (next index))
           (λ index. firsts (suc index) ∙ ap (λ n. (at n).first_bit) (next index))
           (λ index. seconds (suc index) ∙ ap (λ n. (at n).second_bit) (next index)),
     )
 
-bit_at : (bits : List Bool) (index : ℕ) → slice_index_or bits index false ≡ slice_index_or bits (1 + index - 1) false
-bit_at bits index = let same : index ≡ 1 + index - 1 = omega arith in ap (λ i. slice_index_or bits i false) same
+bit_at : (bits : List Bool) (index : ℕ)
+    → slice_index_or bits index false ≡ slice_index_or bits (1 + index - 1) false
+bit_at bits index = let same : index ≡ 1 + index - 1 = omega arith in
+    ap (λ i. slice_index_or bits i false) same
 
 -- a lane for each lane of the statement and each bit, accepted for both bits
-record GivesLanes (s : StatementValue) (at : ℕ → TwoLane) (first second : List Bool) (lanes : List TwoLane) : Type 0 where
+record GivesLanes (s : StatementValue) (at : ℕ → TwoLane) (first second : List Bool)
+    (lanes : List TwoLane) : Type 0 where
   one_each : length lanes ≡ s.lanes
   first_each : length first ≡ s.lanes
   second_each : length second ≡ s.lanes
@@ -120,33 +143,42 @@ record GivesLanes (s : StatementValue) (at : ℕ → TwoLane) (first second : Li
   second_bits : (index : ℕ) → slice_index_or second index false ≡ (at (1 + index)).second_bit
   right : (number : ℕ) → 1 ≤ number → number ≤ s.lanes → IsLane s number (at number)
 
-lanes_add : (s : StatementValue) (at : ℕ → TwoLane) (first second : List Bool) (lanes : List TwoLane) → IsStatement s
+lanes_add : (s : StatementValue) (at : ℕ → TwoLane) (first second : List Bool)
+    (lanes : List TwoLane) → IsStatement s
     → GivesLanes s at first second lanes
     → AddsLanes s at [] (differing 1 first second) (gathered_from s (Ok []) 1 lanes)
 lanes_add s at first second lanes is gives =
     let most : 1 + length first ≤ s.lanes + 1 = omega (arith, gives.first_each) in
     let given =
-    are_given s at 1 first second lanes (gives.first_each ∙ sym gives.one_each) (gives.second_each ∙ sym gives.one_each)
-    (λ index lane get. let same : index + 1 ≡ 1 + index = omega arith in gives.each index lane get ∙ ap at same) gives.first_bits gives.second_bits in
+    are_given s at 1 first second lanes (gives.first_each ∙ sym gives.one_each)
+    (gives.second_each ∙ sym gives.one_each)
+    (λ index lane get. let same : index + 1 ≡ 1 + index = omega arith in
+    gives.each index lane get ∙ ap at same) gives.first_bits gives.second_bits in
     gathered_adds s at 1 first second lanes [] is (omega arith) most gives.right given
 
 -- ---- what is found of them
 
-first_clash : (case : LaneCase) (zero_shown one_shown : List Shown) (two : TwoOpeningsSeen) → clash_of_lane case zero_shown one_shown ≡ Some two → (wire : ℕ) × IsFirstClash case zero_shown one_shown wire two
-first_clash case zs os two found = let is = clash_found case 0 case.coms zs os two found in (is.0, first_of_clashes case zs os is.0 two is.1)
+first_clash : (case : LaneCase) (zero_shown one_shown : List Shown) (two : TwoOpeningsSeen)
+    → clash_of_lane case zero_shown one_shown ≡ Some two
+    → (wire : ℕ) × IsFirstClash case zero_shown one_shown wire two
+first_clash case zs os two found = let is = clash_found case 0 case.coms zs os two found in
+    (is.0, first_of_clashes case zs os is.0 two is.1)
 
 agrees : (at : ℕ → TwoLane) (number : ℕ) → Agrees at number → AgreesAt at number
-agrees at number none = all_agree (at number).case 0 (at number).case.coms (lane_shown false (at number)) (lane_shown true (at number)) none
+agrees at number none = all_agree (at number).case 0 (at number).case.coms
+    (lane_shown false (at number)) (lane_shown true (at number)) none
 
 clash_is : (s : StatementValue) (at : ℕ → TwoLane) (numbers : List ℕ) (clash : TwoOpeningsSeen)
     → ClashesIn s at numbers clash → IsFirstClashOf at numbers s.auction clash
 clash_is s at numbers clash adds =
     let number = adds.number in
-    let first = first_clash (at number).case (lane_shown false (at number)) (lane_shown true (at number)) clash adds.found in
+    let first = first_clash (at number).case (lane_shown false (at number))
+    (lane_shown true (at number)) clash adds.found in
     record {
       number = number;
       differs = adds.within;
-      earlier = All-weaker (λ n. n < number → Agrees at n) (λ n. n < number → AgreesAt at n) (λ n none lt. agrees at n (none lt)) numbers adds.earlier;
+      earlier = All-weaker (λ n. n < number → Agrees at n) (λ n. n < number → AgreesAt at n)
+          (λ n none lt. agrees at n (none lt)) numbers adds.earlier;
       wire = first.0;
       first = first.1;
       lane = adds.clash.lane;
@@ -161,7 +193,8 @@ module _ {s : StatementValue} {front file first_challenge first_reply second_cha
   lane_behind : two.second.lines ≡ two.first.lines → (number : ℕ) → 1 ≤ number → number ≤ s.lanes
       → IsLane s number (lane_of two number)
   lane_behind one number some last =
-      let P : List LaneLines → Type 0 = λ lines. IsAccepted s.plan (case_of s number (slice_index_or lines (number - 1) no_lines))
+      let P : List LaneLines → Type 0 =
+      λ lines. IsAccepted s.plan (case_of s number (slice_index_or lines (number - 1) no_lines))
       (bit_of two.second.challenge number) (shown_behind two.second number) in
       record {
         case = (slice_index_or two.first.lines (number - 1) no_lines, refl);
@@ -169,26 +202,33 @@ module _ {s : StatementValue} {front file first_challenge first_reply second_cha
         second = subst P one (two.second.lanes number some last);
       }
 
-  opened_is : (all : Result (List LaneBids) TwoOpeningsSeen) → AddsLanes s (lane_of two) [] (differing_behind two) all
+  opened_is : (all : Result (List LaneBids) TwoOpeningsSeen)
+      → AddsLanes s (lane_of two) [] (differing_behind two) all
       → IsOfBehind two (given_by (opened_of s) all)
   opened_is (Ok found) adds =
-      let P : List LaneBids → Type 0 = λ found. IsOpened two (record { statement = s; lanes = found }) in
+      let P : List LaneBids → Type 0 =
+      λ found. IsOpened two (record { statement = s; lanes = found }) in
       subst P (sym adds.are) (record {
         statement = refl;
         numbers = adds.numbered;
         shown = adds.shown;
         opens = adds.each;
-        agree = All-weaker (Agrees (lane_of two)) (AgreesAt (lane_of two)) (agrees (lane_of two)) (differing_behind two) adds.agree;
+        agree = All-weaker (Agrees (lane_of two)) (AgreesAt (lane_of two)) (agrees (lane_of two))
+            (differing_behind two) adds.agree;
       })
   opened_is (Err clash) adds = clash_is s (lane_of two) (differing_behind two) clash adds
 
 pub accepted_behind_open : AcceptedBehindOpen
-accepted_behind_open s is front file first_challenge first_reply second_challenge second_reply rest same two =
-    let give = accepted_behind_give s is front file first_challenge first_reply second_challenge second_reply rest same two.first two.second in
-    let ahead = ahead_behind s rest (from_start first_challenge) (from_start first_reply) (from_start second_challenge) (from_start second_reply) in
+accepted_behind_open s is front file first_challenge first_reply second_challenge second_reply rest
+    same two =
+    let give = accepted_behind_give s is front file first_challenge first_reply second_challenge
+    second_reply rest same two.first two.second in
+    let ahead = ahead_behind s rest (from_start first_challenge) (from_start first_reply)
+    (from_start second_challenge) (from_start second_reply) in
     let base = base_with two.first two.second in
     let opened = opened_is two (gathered_from s (Ok []) 1 ahead.lanes)
-    (lanes_add s (lane_of two) two.first.challenge.bits two.second.challenge.bits ahead.lanes is (record {
+    (lanes_add s (lane_of two) two.first.challenge.bits two.second.challenge.bits ahead.lanes is
+    (record {
       one_each = give.2.one_each;
       first_each = two.first.one_bit_each;
       second_each = two.second.one_bit_each;
@@ -197,53 +237,86 @@ accepted_behind_open s is front file first_challenge first_reply second_challeng
       second_bits = bit_at two.second.challenge.bits;
       right = lane_behind two give.0;
     })) in
-    let ready : ahead.finding ≡ ends.Ready = give.2.finding ∙ accepted_differ {V = Fault} two.first.challenge.bits two.second.challenge.bits two.differ in
-    let P : Finding Fault → Type 0 = λ finding. IsOfBehind two (found_by (λ (base : Base). opened_of base.statement) (Some base) finding (gathered_after (λ (base : Base). base.statement) (Some base) ahead.lanes)) in
-    let Q : Option Base → Type 0 = λ base. IsOfBehind two (found_by (λ (base : Base). opened_of base.statement) base ahead.finding (gathered_after (λ (base : Base). base.statement) base ahead.lanes)) in
+    let ready : ahead.finding ≡ ends.Ready =
+    give.2.finding ∙ accepted_differ {V = Fault} two.first.challenge.bits
+    two.second.challenge.bits two.differ in
+    let P : Finding Fault → Type 0 =
+    λ finding. IsOfBehind two
+    (found_by (λ (base : Base). opened_of base.statement) (Some base) finding
+    (gathered_after (λ (base : Base). base.statement) (Some base) ahead.lanes)) in
+    let Q : Option Base → Type 0 =
+    λ base. IsOfBehind two
+    (found_by (λ (base : Base). opened_of base.statement) base ahead.finding
+    (gathered_after (λ (base : Base). base.statement) base ahead.lanes)) in
     subst Q (sym give.1) (subst P (sym ready) opened)
 
-ready_behind : (base : Option Base) (finding : Finding Fault) (gathered : Result (List LaneBids) TwoOpeningsSeen)
-    → IsFound (found_by (λ (base : Base). opened_of base.statement) base finding gathered) → finding ≡ ends.Ready
+ready_behind : (base : Option Base) (finding : Finding Fault)
+    (gathered : Result (List LaneBids) TwoOpeningsSeen)
+    → IsFound (found_by (λ (base : Base). opened_of base.statement) base finding gathered)
+    → finding ≡ ends.Ready
 ready_behind base (ends.Refused second fault) gathered found = absurd found
 ready_behind base ends.Same gathered found = absurd found
 ready_behind base ends.Ready gathered found = refl
 
 pub only_accepted_open : OnlyAcceptedOpen
-only_accepted_open s is front file first_challenge first_reply second_challenge second_reply rest same found =
-    let ahead = ahead_behind s rest (from_start first_challenge) (from_start first_reply) (from_start second_challenge) (from_start second_reply) in
-    let base = base_in (base_behind s rest (from_start first_challenge) (from_start first_reply) (from_start second_challenge) (from_start second_reply)) in
-    let ready : ahead.finding ≡ ends.Ready = ready_behind base ahead.finding (gathered_after (λ (base : Base). base.statement) base ahead.lanes) found in
+only_accepted_open s is front file first_challenge first_reply second_challenge second_reply rest
+    same found =
+    let ahead = ahead_behind s rest (from_start first_challenge) (from_start first_reply)
+    (from_start second_challenge) (from_start second_reply) in
+    let base = base_in (base_behind s rest (from_start first_challenge) (from_start first_reply)
+    (from_start second_challenge) (from_start second_reply)) in
+    let ready : ahead.finding ≡ ends.Ready =
+    ready_behind base ahead.finding
+    (gathered_after (λ (base : Base). base.statement) base ahead.lanes) found in
     let A : Finding Fault → Type 0 = λ finding. BothAreAccepted finding in
-    let both = only_accepted_behind s is front file first_challenge first_reply second_challenge second_reply rest same (subst A (sym ready) tt) in
-    let give = accepted_behind_give s is front file first_challenge first_reply second_challenge second_reply rest same both.0 both.1 in
-    record { first = both.0; second = both.1; differ = bits_differ {V = Fault} both.0.challenge.bits both.1.challenge.bits (sym give.2.finding ∙ ready) }
+    let both = only_accepted_behind s is front file first_challenge first_reply second_challenge
+    second_reply rest same (subst A (sym ready) tt) in
+    let give = accepted_behind_give s is front file first_challenge first_reply second_challenge
+    second_reply rest same both.0 both.1 in
+    record {
+      first = both.0;
+      second = both.1;
+      differ = bits_differ {V = Fault} both.0.challenge.bits both.1.challenge.bits
+          (sym give.2.finding ∙ ready);
+    }
 
 -- ---- on a board
 
 -- the lane of that number, on the first reply's board
 lane_in : {board first_challenge first_reply second_challenge second_reply : List ℕ}
-    (first : Accepts board first_challenge first_reply) (second : Accepts board second_challenge second_reply) → AreOfOneBoard first second
+    (first : Accepts board first_challenge first_reply)
+    (second : Accepts board second_challenge second_reply) → AreOfOneBoard first second
     → (number : ℕ) → 1 ≤ number → number ≤ first.front.head.lanes
     → IsLane (statement_of first.front) number (two_lane_in first second number)
 lane_in first second one number some last =
-    let count : second.front.head.lanes ≡ first.front.head.lanes = ap (λ (f : Front). f.head.lanes) one.one_front in
-    let P : Front → Type 0 = λ front. IsAccepted (statement_of front).plan (case_of (statement_of front) number (slice_index_or second.behind.lines (number - 1) no_lines))
+    let count : second.front.head.lanes ≡ first.front.head.lanes =
+    ap (λ (f : Front). f.head.lanes) one.one_front in
+    let P : Front → Type 0 = λ front. IsAccepted (statement_of front).plan
+    (case_of (statement_of front) number
+    (slice_index_or second.behind.lines (number - 1) no_lines))
     (bit_of second.behind.challenge number) (shown_behind second.behind number) in
-    let Q : List LaneLines → Type 0 = λ lines. IsAccepted (statement_of first.front).plan (case_of (statement_of first.front) number (slice_index_or lines (number - 1) no_lines))
+    let Q : List LaneLines → Type 0 =
+    λ lines. IsAccepted (statement_of first.front).plan
+    (case_of (statement_of first.front) number (slice_index_or lines (number - 1) no_lines))
     (bit_of second.behind.challenge number) (shown_behind second.behind number) in
     record {
       case = (slice_index_or first.behind.lines (number - 1) no_lines, refl);
       first = first.behind.lanes number some last;
-      second = subst Q one.one_lines (subst P one.one_front (second.behind.lanes number some (omega (arith, count, last))));
+      second = subst Q one.one_lines
+          (subst P one.one_front (second.behind.lanes number some (omega (arith, count, last))));
     }
 
-shown_is : {board first_challenge first_reply second_challenge second_reply : List ℕ} (two : TwoAccepted board first_challenge first_reply second_challenge second_reply)
-    (all : Result (List LaneBids) TwoOpeningsSeen) → AddsLanes (statement_of two.first.front) (two_lane_in two.first two.second) [] (differing_in two) all
+shown_is : {board first_challenge first_reply second_challenge second_reply : List ℕ}
+    (two : TwoAccepted board first_challenge first_reply second_challenge second_reply)
+    (all : Result (List LaneBids) TwoOpeningsSeen)
+    → AddsLanes (statement_of two.first.front) (two_lane_in two.first two.second) []
+    (differing_in two) all
     → IsOf two (given_by (shown_on two.first.front) all)
 shown_is two (Ok found) adds =
     let at = two_lane_in two.first two.second in
     let front = front_in two.first in
-    let P : List LaneBids → Type 0 = λ found. IsExtraction two (record { front = front; lanes = found }) in
+    let P : List LaneBids → Type 0 =
+    λ found. IsExtraction two (record { front = front; lanes = found }) in
     subst P (sym adds.are) (record {
       front = refl;
       numbers = adds.numbered;
@@ -251,17 +324,22 @@ shown_is two (Ok found) adds =
       outcomes = lanes_show front (statement_of front) adds.more two.first.right refl adds.each;
       agree = All-weaker (Agrees at) (AgreesAt at) (agrees at) (differing_in two) adds.agree;
     })
-shown_is two (Err clash) adds = clash_is (statement_of two.first.front) (two_lane_in two.first two.second) (differing_in two) clash adds
+shown_is two (Err clash) adds =
+    clash_is (statement_of two.first.front) (two_lane_in two.first two.second) (differing_in two)
+    clash adds
 
 pub accepted_are_extracted : AcceptedAreExtracted
 accepted_are_extracted board first_challenge first_reply second_challenge second_reply two =
-    let give = accepted_give board first_challenge first_reply second_challenge second_reply two.first two.second in
+    let give = accepted_give board first_challenge first_reply second_challenge second_reply
+    two.first two.second in
     let ahead = ahead_in board first_challenge first_reply second_challenge second_reply in
     let base = board_with two.first two.second in
     let s = statement_of two.first.front in
-    let count : two.second.front.head.lanes ≡ two.first.front.head.lanes = ap (λ (f : Front). f.head.lanes) give.0.one_front in
+    let count : two.second.front.head.lanes ≡ two.first.front.head.lanes =
+    ap (λ (f : Front). f.head.lanes) give.0.one_front in
     let shown = shown_is two (gathered_from s (Ok []) 1 ahead.lanes)
-    (lanes_add s (two_lane_in two.first two.second) (bits_of two.first) (bits_of two.second) ahead.lanes (statement_right two.first.front two.first.right) (record {
+    (lanes_add s (two_lane_in two.first two.second) (bits_of two.first) (bits_of two.second)
+    ahead.lanes (statement_right two.first.front two.first.right) (record {
       one_each = give.2.one_each;
       first_each = two.first.behind.one_bit_each;
       second_each = two.second.behind.one_bit_each ∙ count;
@@ -270,21 +348,32 @@ accepted_are_extracted board first_challenge first_reply second_challenge second
       second_bits = bit_at (bits_of two.second);
       right = lane_in two.first two.second give.0;
     })) in
-    let ready : ahead.finding ≡ ends.Ready = give.2.finding ∙ accepted_differ {V = BoardVerdict} (bits_of two.first) (bits_of two.second) two.differ in
-    let P : Finding BoardVerdict → Type 0 = λ finding. IsOf two (found_by (λ (base : BoardBase). shown_on base.front) (Some base) finding (gathered_after (λ (base : BoardBase). statement_of base.front) (Some base) ahead.lanes)) in
-    let Q : Option BoardBase → Type 0 = λ base. IsOf two (found_by (λ (base : BoardBase). shown_on base.front) base ahead.finding (gathered_after (λ (base : BoardBase). statement_of base.front) base ahead.lanes)) in
+    let ready : ahead.finding ≡ ends.Ready =
+    give.2.finding ∙ accepted_differ {V = BoardVerdict} (bits_of two.first) (bits_of two.second)
+    two.differ in
+    let P : Finding BoardVerdict
+    → Type 0 = λ finding. IsOf two
+    (found_by (λ (base : BoardBase). shown_on base.front) (Some base) finding
+    (gathered_after (λ (base : BoardBase). statement_of base.front) (Some base) ahead.lanes)) in
+    let Q : Option BoardBase → Type 0 =
+    λ base. IsOf two (found_by (λ (base : BoardBase). shown_on base.front) base ahead.finding
+    (gathered_after (λ (base : BoardBase). statement_of base.front) base ahead.lanes)) in
     subst Q (sym give.1) (subst P (sym ready) shown)
 
 -- ---- only accepted replies
 
-found_ready : (base : Option BoardBase) (finding : Finding BoardVerdict) (gathered : Result (List LaneBids) TwoOpeningsSeen)
-    → IsFound (found_by (λ (base : BoardBase). shown_on base.front) base finding gathered) → finding ≡ ends.Ready
+found_ready : (base : Option BoardBase) (finding : Finding BoardVerdict)
+    (gathered : Result (List LaneBids) TwoOpeningsSeen)
+    → IsFound (found_by (λ (base : BoardBase). shown_on base.front) base finding gathered)
+    → finding ≡ ends.Ready
 found_ready base (ends.Refused second verdict) gathered found = absurd found
 found_ready base ends.Same gathered found = absurd found
 found_ready base ends.Ready gathered found = refl
 
-same_accepted : (base : Option BoardBase) (finding : Finding BoardVerdict) (gathered : Result (List LaneBids) TwoOpeningsSeen)
-    → found_by (λ (base : BoardBase). shown_on base.front) base finding gathered ≡ Same → BothAreAccepted finding
+same_accepted : (base : Option BoardBase) (finding : Finding BoardVerdict)
+    (gathered : Result (List LaneBids) TwoOpeningsSeen)
+    → found_by (λ (base : BoardBase). shown_on base.front) base finding gathered ≡ Same
+    → BothAreAccepted finding
 same_accepted base (ends.Refused second verdict) gathered same = absurd (cc)
 same_accepted base ends.Same gathered same = tt
 same_accepted base ends.Ready gathered same = tt
@@ -293,35 +382,65 @@ pub only_accepted_are_extracted : OnlyAcceptedAreExtracted
 only_accepted_are_extracted board first_challenge first_reply second_challenge second_reply found =
     let ahead = ahead_in board first_challenge first_reply second_challenge second_reply in
     let base = begun_in board first_challenge first_reply second_challenge second_reply in
-    let ready : ahead.finding ≡ ends.Ready = found_ready base ahead.finding (gathered_after (λ (base : BoardBase). statement_of base.front) base ahead.lanes) found in
+    let ready : ahead.finding ≡ ends.Ready =
+    found_ready base ahead.finding
+    (gathered_after (λ (base : BoardBase). statement_of base.front) base ahead.lanes) found in
     let A : Finding BoardVerdict → Type 0 = λ finding. BothAreAccepted finding in
-    let both = only_accepted_give board first_challenge first_reply second_challenge second_reply (subst A (sym ready) tt) in
-    let give = accepted_give board first_challenge first_reply second_challenge second_reply both.0 both.1 in
-    record { first = both.0; second = both.1; differ = bits_differ {V = BoardVerdict} (bits_of both.0) (bits_of both.1) (sym give.2.finding ∙ ready) }
+    let both = only_accepted_give board first_challenge first_reply second_challenge second_reply
+    (subst A (sym ready) tt) in
+    let give = accepted_give board first_challenge first_reply second_challenge second_reply both.0
+    both.1 in
+    record {
+      first = both.0;
+      second = both.1;
+      differ = bits_differ {V = BoardVerdict} (bits_of both.0) (bits_of both.1)
+          (sym give.2.finding ∙ ready);
+    }
 
 -- where the extraction is that the challenges are the same, they aren't different
-not_different : {board first_challenge first_reply second_challenge second_reply : List ℕ} (two : TwoAccepted board first_challenge first_reply second_challenge second_reply)
+not_different : {board first_challenge first_reply second_challenge second_reply : List ℕ}
+    (two : TwoAccepted board first_challenge first_reply second_challenge second_reply)
     (extraction : Extraction) → extraction ≡ Same → ¬ IsOf two extraction
 not_different two extraction same is = subst (λ (e : Extraction). IsOf two e) same is
 
-by_bits : {board first_challenge first_reply second_challenge second_reply : List ℕ} (first : Accepts board first_challenge first_reply) (second : Accepts board second_challenge second_reply)
-    (test : Bool) → same_bits (bits_of first) (bits_of second) ≡ test → extraction_in board first_challenge first_reply second_challenge second_reply ≡ Same
+by_bits : {board first_challenge first_reply second_challenge second_reply : List ℕ}
+    (first : Accepts board first_challenge first_reply)
+    (second : Accepts board second_challenge second_reply)
+    (test : Bool) → same_bits (bits_of first) (bits_of second) ≡ test
+    → extraction_in board first_challenge first_reply second_challenge second_reply ≡ Same
     → bits_of first ≡ bits_of second
 by_bits first second true is same = same_bits_are (bits_of first) (bits_of second) is
-by_bits {board} {first_challenge} {first_reply} {second_challenge} {second_reply} first second false is same =
-    let ready : accepted_of {V = BoardVerdict} (bits_of first) (bits_of second) ≡ ends.Ready = ap (of_test {V = BoardVerdict}) is in
+by_bits {board} {first_challenge} {first_reply} {second_challenge} {second_reply} first second false
+    is same =
+    let ready : accepted_of {V = BoardVerdict} (bits_of first) (bits_of second) ≡ ends.Ready =
+    ap (of_test {V = BoardVerdict}) is in
     let two : TwoAccepted board first_challenge first_reply second_challenge second_reply =
-    record { first = first; second = second; differ = bits_differ {V = BoardVerdict} (bits_of first) (bits_of second) ready } in
-    absurd (not_different two (extraction_in board first_challenge first_reply second_challenge second_reply) same
+    record {
+      first = first;
+      second = second;
+      differ = bits_differ {V = BoardVerdict} (bits_of first) (bits_of second) ready;
+    } in
+    absurd (not_different two (extraction_in board first_challenge first_reply second_challenge
+    second_reply) same
     (accepted_are_extracted board first_challenge first_reply second_challenge second_reply two))
 
 pub same_is_found : SameIsFound
 same_is_found board first_challenge first_reply second_challenge second_reply =
     let ahead = ahead_in board first_challenge first_reply second_challenge second_reply in
     let base = begun_in board first_challenge first_reply second_challenge second_reply in (
-      λ same. let both = only_accepted_give board first_challenge first_reply second_challenge second_reply (same_accepted base ahead.finding (gathered_after (λ (base : BoardBase). statement_of base.front) base ahead.lanes) same) in
-          record { first = both.0; second = both.1; same = by_bits both.0 both.1 (same_bits (bits_of both.0) (bits_of both.1)) refl same },
-      λ both. let give = accepted_give board first_challenge first_reply second_challenge second_reply both.first both.second in
-          ap (λ finding. found_by (λ (base : BoardBase). shown_on base.front) base finding (gathered_after (λ (base : BoardBase). statement_of base.front) base ahead.lanes))
-          (give.2.finding ∙ accepted_same {V = BoardVerdict} (bits_of both.first) (bits_of both.second) both.same),
+      λ same. let both = only_accepted_give board first_challenge first_reply second_challenge
+          second_reply (same_accepted base ahead.finding
+          (gathered_after (λ (base : BoardBase). statement_of base.front) base ahead.lanes) same) in
+          record {
+            first = both.0;
+            second = both.1;
+            same = by_bits both.0 both.1 (same_bits (bits_of both.0) (bits_of both.1)) refl
+                same;
+          },
+      λ both. let give = accepted_give board first_challenge first_reply second_challenge
+          second_reply both.first both.second in
+          ap (λ finding. found_by (λ (base : BoardBase). shown_on base.front) base finding
+          (gathered_after (λ (base : BoardBase). statement_of base.front) base ahead.lanes))
+          (give.2.finding ∙ accepted_same {V = BoardVerdict} (bits_of both.first)
+          (bits_of both.second) both.same),
     )

@@ -20,19 +20,23 @@ pub with_found : (s : StatementValue) (before after : List LaneBids) (found : Op
     → IfSome found (LaneOpens s) → All (LaneOpens s) before → All (LaneOpens s) after
 with_found s before after found pushed opens so_far =
     let P : List LaneBids → Type 0 = λ lanes. All (LaneOpens s) lanes in
-    subst P (sym pushed) (All-append (LaneOpens s) before (option_to_list found) so_far (found_opens s found opens))
+    subst P (sym pushed) (All-append (LaneOpens s) before (option_to_list found) so_far
+    (found_opens s found opens))
 
 -- the same of a base with the statement
 pub by_statement : (base : Option Base) (statement : StatementValue) (before after : List LaneBids)
     → IfSome base (λ base. base.statement ≡ statement)
     → (All (LaneOpens statement) before → All (LaneOpens statement) after)
-    → IfSome base (λ base. All (LaneOpens base.statement) before → All (LaneOpens base.statement) after)
+    → IfSome base (λ base. All (LaneOpens base.statement) before
+    → All (LaneOpens base.statement) after)
 by_statement None statement before after is step = tt
 by_statement (Some base) statement before after is step =
-    let P : StatementValue → Type 0 = λ s. All (LaneOpens s) before → All (LaneOpens s) after in subst P (sym is) step
+    let P : StatementValue → Type 0 = λ s. All (LaneOpens s) before → All (LaneOpens s) after in
+    subst P (sym is) step
 
 -- what is opened after a base is of its statement
-pub are_of : (s : StatementValue) (base : Option Base) (found : LaneExtraction) → IfSome base (λ b. b.statement ≡ s) → AreOfBase base found
+pub are_of : (s : StatementValue) (base : Option Base) (found : LaneExtraction)
+    → IfSome base (λ b. b.statement ≡ s) → AreOfBase base found
     → AreOf s found
 are_of s base (Refused second fault) read of_base = tt
 are_of s base Same read of_base = tt

@@ -1,5 +1,5 @@
--- The law of a secret that is confronted with two accepted replies: its halves are those that they open, or there
--- are two openings of one commitment of its seal.
+-- The law of a secret that is confronted with two accepted replies: its halves are those that they
+-- open, or there are two openings of one commitment of its seal.
 use Rattle.std.specs.Prelude.{◌≡◌, ◌≢◌, ◌↔◌, ◌⊎◌, ℕ, ◌-◌, All, List, ◌∷◌, ◌++◌, slice_get, Some, Ok, Err}
 use Rattle.vk_commit.specs.Commitment.{TwoOpeningsSeen}
 use Rattle.vk_io.specs.Files.{Files}
@@ -37,7 +37,11 @@ pub record IsSealAt (front : Front) (secret : Secret) (index : ℕ) : Type 0 whe
 
 -- the board's seal with these lines
 abbrev pub seal_with : Front → SealLines → Seal
-seal_with front lines = record { auction = front.head.auction; seat = lines.seat; lanes = lines.coms }
+seal_with front lines = record {
+  auction = front.head.auction;
+  seat = lines.seat;
+  lanes = lines.coms;
+}
 
 -- the board's seal at that index is the secret's
 pub record IsSealOf (front : Front) (secret : Secret) (index : ℕ) : Type 0 where
@@ -65,47 +69,53 @@ pub record IsHeldBy (secret : Secret) (found : Extracted) : Type 0 where
   pub seal : IsSealOf found.front secret index
   pub lanes : All (HoldsIn secret index) found.lanes
 
--- the board's seal of the seat is the secret's, and in the first lane in which a half isn't the secret's, one
--- commitment of that seal has two openings: the secret's, and the one that is shown
-pub record IsClashWith (secret : Secret) (found : Extracted) (clash : TwoOpeningsSeen) : Type 0 where
-  pub index : ℕ
-  pub seal : IsSealOf found.front secret index
-  pub earlier : List LaneBids
-  pub lane : LaneBids
-  pub later : List LaneBids
-  pub lanes : found.lanes ≡ earlier ++ lane ∷ later
-  pub before : All (HoldsIn secret index) earlier
-  pub bid : OpenedBid
-  pub is : slice_get lane.bids index ≡ Some bid
-  pub two : IsConfronted secret lane.number bid.first bid.second clash
-  pub digests : WireCom
-  pub in_lane : slice_get seal.stands.lines.coms (lane.number - 1) ≡ Some digests
-  pub committed : clash.digest ≡ entry_digest digests two.half
+-- the board's seal of the seat is the secret's, and in the first lane in which a half isn't the
+-- secret's, one commitment of that seal has two openings: the secret's, and the one that is shown
+pub record IsClashWith (secret : Secret) (found : Extracted) (clash : TwoOpeningsSeen) : Type 0
+  where
+    pub index : ℕ
+    pub seal : IsSealOf found.front secret index
+    pub earlier : List LaneBids
+    pub lane : LaneBids
+    pub later : List LaneBids
+    pub lanes : found.lanes ≡ earlier ++ lane ∷ later
+    pub before : All (HoldsIn secret index) earlier
+    pub bid : OpenedBid
+    pub is : slice_get lane.bids index ≡ Some bid
+    pub two : IsConfronted secret lane.number bid.first bid.second clash
+    pub digests : WireCom
+    pub in_lane : slice_get seal.stands.lines.coms (lane.number - 1) ≡ Some digests
+    pub committed : clash.digest ≡ entry_digest digests two.half
 
 -- what a secret comes to against the bids of two accepted replies
 abbrev pub IsConfrontationOf : Secret → Extracted → Confrontation → Type 0
 IsConfrontationOf secret found (Refused second verdict) = ⊥
 IsConfrontationOf secret found Same = ⊥
 IsConfrontationOf secret found (Malformed line) = ⊥
-IsConfrontationOf secret found (NoSeal seat) = (seat ≡ secret.seat) × All (λ lines. lines.seat ≢ secret.seat) found.front.seals
+IsConfrontationOf secret found (NoSeal seat) = (seat ≡ secret.seat)
+    × All (λ lines. lines.seat ≢ secret.seat) found.front.seals
 IsConfrontationOf secret found (comes.Mismatch mismatch) = HasMismatch found.front secret mismatch
 IsConfrontationOf secret found (Clash clash) = IsClashWith secret found clash
 IsConfrontationOf secret found (Held seat) = (seat ≡ secret.seat) × IsHeldBy secret found
 
 -- ---- the laws
 
--- the replies open one commitment with two values, and that is the answer; or they give these bids, and the
--- answer is of them
+-- the replies open one commitment with two values, and that is the answer; or they give these bids,
+-- and the answer is of them
 abbrev pub ClashOr : {board first_challenge first_reply second_challenge second_reply : List ℕ}
-    → TwoAccepted board first_challenge first_reply second_challenge second_reply → (Extracted → Type 0) → Confrontation → Type 0
+    → TwoAccepted board first_challenge first_reply second_challenge second_reply
+    → (Extracted → Type 0) → Confrontation → Type 0
 ClashOr two IsAnswer confrontation =
-    ((clash : TwoOpeningsSeen) × IsExtractionClash two clash × (confrontation ≡ Clash clash)) ⊎ ((found : Extracted) × IsExtraction two found × IsAnswer found)
+    ((clash : TwoOpeningsSeen) × IsExtractionClash two clash × (confrontation ≡ Clash clash))
+    ⊎ ((found : Extracted) × IsExtraction two found × IsAnswer found)
 
 -- against two replies that are accepted for different challenges
 abbrev pub SecretsAreBound : Type 0
 SecretsAreBound = (board first_challenge first_reply second_challenge second_reply file : List ℕ)
-    (two : TwoAccepted board first_challenge first_reply second_challenge second_reply) (secret : Secret) → IsSecret secret → file ≡ secret_text secret
-    → let confrontation = confrontation_in board first_challenge first_reply second_challenge second_reply file in
+    (two : TwoAccepted board first_challenge first_reply second_challenge second_reply)
+    (secret : Secret) → IsSecret secret → file ≡ secret_text secret
+    → let confrontation = confrontation_in board first_challenge first_reply second_challenge
+    second_reply file in
     ClashOr two (λ found. IsConfrontationOf secret found confrontation) confrontation
 
 -- the secret is held, and in each lane both halves are the secret's; or there is a clash
@@ -114,20 +124,25 @@ HeldOrClash secret index found confrontation =
     ((confrontation ≡ Held secret.seat) × All (HoldsIn secret index) found.lanes)
     ⊎ ((clash : TwoOpeningsSeen) × (confrontation ≡ Clash clash) × IsClashWith secret found clash)
 
--- where a seal on the board is the secret's, the secret is held or there is a clash: so there is one where in some
--- lane a half isn't the secret's
+-- where a seal on the board is the secret's, the secret is held or there is a clash: so there is
+-- one where in some lane a half isn't the secret's
 abbrev pub SealedAreHeldOrClash : Type 0
-SealedAreHeldOrClash = (board first_challenge first_reply second_challenge second_reply file : List ℕ)
-    (two : TwoAccepted board first_challenge first_reply second_challenge second_reply) (secret : Secret) (index : ℕ)
+SealedAreHeldOrClash = (board first_challenge first_reply second_challenge second_reply file : List
+    ℕ)
+    (two : TwoAccepted board first_challenge first_reply second_challenge second_reply)
+    (secret : Secret) (index : ℕ)
     → IsSecret secret → file ≡ secret_text secret → IsSealOf (front_in two.first) secret index
-    → let confrontation = confrontation_in board first_challenge first_reply second_challenge second_reply file in
+    → let confrontation = confrontation_in board first_challenge first_reply second_challenge
+    second_reply file in
     ClashOr two (λ found. HeldOrClash secret index found confrontation) confrontation
 
 -- a file that is no secret is named with its fault line
 abbrev pub OthersAreMalformed : Type 0
 OthersAreMalformed = (board first_challenge first_reply second_challenge second_reply file : List ℕ)
-    (two : TwoAccepted board first_challenge first_reply second_challenge second_reply) (line : ℕ) → fault_line secret_table file ≡ Some line
-    → let confrontation = confrontation_in board first_challenge first_reply second_challenge second_reply file in
+    (two : TwoAccepted board first_challenge first_reply second_challenge second_reply) (line : ℕ)
+    → fault_line secret_table file ≡ Some line
+    → let confrontation = confrontation_in board first_challenge first_reply second_challenge
+    second_reply file in
     ClashOr two (λ found. confrontation ≡ Malformed line) confrontation
 
 -- the secret is asked for, or there is a clash
@@ -142,18 +157,25 @@ IsOfTwo (Held seat) = Unit {0}
 
 -- only replies that are accepted for different challenges come to that
 abbrev pub OnlyAcceptedAreConfronted : Type 0
-OnlyAcceptedAreConfronted = (board first_challenge first_reply second_challenge second_reply file : List ℕ)
-    → IsOfTwo (confrontation_in board first_challenge first_reply second_challenge second_reply file)
+OnlyAcceptedAreConfronted = (board first_challenge first_reply second_challenge second_reply
+    file : List ℕ)
+    → IsOfTwo (confrontation_in board first_challenge first_reply second_challenge second_reply
+    file)
     → TwoAccepted board first_challenge first_reply second_challenge second_reply
 
 -- what their bytes and those of a secret come to
-abbrev pub confrontation_of_held : {files : Files} {board first_challenge first_reply second_challenge second_reply : List ℕ}
-    → HeldFiles files board first_challenge first_reply second_challenge second_reply → List ℕ → Confrontation
+abbrev pub confrontation_of_held : {files : Files}
+    {board first_challenge first_reply second_challenge second_reply : List ℕ}
+    → HeldFiles files board first_challenge first_reply second_challenge second_reply → List ℕ
+    → Confrontation
 confrontation_of_held held secret =
-    confrontation_in held.board_bytes held.first.challenge_bytes held.first.reply_bytes held.second.challenge_bytes held.second.reply_bytes secret
+    confrontation_in held.board_bytes held.first.challenge_bytes held.first.reply_bytes
+    held.second.challenge_bytes held.second.reply_bytes secret
 
 -- the six files are held, and their bytes come to this confrontation
-pub record ConfrontationOf (files : Files) (board first_challenge first_reply second_challenge second_reply secret : List ℕ) (confrontation : Confrontation) : Type 0 where
+pub record ConfrontationOf (files : Files)
+    (board first_challenge first_reply second_challenge second_reply secret : List ℕ)
+    (confrontation : Confrontation) : Type 0 where
   pub held : HeldFiles files board first_challenge first_reply second_challenge second_reply
   pub secret_bytes : List ℕ
   pub secret_is : IsHeldFile files secret secret_bytes
@@ -161,6 +183,10 @@ pub record ConfrontationOf (files : Files) (board first_challenge first_reply se
 
 -- the confrontation of named files is that of their bytes, where all are held and none is too long
 abbrev pub FilesAreConfronted : Type 0
-FilesAreConfronted = (files : Files) (board first_challenge first_reply second_challenge second_reply secret : List ℕ) (confrontation : Confrontation)
-    → (confrontation_on files board first_challenge first_reply second_challenge second_reply secret ≡ Ok confrontation)
-    ↔ ConfrontationOf files board first_challenge first_reply second_challenge second_reply secret confrontation
+FilesAreConfronted = (files : Files)
+    (board first_challenge first_reply second_challenge second_reply secret : List ℕ)
+    (confrontation : Confrontation)
+    → (confrontation_on files board first_challenge first_reply second_challenge second_reply secret
+    ≡ Ok confrontation)
+    ↔ ConfrontationOf files board first_challenge first_reply second_challenge second_reply secret
+    confrontation

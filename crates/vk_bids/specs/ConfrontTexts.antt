@@ -16,8 +16,8 @@ mismatch_line mismatch = line (spaced (codes "confront mismatch" ∷ mismatch_fi
 abbrev pub held_line : ℕ → List ℕ
 held_line seat = line (spaced (codes "held seat" ∷ decimal seat ∷ []))
 
--- of a confrontation for which both replies are accepted, the challenges differ and the file is a secret; and of
--- a clash
+-- of a confrontation for which both replies are accepted, the challenges differ and the file is a
+-- secret; and of a clash
 abbrev pub confrontation_text : Confrontation → List ℕ
 confrontation_text (comes.Refused second verdict) = []
 confrontation_text comes.Same = []

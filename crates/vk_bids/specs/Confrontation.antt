@@ -42,7 +42,8 @@ confronted_lane secret index lane = confronted_bid secret lane.number (slice_get
 -- lane by lane, the first clash
 unfoldable pub confronted_lanes : Secret → ℕ → List LaneBids → Option TwoOpeningsSeen
 confronted_lanes secret index [] = None
-confronted_lanes secret index (lane ∷ lanes) = or_else (confronted_lane secret index lane) (confronted_lanes secret index lanes)
+confronted_lanes secret index (lane ∷ lanes) =
+    or_else (confronted_lane secret index lane) (confronted_lanes secret index lanes)
 
 -- ---- the seal
 
@@ -57,7 +58,8 @@ no_seal = record { seat = 0; coms = [] }
 -- the board's seal at that index
 abbrev pub board_seal : Head → List SealLines → ℕ → Seal
 board_seal head seals index =
-    let lines = slice_index_or seals index no_seal in record { auction = head.auction; seat = lines.seat; lanes = lines.coms }
+    let lines = slice_index_or seals index no_seal in
+    record { auction = head.auction; seat = lines.seat; lanes = lines.coms }
 
 -- where the secret matches its seal: a clash, or it is held
 abbrev pub held_by : ℕ → Option TwoOpeningsSeen → Confrontation
@@ -72,7 +74,8 @@ matched_by secret index lanes (Ok done) = held_by secret.seat (confronted_lanes 
 abbrev pub sealed_by : Secret → Extracted → Option ℕ → Confrontation
 sealed_by secret found None = comes.NoSeal secret.seat
 sealed_by secret found (Some index) =
-    matched_by secret index found.lanes (match_of secret (board_seal found.front.head found.front.seals index))
+    matched_by secret index found.lanes
+    (match_of secret (board_seal found.front.head found.front.seals index))
 
 -- the secret against the seal of its seat, and then against the bids of that seal
 abbrev pub confronted_found : Secret → Extracted → Confrontation
@@ -96,10 +99,12 @@ abbrev pub secret_in : Result (Secret × Rest) ℕ → Result Secret ℕ
 secret_in (Ok read) = Ok read.0
 secret_in (Err line) = Err line
 
--- what the bytes of a board, a challenge and the reply to it, another challenge and reply, and a secret come to
+-- what the bytes of a board, a challenge and the reply to it, another challenge and reply, and a
+-- secret come to
 abbrev pub confrontation_in : List ℕ → List ℕ → List ℕ → List ℕ → List ℕ → List ℕ → Confrontation
 confrontation_in board first_challenge first_reply second_challenge second_reply secret =
-    confrontation_of (extraction_in board first_challenge first_reply second_challenge second_reply) (secret_in (secret_at (from_start secret)))
+    confrontation_of (extraction_in board first_challenge first_reply second_challenge second_reply)
+    (secret_in (secret_at (from_start secret)))
 
 -- which file of an extraction is missing or too long
 abbrev pub of_extraction : {X : Type 0} → Result X VErr → Result X ConfrontErr
@@ -109,21 +114,26 @@ of_extraction (Err refused) = Err (Unread refused)
 -- the file of a secret from its first line on, where it is held and has at most 2^30 bytes
 abbrev pub secret_begun : Option (List ℕ) → Result Rest ConfrontErr
 secret_begun None = Err MissingSecret
-secret_begun (Some bytes) = if nat_lt (2 ^ 30) (length bytes) then Err TooLongSecret else Ok (from_start bytes)
+secret_begun (Some bytes) = if nat_lt (2 ^ 30) (length bytes) then Err TooLongSecret
+    else Ok (from_start bytes)
 
 -- the same of the named files; or the first of them, in this order, that is missing or too long
-unfoldable pub confrontation_on : Files → List ℕ → List ℕ → List ℕ → List ℕ → List ℕ → List ℕ → Result Confrontation ConfrontErr
+unfoldable pub confrontation_on : Files → List ℕ → List ℕ → List ℕ → List ℕ → List ℕ → List ℕ
+    → Result Confrontation ConfrontErr
 confrontation_on files board first_challenge first_reply second_challenge second_reply secret = do
-  extraction ← of_extraction (extraction_on files board first_challenge first_reply second_challenge second_reply)
+  extraction ← of_extraction (extraction_on files board first_challenge first_reply second_challenge
+      second_reply)
   rest ← secret_begun (get files secret)
   Ok (confrontation_of extraction (secret_in (secret_at rest)))
 
 abbrev pub confrontation_named : Files → SecretAndReplies → Result Confrontation ConfrontErr
 confrontation_named files names =
     let replies = names.replies in
-    confrontation_on files replies.board.now replies.challenge1.now replies.reply1.now replies.challenge2.now replies.reply2.now names.secret.now
+    confrontation_on files replies.board.now replies.challenge1.now replies.reply1.now
+    replies.challenge2.now replies.reply2.now names.secret.now
 
--- which file is missing or too long, as a refusal tells it. A failure of the outside and want of memory tell none
+-- which file is missing or too long, as a refusal tells it. A failure of the outside and want of
+-- memory tell none
 abbrev pub fault_of : ConfrontErr → Option ConfrontErr
 fault_of (Unread verr.Failed) = None
 fault_of (Unread verr.NoMemory) = None
@@ -140,4 +150,5 @@ pub record OpensSecretBid (secret : Secret) (number : ℕ) (bid : OpenedBid) : T
 
 -- so does the bid of the seal at that index, in the lane
 abbrev pub OpensSecretIn : Secret → ℕ → LaneBids → Type 0
-OpensSecretIn secret index lane = IfSome (slice_get lane.bids index) (OpensSecretBid secret lane.number)
+OpensSecretIn secret index lane =
+    IfSome (slice_get lane.bids index) (OpensSecretBid secret lane.number)

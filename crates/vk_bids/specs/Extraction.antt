@@ -1,5 +1,5 @@
--- What two replies to a board come to: one of them isn't accepted, the challenges are the same, two openings of
--- one commitment, or bids.
+-- What two replies to a board come to: one of them isn't accepted, the challenges are the same, two
+-- openings of one commitment, or bids.
 use Rattle.std.specs.Prelude.{◌≡◌, ℕ, All, List, Option, Result, Ok}
 use Rattle.vk_residue.specs.Steps.{◌>>=◌}
 use Rattle.vk_io.specs.Files.{Files}
@@ -34,23 +34,28 @@ shown_on front lanes = record { front = front; lanes = lanes }
 abbrev pub extraction_of : Option BoardBase → Ahead BoardVerdict → Extraction
 extraction_of = comes_to (λ base. statement_of base.front) (λ base. shown_on base.front)
 
--- what the bytes of a board, a challenge and the reply to it, and another challenge and reply come to
+-- what the bytes of a board, a challenge and the reply to it, and another challenge and reply come
+-- to
 abbrev pub extraction_in : List ℕ → List ℕ → List ℕ → List ℕ → List ℕ → Extraction
 extraction_in board first_challenge first_reply second_challenge second_reply =
-    extraction_of (begun_in board first_challenge first_reply second_challenge second_reply) (ahead_in board first_challenge first_reply second_challenge second_reply)
+    extraction_of (begun_in board first_challenge first_reply second_challenge second_reply)
+    (ahead_in board first_challenge first_reply second_challenge second_reply)
 
 -- the same of the named files; or the first of them, in this order, that is missing or too long
-unfoldable pub extraction_on : Files → List ℕ → List ℕ → List ℕ → List ℕ → List ℕ → Result Extraction VErr
+unfoldable pub extraction_on : Files → List ℕ → List ℕ → List ℕ → List ℕ → List ℕ
+    → Result Extraction VErr
 extraction_on files board first_challenge first_reply second_challenge second_reply = do
   ahead ← two_on files board first_challenge first_reply second_challenge second_reply
   base ← base_on files board first_challenge first_reply second_challenge second_reply
   Ok (extraction_of base ahead)
 
 abbrev pub extraction_named : Files → TwoReplies → Result Extraction VErr
-extraction_named files names = extraction_on files names.board.now names.challenge1.now names.reply1.now names.challenge2.now names.reply2.now
+extraction_named files names =
+    extraction_on files names.board.now names.challenge1.now names.reply1.now names.challenge2.now
+    names.reply2.now
 
--- of bids: the front is that of a board whose price and winner may stand, and the bids of each lane show the
--- sale that it publishes
+-- of bids: the front is that of a board whose price and winner may stand, and the bids of each lane
+-- show the sale that it publishes
 abbrev pub Shows : Extraction → Type 0
 Shows = OfBids (λ found. IsFront found.front × All (LaneShows found.front) found.lanes)
 
@@ -65,4 +70,5 @@ extraction_with front (Bids opened) = Bids (shown_on (front opened.statement) op
 
 -- the lanes are those of the front, which may stand
 abbrev pub AreOfFront : (StatementValue → Front) → LaneExtraction → Type 0
-AreOfFront front = OfBids (λ opened. IsFront (front opened.statement) × (opened.statement ≡ statement_of (front opened.statement)))
+AreOfFront front = OfBids (λ opened. IsFront (front opened.statement)
+    × (opened.statement ≡ statement_of (front opened.statement)))

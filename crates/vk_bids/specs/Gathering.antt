@@ -1,4 +1,5 @@
--- What is gathered of the lanes that two replies give: their bids, or the first two openings of one commitment.
+-- What is gathered of the lanes that two replies give: their bids, or the first two openings of one
+-- commitment.
 use Rattle.std.specs.Prelude.{◌≡◌, ℕ, ◌+◌, ◌≤◌, Bool, true, false, List, [], ◌∷◌, ◌++◌, Option, Some, None, Result, Ok, Err}
 use Rattle.std.specs.Option.{option_to_list}
 use Rattle.vk_residue.specs.Steps.{◌>>=◌}
@@ -21,10 +22,12 @@ use Rattle.vk_bids.specs.Bids.{opened_bids}
 abbrev pub bids_by : StatementValue → ℕ → List Shown → List Shown → Option TwoOpeningsSeen
     → Result (Option LaneBids) TwoOpeningsSeen
 bids_by s number zero one (Some two) = Err two
-bids_by s number zero one None = Ok (Some (record { number = number; bids = opened_bids (seats_of s.seals) zero one }))
+bids_by s number zero one None =
+    Ok (Some (record { number = number; bids = opened_bids (seats_of s.seals) zero one }))
 
 -- what is shown for bit 0 comes first
-abbrev pub bids_of : StatementValue → ℕ → LaneCase → List Shown → List Shown → Result (Option LaneBids) TwoOpeningsSeen
+abbrev pub bids_of : StatementValue → ℕ → LaneCase → List Shown → List Shown
+    → Result (Option LaneBids) TwoOpeningsSeen
 bids_of s number case zero one = bids_by s number zero one (clash_of_lane case zero one)
 
 -- of a lane whose bits are these: nothing where they are the same
@@ -37,7 +40,8 @@ lane_by true true s number case first second = Ok None
 
 -- the lane of that number
 abbrev pub lane_found : StatementValue → ℕ → TwoLane → Result (Option LaneBids) TwoOpeningsSeen
-lane_found s number lane = lane_by lane.first_bit lane.second_bit s number lane.case lane.first lane.second
+lane_found s number lane = lane_by lane.first_bit lane.second_bit s number lane.case lane.first
+    lane.second
 
 -- what is shown for that bit, of a reply for the first bit and one for another
 abbrev pub shown_for : Bool → Bool → List Shown → List Shown → List Shown
@@ -59,10 +63,12 @@ added s number lane state = do
   Ok (before ++ option_to_list found)
 
 -- lanes one after another, the first of them with that number, after what was gathered before them
-unfoldable pub gathered_from : StatementValue → Result (List LaneBids) TwoOpeningsSeen → ℕ → List TwoLane
+unfoldable pub gathered_from : StatementValue → Result (List LaneBids) TwoOpeningsSeen → ℕ
+    → List TwoLane
     → Result (List LaneBids) TwoOpeningsSeen
 gathered_from s state number [] = state
-gathered_from s state number (lane ∷ lanes) = gathered_from s (added s number lane state) (number + 1) lanes
+gathered_from s state number (lane ∷ lanes) =
+    gathered_from s (added s number lane state) (number + 1) lanes
 
 -- a clash that is answered is what is given; want of memory says nothing
 abbrev pub IsClashOf : {X : Type 0} → LaneErr → Result X TwoOpeningsSeen → Type 0

@@ -1,5 +1,5 @@
--- What two replies come to behind a front: one of them has a fault, the challenges are the same, two openings of one
--- commitment, or the values of the lanes whose bits differ.
+-- What two replies come to behind a front: one of them has a fault, the challenges are the same,
+-- two openings of one commitment, or the values of the lanes whose bits differ.
 use Rattle.std.specs.Prelude.{◌≡◌, All, List, [], Option, Some, IfSome, IsSomeAnd, Result, Ok}
 use Rattle.vk_commit.specs.Commitment.{TwoOpeningsSeen}
 use Rattle.vk_lines.specs.Lines.{Rest}
@@ -26,16 +26,19 @@ opened_of s lanes = record { statement = s; lanes = lanes }
 abbrev pub lane_extraction : Option Base → Ahead Fault → LaneExtraction
 lane_extraction = comes_to (λ base. base.statement) (λ base. opened_of base.statement)
 
--- what two replies come to behind a front of which this is the statement, of a file that is read on there, a challenge
--- and the reply to it, and another challenge and reply
-abbrev pub lane_extraction_behind : StatementValue → Rest → Rest → Rest → Rest → Rest → LaneExtraction
+-- what two replies come to behind a front of which this is the statement, of a file that is read on
+-- there, a challenge and the reply to it, and another challenge and reply
+abbrev pub lane_extraction_behind : StatementValue → Rest → Rest → Rest → Rest → Rest
+    → LaneExtraction
 lane_extraction_behind s rest first_challenge first_reply second_challenge second_reply =
-    lane_extraction (base_in (base_behind s rest first_challenge first_reply second_challenge second_reply))
+    lane_extraction (base_in (base_behind s rest first_challenge first_reply second_challenge
+    second_reply))
     (ahead_behind s rest first_challenge first_reply second_challenge second_reply)
 
 -- the values of each lane open its seals, and are inputs for which the statement's circuit holds
 abbrev pub OpensLanes : LaneExtraction → Type 0
-OpensLanes = OfBids (λ opened. IsStatement opened.statement × All (LaneOpens opened.statement) opened.lanes)
+OpensLanes = OfBids (λ opened. IsStatement opened.statement
+    × All (LaneOpens opened.statement) opened.lanes)
 
 -- the lanes are those of the statement that was read
 abbrev pub AreOfBase : Option Base → LaneExtraction → Type 0

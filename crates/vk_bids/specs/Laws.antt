@@ -18,22 +18,25 @@ use Rattle.vk_bids.specs.Opening.{OpensValues}
 use Rattle.vk_bids.specs.Outcome.{ShowsOutcome}
 
 -- what is shown of the lane of that number, from 1, is accepted for bit 0 and for bit 1
-pub record BothAccepted (s : StatementValue) (number : ℕ) (lines : LaneLines) (zero one : List Shown) : Type 0 where
+pub record BothAccepted (s : StatementValue) (number : ℕ) (lines : LaneLines)
+    (zero one : List Shown) : Type 0 where
   pub some_lane : 1 ≤ number
   pub within : number ≤ s.lanes
   pub for_zero : IsAccepted s.plan (case_of s number lines) false zero
   pub for_one : IsAccepted s.plan (case_of s number lines) true one
 
--- what is shown opens such values, where no entry is opened to two; where one is, the first such has two openings
--- with different values
+-- what is shown opens such values, where no entry is opened to two; where one is, the first such
+-- has two openings with different values
 abbrev pub OpensOrClashes : StatementValue → ℕ → LaneLines → List Shown → List Shown
     → (List OpenedBid → Type 0) → Type 0
 OpensOrClashes s number lines zero one AreSuch =
-    (clash_of_lane (case_of s number lines) zero one ≡ None → AreSuch (opened_bids (seats_of s.seals) zero one))
+    (clash_of_lane (case_of s number lines) zero one ≡ None
+    → AreSuch (opened_bids (seats_of s.seals) zero one))
     × ((two : TwoOpeningsSeen) → clash_of_lane (case_of s number lines) zero one ≡ Some two
     → AreOfLane s.plan (case_of s number lines) two)
 
--- of every statement: the values that are opened open the seals, and are inputs for which its circuit holds
+-- of every statement: the values that are opened open the seals, and are inputs for which its
+-- circuit holds
 abbrev pub AcceptedLanesOpen : Type 0
 AcceptedLanesOpen =
     (s : StatementValue) → IsStatement s → (number : ℕ) (lines : LaneLines) (zero one : List Shown)

@@ -1,5 +1,5 @@
--- What the values that two replies open of a lane are: sums of halves that open its seals, and inputs for which the
--- circuit holds.
+-- What the values that two replies open of a lane are: sums of halves that open its seals, and
+-- inputs for which the circuit holds.
 use Rattle.std.specs.Prelude.{◌≡◌, ℕ, ◌-◌, ◌≤◌, List, map, take, slice_get, slice_index_or, Some}
 use Rattle.vk_residue.specs.Residue.{sum}
 use Rattle.vk_commit.specs.Commitment.{Opens}
@@ -27,9 +27,11 @@ IsCaseOf s number case = (lines : LaneLines) × (case ≡ case_of s number lines
 
 -- where a commitment of a seal stands: its first at slot 0, its second at slot 1
 abbrev pub seal_place : StatementValue → ℕ → ℕ → ℕ → Place
-seal_place s seat number slot = record { auction = s.auction; seat = seat; lane = number; slot = slot }
+seal_place s seat number slot =
+    record { auction = s.auction; seat = seat; lane = number; slot = slot }
 
--- the bid is the sum of two halves that open, in the lane of that number from 1, the seal at that index from 0
+-- the bid is the sum of two halves that open, in the lane of that number from 1, the seal at that
+-- index from 0
 pub record OpensSeal (s : StatementValue) (number index : ℕ) (bid : OpenedBid) : Type 0 where
   pub numbered : 1 ≤ number
   pub seal : SealLines
@@ -41,17 +43,21 @@ pub record OpensSeal (s : StatementValue) (number index : ℕ) (bid : OpenedBid)
   pub second_opens : Opens (seal_place s seal.seat number 1) digests.second bid.second
   pub is_sum : bid.bid ≡ sum bid.first.value bid.second.value
 
--- the openings of the bids, in the order of the seals, are those that are shown for bit 0 and for bit 1
+-- the openings of the bids, in the order of the seals, are those that are shown for bit 0 and for
+-- bit 1
 abbrev pub AreShownIn : List Shown → List Shown → List OpenedBid → Type 0
 AreShownIn zero one bids =
     (index : ℕ) (bid : OpenedBid) → slice_get bids index ≡ Some bid
-    → (slice_index_or zero index nothing_shown ≡ Half bid.first) × (slice_index_or one index nothing_shown ≡ Half bid.second)
+    → (slice_index_or zero index nothing_shown ≡ Half bid.first)
+    × (slice_index_or one index nothing_shown ≡ Half bid.second)
 
--- there is one value for each seal, it is the sum of two halves that open the seal in the lane of that number, and
--- there are values of all wires that hold for the circuit, of which these are the inputs'
+-- there is one value for each seal, it is the sum of two halves that open the seal in the lane of
+-- that number, and there are values of all wires that hold for the circuit, of which these are the
+-- inputs'
 pub record OpensValues (s : StatementValue) (number : ℕ) (bids : List OpenedBid) : Type 0 where
   pub one_each : map (λ bid. bid.seat) bids ≡ seats_of s.seals
-  pub opened : (index : ℕ) (bid : OpenedBid) → slice_get bids index ≡ Some bid → OpensSeal s number index bid
+  pub opened : (index : ℕ) (bid : OpenedBid) → slice_get bids index ≡ Some bid
+      → OpensSeal s number index bid
   pub values : List ℕ
   pub holds : Holds s.plan values
   pub inputs : take s.plan.inputs values ≡ map (λ bid. bid.bid) bids
@@ -60,7 +66,8 @@ pub record OpensValues (s : StatementValue) (number : ℕ) (bids : List OpenedBi
 abbrev pub LaneOpens : StatementValue → LaneBids → Type 0
 LaneOpens s lane = OpensValues s lane.number lane.bids
 
--- a clash is two openings of one entry of the lane, with different values; want of memory says nothing
+-- a clash is two openings of one entry of the lane, with different values; want of memory says
+-- nothing
 abbrev pub OpensTwice : LaneErr → PlanValue → LaneCase → Type 0
 OpensTwice (Clash two) plan case = AreOfLane plan case two
 OpensTwice NoMemory plan case = Unit {0}

@@ -19,7 +19,8 @@ opening_text opening = spaced (hex_text opening.key ∷ decimal opening.value �
 -- a bid of the lane of that number
 abbrev pub bid_line : ℕ → OpenedBid → List ℕ
 bid_line number bid =
-    line (spaced (codes "lane" ∷ decimal number ∷ codes "seat" ∷ decimal bid.seat ∷ codes "bid" ∷ decimal bid.bid
+    line (spaced (codes "lane" ∷ decimal number ∷ codes "seat" ∷ decimal bid.seat ∷ codes "bid"
+    ∷ decimal bid.bid
     ∷ codes "u" ∷ opening_text bid.first ∷ codes "v" ∷ opening_text bid.second ∷ []))
 
 -- the bids of a lane, one line for each seal in order
@@ -29,7 +30,8 @@ lane_bids_text lane = flat_map (bid_line lane.number) lane.bids
 -- where a commitment stands in its auction
 unfoldable pub place_text : Place → List ℕ
 place_text place =
-    spaced (codes "lane" ∷ decimal place.lane ∷ codes "seat" ∷ decimal place.seat ∷ codes "slot" ∷ decimal place.slot ∷ [])
+    spaced (codes "lane" ∷ decimal place.lane ∷ codes "seat" ∷ decimal place.seat ∷ codes "slot"
+    ∷ decimal place.slot ∷ [])
 
 -- two openings of a digest at a place
 abbrev pub openings_text : Place → List ℕ → Opening → Opening → List ℕ
@@ -63,18 +65,21 @@ abbrev pub agreement : Bool → List ℕ
 agreement one_bid = if one_bid then codes "same" else codes "differs"
 
 abbrev pub agreement_line : SealLines → Bool → List ℕ
-agreement_line seal one_bid = line (spaced (codes "seat" ∷ decimal seal.seat ∷ agreement one_bid ∷ []))
+agreement_line seal one_bid = line
+    (spaced (codes "seat" ∷ decimal seal.seat ∷ agreement one_bid ∷ []))
 
 -- a line for each seal, the first of them at that index
 abbrev pub agreements_text : ℕ → List SealLines → List LaneBids → List ℕ
 agreements_text index [] lanes = []
-agreements_text index (seal ∷ seals) lanes = agreement_line seal (has_one_bid index lanes) ++ agreements_text (index + 1) seals lanes
+agreements_text index (seal ∷ seals) lanes =
+    agreement_line seal (has_one_bid index lanes) ++ agreements_text (index + 1) seals lanes
 
 -- what is sold: the seat that won and the price, and the reserve, which version 2 names
 abbrev pub sold_line : Head → ℕ → List ℕ
 sold_line head seat =
     if head.version == 2
-    then line (spaced (codes "winner" ∷ decimal seat ∷ codes "price" ∷ decimal head.price ∷ codes "reserve" ∷ decimal head.reserve ∷ []))
+    then line (spaced (codes "winner" ∷ decimal seat ∷ codes "price" ∷ decimal head.price
+    ∷ codes "reserve" ∷ decimal head.reserve ∷ []))
     else line (spaced (codes "winner" ∷ decimal seat ∷ codes "price" ∷ decimal head.price ∷ []))
 
 -- what is not: the reserve that no bid met
@@ -92,4 +97,6 @@ sale_line head = sale_line_for head head.winner
 -- the bids of each lane, the published sale, and of each seal whether its bids are equal
 abbrev pub extraction_text : Extracted → List ℕ
 extraction_text found =
-    flat_map lane_bids_text found.lanes ++ (sale_line found.front.head ++ (agreements_text 0 found.front.seals found.lanes ++ line (codes "end")))
+    flat_map lane_bids_text found.lanes
+    ++ (sale_line found.front.head
+    ++ (agreements_text 0 found.front.seals found.lanes ++ line (codes "end")))

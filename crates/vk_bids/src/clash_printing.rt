@@ -1,4 +1,5 @@
-//! The line of two openings of one commitment. It takes no memory, so it is printed wherever there is a clash.
+//! The line of two openings of one commitment. It takes no memory, so it is printed wherever there
+//! is a clash.
 
 ghost use Rattle.std.specs.Prelude.{◌≡◌, ◌+◌, ◌≤◌, ◌++◌, length};
 ghost use Rattle.vk_bids.specs.Texts.{clash_text, opening_text, openings_text, place_text};

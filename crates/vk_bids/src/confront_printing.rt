@@ -9,8 +9,8 @@ use crate::confrontation::Confrontation;
 use vk_seal::with_mismatch;
 use vk_text::ShortText;
 
-/// The line of a confrontation for which both replies are accepted, the challenges differ and the file is a
-/// secret; and of a clash. It is empty for the others, which name files.
+/// The line of a confrontation for which both replies are accepted, the challenges differ and the
+/// file is a secret; and of a clash. It is empty for the others, which name files.
 pub fn confrontation_line(confrontation: &Confrontation) -> ShortText
     ensures { result ≡ confrontation_text confrontation.now }
 {

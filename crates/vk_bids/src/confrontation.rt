@@ -29,35 +29,39 @@ pub struct SecretAndReplies<'a> {
     pub secret: &'a str,
 }
 
-/// What a secret comes to against two replies to a board: the first of these tests that fails, or that it is
-/// held.
+/// What a secret comes to against two replies to a board: the first of these tests that fails, or
+/// that it is held.
 #[derive(Debug, Drop)]
 pub enum Confrontation {
-    /// The verdict on the first reply, where that isn't accepted, else the verdict on the second, which
-    /// isn't. The second's names the second challenge or the second reply in place of a first one.
+    /// The verdict on the first reply, where that isn't accepted, else the verdict on the second,
+    /// which isn't. The second's names the second challenge or the second reply in place of a first
+    /// one.
     Refused { second: bool, verdict: BoardVerdict },
     /// Both replies are accepted, and the challenges' bits are the same.
     Same,
-    /// The file is no secret. The line, counted from 1, is the first that isn't what its place demands.
+    /// The file is no secret. The line, counted from 1, is the first that isn't what its place
+    /// demands.
     Malformed { line: u64 },
     /// No seal on the board has the secret's seat.
     NoSeal { seat: u16 },
     /// The board's seal of the secret's seat isn't the secret's.
     Mismatch(Mismatch),
-    /// One commitment was opened with two values: by the replies, before a secret is asked for; or by the
-    /// secret and a reply, in the first lane with different bits where this is so.
+    /// One commitment was opened with two values: by the replies, before a secret is asked for; or
+    /// by the secret and a reply, in the first lane with different bits where this is so.
     Clash(TwoOpenings),
-    /// The secret has the seal, and in every lane with different bits its halves are those that were opened.
+    /// The secret has the seal, and in every lane with different bits its halves are those that
+    /// were opened.
     Held { seat: u16 },
 }
 
 /// Why a secret was not confronted.
 #[derive(Clone, Copy, Debug, PartialEq, Eq)]
 pub enum ConfrontErr {
-    /// A file of the extraction is missing or too long; or the outside failed, where the shelf's count of
-    /// faults rose in this call; or want of memory.
+    /// A file of the extraction is missing or too long; or the outside failed, where the shelf's
+    /// count of faults rose in this call; or want of memory.
     Unread(VErr),
-    /// The secret's file, which is named last, isn't held, and the others are held and not too long.
+    /// The secret's file, which is named last, isn't held, and the others are held and not too
+    /// long.
     MissingSecret,
     /// The secret's file has more than 2^30 bytes, and the others are held and not too long.
     TooLongSecret,
@@ -87,19 +91,22 @@ impl From<OutsideErr> for ConfrontErr {
     }
 }
 
-/// What a secret comes to against the replies to two challenges. The tests come in this order: what the
-/// replies come to, a clash between them, the form of the secret's file, the seal of its seat, and then lane by
-/// lane what was opened of that seal.
+/// What a secret comes to against the replies to two challenges. The tests come in this order: what
+/// the replies come to, a clash between them, the form of the secret's file, the seal of its seat,
+/// and then lane by lane what was opened of that seal.
 ///
-/// Errs where a file is missing or longer than 2^30 bytes, and names the first that is, in the order of the
-/// names; where the shelf fails; and for want of memory.
+/// Errs where a file is missing or longer than 2^30 bytes, and names the first that is, in the
+/// order of the names; where the shelf fails; and for want of memory.
 pub fn confront<S: Shelf>(
     alloc: Global,
     shelf: &mut S,
     names: &SecretAndReplies<'_>,
 ) -> Result<Confrontation, ConfrontErr>
-    ensures modelled { IfSome (S.held shelf.old) (λ files. Gives fault_of (λ confrontation. confrontation) result (confrontation_named files names.now)) }
-    ensures shelf { OnlyReads S.held S.Shelf.faults (ConfrontErr.Unread VErr.Failed) result shelf.old shelf.new }
+    ensures modelled { IfSome (S.held shelf.old)
+        (λ files. Gives fault_of (λ confrontation. confrontation) result
+        (confrontation_named files names.now)) }
+    ensures shelf { OnlyReads S.held S.Shelf.faults (ConfrontErr.Unread VErr.Failed) result
+        shelf.old shelf.new }
 {
     let checker = begin(alloc, shelf, &names.replies)?;
     let mut lines = begin_secret(alloc, shelf, names.secret)?;
@@ -112,8 +119,10 @@ pub fn confront<S: Shelf>(
 /// Begins to read the secret's file.
 fn begin_secret<S: Shelf>(alloc: Global, shelf: &mut S, name: &str) -> Result<Lines, ConfrontErr>
     ensures modelled { IfSome (S.held shelf.old) (λ files.
-        Gives fault_of (λ lines. rest_of lines files) result (secret_begun (map.get files name.now))) }
-    ensures shelf { OnlyReads S.held S.Shelf.faults (ConfrontErr.Unread VErr.Failed) result shelf.old shelf.new }
+        Gives fault_of (λ lines. rest_of lines files) result
+        (secret_begun (map.get files name.now))) }
+    ensures shelf { OnlyReads S.held S.Shelf.faults (ConfrontErr.Unread VErr.Failed) result
+        shelf.old shelf.new }
 {
     let started = Lines::start(alloc, shelf, name);
     let lines = begun(started);
@@ -124,7 +133,8 @@ fn begin_secret<S: Shelf>(alloc: Global, shelf: &mut S, name: &str) -> Result<Li
 fn begun(started: Result<Lines, StartErr>) -> Result<Lines, ConfrontErr>
     ensures modelled { (files : Files) (name : List ℕ) → Starts files name started
         → Gives fault_of (λ lines. rest_of lines files) result (secret_begun (map.get files name)) }
-    ensures causes { (before : ℕ) (after : ℕ) → Causes StartErr.Failed started before after → Causes (ConfrontErr.Unread VErr.Failed) result before after }
+    ensures causes { (before : ℕ) (after : ℕ) → Causes StartErr.Failed started before after
+        → Causes (ConfrontErr.Unread VErr.Failed) result before after }
 {
     match started {
         Ok(lines) => Ok(lines),
@@ -154,10 +164,12 @@ fn secret_of<S: Shelf>(
 /// What was read, with a fault line as a value.
 fn secret_or_fault(read: Result<Secret, ReadErr>) -> Result<Result<Secret, u64>, OutsideErr>
     requires { IfOk read IsSecret }
-    ensures modelled { (rest : Rest) (expected : Result (Secret × Rest) ℕ) → GivesReading (λ x. x) read rest expected
+    ensures modelled { (rest : Rest) (expected : Result (Secret × Rest) ℕ)
+        → GivesReading (λ x. x) read rest expected
         → IfOk result (λ secret. secret_in expected ≡ secret) }
     ensures right { IfOk result (λ secret. IfOk secret IsSecret) }
-    ensures causes { (before : ℕ) (after : ℕ) → Causes ReadErr.Failed read before after → Causes OutsideErr.Failed result before after }
+    ensures causes { (before : ℕ) (after : ℕ) → Causes ReadErr.Failed read before after
+        → Causes OutsideErr.Failed result before after }
 {
     match read {
         Ok(secret) => Ok(Ok(secret)),
@@ -227,7 +239,8 @@ fn seal_at(front: Front, index: usize) -> Seal
 fn confront_seal(secret: &Secret, index: usize, seal: &Seal, lanes: &[LaneBids]) -> Confrontation
     requires secret { IsSecret secret.now }
     requires few_kept { length seal.now.lanes ≤ 64 }
-    requires opened { (seal.now ≡ seal_of secret.now) → All (OpensSecretIn secret.now index) lanes.now }
+    requires opened { (seal.now ≡ seal_of secret.now)
+        → All (OpensSecretIn secret.now index) lanes.now }
     ensures { result ≡ matched_by secret.now index lanes.now (match_of secret.now seal.now) }
 {
     match matches(secret, seal) {

@@ -42,9 +42,11 @@ pub fn extract_bids(
         (λ found. found.bids ≡ opened_bids (seats_of statement.now.seals) zero.now one.now) }
     ensures opens { IfOk result (λ found. OpensValues statement.now lane found.bids) }
     ensures agree { OnOk result (clash_of_lane case.now zero.now one.now ≡ None) }
-    ensures clash { IfSome (clash_of_lane case.now zero.now one.now) (λ two. result ≡ Err (Clash two)) }
+    ensures clash { IfSome (clash_of_lane case.now zero.now one.now)
+        (λ two. result ≡ Err (Clash two)) }
     ensures refused { IfErr result (λ refused. IsRefusalOf refused case.now zero.now one.now) }
-    ensures opened_twice { IfErr result (λ refused. OpensTwice refused statement.now.plan case.now) }
+    ensures opened_twice { IfErr result
+        (λ refused. OpensTwice refused statement.now.plan case.now) }
 {
     // The values of all wires hold for the circuit, and those of the seals are its inputs'.
     let _values = extract_lane(alloc, statement.plan(), case, zero, one)?;

@@ -69,7 +69,10 @@ pub(crate) fn begin<S: Shelf>(
     shelf: &mut S,
     names: &TwoReplies<'_>,
 ) -> Result<TwoChecker, VErr>
-    ensures modelled { IfSome (S.held shelf.old) (λ files. Gives unread_file (λ checker. extraction_of (board_base checker) (board_ahead checker files)) result (extraction_named files names.now)) }
+    ensures modelled { IfSome (S.held shelf.old)
+        (λ files. Gives unread_file
+        (λ checker. extraction_of (board_base checker) (board_ahead checker files)) result
+        (extraction_named files names.now)) }
     ensures none_given { IfOk result (λ checker. board_given checker ≡ 0) }
     ensures shelf { OnlyReads S.held S.Shelf.faults VErr.Failed result shelf.old shelf.new }
 {
@@ -118,7 +121,8 @@ fn extract_course<S: Shelf>(
     requires none_given { given_of course.lanes ≡ 0 }
     requires right { IsBoardCourse course }
     ensures modelled { IfOk result (λ extraction. IfSome (S.held shelf.old) (λ files.
-        extraction_of (board_base (Behind course)) (board_ahead (Behind course) files) ≡ extraction)) }
+        extraction_of (board_base (Behind course)) (board_ahead (Behind course) files)
+        ≡ extraction)) }
     ensures shows { IfOk result Shows }
     ensures shelf { OnlyReads S.held S.Shelf.faults OutsideErr.Failed result shelf.old shelf.new }
 {

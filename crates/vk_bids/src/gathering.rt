@@ -34,8 +34,10 @@ pub fn with_lane(
     ensures added { IfSome (base_of checker.now) (λ base. IfOk result (λ after.
         added base.statement (given_of checker.now) lane.now before ≡ after)) }
     ensures clash { IfSome (base_of checker.now) (λ base.
-        IfErr (added base.statement (given_of checker.now) lane.now before) (λ two. result ≡ Ok (Err two))) }
-    ensures opens { IfSome (base_of checker.now) (λ base. IfOk before (All (LaneOpens base.statement))
+        IfErr (added base.statement (given_of checker.now) lane.now before)
+        (λ two. result ≡ Ok (Err two))) }
+    ensures opens { IfSome (base_of checker.now)
+        (λ base. IfOk before (All (LaneOpens base.statement))
         → IfOk result (λ after. IfOk after (All (LaneOpens base.statement)))) }
 {
     match before {
@@ -58,7 +60,8 @@ fn with_more(
     ensures added { IfSome (base_of checker.now) (λ base. IfOk result (λ after.
         added base.statement (given_of checker.now) lane.now (Ok before) ≡ after)) }
     ensures clash { IfSome (base_of checker.now) (λ base.
-        IfErr (lane_found base.statement (given_of checker.now) lane.now) (λ two. result ≡ Ok (Err two))) }
+        IfErr (lane_found base.statement (given_of checker.now) lane.now)
+        (λ two. result ≡ Ok (Err two))) }
     ensures opens { IfSome (base_of checker.now) (λ base. All (LaneOpens base.statement) before
         → IfOk result (λ after. IfOk after (All (LaneOpens base.statement)))) }
 {
@@ -89,9 +92,12 @@ pub fn add_lane(
     requires last { number ≤ statement.now.lanes }
     requires lane { IsTwoLane statement.now number lane.now }
     ensures added { OnOk result (added statement.now number lane.now (Ok bids.old) ≡ Ok bids.new) }
-    ensures opens { OnOk result (All (LaneOpens statement.now) bids.old → All (LaneOpens statement.now) bids.new) }
-    ensures clash { IfErr (lane_found statement.now number lane.now) (λ two. result ≡ Err (LaneErr.Clash two)) }
-    ensures refused { IfErr result (λ refused. IsClashOf refused (lane_found statement.now number lane.now)) }
+    ensures opens { OnOk result
+        (All (LaneOpens statement.now) bids.old → All (LaneOpens statement.now) bids.new) }
+    ensures clash { IfErr (lane_found statement.now number lane.now)
+        (λ two. result ≡ Err (LaneErr.Clash two)) }
+    ensures refused { IfErr result
+        (λ refused. IsClashOf refused (lane_found statement.now number lane.now)) }
     ensures as_before { OnErr result (bids.new ≡ bids.old) }
 {
     let found = bids_in(alloc, statement, number, lane)?;
@@ -125,8 +131,10 @@ fn bids_in(
     requires lane { IsTwoLane statement.now number lane.now }
     ensures found { IfOk result (λ found. lane_found statement.now number lane.now ≡ Ok found) }
     ensures opens { IfOk result (λ found. IfSome found (LaneOpens statement.now)) }
-    ensures clash { IfErr (lane_found statement.now number lane.now) (λ two. result ≡ Err (LaneErr.Clash two)) }
-    ensures refused { IfErr result (λ refused. IsClashOf refused (lane_found statement.now number lane.now)) }
+    ensures clash { IfErr (lane_found statement.now number lane.now)
+        (λ two. result ≡ Err (LaneErr.Clash two)) }
+    ensures refused { IfErr result
+        (λ refused. IsClashOf refused (lane_found statement.now number lane.now)) }
 {
     let first = lane.first.as_slice();
     let second = lane.second.as_slice();
@@ -151,10 +159,13 @@ fn bids_of(
     requires case { IsCaseOf statement.now number case.now }
     requires zero { IsAccepted statement.now.plan case.now false zero.now }
     requires one { IsAccepted statement.now.plan case.now true one.now }
-    ensures found { IfOk result (λ found. bids_of statement.now number case.now zero.now one.now ≡ Ok found) }
+    ensures found { IfOk result
+        (λ found. bids_of statement.now number case.now zero.now one.now ≡ Ok found) }
     ensures opens { IfOk result (λ found. IfSome found (LaneOpens statement.now)) }
-    ensures clash { IfErr (bids_of statement.now number case.now zero.now one.now) (λ two. result ≡ Err (LaneErr.Clash two)) }
-    ensures refused { IfErr result (λ refused. IsClashOf refused (bids_of statement.now number case.now zero.now one.now)) }
+    ensures clash { IfErr (bids_of statement.now number case.now zero.now one.now)
+        (λ two. result ≡ Err (LaneErr.Clash two)) }
+    ensures refused { IfErr result
+        (λ refused. IsClashOf refused (bids_of statement.now number case.now zero.now one.now)) }
 {
     let bids = extract_bids(alloc, statement, number, case, zero, one)?;
     Ok(Some(bids))

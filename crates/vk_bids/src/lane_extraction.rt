@@ -26,7 +26,8 @@ pub struct OpenedLanes {
 /// What two replies come to behind a front.
 pub type LaneExtraction = Extraction<Fault, OpenedLanes>;
 
-/// What two replies come to behind a front of which this is the statement; the file is read up to its first lane.
+/// What two replies come to behind a front of which this is the statement; the file is read up to
+/// its first lane.
 ///
 /// Errs where the shelf fails, and for want of memory.
 pub fn extract_behind<S: Shelf>(
@@ -78,7 +79,8 @@ fn gather<S: Shelf>(
         ComesTo (base_of checker) (ahead_of checker files) (finding_of end.0) end.1)) }
     ensures over { IfOk result (λ end. IsOver end.0) }
     ensures base { IfOk result (λ end. base_of end.0 ≡ base_of checker) }
-    ensures opens { IfOk result (λ end. IfSome (base_of end.0) (λ base. IfOk end.1 (All (LaneOpens base.statement)))) }
+    ensures opens { IfOk result
+        (λ end. IfSome (base_of end.0) (λ base. IfOk end.1 (All (LaneOpens base.statement)))) }
     ensures shelf { OnlyReads S.held S.Shelf.faults OutsideErr.Failed result shelf.old shelf.new }
 {
     let mut checker = checker;
@@ -96,8 +98,11 @@ fn gather<S: Shelf>(
 /// What was found, with what was gathered.
 fn concluded(checker: LaneChecker, gathered: Gathered) -> LaneExtraction
     requires over { IsOver checker }
-    requires opens { IfSome (base_of checker) (λ base. IfOk gathered (All (LaneOpens base.statement))) }
-    ensures value { IfSome (finding_of checker) (λ finding. result ≡ found_by (λ base. opened_of base.statement) (base_of checker) finding gathered) }
+    requires opens { IfSome (base_of checker)
+        (λ base. IfOk gathered (All (LaneOpens base.statement))) }
+    ensures value { IfSome (finding_of checker)
+        (λ finding. result ≡ found_by (λ base. opened_of base.statement) (base_of checker) finding
+        gathered) }
     ensures opens { OpensLanes result }
     ensures statement { AreOfBase (base_of checker) result }
 {

@@ -35,9 +35,9 @@ pub fn accepted_replies_open_values_or_clash()
 /// Of any five files, where both replies are accepted with the board and the challenges differ: the
 /// extraction is the bids of just the lanes whose two bits differ. In each of these they are below
 /// 2^width, and open the lane's seals by what the replies show. Whatever the board's version, the
-/// sale that they make under its reserve is the one that it publishes. Or the extraction is a clash:
-/// of the first of these lanes that has one, the first commitment with two openings of different
-/// values.
+/// sale that they make under its reserve is the one that it publishes. Or the extraction is a
+/// clash: of the first of these lanes that has one, the first commitment with two openings of
+/// different values.
 ///
 /// Only such files give bids or a clash, and the challenges are found to be the same exactly where
 /// both replies are accepted and the bits are equal. The extraction of named files is that of their

@@ -18,7 +18,7 @@ mod printing;
 pub use bids::{LaneBids, OpenedBid};
 pub use clash_printing::{clash_line, openings_line};
 pub use confront_printing::confrontation_line;
-pub use confrontation::{ConfrontErr, SecretAndReplies, Confrontation, confront};
+pub use confrontation::{ConfrontErr, Confrontation, SecretAndReplies, confront};
 pub use extracting::extract_bids;
 pub use extraction::{Extracted, Extraction, extract};
 pub use gathering::add_lane;

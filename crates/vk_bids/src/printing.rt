@@ -34,8 +34,8 @@ fn bid_line(alloc: Global, number: u32, bid: &OpenedBid) -> Result<String, NoMem
     Ok(line)
 }
 
-/// The lines of an extraction: the bids of each lane, the sale that the board publishes, of each seal whether its
-/// bids are equal in all lanes, and the end.
+/// The lines of an extraction: the bids of each lane, the sale that the board publishes, of each
+/// seal whether its bids are equal in all lanes, and the end.
 pub fn extraction_lines(alloc: Global, found: &Extracted) -> Result<Vec<String>, NoMemory>
     ensures { IfOk result (λ lines. flat_map string_bytes lines.items ≡ extraction_text found.now) }
 {
@@ -83,7 +83,8 @@ fn sold_line(alloc: Global, head: &Head, seat: u16) -> Result<String, NoMemory>
 
 /// Appends the lines of the lanes' bids.
 fn add_lanes(alloc: Global, lanes: &[LaneBids], lines: &mut Vec<String>) -> Result<(), NoMemory>
-    ensures { OnOk result (flat_map string_bytes lines.new.items ≡ flat_map string_bytes lines.old.items ++ flat_map lane_bids_text lanes.now) }
+    ensures { OnOk result (flat_map string_bytes lines.new.items
+        ≡ flat_map string_bytes lines.old.items ++ flat_map lane_bids_text lanes.now) }
 {
     for lane in lanes {
         let mut bids = lane_bids_lines(alloc, lane)?;
@@ -99,7 +100,8 @@ fn add_agreements(
     lanes: &[LaneBids],
     lines: &mut Vec<String>,
 ) -> Result<(), NoMemory>
-    ensures { OnOk result (flat_map string_bytes lines.new.items ≡ flat_map string_bytes lines.old.items ++ agreements_text 0 seals.now lanes.now) }
+    ensures { OnOk result (flat_map string_bytes lines.new.items
+        ≡ flat_map string_bytes lines.old.items ++ agreements_text 0 seals.now lanes.now) }
 {
     for (index, seal) in seals.iter().enumerate() {
         let seat = seal.seat;

@@ -12,7 +12,8 @@ use Rattle.vk_board.specs.Fronts.{IsFront, FrontFault, Price, in_front, front_wi
 use Rattle.vk_board.proofs.Prices.{price_shown, price_found}
 use Rattle.vk_board.proofs.Winners.{winner_shown, winner_found}
 
-pub front_right : (head : Head) (seals : List SealLines) (position : Option ℕ) → IsHead head → AreSeals head seals → price_stands head ≡ true → placed head.winner seals ≡ Some position
+pub front_right : (head : Head) (seals : List SealLines) (position : Option ℕ) → IsHead head
+    → AreSeals head seals → price_stands head ≡ true → placed head.winner seals ≡ Some position
     → IsFront (front_with head seals position)
 front_right head seals position is are price winner = record {
   head = is;
@@ -23,7 +24,8 @@ front_right head seals position is are price winner = record {
 
 -- ---- one step after another
 
-bind_ok : {A B F : Type 0} (r : Result A F) (f : A → Result B F) (y : B) → (r >>= f) ≡ Ok y → (x : A) × (r ≡ Ok x) × (f x ≡ Ok y)
+bind_ok : {A B F : Type 0} (r : Result A F) (f : A → Result B F) (y : B) → (r >>= f) ≡ Ok y
+    → (x : A) × (r ≡ Ok x) × (f x ≡ Ok y)
 bind_ok (Ok x) f y h = (x, refl, h)
 bind_ok (Err e) f y h = cc
 
@@ -36,28 +38,38 @@ in_front_ok (Err line) x h = cc
 
 -- ---- the price and the winner
 
-placed_shown : (head : Head) (seals : List SealLines) (found : Option (Option ℕ)) (front : Front) → front_placed head seals found ≡ Ok front
+placed_shown : (head : Head) (seals : List SealLines) (found : Option (Option ℕ)) (front : Front)
+    → front_placed head seals found ≡ Ok front
     → (position : Option ℕ) × (found ≡ Some position) × (front_with head seals position ≡ front)
 placed_shown head seals None front ok = cc
-placed_shown head seals (Some position) front ok = (position, refl, value_same (front_with head seals position) front ok)
+placed_shown head seals (Some position) front ok =
+    (position, refl, value_same (front_with head seals position) front ok)
 
-tests_shown : (head : Head) (seals : List SealLines) (stands : Bool) (front : Front) → price_stands head ≡ stands
+tests_shown : (head : Head) (seals : List SealLines) (stands : Bool) (front : Front)
+    → price_stands head ≡ stands
     → (if stands then front_placed head seals (placed head.winner seals) else Err Price) ≡ Ok front
-    → (price_stands head ≡ true) × (position : Option ℕ) × (placed head.winner seals ≡ Some position) × (front_with head seals position ≡ front)
+    → (price_stands head ≡ true) × (position : Option ℕ)
+    × (placed head.winner seals ≡ Some position) × (front_with head seals position ≡ front)
 tests_shown head seals false front stands ok = cc
 tests_shown head seals true front stands ok =
     let place = placed_shown head seals (placed head.winner seals) front ok in
     (stands, place.0, place.1, place.2)
 
-front_of_shown : (head : Head) (seals : List SealLines) (front : Front) → front_of head seals ≡ Ok front
-    → (price_stands head ≡ true) × (position : Option ℕ) × (placed head.winner seals ≡ Some position) × (front_with head seals position ≡ front)
+front_of_shown : (head : Head) (seals : List SealLines) (front : Front)
+    → front_of head seals ≡ Ok front
+    → (price_stands head ≡ true) × (position : Option ℕ)
+    × (placed head.winner seals ≡ Some position) × (front_with head seals position ≡ front)
 unfolding front_of
 front_of_shown head seals front ok = tests_shown head seals (price_stands head) front refl ok
 
 front_of_found : (front : Front) → IsFront front → front_of front.head front.seals ≡ Ok front
 unfolding front_of
 front_of_found front is =
-    rw (price_found front.head is.price, winner_found front.head front.seals front.head.winner front.position is.seals is.winner) refl
+    rw (
+      price_found front.head is.price,
+      winner_found front.head front.seals front.head.winner front.position is.seals is.winner,
+    )
+    refl
 
 -- ---- the lines before the first lane
 
@@ -75,23 +87,29 @@ seals_then head seals = front_of head seals.0 >>= λ front. Ok (front, seals.1)
 abbrev head_then : Head × Rest → Result (Front × Rest) FrontFault
 head_then head = in_front (seals_at head.0 head.1) >>= seals_then head.0
 
-pub front_at_shown : (rest : Rest) (front : Front) (after : Rest) → front_at rest ≡ Ok (front, after) → FrontRead rest front after
+pub front_at_shown : (rest : Rest) (front : Front) (after : Rest)
+    → front_at rest ≡ Ok (front, after) → FrontRead rest front after
 unfolding front_at
 front_at_shown rest front after ok =
     let head = bind_ok (in_front (head_at rest)) head_then (front, after) ok in
-    let seals = bind_ok (in_front (seals_at head.0.0 head.0.1)) (seals_then head.0.0) (front, after) head.2 in
-    let both = bind_ok (front_of head.0.0 seals.0.0) (λ f. Ok (f, seals.0.1)) (front, after) seals.2 in
+    let seals = bind_ok (in_front (seals_at head.0.0 head.0.1)) (seals_then head.0.0) (front, after)
+    head.2 in
+    let both = bind_ok (front_of head.0.0 seals.0.0) (λ f. Ok (f, seals.0.1)) (front, after) seals.2
+    in
     let same = value_same (both.0, seals.0.1) (front, after) both.2 in
     let is = front_of_shown head.0.0 seals.0.0 both.0 both.1 in
     let P : Front → Type 0 = λ f. FrontRead rest f after in
     subst P (is.3 ∙ ap (λ p. p.0) same) (record {
       middle = head.0.1;
       head_read = in_front_ok (head_at rest) head.0 head.1;
-      seals_read = in_front_ok (seals_at head.0.0 head.0.1) seals.0 seals.1 ∙ ap (λ p. Ok (seals.0.0, p.1)) same;
+      seals_read = in_front_ok (seals_at head.0.0 head.0.1) seals.0 seals.1
+          ∙ ap (λ p. Ok (seals.0.0, p.1)) same;
       price = is.0;
       winner = is.2;
     })
 
-pub front_at_found : (rest : Rest) (front : Front) (after : Rest) → FrontRead rest front after → front_at rest ≡ Ok (front, after)
+pub front_at_found : (rest : Rest) (front : Front) (after : Rest) → FrontRead rest front after
+    → front_at rest ≡ Ok (front, after)
 unfolding front_at front_of
-front_at_found rest front after read = rw (read.head_read, read.seals_read, read.price, read.winner) refl
+front_at_found rest front after read =
+    rw (read.head_read, read.seals_read, read.price, read.winner) refl

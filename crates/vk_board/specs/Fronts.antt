@@ -1,4 +1,5 @@
--- What stands on a board before its first lane: its head and its seals, with the place of the winner's seal.
+-- What stands on a board before its first lane: its head and its seals, with the place of the
+-- winner's seal.
 use Rattle.std.specs.Prelude.{◌≡◌, ◌≢◌, ◌↔◌, ℕ, ◌-◌, ◌^◌, ◌<◌, ◌≤◌, if◌then◌else◌, List, ◌++◌, length, slice_index, Contains, Option, Some, None, Result, Ok, Err}
 use Rattle.std.specs.List.{flat_map}
 use Rattle.vk_residue.specs.Steps.{◌>>=◌}
@@ -16,7 +17,8 @@ use Rattle.vk_board.specs.Reading.{head_at, seals_at, seats_of}
 use Rattle.vk_board.specs.Tables.{board_table}
 use Rattle.vk_board.specs.Published.{price_stands, placed}
 
--- what is sold: its price is below 2^width and not below the reserve, and is the reserve where there is one seal
+-- what is sold: its price is below 2^width and not below the reserve, and is the reserve where
+-- there is one seal
 pub record SoldPriceStands (head : Head) : Type 0 where
   pub within_width : head.price < 2 ^ head.width
   pub reserve_within_price : head.reserve ≤ head.price
@@ -90,7 +92,8 @@ front_placed head seals (Some position) = Ok (front_with head seals position)
 
 -- the price is tested first, then the winner
 unfoldable pub front_of : Head → List SealLines → Result Front FrontFault
-front_of head seals = if price_stands head then front_placed head seals (placed head.winner seals) else Err Price
+front_of head seals = if price_stands head then front_placed head seals (placed head.winner seals)
+    else Err Price
 
 -- the lines before the first lane
 unfoldable pub front_at : Rest → Result (Front × Rest) FrontFault
@@ -104,9 +107,11 @@ front_at rest = do
 
 -- a front is read where what is left begins with its text, and nowhere else
 pub record FrontsAreRead : Type 0 where
-  pub found : (rest : Rest) (front : Front) (more : List ℕ) → IsFront front → rest.left ≡ front_text front ++ more
+  pub found : (rest : Rest) (front : Front) (more : List ℕ) → IsFront front
+      → rest.left ≡ front_text front ++ more
       → (taken : ℕ) × (front_at rest ≡ Ok (front, record { taken = taken; left = more }))
-  pub shown : (rest : Rest) (front : Front) (after : Rest) → front_at rest ≡ Ok (front, after) → IsFront front × (rest.left ≡ front_text front ++ after.left)
+  pub shown : (rest : Rest) (front : Front) (after : Rest) → front_at rest ≡ Ok (front, after)
+      → IsFront front × (rest.left ≡ front_text front ++ after.left)
 
 -- bytes that begin with the texts of a head and of the seals of a board with it
 pub record Begins (left : List ℕ) (head : Head) (seals : List SealLines) : Type 0 where
@@ -137,9 +142,11 @@ pub record LineFails (shape : Head → Shape) (bytes : List ℕ) (number : ℕ) 
   pub line : fault_line (board_table shape) bytes ≡ Some number
   pub before : (head : Head) (seals : List SealLines) → ¬ Begins bytes head seals
 
--- a file is refused before its first lane for its fault line, for the price or for the winner: each exactly
--- where it fails and nothing before it does
+-- a file is refused before its first lane for its fault line, for the price or for the winner: each
+-- exactly where it fails and nothing before it does
 pub record FrontsAreRefused : Type 0 where
-  pub line : (shape : Head → Shape) (bytes : List ℕ) (number : ℕ) → (front_at (record { taken = 0; left = bytes }) ≡ Err (Malformed number)) ↔ LineFails shape bytes number
+  pub line : (shape : Head → Shape) (bytes : List ℕ) (number : ℕ)
+      → (front_at (record { taken = 0; left = bytes }) ≡ Err (Malformed number))
+      ↔ LineFails shape bytes number
   pub price : (rest : Rest) → (front_at rest ≡ Err Price) ↔ PriceFails rest.left
   pub winner : (rest : Rest) → (front_at rest ≡ Err Winner) ↔ WinnerFails rest.left

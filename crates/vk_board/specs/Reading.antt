@@ -1,5 +1,5 @@
--- How a board is read, line by line. The laws say that this is exactly its text, and stops at the fault
--- line.
+-- How a board is read, line by line. The laws say that this is exactly its text, and stops at the
+-- fault line.
 use Rattle.std.specs.Prelude.{ℕ, ◌+◌, ◌^◌, ◌-◌, ◌==◌, not, Bool, if◌then◌else◌, List, length, map, codes, Option, Some, None, option_map, Result, Ok}
 use Rattle.std.specs.List.{list_all}
 use Rattle.vk_residue.specs.Steps.{◌>>=◌, ◌>>?◌}
@@ -37,7 +37,8 @@ seat_line seats text = one_field (codes "seal") (seat_token seats) text
 
 -- that nothing is sold, where the version knows of it
 abbrev pub unsold_line : ℕ → List ℕ → Option (Option ℕ)
-unsold_line version text = if version == 2 then option_map (λ _. None) (word_of (codes "unsold") text) else None
+unsold_line version text = if version == 2
+    then option_map (λ _. None) (word_of (codes "unsold") text) else None
 
 -- the seat that won, or that nothing is sold
 abbrev pub winner_or : Option ℕ → Option (Option ℕ) → Option (Option ℕ)
@@ -45,13 +46,15 @@ winner_or (Some seat) unsold = Some (Some seat)
 winner_or None unsold = unsold
 
 abbrev pub winner_line : ℕ → List ℕ → Option (Option ℕ)
-winner_line version text = winner_or (number_line (codes "winner") 1 65535 text) (unsold_line version text)
+winner_line version text = winner_or (number_line (codes "winner") 1 65535 text)
+    (unsold_line version text)
 
 -- ---- parts
 
 -- the reserve, which version 2 names
 unfoldable pub reserve_at : ℕ → Rest → Result (ℕ × Rest) ℕ
-reserve_at version rest = if version == 2 then line_by (number_line (codes "reserve") 0 (2 ^ 64 - 1)) rest else Ok (0, rest)
+reserve_at version rest = if version == 2
+    then line_by (number_line (codes "reserve") 0 (2 ^ 64 - 1)) rest else Ok (0, rest)
 
 -- the head of a board
 unfoldable pub head_at : Rest → Result (Head × Rest) ℕ
@@ -64,7 +67,19 @@ head_at rest =
     reserve_at version.0 seals.1 >>= λ reserve.
     line_by (winner_line version.0) reserve.1 >>= λ winner.
     line_by (number_line (codes "price") 0 (2 ^ 64 - 1)) winner.1 >>= λ price.
-    Ok (record { auction = auction.0; version = version.0; width = width.0; lanes = lanes.0; seals = seals.0; reserve = reserve.0; winner = winner.0; price = price.0 }, price.1)
+    Ok (
+      record {
+        auction = auction.0;
+        version = version.0;
+        width = width.0;
+        lanes = lanes.0;
+        seals = seals.0;
+        reserve = reserve.0;
+        winner = winner.0;
+        price = price.0;
+      },
+      price.1,
+    )
 
 -- a seal of so many lanes after these
 unfoldable pub seal_at : ℕ → List SealLines → Rest → Result (SealLines × Rest) ℕ
@@ -91,14 +106,17 @@ lane_at lane wires rows rest =
 
 -- so many lanes of this shape, numbered from 1
 abbrev pub lane_lines_at : ℕ → Shape → Rest → Result (List LaneLines × Rest) ℕ
-lane_lines_at lanes shape rest = many_at lanes (λ before. lane_at (length before + 1) shape.wires shape.rows) rest
+lane_lines_at lanes shape rest =
+    many_at lanes (λ before. lane_at (length before + 1) shape.wires shape.rows) rest
 
 -- the lanes of a board with this head
 abbrev pub lanes_at : (Head → Shape) → Head → Rest → Result (List LaneLines × Rest) ℕ
 lanes_at shape head rest = lane_lines_at head.lanes (shape head) rest
 
--- what stands behind a head that tells this frame, to the end of the file, as the value that is made of it
-abbrev pub behind_at : {B : Type 0} → Frame → (List SealLines → List LaneLines → B) → Rest → Result (B × Rest) ℕ
+-- what stands behind a head that tells this frame, to the end of the file, as the value that is
+-- made of it
+abbrev pub behind_at : {B : Type 0} → Frame → (List SealLines → List LaneLines → B) → Rest
+    → Result (B × Rest) ℕ
 behind_at frame make rest =
     seal_lines_at frame.seals frame.lanes rest >>= λ seals.
     lane_lines_at frame.lanes frame.shape seals.1 >>= λ lanes.
@@ -109,4 +127,5 @@ behind_at frame make rest =
 unfoldable pub board_at : (Head → Shape) → Rest → Result (Board × Rest) ℕ
 board_at shape rest =
     head_at rest >>= λ head.
-    behind_at (frame_of shape head.0) (λ seals lanes. record { head = head.0; seals = seals; lanes = lanes }) head.1
+    behind_at (frame_of shape head.0)
+    (λ seals lanes. record { head = head.0; seals = seals; lanes = lanes }) head.1

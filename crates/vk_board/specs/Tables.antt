@@ -8,10 +8,11 @@ use Rattle.vk_board.specs.Reading.{com_line, posted_line, seat_line, winner_line
 
 -- ---- behind a head
 
--- the places of a file, each named for the line that may stand there, with what the lines before tell of those
--- to come. The places of a head are its own. Among the seals: what the head told, how many follow this one, the
--- seats so far, and how many lines of this one follow. Among the lanes: what the head told, the number of this
--- one, how many follow it, and how many lines of this kind follow
+-- the places of a file, each named for the line that may stand there, with what the lines before
+-- tell of those to come. The places of a head are its own. Among the seals: what the head told, how
+-- many follow this one, the seats so far, and how many lines of this one follow. Among the lanes:
+-- what the head told, the number of this one, how many follow it, and how many lines of this kind
+-- follow
 pub data BoardPlace (H : Type 0) : Type 0 where
   InHead : H → BoardPlace H
   Seal : Frame → ℕ → List ℕ → BoardPlace H
@@ -55,8 +56,8 @@ input_place frame seals seats (suc more) = Input frame seals seats more
 abbrev pub behind_head : {H : Type 0} → Frame → BoardPlace H
 behind_head frame = seal_place frame frame.seals []
 
--- a head by its table: its first place, and the place after a line that may stand at one of its places, None
--- where no such line may. The last of them leads to the place behind the head
+-- a head by its table: its first place, and the place after a line that may stand at one of its
+-- places, None where no such line may. The last of them leads to the place behind the head
 pub record HeadTable (H : Type 0) : Type 0 where
   pub first : H
   pub next : H → List ℕ → Option (BoardPlace H)
@@ -64,11 +65,13 @@ pub record HeadTable (H : Type 0) : Type 0 where
 abbrev pub sealed_next : {H : Type 0} → HeadTable H → BoardPlace H → List ℕ → Option (BoardPlace H)
 sealed_next head (InHead place) text = head.next place text
 sealed_next head (Seal frame more seats) text =
-    option_map (λ seat. input_place frame more (seats ++ seat ∷ []) frame.lanes) (seat_line seats text)
+    option_map (λ seat. input_place frame more (seats ++ seat ∷ []) frame.lanes)
+    (seat_line seats text)
 sealed_next head (Input frame seals seats more) text =
     option_map (λ _. input_place frame seals seats more) (com_line (codes "x") text)
 sealed_next head (Lane frame lane more) text =
-    option_map (λ _. wire_place frame lane more frame.shape.wires) (number_line (codes "lane") lane lane text)
+    option_map (λ _. wire_place frame lane more frame.shape.wires)
+    (number_line (codes "lane") lane lane text)
 sealed_next head (Wire frame lane lanes more) text =
     option_map (λ _. wire_place frame lane lanes more) (com_line (codes "w") text)
 sealed_next head (Row frame lane lanes more) text =
@@ -96,23 +99,40 @@ pub data HeadPlace : Type 0 where
 -- behind the number of seals: version 2 names a reserve, version 1 has none
 abbrev pub reserve_place : ℕ → List ℕ → ℕ → ℕ → ℕ → BoardPlace HeadPlace
 reserve_place version auction width lanes seals =
-    if version == 2 then InHead (Reserve version auction width lanes seals) else InHead (Winner version auction width lanes seals 0)
+    if version == 2 then InHead (Reserve version auction width lanes seals)
+    else InHead (Winner version auction width lanes seals 0)
 
 abbrev pub head_next : (Head → Shape) → HeadPlace → List ℕ → Option (BoardPlace HeadPlace)
-head_next shape Heading text = option_map (λ version. InHead (Auction version)) (number_line (codes "vickrey-board") 1 2 text)
-head_next shape (Auction version) text = option_map (λ auction. InHead (Width version auction)) (id_line (codes "auction") text)
+head_next shape Heading text =
+    option_map (λ version. InHead (Auction version)) (number_line (codes "vickrey-board") 1 2 text)
+head_next shape (Auction version) text =
+    option_map (λ auction. InHead (Width version auction)) (id_line (codes "auction") text)
 head_next shape (Width version auction) text =
-    option_map (λ width. InHead (Lanes version auction width)) (number_line (codes "width") 1 40 text)
+    option_map (λ width. InHead (Lanes version auction width))
+    (number_line (codes "width") 1 40 text)
 head_next shape (Lanes version auction width) text =
-    option_map (λ lanes. InHead (Seals version auction width lanes)) (number_line (codes "lanes") 1 64 text)
+    option_map (λ lanes. InHead (Seals version auction width lanes))
+    (number_line (codes "lanes") 1 64 text)
 head_next shape (Seals version auction width lanes) text =
     option_map (reserve_place version auction width lanes) (number_line (codes "seals") 1 64 text)
 head_next shape (Reserve version auction width lanes seals) text =
-    option_map (λ reserve. InHead (Winner version auction width lanes seals reserve)) (number_line (codes "reserve") 0 (2 ^ 64 - 1) text)
+    option_map (λ reserve. InHead (Winner version auction width lanes seals reserve))
+    (number_line (codes "reserve") 0 (2 ^ 64 - 1) text)
 head_next shape (Winner version auction width lanes seals reserve) text =
-    option_map (λ winner. InHead (Price version auction width lanes seals reserve winner)) (winner_line version text)
+    option_map (λ winner. InHead (Price version auction width lanes seals reserve winner))
+    (winner_line version text)
 head_next shape (Price version auction width lanes seals reserve winner) text =
-    option_map (λ price. behind_head (frame_of shape (record { auction = auction; version = version; width = width; lanes = lanes; seals = seals; reserve = reserve; winner = winner; price = price })))
+    option_map (λ price. behind_head
+    (frame_of shape (record {
+      auction = auction;
+      version = version;
+      width = width;
+      lanes = lanes;
+      seals = seals;
+      reserve = reserve;
+      winner = winner;
+      price = price;
+    })))
     (number_line (codes "price") 0 (2 ^ 64 - 1) text)
 
 abbrev pub head_table : (Head → Shape) → HeadTable HeadPlace

@@ -19,7 +19,8 @@ posted_text number = spaced (codes "d" ∷ decimal number ∷ [])
 
 -- the line of the reserve, which version 2 has
 abbrev pub reserve_text : ℕ → ℕ → List ℕ
-reserve_text version reserve = if version == 2 then line (spaced (codes "reserve" ∷ decimal reserve ∷ [])) else []
+reserve_text version reserve =
+    if version == 2 then line (spaced (codes "reserve" ∷ decimal reserve ∷ [])) else []
 
 -- the seat that won, or that nothing is sold
 abbrev pub winner_text : Option ℕ → List ℕ

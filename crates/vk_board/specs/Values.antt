@@ -10,7 +10,8 @@ use Rattle.vk_board.specs.declared.board.Head.{Head}
 use Rattle.vk_board.specs.declared.board.SealLines.{SealLines}
 use Rattle.vk_board.specs.declared.board.LaneLines.{LaneLines}
 
--- version 1 knows of no reserve and sells always; version 2 names a reserve, and may leave it unsold
+-- version 1 knows of no reserve and sells always; version 2 names a reserve, and may leave it
+-- unsold
 pub record IsVersion (version : ℕ) : Type 0 where
   pub least : 1 ≤ version
   pub most : version ≤ 2
@@ -29,8 +30,8 @@ abbrev pub IsWinner : ℕ → Option ℕ → Type 0
 IsWinner version (Some seat) = IsSeat seat
 IsWinner version None = version ≡ 2
 
--- the head of a board: the id of an auction, its version, the width of its bids, how many lanes and seals there are,
--- the reserve, the seat that won, and the price
+-- the head of a board: the id of an auction, its version, the width of its bids, how many lanes and
+-- seals there are, the reserve, the seat that won, and the price
 pub record IsHead (head : Head) : Type 0 where
   pub id : AreBytes 16 head.auction
   pub version : IsVersion head.version
@@ -80,7 +81,8 @@ pub record Shape : Type 0 where
   pub wires : ℕ
   pub rows : ℕ
 
--- what a head tells of what stands behind it: how many seals, how many lanes, and the shape of each lane
+-- what a head tells of what stands behind it: how many seals, how many lanes, and the shape of each
+-- lane
 pub record Frame : Type 0 where
   pub seals : ℕ
   pub lanes : ℕ
@@ -94,4 +96,5 @@ pub record IsBoard (shape : Head → Shape) (board : Board) : Type 0 where
   pub head : IsHead board.head
   pub seals : AreSeals board.head board.seals
   pub count : length board.lanes ≡ board.head.lanes
-  pub lanes : AllByRecursion (IsLaneLines (shape board.head).wires (shape board.head).rows) board.lanes
+  pub lanes : AllByRecursion (IsLaneLines (shape board.head).wires (shape board.head).rows)
+      board.lanes

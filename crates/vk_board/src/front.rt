@@ -16,8 +16,8 @@ use vk_lines::{Lines, ReadErr};
 use vk_residue::NoMemory;
 use vk_seq::Seq;
 
-/// What stands on a board before its first lane, and the place of the winner's seal, from 1. No place
-/// where nothing is sold.
+/// What stands on a board before its first lane, and the place of the winner's seal, from 1. No
+/// place where nothing is sold.
 #[derive(Debug, Drop)]
 pub struct Front {
     pub head: Head,
@@ -53,10 +53,12 @@ pub fn read_front<S: Shelf>(
     lines: &mut Lines,
 ) -> Result<Front, FrontErr>
     ensures modelled { IfSome (S.held shelf.old) (λ files.
-        Gives fault_of (λ front. (front, rest_of lines.new files)) result (front_at (rest_of lines.old files))) }
+        Gives fault_of (λ front. (front, rest_of lines.new files)) result
+        (front_at (rest_of lines.old files))) }
     ensures right { IfOk result IsFront }
     ensures file { KeepsFile lines.old lines.new }
-    ensures shelf { OnlyReads S.held S.Shelf.faults (FrontErr.Unread ReadErr.Failed) result shelf.old shelf.new }
+    ensures shelf { OnlyReads S.held S.Shelf.faults (FrontErr.Unread ReadErr.Failed) result
+        shelf.old shelf.new }
 {
     let head = read_head(shelf, lines)?;
     let seals = read_seals(alloc, shelf, lines, &head)?;
@@ -71,7 +73,8 @@ fn front_from(head: Head, seals: Seq<SealLines>) -> Result<Front, FrontErr>
     requires seals { AreSeals head seals }
     ensures told { Gives fault_of (λ front. front) result (front_of head seals) }
     ensures right { IfOk result IsFront }
-    ensures inside { IfErr result (λ refusal. (refusal ≡ FrontErr.Price) ⊎ (refusal ≡ FrontErr.Winner)) }
+    ensures inside { IfErr result
+        (λ refusal. (refusal ≡ FrontErr.Price) ⊎ (refusal ≡ FrontErr.Winner)) }
 {
     if !price_stands(&head) {
         return Err(FrontErr::Price);

@@ -1,4 +1,5 @@
-//! The board: what an auctioneer publishes of an auction, as a file that is read and written part by part.
+//! The board: what an auctioneer publishes of an auction, as a file that is read and written part
+//! by part.
 #![tactic(auto)]
 
 mod board;

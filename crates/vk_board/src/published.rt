@@ -6,9 +6,9 @@ ghost use Rattle.vk_board.specs.Published.{sold_price_stands, price_stands, posi
 use crate::board::{Head, SealLines};
 use vk_residue::Residue;
 
-/// Whether the reserve is below 2^width, and the price may stand beside it. What is sold is sold below
-/// 2^width and not below the reserve, by one bidder alone at the reserve; what isn't has a reserve and
-/// no price. Version 1 has the reserve 0.
+/// Whether the reserve is below 2^width, and the price may stand beside it. What is sold is sold
+/// below 2^width and not below the reserve, by one bidder alone at the reserve; what isn't has a
+/// reserve and no price. Version 1 has the reserve 0.
 pub fn price_stands(head: &Head) -> bool
     requires { IsHead head.now }
     ensures { result ≡ price_stands head.now }
@@ -44,8 +44,8 @@ pub fn position_of(seat: u16, seals: &[SealLines]) -> Option<u32>
     None
 }
 
-/// The winner's place among the seals, from 1; no place where nothing is sold. None where a winner is
-/// named and no seal has that seat.
+/// The winner's place among the seals, from 1; no place where nothing is sold. None where a winner
+/// is named and no seal has that seat.
 pub fn placed(winner: Option<u16>, seals: &[SealLines]) -> Option<Option<u32>>
     requires { length seals.now ≤ 64 }
     ensures { result ≡ placed winner seals.now }

@@ -19,8 +19,8 @@ use vk_residue::Residue;
 use vk_seq::Seq;
 use vk_wire::WireCom;
 
-/// Reads the head of a board: seven lines with version 1, eight with version 2. Malformed carries the
-/// number of the first line that isn't what its place demands.
+/// Reads the head of a board: seven lines with version 1, eight with version 2. Malformed carries
+/// the number of the first line that isn't what its place demands.
 #[tactic(auto, unfolding(crate::specs::Reading::head_at))]
 pub fn read_head<S: Shelf>(shelf: &mut S, lines: &mut Lines) -> Result<Head, ReadErr>
     ensures modelled { ReadsPart head_at (S.held shelf.old) lines.old lines.new result }
@@ -69,7 +69,17 @@ fn head_from(
     requires seals { (1 ≤ size.seals) × (size.seals ≤ 64) }
     requires reserve { IsReserve size.version reserve }
     requires winner { IsWinner size.version winner }
-    ensures value { result ≡ record { auction = auction.now; version = size.version; width = size.width; lanes = size.lanes; seals = size.seals; reserve = reserve; winner = winner; price = price } }
+    ensures value { result ≡ record {
+      auction = auction.now;
+      version = size.version;
+      width = size.width;
+      lanes = size.lanes;
+      seals = size.seals;
+      reserve = reserve;
+      winner =
+          winner;
+      price = price;
+    } }
     ensures right { IsHead result }
 {
     Head {
@@ -87,7 +97,8 @@ fn head_from(
 /// Reads the reserve that version 2 names; version 1 has no such line, and the reserve 0.
 #[tactic(auto, unfolding(crate::specs::Reading::reserve_at))]
 fn read_reserve<S: Shelf>(shelf: &mut S, lines: &mut Lines, version: u64) -> Result<u64, ReadErr>
-    ensures modelled { ReadsPart (reserve_at version) (S.held shelf.old) lines.old lines.new result }
+    ensures modelled { ReadsPart (reserve_at version) (S.held shelf.old) lines.old lines.new
+        result }
     ensures right { IfOk result (IsReserve version) }
     ensures file { KeepsFile lines.old lines.new }
     ensures shelf { OnlyReads S.held S.Shelf.faults ReadErr.Failed result shelf.old shelf.new }
@@ -99,14 +110,16 @@ fn read_reserve<S: Shelf>(shelf: &mut S, lines: &mut Lines, version: u64) -> Res
     Ok(reserve)
 }
 
-/// Reads the seat that won. None where the line says that nothing is sold, as it may with version 2.
+/// Reads the seat that won. None where the line says that nothing is sold, as it may with version
+/// 2.
 #[tactic(auto, unfolding(vk_lines::specs::Lines::line_by))]
 fn read_winner<S: Shelf>(
     shelf: &mut S,
     lines: &mut Lines,
     version: u64,
 ) -> Result<Option<u16>, ReadErr>
-    ensures modelled { ReadsPart (line_by (winner_line version)) (S.held shelf.old) lines.old lines.new result }
+    ensures modelled { ReadsPart (line_by (winner_line version)) (S.held shelf.old) lines.old
+        lines.new result }
     ensures right { IfOk result (IsWinner version) }
     ensures file { KeepsFile lines.old lines.new }
     ensures shelf { OnlyReads S.held S.Shelf.faults ReadErr.Failed result shelf.old shelf.new }
@@ -164,7 +177,8 @@ pub fn read_seal_lines<S: Shelf>(
     count: u32,
     lanes: u32,
 ) -> Result<Seq<SealLines>, ReadErr>
-    ensures modelled { ReadsPart (seal_lines_at count lanes) (S.held shelf.old) lines.old lines.new result }
+    ensures modelled { ReadsPart (seal_lines_at count lanes) (S.held shelf.old) lines.old lines.new
+        result }
     ensures right { IfOk result (AreSealsOf count lanes) }
     ensures file { KeepsFile lines.old lines.new }
     ensures shelf { OnlyReads S.held S.Shelf.faults ReadErr.Failed result shelf.old shelf.new }
@@ -186,7 +200,8 @@ fn read_seal<S: Shelf>(
     lanes: u32,
     before: &Seq<SealLines>,
 ) -> Result<SealLines, ReadErr>
-    ensures modelled { ReadsPart (seal_at lanes before.now) (S.held shelf.old) lines.old lines.new result }
+    ensures modelled { ReadsPart (seal_at lanes before.now) (S.held shelf.old) lines.old lines.new
+        result }
     ensures right { IfOk result (IsSealAfter lanes before.now) }
     ensures file { KeepsFile lines.old lines.new }
     ensures shelf { OnlyReads S.held S.Shelf.faults ReadErr.Failed result shelf.old shelf.new }
@@ -215,7 +230,8 @@ fn read_seat<S: Shelf>(
     lines: &mut Lines,
     before: &Seq<SealLines>,
 ) -> Result<u16, ReadErr>
-    ensures modelled { ReadsPart (line_by (seat_line (seats_of before.now))) (S.held shelf.old) lines.old lines.new result }
+    ensures modelled { ReadsPart (line_by (seat_line (seats_of before.now))) (S.held shelf.old)
+        lines.old lines.new result }
     ensures some { IfOk result (λ seat. 1 ≤ seat) }
     ensures new { IfOk result (λ seat. is_new_seat (seats_of before.now) seat ≡ true) }
     ensures file { KeepsFile lines.old lines.new }
@@ -257,9 +273,9 @@ fn is_new_seat(before: &[SealLines], seat: u16) -> bool
     true
 }
 
-/// Reads what a board says of the lane of that number, from 1: this many wires' commitments and this
-/// many rows' numbers. Malformed carries the number of the first line that isn't what its place
-/// demands.
+/// Reads what a board says of the lane of that number, from 1: this many wires' commitments and
+/// this many rows' numbers. Malformed carries the number of the first line that isn't what its
+/// place demands.
 #[tactic(auto, unfolding(crate::specs::Reading::lane_at))]
 pub fn read_lane<S: Shelf>(
     alloc: Global,
@@ -269,7 +285,8 @@ pub fn read_lane<S: Shelf>(
     wires: u32,
     rows: u32,
 ) -> Result<LaneLines, ReadErr>
-    ensures modelled { ReadsPart (lane_at lane wires rows) (S.held shelf.old) lines.old lines.new result }
+    ensures modelled { ReadsPart (lane_at lane wires rows) (S.held shelf.old) lines.old lines.new
+        result }
     ensures right { IfOk result (IsLaneLines wires rows) }
     ensures file { KeepsFile lines.old lines.new }
     ensures shelf { OnlyReads S.held S.Shelf.faults ReadErr.Failed result shelf.old shelf.new }
@@ -300,7 +317,8 @@ fn read_coms<S: Shelf>(
     word: &[u8],
     count: u32,
 ) -> Result<Seq<WireCom>, ReadErr>
-    ensures modelled { ReadsPart (many_at count (λ _. line_by (com_line word.now))) (S.held shelf.old) lines.old lines.new result }
+    ensures modelled { ReadsPart (many_at count (λ _. line_by (com_line word.now)))
+        (S.held shelf.old) lines.old lines.new result }
     ensures number { IfOk result (λ coms. length coms ≡ count) }
     ensures digests { IfOk result (All IsCom) }
     ensures file { KeepsFile lines.old lines.new }
@@ -318,7 +336,8 @@ fn read_posted<S: Shelf>(
     lines: &mut Lines,
     count: u32,
 ) -> Result<Seq<Residue>, ReadErr>
-    ensures modelled { ReadsPart (many_at count (λ _. line_by posted_line)) (S.held shelf.old) lines.old lines.new result }
+    ensures modelled { ReadsPart (many_at count (λ _. line_by posted_line)) (S.held shelf.old)
+        lines.old lines.new result }
     ensures number { IfOk result (λ posted. length posted ≡ count) }
     ensures right { IfOk result (All IsResidue) }
     ensures file { KeepsFile lines.old lines.new }

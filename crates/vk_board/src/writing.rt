@@ -70,7 +70,8 @@ pub fn lane_text(alloc: Global, lane: u32, lines: &LaneLines) -> Result<Vec<u8>,
 
 /// Appends the line of each row's number.
 fn push_posted(out: &mut Vec<u8>, posted: &[Residue]) -> Result<(), NoMemory>
-    ensures { OnOk result (out.new.items ≡ out.old.items ++ flat_map (λ number. line (posted_text number)) posted.now) }
+    ensures { OnOk result (out.new.items
+        ≡ out.old.items ++ flat_map (λ number. line (posted_text number)) posted.now) }
 {
     for number in posted {
         push_number_line(out, b"d", number.get())?;

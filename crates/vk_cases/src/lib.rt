@@ -1,5 +1,5 @@
-//! Files of cases that are replayed, one case a line, as fields between single spaces; the programs that replay them,
-//! and why one stopped before the end.
+//! Files of cases that are replayed, one case a line, as fields between single spaces; the programs
+//! that replay them, and why one stopped before the end.
 #![tactic(auto)]
 
 mod cases;

@@ -62,7 +62,8 @@ pub fn replay_forms<F: Form>(rt: &HostRuntime, forms: &[F]) -> ExitCode {
     replay_here(rt, &AllCases { forms })
 }
 
-/// Replays in the folder that the program runs in. Why it stopped before the end is told on standard error.
+/// Replays in the folder that the program runs in. Why it stopped before the end is told on
+/// standard error.
 pub fn replay_here<R: Replay>(rt: &HostRuntime, replay: &R) -> ExitCode {
     let alloc = rt.alloc();
     let replayed = replay.replay(

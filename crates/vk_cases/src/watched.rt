@@ -12,8 +12,8 @@ struct Reach {
     place: u64,
 }
 
-/// Files in memory that are read and written in pieces, and how far each was read. Where they are fixed
-/// they stay as they are, whatever is written. It isn't modelled.
+/// Files in memory that are read and written in pieces, and how far each was read. Where they are
+/// fixed they stay as they are, whatever is written. It isn't modelled.
 #[derive(Drop)]
 pub struct WatchedShelf {
     inner: PieceShelf,

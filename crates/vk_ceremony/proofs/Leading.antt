@@ -26,85 +26,138 @@ use Rattle.vk_ceremony.specs.Turns.{Turns, left_of, stores_of}
 
 -- however what is left ends from now on, the whole ceremony has ended so from its beginning
 abbrev pub Leads : Ceremony → Outside → Option Ceremony → Outside → Type 0
-Leads whole old left now = IsSomeAnd left (λ later. (answer : Result ℕ OutsideErr) (new : Outside) → EndsAll answer later now new → EndsAll answer whole old new)
+Leads whole old left now = IsSomeAnd left
+    (λ later. (answer : Result ℕ OutsideErr) (new : Outside) → EndsAll answer later now new
+    → EndsAll answer whole old new)
 
-pub leads_itself : (left : Option Ceremony) (old : Outside) → IfSome left (λ whole. Leads whole old left old)
+pub leads_itself : (left : Option Ceremony) (old : Outside)
+    → IfSome left (λ whole. Leads whole old left old)
 leads_itself None old = tt
 leads_itself (Some whole) old = λ answer new ends. ends
 
 -- a command that was done, and those after it
-ends_after : (effect : Effect) (later : Ceremony) (answer : Result ℕ OutsideErr) (old new : Outside) → EndsAll answer later (done effect old) new → EndsAll answer (with_command effect later) old new
+ends_after : (effect : Effect) (later : Ceremony) (answer : Result ℕ OutsideErr) (old new : Outside)
+    → EndsAll answer later (done effect old) new
+    → EndsAll answer (with_command effect later) old new
 ends_after effect later (Ok status) old new ends = ends
 ends_after effect later (Err stop) old new ends = inr ends
 
-turn_leads : (script : List ℕ) (lines : LinesValue) (refused : Bool) (whole : Ceremony) (old now new : Outside) (left after : Option Ceremony) → left_of script refused lines (stores_of new) ≡ after
-    → Leads whole old left now → IfSome left (λ later. Turns script lines (Ok (Next refused)) later now new) → Leads whole old after new
+turn_leads : (script : List ℕ) (lines : LinesValue) (refused : Bool) (whole : Ceremony)
+    (old now new : Outside) (left after : Option Ceremony)
+    → left_of script refused lines (stores_of new) ≡ after
+    → Leads whole old left now
+    → IfSome left (λ later. Turns script lines (Ok (Next refused)) later now new)
+    → Leads whole old after new
 turn_leads script lines refused whole old now new None after is leads turns = absurd leads
-turn_leads script lines refused whole old now new (Some left) None is leads turns = absurd (subst (λ o. IsSomeAnd o (λ later. (effect : Effect) × (left ≡ with_command effect later) × (new ≡ done effect now))) is turns)
+turn_leads script lines refused whole old now new (Some left) None is leads turns =
+    absurd (subst (λ o. IsSomeAnd o
+    (λ later. (effect : Effect) × (left ≡ with_command effect later) × (new ≡ done effect now))) is
+    turns)
 turn_leads script lines refused whole old now new (Some left) (Some after) is leads turns =
-    let turn : (effect : Effect) × (left ≡ with_command effect after) × (new ≡ done effect now) = subst (λ o. IsSomeAnd o (λ later. (effect : Effect) × (left ≡ with_command effect later) × (new ≡ done effect now))) is turns in
+    let turn : (effect : Effect) × (left ≡ with_command effect after) × (new ≡ done effect now) =
+    subst (λ o. IsSomeAnd o
+    (λ later. (effect : Effect) × (left ≡ with_command effect later) × (new ≡ done effect now)))
+    is turns in
     λ answer last ends.
-    leads answer last (subst (λ c. EndsAll answer c now last) (sym turn.1) (ends_after turn.0 after answer now last (subst (λ o. EndsAll answer after o last) turn.2 ends)))
+    leads answer last (subst (λ c. EndsAll answer c now last) (sym turn.1)
+    (ends_after turn.0 after answer now last
+    (subst (λ o. EndsAll answer after o last) turn.2 ends)))
 
 -- the ceremony goes on
-pub leads_on : (script : List ℕ) (lines : LinesValue) (turn : Turn) (refused : Bool) (whole : Option Ceremony) (old now new : Outside) (left : Option Ceremony) → turn ≡ Next refused
-    → IfSome whole (λ w. Leads w old left now) → IfSome left (λ later. Turns script lines (Ok turn) later now new) → IfSome whole (λ w. Leads w old (left_of script refused lines (stores_of new)) new)
+pub leads_on : (script : List ℕ) (lines : LinesValue) (turn : Turn) (refused : Bool)
+    (whole : Option Ceremony) (old now new : Outside) (left : Option Ceremony) → turn ≡ Next refused
+    → IfSome whole (λ w. Leads w old left now)
+    → IfSome left (λ later. Turns script lines (Ok turn) later now new)
+    → IfSome whole (λ w. Leads w old (left_of script refused lines (stores_of new)) new)
 leads_on script lines turn refused None old now new left is leads turns = tt
 leads_on script lines turn refused (Some whole) old now new left is leads turns =
-    turn_leads script lines refused whole old now new left _ refl leads (subst (λ t. IfSome left (λ later. Turns script lines (Ok t) later now new)) is turns)
+    turn_leads script lines refused whole old now new left _ refl leads
+    (subst (λ t. IfSome left (λ later. Turns script lines (Ok t) later now new)) is turns)
 
 -- it ended
-pub leads_to : (whole : Option Ceremony) (answer : Result ℕ OutsideErr) (old now new : Outside) (left : Option Ceremony) → IfSome whole (λ w. Leads w old left now) → IfSome left (λ later. EndsAll answer later now new) → IfSome whole (λ w. EndsAll answer w old new)
+pub leads_to : (whole : Option Ceremony) (answer : Result ℕ OutsideErr) (old now new : Outside)
+    (left : Option Ceremony) → IfSome whole (λ w. Leads w old left now)
+    → IfSome left (λ later. EndsAll answer later now new)
+    → IfSome whole (λ w. EndsAll answer w old new)
 leads_to None answer old now new left leads ends = tt
 leads_to (Some whole) answer old now new None leads ends = absurd leads
 leads_to (Some whole) answer old now new (Some left) leads ends = leads answer new ends
 
-pub leads_to_end : (script : List ℕ) (lines : LinesValue) (turn : Turn) (status : ℕ) (whole : Option Ceremony) (old now new : Outside) (left : Option Ceremony) → turn ≡ Ended status
-    → IfSome whole (λ w. Leads w old left now) → IfSome left (λ later. Turns script lines (Ok turn) later now new) → IfSome whole (λ w. EndsAll (Ok status) w old new)
+pub leads_to_end : (script : List ℕ) (lines : LinesValue) (turn : Turn) (status : ℕ)
+    (whole : Option Ceremony) (old now new : Outside) (left : Option Ceremony) → turn ≡ Ended status
+    → IfSome whole (λ w. Leads w old left now)
+    → IfSome left (λ later. Turns script lines (Ok turn) later now new)
+    → IfSome whole (λ w. EndsAll (Ok status) w old new)
 leads_to_end script lines turn status whole old now new left is leads turns =
-    leads_to whole (Ok status) old now new left leads (subst (λ t. IfSome left (λ later. Turns script lines (Ok t) later now new)) is turns)
+    leads_to whole (Ok status) old now new left leads
+    (subst (λ t. IfSome left (λ later. Turns script lines (Ok t) later now new)) is turns)
 
 -- ---- the script's first line
 
 -- the script was begun
-pub begun_ceremony : (script : List ℕ) (lines : LinesValue) (held now : Option Files) (ledger : Option Ledger) (taken : Option (List ℕ)) (answer : Result ℕ OutsideErr) (new : Outside) → now ≡ held
-    → IfSome held (λ files. Gives {T = LinesValue} said_of_unread (λ l. rest_of l files) (Ok lines) (script_begun files script))
-    → IfSome (left_of script false lines (stores now ledger)) (λ whole. EndsAll answer whole (outside (stores now ledger) taken) new)
-    → IfSome (ceremony_on held ledger script) (λ whole. EndsAll answer whole (outside (stores held ledger) taken) new)
+pub begun_ceremony : (script : List ℕ) (lines : LinesValue) (held now : Option Files)
+    (ledger : Option Ledger) (taken : Option (List ℕ)) (answer : Result ℕ OutsideErr)
+    (new : Outside) → now ≡ held
+    → IfSome held (λ files. Gives {T = LinesValue} said_of_unread (λ l. rest_of l files) (Ok lines)
+    (script_begun files script))
+    → IfSome (left_of script false lines (stores now ledger))
+    (λ whole. EndsAll answer whole (outside (stores now ledger) taken) new)
+    → IfSome (ceremony_on held ledger script)
+    (λ whole. EndsAll answer whole (outside (stores held ledger) taken) new)
 begun_ceremony script lines None now ledger taken answer new same is ends = tt
 begun_ceremony script lines (Some files) now ledger taken answer new same is ends =
-    let here : IfSome (left_of script false lines (stores (Some files) ledger)) (λ whole. EndsAll answer whole (outside (stores (Some files) ledger) taken) new) =
-    subst (λ left. IfSome (left_of script false lines (stores left ledger)) (λ whole. EndsAll answer whole (outside (stores left ledger) taken) new)) same ends in
-    subst (λ r. IfSome (ceremony_behind script (stores (Some files) ledger) r) (λ whole. EndsAll answer whole (outside (stores (Some files) ledger) taken) new)) (sym is) here
+    let here : IfSome (left_of script false lines (stores (Some files) ledger))
+    (λ whole. EndsAll answer whole (outside (stores (Some files) ledger) taken) new) =
+    subst (λ left. IfSome (left_of script false lines (stores left ledger))
+    (λ whole. EndsAll answer whole (outside (stores left ledger) taken) new)) same ends in
+    subst (λ r. IfSome (ceremony_behind script (stores (Some files) ledger) r)
+    (λ whole. EndsAll answer whole (outside (stores (Some files) ledger) taken) new)) (sym is)
+    here
 
 -- it wasn't, and this was said of it
-pub unread_said : (script : List ℕ) (unread : Unread) (said : SaidValue) (files : Files) → Ok said ≡ said_or_stopped unread → Gives {T = LinesValue} said_of_unread (λ l. rest_of l files) (Err unread) (script_begun files script) → script_begun files script ≡ Err said
-unread_said script (Said other) said files is gives = gives ∙ ap Err (same_Ok {E = OutsideErr} other said (sym is))
+pub unread_said : (script : List ℕ) (unread : Unread) (said : SaidValue) (files : Files)
+    → Ok said ≡ said_or_stopped unread
+    → Gives {T = LinesValue} said_of_unread (λ l. rest_of l files) (Err unread)
+    (script_begun files script) → script_begun files script ≡ Err said
+unread_said script (Said other) said files is gives =
+    gives ∙ ap Err (same_Ok {E = OutsideErr} other said (sym is))
 unread_said script Failed said files is gives = cc
 unread_said script NoMemory said files is gives = cc
 
-pub unread_ceremony : (script : List ℕ) (unread : Unread) (said : SaidValue) (held now : Option Files) (ledger : Option Ledger) (taken then_ : Option (List ℕ)) (answer : Result ℕ OutsideErr) → now ≡ held → Ok said ≡ said_or_stopped unread
-    → IfSome held (λ files. Gives {T = LinesValue} said_of_unread (λ l. rest_of l files) (Err unread) (script_begun files script))
+pub unread_ceremony : (script : List ℕ) (unread : Unread) (said : SaidValue)
+    (held now : Option Files) (ledger : Option Ledger) (taken then_ : Option (List ℕ))
+    (answer : Result ℕ OutsideErr) → now ≡ held → Ok said ≡ said_or_stopped unread
+    → IfSome held (λ files. Gives {T = LinesValue} said_of_unread (λ l. rest_of l files)
+    (Err unread) (script_begun files script))
     → ((old : Stores) → EndsAll answer (closed said) (outside old taken) (outside old then_))
-    → IfSome (ceremony_on held ledger script) (λ whole. EndsAll answer whole (outside (stores held ledger) taken) (outside (stores now ledger) then_))
+    → IfSome (ceremony_on held ledger script)
+    (λ whole. EndsAll answer whole (outside (stores held ledger) taken)
+    (outside (stores now ledger) then_))
 unread_ceremony script unread said None now ledger taken then_ answer same is gives ends = tt
 unread_ceremony script unread said (Some files) now ledger taken then_ answer same is gives ends =
-    subst (λ r. IfSome (ceremony_behind script (stores (Some files) ledger) r) (λ whole. EndsAll answer whole (outside (stores (Some files) ledger) taken) (outside (stores now ledger) then_))) (sym (unread_said script unread said files is gives))
-    (subst (λ left. EndsAll answer (closed said) (outside (stores (Some files) ledger) taken) (outside (stores left ledger) then_)) (sym same) (ends (stores (Some files) ledger)))
+    subst (λ r. IfSome (ceremony_behind script (stores (Some files) ledger) r)
+    (λ whole. EndsAll answer whole (outside (stores (Some files) ledger) taken)
+    (outside (stores now ledger) then_))) (sym (unread_said script unread said files is gives))
+    (subst (λ left. EndsAll answer (closed said) (outside (stores (Some files) ledger) taken)
+    (outside (stores left ledger) then_)) (sym same) (ends (stores (Some files) ledger)))
 
 -- ---- counts
 
 -- what a call caused, from counts that are those at the beginning
-pub causes_since : {T : Type 0} (answer : Result T OutsideErr) (start shelf first keeper begin out now then_ last : ℕ) → shelf ≡ start → keeper ≡ first → out ≡ begin → CausesThree outside_err.Failed answer shelf now keeper then_ out last
+pub causes_since : {T : Type 0} (answer : Result T OutsideErr)
+    (start shelf first keeper begin out now then_ last : ℕ) → shelf ≡ start → keeper ≡ first
+    → out ≡ begin → CausesThree outside_err.Failed answer shelf now keeper then_ out last
     → CausesThree outside_err.Failed answer start now first then_ begin last
 causes_since answer start shelf first keeper begin out now then_ last a b c causes =
     subst (λ n. CausesThree outside_err.Failed answer start now first then_ n last) c
-    (subst (λ n. CausesThree outside_err.Failed answer start now n then_ out last) b (subst (λ n. CausesThree outside_err.Failed answer n now keeper then_ out last) a causes))
+    (subst (λ n. CausesThree outside_err.Failed answer start now n then_ out last) b
+    (subst (λ n. CausesThree outside_err.Failed answer n now keeper then_ out last) a causes))
 
 -- ---- what the house keeps
 
 pub keeps_told : (ledger : Option Ledger) → Modelled KeepsAnswers ledger ledger
 keeps_told = told_same KeepsAnswers keeps_same
 
-pub keeps_further : (old between new : Option Ledger) → Modelled KeepsAnswers old between → Modelled KeepsAnswers between new → Modelled KeepsAnswers old new
+pub keeps_further : (old between new : Option Ledger) → Modelled KeepsAnswers old between
+    → Modelled KeepsAnswers between new → Modelled KeepsAnswers old new
 keeps_further = told_chain KeepsAnswers KeepsAnswers KeepsAnswers keeps_on

@@ -23,7 +23,8 @@ use Rattle.vk_ceremony.proofs.Turning.{rest_stays, turned}
 use Rattle.vk_ceremony.proofs.Writing.{IsOther, insert_leaves, order_leaves}
 
 -- where nothing changed
-told_kept : (P : Files → Files → Type 0) → ((files : Files) → P files files) → (held now : Option Files)
+told_kept : (P : Files → Files → Type 0) → ((files : Files) → P files files)
+    → (held now : Option Files)
     → now ≡ held → Modelled P held now
 told_kept P same held now is = subst (Modelled P held) (sym is) (told_same P same held)
 
@@ -45,22 +46,36 @@ done_leaves script (Show id) files new other left = ap (λ f. bytes_of f script)
 ended_leaves : (script : List ℕ) (order : HouseWords) (status : ℕ) (files new : Files)
     → IsOther script (written_name_of order) → LeavesFiles order status files new
     → bytes_of new script ≡ bytes_of files script
-ended_leaves script order zero files new other left = done_leaves script order files new other (left.done refl)
-ended_leaves script order (suc n) files new other left = ap (λ f. bytes_of f script) (left.refused (λ is. cc))
+ended_leaves script order zero files new other left =
+    done_leaves script order files new other (left.done refl)
+ended_leaves script order (suc n) files new other left =
+    ap (λ f. bytes_of f script) (left.refused (λ is. cc))
 
 -- ---- one turn
 
 -- a command that ended with that status, and then the rest of the script, or nothing more
 command_leaves : (script : List ℕ) (order : HouseWords) (refused : Bool) (before lines : LinesValue)
-    (status : ℕ) (files new : Files) (test : Bool) → goes_on status ≡ test → LeavesFiles order status files new
-    → rest_of lines new ≡ rest_of lines files → script_at script (rest_of before files) ≡ with_order order
+    (status : ℕ) (files new : Files) (test : Bool) → goes_on status ≡ test
+    → LeavesFiles order status files new
+    → rest_of lines new ≡ rest_of lines files
+    → script_at script (rest_of before files) ≡ with_order order
     (script_at script (rest_of lines files))
     → TurnLeaves script refused before lines
     (Ok (if test then Next (refused || is_refusal status) else Ended status)) files new
 command_leaves script order refused before lines status files new true goes left stays reads =
     λ last_status last rest.
-    subst (λ said. ScriptLeaves script refused said last_status files last) (sym reads)
-    (status, (new, left, inl (goes, subst (λ r. ScriptLeaves script (refused || is_refusal status) (script_at script r) last_status new last) stays rest)))
+    subst (λ said. ScriptLeaves script refused said last_status files last) (sym reads) (
+      status,
+      (
+        new,
+        left,
+        inl (
+          goes,
+          subst (λ r. ScriptLeaves script (refused || is_refusal status) (script_at script r)
+              last_status new last) stays rest,
+        ),
+      ),
+    )
 command_leaves script order refused before lines status files new false goes left stays reads =
     subst (λ said. ScriptLeaves script refused said status files new) (sym reads)
     (status, (new, left, inr (goes, refl, refl)))
@@ -72,45 +87,63 @@ OrderLeaves order answer old new = IfOk answer (λ status. LeavesFiles order sta
 -- what it read before is that command and what stands behind it
 abbrev ReadsOrder : List ℕ → List (List ℕ) → (before lines : LinesValue) → Files → Type 0
 ReadsOrder script words before lines files =
-    script_at script (rest_of before files) ≡ order_then script (script_words script words) (rest_of lines files)
+    script_at script (rest_of before files)
+    ≡ order_then script (script_words script words) (rest_of lines files)
 
 turn_leaves : (script : List ℕ) (words : List (List ℕ)) (order : HouseWords) (refused : Bool)
     (before lines : LinesValue) (files : Files) (now : Option Files) (answer : Result ℕ OutsideErr)
     → lines.name ≡ script → Some order ≡ script_words script words
-    → ReadsOrder script words before lines files → Modelled (OrderLeaves order answer) (Some files) now
+    → ReadsOrder script words before lines files
+    → Modelled (OrderLeaves order answer) (Some files) now
     → Modelled (TurnLeaves script refused before lines (turned refused answer)) (Some files) now
-turn_leaves script words order refused before lines files None answer named is reads left = absurd left
-turn_leaves script words order refused before lines files (Some new) (Err stop) named is reads left = tt
-turn_leaves script words order refused before lines files (Some new) (Ok status) named is reads left =
+turn_leaves script words order refused before lines files None answer named is reads left =
+    absurd left
+turn_leaves script words order refused before lines files (Some new) (Err stop) named is reads
+    left = tt
+turn_leaves script words order refused before lines files (Some new) (Ok status) named is reads
+    left =
     command_leaves script order refused before lines status files new (goes_on status) refl left
-    (rest_stays script lines files new named (ended_leaves script order status files new (order_leaves script words order (sym is)) left))
+    (rest_stays script lines files new named
+    (ended_leaves script order status files new (order_leaves script words order (sym is))
+    left))
     (reads ∙ ap (λ o. order_then script o (rest_of lines files)) (sym is))
 
 -- a line was taken, and its command came to this
 pub order_left : (script : List ℕ) (words : List (List ℕ)) (order : HouseWords) (refused : Bool)
     (before lines : LinesValue) (held between now : Option Files) (answer : Result ℕ OutsideErr)
     → between ≡ held → lines.name ≡ script → Some order ≡ script_words script words
-    → IfSome held (ReadsOrder script words before lines) → Modelled (OrderLeaves order answer) between now
+    → IfSome held (ReadsOrder script words before lines)
+    → Modelled (OrderLeaves order answer) between now
     → Modelled (TurnLeaves script refused before lines (turned refused answer)) held now
-order_left script words order refused before lines None between now answer same named is reads left =
+order_left script words order refused before lines None between now answer same named is reads
+    left =
     subst (λ files. Modelled (OrderLeaves order answer) files now) same left
-order_left script words order refused before lines (Some files) between now answer same named is reads left =
-    turn_leaves script words order refused before lines files now answer named is reads (subst (λ held. Modelled (OrderLeaves order answer) held now) same left)
+order_left script words order refused before lines (Some files) between now answer same named is
+    reads left =
+    turn_leaves script words order refused before lines files now answer named is reads
+    (subst (λ held. Modelled (OrderLeaves order answer) held now) same left)
 
 -- it was stopped, and no file was written
 pub stop_left : (script : List ℕ) (refused : Bool) (before lines : LinesValue) (stop : OutsideErr)
-    (held now : Option Files) → now ≡ held → Modelled (TurnLeaves script refused before lines (Err stop)) held now
-stop_left script refused before lines stop held now = told_kept (TurnLeaves script refused before lines (Err stop)) (λ files. tt) held now
+    (held now : Option Files) → now ≡ held
+    → Modelled (TurnLeaves script refused before lines (Err stop)) held now
+stop_left script refused before lines stop held now =
+    told_kept (TurnLeaves script refused before lines (Err stop)) (λ files. tt) held now
 
 -- what is said of the script ended it
-pub close_left : (script : List ℕ) (refused : Bool) (before lines : LinesValue) (held now : Option Files)
+pub close_left : (script : List ℕ) (refused : Bool) (before lines : LinesValue)
+    (held now : Option Files)
     (taken then_ : Option (List ℕ)) (fault : Option ℕ) (status : ℕ) → now ≡ held
     → IfSome held (λ files. script_at script (rest_of before files) ≡ closes fault)
-    → ((old : Stores) → EndsAll (Ok status) (closed (closing_said script fault refused)) (outside old taken) (outside old then_)) → Modelled (TurnLeaves script refused before lines (Ok (Ended status))) held now
+    → ((old : Stores) → EndsAll (Ok status) (closed (closing_said script fault refused))
+    (outside old taken) (outside old then_))
+    → Modelled (TurnLeaves script refused before lines (Ok (Ended status))) held now
 close_left script refused before lines None now taken then_ fault status same is ends = same
 close_left script refused before lines (Some files) now taken then_ fault status same is ends =
-    subst (λ left. Modelled (TurnLeaves script refused before lines (Ok (Ended status))) (Some files) left) (sym same)
-    (subst (λ said. ScriptLeaves script refused said status files files) (sym is) ((ends (stores None None)).0, refl))
+    subst (λ left. Modelled (TurnLeaves script refused before lines (Ok (Ended status)))
+    (Some files) left) (sym same)
+    (subst (λ said. ScriptLeaves script refused said status files files) (sym is)
+    ((ends (stores None None)).0, refl))
 
 -- ---- turn by turn
 
@@ -119,33 +152,40 @@ pub leaves_itself : (script : List ℕ) (refused : Bool) (lines : LinesValue) (h
 leaves_itself script refused lines held =
     told_same (Continues script refused lines refused lines) (λ files status last left. left) held
 
-pub leaves_on : (script : List ℕ) (start lines later : LinesValue) (refused now : Bool) (turn : Turn)
+pub leaves_on : (script : List ℕ) (start lines later : LinesValue) (refused now : Bool)
+    (turn : Turn)
     (old between new : Option Files) → turn ≡ Next now
     → Modelled (Continues script false start refused lines) old between
     → Modelled (TurnLeaves script refused lines later (Ok turn)) between new
     → Modelled (Continues script false start now later) old new
 leaves_on script start lines later refused now turn old between new is =
-    told_chain (Continues script false start refused lines) (TurnLeaves script refused lines later (Ok turn))
+    told_chain (Continues script false start refused lines)
+    (TurnLeaves script refused lines later (Ok turn))
     (Continues script false start now later)
     (λ first here last before turns. λ status files left. before status files
-    ((subst (λ t. TurnLeaves script refused lines later (Ok t) here last) is turns) status files left))
+    ((subst (λ t. TurnLeaves script refused lines later (Ok t) here last) is turns) status files
+    left))
     old between new
 
 -- what was left from the beginning, where it ended
 abbrev pub HoldLeaves : List ℕ → LinesValue → Result ℕ OutsideErr → Files → Files → Type 0
 HoldLeaves script start answer old new =
-    IfOk answer (λ status. ScriptLeaves script false (script_at script (rest_of start old)) status old new)
+    IfOk answer (λ status. ScriptLeaves script false (script_at script (rest_of start old)) status
+    old new)
 
-pub leaves_to_end : (script : List ℕ) (start lines later : LinesValue) (refused : Bool) (turn : Turn)
+pub leaves_to_end : (script : List ℕ) (start lines later : LinesValue) (refused : Bool)
+    (turn : Turn)
     (status : ℕ) (old between new : Option Files) → turn ≡ Ended status
     → Modelled (Continues script false start refused lines) old between
     → Modelled (TurnLeaves script refused lines later (Ok turn)) between new
     → Modelled (HoldLeaves script start (Ok status)) old new
 leaves_to_end script start lines later refused turn status old between new is =
-    told_chain (Continues script false start refused lines) (TurnLeaves script refused lines later (Ok turn))
+    told_chain (Continues script false start refused lines)
+    (TurnLeaves script refused lines later (Ok turn))
     (HoldLeaves script start (Ok status))
     (λ first here last before turns.
-    before status last (subst (λ t. TurnLeaves script refused lines later (Ok t) here last) is turns))
+    before status last (subst (λ t. TurnLeaves script refused lines later (Ok t) here last) is
+    turns))
     old between new
 
 pub leaves_to_stop : (script : List ℕ) (start lines later : LinesValue) (refused : Bool)
@@ -154,7 +194,8 @@ pub leaves_to_stop : (script : List ℕ) (start lines later : LinesValue) (refus
     → Modelled (TurnLeaves script refused lines later (Err stop)) between new
     → Modelled (HoldLeaves script start (Err other)) old new
 leaves_to_stop script start lines later refused stop other old between new =
-    told_chain (Continues script false start refused lines) (TurnLeaves script refused lines later (Err stop))
+    told_chain (Continues script false start refused lines)
+    (TurnLeaves script refused lines later (Err stop))
     (HoldLeaves script start (Err other)) (λ first here last before turns. tt) old between new
 
 -- ---- the whole ceremony
@@ -174,23 +215,29 @@ begun_by script lines (Ok status) files (Some new) is left =
 -- the script was begun
 pub begun_left : (script : List ℕ) (lines : LinesValue) (held between now : Option Files)
     (answer : Result ℕ OutsideErr) → between ≡ held
-    → IfSome held (λ files. Gives {T = LinesValue} said_of_unread (λ l. rest_of l files) (Ok lines) (script_begun files script)) → Modelled (HoldLeaves script lines answer) between now → Modelled (LeavesAnswered script answer) held now
+    → IfSome held (λ files. Gives {T = LinesValue} said_of_unread (λ l. rest_of l files) (Ok lines)
+    (script_begun files script)) → Modelled (HoldLeaves script lines answer) between now
+    → Modelled (LeavesAnswered script answer) held now
 begun_left script lines None between now answer same is left =
     subst (λ files. Modelled (HoldLeaves script lines answer) files now) same left
 begun_left script lines (Some files) between now answer same is left =
-    begun_by script lines answer files now is (subst (λ held. Modelled (HoldLeaves script lines answer) held now) same left)
+    begun_by script lines answer files now is
+    (subst (λ held. Modelled (HoldLeaves script lines answer) held now) same left)
 
 -- it wasn't
 pub unread_left : (script : List ℕ) (unread : Unread) (said : SaidValue) (held now : Option Files)
     (taken then_ : Option (List ℕ)) (status : ℕ) → now ≡ held → Ok said ≡ said_or_stopped unread
-    → IfSome held (λ files. Gives {T = LinesValue} said_of_unread (λ l. rest_of l files) (Err unread) (script_begun files script))
+    → IfSome held (λ files. Gives {T = LinesValue} said_of_unread (λ l. rest_of l files)
+    (Err unread) (script_begun files script))
     → ((old : Stores) → EndsAll (Ok status) (closed said) (outside old taken) (outside old then_))
     → Modelled (LeavesAnswered script (Ok status)) held now
 unread_left script unread said None now taken then_ status same is gives ends = same
 unread_left script unread said (Some files) now taken then_ status same is gives ends =
     subst (λ left. Modelled (LeavesAnswered script (Ok status)) (Some files) left) (sym same)
-    (subst (λ r. BehindLeaves script r status files files) (sym (unread_said script unread said files is gives)) ((ends (stores None None)).0, refl))
+    (subst (λ r. BehindLeaves script r status files files)
+    (sym (unread_said script unread said files is gives)) ((ends (stores None None)).0, refl))
 
 pub stopped_left : (script : List ℕ) (stop : OutsideErr) (held now : Option Files) → now ≡ held
     → Modelled (LeavesAnswered script (Err stop)) held now
-stopped_left script stop held now = told_kept (LeavesAnswered script (Err stop)) (λ files. tt) held now
+stopped_left script stop held now =
+    told_kept (LeavesAnswered script (Err stop)) (λ files. tt) held now

@@ -30,10 +30,15 @@ act_of order files ledger effect = record {
   kept = ledger_by (asked_in files order) ledger;
 }
 
-kept_by_effect : (order : HouseWords) (files : Files) (ledger : Ledger) (effect : Effect) → house_effect (Some files) (Some ledger) order ≡ Some effect → effect.ledger ≡ Some (ledger_by (asked_in files order) ledger)
-kept_by_effect order files ledger effect is = ledger_left (asked_in files order) ledger effect (order_reaches files ledger order effect is)
+kept_by_effect : (order : HouseWords) (files : Files) (ledger : Ledger) (effect : Effect)
+    → house_effect (Some files) (Some ledger) order ≡ Some effect
+    → effect.ledger ≡ Some (ledger_by (asked_in files order) ledger)
+kept_by_effect order files ledger effect is =
+    ledger_left (asked_in files order) ledger effect (order_reaches files ledger order effect is)
 
-is_act : (order : HouseWords) (files : Files) (ledger : Ledger) (effect : Effect) → house_effect (Some files) (Some ledger) order ≡ Some effect → IsAct (act_of order files ledger effect)
+is_act : (order : HouseWords) (files : Files) (ledger : Ledger) (effect : Effect)
+    → house_effect (Some files) (Some ledger) order ≡ Some effect
+    → IsAct (act_of order files ledger effect)
 is_act order files ledger effect is = record {
   effect = effect;
   effect_is = is;
@@ -49,14 +54,19 @@ record Holds (now : Outside) (files : Files) (ledger : Ledger) : Type 0 where
   held : now.files ≡ Some files
   kept : now.ledger ≡ Some ledger
 
-holds_after : (order : HouseWords) (files : Files) (ledger : Ledger) (effect : Effect) (now : Outside) → Holds now files ledger → house_effect (Some files) (Some ledger) order ≡ Some effect → Holds (done effect now) (written effect.writes files) (ledger_by (asked_in files order) ledger)
+holds_after : (order : HouseWords) (files : Files) (ledger : Ledger) (effect : Effect)
+    (now : Outside) → Holds now files ledger
+    → house_effect (Some files) (Some ledger) order ≡ Some effect
+    → Holds (done effect now) (written effect.writes files)
+    (ledger_by (asked_in files order) ledger)
 holds_after order files ledger effect now holds is = record {
   held = ap (option_map (written effect.writes)) holds.held;
   kept = kept_by_effect order files ledger effect is;
 }
 
 -- the acts of effects: what is left by them is left by the effects
-record Reached (orders : List HouseWords) (files : Files) (ledger : Ledger) (effects : List Effect) (closing : List ℕ) (now : Outside) : Type 0 where
+record Reached (orders : List HouseWords) (files : Files) (ledger : Ledger) (effects : List Effect)
+    (closing : List ℕ) (now : Outside) : Type 0 where
   acts : List HouseAct
   later : List HouseWords
   orders_are : orders ≡ map (λ act. act.order) acts ++ later
@@ -64,9 +74,12 @@ record Reached (orders : List HouseWords) (files : Files) (ledger : Ledger) (eff
   ledger_left : Ledger
   done : AreActs acts files ledger files_left ledger_left
   holds : Holds (done_all effects closing now) files_left ledger_left
-  texts : flat_map (λ (act : HouseAct). act.said.text) acts ≡ flat_map (λ (effect : Effect). effect.text) effects
+  texts : flat_map (λ (act : HouseAct). act.said.text) acts
+      ≡ flat_map (λ (effect : Effect). effect.text) effects
 
-abbrev none_reached : (orders : List HouseWords) (files : Files) (ledger : Ledger) (closing : List ℕ) (now : Outside) → Holds now files ledger → Reached orders files ledger [] closing now
+abbrev none_reached : (orders : List HouseWords) (files : Files) (ledger : Ledger)
+    (closing : List ℕ) (now : Outside) → Holds now files ledger
+    → Reached orders files ledger [] closing now
 none_reached orders files ledger closing now holds = record {
   acts = [];
   later = orders;
@@ -78,8 +91,11 @@ none_reached orders files ledger closing now holds = record {
   texts = refl;
 }
 
-abbrev first_reached : (order : HouseWords) (orders : List HouseWords) (files : Files) (ledger : Ledger) (effect : Effect) (effects : List Effect) (closing : List ℕ) (now : Outside) → house_effect (Some files) (Some ledger) order ≡ Some effect
-    → Reached orders (written effect.writes files) (ledger_by (asked_in files order) ledger) effects closing (done effect now) → Reached (order ∷ orders) files ledger (effect ∷ effects) closing now
+abbrev first_reached : (order : HouseWords) (orders : List HouseWords) (files : Files)
+    (ledger : Ledger) (effect : Effect) (effects : List Effect) (closing : List ℕ) (now : Outside)
+    → house_effect (Some files) (Some ledger) order ≡ Some effect
+    → Reached orders (written effect.writes files) (ledger_by (asked_in files order) ledger) effects
+    closing (done effect now) → Reached (order ∷ orders) files ledger (effect ∷ effects) closing now
 first_reached order orders files ledger effect effects closing now is more = record {
   acts = act_of order files ledger effect ∷ more.acts;
   later = more.later;
@@ -93,26 +109,45 @@ first_reached order orders files ledger effect effects closing now is more = rec
 
 -- and they go on to the last order, or to one that no order follows
 abbrev AllReached : List HouseWords → Files → Ledger → List Effect → List ℕ → Outside → Type 0
-AllReached orders files ledger effects closing now = (reached : Reached orders files ledger effects closing now) × GoOn reached.acts reached.later
+AllReached orders files ledger effects closing now =
+    (reached : Reached orders files ledger effects closing now) × GoOn reached.acts reached.later
 
-all_reached : (orders : List HouseWords) (files : Files) (ledger : Ledger) (effects : List Effect) (closing : List ℕ) (now : Outside) → Holds now files ledger → Follow orders files ledger effects → AllReached orders files ledger effects closing now
-all_reached orders files ledger [] closing now holds none = (none_reached orders files ledger closing now holds, none)
+all_reached : (orders : List HouseWords) (files : Files) (ledger : Ledger) (effects : List Effect)
+    (closing : List ℕ) (now : Outside) → Holds now files ledger → Follow orders files ledger effects
+    → AllReached orders files ledger effects closing now
+all_reached orders files ledger [] closing now holds none =
+    (none_reached orders files ledger closing now holds, none)
 all_reached [] files ledger (effect ∷ effects) closing now holds follows = absurd follows
-all_reached (order ∷ orders) files ledger (effect ∷ effects) closing now holds (is, inl (on, follows)) =
-    let more = all_reached orders (written effect.writes files) (ledger_by (asked_in files order) ledger) effects closing (done effect now) (holds_after order files ledger effect now holds is) follows in
+all_reached (order ∷ orders) files ledger (effect ∷ effects) closing now holds
+    (is, inl (on, follows)) =
+    let more = all_reached orders (written effect.writes files)
+    (ledger_by (asked_in files order) ledger) effects closing (done effect now)
+    (holds_after order files ledger effect now holds is) follows in
     (first_reached order orders files ledger effect effects closing now is more.0, inl (on, more.1))
-all_reached (order ∷ orders) files ledger (effect ∷ effects) closing now holds (is, inr (ends, none)) =
-    let more = none_reached orders (written effect.writes files) (ledger_by (asked_in files order) ledger) closing (done effect now) (holds_after order files ledger effect now holds is) in
-    subst (λ others. AllReached (order ∷ orders) files ledger (effect ∷ others) closing now) (sym none) (first_reached order orders files ledger effect [] closing now is more, inr (ends, refl))
+all_reached (order ∷ orders) files ledger (effect ∷ effects) closing now holds
+    (is, inr (ends, none)) =
+    let more = none_reached orders (written effect.writes files)
+    (ledger_by (asked_in files order) ledger) closing (done effect now)
+    (holds_after order files ledger effect now holds is) in
+    subst (λ others. AllReached (order ∷ orders) files ledger (effect ∷ others) closing now)
+    (sym none) (
+      first_reached order orders files ledger effect [] closing now is more,
+      inr (ends, refl),
+    )
 
-outside_holds : (files : Files) (ledger : Ledger) (taken : Option (List ℕ)) → Holds (outside (stores (Some files) (Some ledger)) taken) files ledger
+outside_holds : (files : Files) (ledger : Ledger) (taken : Option (List ℕ))
+    → Holds (outside (stores (Some files) (Some ledger)) taken) files ledger
 outside_holds files ledger taken = record { held = refl; kept = refl }
 
-all_performed : (orders : List HouseWords) (files : Files) (ledger : Ledger) (effects : List Effect) (closing : List ℕ) (taken : Option (List ℕ)) (new : Outside) → Follow orders files ledger effects
-    → new ≡ done_all effects closing (outside (stores (Some files) (Some ledger)) taken) → PerformsAll orders files ledger closing taken new
+all_performed : (orders : List HouseWords) (files : Files) (ledger : Ledger) (effects : List Effect)
+    (closing : List ℕ) (taken : Option (List ℕ)) (new : Outside)
+    → Follow orders files ledger effects
+    → new ≡ done_all effects closing (outside (stores (Some files) (Some ledger)) taken)
+    → PerformsAll orders files ledger closing taken new
 all_performed orders files ledger effects closing taken new follows is =
     let old : Outside = outside (stores (Some files) (Some ledger)) taken in
-    let all = all_reached orders files ledger effects closing old (outside_holds files ledger taken) follows in
+    let all = all_reached orders files ledger effects closing old (outside_holds files ledger taken)
+    follows in
     let reached = all.0 in
     record {
       acts = reached.acts;
@@ -124,12 +159,15 @@ all_performed orders files ledger effects closing taken new follows is =
       done = reached.done;
       held_is = ap (λ (left : Outside). left.files) is ∙ reached.holds.held;
       kept_is = ap (λ (left : Outside). left.ledger) is ∙ reached.holds.kept;
-      printed = ap (λ (left : Outside). left.taken) (is ∙ are_one zero effects closing old) ∙ ap (λ texts. puts (texts ++ closing) taken) (sym reached.texts);
+      printed = ap (λ (left : Outside). left.taken) (is ∙ are_one zero effects closing old)
+          ∙ ap (λ texts. puts (texts ++ closing) taken) (sym reached.texts);
     }
 
 -- ---- some of them were
 
-all_some : (orders : List HouseWords) (files : Files) (ledger : Ledger) (closing : List ℕ) (taken : Option (List ℕ)) (new : Outside) → PerformsAll orders files ledger closing taken new → PerformsSome orders files ledger new.files new.ledger
+all_some : (orders : List HouseWords) (files : Files) (ledger : Ledger) (closing : List ℕ)
+    (taken : Option (List ℕ)) (new : Outside) → PerformsAll orders files ledger closing taken new
+    → PerformsSome orders files ledger new.files new.ledger
 all_some orders files ledger closing taken new all = record {
   acts = all.acts;
   files_left = all.files_left;
@@ -147,18 +185,28 @@ all_some orders files ledger closing taken new all = record {
 }
 
 -- no order was done
-none_done : (orders : List HouseWords) (files : Files) (ledger : Ledger) (new : Outside) → Holds new files ledger → PerformsSome orders files ledger new.files new.ledger
+none_done : (orders : List HouseWords) (files : Files) (ledger : Ledger) (new : Outside)
+    → Holds new files ledger → PerformsSome orders files ledger new.files new.ledger
 none_done orders files ledger new holds = record {
   acts = [];
   files_left = files;
   ledger_left = ledger;
   held_is = holds.held;
   kept_is = holds.kept;
-  performs = record { later = orders; orders_are = refl; files_between = files; ledger_between = ledger; done = (refl, refl); last = inl (refl, refl) };
+  performs = record {
+    later = orders;
+    orders_are = refl;
+    files_between = files;
+    ledger_between = ledger;
+    done = (refl, refl);
+    last = inl (refl, refl);
+  };
 }
 
 -- the first was stopped
-first_stopped : (order : HouseWords) (orders : List HouseWords) (files left : Files) (ledger kept : Ledger) (new : Outside) → new.files ≡ Some left → new.ledger ≡ Some kept → StopsOrder order files ledger left kept
+first_stopped : (order : HouseWords) (orders : List HouseWords) (files left : Files)
+    (ledger kept : Ledger) (new : Outside) → new.files ≡ Some left → new.ledger ≡ Some kept
+    → StopsOrder order files ledger left kept
     → PerformsSome (order ∷ orders) files ledger new.files new.ledger
 first_stopped order orders files left ledger kept new held_is kept_is stops = record {
   acts = [];
@@ -166,12 +214,22 @@ first_stopped order orders files left ledger kept new held_is kept_is stops = re
   ledger_left = kept;
   held_is = held_is;
   kept_is = kept_is;
-  performs = record { later = order ∷ orders; orders_are = refl; files_between = files; ledger_between = ledger; done = (refl, refl); last = inr stops };
+  performs = record {
+    later = order ∷ orders;
+    orders_are = refl;
+    files_between = files;
+    ledger_between = ledger;
+    done = (refl, refl);
+    last = inr stops;
+  };
 }
 
 -- the first was done
-first_done : (order : HouseWords) (orders : List HouseWords) (files : Files) (ledger : Ledger) (effect : Effect) (held : Option Files) (kept : Option Ledger) → house_effect (Some files) (Some ledger) order ≡ Some effect
-    → PerformsSome orders (written effect.writes files) (ledger_by (asked_in files order) ledger) held kept → PerformsSome (order ∷ orders) files ledger held kept
+first_done : (order : HouseWords) (orders : List HouseWords) (files : Files) (ledger : Ledger)
+    (effect : Effect) (held : Option Files) (kept : Option Ledger)
+    → house_effect (Some files) (Some ledger) order ≡ Some effect
+    → PerformsSome orders (written effect.writes files) (ledger_by (asked_in files order) ledger)
+    held kept → PerformsSome (order ∷ orders) files ledger held kept
 first_done order orders files ledger effect held kept is more = record {
   acts = act_of order files ledger effect ∷ more.acts;
   files_left = more.files_left;
@@ -190,94 +248,154 @@ first_done order orders files ledger effect held kept is more = record {
 
 -- ---- a stop
 
-divided_all : (writes : List (List ℕ × List ℕ)) (files : Files) → IsDivided writes files (written writes files)
+divided_all : (writes : List (List ℕ × List ℕ)) (files : Files)
+    → IsDivided writes files (written writes files)
 divided_all [] files = refl
 divided_all (text ∷ writes) files = inr (divided_all writes _)
 
-found_of : {X : Type 0} (P : X → Type 0) (found : Option X) → IsSomeAnd found P → (x : X) × (found ≡ Some x) × P x
+found_of : {X : Type 0} (P : X → Type 0) (found : Option X) → IsSomeAnd found P
+    → (x : X) × (found ≡ Some x) × P x
 found_of P None is = absurd is
 found_of P (Some x) is = (x, refl, is)
 
-order_stopped : (order : HouseWords) (orders : List HouseWords) (files : Files) (ledger : Ledger) (effect : Effect) (now new : Outside) → Holds now files ledger → house_effect (Some files) (Some ledger) order ≡ Some effect → Stopped effect now new
+order_stopped : (order : HouseWords) (orders : List HouseWords) (files : Files) (ledger : Ledger)
+    (effect : Effect) (now new : Outside) → Holds now files ledger
+    → house_effect (Some files) (Some ledger) order ≡ Some effect → Stopped effect now new
     → PerformsSome (order ∷ orders) files ledger new.files new.ledger
 order_stopped order orders files ledger effect now new holds is (inl same) =
-    none_done (order ∷ orders) files ledger new (subst (λ left. Holds left files ledger) (sym same) holds)
+    none_done (order ∷ orders) files ledger new
+    (subst (λ left. Holds left files ledger) (sym same) holds)
 order_stopped order orders files ledger effect now new holds is (inr (ledger_is, inl writing)) =
     let kept = kept_by_effect order files ledger effect is in
-    let left = found_of (IsDivided effect.writes files) new.files (subst (λ held. Modelled (IsDivided effect.writes) held new.files) holds.held writing.files_are) in
-    first_stopped order orders files left.0 ledger (ledger_by (asked_in files order) ledger) new left.1 (ledger_is ∙ kept) (record { effect = effect; effect_is = is; left_is = left.2; kept_is = kept })
+    let left = found_of (IsDivided effect.writes files) new.files
+    (subst (λ held. Modelled (IsDivided effect.writes) held new.files) holds.held
+    writing.files_are) in
+    first_stopped order orders files left.0 ledger (ledger_by (asked_in files order) ledger) new
+    left.1 (ledger_is ∙ kept)
+    (record { effect = effect; effect_is = is; left_is = left.2; kept_is = kept })
 order_stopped order orders files ledger effect now new holds is (inr (ledger_is, inr printing)) =
     let kept = kept_by_effect order files ledger effect is in
     let left = printing.files_are ∙ ap (option_map (written effect.writes)) holds.held in
-    first_stopped order orders files (written effect.writes files) ledger (ledger_by (asked_in files order) ledger) new left (ledger_is ∙ kept)
-    (record { effect = effect; effect_is = is; left_is = divided_all effect.writes files; kept_is = kept })
+    first_stopped order orders files (written effect.writes files) ledger
+    (ledger_by (asked_in files order) ledger) new left (ledger_is ∙ kept)
+    (record {
+      effect = effect;
+      effect_is = is;
+      left_is = divided_all effect.writes files;
+      kept_is = kept;
+    })
 
 -- the closing text was
-closing_stopped : (orders : List HouseWords) (files : Files) (ledger : Ledger) (closing : List ℕ) (now new : Outside) → Holds now files ledger → StopsClosing closing now new → PerformsSome orders files ledger new.files new.ledger
-closing_stopped orders files ledger closing now new holds stops = none_done orders files ledger new (record { held = stops.files_are ∙ holds.held; kept = stops.ledger_is ∙ holds.kept })
-
-orders_stopped : (orders : List HouseWords) (files : Files) (ledger : Ledger) (effects : List Effect) (closing : List ℕ) (now new : Outside) → Holds now files ledger → Follow orders files ledger effects → StopsAmong effects closing now new
+closing_stopped : (orders : List HouseWords) (files : Files) (ledger : Ledger) (closing : List ℕ)
+    (now new : Outside) → Holds now files ledger → StopsClosing closing now new
     → PerformsSome orders files ledger new.files new.ledger
-orders_stopped orders files ledger [] closing now new holds follows stops = closing_stopped orders files ledger closing now new holds stops
-orders_stopped [] files ledger (effect ∷ effects) closing now new holds follows stops = absurd follows
-orders_stopped (order ∷ orders) files ledger (effect ∷ effects) closing now new holds (is, follows) (inl stops) = order_stopped order orders files ledger effect now new holds is stops
-orders_stopped (order ∷ orders) files ledger (effect ∷ effects) closing now new holds (is, inl (on, follows)) (inr stops) =
+closing_stopped orders files ledger closing now new holds stops =
+    none_done orders files ledger new
+    (record { held = stops.files_are ∙ holds.held; kept = stops.ledger_is ∙ holds.kept })
+
+orders_stopped : (orders : List HouseWords) (files : Files) (ledger : Ledger)
+    (effects : List Effect) (closing : List ℕ) (now new : Outside) → Holds now files ledger
+    → Follow orders files ledger effects → StopsAmong effects closing now new
+    → PerformsSome orders files ledger new.files new.ledger
+orders_stopped orders files ledger [] closing now new holds follows stops =
+    closing_stopped orders files ledger closing now new holds stops
+orders_stopped [] files ledger (effect ∷ effects) closing now new holds follows stops =
+    absurd follows
+orders_stopped (order ∷ orders) files ledger (effect ∷ effects) closing now new holds (is, follows)
+    (inl stops) = order_stopped order orders files ledger effect now new holds is stops
+orders_stopped (order ∷ orders) files ledger (effect ∷ effects) closing now new holds
+    (is, inl (on, follows)) (inr stops) =
     first_done order orders files ledger effect new.files new.ledger is
-    (orders_stopped orders (written effect.writes files) (ledger_by (asked_in files order) ledger) effects closing (done effect now) new (holds_after order files ledger effect now holds is) follows stops)
-orders_stopped (order ∷ orders) files ledger (effect ∷ effects) closing now new holds (is, inr (ends, none)) (inr stops) =
+    (orders_stopped orders (written effect.writes files) (ledger_by (asked_in files order) ledger)
+    effects closing (done effect now) new (holds_after order files ledger effect now holds is)
+    follows stops)
+orders_stopped (order ∷ orders) files ledger (effect ∷ effects) closing now new holds
+    (is, inr (ends, none)) (inr stops) =
     first_done order orders files ledger effect new.files new.ledger is
-    (closing_stopped orders (written effect.writes files) (ledger_by (asked_in files order) ledger) closing (done effect now) new (holds_after order files ledger effect now holds is)
+    (closing_stopped orders (written effect.writes files) (ledger_by (asked_in files order) ledger)
+    closing (done effect now) new (holds_after order files ledger effect now holds is)
     (subst (λ others. StopsAmong others closing (done effect now) new) none stops))
 
 -- ---- a ceremony
 
-whole_performs : (orders : List HouseWords) (files : Files) (ledger : Ledger) (whole : Ceremony) (taken : Option (List ℕ)) (result : Result ℕ OutsideErr) (new : Outside) → Follow orders files ledger whole.commands
-    → EndsAll result whole (outside (stores (Some files) (Some ledger)) taken) new → PerformsSome orders files ledger new.files new.ledger
+whole_performs : (orders : List HouseWords) (files : Files) (ledger : Ledger) (whole : Ceremony)
+    (taken : Option (List ℕ)) (result : Result ℕ OutsideErr) (new : Outside)
+    → Follow orders files ledger whole.commands
+    → EndsAll result whole (outside (stores (Some files) (Some ledger)) taken) new
+    → PerformsSome orders files ledger new.files new.ledger
 whole_performs orders files ledger whole taken (Ok status) new follows ends =
-    all_some orders files ledger whole.closing.text taken new (all_performed orders files ledger whole.commands whole.closing.text taken new follows ends.1)
+    all_some orders files ledger whole.closing.text taken new
+    (all_performed orders files ledger whole.commands whole.closing.text taken new follows
+    ends.1)
 whole_performs orders files ledger whole taken (Err stop) new follows ends =
-    orders_stopped orders files ledger whole.commands whole.closing.text (outside (stores (Some files) (Some ledger)) taken) new (outside_holds files ledger taken) follows ends
+    orders_stopped orders files ledger whole.commands whole.closing.text
+    (outside (stores (Some files) (Some ledger)) taken) new (outside_holds files ledger taken)
+    follows ends
 
 -- what follows for each that is known follows for the one that is
-told_then : {X : Type 0} {Q : Type 0} (P : X → Type 0) (found : Option X) → IsSomeAnd found (λ x. P x → Q) → IfSome found P → Q
+told_then : {X : Type 0} {Q : Type 0} (P : X → Type 0) (found : Option X)
+    → IsSomeAnd found (λ x. P x → Q) → IfSome found P → Q
 told_then P None follows is = absurd follows
 told_then P (Some x) follows is = follows is
 
 -- however a ceremony ended, it is acts
-pub ceremony_performs : (files : Files) (ledger : Ledger) (script : List ℕ) (taken : Option (List ℕ)) (result : Result ℕ OutsideErr) (new : Outside)
-    → IfSome (ceremony_on (Some files) (Some ledger) script) (λ whole. EndsAll result whole (outside (stores (Some files) (Some ledger)) taken) new)
+pub ceremony_performs : (files : Files) (ledger : Ledger) (script : List ℕ)
+    (taken : Option (List ℕ)) (result : Result ℕ OutsideErr) (new : Outside)
+    → IfSome (ceremony_on (Some files) (Some ledger) script)
+    (λ whole. EndsAll result whole (outside (stores (Some files) (Some ledger)) taken) new)
     → PerformsSome (orders_in files script) files ledger new.files new.ledger
 ceremony_performs files ledger script taken result new ends =
     let found = ceremony_on (Some files) (Some ledger) script in
-    let P : Ceremony → Type 0 = λ whole. EndsAll result whole (outside (stores (Some files) (Some ledger)) taken) new in
+    let P : Ceremony → Type 0 =
+    λ whole. EndsAll result whole (outside (stores (Some files) (Some ledger)) taken) new in
     told_then P found
-    (told_each (λ (whole : Ceremony). Follow (orders_in files script) files ledger whole.commands) (λ whole. P whole → PerformsSome (orders_in files script) files ledger new.files new.ledger)
-    (λ whole. whole_performs (orders_in files script) files ledger whole taken result new) found (ceremony_follows files ledger script)) ends
+    (told_each (λ (whole : Ceremony). Follow (orders_in files script) files ledger whole.commands)
+    (λ whole. P whole → PerformsSome (orders_in files script) files ledger new.files new.ledger)
+    (λ whole. whole_performs (orders_in files script) files ledger whole taken result new) found
+    (ceremony_follows files ledger script)) ends
 
 -- one that came to its end is all of them
-pub ceremony_performs_all : (files : Files) (ledger : Ledger) (script : List ℕ) (taken : Option (List ℕ)) (status : ℕ) (new : Outside)
+pub ceremony_performs_all : (files : Files) (ledger : Ledger) (script : List ℕ)
+    (taken : Option (List ℕ)) (status : ℕ) (new : Outside)
     → IsSomeAnd (ceremony_on (Some files) (Some ledger) script)
-    (λ whole. EndsAll (Ok status) whole (outside (stores (Some files) (Some ledger)) taken) new → PerformsAll (orders_in files script) files ledger whole.closing.text taken new)
+    (λ whole. EndsAll (Ok status) whole (outside (stores (Some files) (Some ledger)) taken) new
+    → PerformsAll (orders_in files script) files ledger whole.closing.text taken new)
 ceremony_performs_all files ledger script taken status new =
     told_each (λ (whole : Ceremony). Follow (orders_in files script) files ledger whole.commands)
-    (λ whole. EndsAll (Ok status) whole (outside (stores (Some files) (Some ledger)) taken) new → PerformsAll (orders_in files script) files ledger whole.closing.text taken new)
-    (λ whole follows ends. all_performed (orders_in files script) files ledger whole.commands whole.closing.text taken new follows ends.1)
+    (λ whole. EndsAll (Ok status) whole (outside (stores (Some files) (Some ledger)) taken) new
+    → PerformsAll (orders_in files script) files ledger whole.closing.text taken new)
+    (λ whole follows ends. all_performed (orders_in files script) files ledger whole.commands
+    whole.closing.text taken new follows ends.1)
     (ceremony_on (Some files) (Some ledger) script) (ceremony_follows files ledger script)
 
 -- ---- one command
 
-effect_performs : (files : Files) (ledger : Ledger) (order : HouseWords) (effect : Effect) (taken : Option (List ℕ)) (result : Result ℕ OutsideErr) (new : Outside) → house_effect (Some files) (Some ledger) order ≡ Some effect
-    → Ends result effect (outside (stores (Some files) (Some ledger)) taken) new → PerformsSome (order ∷ []) files ledger new.files new.ledger
+effect_performs : (files : Files) (ledger : Ledger) (order : HouseWords) (effect : Effect)
+    (taken : Option (List ℕ)) (result : Result ℕ OutsideErr) (new : Outside)
+    → house_effect (Some files) (Some ledger) order ≡ Some effect
+    → Ends result effect (outside (stores (Some files) (Some ledger)) taken) new
+    → PerformsSome (order ∷ []) files ledger new.files new.ledger
 effect_performs files ledger order effect taken (Ok status) new is ends =
     first_done order [] files ledger effect new.files new.ledger is
-    (none_done [] (written effect.writes files) (ledger_by (asked_in files order) ledger) new (record { held = ends.files_are; kept = ends.ledger_is ∙ kept_by_effect order files ledger effect is }))
+    (none_done [] (written effect.writes files) (ledger_by (asked_in files order) ledger) new
+    (record {
+      held = ends.files_are;
+      kept = ends.ledger_is
+          ∙ kept_by_effect order files ledger effect is;
+    }))
 effect_performs files ledger order effect taken (Err stop) new is ends =
-    order_stopped order [] files ledger effect (outside (stores (Some files) (Some ledger)) taken) new (outside_holds files ledger taken) is ends
+    order_stopped order [] files ledger effect (outside (stores (Some files) (Some ledger)) taken)
+    new (outside_holds files ledger taken) is ends
 
 -- however a command of the house ended, it is an act, or none that was done
-pub command_performs : (files : Files) (ledger : Ledger) (order : HouseWords) (taken : Option (List ℕ)) (result : Result ℕ OutsideErr) (new : Outside)
-    → IfSome (house_effect (Some files) (Some ledger) order) (λ effect. Ends result effect (outside (stores (Some files) (Some ledger)) taken) new)
+pub command_performs : (files : Files) (ledger : Ledger) (order : HouseWords)
+    (taken : Option (List ℕ)) (result : Result ℕ OutsideErr) (new : Outside)
+    → IfSome (house_effect (Some files) (Some ledger) order)
+    (λ effect. Ends result effect (outside (stores (Some files) (Some ledger)) taken) new)
     → PerformsSome (order ∷ []) files ledger new.files new.ledger
 command_performs files ledger order taken result new ends =
     let told = order_told files ledger order in
-    effect_performs files ledger order told.0 taken result new told.1 (subst (λ found. IfSome found (λ effect. Ends result effect (outside (stores (Some files) (Some ledger)) taken) new)) told.1 ends)
+    effect_performs files ledger order told.0 taken result new told.1
+    (subst (λ found. IfSome found
+    (λ effect. Ends result effect (outside (stores (Some files) (Some ledger)) taken) new))
+    told.1 ends)

@@ -35,37 +35,54 @@ use Rattle.vk_ceremony.proofs.Following.{Reaches, ledger_by, ledger_left, order_
 -- ---- what one command leaves
 
 -- the ledger that the effect of an order leaves
-kept_by_asking : (order : HouseWords) (files : Files) (ledger kept : Ledger) (effect : Effect) → house_effect (Some files) (Some ledger) order ≡ Some effect → effect.ledger ≡ Some kept → kept ≡ ledger_by (asked_in files order) ledger
+kept_by_asking : (order : HouseWords) (files : Files) (ledger kept : Ledger) (effect : Effect)
+    → house_effect (Some files) (Some ledger) order ≡ Some effect → effect.ledger ≡ Some kept
+    → kept ≡ ledger_by (asked_in files order) ledger
 kept_by_asking order files ledger kept effect is kept_is =
-    same_Some kept (ledger_by (asked_in files order) ledger) (sym kept_is ∙ ledger_left (asked_in files order) ledger effect (order_reaches files ledger order effect is))
+    same_Some kept (ledger_by (asked_in files order) ledger)
+    (sym kept_is ∙ ledger_left (asked_in files order) ledger effect
+    (order_reaches files ledger order effect is))
 
-act_kept : (act : HouseAct) → IsAct act → act.kept ≡ ledger_by (asked_in act.files act.order) act.ledger
-act_kept act is = kept_by_asking act.order act.files act.ledger act.kept is.effect is.effect_is is.kept_is
+act_kept : (act : HouseAct) → IsAct act
+    → act.kept ≡ ledger_by (asked_in act.files act.order) act.ledger
+act_kept act is = kept_by_asking act.order act.files act.ledger act.kept is.effect is.effect_is
+    is.kept_is
 
 -- it is a step of the house
-pub act_steps : (act : HouseAct) (command : HouseCommand) → IsAct act → asked_in act.files act.order ≡ Some command
-    → (act.kept ≡ (house_step act.ledger command).1) × (act.said ≡ reply_said command (house_step act.ledger command).0)
+pub act_steps : (act : HouseAct) (command : HouseCommand) → IsAct act
+    → asked_in act.files act.order ≡ Some command
+    → (act.kept ≡ (house_step act.ledger command).1)
+    × (act.said ≡ reply_said command (house_step act.ledger command).0)
 act_steps act command is asks =
-    let reaches : Reaches (Some command) act.ledger is.effect = subst (λ asked. Reaches asked act.ledger is.effect) asks (order_reaches act.files act.ledger act.order is.effect is.effect_is) in
+    let reaches : Reaches (Some command) act.ledger is.effect =
+    subst (λ asked. Reaches asked act.ledger is.effect) asks
+    (order_reaches act.files act.ledger act.order is.effect is.effect_is) in
     (act_kept act is ∙ ap (λ asked. ledger_by asked act.ledger) asks, is.said_is ∙ reaches.1)
 
 -- a reply of another status than 0 is a refusal
-refusal_said : (command : HouseCommand) (reply : HouseReply) → (reply_said command reply).status ≢ 0 → (refusal : HouseErr) × (reply ≡ Refused refusal)
+refusal_said : (command : HouseCommand) (reply : HouseReply) → (reply_said command reply).status ≢ 0
+    → (refusal : HouseErr) × (reply ≡ Refused refusal)
 refusal_said command Done other = absurd (other refl)
 refusal_said command (Position position) other = absurd (other refl)
 refusal_said command (Work auction sale) other = absurd (other refl)
 refusal_said command (Stands standing) other = absurd (other refl)
 refusal_said command (Refused refusal) other = (refusal, refl)
 
-same_by : (asked : Option HouseCommand) (files : Files) (ledger : Ledger) (effect : Effect) → Reaches asked ledger effect → (asked ≡ None) ⊎ (effect.status ≢ 0)
+same_by : (asked : Option HouseCommand) (files : Files) (ledger : Ledger) (effect : Effect)
+    → Reaches asked ledger effect → (asked ≡ None) ⊎ (effect.status ≢ 0)
     → (written effect.writes files ≡ files) × (ledger_by asked ledger ≡ ledger)
-same_by None files ledger effect reaches cause = (ap (λ writes. written writes files) reaches.1, refl)
+same_by None files ledger effect reaches cause =
+    (ap (λ writes. written writes files) reaches.1, refl)
 same_by (Some command) files ledger effect reaches (inl none) = cc
 same_by (Some command) files ledger effect reaches (inr other) =
-    let refusal = refusal_said command (house_step ledger command).0 (λ done. other (ap (λ (said : SaidValue). said.status) reaches.1 ∙ done)) in
-    (ap (λ writes. written writes files) (reaches.2 refusal.0 refusal.1), refused_stays ledger command refusal.0 refusal.1)
+    let refusal = refusal_said command (house_step ledger command).0
+    (λ done. other (ap (λ (said : SaidValue). said.status) reaches.1 ∙ done)) in (
+      ap (λ writes. written writes files) (reaches.2 refusal.0 refusal.1),
+      refused_stays ledger command refusal.0 refusal.1,
+    )
 
-status_said : (command : HouseCommand) (reply : HouseReply) → ((reply_said command reply).status ≡ 0) ⊎ ((reply_said command reply).status ≡ 8)
+status_said : (command : HouseCommand) (reply : HouseReply)
+    → ((reply_said command reply).status ≡ 0) ⊎ ((reply_said command reply).status ≡ 8)
 status_said command Done = inl refl
 status_said command (Position position) = inl refl
 status_said command (Work auction sale) = inl refl
@@ -73,16 +90,21 @@ status_said command (Stands standing) = inl refl
 status_said command (Refused refusal) = inr refl
 
 -- it is done or refused
-pub act_status : (act : HouseAct) (command : HouseCommand) → IsAct act → asked_in act.files act.order ≡ Some command → (act.said.status ≡ 0) ⊎ (act.said.status ≡ 8)
+pub act_status : (act : HouseAct) (command : HouseCommand) → IsAct act
+    → asked_in act.files act.order ≡ Some command → (act.said.status ≡ 0) ⊎ (act.said.status ≡ 8)
 act_status act command is asks =
     let status = ap (λ (said : SaidValue). said.status) (act_steps act command is asks).1 in
-    subst (λ n. (n ≡ 0) ⊎ (n ≡ 8)) (sym status) (status_said command (house_step act.ledger command).0)
+    subst (λ n. (n ≡ 0) ⊎ (n ≡ 8)) (sym status)
+    (status_said command (house_step act.ledger command).0)
 
 -- where nothing is asked, or the status isn't 0, nothing changed
-pub act_same : (act : HouseAct) → IsAct act → (asked_in act.files act.order ≡ None) ⊎ (act.said.status ≢ 0) → (act.left ≡ act.files) × (act.kept ≡ act.ledger)
+pub act_same : (act : HouseAct) → IsAct act → (asked_in act.files act.order ≡ None)
+    ⊎ (act.said.status ≢ 0) → (act.left ≡ act.files) × (act.kept ≡ act.ledger)
 act_same act is cause =
-    let status : act.said.status ≡ is.effect.status = ap (λ (said : SaidValue). said.status) is.said_is in
-    let same = same_by (asked_in act.files act.order) act.files act.ledger is.effect (order_reaches act.files act.ledger act.order is.effect is.effect_is)
+    let status : act.said.status ≡ is.effect.status =
+    ap (λ (said : SaidValue). said.status) is.said_is in
+    let same = same_by (asked_in act.files act.order) act.files act.ledger is.effect
+    (order_reaches act.files act.ledger act.order is.effect is.effect_is)
     (subst (λ n. (asked_in act.files act.order ≡ None) ⊎ (n ≢ 0)) status cause) in
     (is.left_is ∙ same.0, act_kept act is ∙ same.1)
 
@@ -92,72 +114,114 @@ act_same act is cause =
 record Lasts (R : Ledger → Ledger → Type 0) (P : HouseWords → Type 0) : Type 0 where
   same : (ledger : Ledger) → R ledger ledger
   further : (old between new : Ledger) → R old between → R between new → R old new
-  one : (files : Files) (ledger : Ledger) (order : HouseWords) → P order → R ledger (ledger_by (asked_in files order) ledger)
+  one : (files : Files) (ledger : Ledger) (order : HouseWords) → P order
+      → R ledger (ledger_by (asked_in files order) ledger)
 
-act_lasts : (R : Ledger → Ledger → Type 0) (P : HouseWords → Type 0) → Lasts R P → (act : HouseAct) → P act.order → IsAct act → R act.ledger act.kept
-act_lasts R P lasts act may is = subst (R act.ledger) (sym (act_kept act is)) (lasts.one act.files act.ledger act.order may)
+act_lasts : (R : Ledger → Ledger → Type 0) (P : HouseWords → Type 0) → Lasts R P → (act : HouseAct)
+    → P act.order → IsAct act → R act.ledger act.kept
+act_lasts R P lasts act may is =
+    subst (R act.ledger) (sym (act_kept act is)) (lasts.one act.files act.ledger act.order may)
 
-acts_last : (R : Ledger → Ledger → Type 0) (P : HouseWords → Type 0) → Lasts R P → (acts : List HouseAct) (files : Files) (ledger : Ledger) (left : Files) (kept : Ledger) → AllByRecursion P (map (λ (act : HouseAct). act.order) acts)
+acts_last : (R : Ledger → Ledger → Type 0) (P : HouseWords → Type 0) → Lasts R P
+    → (acts : List HouseAct) (files : Files) (ledger : Ledger) (left : Files) (kept : Ledger)
+    → AllByRecursion P (map (λ (act : HouseAct). act.order) acts)
     → AreActs acts files ledger left kept → R ledger kept
-acts_last R P lasts [] files ledger left kept may are = subst (R ledger) (sym are.1) (lasts.same ledger)
+acts_last R P lasts [] files ledger left kept may are =
+    subst (R ledger) (sym are.1) (lasts.same ledger)
 acts_last R P lasts (act ∷ acts) files ledger left kept may are =
-    lasts.further ledger act.kept kept (subst (λ found. R found act.kept) are.1 (act_lasts R P lasts act may.0 are.2)) (acts_last R P lasts acts act.left act.kept left kept may.1 are.3)
+    lasts.further ledger act.kept kept
+    (subst (λ found. R found act.kept) are.1 (act_lasts R P lasts act may.0 are.2))
+    (acts_last R P lasts acts act.left act.kept left kept may.1 are.3)
 
-stop_lasts : (R : Ledger → Ledger → Type 0) (P : HouseWords → Type 0) → Lasts R P → (orders : List HouseWords) (files : Files) (ledger : Ledger) (left : Files) (kept : Ledger) → AllByRecursion P orders → StopsNext orders files ledger left kept → R ledger kept
+stop_lasts : (R : Ledger → Ledger → Type 0) (P : HouseWords → Type 0) → Lasts R P
+    → (orders : List HouseWords) (files : Files) (ledger : Ledger) (left : Files) (kept : Ledger)
+    → AllByRecursion P orders → StopsNext orders files ledger left kept → R ledger kept
 stop_lasts R P lasts [] files ledger left kept may stops = absurd stops
 stop_lasts R P lasts (order ∷ orders) files ledger left kept may stops =
-    subst (R ledger) (sym (kept_by_asking order files ledger kept stops.effect stops.effect_is stops.kept_is)) (lasts.one files ledger order may.0)
+    subst (R ledger) (sym (kept_by_asking order files ledger kept stops.effect stops.effect_is
+    stops.kept_is)) (lasts.one files ledger order may.0)
 
-split_all : {X : Type 0} (P : X → Type 0) (front back : List X) → AllByRecursion P (front ++ back) → AllByRecursion P front × AllByRecursion P back
+split_all : {X : Type 0} (P : X → Type 0) (front back : List X) → AllByRecursion P (front ++ back)
+    → AllByRecursion P front × AllByRecursion P back
 split_all P [] back all = (tt, all)
-split_all P (x ∷ front) back all = let more = split_all P front back all.1 in ((all.0, more.0), more.1)
+split_all P (x ∷ front) back all = let more = split_all P front back all.1 in
+    ((all.0, more.0), more.1)
 
-performs_last : (R : Ledger → Ledger → Type 0) (P : HouseWords → Type 0) → Lasts R P → (orders : List HouseWords) (files : Files) (ledger : Ledger) (acts : List HouseAct) (left : Files) (kept : Ledger) → AllByRecursion P orders
+performs_last : (R : Ledger → Ledger → Type 0) (P : HouseWords → Type 0) → Lasts R P
+    → (orders : List HouseWords) (files : Files) (ledger : Ledger) (acts : List HouseAct)
+    (left : Files) (kept : Ledger) → AllByRecursion P orders
     → Performs orders files ledger acts left kept → R ledger kept
 performs_last R P lasts orders files ledger acts left kept may performs =
-    let parts = split_all P (map (λ (act : HouseAct). act.order) acts) performs.later (subst (AllByRecursion P) performs.orders_are may) in
-    let done = acts_last R P lasts acts files ledger performs.files_between performs.ledger_between parts.0 performs.done in
+    let parts = split_all P (map (λ (act : HouseAct). act.order) acts) performs.later
+    (subst (AllByRecursion P) performs.orders_are may) in
+    let done = acts_last R P lasts acts files ledger performs.files_between performs.ledger_between
+    parts.0 performs.done in
     elim performs.last [
       | inl same ↦ subst (R ledger) (sym same.1) done
-      | inr stops ↦ lasts.further ledger performs.ledger_between kept done (stop_lasts R P lasts performs.later performs.files_between performs.ledger_between left kept parts.1 stops)
+      | inr stops ↦ lasts.further ledger performs.ledger_between kept done
+          (stop_lasts R P lasts performs.later performs.files_between performs.ledger_between left
+          kept parts.1 stops)
     ]
 
 -- what lies before an act among them, and behind it
-acts_within : (R : Ledger → Ledger → Type 0) (P : HouseWords → Type 0) → Lasts R P → (acts : List HouseAct) (files : Files) (ledger : Ledger) (left : Files) (kept : Ledger) (act : HouseAct) → AllByRecursion P (map (λ (one : HouseAct). one.order) acts)
-    → AreActs acts files ledger left kept → Contains acts act → R ledger act.ledger × R act.kept kept
+acts_within : (R : Ledger → Ledger → Type 0) (P : HouseWords → Type 0) → Lasts R P
+    → (acts : List HouseAct) (files : Files) (ledger : Ledger) (left : Files) (kept : Ledger)
+    (act : HouseAct) → AllByRecursion P (map (λ (one : HouseAct). one.order) acts)
+    → AreActs acts files ledger left kept → Contains acts act → R ledger act.ledger
+    × R act.kept kept
 acts_within R P lasts [] files ledger left kept act may are (k, below, at) = absurd (omega arith)
 acts_within R P lasts (first ∷ acts) files ledger left kept act may are (zero, below, at) =
-    subst (λ (one : HouseAct). R ledger one.ledger × R one.kept kept) at
-    (subst (R ledger) (sym are.1) (lasts.same ledger), acts_last R P lasts acts first.left first.kept left kept may.1 are.3)
+    subst (λ (one : HouseAct). R ledger one.ledger × R one.kept kept) at (
+      subst (R ledger) (sym are.1) (lasts.same ledger),
+      acts_last R P lasts acts first.left first.kept left kept may.1 are.3,
+    )
 acts_within R P lasts (first ∷ acts) files ledger left kept act may are (suc k, below, at) =
-    let more = acts_within R P lasts acts first.left first.kept left kept act may.1 are.3 (k, omega arith, at) in
-    (lasts.further ledger first.kept act.ledger (subst (λ found. R found first.kept) are.1 (act_lasts R P lasts first may.0 are.2)) more.0, more.1)
+    let more = acts_within R P lasts acts first.left first.kept left kept act may.1 are.3
+    (k, omega arith, at) in (
+      lasts.further ledger first.kept act.ledger
+          (subst (λ found. R found first.kept) are.1 (act_lasts R P lasts first may.0 are.2))
+          more.0,
+      more.1,
+    )
 
-pub is_act_within : (acts : List HouseAct) (files : Files) (ledger : Ledger) (left : Files) (kept : Ledger) (act : HouseAct) → AreActs acts files ledger left kept → Contains acts act → IsAct act
+pub is_act_within : (acts : List HouseAct) (files : Files) (ledger : Ledger) (left : Files)
+    (kept : Ledger) (act : HouseAct) → AreActs acts files ledger left kept → Contains acts act
+    → IsAct act
 is_act_within [] files ledger left kept act are (k, below, at) = absurd (omega arith)
 is_act_within (first ∷ acts) files ledger left kept act are (zero, below, at) = subst IsAct at are.2
-is_act_within (first ∷ acts) files ledger left kept act are (suc k, below, at) = is_act_within acts first.left first.kept left kept act are.3 (k, omega arith, at)
+is_act_within (first ∷ acts) files ledger left kept act are (suc k, below, at) =
+    is_act_within acts first.left first.kept left kept act are.3 (k, omega arith, at)
 
 -- ---- a ledger stays one
 
-read_asks : {X : Type 0} (f : X → HouseCommand) (read : Result X SaidValue) → ((x : X) → read ≡ Ok x → IsHouseCommand (f x)) → IfSome (option_map f (result_ok read)) IsHouseCommand
+read_asks : {X : Type 0} (f : X → HouseCommand) (read : Result X SaidValue)
+    → ((x : X) → read ≡ Ok x → IsHouseCommand (f x))
+    → IfSome (option_map f (result_ok read)) IsHouseCommand
 read_asks f (Ok x) each = each x refl
 read_asks f (Err said) each = tt
 
 -- such words ask what a house may be asked
-asks_right : (files : Files) (order : HouseWords) → AreHouseWords order → IfSome (asked_in files order) IsHouseCommand
+asks_right : (files : Files) (order : HouseWords) → AreHouseWords order
+    → IfSome (asked_in files order) IsHouseCommand
 asks_right files (Announce id width lanes) are = are
 asks_right files (AnnounceReserve id width lanes reserve) are = are
 asks_right files (Submit id seal secret) are =
-    read_asks (λ (row : SealRow). house.Submit id row.seal row.secret) (row_in files seal secret) (λ row read. let texts = ((reads_row files seal secret).read row).0 read in (are, texts.seal, texts.secret))
+    read_asks (λ (row : SealRow). house.Submit id row.seal row.secret) (row_in files seal secret)
+    (λ row read. let texts = ((reads_row files seal secret).read row).0 read in
+    (are, texts.seal, texts.secret))
 asks_right files (Prove id seed board) are = are
 asks_right files (Answer id challenge reply) are =
-    read_asks (house.Answer id) (challenge_in files challenge) (λ given read. let text = ((reads_challenge files challenge).read given).0 read in (are, text.right))
+    read_asks (house.Answer id) (challenge_in files challenge)
+    (λ given read. let text = ((reads_challenge files challenge).read given).0 read in
+    (are, text.right))
 asks_right files (Show id) are = are
 
-right_by : (asked : Option HouseCommand) (ledger : Ledger) → IfSome asked IsHouseCommand → IsLedger ledger → IsLedger (ledger_by asked ledger)
+right_by : (asked : Option HouseCommand) (ledger : Ledger) → IfSome asked IsHouseCommand
+    → IsLedger ledger → IsLedger (ledger_by asked ledger)
 right_by None ledger asks right = right
-right_by (Some command) ledger asks right = call_right ledger (house_step ledger command).1 command (house_step ledger command).0 (step_call ledger command) asks right
+right_by (Some command) ledger asks right =
+    call_right ledger (house_step ledger command).1 command (house_step ledger command).0
+    (step_call ledger command) asks right
 
 -- from a ledger comes a ledger
 abbrev StaysLedger : Ledger → Ledger → Type 0
@@ -167,27 +231,44 @@ ledgers_last : Lasts StaysLedger AreHouseWords
 ledgers_last = record {
   same = λ ledger right. right;
   further = λ old between new first second right. second (first right);
-  one = λ files ledger order are. right_by (asked_in files order) ledger (asks_right files order are);
+  one = λ files ledger order are. right_by (asked_in files order) ledger
+      (asks_right files order are);
 }
 
-pub act_right : (act : HouseAct) → AreHouseWords act.order → IsAct act → IsLedger act.ledger → IsLedger act.kept
+pub act_right : (act : HouseAct) → AreHouseWords act.order → IsAct act → IsLedger act.ledger
+    → IsLedger act.kept
 act_right act are is = act_lasts StaysLedger AreHouseWords ledgers_last act are is
 
-pub acts_right : (acts : List HouseAct) (files : Files) (ledger : Ledger) (left : Files) (kept : Ledger) → AllByRecursion AreHouseWords (map (λ (act : HouseAct). act.order) acts) → AreActs acts files ledger left kept → IsLedger ledger → IsLedger kept
-acts_right acts files ledger left kept are done = acts_last StaysLedger AreHouseWords ledgers_last acts files ledger left kept are done
+pub acts_right : (acts : List HouseAct) (files : Files) (ledger : Ledger) (left : Files)
+    (kept : Ledger) → AllByRecursion AreHouseWords (map (λ (act : HouseAct). act.order) acts)
+    → AreActs acts files ledger left kept → IsLedger ledger → IsLedger kept
+acts_right acts files ledger left kept are done =
+    acts_last StaysLedger AreHouseWords ledgers_last acts files ledger left kept are done
 
-pub right_within : (acts : List HouseAct) (files : Files) (ledger : Ledger) (left : Files) (kept : Ledger) (act : HouseAct) → AllByRecursion AreHouseWords (map (λ (one : HouseAct). one.order) acts) → AreActs acts files ledger left kept → Contains acts act
+pub right_within : (acts : List HouseAct) (files : Files) (ledger : Ledger) (left : Files)
+    (kept : Ledger) (act : HouseAct)
+    → AllByRecursion AreHouseWords (map (λ (one : HouseAct). one.order) acts)
+    → AreActs acts files ledger left kept → Contains acts act
     → IsLedger ledger → IsLedger act.ledger
-right_within acts files ledger left kept act are done within = (acts_within StaysLedger AreHouseWords ledgers_last acts files ledger left kept act are done within).0
+right_within acts files ledger left kept act are done within =
+    (acts_within StaysLedger AreHouseWords ledgers_last acts files ledger left kept act are done
+    within).0
 
-pub performs_right : (orders : List HouseWords) (files : Files) (ledger : Ledger) (acts : List HouseAct) (left : Files) (kept : Ledger) → AllByRecursion AreHouseWords orders → Performs orders files ledger acts left kept → IsLedger ledger → IsLedger kept
-performs_right orders files ledger acts left kept are performs = performs_last StaysLedger AreHouseWords ledgers_last orders files ledger acts left kept are performs
+pub performs_right : (orders : List HouseWords) (files : Files) (ledger : Ledger)
+    (acts : List HouseAct) (left : Files) (kept : Ledger) → AllByRecursion AreHouseWords orders
+    → Performs orders files ledger acts left kept → IsLedger ledger → IsLedger kept
+performs_right orders files ledger acts left kept are performs =
+    performs_last StaysLedger AreHouseWords ledgers_last orders files ledger acts left kept are
+    performs
 
 -- ---- what was answered stays
 
-keeps_by : (asked : Option HouseCommand) (ledger : Ledger) → KeepsAnswers ledger (ledger_by asked ledger)
+keeps_by : (asked : Option HouseCommand) (ledger : Ledger)
+    → KeepsAnswers ledger (ledger_by asked ledger)
 keeps_by None ledger = keeps_same ledger
-keeps_by (Some command) ledger = call_keeps ledger (house_step ledger command).1 command (house_step ledger command).0 (step_call ledger command)
+keeps_by (Some command) ledger =
+    call_keeps ledger (house_step ledger command).1 command (house_step ledger command).0
+    (step_call ledger command)
 
 -- any words
 abbrev AreAny : HouseWords → Type 0
@@ -198,20 +279,34 @@ all_any [] = tt
 all_any (order ∷ orders) = (tt, all_any orders)
 
 answers_last : Lasts KeepsAnswers AreAny
-answers_last = record { same = keeps_same; further = keeps_on; one = λ files ledger order any. keeps_by (asked_in files order) ledger }
+answers_last = record {
+  same = keeps_same;
+  further = keeps_on;
+  one = λ files ledger order any. keeps_by (asked_in files order) ledger;
+}
 
 pub act_keeps : (act : HouseAct) → IsAct act → KeepsAnswers act.ledger act.kept
 act_keeps act is = act_lasts KeepsAnswers AreAny answers_last act tt is
 
-pub acts_keep : (acts : List HouseAct) (files : Files) (ledger : Ledger) (left : Files) (kept : Ledger) → AreActs acts files ledger left kept → KeepsAnswers ledger kept
-acts_keep acts files ledger left kept are = acts_last KeepsAnswers AreAny answers_last acts files ledger left kept (all_any (map (λ (act : HouseAct). act.order) acts)) are
+pub acts_keep : (acts : List HouseAct) (files : Files) (ledger : Ledger) (left : Files)
+    (kept : Ledger) → AreActs acts files ledger left kept → KeepsAnswers ledger kept
+acts_keep acts files ledger left kept are =
+    acts_last KeepsAnswers AreAny answers_last acts files ledger left kept
+    (all_any (map (λ (act : HouseAct). act.order) acts)) are
 
-pub keeps_within : (acts : List HouseAct) (files : Files) (ledger : Ledger) (left : Files) (kept : Ledger) (act : HouseAct) → AreActs acts files ledger left kept → Contains acts act → KeepsAnswers ledger act.ledger × KeepsAnswers act.kept kept
+pub keeps_within : (acts : List HouseAct) (files : Files) (ledger : Ledger) (left : Files)
+    (kept : Ledger) (act : HouseAct) → AreActs acts files ledger left kept → Contains acts act
+    → KeepsAnswers ledger act.ledger × KeepsAnswers act.kept kept
 keeps_within acts files ledger left kept act are within =
-    acts_within KeepsAnswers AreAny answers_last acts files ledger left kept act (all_any (map (λ (one : HouseAct). one.order) acts)) are within
+    acts_within KeepsAnswers AreAny answers_last acts files ledger left kept act
+    (all_any (map (λ (one : HouseAct). one.order) acts)) are within
 
-pub performs_keeps : (orders : List HouseWords) (files : Files) (ledger : Ledger) (acts : List HouseAct) (left : Files) (kept : Ledger) → Performs orders files ledger acts left kept → KeepsAnswers ledger kept
-performs_keeps orders files ledger acts left kept performs = performs_last KeepsAnswers AreAny answers_last orders files ledger acts left kept (all_any orders) performs
+pub performs_keeps : (orders : List HouseWords) (files : Files) (ledger : Ledger)
+    (acts : List HouseAct) (left : Files) (kept : Ledger)
+    → Performs orders files ledger acts left kept → KeepsAnswers ledger kept
+performs_keeps orders files ledger acts left kept performs =
+    performs_last KeepsAnswers AreAny answers_last orders files ledger acts left kept
+    (all_any orders) performs
 
 -- ---- the words of a script
 
@@ -220,37 +315,53 @@ abbrev OfLine : ScriptLine → Type 0
 OfLine (Order order) = AreHouseWords order
 OfLine Over = Unit {0}
 
-line_over : (over : Bool) (found : Option HouseWords) → IfSome found AreHouseWords → IfSome (if over then Some Over else option_map Order found) OfLine
+line_over : (over : Bool) (found : Option HouseWords) → IfSome found AreHouseWords
+    → IfSome (if over then Some Over else option_map Order found) OfLine
 line_over true found are = tt
 line_over false None are = tt
 line_over false (Some order) are = are
 
 line_each : (script text : List ℕ) → IfSome (script_line script text) OfLine
-line_each script text = line_over (bytes_eq text (codes "end")) (order_line script text) (then_each AreHouseWords (line_words text) (script_words script) (λ words found. script_each script words))
+line_each script text = line_over (bytes_eq text (codes "end")) (order_line script text)
+    (then_each AreHouseWords (line_words text) (script_words script)
+    (λ words found. script_each script words))
 
-then_are : (said : Option ScriptLine) (taken : ℕ) (later : Script) (over : Option ℕ) → IfSome said OfLine → AllByRecursion AreHouseWords later.orders → AllByRecursion AreHouseWords (line_then said taken later over).orders
+then_are : (said : Option ScriptLine) (taken : ℕ) (later : Script) (over : Option ℕ)
+    → IfSome said OfLine → AllByRecursion AreHouseWords later.orders
+    → AllByRecursion AreHouseWords (line_then said taken later over).orders
 then_are (Some (Order order)) taken later over each are = (each, are)
 then_are (Some Over) taken later over each are = tt
 then_are None taken later over each are = tt
 
-if_are : (test : Bool) (said : Script) (number : ℕ) → AllByRecursion AreHouseWords said.orders → (let chosen : Script = if test then said else closes (Some number) in AllByRecursion AreHouseWords chosen.orders)
+if_are : (test : Bool) (said : Script) (number : ℕ) → AllByRecursion AreHouseWords said.orders
+    → (let chosen : Script = if test then said else closes (Some number) in
+    AllByRecursion AreHouseWords chosen.orders)
 if_are true said number are = are
 if_are false said number are = tt
 
-from_are : (script : List ℕ) (taken : ℕ) (ps : List (List ℕ)) → AllByRecursion AreHouseWords (script_from script taken ps).orders
+from_are : (script : List ℕ) (taken : ℕ) (ps : List (List ℕ))
+    → AllByRecursion AreHouseWords (script_from script taken ps).orders
 from_are script taken [] = tt
 from_are script taken (last ∷ []) = tt
 from_are script taken (text ∷ piece ∷ more) =
-    if_are (nat_lt (length text) 256) (line_then (script_line script text) (taken + 1) (script_from script (taken + 1) (piece ∷ more)) (over_from (taken + 1) (piece ∷ more))) (taken + 1)
-    (then_are (script_line script text) (taken + 1) (script_from script (taken + 1) (piece ∷ more)) (over_from (taken + 1) (piece ∷ more)) (line_each script text) (from_are script (taken + 1) (piece ∷ more)))
+    if_are (nat_lt (length text) 256)
+    (line_then (script_line script text) (taken + 1)
+    (script_from script (taken + 1) (piece ∷ more)) (over_from (taken + 1) (piece ∷ more)))
+    (taken + 1)
+    (then_are (script_line script text) (taken + 1) (script_from script (taken + 1) (piece ∷ more))
+    (over_from (taken + 1) (piece ∷ more)) (line_each script text)
+    (from_are script (taken + 1) (piece ∷ more)))
 
-at_are : (script : List ℕ) (rest : Rest) → AllByRecursion AreHouseWords (script_at script rest).orders
+at_are : (script : List ℕ) (rest : Rest)
+    → AllByRecursion AreHouseWords (script_at script rest).orders
 unfolding script_at
 at_are script rest = from_are script rest.taken (pieces rest.left)
 
-behind_are : (script : List ℕ) (begun : Result Rest SaidValue) → AllByRecursion AreHouseWords (orders_behind script begun)
+behind_are : (script : List ℕ) (begun : Result Rest SaidValue)
+    → AllByRecursion AreHouseWords (orders_behind script begun)
 behind_are script (Ok rest) = at_are script rest
 behind_are script (Err said) = tt
 
-pub orders_are : (files : Files) (script : List ℕ) → AllByRecursion AreHouseWords (orders_in files script)
+pub orders_are : (files : Files) (script : List ℕ)
+    → AllByRecursion AreHouseWords (orders_in files script)
 orders_are files script = behind_are script (script_begun files script)

@@ -27,58 +27,89 @@ none_taken : (text : List ℕ) (taken : Option (List ℕ)) → Modelled (TakesPr
 none_taken text None = refl
 none_taken text (Some before) = (zero, omega arith, sym (append-nil before))
 
-stopped_at_once : (effects : List Effect) (closing : List ℕ) (old : Outside) → StopsAmong effects closing old old
-stopped_at_once [] closing old = record { files_are = refl; ledger_is = refl; taken_is = none_taken closing old.taken }
+stopped_at_once : (effects : List Effect) (closing : List ℕ) (old : Outside)
+    → StopsAmong effects closing old old
+stopped_at_once [] closing old =
+    record { files_are = refl; ledger_is = refl; taken_is = none_taken closing old.taken }
 stopped_at_once (effect ∷ effects) closing old = inl (inl refl)
 
 -- a ceremony was stopped where nothing changed
-pub stopped_here : (whole : Ceremony) (stop : OutsideErr) (held now : Option Files) (ledger : Option Ledger) (taken : Option (List ℕ)) → now ≡ held
-    → EndsAll (Err stop) whole (outside (stores held ledger) taken) (outside (stores now ledger) taken)
+pub stopped_here : (whole : Ceremony) (stop : OutsideErr) (held now : Option Files)
+    (ledger : Option Ledger) (taken : Option (List ℕ)) → now ≡ held
+    → EndsAll (Err stop) whole (outside (stores held ledger) taken)
+    (outside (stores now ledger) taken)
 stopped_here whole stop held now ledger taken same =
-    subst (λ files. EndsAll (Err stop) whole (outside (stores held ledger) taken) (outside (stores files ledger) taken)) (sym same) (stopped_at_once whole.commands whole.closing.text _)
+    subst (λ files. EndsAll (Err stop) whole (outside (stores held ledger) taken)
+    (outside (stores files ledger) taken)) (sym same)
+    (stopped_at_once whole.commands whole.closing.text _)
 
-pub left_stopped : (left : Option Ceremony) (stop : OutsideErr) (held now : Option Files) (ledger : Option Ledger) (taken : Option (List ℕ)) → now ≡ held
-    → IfSome left (λ whole. EndsAll (Err stop) whole (outside (stores held ledger) taken) (outside (stores now ledger) taken))
+pub left_stopped : (left : Option Ceremony) (stop : OutsideErr) (held now : Option Files)
+    (ledger : Option Ledger) (taken : Option (List ℕ)) → now ≡ held
+    → IfSome left (λ whole. EndsAll (Err stop) whole (outside (stores held ledger) taken)
+    (outside (stores now ledger) taken))
 left_stopped None stop held now ledger taken same = tt
-left_stopped (Some whole) stop held now ledger taken same = stopped_here whole stop held now ledger taken same
+left_stopped (Some whole) stop held now ledger taken same =
+    stopped_here whole stop held now ledger taken same
 
 -- ---- what was read
 
-pub line_told : (script : List ℕ) (held : Option Files) (before lines : LinesValue) (line other : Line) → line ≡ other → IfSome held (λ files. (name : List ℕ) → Stands name line (rest_of before files) (rest_of lines files))
+pub line_told : (script : List ℕ) (held : Option Files) (before lines : LinesValue)
+    (line other : Line) → line ≡ other
+    → IfSome held (λ files. (name : List ℕ)
+    → Stands name line (rest_of before files) (rest_of lines files))
     → IfSome held (λ files. Stands script other (rest_of before files) (rest_of lines files))
 line_told script None before lines line other same told = tt
-line_told script (Some files) before lines line other same told = subst (λ l. Stands script l (rest_of before files) (rest_of lines files)) same (told script)
+line_told script (Some files) before lines line other same told =
+    subst (λ l. Stands script l (rest_of before files) (rest_of lines files)) same (told script)
 
 number_of : (files : Files) (lines : LinesValue) → (rest_of lines files).taken ≡ lines.taken
 unfolding rest_of rest_in
 number_of files lines = refl
 
 -- words that are no command
-pub none_told : (script : List ℕ) (held : Option Files) (before lines : LinesValue) (words : List (List ℕ)) (number : ℕ) → None ≡ script_words script words → number ≡ lines.taken
-    → IfSome held (λ files. script_at script (rest_of before files) ≡ order_then script (script_words script words) (rest_of lines files))
+pub none_told : (script : List ℕ) (held : Option Files) (before lines : LinesValue)
+    (words : List (List ℕ)) (number : ℕ) → None ≡ script_words script words → number ≡ lines.taken
+    → IfSome held (λ files. script_at script (rest_of before files)
+    ≡ order_then script (script_words script words) (rest_of lines files))
     → IfSome held (λ files. script_at script (rest_of before files) ≡ closes (Some number))
 none_told script None before lines words number none count told = tt
 none_told script (Some files) before lines words number none count told =
-    told ∙ ap (λ o. order_then script o (rest_of lines files)) (sym none) ∙ ap (λ n. closes (Some n)) (number_of files lines ∙ sym count)
+    told ∙ ap (λ o. order_then script o (rest_of lines files)) (sym none)
+    ∙ ap (λ n. closes (Some n)) (number_of files lines ∙ sym count)
 
 -- the line `end`
-pub end_told : (script : List ℕ) (held now : Option Files) (before lines : LinesValue) (fault : Option ℕ) → now ≡ held → IfSome held (λ files. script_at script (rest_of before files) ≡ closes (over_at (rest_of lines files)))
-    → IfSome now (λ files. fault ≡ over_at (rest_of lines files)) → IfSome held (λ files. script_at script (rest_of before files) ≡ closes fault)
+pub end_told : (script : List ℕ) (held now : Option Files) (before lines : LinesValue)
+    (fault : Option ℕ) → now ≡ held
+    → IfSome held (λ files. script_at script (rest_of before files)
+    ≡ closes (over_at (rest_of lines files)))
+    → IfSome now (λ files. fault ≡ over_at (rest_of lines files))
+    → IfSome held (λ files. script_at script (rest_of before files) ≡ closes fault)
 end_told script None now before lines fault same told over = tt
 end_told script (Some files) now before lines fault same told over =
-    told ∙ ap closes (sym (subst (λ left. IfSome left (λ held. fault ≡ over_at (rest_of lines held))) same over))
+    told ∙ ap closes (sym (subst
+    (λ left. IfSome left (λ held. fault ≡ over_at (rest_of lines held))) same over))
 
 -- ---- the end of a script
 
 -- no command is left, and what is said of the script was printed
-pub left_closed : (script : List ℕ) (refused : Bool) (lines : LinesValue) (held now : Option Files) (ledger : Option Ledger) (taken then_ : Option (List ℕ)) (fault : Option ℕ) (answer : Result ℕ OutsideErr) → now ≡ held
+pub left_closed : (script : List ℕ) (refused : Bool) (lines : LinesValue) (held now : Option Files)
+    (ledger : Option Ledger) (taken then_ : Option (List ℕ)) (fault : Option ℕ)
+    (answer : Result ℕ OutsideErr) → now ≡ held
     → IfSome held (λ files. script_at script (rest_of lines files) ≡ closes fault)
-    → ((old : Stores) → EndsAll answer (closed (closing_said script fault refused)) (outside old taken) (outside old then_))
-    → IfSome (left_of script refused lines (stores held ledger)) (λ whole. EndsAll answer whole (outside (stores held ledger) taken) (outside (stores now ledger) then_))
+    → ((old : Stores) → EndsAll answer (closed (closing_said script fault refused))
+    (outside old taken) (outside old then_))
+    → IfSome (left_of script refused lines (stores held ledger))
+    (λ whole. EndsAll answer whole (outside (stores held ledger) taken)
+    (outside (stores now ledger) then_))
 left_closed script refused lines None now ledger taken then_ fault answer same is ends = tt
 left_closed script refused lines (Some files) now ledger taken then_ fault answer same is ends =
-    let P : Script → Type 0 = λ said. IfSome (ceremony_by script refused said (stores (Some files) ledger)) (λ whole. EndsAll answer whole (outside (stores (Some files) ledger) taken) (outside (stores now ledger) then_)) in
-    subst P (sym is) (subst (λ left. EndsAll answer (closed (closing_said script fault refused)) (outside (stores (Some files) ledger) taken) (outside (stores left ledger) then_)) (sym same) (ends (stores (Some files) ledger)))
+    let P : Script → Type 0 = λ said.
+    IfSome (ceremony_by script refused said (stores (Some files) ledger))
+    (λ whole. EndsAll answer whole (outside (stores (Some files) ledger) taken)
+    (outside (stores now ledger) then_)) in
+    subst P (sym is) (subst (λ left. EndsAll answer (closed (closing_said script fault refused))
+    (outside (stores (Some files) ledger) taken) (outside (stores left ledger) then_))
+    (sym same) (ends (stores (Some files) ledger)))
 
 -- ---- a command
 
@@ -88,8 +119,10 @@ turned refused (Ok status) = Ok (turn_by refused status)
 turned refused (Err stop) = Err stop
 
 -- the command was stopped, whatever would have come after it
-command_stopped : (script : List ℕ) (lines : LinesValue) (effect : Effect) (later : Option Ceremony) (test : Bool) (stop : OutsideErr) (old new : Outside) → Stopped effect old new
-    → IfSome (if test then option_map (with_command effect) later else Some (ended_by effect)) (λ whole. Turns script lines (Err stop) whole old new)
+command_stopped : (script : List ℕ) (lines : LinesValue) (effect : Effect) (later : Option Ceremony)
+    (test : Bool) (stop : OutsideErr) (old new : Outside) → Stopped effect old new
+    → IfSome (if test then option_map (with_command effect) later else Some (ended_by effect))
+    (λ whole. Turns script lines (Err stop) whole old new)
 command_stopped script lines effect None true stop old new stopped = tt
 command_stopped script lines effect (Some later) true stop old new stopped = inl stopped
 command_stopped script lines effect later false stop old new stopped = inl stopped
@@ -99,69 +132,140 @@ puts_none None = refl
 puts_none (Some before) = ap Some (append-nil before)
 
 -- the command was done, and the ceremony ended by its status
-command_ended : (effect : Effect) (status : ℕ) (old new : Outside) → Done status effect old new → EndsAll (Ok status) (ended_by effect) old new
-command_ended effect status old new is =
-    (is.status_is, done_is status effect old new is ∙ ap (λ taken. record { files = (done effect old).files; ledger = effect.ledger; taken = taken }) (sym (puts_none (puts effect.text old.taken))))
+command_ended : (effect : Effect) (status : ℕ) (old new : Outside) → Done status effect old new
+    → EndsAll (Ok status) (ended_by effect) old new
+command_ended effect status old new is = (
+  is.status_is,
+  done_is status effect old new is
+      ∙ ap (λ taken. record {
+        files = (done effect old).files;
+        ledger = effect.ledger;
+        taken = taken;
+      }) (sym (puts_none (puts effect.text old.taken))),
+)
 
 -- the reader stands where it stood
-pub rest_stays : (script : List ℕ) (lines : LinesValue) (files other : Files) → lines.name ≡ script → bytes_of other script ≡ bytes_of files script → rest_of lines other ≡ rest_of lines files
+pub rest_stays : (script : List ℕ) (lines : LinesValue) (files other : Files) → lines.name ≡ script
+    → bytes_of other script ≡ bytes_of files script → rest_of lines other ≡ rest_of lines files
 unfolding rest_of
-rest_stays script lines files other named same = ap (rest_in lines) (subst (λ name. bytes_of other name ≡ bytes_of files name) (sym named) same)
+rest_stays script lines files other named same =
+    ap (rest_in lines) (subst (λ name. bytes_of other name ≡ bytes_of files name) (sym named) same)
 
 -- what is left of the ceremony after a command that was done
-left_after : (script : List ℕ) (words : List (List ℕ)) (order : HouseWords) (refused : Bool) (lines : LinesValue) (files : Files) (ledger : Option Ledger) (effect : Effect) (status : ℕ) (taken : Option (List ℕ)) (new : Outside)
-    → lines.name ≡ script → script_words script words ≡ Some order → house_effect (Some files) ledger order ≡ Some effect → Done status effect (outside (stores (Some files) ledger) taken) new
+left_after : (script : List ℕ) (words : List (List ℕ)) (order : HouseWords) (refused : Bool)
+    (lines : LinesValue) (files : Files) (ledger : Option Ledger) (effect : Effect) (status : ℕ)
+    (taken : Option (List ℕ)) (new : Outside)
+    → lines.name ≡ script → script_words script words ≡ Some order
+    → house_effect (Some files) ledger order ≡ Some effect
+    → Done status effect (outside (stores (Some files) ledger) taken) new
     → left_of script (refused || is_refusal status) lines (stores_of new)
-    ≡ ceremony_by script (refused || is_refusal effect.status) (script_at script (rest_of lines files)) (after effect (stores (Some files) ledger))
-left_after script words order refused lines files ledger effect status taken new named is told done_so =
+    ≡ ceremony_by script (refused || is_refusal effect.status)
+    (script_at script (rest_of lines files)) (after effect (stores (Some files) ledger))
+left_after script words order refused lines files ledger effect status taken new named is told
+    done_so =
     ap (λ n. left_of script (refused || is_refusal n) lines (stores_of new)) done_so.status_is
-    ∙ ap (λ (left : Outside). left_of script (refused || is_refusal effect.status) lines (stores_of left)) (done_is status effect (outside (stores (Some files) ledger) taken) new done_so)
-    ∙ ap (λ rest. ceremony_by script (refused || is_refusal effect.status) (script_at script rest) (after effect (stores (Some files) ledger)))
-    (rest_stays script lines files (written effect.writes files) named (command_leaves script words order (Some files) ledger effect files is told))
+    ∙ ap (λ (left : Outside). left_of script (refused || is_refusal effect.status) lines
+    (stores_of left)) (done_is status effect (outside (stores (Some files) ledger) taken) new
+    done_so)
+    ∙ ap (λ rest. ceremony_by script (refused || is_refusal effect.status) (script_at script rest)
+    (after effect (stores (Some files) ledger)))
+    (rest_stays script lines files (written effect.writes files) named
+    (command_leaves script words order (Some files) ledger effect files is told))
 
 -- it was done, and the ceremony goes on
-command_done : (script : List ℕ) (lines : LinesValue) (effect : Effect) (refused : Bool) (later : Option Ceremony) (status : ℕ) (old new : Outside) → Done status effect old new
+command_done : (script : List ℕ) (lines : LinesValue) (effect : Effect) (refused : Bool)
+    (later : Option Ceremony) (status : ℕ) (old new : Outside) → Done status effect old new
     → left_of script (refused || is_refusal status) lines (stores_of new) ≡ later
-    → IfSome (option_map (with_command effect) later) (λ whole. Turns script lines (Ok (Next (refused || is_refusal status))) whole old new)
+    → IfSome (option_map (with_command effect) later)
+    (λ whole. Turns script lines (Ok (Next (refused || is_refusal status))) whole old new)
 command_done script lines effect refused None status old new is left = tt
 command_done script lines effect refused (Some later) status old new is left =
-    subst (λ o. IsSomeAnd o (λ rest. (e : Effect) × (with_command effect later ≡ with_command e rest) × (new ≡ done e old))) (sym left) (effect, refl, done_is status effect old new is)
+    subst (λ o. IsSomeAnd o (λ rest. (e : Effect)
+    × (with_command effect later ≡ with_command e rest) × (new ≡ done e old))) (sym left)
+    (effect, refl, done_is status effect old new is)
 
-turn_of : (script : List ℕ) (lines : LinesValue) (effect : Effect) (refused : Bool) (later : Option Ceremony) (test : Bool) (status : ℕ) (old new : Outside) → Done status effect old new
+turn_of : (script : List ℕ) (lines : LinesValue) (effect : Effect) (refused : Bool)
+    (later : Option Ceremony) (test : Bool) (status : ℕ) (old new : Outside)
+    → Done status effect old new
     → left_of script (refused || is_refusal status) lines (stores_of new) ≡ later
-    → IfSome (if test then option_map (with_command effect) later else Some (ended_by effect)) (λ whole. Turns script lines (Ok (if test then Next (refused || is_refusal status) else Ended status)) whole old new)
-turn_of script lines effect refused later true status old new is left = command_done script lines effect refused later status old new is left
-turn_of script lines effect refused later false status old new is left = command_ended effect status old new is
+    → IfSome (if test then option_map (with_command effect) later else Some (ended_by effect))
+    (λ whole. Turns script lines
+    (Ok (if test then Next (refused || is_refusal status) else Ended status)) whole old new)
+turn_of script lines effect refused later true status old new is left =
+    command_done script lines effect refused later status old new is left
+turn_of script lines effect refused later false status old new is left =
+    command_ended effect status old new is
 
 -- by the effect of the command
-effect_turned : (script : List ℕ) (words : List (List ℕ)) (order : HouseWords) (refused : Bool) (lines : LinesValue) (files : Files) (ledger : Option Ledger) (effect : Effect) (answer : Result ℕ OutsideErr) (taken : Option (List ℕ)) (new : Outside)
-    → lines.name ≡ script → script_words script words ≡ Some order → house_effect (Some files) ledger order ≡ Some effect → Ends answer effect (outside (stores (Some files) ledger) taken) new
-    → IfSome (after_command effect (ceremony_by script (refused || is_refusal effect.status) (script_at script (rest_of lines files)) (after effect (stores (Some files) ledger))))
-    (λ whole. Turns script lines (turned refused answer) whole (outside (stores (Some files) ledger) taken) new)
-effect_turned script words order refused lines files ledger effect (Err stop) taken new named is told ends =
-    command_stopped script lines effect _ (goes_on effect.status) stop (outside (stores (Some files) ledger) taken) new ends
-effect_turned script words order refused lines files ledger effect (Ok status) taken new named is told ends =
+effect_turned : (script : List ℕ) (words : List (List ℕ)) (order : HouseWords) (refused : Bool)
+    (lines : LinesValue) (files : Files) (ledger : Option Ledger) (effect : Effect)
+    (answer : Result ℕ OutsideErr) (taken : Option (List ℕ)) (new : Outside)
+    → lines.name ≡ script → script_words script words ≡ Some order
+    → house_effect (Some files) ledger order ≡ Some effect
+    → Ends answer effect (outside (stores (Some files) ledger) taken) new
+    → IfSome (after_command effect
+    (ceremony_by script (refused || is_refusal effect.status)
+    (script_at script (rest_of lines files)) (after effect (stores (Some files) ledger))))
+    (λ whole. Turns script lines (turned refused answer) whole
+    (outside (stores (Some files) ledger) taken) new)
+effect_turned script words order refused lines files ledger effect (Err stop) taken new named is
+    told ends =
+    command_stopped script lines effect _ (goes_on effect.status) stop
+    (outside (stores (Some files) ledger) taken) new ends
+effect_turned script words order refused lines files ledger effect (Ok status) taken new named is
+    told ends =
     let old : Outside = outside (stores (Some files) ledger) taken in
-    let later : Option Ceremony = ceremony_by script (refused || is_refusal effect.status) (script_at script (rest_of lines files)) (after effect (stores (Some files) ledger)) in
-    subst (λ n. IfSome (if goes_on n then option_map (with_command effect) later else Some (ended_by effect)) (λ whole. Turns script lines (Ok (turn_by refused status)) whole old new)) ends.status_is
-    (turn_of script lines effect refused later (goes_on status) status old new ends (left_after script words order refused lines files ledger effect status taken new named is told ends))
+    let later : Option Ceremony =
+    ceremony_by script (refused || is_refusal effect.status)
+    (script_at script (rest_of lines files)) (after effect (stores (Some files) ledger)) in
+    subst (λ n. IfSome (if goes_on n then option_map (with_command effect) later
+    else Some (ended_by effect))
+    (λ whole. Turns script lines (Ok (turn_by refused status)) whole old new)) ends.status_is
+    (turn_of script lines effect refused later (goes_on status) status old new ends
+    (left_after script words order refused lines files ledger effect status taken new named is
+    told ends))
 
-order_turned : (script : List ℕ) (words : List (List ℕ)) (order : HouseWords) (refused : Bool) (lines : LinesValue) (files : Files) (ledger : Option Ledger) (effect : Option Effect) (answer : Result ℕ OutsideErr) (taken : Option (List ℕ)) (new : Outside)
-    → lines.name ≡ script → script_words script words ≡ Some order → house_effect (Some files) ledger order ≡ effect → IfSome effect (λ e. Ends answer e (outside (stores (Some files) ledger) taken) new)
-    → IfSome (option_and_then (λ e. after_command e (ceremony_by script (refused || is_refusal e.status) (script_at script (rest_of lines files)) (after e (stores (Some files) ledger)))) effect)
-    (λ whole. Turns script lines (turned refused answer) whole (outside (stores (Some files) ledger) taken) new)
-order_turned script words order refused lines files ledger None answer taken new named is told ends = tt
-order_turned script words order refused lines files ledger (Some effect) answer taken new named is told ends = effect_turned script words order refused lines files ledger effect answer taken new named is told ends
+order_turned : (script : List ℕ) (words : List (List ℕ)) (order : HouseWords) (refused : Bool)
+    (lines : LinesValue) (files : Files) (ledger : Option Ledger) (effect : Option Effect)
+    (answer : Result ℕ OutsideErr) (taken : Option (List ℕ)) (new : Outside)
+    → lines.name ≡ script → script_words script words ≡ Some order
+    → house_effect (Some files) ledger order ≡ effect
+    → IfSome effect (λ e. Ends answer e (outside (stores (Some files) ledger) taken) new)
+    → IfSome (option_and_then (λ e.
+    after_command e (ceremony_by script (refused || is_refusal e.status)
+    (script_at script (rest_of lines files)) (after e (stores (Some files) ledger)))) effect)
+    (λ whole. Turns script lines (turned refused answer) whole
+    (outside (stores (Some files) ledger) taken) new)
+order_turned script words order refused lines files ledger None answer taken new named is told
+    ends = tt
+order_turned script words order refused lines files ledger (Some effect) answer taken new named is
+    told ends = effect_turned script words order refused lines files ledger effect answer taken new
+    named is told ends
 
 -- a line was taken, and its command was done or stopped
-pub left_turned : (script : List ℕ) (words : List (List ℕ)) (order : HouseWords) (refused : Bool) (before lines : LinesValue) (held now : Option Files) (ledger : Option Ledger) (answer : Result ℕ OutsideErr) (taken : Option (List ℕ)) (new : Outside)
-    → now ≡ held → lines.name ≡ script → Some order ≡ script_words script words → IfSome held (λ files. script_at script (rest_of before files) ≡ order_then script (script_words script words) (rest_of lines files))
-    → IfSome (house_effect now ledger order) (λ effect. Ends answer effect (outside (stores now ledger) taken) new)
-    → IfSome (left_of script refused before (stores held ledger)) (λ whole. Turns script lines (turned refused answer) whole (outside (stores held ledger) taken) new)
-left_turned script words order refused before lines None now ledger answer taken new same named is read ends = tt
-left_turned script words order refused before lines (Some files) now ledger answer taken new same named is read ends =
-    let P : Script → Type 0 = λ said. IfSome (ceremony_by script refused said (stores (Some files) ledger)) (λ whole. Turns script lines (turned refused answer) whole (outside (stores (Some files) ledger) taken) new) in
-    let here : IfSome (house_effect (Some files) ledger order) (λ effect. Ends answer effect (outside (stores (Some files) ledger) taken) new) =
-    subst (λ left. IfSome (house_effect left ledger order) (λ effect. Ends answer effect (outside (stores left ledger) taken) new)) same ends in
+pub left_turned : (script : List ℕ) (words : List (List ℕ)) (order : HouseWords) (refused : Bool)
+    (before lines : LinesValue) (held now : Option Files) (ledger : Option Ledger)
+    (answer : Result ℕ OutsideErr) (taken : Option (List ℕ)) (new : Outside)
+    → now ≡ held → lines.name ≡ script → Some order ≡ script_words script words
+    → IfSome held (λ files. script_at script (rest_of before files)
+    ≡ order_then script (script_words script words) (rest_of lines files))
+    → IfSome (house_effect now ledger order)
+    (λ effect. Ends answer effect (outside (stores now ledger) taken) new)
+    → IfSome (left_of script refused before (stores held ledger))
+    (λ whole. Turns script lines (turned refused answer) whole (outside (stores held ledger) taken)
+    new)
+left_turned script words order refused before lines None now ledger answer taken new same named is
+    read ends = tt
+left_turned script words order refused before lines (Some files) now ledger answer taken new same
+    named is read ends =
+    let P : Script → Type 0 = λ said.
+    IfSome (ceremony_by script refused said (stores (Some files) ledger))
+    (λ whole. Turns script lines (turned refused answer) whole
+    (outside (stores (Some files) ledger) taken) new) in
+    let here : IfSome (house_effect (Some files) ledger order)
+    (λ effect. Ends answer effect (outside (stores (Some files) ledger) taken) new) =
+    subst (λ left. IfSome (house_effect left ledger order)
+    (λ effect. Ends answer effect (outside (stores left ledger) taken) new)) same ends in
     subst P (sym (read ∙ ap (λ o. order_then script o (rest_of lines files)) (sym is)))
-    (order_turned script words order refused lines files ledger (house_effect (Some files) ledger order) answer taken new named (sym is) refl here)
+    (order_turned script words order refused lines files ledger
+    (house_effect (Some files) ledger order) answer taken new named (sym is) refl here)

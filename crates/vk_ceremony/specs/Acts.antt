@@ -11,7 +11,8 @@ use Rattle.vk_ceremony.specs.Ceremonies.{goes_on}
 
 -- ---- one command
 
--- a command of the house that was done: the files and the ledger that it found, what it said, and what it left
+-- a command of the house that was done: the files and the ledger that it found, what it said, and
+-- what it left
 pub record HouseAct : Type 0 where
   pub order : HouseWords
   pub files : Files
@@ -28,9 +29,11 @@ pub record IsAct (act : HouseAct) : Type 0 where
   pub left_is : act.left ≡ written effect.writes act.files
   pub kept_is : effect.ledger ≡ Some act.kept
 
--- a command that was stopped when the house had kept what it asked: the ledger is that of its effect, and its files are
--- divided at one of them. Where its printing was stopped all of them are written
-pub record StopsOrder (order : HouseWords) (files : Files) (ledger : Ledger) (left : Files) (kept : Ledger) : Type 0 where
+-- a command that was stopped when the house had kept what it asked: the ledger is that of its
+-- effect, and its files are divided at one of them. Where its printing was stopped all of them are
+-- written
+pub record StopsOrder (order : HouseWords) (files : Files) (ledger : Ledger) (left : Files)
+    (kept : Ledger) : Type 0 where
   pub effect : Effect
   pub effect_is : house_effect (Some files) (Some ledger) order ≡ Some effect
   pub left_is : IsDivided effect.writes files left
@@ -38,30 +41,36 @@ pub record StopsOrder (order : HouseWords) (files : Files) (ledger : Ledger) (le
 
 -- ---- one after another
 
--- these acts were done one after another, each on what the one before left, from these files and this ledger to those
+-- these acts were done one after another, each on what the one before left, from these files and
+-- this ledger to those
 abbrev pub AreActs : List HouseAct → Files → Ledger → Files → Ledger → Type 0
 AreActs [] files ledger left kept = (left ≡ files) × (kept ≡ ledger)
-AreActs (act ∷ acts) files ledger left kept = (act.files ≡ files) × (act.ledger ≡ ledger) × IsAct act × AreActs acts act.left act.kept left kept
+AreActs (act ∷ acts) files ledger left kept = (act.files ≡ files) × (act.ledger ≡ ledger)
+    × IsAct act × AreActs acts act.left act.kept left kept
 
 -- the next of these orders was stopped; there is one
 abbrev pub StopsNext : List HouseWords → Files → Ledger → Files → Ledger → Type 0
 StopsNext [] files ledger left kept = ⊥
 StopsNext (order ∷ orders) files ledger left kept = StopsOrder order files ledger left kept
 
--- the first of these orders were done, by these acts, and the later ones were not. After the acts nothing more was left,
--- or the next order was stopped
-pub record Performs (orders : List HouseWords) (files : Files) (ledger : Ledger) (acts : List HouseAct) (left : Files) (kept : Ledger) : Type 0 where
+-- the first of these orders were done, by these acts, and the later ones were not. After the acts
+-- nothing more was left, or the next order was stopped
+pub record Performs (orders : List HouseWords) (files : Files) (ledger : Ledger)
+    (acts : List HouseAct) (left : Files) (kept : Ledger) : Type 0 where
   pub later : List HouseWords
   pub orders_are : orders ≡ map (λ act. act.order) acts ++ later
   pub files_between : Files
   pub ledger_between : Ledger
   pub done : AreActs acts files ledger files_between ledger_between
-  pub last : ((left ≡ files_between) × (kept ≡ ledger_between)) ⊎ StopsNext later files_between ledger_between left kept
+  pub last : ((left ≡ files_between) × (kept ≡ ledger_between))
+      ⊎ StopsNext later files_between ledger_between left kept
 
 -- ---- as far as they came
 
--- some acts of these orders lead from these files and this ledger to what is held and kept, which is modelled
-pub record PerformsSome (orders : List HouseWords) (files : Files) (ledger : Ledger) (held : Option Files) (kept : Option Ledger) : Type 0 where
+-- some acts of these orders lead from these files and this ledger to what is held and kept, which
+-- is modelled
+pub record PerformsSome (orders : List HouseWords) (files : Files) (ledger : Ledger)
+    (held : Option Files) (kept : Option Ledger) : Type 0 where
   pub acts : List HouseAct
   pub files_left : Files
   pub ledger_left : Ledger
@@ -69,14 +78,17 @@ pub record PerformsSome (orders : List HouseWords) (files : Files) (ledger : Led
   pub kept_is : kept ≡ Some ledger_left
   pub performs : Performs orders files ledger acts files_left ledger_left
 
--- the next order follows each act but the last. After the last no order is left, or its status is one that none follows
+-- the next order follows each act but the last. After the last no order is left, or its status is
+-- one that none follows
 abbrev pub GoOn : List HouseAct → List HouseWords → Type 0
 GoOn [] later = later ≡ []
-GoOn (act ∷ acts) later = (IsTrue (goes_on act.said.status) × GoOn acts later) ⊎ (IsFalse (goes_on act.said.status) × (acts ≡ []))
+GoOn (act ∷ acts) later = (IsTrue (goes_on act.said.status) × GoOn acts later)
+    ⊎ (IsFalse (goes_on act.said.status) × (acts ≡ []))
 
--- the acts of these orders were done to their end, and nothing was stopped: what they said was printed, one after another,
--- and then the closing text
-pub record PerformsAll (orders : List HouseWords) (files : Files) (ledger : Ledger) (closing : List ℕ) (taken : Option (List ℕ)) (new : Outside) : Type 0 where
+-- the acts of these orders were done to their end, and nothing was stopped: what they said was
+-- printed, one after another, and then the closing text
+pub record PerformsAll (orders : List HouseWords) (files : Files) (ledger : Ledger)
+    (closing : List ℕ) (taken : Option (List ℕ)) (new : Outside) : Type 0 where
   pub acts : List HouseAct
   pub later : List HouseWords
   pub orders_are : orders ≡ map (λ act. act.order) acts ++ later

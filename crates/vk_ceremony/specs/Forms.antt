@@ -12,7 +12,8 @@ use Rattle.vk_ceremony.specs.Scripts.{ScriptLine, Order, Over, heading, script_a
 
 -- the text of a script of these commands, each given by its words
 unfoldable pub script_text : List (List (List ℕ)) → List ℕ
-script_text orders = line heading ++ flat_map (λ words. line (spaced words)) orders ++ line (codes "end")
+script_text orders = line heading ++ flat_map (λ words. line (spaced words)) orders
+    ++ line (codes "end")
 
 -- neither a space nor a line feed stands in a word
 abbrev pub is_apart : List ℕ → Bool
@@ -61,4 +62,6 @@ fault_by script (Err number) = Some number
 -- a script is the text of these commands, and says them behind its first line
 abbrev pub SaysOrders : List ℕ → List (List (List ℕ)) → Rest → Type 0
 SaysOrders script orders start =
-    (rest : Rest) × (line_by (word_of heading) start ≡ Ok (tt, rest)) × ((script_at script rest).fault ≡ None) × (map Some (script_at script rest).orders ≡ map (script_words script) orders)
+    (rest : Rest) × (line_by (word_of heading) start ≡ Ok (tt, rest))
+    × ((script_at script rest).fault ≡ None)
+    × (map Some (script_at script rest).orders ≡ map (script_words script) orders)

@@ -11,23 +11,27 @@ use Rattle.vk_ceremony.specs.declared.holding.Turn.TheVariants.{Next, Ended}
 use Rattle.vk_ceremony.specs.Ceremonies.{closing_said, goes_on, is_refusal}
 use Rattle.vk_ceremony.specs.Scripts.{Script, script_at, script_begun}
 
--- these orders were done one after another, and each left of the files what its own status says. One that was done or
--- refused is followed by the next; any other ends the ceremony with its status. Behind the last one the status is that of
--- the closing line
-abbrev pub OrdersLeave : (Bool → SaidValue) → Bool → List HouseWords → (status : ℕ) → Files → Files → Type 0
+-- these orders were done one after another, and each left of the files what its own status says.
+-- One that was done or refused is followed by the next; any other ends the ceremony with its
+-- status. Behind the last one the status is that of the closing line
+abbrev pub OrdersLeave : (Bool → SaidValue) → Bool → List HouseWords → (status : ℕ) → Files → Files
+    → Type 0
 OrdersLeave closing refused [] status old new = (status ≡ (closing refused).status) × (new ≡ old)
 OrdersLeave closing refused (order ∷ orders) status old new =
     (ended : ℕ) × ((between : Files) × LeavesFiles order ended old between
-    × ((IsTrue (goes_on ended) × OrdersLeave closing (refused || is_refusal ended) orders status between new)
+    × ((IsTrue (goes_on ended)
+    × OrdersLeave closing (refused || is_refusal ended) orders status between new)
     ⊎ (IsFalse (goes_on ended) × (status ≡ ended) × (new ≡ between))))
 
 -- the same of what a script of that name says
 abbrev pub ScriptLeaves : List ℕ → Bool → Script → (status : ℕ) → Files → Files → Type 0
-ScriptLeaves script refused said status old new = OrdersLeave (closing_said script said.fault) refused said.orders status old new
+ScriptLeaves script refused said status old new =
+    OrdersLeave (closing_said script said.fault) refused said.orders status old new
 
 -- by what is left of the script behind its first line, or by what is said of it
 abbrev pub BehindLeaves : List ℕ → Result Rest SaidValue → (status : ℕ) → Files → Files → Type 0
-BehindLeaves script (Ok rest) status old new = ScriptLeaves script false (script_at script rest) status old new
+BehindLeaves script (Ok rest) status old new =
+    ScriptLeaves script false (script_at script rest) status old new
 BehindLeaves script (Err said) status old new = (status ≡ said.status) × (new ≡ old)
 
 -- what a ceremony of the script of that name leaves that ended with that status
@@ -36,14 +40,19 @@ CeremonyLeaves script status old new = BehindLeaves script (script_begun old scr
 
 -- ---- a turn of it
 
--- whatever is left by what stands behind these lines, what stood before them leaves from the beginning
+-- whatever is left by what stands behind these lines, what stood before them leaves from the
+-- beginning
 abbrev pub Continues : List ℕ → Bool → LinesValue → Bool → LinesValue → Files → Files → Type 0
 Continues script refused before now lines old new =
-    (status : ℕ) (last : Files) → ScriptLeaves script now (script_at script (rest_of lines new)) status new last
+    (status : ℕ) (last : Files)
+    → ScriptLeaves script now (script_at script (rest_of lines new)) status new last
     → ScriptLeaves script refused (script_at script (rest_of before old)) status old last
 
 -- one command was done and the script goes on so, or it ended
-abbrev pub TurnLeaves : List ℕ → Bool → (before lines : LinesValue) → Result Turn OutsideErr → Files → Files → Type 0
-TurnLeaves script refused before lines (Ok (Next now)) old new = Continues script refused before now lines old new
-TurnLeaves script refused before lines (Ok (Ended status)) old new = ScriptLeaves script refused (script_at script (rest_of before old)) status old new
+abbrev pub TurnLeaves : List ℕ → Bool → (before lines : LinesValue) → Result Turn OutsideErr → Files
+    → Files → Type 0
+TurnLeaves script refused before lines (Ok (Next now)) old new =
+    Continues script refused before now lines old new
+TurnLeaves script refused before lines (Ok (Ended status)) old new =
+    ScriptLeaves script refused (script_at script (rest_of before old)) status old new
 TurnLeaves script refused before lines (Err stop) old new = Unit {0}

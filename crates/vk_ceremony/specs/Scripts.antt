@@ -28,10 +28,11 @@ order_line script line = line_words line >>? script_words script
 
 -- what a line behind the first says in the script of that name, where it may stand in it
 abbrev pub script_line : List ℕ → List ℕ → Option ScriptLine
-script_line script line = if bytes_eq line (codes "end") then Some Over else option_map Order (order_line script line)
+script_line script line = if bytes_eq line (codes "end") then Some Over
+    else option_map Order (order_line script line)
 
--- what a script says behind its first line: the commands of its lines up to the first that is none, and that
--- line's number; None where it is `end` and nothing stands after it
+-- what a script says behind its first line: the commands of its lines up to the first that is none,
+-- and that line's number; None where it is `end` and nothing stands after it
 pub record Script : Type 0 where
   pub orders : List HouseWords
   pub fault : Option ℕ
@@ -51,7 +52,8 @@ abbrev pub over_from : ℕ → List (List ℕ) → Option ℕ
 over_from taken (last ∷ []) = if length last == 0 then None else Some (taken + 1)
 over_from taken pieces = Some (taken + 1)
 
--- by what a line says, the number of which is `taken`; and by what is said, and what stands, after it
+-- by what a line says, the number of which is `taken`; and by what is said, and what stands, after
+-- it
 abbrev pub line_then : Option ScriptLine → ℕ → Script → Option ℕ → Script
 line_then (Some (Order order)) taken later over = with_order order later
 line_then (Some Over) taken later over = closes over
@@ -63,7 +65,8 @@ script_from script taken [] = closes (Some (taken + 1))
 script_from script taken (last ∷ []) = closes (Some (taken + 1))
 script_from script taken (text ∷ piece ∷ more) =
     if nat_lt (length text) 256
-    then line_then (script_line script text) (taken + 1) (script_from script (taken + 1) (piece ∷ more)) (over_from (taken + 1) (piece ∷ more))
+    then line_then (script_line script text) (taken + 1)
+    (script_from script (taken + 1) (piece ∷ more)) (over_from (taken + 1) (piece ∷ more))
     else closes (Some (taken + 1))
 
 abbrev pub pieces : List ℕ → List (List ℕ)
@@ -81,6 +84,8 @@ abbrev pub behind_heading : List ℕ → Result (Unit × Rest) ℕ → Result Re
 behind_heading script (Ok read) = Ok read.1
 behind_heading script (Err number) = Err (malformed_said script number)
 
--- the script of that name behind its first line; or what is said where it isn't held, is too long, or begins otherwise
+-- the script of that name behind its first line; or what is said where it isn't held, is too long,
+-- or begins otherwise
 unfoldable pub script_begun : Files → List ℕ → Result Rest SaidValue
-script_begun files script = ◌>>=◌ (begun_in script (get files script)) (λ file. behind_heading script (line_by (word_of heading) file))
+script_begun files script = ◌>>=◌ (begun_in script (get files script))
+    (λ file. behind_heading script (line_by (word_of heading) file))

@@ -23,7 +23,9 @@ order_then script None rest = closes (Some rest.taken)
 
 -- what a script says is what its next line says, and what is left behind it
 abbrev pub Stands : List ℕ → Line → Rest → Rest → Type 0
-Stands script (Words words) before rest = script_at script before ≡ order_then script (script_words script (map string_bytes words.items)) rest
+Stands script (Words words) before rest =
+    script_at script before ≡ order_then script (script_words script (map string_bytes words.items))
+    rest
 Stands script End before rest = script_at script before ≡ closes (over_at rest)
 Stands script (Malformed number) before rest = script_at script before ≡ closes (Some number)
 
@@ -42,11 +44,14 @@ IsWords line = ⊥
 
 -- what is left of a ceremony, by what is left of its script, which the stores hold
 abbrev pub left_of : List ℕ → Bool → LinesValue → Stores → Option Ceremony
-left_of script refused lines old = option_and_then (λ files. ceremony_by script refused (script_at script (rest_of lines files)) old) old.files
+left_of script refused lines old =
+    option_and_then (λ files. ceremony_by script refused (script_at script (rest_of lines files))
+    old) old.files
 
 -- after a command of this status
 abbrev pub turn_by : Bool → ℕ → Turn
-turn_by refused status = if goes_on status then Next (refused || is_refusal status) else Ended status
+turn_by refused status = if goes_on status then Next (refused || is_refusal status)
+    else Ended status
 
 abbrev pub IsNextTurn : Turn → Type 0
 IsNextTurn (Next refused) = Unit {0}
@@ -55,10 +60,13 @@ IsNextTurn (Ended status) = ⊥
 abbrev pub stores_of : Outside → Stores
 stores_of left = stores left.files left.ledger
 
--- one command of what was left of a ceremony was done, and this is left after it; or the ceremony ended
-abbrev pub Turns : List ℕ → LinesValue → Result Turn OutsideErr → Ceremony → Outside → Outside → Type 0
+-- one command of what was left of a ceremony was done, and this is left after it; or the ceremony
+-- ended
+abbrev pub Turns : List ℕ → LinesValue → Result Turn OutsideErr → Ceremony → Outside → Outside
+    → Type 0
 Turns script lines (Ok (Next refused)) whole old new =
-    IsSomeAnd (left_of script refused lines (stores_of new)) (λ later. (effect : Effect) × (whole ≡ with_command effect later) × (new ≡ done effect old))
+    IsSomeAnd (left_of script refused lines (stores_of new))
+    (λ later. (effect : Effect) × (whole ≡ with_command effect later) × (new ≡ done effect old))
 Turns script lines (Ok (Ended status)) whole old new = EndsAll (Ok status) whole old new
 Turns script lines (Err stop) whole old new = EndsAll (Err stop) whole old new
 

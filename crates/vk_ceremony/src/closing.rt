@@ -10,8 +10,8 @@ use vk_effect::{Said, malformed};
 use vk_io::{OutsideErr, Sink};
 use vk_residue::NoMemory;
 
-/// Says that the script has that fault line, or that it was read to its end, and whether a command of it was refused.
-/// Answers the status.
+/// Says that the script has that fault line, or that it was read to its end, and whether a command
+/// of it was refused. Answers the status.
 pub fn close<W: Sink>(
     alloc: Global,
     out: &mut W,
@@ -19,9 +19,12 @@ pub fn close<W: Sink>(
     fault: Option<u64>,
     refused: bool,
 ) -> Result<u8, OutsideErr>
-    ensures ends { (old : Stores) → EndsAll result (closed (closing_said script.now fault refused)) (outside old (W.taken out.old)) (outside old (W.taken out.new)) }
+    ensures ends { (old : Stores)
+        → EndsAll result (closed (closing_said script.now fault refused))
+        (outside old (W.taken out.old)) (outside old (W.taken out.new)) }
     ensures end { IfOk result IsEnd }
-    ensures causes { Causes OutsideErr.Failed result (W.Sink.faults out.old) (W.Sink.faults out.new) }
+    ensures causes { Causes OutsideErr.Failed result (W.Sink.faults out.old)
+        (W.Sink.faults out.new) }
 {
     let said = closing(alloc, script, fault, refused)?;
     let status = say(out, &said)?;
@@ -54,9 +57,12 @@ fn end(alloc: Global, refused: bool) -> Result<Said, NoMemory>
 
 /// Prints what is said, and answers its status.
 pub fn say<W: Sink>(out: &mut W, said: &Said) -> Result<u8, OutsideErr>
-    ensures ends { (old : Stores) → EndsAll result (closed said.now) (outside old (W.taken out.old)) (outside old (W.taken out.new)) }
+    ensures ends { (old : Stores)
+        → EndsAll result (closed said.now) (outside old (W.taken out.old))
+        (outside old (W.taken out.new)) }
     ensures end { IfOk result IsEnd }
-    ensures causes { Causes OutsideErr.Failed result (W.Sink.faults out.old) (W.Sink.faults out.new) }
+    ensures causes { Causes OutsideErr.Failed result (W.Sink.faults out.old)
+        (W.Sink.faults out.new) }
 {
     said.print(out)?;
     Ok(said.status())

@@ -31,10 +31,11 @@ pub enum Turn {
     Ended(u8),
 }
 
-/// Does the house's commands that stand in the script of that name, each when its line is reached, and prints what each
-/// says. A command that is done or refused is followed by the next line. Answers the status: 5 or 4 where the script isn't
-/// held or is too long; 4 where a line is no such command in its form or writes the script itself; that of a command which
-/// is neither done nor refused; and at the end of the script 8 where a command was refused, else 0.
+/// Does the house's commands that stand in the script of that name, each when its line is reached,
+/// and prints what each says. A command that is done or refused is followed by the next line.
+/// Answers the status: 5 or 4 where the script isn't held or is too long; 4 where a line is no such
+/// command in its form or writes the script itself; that of a command which is neither done nor
+/// refused; and at the end of the script 8 where a command was refused, else 0.
 pub fn ceremony<S: Shelf, K: Keeper + Drop, W: Sink>(
     alloc: Global,
     shelf: &mut S,
@@ -43,13 +44,18 @@ pub fn ceremony<S: Shelf, K: Keeper + Drop, W: Sink>(
     script: &str,
 ) -> Result<u8, OutsideErr>
     ensures ends { IfSome (ceremony_on (S.held shelf.old) (K.ledger keeper.old) script.now)
-        (λ whole. EndsAll result whole (outside (stores (S.held shelf.old) (K.ledger keeper.old)) (W.taken out.old))
+        (λ whole. EndsAll result whole
+        (outside (stores (S.held shelf.old) (K.ledger keeper.old)) (W.taken out.old))
         (outside (stores (S.held shelf.new) (K.ledger keeper.new)) (W.taken out.new))) }
     ensures end { IfOk result IsEnd }
-    ensures files { Modelled (λ old new. IfOk result (λ status. CeremonyLeaves script.now status old new)) (S.held shelf.old) (S.held shelf.new) }
+    ensures files { Modelled (λ old new.
+        IfOk result (λ status. CeremonyLeaves script.now status old new)) (S.held shelf.old)
+        (S.held shelf.new) }
     ensures once { Modelled KeepsAnswers (K.ledger keeper.old) (K.ledger keeper.new) }
-    ensures causes { CausesThree OutsideErr.Failed result (S.Shelf.faults shelf.old) (S.Shelf.faults shelf.new)
-        (K.faults keeper.old) (K.faults keeper.new) (W.Sink.faults out.old) (W.Sink.faults out.new) }
+    ensures causes { CausesThree OutsideErr.Failed result (S.Shelf.faults shelf.old)
+        (S.Shelf.faults shelf.new)
+        (K.faults keeper.old) (K.faults keeper.new) (W.Sink.faults out.old)
+        (W.Sink.faults out.new) }
 {
     match begin_script(alloc, shelf, script) {
         Ok(lines) => {
@@ -74,15 +80,21 @@ fn hold<S: Shelf, K: Keeper + Drop, W: Sink>(
     lines: Lines,
 ) -> Result<u8, OutsideErr>
     requires { lines.name ≡ script.now }
-    ensures ends { IfSome (left_of script.now false lines (stores (S.held shelf.old) (K.ledger keeper.old)))
-        (λ whole. EndsAll result whole (outside (stores (S.held shelf.old) (K.ledger keeper.old)) (W.taken out.old))
+    ensures ends { IfSome (left_of script.now false lines
+        (stores (S.held shelf.old) (K.ledger keeper.old)))
+        (λ whole. EndsAll result whole
+        (outside (stores (S.held shelf.old) (K.ledger keeper.old)) (W.taken out.old))
         (outside (stores (S.held shelf.new) (K.ledger keeper.new)) (W.taken out.new))) }
     ensures end { IfOk result IsEnd }
-    ensures files { Modelled (λ old new. IfOk result (λ status. ScriptLeaves script.now false (script_at script.now (rest_of lines old)) status old new))
+    ensures files { Modelled (λ old new.
+        IfOk result (λ status. ScriptLeaves script.now false
+        (script_at script.now (rest_of lines old)) status old new))
         (S.held shelf.old) (S.held shelf.new) }
     ensures once { Modelled KeepsAnswers (K.ledger keeper.old) (K.ledger keeper.new) }
-    ensures causes { CausesThree OutsideErr.Failed result (S.Shelf.faults shelf.old) (S.Shelf.faults shelf.new)
-        (K.faults keeper.old) (K.faults keeper.new) (W.Sink.faults out.old) (W.Sink.faults out.new) }
+    ensures causes { CausesThree OutsideErr.Failed result (S.Shelf.faults shelf.old)
+        (S.Shelf.faults shelf.new)
+        (K.faults keeper.old) (K.faults keeper.new) (W.Sink.faults out.old)
+        (W.Sink.faults out.new) }
 {
     let mut lines = lines;
     let mut refused = false;
@@ -105,16 +117,23 @@ fn next<S: Shelf, K: Keeper + Drop, W: Sink>(
     refused: bool,
 ) -> Result<Turn, OutsideErr>
     requires { lines.now.name ≡ script.now }
-    ensures turns { IfSome (left_of script.now refused lines.old (stores (S.held shelf.old) (K.ledger keeper.old)))
-        (λ whole. Turns script.now lines.new result whole (outside (stores (S.held shelf.old) (K.ledger keeper.old)) (W.taken out.old))
+    ensures turns { IfSome (left_of script.now refused lines.old
+        (stores (S.held shelf.old) (K.ledger keeper.old)))
+        (λ whole. Turns script.now lines.new result whole
+        (outside (stores (S.held shelf.old) (K.ledger keeper.old)) (W.taken out.old))
         (outside (stores (S.held shelf.new) (K.ledger keeper.new)) (W.taken out.new))) }
     ensures end { IfOk result (λ turn. EndsWell turn) }
-    ensures files { Modelled (TurnLeaves script.now refused lines.old lines.new result) (S.held shelf.old) (S.held shelf.new) }
+    ensures files { Modelled (TurnLeaves script.now refused lines.old lines.new result)
+        (S.held shelf.old) (S.held shelf.new) }
     ensures file { KeepsFile lines.old lines.new }
-    ensures taken { IfOk result (λ turn. IsNextTurn turn → (lines.new.taken ≡ lines.old.taken + 1) × (lines.new.taken ≤ 2 ^ 30)) }
+    ensures taken { IfOk result
+        (λ turn. IsNextTurn turn → (lines.new.taken ≡ lines.old.taken + 1)
+        × (lines.new.taken ≤ 2 ^ 30)) }
     ensures once { Modelled KeepsAnswers (K.ledger keeper.old) (K.ledger keeper.new) }
-    ensures causes { CausesThree OutsideErr.Failed result (S.Shelf.faults shelf.old) (S.Shelf.faults shelf.new)
-        (K.faults keeper.old) (K.faults keeper.new) (W.Sink.faults out.old) (W.Sink.faults out.new) }
+    ensures causes { CausesThree OutsideErr.Failed result (S.Shelf.faults shelf.old)
+        (S.Shelf.faults shelf.new)
+        (K.faults keeper.old) (K.faults keeper.new) (W.Sink.faults out.old)
+        (W.Sink.faults out.new) }
 {
     match read_line(alloc, shelf, lines)? {
         Line::Words(words) => match script_order(words.as_slice(), script) {
@@ -164,13 +183,19 @@ fn command<S: Shelf, K: Keeper + Drop, W: Sink>(
 ) -> Result<u8, OutsideErr>
     requires { IsHouseOrder order.now }
     ensures end { IfOk result IsEnd }
-    ensures ends { IfSome (house_effect (S.held shelf.old) (K.ledger keeper.old) (house_seen order.now))
-        (λ effect. Ends result effect (outside (stores (S.held shelf.old) (K.ledger keeper.old)) (W.taken out.old))
+    ensures ends { IfSome (house_effect (S.held shelf.old) (K.ledger keeper.old)
+        (house_seen order.now))
+        (λ effect. Ends result effect
+        (outside (stores (S.held shelf.old) (K.ledger keeper.old)) (W.taken out.old))
         (outside (stores (S.held shelf.new) (K.ledger keeper.new)) (W.taken out.new))) }
-    ensures files { Modelled (λ old new. IfOk result (λ status. LeavesFiles (house_seen order.now) status old new)) (S.held shelf.old) (S.held shelf.new) }
+    ensures files { Modelled (λ old new.
+        IfOk result (λ status. LeavesFiles (house_seen order.now) status old new))
+        (S.held shelf.old) (S.held shelf.new) }
     ensures once { Modelled KeepsAnswers (K.ledger keeper.old) (K.ledger keeper.new) }
-    ensures causes { CausesThree OutsideErr.Failed result (S.Shelf.faults shelf.old) (S.Shelf.faults shelf.new)
-        (K.faults keeper.old) (K.faults keeper.new) (W.Sink.faults out.old) (W.Sink.faults out.new) }
+    ensures causes { CausesThree OutsideErr.Failed result (S.Shelf.faults shelf.old)
+        (S.Shelf.faults shelf.new)
+        (K.faults keeper.old) (K.faults keeper.new) (W.Sink.faults out.old)
+        (W.Sink.faults out.new) }
 {
     let said = house_command(alloc, shelf, keeper, order)?;
     said.print(out)?;

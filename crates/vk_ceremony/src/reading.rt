@@ -29,7 +29,9 @@ pub enum Line {
 /// Begins the script of that name, and reads its first line.
 #[tactic(auto, unfolding(crate::specs::Scripts::script_begun))]
 pub fn begin_script<S: Shelf>(alloc: Global, shelf: &mut S, script: &str) -> Result<Lines, Unread>
-    ensures modelled { IfSome (S.held shelf.old) (λ files. Gives said_of_unread (λ lines. rest_of lines files) result (script_begun files script.now)) }
+    ensures modelled { IfSome (S.held shelf.old)
+        (λ files. Gives said_of_unread (λ lines. rest_of lines files) result
+        (script_begun files script.now)) }
     ensures name { IfOk result (λ lines. lines.name ≡ script.now) }
     ensures shelf { OnlyReads S.held S.Shelf.faults Unread.Failed result shelf.old shelf.new }
 {
@@ -46,9 +48,12 @@ pub fn read_line<S: Shelf>(
     lines: &mut Lines,
 ) -> Result<Line, OutsideErr>
     ensures modelled { IfSome (S.held shelf.old) (λ files. IfOk result (λ line.
-        (script : List ℕ) → Stands script line (rest_of lines.old files) (rest_of lines.new files))) }
+        (script : List ℕ) → Stands script line (rest_of lines.old files)
+        (rest_of lines.new files))) }
     ensures file { KeepsFile lines.old lines.new }
-    ensures taken { IfOk result (λ line. IsWords line → (lines.new.taken ≡ lines.old.taken + 1) × (lines.new.taken ≤ 2 ^ 30)) }
+    ensures taken { IfOk result
+        (λ line. IsWords line → (lines.new.taken ≡ lines.old.taken + 1)
+        × (lines.new.taken ≤ 2 ^ 30)) }
     ensures shelf { OnlyReads S.held S.Shelf.faults OutsideErr.Failed result shelf.old shelf.new }
 {
     let before = lines.number();
@@ -61,7 +66,9 @@ pub fn read_line<S: Shelf>(
 /// What was taken after so many lines.
 fn line_of(alloc: Global, step: Step, before: u64, text: &[u8]) -> Result<Line, NoMemory>
     requires { before ≤ 2 ^ 30 }
-    ensures modelled { IfOk result (λ line. (script : List ℕ) (files : Files) (old new : LinesValue) → before ≡ old.taken → text.now ≡ new.text
+    ensures modelled { IfOk result
+        (λ line. (script : List ℕ) (files : Files) (old new : LinesValue) → before ≡ old.taken
+        → text.now ≡ new.text
         → IsNext step old new files → Stands script line (rest_of old files) (rest_of new files)) }
     ensures taken { IfOk result (λ line. IsWords line → step ≡ Step.Text) }
 {
@@ -76,7 +83,8 @@ fn line_of(alloc: Global, step: Step, before: u64, text: &[u8]) -> Result<Line, 
 
 /// What stands next, by the line of that number.
 fn text_line(alloc: Global, number: u64, text: &[u8]) -> Result<Line, NoMemory>
-    ensures { IfOk result (λ line. (script : List ℕ) (rest behind : Rest) → text_at rest ≡ Ok (text.now, behind) → number ≡ behind.taken
+    ensures { IfOk result (λ line. (script : List ℕ) (rest behind : Rest)
+        → text_at rest ≡ Ok (text.now, behind) → number ≡ behind.taken
         → Stands script line rest behind) }
 {
     if text == b"end".as_slice() {
@@ -90,7 +98,8 @@ fn text_line(alloc: Global, number: u64, text: &[u8]) -> Result<Line, NoMemory>
 
 /// The number of the line that stands behind `end`, where a byte does.
 pub fn behind_end<S: Shelf>(shelf: &mut S, lines: &mut Lines) -> Result<Option<u64>, OutsideErr>
-    ensures modelled { IfSome (S.held shelf.old) (λ files. IfOk result (λ fault. fault ≡ over_at (rest_of lines.old files))) }
+    ensures modelled { IfSome (S.held shelf.old)
+        (λ files. IfOk result (λ fault. fault ≡ over_at (rest_of lines.old files))) }
     ensures file { KeepsFile lines.old lines.new }
     ensures shelf { OnlyReads S.held S.Shelf.faults OutsideErr.Failed result shelf.old shelf.new }
 {

@@ -47,21 +47,28 @@ never_public (Ok done) is = cc
 never_public (Err fault) is = let other = sym (fault_back fault) ∙ ap fault_in is in cc
 
 one_fault : (fault other : Fault) → as_claim fault ≡ as_claim other → fault ≡ other
-one_fault fault other same = same_Some fault other (sym (fault_back fault) ∙ ap fault_in same ∙ fault_back other)
+one_fault fault other same = same_Some fault other
+    (sym (fault_back fault) ∙ ap fault_in same ∙ fault_back other)
 
-failed_by : (judged : Result (Unit {0}) Fault) (fault : Fault) → verdict_behind judged ≡ as_claim fault → judged ≡ Err fault
+failed_by : (judged : Result (Unit {0}) Fault) (fault : Fault)
+    → verdict_behind judged ≡ as_claim fault → judged ≡ Err fault
 failed_by (Ok done) fault is = let other = ap fault_in is ∙ fault_back fault in cc
 failed_by (Err other) fault is = ap (λ f. Err f) (one_fault other fault is)
 
 -- one verdict is not another
-is_fault : (verdict : ClaimVerdict) (fault : Fault) → verdict ≡ as_claim fault → fault_in verdict ≡ Some fault
+is_fault : (verdict : ClaimVerdict) (fault : Fault) → verdict ≡ as_claim fault
+    → fault_in verdict ≡ Some fault
 is_fault verdict fault is = ap fault_in is ∙ fault_back fault
 
-not_accepted : (verdict : ClaimVerdict) (fault : Fault) → verdict ≡ Accepted → verdict ≡ as_claim fault → ⊥
-not_accepted verdict fault is other = let one = is_fault verdict fault other in let none = ap fault_in is in cc
+not_accepted : (verdict : ClaimVerdict) (fault : Fault) → verdict ≡ Accepted
+    → verdict ≡ as_claim fault → ⊥
+not_accepted verdict fault is other = let one = is_fault verdict fault other in
+    let none = ap fault_in is in cc
 
-not_public : (verdict : ClaimVerdict) (fault : Fault) → verdict ≡ Public → verdict ≡ as_claim fault → ⊥
-not_public verdict fault is other = let one = is_fault verdict fault other in let none = ap fault_in is in cc
+not_public : (verdict : ClaimVerdict) (fault : Fault) → verdict ≡ Public → verdict ≡ as_claim fault
+    → ⊥
+not_public verdict fault is other = let one = is_fault verdict fault other in
+    let none = ap fault_in is in cc
 
 not_both : (verdict : ClaimVerdict) → verdict ≡ Accepted → verdict ≡ Public → ⊥
 not_both verdict is other = cc
@@ -76,40 +83,58 @@ module _ (plans : Plans) (right : AreRight plans) (file challenge reply : List �
   past claim = verdict_past claim (from_start challenge) (from_start reply)
 
   abbrev judged : AdmittedFront plans → Rest → Result (Unit {0}) Fault
-  judged shown after = behind_judged (statement_of shown) after (from_start challenge) (from_start reply)
+  judged shown after = behind_judged (statement_of shown) after (from_start challenge)
+      (from_start reply)
 
-  verdict_is : (claim : Result (Claim × Rest) ClaimVerdict) → claim_at plans (from_start file) ≡ claim → verdict ≡ past claim
+  verdict_is : (claim : Result (Claim × Rest) ClaimVerdict)
+      → claim_at plans (from_start file) ≡ claim → verdict ≡ past claim
   unfolding claim_judged
   verdict_is claim is = ap past is
 
-  stopped : (line : ℕ) → claim_front_at (from_start file) ≡ Err line → verdict ≡ as_claim (behind.Malformed part.Board line)
-  stopped line stop = verdict_is (Err (as_claim (behind.Malformed part.Board line))) (claim_stops plans file line stop)
+  stopped : (line : ℕ) → claim_front_at (from_start file) ≡ Err line
+      → verdict ≡ as_claim (behind.Malformed part.Board line)
+  stopped line stop = verdict_is (Err (as_claim (behind.Malformed part.Board line)))
+      (claim_stops plans file line stop)
 
-  refused : (front : ClaimFront) (after : Rest) → claim_front_at (from_start file) ≡ Ok (front, after) → plan_for plans front.head ≡ None → verdict ≡ Public
-  refused front after read none = verdict_is (Err Public) (claim_refused plans file front after read none)
+  refused : (front : ClaimFront) (after : Rest)
+      → claim_front_at (from_start file) ≡ Ok (front, after) → plan_for plans front.head ≡ None
+      → verdict ≡ Public
+  refused front after read none =
+      verdict_is (Err Public) (claim_refused plans file front after read none)
 
-  gone : (shown : AdmittedFront plans) (after : Rest) → claim_front_at (from_start file) ≡ Ok (shown.front, after) → verdict ≡ verdict_behind (judged shown after)
-  gone shown after read = verdict_is (Ok (claim_of shown, after)) (claim_found plans file shown after read)
+  gone : (shown : AdmittedFront plans) (after : Rest)
+      → claim_front_at (from_start file) ≡ Ok (shown.front, after)
+      → verdict ≡ verdict_behind (judged shown after)
+  gone shown after read = verdict_is (Ok (claim_of shown, after))
+      (claim_found plans file shown after read)
 
   -- what is read of a file that begins with the text of an admitted front
   found : (shown : AdmittedFront plans) → BeginsWith file (text_of shown)
-      → (after : Rest) × (claim_front_at (from_start file) ≡ Ok (shown.front, after)) × (file ≡ text_of shown ++ after.left)
-  found shown begins = front_found plans file shown.front (record { right = shown.right; begins = begins })
+      → (after : Rest) × (claim_front_at (from_start file) ≡ Ok (shown.front, after))
+      × (file ≡ text_of shown ++ after.left)
+  found shown begins = front_found plans file shown.front
+      (record { right = shown.right; begins = begins })
 
   -- ---- accepted
 
-  accepted_behind_front : (shown : AdmittedFront plans) (after : Rest) → claim_front_at (from_start file) ≡ Ok (shown.front, after)
-      → file ≡ text_of shown ++ after.left → verdict ≡ Accepted → ClaimAccepts plans file challenge reply
+  accepted_behind_front : (shown : AdmittedFront plans) (after : Rest)
+      → claim_front_at (from_start file) ≡ Ok (shown.front, after)
+      → file ≡ text_of shown ++ after.left → verdict ≡ Accepted
+      → ClaimAccepts plans file challenge reply
   accepted_behind_front shown after read text is =
-      let judged_is : judged shown after ≡ Ok tt = passed_by (judged shown after) (sym (gone shown after read) ∙ is) in
+      let judged_is : judged shown after ≡ Ok tt =
+      passed_by (judged shown after) (sym (gone shown after read) ∙ is) in
       record {
         shown = shown;
-        behind = (accepted_behind (statement_of shown) (statement_right plans right shown) (text_of shown) file challenge reply after text).0 judged_is;
+        behind = (accepted_behind (statement_of shown) (statement_right plans right shown)
+            (text_of shown) file challenge reply after text).0 judged_is;
       }
 
   accepted_by : Way plans file → verdict ≡ Accepted → ClaimAccepts plans file challenge reply
-  accepted_by (Stops line stop) is = absurd (not_accepted verdict (behind.Malformed part.Board line) is (stopped line stop))
-  accepted_by (Refuses front after read none) is = absurd (not_both verdict is (refused front after read none))
+  accepted_by (Stops line stop) is =
+      absurd (not_accepted verdict (behind.Malformed part.Board line) is (stopped line stop))
+  accepted_by (Refuses front after read none) is =
+      absurd (not_both verdict is (refused front after read none))
   accepted_by (Goes shown after read text) is = accepted_behind_front shown after read text is
 
   accepted : ClaimAccepts plans file challenge reply → verdict ≡ Accepted
@@ -117,14 +142,18 @@ module _ (plans : Plans) (right : AreRight plans) (file challenge reply : List �
       let shown = accepts.shown in
       let read = found shown (_, accepts.behind.file_is.0) in
       gone shown read.0 read.1
-      ∙ ap verdict_behind ((accepted_behind (statement_of shown) (statement_right plans right shown) (text_of shown) file challenge reply read.0 read.2).1 accepts.behind)
+      ∙ ap verdict_behind ((accepted_behind (statement_of shown) (statement_right plans right shown)
+      (text_of shown) file challenge reply read.0 read.2).1 accepts.behind)
 
   -- ---- the public part
 
   public_by : Way plans file → verdict ≡ Public → PublicFails plans file
-  public_by (Stops line stop) is = absurd (not_public verdict (behind.Malformed part.Board line) is (stopped line stop))
-  public_by (Refuses front after read none) is = record { front = front; has_front = front_shown plans file front after read; refused = none }
-  public_by (Goes shown after read text) is = absurd (never_public (judged shown after) (sym (gone shown after read) ∙ is))
+  public_by (Stops line stop) is =
+      absurd (not_public verdict (behind.Malformed part.Board line) is (stopped line stop))
+  public_by (Refuses front after read none) is =
+      record { front = front; has_front = front_shown plans file front after read; refused = none }
+  public_by (Goes shown after read text) is =
+      absurd (never_public (judged shown after) (sym (gone shown after read) ∙ is))
 
   public : PublicFails plans file → verdict ≡ Public
   public fails =
@@ -133,41 +162,55 @@ module _ (plans : Plans) (right : AreRight plans) (file challenge reply : List �
 
   -- ---- a fault
 
-  none_begins : (line : ℕ) → claim_front_at (from_start file) ≡ Err line → (front : ClaimFront) → ¬ HasClaimFront file front
-  none_begins line stop front has = let read = front_found plans file front has in let there = read.1 in cc (there, stop)
+  none_begins : (line : ℕ) → claim_front_at (from_start file) ≡ Err line → (front : ClaimFront)
+      → ¬ HasClaimFront file front
+  none_begins line stop front has = let read = front_found plans file front has in
+      let there = read.1 in cc (there, stop)
 
-  fault_by : Way plans file → (fault : Fault) → verdict ≡ as_claim fault → ClaimFails plans file challenge reply fault
+  fault_by : Way plans file → (fault : Fault) → verdict ≡ as_claim fault
+      → ClaimFails plans file challenge reply fault
   fault_by (Stops line stop) fault is = inl (record {
     line = line;
     is = one_fault fault (behind.Malformed part.Board line) (sym is ∙ stopped line stop);
     fault_line = stops_there plans file line stop;
     none = none_begins line stop;
   })
-  fault_by (Refuses front after read none) fault is = absurd (not_public verdict fault (refused front after read none) is)
+  fault_by (Refuses front after read none) fault is =
+      absurd (not_public verdict fault (refused front after read none) is)
   fault_by (Goes shown after read text) fault is = inr (record {
     shown = shown;
     begins = (after.left, text);
-    holds = fault_holds (statement_of shown) (statement_right plans right shown) (text_of shown) file challenge reply after text
+    holds = fault_holds (statement_of shown) (statement_right plans right shown) (text_of shown)
+        file challenge reply after text
         (IsClaimLine plans file) (line_told plans file shown after read) fault
         (failed_by (judged shown after) fault (sym (gone shown after read) ∙ is));
   })
 
-  stops_by : Way plans file → (fault : Fault) → FrontStops plans file fault → verdict ≡ as_claim fault
+  stops_by : Way plans file → (fault : Fault) → FrontStops plans file fault
+      → verdict ≡ as_claim fault
   stops_by (Stops line stop) fault stops =
-      let same : line ≡ stops.line = same_Some line stops.line (sym (stops_there plans file line stop) ∙ stops.fault_line) in
-      stopped line stop ∙ ap (λ l. as_claim (behind.Malformed part.Board l)) same ∙ ap as_claim (sym stops.is)
-  stops_by (Refuses front after read none) fault stops = absurd (stops.none front (front_shown plans file front after read))
-  stops_by (Goes shown after read text) fault stops = absurd (stops.none shown.front (front_shown plans file shown.front after read))
+      let same : line ≡ stops.line =
+      same_Some line stops.line (sym (stops_there plans file line stop) ∙ stops.fault_line) in
+      stopped line stop ∙ ap (λ l. as_claim (behind.Malformed part.Board l)) same
+      ∙ ap as_claim (sym stops.is)
+  stops_by (Refuses front after read none) fault stops =
+      absurd (stops.none front (front_shown plans file front after read))
+  stops_by (Goes shown after read text) fault stops =
+      absurd (stops.none shown.front (front_shown plans file shown.front after read))
 
-  fails : (fault : Fault) → ClaimFailsBehind plans file challenge reply fault → verdict ≡ as_claim fault
+  fails : (fault : Fault) → ClaimFailsBehind plans file challenge reply fault
+      → verdict ≡ as_claim fault
   fails fault why =
       let shown = why.shown in
       let read = found shown why.begins in
       gone shown read.0 read.1
-      ∙ ap verdict_behind (fault_given (statement_of shown) (statement_right plans right shown) (text_of shown) file challenge reply read.0 read.2
-      (IsClaimLine plans file) (line_told plans file shown read.0 read.1) (line_tells plans file shown read.0 read.1) fault why.holds)
+      ∙ ap verdict_behind (fault_given (statement_of shown) (statement_right plans right shown)
+      (text_of shown) file challenge reply read.0 read.2
+      (IsClaimLine plans file) (line_told plans file shown read.0 read.1)
+      (line_tells plans file shown read.0 read.1) fault why.holds)
 
-  fault_is : (fault : Fault) → ClaimFails plans file challenge reply fault → verdict ≡ as_claim fault
+  fault_is : (fault : Fault) → ClaimFails plans file challenge reply fault
+      → verdict ≡ as_claim fault
   fault_is fault (inl stops) = stops_by (way plans file) fault stops
   fault_is fault (inr why) = fails fault why
 

@@ -33,7 +33,8 @@ IsTested uniform matching Uniform = uniform ≡ true
 IsTested uniform matching Matching = matching ≡ true
 
 kind_tested : (uniform matching : Bool) (kind : Kind)
-    → (if uniform then Some Uniform else if matching then Some Matching else None) ≡ Some kind → IsTested uniform matching kind
+    → (if uniform then Some Uniform else if matching then Some Matching else None) ≡ Some kind
+    → IsTested uniform matching kind
 kind_tested true matching Uniform some = refl
 kind_tested true matching Matching some = cc
 kind_tested false true Uniform some = cc
@@ -64,25 +65,32 @@ kind_token = record {
   short = λ kind is. kind_short kind;
 }
 
-n_line_is : IsLine (InRange 0 (2 ^ 64 - 1)) (λ number. spaced (codes "n" ∷ decimal number ∷ [])) n_line
+n_line_is : IsLine (InRange 0 (2 ^ 64 - 1)) (λ number. spaced (codes "n" ∷ decimal number ∷ []))
+    n_line
 n_line_is = number_line_is (codes "n") 0 (2 ^ 64 - 1) refl (omega arith) (omega arith)
 
 -- ---- the numbers
 
-small_from : (numbers : List ℕ) → AllByRecursion (InRange 0 (2 ^ 64 - 1)) numbers → AllByRecursion (λ number. number < 2 ^ 64) numbers
+small_from : (numbers : List ℕ) → AllByRecursion (InRange 0 (2 ^ 64 - 1)) numbers
+    → AllByRecursion (λ number. number < 2 ^ 64) numbers
 small_from [] all = tt
-small_from (number ∷ numbers) all = (below_from (2 ^ 64) number (omega arith) all.0.0, small_from numbers all.1)
+small_from (number ∷ numbers) all =
+    (below_from (2 ^ 64) number (omega arith) all.0.0, small_from numbers all.1)
 
-small_to : (numbers : List ℕ) → AllByRecursion (λ number. number < 2 ^ 64) numbers → AllByRecursion (InRange 0 (2 ^ 64 - 1)) numbers
+small_to : (numbers : List ℕ) → AllByRecursion (λ number. number < 2 ^ 64) numbers
+    → AllByRecursion (InRange 0 (2 ^ 64 - 1)) numbers
 small_to [] all = tt
-small_to (number ∷ numbers) all = ((below_to (2 ^ 64) number all.0, to_test 0 number (omega arith)), small_to numbers all.1)
+small_to (number ∷ numbers) all =
+    ((below_to (2 ^ 64) number all.0, to_test 0 number (omega arith)), small_to numbers all.1)
 
 numbers_part : IsPart AreNumbers numbers_text numbers_at
 unfolding numbers_text numbers_at
 numbers_part =
     part_same (
-    part_then {IsZ = λ count numbers. (length numbers ≡ count) × EachAfter (λ _. InRange 0 (2 ^ 64 - 1)) [] numbers}
-    {text_z = λ count numbers. flat_map (λ number. line (spaced (codes "n" ∷ decimal number ∷ []))) numbers} length
+    part_then {IsZ = λ count numbers. (length numbers ≡ count)
+    × EachAfter (λ _. InRange 0 (2 ^ 64 - 1)) [] numbers}
+    {text_z = λ count numbers. flat_map (λ number. line (spaced (codes "n" ∷ decimal number ∷ [])))
+    numbers} length
     (line_part (number_line_is (codes "numbers") 1 128 refl (omega arith) (omega arith)))
     (λ count _. many_part count (λ _. line_part n_line_is)) (λ count numbers is. is.0)
     )
@@ -101,10 +109,12 @@ numbers_part =
 
 -- what is read from the numbers, the inputs, the lanes, the kind and the id on
 abbrev NumbersOf : List ℕ → Kind → ℕ → ℕ → ClaimHead → Type 0
-NumbersOf auction kind lanes inputs head = AreNumbers head.numbers × (head ≡ head_with auction kind lanes inputs head.numbers)
+NumbersOf auction kind lanes inputs head = AreNumbers head.numbers
+    × (head ≡ head_with auction kind lanes inputs head.numbers)
 
 abbrev InputsOf : List ℕ → Kind → ℕ → ClaimHead → Type 0
-InputsOf auction kind lanes head = InRange 1 512 head.inputs × NumbersOf auction kind lanes head.inputs head
+InputsOf auction kind lanes head = InRange 1 512 head.inputs
+    × NumbersOf auction kind lanes head.inputs head
 
 abbrev LanesOf : List ℕ → Kind → ClaimHead → Type 0
 LanesOf auction kind head = InRange 1 64 head.lanes × InputsOf auction kind head.lanes head
@@ -116,7 +126,8 @@ abbrev IdOf : ClaimHead → Type 0
 IdOf head = ((length head.auction ≡ 16) × IsBytes head.auction) × KindOf head.auction head
 
 abbrev inputs_text : ClaimHead → List ℕ
-inputs_text head = line (spaced (codes "inputs" ∷ decimal head.inputs ∷ [])) ++ numbers_text head.numbers
+inputs_text head = line (spaced (codes "inputs" ∷ decimal head.inputs ∷ []))
+    ++ numbers_text head.numbers
 
 abbrev lanes_text : ClaimHead → List ℕ
 lanes_text head = line (spaced (codes "lanes" ∷ decimal head.lanes ∷ [])) ++ inputs_text head
@@ -129,11 +140,13 @@ id_text head = line (spaced (codes "auction" ∷ hex_text head.auction ∷ [])) 
 
 abbrev inputs_at : List ℕ → Kind → ℕ → Rest → Result (ClaimHead × Rest) ℕ
 inputs_at auction kind lanes rest =
-    line_by (number_line (codes "inputs") 1 512) rest >>= λ inputs. numbers_at inputs.1 >>= λ numbers.
+    line_by (number_line (codes "inputs") 1 512) rest >>= λ inputs. numbers_at inputs.1 >>=
+    λ numbers.
     Ok (head_with auction kind lanes inputs.0 numbers.0, numbers.1)
 
 abbrev lanes_at : List ℕ → Kind → Rest → Result (ClaimHead × Rest) ℕ
-lanes_at auction kind rest = line_by (number_line (codes "lanes") 1 64) rest >>= λ lanes. inputs_at auction kind lanes.0 lanes.1
+lanes_at auction kind rest = line_by (number_line (codes "lanes") 1 64) rest >>= λ lanes.
+    inputs_at auction kind lanes.0 lanes.1
 
 abbrev kind_at : List ℕ → Rest → Result (ClaimHead × Rest) ℕ
 kind_at auction rest = line_by kind_line rest >>= λ kind. lanes_at auction kind.0 kind.1
@@ -141,28 +154,35 @@ kind_at auction rest = line_by kind_line rest >>= λ kind. lanes_at auction kind
 abbrev id_at : Rest → Result (ClaimHead × Rest) ℕ
 id_at rest = line_by (id_line (codes "auction")) rest >>= λ auction. kind_at auction.0 auction.1
 
-inputs_part : (auction : List ℕ) (kind : Kind) (lanes : ℕ) → IsPart (InputsOf auction kind lanes) inputs_text (inputs_at auction kind lanes)
+inputs_part : (auction : List ℕ) (kind : Kind) (lanes : ℕ)
+    → IsPart (InputsOf auction kind lanes) inputs_text (inputs_at auction kind lanes)
 inputs_part auction kind lanes =
-    part_then {IsZ = λ inputs head. NumbersOf auction kind lanes inputs head} {text_z = λ inputs head. numbers_text head.numbers} (λ head. head.inputs)
+    part_then {IsZ = λ inputs head. NumbersOf auction kind lanes inputs head}
+    {text_z = λ inputs head. numbers_text head.numbers} (λ head. head.inputs)
     (line_part (number_line_is (codes "inputs") 1 512 refl (omega arith) (omega arith)))
-    (λ inputs _. part_last (λ head. head.numbers) (head_with auction kind lanes inputs) (λ numbers. refl) numbers_part)
+    (λ inputs _. part_last (λ head. head.numbers) (head_with auction kind lanes inputs)
+    (λ numbers. refl) numbers_part)
     (λ inputs head is. ap (λ h. h.inputs) is.1)
 
-lanes_part : (auction : List ℕ) (kind : Kind) → IsPart (LanesOf auction kind) lanes_text (lanes_at auction kind)
+lanes_part : (auction : List ℕ) (kind : Kind)
+    → IsPart (LanesOf auction kind) lanes_text (lanes_at auction kind)
 lanes_part auction kind =
-    part_then {IsZ = λ lanes head. InputsOf auction kind lanes head} {text_z = λ lanes head. inputs_text head} (λ head. head.lanes)
+    part_then {IsZ = λ lanes head. InputsOf auction kind lanes head}
+    {text_z = λ lanes head. inputs_text head} (λ head. head.lanes)
     (line_part (number_line_is (codes "lanes") 1 64 refl (omega arith) (omega arith)))
     (λ lanes _. inputs_part auction kind lanes) (λ lanes head is. ap (λ h. h.lanes) is.1.1)
 
 kind_part : (auction : List ℕ) → IsPart (KindOf auction) kind_text (kind_at auction)
 kind_part auction =
-    part_then {IsZ = λ kind head. LanesOf auction kind head} {text_z = λ kind head. lanes_text head} (λ head. head.kind)
+    part_then {IsZ = λ kind head. LanesOf auction kind head} {text_z = λ kind head. lanes_text head}
+    (λ head. head.kind)
     (line_part (one_line (codes "kind") refl kind_token (omega arith)))
     (λ kind _. lanes_part auction kind) (λ kind head is. ap (λ h. h.kind) is.1.1.1)
 
 id_part : IsPart IdOf id_text id_at
 id_part =
-    part_then {IsZ = λ auction head. KindOf auction head} {text_z = λ auction head. kind_text head} (λ head. head.auction)
+    part_then {IsZ = λ auction head. KindOf auction head} {text_z = λ auction head. kind_text head}
+    (λ head. head.auction)
     (line_part (id_line_is (codes "auction") refl (omega arith)))
     (λ auction _. kind_part auction) (λ auction head is. ap (λ h. h.auction) is.1.1.1.1)
 
@@ -195,9 +215,12 @@ pub claim_front_part : IsPart IsClaimFront claim_front_text claim_front_at
 unfolding claim_front_at
 claim_front_part =
     part_same (
-    part_then {IsZ = λ head front. AreSealsOf head.inputs head.lanes front.seals × (front ≡ claim_front_with head front.seals)}
-    {text_z = λ head front. flat_map seal_lines_text front.seals} (λ front. front.head) claim_head_part
-    (λ head _. part_last (λ front. front.seals) (claim_front_with head) (λ seals. refl) (seal_lines_are_part head.inputs head.lanes))
+    part_then {IsZ = λ head front. AreSealsOf head.inputs head.lanes front.seals
+    × (front ≡ claim_front_with head front.seals)}
+    {text_z = λ head front. flat_map seal_lines_text front.seals} (λ front. front.head)
+    claim_head_part
+    (λ head _. part_last (λ front. front.seals) (claim_front_with head) (λ seals. refl)
+    (seal_lines_are_part head.inputs head.lanes))
     (λ head front is. ap (λ f. f.head) is.1)
     )
     (λ front is. record { head = is.0; seals = is.1.0 })
@@ -206,13 +229,16 @@ claim_front_part =
 
 -- ---- whole files
 
-pub claim_file_whole : (shape : ClaimHead → Shape) → IsWhole (IsClaimFile shape) claim_text (claim_file_at shape)
+pub claim_file_whole : (shape : ClaimHead → Shape)
+    → IsWhole (IsClaimFile shape) claim_text (claim_file_at shape)
 unfolding claim_text claim_file_at
 claim_file_whole shape =
     whole_same (
-    whole_then {IsZ = λ head file. BehindOf (claim_frame shape head) (claim_file_with head) (λ f. f.seals) (λ f. f.lanes) file}
+    whole_then {IsZ = λ head file. BehindOf (claim_frame shape head) (claim_file_with head)
+    (λ f. f.seals) (λ f. f.lanes) file}
     {text_z = λ head file. behind_text file.seals file.lanes} (λ file. file.head) claim_head_part
-    (λ head right. behind_is_whole (claim_frame shape head) (claim_file_with head) (λ f. f.seals) (λ f. f.lanes)
+    (λ head right. behind_is_whole (claim_frame shape head) (claim_file_with head) (λ f. f.seals)
+    (λ f. f.lanes)
     right.lanes.most (λ seals lanes. refl) (λ seals lanes. refl))
     (λ head file is. ap (λ f. f.head) is.1.1)
     )

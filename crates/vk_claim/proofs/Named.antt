@@ -12,7 +12,8 @@ use Rattle.vk_claim.specs.Extraction.{claim_extraction, claim_extraction_on}
 
 pub verdict_begun : (plans : Plans) (files : Files) (file challenge reply : List ℕ)
     → claim_verdict_on plans files file challenge reply
-    ≡ (of_attempt three_rests files file challenge reply >>= λ rests. Ok (claim_judged plans rests.0 rests.1 rests.2))
+    ≡ (of_attempt three_rests files file challenge reply >>= λ rests.
+    Ok (claim_judged plans rests.0 rests.1 rests.2))
 unfolding claim_verdict_on
 verdict_begun plans = attempt_begun (claim_judged plans)
 
@@ -20,17 +21,20 @@ verdict_begun plans = attempt_begun (claim_judged plans)
 
 module _ (plans : Plans) (files : Files) (file challenge reply other second : List ℕ) where
   pub two_begun : two_claims_on plans files file challenge reply other second
-      ≡ (of_files five_rests files file challenge reply other second >>= λ rests. Ok (two_claims plans rests.0 rests.1 rests.2 rests.3 rests.4))
+      ≡ (of_files five_rests files file challenge reply other second >>= λ rests.
+      Ok (two_claims plans rests.0 rests.1 rests.2 rests.3 rests.4))
   unfolding two_claims_on
   two_begun = files_begun (two_claims plans) files file challenge reply other second
 
   pub base_begun : claim_base_on plans files file challenge reply other second
-      ≡ (of_files five_rests files file challenge reply other second >>= λ rests. Ok (claim_base_at plans rests.0 rests.1 rests.2 rests.3 rests.4))
+      ≡ (of_files five_rests files file challenge reply other second >>= λ rests.
+      Ok (claim_base_at plans rests.0 rests.1 rests.2 rests.3 rests.4))
   unfolding claim_base_on
   base_begun = files_begun (claim_base_at plans) files file challenge reply other second
 
 pub extraction_begun : (plans : Plans) (files : Files) (file challenge reply other second : List ℕ)
     → claim_extraction_on plans files file challenge reply other second
-    ≡ (of_files five_rests files file challenge reply other second >>= λ rests. Ok (claim_extraction plans rests.0 rests.1 rests.2 rests.3 rests.4))
+    ≡ (of_files five_rests files file challenge reply other second >>= λ rests.
+    Ok (claim_extraction plans rests.0 rests.1 rests.2 rests.3 rests.4))
 unfolding claim_extraction_on
 extraction_begun plans = files_begun (claim_extraction plans)

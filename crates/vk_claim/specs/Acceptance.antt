@@ -1,4 +1,5 @@
--- When a claim file, a challenge and a reply are accepted, and why they are refused, by whole texts.
+-- When a claim file, a challenge and a reply are accepted, and why they are refused, by whole
+-- texts.
 use Rattle.std.specs.Prelude.{◌≡◌, ◌↔◌, ◌⊎◌, ℕ, List, Some, None}
 use Rattle.vk_lines.specs.Forms.{fault_line}
 use Rattle.vk_plan.specs.Plans.{PlanValue}
@@ -29,7 +30,8 @@ statement_of shown = claim_statement shown.front shown.plan
 abbrev pub text_of : {plans : Plans} → AdmittedFront plans → List ℕ
 text_of shown = claim_front_text shown.front
 
--- the file has a front whose public part is admitted, and behind it the reply is accepted for the challenge
+-- the file has a front whose public part is admitted, and behind it the reply is accepted for the
+-- challenge
 pub record ClaimAccepts (plans : Plans) (file challenge reply : List ℕ) : Type 0 where
   pub shown : AdmittedFront plans
   pub behind : AcceptsBehind (statement_of shown) (text_of shown) file challenge reply
@@ -59,17 +61,23 @@ pub record FrontStops (plans : Plans) (file : List ℕ) (fault : Fault) : Type 0
   pub none : (front : ClaimFront) → ¬ HasClaimFront file front
 
 -- the file has a front whose public part is admitted, and this fault behind it
-pub record ClaimFailsBehind (plans : Plans) (file challenge reply : List ℕ) (fault : Fault) : Type 0 where
-  pub shown : AdmittedFront plans
-  pub begins : BeginsWith file (text_of shown)
-  pub holds : FaultHolds (statement_of shown) (text_of shown) (IsClaimLine plans file) fault file challenge reply
+pub record ClaimFailsBehind (plans : Plans) (file challenge reply : List ℕ) (fault : Fault) : Type 0
+  where
+    pub shown : AdmittedFront plans
+    pub begins : BeginsWith file (text_of shown)
+    pub holds : FaultHolds (statement_of shown) (text_of shown) (IsClaimLine plans file) fault file
+        challenge reply
 
 abbrev pub ClaimFails : Plans → List ℕ → List ℕ → List ℕ → Fault → Type 0
-ClaimFails plans file challenge reply fault = FrontStops plans file fault ⊎ ClaimFailsBehind plans file challenge reply fault
+ClaimFails plans file challenge reply fault = FrontStops plans file fault
+    ⊎ ClaimFailsBehind plans file challenge reply fault
 
--- the verdict is that there is no fault exactly where the reply is accepted; that the public part is not admitted
--- exactly where it isn't; and each fault exactly where it holds. There is no other verdict
+-- the verdict is that there is no fault exactly where the reply is accepted; that the public part
+-- is not admitted exactly where it isn't; and each fault exactly where it holds. There is no other
+-- verdict
 pub record ClaimVerdictsAreExact (plans : Plans) (file challenge reply : List ℕ) : Type 0 where
-  pub accepted : (claim_verdict_of plans file challenge reply ≡ Accepted) ↔ ClaimAccepts plans file challenge reply
+  pub accepted : (claim_verdict_of plans file challenge reply ≡ Accepted)
+      ↔ ClaimAccepts plans file challenge reply
   pub public : (claim_verdict_of plans file challenge reply ≡ Public) ↔ PublicFails plans file
-  pub fault : (fault : Fault) → (claim_verdict_of plans file challenge reply ≡ as_claim fault) ↔ ClaimFails plans file challenge reply fault
+  pub fault : (fault : Fault) → (claim_verdict_of plans file challenge reply ≡ as_claim fault)
+      ↔ ClaimFails plans file challenge reply fault

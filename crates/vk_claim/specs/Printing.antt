@@ -12,7 +12,8 @@ use Rattle.vk_claim.specs.Texts.{kind_word}
 -- a value of the lane of that number
 abbrev pub value_line : ℕ → OpenedBid → List ℕ
 value_line number value =
-    line (spaced (codes "lane" ∷ decimal number ∷ codes "seat" ∷ decimal value.seat ∷ codes "value" ∷ decimal value.bid
+    line (spaced (codes "lane" ∷ decimal number ∷ codes "seat" ∷ decimal value.seat ∷ codes "value"
+    ∷ decimal value.bid
     ∷ codes "u" ∷ opening_text value.first ∷ codes "v" ∷ opening_text value.second ∷ []))
 
 abbrev pub kind_text : Kind → List ℕ
@@ -22,7 +23,8 @@ kind_text kind = line (spaced (codes "kind" ∷ kind_word kind ∷ []))
 abbrev pub values_text : LaneBids → List ℕ
 values_text lane = flat_map (value_line lane.number) lane.bids
 
--- the values of each lane, the kind of the public part, and of each seal whether its values are equal
+-- the values of each lane, the kind of the public part, and of each seal whether its values are
+-- equal
 abbrev pub claim_extraction_text : OpenedClaim → List ℕ
 claim_extraction_text found =
     flat_map values_text found.opened.lanes

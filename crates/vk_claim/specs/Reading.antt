@@ -1,4 +1,5 @@
--- How a claim file is read, line by line. The laws say that this is exactly its text, and stops at the fault line.
+-- How a claim file is read, line by line. The laws say that this is exactly its text, and stops at
+-- the fault line.
 use Rattle.std.specs.Prelude.{ℕ, ◌^◌, ◌-◌, if◌then◌else◌, List, codes, Option, Some, None, Result, Ok}
 use Rattle.std.specs.Str.{bytes_eq}
 use Rattle.vk_residue.specs.Steps.{◌>>=◌}
@@ -20,7 +21,8 @@ use Rattle.vk_claim.specs.Values.{ClaimFile, claim_frame}
 -- the kind of that word
 abbrev pub kind_of : List ℕ → Option Kind
 kind_of word =
-    if bytes_eq word (codes "uniform") then Some Uniform else if bytes_eq word (codes "matching") then Some Matching else None
+    if bytes_eq word (codes "uniform") then Some Uniform else if bytes_eq word (codes "matching")
+    then Some Matching else None
 
 abbrev pub kind_line : List ℕ → Option Kind
 kind_line text = one_field (codes "kind") kind_of text
@@ -37,7 +39,8 @@ head_with auction kind lanes inputs numbers =
 
 -- how many numbers there are, and then each
 unfoldable pub numbers_at : Rest → Result (List ℕ × Rest) ℕ
-numbers_at rest = line_by (number_line (codes "numbers") 1 128) rest >>= λ count. many_at count.0 (λ _. line_by n_line) count.1
+numbers_at rest = line_by (number_line (codes "numbers") 1 128) rest >>= λ count.
+    many_at count.0 (λ _. line_by n_line) count.1
 
 unfoldable pub claim_head_at : Rest → Result (ClaimHead × Rest) ℕ
 claim_head_at rest =
@@ -65,4 +68,5 @@ claim_file_with head seals lanes = record { head = head; seals = seals; lanes = 
 -- a whole file, whose head tells the shape of its lanes
 unfoldable pub claim_file_at : (ClaimHead → Shape) → Rest → Result (ClaimFile × Rest) ℕ
 claim_file_at shape rest =
-    claim_head_at rest >>= λ head. behind_at (claim_frame shape head.0) (claim_file_with head.0) head.1
+    claim_head_at rest >>= λ head. behind_at (claim_frame shape head.0) (claim_file_with head.0)
+    head.1

@@ -29,11 +29,14 @@ as_claim_ahead ahead = record { lanes = ahead.lanes; finding = as_claim_finding 
 -- ---- the files
 
 -- what is given and found after what was read of the claim
-abbrev pub ahead_after_claim : Result (Claim × Rest) ClaimVerdict → Rest → Rest → Rest → Rest → Ahead ClaimVerdict
-ahead_after_claim (Ok claim) challenge reply other second = as_claim_ahead (ahead_behind claim.0.statement claim.1 challenge reply other second)
+abbrev pub ahead_after_claim : Result (Claim × Rest) ClaimVerdict → Rest → Rest → Rest → Rest
+    → Ahead ClaimVerdict
+ahead_after_claim (Ok claim) challenge reply other second =
+    as_claim_ahead (ahead_behind claim.0.statement claim.1 challenge reply other second)
 ahead_after_claim (Err verdict) challenge reply other second = over (Refused false verdict)
 
--- what is given and found of a claim file, a challenge and the reply to it, and another challenge and reply
+-- what is given and found of a claim file, a challenge and the reply to it, and another challenge
+-- and reply
 abbrev pub two_claims : Plans → Rest → Rest → Rest → Rest → Rest → Ahead ClaimVerdict
 two_claims plans file = ahead_after_claim (claim_at plans file)
 
@@ -46,19 +49,23 @@ abbrev pub with_head : ClaimHead → Base → ClaimBase
 with_head head base = record { head = head; base = base }
 
 -- what was read before the first lane, where there was no fault before it
-abbrev pub base_after_claim : Result (Claim × Rest) ClaimVerdict → Rest → Rest → Rest → Rest → Option ClaimBase
+abbrev pub base_after_claim : Result (Claim × Rest) ClaimVerdict → Rest → Rest → Rest → Rest
+    → Option ClaimBase
 base_after_claim (Ok claim) challenge reply other second =
-    option_map (with_head claim.0.head) (base_in (base_behind claim.0.statement claim.1 challenge reply other second))
+    option_map (with_head claim.0.head)
+    (base_in (base_behind claim.0.statement claim.1 challenge reply other second))
 base_after_claim (Err verdict) challenge reply other second = None
 
 abbrev pub claim_base_at : Plans → Rest → Rest → Rest → Rest → Rest → Option ClaimBase
 claim_base_at plans file = base_after_claim (claim_at plans file)
 
 -- of the named files
-unfoldable pub two_claims_on : Plans → Files → List ℕ → List ℕ → List ℕ → List ℕ → List ℕ → Result (Ahead ClaimVerdict) VErr
+unfoldable pub two_claims_on : Plans → Files → List ℕ → List ℕ → List ℕ → List ℕ → List ℕ
+    → Result (Ahead ClaimVerdict) VErr
 two_claims_on plans = of_files (two_claims plans)
 
-unfoldable pub claim_base_on : Plans → Files → List ℕ → List ℕ → List ℕ → List ℕ → List ℕ → Result (Option ClaimBase) VErr
+unfoldable pub claim_base_on : Plans → Files → List ℕ → List ℕ → List ℕ → List ℕ → List ℕ
+    → Result (Option ClaimBase) VErr
 claim_base_on plans = of_files (claim_base_at plans)
 
 -- ---- how far two replies to a claim file were read: lane by lane, or not past a fault before its first lane
@@ -100,9 +107,11 @@ HasClaim checked = IsSome (claim_base checked)
 
 -- a lane is given, and then what is ahead of what was read further; or what is found
 abbrev pub ClaimGoesOn : Checked → Option TwoLane → Checked → Files → Type 0
-ClaimGoesOn old (Some lane) new files = claim_ahead old files ≡ with_lane lane (claim_ahead new files)
+ClaimGoesOn old (Some lane) new files =
+    claim_ahead old files ≡ with_lane lane (claim_ahead new files)
 ClaimGoesOn old None new files =
-    (found : Finding ClaimVerdict) × (claim_finding new ≡ Some found) × (claim_ahead old files ≡ over found)
+    (found : Finding ClaimVerdict) × (claim_finding new ≡ Some found)
+    × (claim_ahead old files ≡ over found)
 
 -- no lane is given any more
 abbrev pub IsClaimOver : Checked → Type 0
@@ -113,7 +122,8 @@ abbrev pub IsNextOfClaim : Checked → Checked → TwoLane → Type 0
 IsNextOfClaim (Ok old) (Ok new) lane = IsNextLane old.lanes new.lanes lane
 IsNextOfClaim _ _ lane = ⊥
 
--- one step: the next lane is given, or none, where no lane is given any more; what was read before the first lane stays
+-- one step: the next lane is given, or none, where no lane is given any more; what was read before
+-- the first lane stays
 pub record IsLaneStep (old : Checked) (lane : Option TwoLane) (new : Checked) : Type 0 where
   pub next : IfSome lane (IsNextOfClaim old new)
   pub none : lane ≡ None → IsClaimOver new × (claim_given new ≡ claim_given old)

@@ -17,8 +17,8 @@ pub record AreNumbers (numbers : List ℕ) : Type 0 where
   pub few : length numbers ≤ 128
   pub small : AllByRecursion (λ number. number < 2 ^ 64) numbers
 
--- the head of a claim file: the id of an auction, how many lanes there are, and the public part: a kind, how many
--- inputs there are, and the numbers
+-- the head of a claim file: the id of an auction, how many lanes there are, and the public part: a
+-- kind, how many inputs there are, and the numbers
 pub record IsClaimHead (head : ClaimHead) : Type 0 where
   pub id : AreBytes 16 head.auction
   pub lanes : IsLaneCount head.lanes
@@ -26,14 +26,16 @@ pub record IsClaimHead (head : ClaimHead) : Type 0 where
   pub few_inputs : head.inputs ≤ 512
   pub numbers : AreNumbers head.numbers
 
--- what stands before the first lane: a head, and a seal for each input, whose seats are all different
+-- what stands before the first lane: a head, and a seal for each input, whose seats are all
+-- different
 pub record IsClaimFront (front : ClaimFront) : Type 0 where
   pub head : IsClaimHead front.head
   pub seals : AreSealsOf front.head.inputs front.head.lanes front.seals
 
 -- ---- public parts
 
--- the plan of a public part, where it is admitted: by its kind, its number of inputs and its numbers
+-- the plan of a public part, where it is admitted: by its kind, its number of inputs and its
+-- numbers
 abbrev pub Plans : Type 0
 Plans = Kind → ℕ → List ℕ → Option PlanValue
 

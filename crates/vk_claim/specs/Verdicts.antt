@@ -30,16 +30,24 @@ as_claim (behind.Row lane number) = Row lane number
 
 -- what the lanes behind this front are to show by this plan
 abbrev pub claim_statement : ClaimFront → PlanValue → StatementValue
-claim_statement front plan = record { auction = front.head.auction; lanes = front.head.lanes; seals = front.seals; plan = plan }
+claim_statement front plan = record {
+  auction = front.head.auction;
+  lanes = front.head.lanes;
+  seals = front.seals;
+  plan = plan;
+}
 
 -- the claim with this front, where its part has a plan
 abbrev pub claim_with : ClaimFront → Option PlanValue → Result Claim ClaimVerdict
-claim_with front (Some plan) = Ok (record { head = front.head; statement = claim_statement front plan })
+claim_with front (Some plan) =
+    Ok (record { head = front.head; statement = claim_statement front plan })
 claim_with front None = Err Public
 
 -- the claim with the front that was read, whose part is admitted
-abbrev pub claim_past : Plans → Result (ClaimFront × Rest) Fault → Result (Claim × Rest) ClaimVerdict
-claim_past plans (Ok front) = claim_with front.0 (plan_for plans front.0.head) >>= λ claim. Ok (claim, front.1)
+abbrev pub claim_past : Plans → Result (ClaimFront × Rest) Fault
+    → Result (Claim × Rest) ClaimVerdict
+claim_past plans (Ok front) = claim_with front.0 (plan_for plans front.0.head) >>= λ claim.
+    Ok (claim, front.1)
 claim_past plans (Err fault) = Err (as_claim fault)
 
 -- the lines before the first lane, and then the public part
@@ -65,7 +73,8 @@ verdict_behind (Err fault) = as_claim fault
 
 -- by what is read before the first lane, and then by what stands behind it
 abbrev pub verdict_past : Result (Claim × Rest) ClaimVerdict → Rest → Rest → ClaimVerdict
-verdict_past (Ok claim) challenge reply = verdict_behind (behind_judged claim.0.statement claim.1 challenge reply)
+verdict_past (Ok claim) challenge reply =
+    verdict_behind (behind_judged claim.0.statement claim.1 challenge reply)
 verdict_past (Err verdict) challenge reply = verdict
 
 unfoldable pub claim_judged : Plans → Rest → Rest → Rest → ClaimVerdict
@@ -73,8 +82,10 @@ claim_judged plans file challenge reply = verdict_past (claim_at plans file) cha
 
 -- the verdict on the bytes of a claim file, a challenge and a reply
 abbrev pub claim_verdict_of : Plans → List ℕ → List ℕ → List ℕ → ClaimVerdict
-claim_verdict_of plans file challenge reply = claim_judged plans (from_start file) (from_start challenge) (from_start reply)
+claim_verdict_of plans file challenge reply =
+    claim_judged plans (from_start file) (from_start challenge) (from_start reply)
 
 -- on the named files
-unfoldable pub claim_verdict_on : Plans → Files → List ℕ → List ℕ → List ℕ → Result ClaimVerdict VErr
+unfoldable pub claim_verdict_on : Plans → Files → List ℕ → List ℕ → List ℕ
+    → Result ClaimVerdict VErr
 claim_verdict_on plans = of_attempt (claim_judged plans)

@@ -7,9 +7,11 @@ use std::alloc::Global;
 use vk_plan::Plan;
 use vk_residue::NoMemory;
 
-/// Which public parts are admitted, by which circuit each is shown, and what it claims of the inputs.
+/// Which public parts are admitted, by which circuit each is shown, and what it claims of the
+/// inputs.
 pub trait Circuits {
-    /// The plan of a part of this kind, with so many inputs and these numbers; none where it isn't admitted.
+    /// The plan of a part of this kind, with so many inputs and these numbers; none where it isn't
+    /// admitted.
     ghost admitted: { Self → Kind → ℕ → List ℕ → Option PlanValue };
 
     /// What such a part claims of the values of its inputs.
@@ -27,9 +29,11 @@ pub trait Circuits {
 
     /// A plan keeps what every plan keeps, and has as many inputs as the part says.
     ghost is_plan: { (circuits : Self) (kind : Kind) (inputs : ℕ) (numbers : List ℕ)
-        → IfSome (admitted circuits kind inputs numbers) (λ plan. IsPlan plan × (plan.inputs ≡ inputs)) };
+        → IfSome (admitted circuits kind inputs numbers)
+        (λ plan. IsPlan plan × (plan.inputs ≡ inputs)) };
 
     /// Where values hold for the plan, the claim holds of its inputs.
     ghost sound: { (circuits : Self) (kind : Kind) (inputs : ℕ) (numbers values : List ℕ)
-        → IfSome (admitted circuits kind inputs numbers) (λ plan. Holds plan values → claim circuits kind inputs numbers (take inputs values)) };
+        → IfSome (admitted circuits kind inputs numbers)
+        (λ plan. Holds plan values → claim circuits kind inputs numbers (take inputs values)) };
 }

@@ -15,15 +15,16 @@ use vk_lines::Lines;
 use vk_residue::NoMemory;
 use vk_verifier::{Part, Statement, in_part, known};
 
-/// A claim: the head of its file, and what the lanes are to show, whose circuit is that of the public part.
+/// A claim: the head of its file, and what the lanes are to show, whose circuit is that of the
+/// public part.
 #[derive(Debug, Drop)]
 pub struct Claim {
     pub head: ClaimHead,
     pub statement: Statement,
 }
 
-/// Reads a claim file before its first lane. The verdict on it is known where a line isn't what its place demands,
-/// and then where the public part isn't admitted.
+/// Reads a claim file before its first lane. The verdict on it is known where a line isn't what its
+/// place demands, and then where the public part isn't admitted.
 #[tactic(auto, unfolding(crate::specs::Verdicts::claim_at))]
 pub fn read_claim<S: Shelf, Q: Circuits>(
     alloc: Global,
@@ -32,7 +33,8 @@ pub fn read_claim<S: Shelf, Q: Circuits>(
     lines: &mut Lines,
 ) -> Result<Result<Claim, ClaimVerdict>, OutsideErr>
     ensures modelled { IfSome (S.held shelf.old) (λ files. IfOk result (λ claim.
-        claim_at (Q.admitted circuits.now) (rest_of lines.old files) ≡ and_rest claim (rest_of lines.new files))) }
+        claim_at (Q.admitted circuits.now) (rest_of lines.old files)
+        ≡ and_rest claim (rest_of lines.new files))) }
     ensures right { IfOk result (λ claim. IfOk claim (IsClaim (Q.admitted circuits.now))) }
     ensures shelf { OnlyReads S.held S.Shelf.faults OutsideErr.Failed result shelf.old shelf.new }
 {
@@ -53,7 +55,8 @@ fn claim_with<Q: Circuits>(
     front: ClaimFront,
 ) -> Result<Result<Claim, ClaimVerdict>, NoMemory>
     requires { IsClaimFront front }
-    ensures value { IfOk result (λ claim. claim ≡ claim_with front (plan_for (Q.admitted circuits.now) front.head)) }
+    ensures value { IfOk result
+        (λ claim. claim ≡ claim_with front (plan_for (Q.admitted circuits.now) front.head)) }
     ensures right { IfOk result (λ claim. IfOk claim (IsClaim (Q.admitted circuits.now))) }
 {
     let ClaimFront { head, seals } = front;

@@ -15,7 +15,8 @@ use vk_bids::{Extraction, LaneExtraction, OpenedLanes, extract_behind};
 use vk_io::{OutsideErr, Shelf};
 use vk_verifier::{TwoAttempts, TwoReplies, VErr, begin_two};
 
-/// What two accepted replies open of a claim file: its head, and the values of the lanes whose two bits differ.
+/// What two accepted replies open of a claim file: its head, and the values of the lanes whose two
+/// bits differ.
 #[derive(Debug, Drop)]
 pub struct OpenedClaim {
     pub head: ClaimHead,
@@ -25,11 +26,12 @@ pub struct OpenedClaim {
 /// What two replies to a claim file come to.
 pub type ClaimExtraction = Extraction<ClaimVerdict, OpenedClaim>;
 
-/// What the replies to two challenges come to, for these circuits: of each lane whose bits differ values that open its
-/// seals, and of which the file's claim holds; or a commitment that was opened with two values; or the first fault.
+/// What the replies to two challenges come to, for these circuits: of each lane whose bits differ
+/// values that open its seals, and of which the file's claim holds; or a commitment that was opened
+/// with two values; or the first fault.
 ///
-/// Errs where a file is missing or longer than 2^30 bytes, and names the first that is, in the order of the names;
-/// where the shelf fails; and for want of memory.
+/// Errs where a file is missing or longer than 2^30 bytes, and names the first that is, in the
+/// order of the names; where the shelf fails; and for want of memory.
 #[tactic(auto, using(crate::proofs::Named::extraction_begun))]
 pub fn extract_claim<S: Shelf, Q: Circuits>(
     alloc: Global,

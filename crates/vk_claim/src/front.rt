@@ -19,8 +19,8 @@ pub struct ClaimFront {
     pub seals: Seq<SealLines>,
 }
 
-/// Reads the lines of a claim file before its first lane. Malformed carries the number of the first line that
-/// isn't what its place demands; a seat that an earlier seal has is a fault at its line.
+/// Reads the lines of a claim file before its first lane. Malformed carries the number of the first
+/// line that isn't what its place demands; a seat that an earlier seal has is a fault at its line.
 #[tactic(auto, unfolding(crate::specs::Reading::claim_front_at))]
 pub fn read_claim_front<S: Shelf>(
     alloc: Global,

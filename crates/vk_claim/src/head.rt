@@ -25,8 +25,8 @@ pub enum Kind {
     Matching,
 }
 
-/// What a claim file says before its first seal: the auction, and the public part, which is the kind, the number of
-/// inputs and the numbers.
+/// What a claim file says before its first seal: the auction, and the public part, which is the
+/// kind, the number of inputs and the numbers.
 #[derive(Debug, Drop)]
 pub struct ClaimHead {
     pub auction: [u8; 16],
@@ -39,8 +39,8 @@ pub struct ClaimHead {
     pub lanes: u32,
 }
 
-/// Reads the head of a claim file. Malformed carries the number of the first line that isn't what its
-/// place demands.
+/// Reads the head of a claim file. Malformed carries the number of the first line that isn't what
+/// its place demands.
 #[tactic(auto, unfolding(crate::specs::Reading::claim_head_at))]
 pub fn read_claim_head<S: Shelf>(
     alloc: Global,
@@ -155,7 +155,8 @@ pub fn claim_head_text(alloc: Global, head: &ClaimHead) -> Result<Vec<u8>, NoMem
 
 /// Appends the line of the kind.
 fn push_kind(out: &mut Vec<u8>, kind: Kind) -> Result<(), NoMemory>
-    ensures { OnOk result (out.new.items ≡ out.old.items ++ line (spaced (codes "kind" ∷ kind_word kind ∷ []))) }
+    ensures { OnOk result (out.new.items
+        ≡ out.old.items ++ line (spaced (codes "kind" ∷ kind_word kind ∷ []))) }
 {
     match kind {
         Kind::Uniform => {
@@ -181,7 +182,9 @@ fn push_numbers(out: &mut Vec<u8>, numbers: &[u64]) -> Result<(), NoMemory>
 
 /// Appends a line for each number.
 fn push_each(out: &mut Vec<u8>, numbers: &[u64]) -> Result<(), NoMemory>
-    ensures { OnOk result (out.new.items ≡ out.old.items ++ flat_map (λ number. line (spaced (codes "n" ∷ decimal number ∷ []))) numbers.now) }
+    ensures { OnOk result (out.new.items
+        ≡ out.old.items ++ flat_map (λ number. line (spaced (codes "n" ∷ decimal number ∷ [])))
+        numbers.now) }
 {
     for number in numbers {
         push_number_line(out, b"n", *number)?;

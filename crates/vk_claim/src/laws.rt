@@ -15,31 +15,38 @@ ghost use Rattle.vk_claim.specs.TwoLaw.{AcceptedClaimsGive, ClaimFilesGive, Clai
 
 use crate::circuits::Circuits;
 
-/// A law: a claim file is read from its text, and from no other bytes; so are its head, and what stands before its first
-/// lane, where their texts stand.
+/// A law: a claim file is read from its text, and from no other bytes; so are its head, and what
+/// stands before its first lane, where their texts stand.
 pub fn claim_files_are_read_from_their_texts_alone()
     ensures heads { IsPart IsClaimHead claim_head_text claim_head_at }
     ensures fronts { IsPart IsClaimFront claim_front_text claim_front_at }
-    ensures files { (shape : ClaimHead → Shape) → IsWhole (IsClaimFile shape) claim_text (claim_file_at shape) }
+    ensures files { (shape : ClaimHead → Shape)
+        → IsWhole (IsClaimFile shape) claim_text (claim_file_at shape) }
 {}
 
-/// A law: a file has no fault line exactly where it is the text of a claim file, and else reading stops at its fault line.
+/// A law: a file has no fault line exactly where it is the text of a claim file, and else reading
+/// stops at its fault line.
 pub fn all_but_claim_files_have_a_fault_line()
-    ensures texts { (shape : ClaimHead → Shape) → FaultsAllButTexts (IsClaimFile shape) claim_text (claim_table shape) }
-    ensures stops { (shape : ClaimHead → Shape) (bytes : List ℕ) → fault_line (claim_table shape) bytes ≡ result_err (whole (claim_file_at shape) bytes) }
+    ensures texts { (shape : ClaimHead → Shape)
+        → FaultsAllButTexts (IsClaimFile shape) claim_text (claim_table shape) }
+    ensures stops { (shape : ClaimHead → Shape) (bytes : List ℕ)
+        → fault_line (claim_table shape) bytes ≡ result_err (whole (claim_file_at shape) bytes) }
 {}
 
-/// A law, of any circuits: each verdict on a claim file, a challenge and a reply is given exactly where it holds: that
-/// there is no fault where they are the texts of such and the reply is accepted; that the public part is not admitted;
-/// and each fault, where all that is read before it is right and accepted.
+/// A law, of any circuits: each verdict on a claim file, a challenge and a reply is given exactly
+/// where it holds: that there is no fault where they are the texts of such and the reply is
+/// accepted; that the public part is not admitted; and each fault, where all that is read before it
+/// is right and accepted.
 pub fn claim_verdicts_are_given_exactly_where_they_hold<Q: Circuits>()
-    ensures { (circuits : Q) (file challenge reply : List ℕ) → ClaimVerdictsAreExact (Q.admitted circuits) file challenge reply }
+    ensures { (circuits : Q) (file challenge reply : List ℕ)
+        → ClaimVerdictsAreExact (Q.admitted circuits) file challenge reply }
 {}
 
-/// A law, of any circuits and any five files: where both replies are accepted with one claim file and the challenges
-/// differ, they come to the values of just the lanes whose two bits differ. In each of these they open the lane's seals
-/// by what the replies show, and the file's claim holds of them. Or they come to a clash: of the first of these lanes
-/// that has one, the first commitment with two openings of different values.
+/// A law, of any circuits and any five files: where both replies are accepted with one claim file
+/// and the challenges differ, they come to the values of just the lanes whose two bits differ. In
+/// each of these they open the lane's seals by what the replies show, and the file's claim holds of
+/// them. Or they come to a clash: of the first of these lanes that has one, the first commitment
+/// with two openings of different values.
 ///
 /// Only such files come to values or a clash. What named files come to is that of their bytes.
 pub fn accepted_claims_open_values_or_clash<Q: Circuits>()
@@ -49,9 +56,10 @@ pub fn accepted_claims_open_values_or_clash<Q: Circuits>()
     ensures files { (circuits : Q) → ClaimFilesAreExtracted (Q.admitted circuits) }
 {}
 
-/// A law, of any circuits: what a checker of two replies to a claim file gives and finds. What is found is what the
-/// verdicts on both come to, and so is what is extracted of them. Two accepted replies give the lanes 1, 2, .. of the
-/// claim file whose text the file is, each with what the replies show of it. What named files give is what their bytes do.
+/// A law, of any circuits: what a checker of two replies to a claim file gives and finds. What is
+/// found is what the verdicts on both come to, and so is what is extracted of them. Two accepted
+/// replies give the lanes 1, 2, .. of the claim file whose text the file is, each with what the
+/// replies show of it. What named files give is what their bytes do.
 pub fn claims_are_checked_by_both_verdicts<Q: Circuits>()
     ensures found { (circuits : Q) → ClaimsFindByVerdicts (Q.admitted circuits) }
     ensures extracted { (circuits : Q) → ClaimsAreExtractedByFinding (Q.admitted circuits) }

@@ -1,5 +1,5 @@
-//! Claim files: sealed values of which a public part claims something, shown lane by lane by the circuit of that part.
-//! They are judged and extracted as boards are, for every circuit.
+//! Claim files: sealed values of which a public part claims something, shown lane by lane by the
+//! circuit of that part. They are judged and extracted as boards are, for every circuit.
 #![tactic(auto)]
 
 mod circuits;

@@ -12,10 +12,11 @@ use vk_board::SealLines;
 use vk_commit::Opening;
 use vk_residue::NoMemory;
 
-/// The lines of an extraction: the values of each lane, the kind of the public part, of each seal whether its values
-/// are equal in all lanes, and the end.
+/// The lines of an extraction: the values of each lane, the kind of the public part, of each seal
+/// whether its values are equal in all lanes, and the end.
 pub fn claim_extraction_lines(alloc: Global, found: &OpenedClaim) -> Result<Vec<String>, NoMemory>
-    ensures { IfOk result (λ lines. flat_map string_bytes lines.items ≡ claim_extraction_text found.now) }
+    ensures { IfOk result (λ lines. flat_map string_bytes lines.items
+        ≡ claim_extraction_text found.now) }
 {
     let mut lines = Vec::new(alloc);
     push_lanes(alloc, found.opened.lanes.as_slice(), &mut lines)?;
@@ -39,7 +40,8 @@ fn kind_line(kind: Kind) -> &'static str
 
 /// Appends the values of each lane.
 fn push_lanes(alloc: Global, lanes: &[LaneBids], lines: &mut Vec<String>) -> Result<(), NoMemory>
-    ensures { OnOk result (flat_map string_bytes lines.new.items ≡ flat_map string_bytes lines.old.items ++ flat_map values_text lanes.now) }
+    ensures { OnOk result (flat_map string_bytes lines.new.items
+        ≡ flat_map string_bytes lines.old.items ++ flat_map values_text lanes.now) }
 {
     for lane in lanes {
         push_values(alloc, lane, lines)?;
@@ -49,7 +51,8 @@ fn push_lanes(alloc: Global, lanes: &[LaneBids], lines: &mut Vec<String>) -> Res
 
 /// Appends the values of a lane, one line for each seal in order.
 fn push_values(alloc: Global, lane: &LaneBids, lines: &mut Vec<String>) -> Result<(), NoMemory>
-    ensures { OnOk result (flat_map string_bytes lines.new.items ≡ flat_map string_bytes lines.old.items ++ values_text lane.now) }
+    ensures { OnOk result (flat_map string_bytes lines.new.items
+        ≡ flat_map string_bytes lines.old.items ++ values_text lane.now) }
 {
     for value in lane.bids.as_slice() {
         lines.push(value_line(alloc, lane.number, value)?)?;
@@ -80,7 +83,9 @@ fn shown(alloc: Global, opening: &Opening) -> Result<String, NoMemory>
 
 /// Appends a line for each seal.
 fn push_seals(alloc: Global, opened: &OpenedLanes, lines: &mut Vec<String>) -> Result<(), NoMemory>
-    ensures { OnOk result (flat_map string_bytes lines.new.items ≡ flat_map string_bytes lines.old.items ++ agreements_text 0 opened.now.statement.seals opened.now.lanes) }
+    ensures { OnOk result (flat_map string_bytes lines.new.items
+        ≡ flat_map string_bytes lines.old.items
+        ++ agreements_text 0 opened.now.statement.seals opened.now.lanes) }
 {
     let (seals, lanes) = (opened.statement.seals(), opened.lanes.as_slice());
     for index in 0..seals.len() {

@@ -27,8 +27,8 @@ pub struct ClaimCourse {
     pub lanes: LaneChecker,
 }
 
-/// Reads a claim file, a challenge and the reply to it, and another challenge and the reply to that, lane by lane, as
-/// TwoChecker reads a board.
+/// Reads a claim file, a challenge and the reply to it, and another challenge and the reply to
+/// that, lane by lane, as TwoChecker reads a board.
 #[derive(Drop)]
 pub struct ClaimChecker {
     course: Result<ClaimCourse, ClaimVerdict>,
@@ -45,9 +45,9 @@ impl Model for ClaimChecker {
 }
 
 impl ClaimChecker {
-    /// Begins the files, and reads the claim file before its first lane, both challenges and the heads of both
-    /// replies. Errs where a file is missing or longer than 2^30 bytes, and names the first that is, in the order of
-    /// the names; where the shelf fails; and for want of memory.
+    /// Begins the files, and reads the claim file before its first lane, both challenges and the
+    /// heads of both replies. Errs where a file is missing or longer than 2^30 bytes, and names the
+    /// first that is, in the order of the names; where the shelf fails; and for want of memory.
     #[tactic(auto, using(crate::proofs::Named::two_begun, crate::proofs::Named::base_begun))]
     pub fn start<S: Shelf, Q: Circuits>(
         alloc: Global,
@@ -60,10 +60,14 @@ impl ClaimChecker {
         reply2: &str,
     ) -> Result<Self, VErr>
         ensures shelf { OnlyReads S.held S.Shelf.faults VErr.Failed result shelf.old shelf.new }
-        ensures modelled { IfSome (S.held shelf.old) (λ files. Gives unread_file (λ checker. claim_ahead checker files) result
-            (two_claims_on (Q.admitted circuits.now) files board.now challenge1.now reply1.now challenge2.now reply2.now)) }
-        ensures base { IfSome (S.held shelf.old) (λ files. Gives unread_file (λ checker. claim_base checker) result
-            (claim_base_on (Q.admitted circuits.now) files board.now challenge1.now reply1.now challenge2.now reply2.now)) }
+        ensures modelled { IfSome (S.held shelf.old)
+            (λ files. Gives unread_file (λ checker. claim_ahead checker files) result
+            (two_claims_on (Q.admitted circuits.now) files board.now challenge1.now reply1.now
+            challenge2.now reply2.now)) }
+        ensures base { IfSome (S.held shelf.old)
+            (λ files. Gives unread_file (λ checker. claim_base checker) result
+            (claim_base_on (Q.admitted circuits.now) files board.now challenge1.now reply1.now
+            challenge2.now reply2.now)) }
         ensures none_given { IfOk result (λ checker. claim_given checker ≡ 0) }
     {
         let two = begin_two(
@@ -81,16 +85,19 @@ impl ClaimChecker {
         Ok(checker)
     }
 
-    /// Gives the next lane, where both replies are accepted so far, and none where every lane was given or one of the
-    /// replies has its fault in the lane or before it. What they come to is known then.
+    /// Gives the next lane, where both replies are accepted so far, and none where every lane was
+    /// given or one of the replies has its fault in the lane or before it. What they come to is
+    /// known then.
     pub fn next_lane<S: Shelf>(
         self,
         alloc: Global,
         shelf: &mut S,
     ) -> Result<(Self, Option<TwoLane>), OutsideErr>
-        ensures modelled { IfSome (S.held shelf.old) (λ files. IfOk result (λ next. ClaimGoesOn self next.1 next.0 files)) }
+        ensures modelled { IfSome (S.held shelf.old)
+            (λ files. IfOk result (λ next. ClaimGoesOn self next.1 next.0 files)) }
         ensures step { IfOk result (λ next. IsLaneStep self next.1 next.0) }
-        ensures shelf { OnlyReads S.held S.Shelf.faults OutsideErr.Failed result shelf.old shelf.new }
+        ensures shelf { OnlyReads S.held S.Shelf.faults OutsideErr.Failed result shelf.old
+            shelf.new }
     {
         let ClaimChecker { course } = self;
         match course {
@@ -109,7 +116,9 @@ impl ClaimChecker {
     pub fn finding(&self) -> ClaimFinding
         requires { IsClaimOver self.now }
         ensures value { claim_finding self.now ≡ Some result }
-        ensures all { BothAreAccepted result → IsSomeAnd (claim_base self.now) (λ known. claim_given self.now ≡ known.base.statement.lanes) }
+        ensures all { BothAreAccepted result
+            → IsSomeAnd (claim_base self.now)
+            (λ known. claim_given self.now ≡ known.base.statement.lanes) }
     {
         match &self.course {
             Ok(course) => as_claim_finding(course.lanes.finding()),
@@ -151,10 +160,12 @@ impl ClaimCourse {
         shelf: &mut S,
     ) -> Result<(Self, Option<TwoLane>), OutsideErr>
         requires { IsClaimCourse self }
-        ensures modelled { IfSome (S.held shelf.old) (λ files. IfOk result (λ next. ClaimGoesOn (Ok self) next.1 (Ok next.0) files)) }
+        ensures modelled { IfSome (S.held shelf.old)
+            (λ files. IfOk result (λ next. ClaimGoesOn (Ok self) next.1 (Ok next.0) files)) }
         ensures right { IfOk result (λ next. IsClaimCourse next.0) }
         ensures step { IfOk result (λ next. IsLaneStep (Ok self) next.1 (Ok next.0)) }
-        ensures shelf { OnlyReads S.held S.Shelf.faults OutsideErr.Failed result shelf.old shelf.new }
+        ensures shelf { OnlyReads S.held S.Shelf.faults OutsideErr.Failed result shelf.old
+            shelf.new }
     {
         let ClaimCourse { head, lanes } = self;
         let (lanes, lane) = lanes.next_lane(alloc, shelf)?;
@@ -169,8 +180,12 @@ fn check_claim<S: Shelf, Q: Circuits>(
     circuits: &Q,
     two: TwoAttempts,
 ) -> Result<ClaimChecker, OutsideErr>
-    ensures modelled { IfSome (S.held shelf.old) (λ files. IfOk result (λ checker. claim_ahead checker files ≡ of_two (two_claims (Q.admitted circuits.now)) two files)) }
-    ensures base { IfSome (S.held shelf.old) (λ files. IfOk result (λ checker. claim_base checker ≡ of_two (claim_base_at (Q.admitted circuits.now)) two files)) }
+    ensures modelled { IfSome (S.held shelf.old)
+        (λ files. IfOk result (λ checker. claim_ahead checker files
+        ≡ of_two (two_claims (Q.admitted circuits.now)) two files)) }
+    ensures base { IfSome (S.held shelf.old)
+        (λ files. IfOk result (λ checker. claim_base checker
+        ≡ of_two (claim_base_at (Q.admitted circuits.now)) two files)) }
     ensures none_given { IfOk result (λ checker. claim_given checker ≡ 0) }
     ensures shelf { OnlyReads S.held S.Shelf.faults OutsideErr.Failed result shelf.old shelf.new }
 {
@@ -194,8 +209,12 @@ fn begin_course<S: Shelf>(
     two: TwoAttempts,
 ) -> Result<ClaimCourse, OutsideErr>
     requires { IsOfHead claim.head claim.statement }
-    ensures modelled { IfSome (S.held shelf.old) (λ files. IfOk result (λ course. claim_ahead (Ok course) files ≡ of_two (λ file. ahead_after_claim (Ok (claim, file))) two files)) }
-    ensures base { IfSome (S.held shelf.old) (λ files. IfOk result (λ course. claim_base (Ok course) ≡ of_two (λ file. base_after_claim (Ok (claim, file))) two files)) }
+    ensures modelled { IfSome (S.held shelf.old)
+        (λ files. IfOk result (λ course. claim_ahead (Ok course) files
+        ≡ of_two (λ file. ahead_after_claim (Ok (claim, file))) two files)) }
+    ensures base { IfSome (S.held shelf.old)
+        (λ files. IfOk result (λ course. claim_base (Ok course)
+        ≡ of_two (λ file. base_after_claim (Ok (claim, file))) two files)) }
     ensures right { IfOk result IsClaimCourse }
     ensures none_given { IfOk result (λ course. claim_given (Ok course) ≡ 0) }
     ensures shelf { OnlyReads S.held S.Shelf.faults OutsideErr.Failed result shelf.old shelf.new }

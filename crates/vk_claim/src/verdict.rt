@@ -11,7 +11,7 @@ use crate::claim::read_claim;
 use std::alloc::Global;
 use vk_io::{OutsideErr, Shelf};
 use vk_verifier::{
-    Attempt, OneReply, Fault, Part, Statement, VErr, begin_attempt, judge_behind, known,
+    Attempt, Fault, OneReply, Part, Statement, VErr, begin_attempt, judge_behind, known,
 };
 use vk_wire::WireFault;
 
@@ -21,13 +21,14 @@ pub enum ClaimVerdict {
     Accepted,
     /// The public part is not admitted.
     Public,
-    /// The file is not of its form. The line, counted from 1, is the first that isn't what its place demands.
+    /// The file is not of its form. The line, counted from 1, is the first that isn't what its
+    /// place demands.
     Malformed {
         part: Part,
         line: u64,
     },
-    /// In the lane, counted from 1, every wire reads its half, and the row, counted from 0, is the first
-    /// that these don't meet.
+    /// In the lane, counted from 1, every wire reads its half, and the row, counted from 0, is the
+    /// first that these don't meet.
     Row {
         lane: u32,
         row: u32,
@@ -55,12 +56,13 @@ impl From<Fault> for ClaimVerdict {
     }
 }
 
-/// The verdict on the named files, for these circuits: the first fault in the order of the lines of the claim file
-/// before its first lane, the public part, the challenge, the head of the reply, the numbers of lanes, then lane by
-/// lane the lines of the claim file, those of the reply, the wires and the rows, and then the ends of both files.
+/// The verdict on the named files, for these circuits: the first fault in the order of the lines of
+/// the claim file before its first lane, the public part, the challenge, the head of the reply, the
+/// numbers of lanes, then lane by lane the lines of the claim file, those of the reply, the wires
+/// and the rows, and then the ends of both files.
 ///
-/// Errs where a file is missing or longer than 2^30 bytes, and names the first that is; where the shelf
-/// fails; and for want of memory.
+/// Errs where a file is missing or longer than 2^30 bytes, and names the first that is; where the
+/// shelf fails; and for want of memory.
 #[tactic(auto, using(crate::proofs::Named::verdict_begun))]
 pub fn claim_verdict<S: Shelf, Q: Circuits>(
     alloc: Global,
@@ -71,7 +73,8 @@ pub fn claim_verdict<S: Shelf, Q: Circuits>(
     reply: &str,
 ) -> Result<ClaimVerdict, VErr>
     ensures modelled { IfSome (S.held shelf.old) (λ files.
-        Gives unread_file (λ verdict. verdict) result (claim_verdict_on (Q.admitted circuits.now) files board.now challenge.now reply.now)) }
+        Gives unread_file (λ verdict. verdict) result
+        (claim_verdict_on (Q.admitted circuits.now) files board.now challenge.now reply.now)) }
     ensures shelf { OnlyReads S.held S.Shelf.faults VErr.Failed result shelf.old shelf.new }
 {
     let file = board;
@@ -94,7 +97,8 @@ fn judge_claim<S: Shelf, Q: Circuits>(
     attempt: &mut Attempt,
 ) -> Result<ClaimVerdict, OutsideErr>
     ensures modelled { IfSome (S.held shelf.old) (λ files.
-        IfOk result (λ verdict. of_begun (claim_judged (Q.admitted circuits.now)) attempt.old files ≡ verdict)) }
+        IfOk result (λ verdict. of_begun (claim_judged (Q.admitted circuits.now)) attempt.old files
+        ≡ verdict)) }
     ensures shelf { OnlyReads S.held S.Shelf.faults OutsideErr.Failed result shelf.old shelf.new }
 {
     match read_claim(alloc, shelf, circuits, &mut attempt.pair.board)? {

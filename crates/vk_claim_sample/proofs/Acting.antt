@@ -27,12 +27,16 @@ use Rattle.vk_claim_sample.specs.ClaimSamples.{ActsFreely, OfSomeMatching, claim
 use Rattle.vk_claim_sample.specs.Texts.{claim_read, files_of, made_text, read_said, summary_said}
 
 -- the files that were written are read back, and open every value
-pub reads_back : (kind : ClaimKind) (case : SampleCase) → IsCaseOf (sizes_of kind) case → (numbers : List ℕ) → MayPublish kind case numbers → (proof : ProofValue) → proof_by kind case numbers ≡ Ok proof
+pub reads_back : (kind : ClaimKind) (case : SampleCase) → IsCaseOf (sizes_of kind) case
+    → (numbers : List ℕ) → MayPublish kind case numbers → (proof : ProofValue)
+    → proof_by kind case numbers ≡ Ok proof
     → (number : ℕ) (made : List ℕ) → made ≡ made_text kind number proof.lanes proof.plan
-    → (files : Files) → read_said made (claim_read (written (files_of kind case numbers proof) files)) ≡ summary_said kind number proof
+    → (files : Files) → read_said made
+    (claim_read (written (files_of kind case numbers proof) files)) ≡ summary_said kind number proof
 reads_back kind case is numbers published proof made number text text_is files =
     let all = opens kind case is numbers published proof made in
-    let of : List ℕ → ℕ → ℕ → SaidValue = λ front lanes same. record { status = 0; text = front ++ found_text lanes same } in
+    let of : List ℕ → ℕ → ℕ → SaidValue =
+    λ front lanes same. record { status = 0; text = front ++ found_text lanes same } in
     let same = same_count all.found.head.inputs all.found.opened.lanes in
     ap (read_said text) (all.read files)
     ∙ (ap (λ front. of front (length all.found.opened.lanes) same) text_is
@@ -42,44 +46,71 @@ reads_back kind case is numbers published proof made number text text_is files =
 -- ---- which effect it is
 
 -- the same of each effect that was had of some matching
-pub some_matching_map : (files : Option Files) (ledger : Option Ledger) (number : ℕ) (P Q : Effect → Type 0) → ((effect : Effect) → P effect → Q effect)
+pub some_matching_map : (files : Option Files) (ledger : Option Ledger) (number : ℕ)
+    (P Q : Effect → Type 0) → ((effect : Effect) → P effect → Q effect)
     → OfSomeMatching files ledger number P → OfSomeMatching files ledger number Q
-some_matching_map files ledger number P Q follows (numbers, published, holds) =
-    (numbers, published, if_some_map P Q follows (effect_with Matching files ledger number numbers) holds)
+some_matching_map files ledger number P Q follows (numbers, published, holds) = (
+  numbers,
+  published,
+  if_some_map P Q follows (effect_with Matching files ledger number numbers)
+      holds,
+)
 
--- it acted as the effect of a claim that publishes these numbers, so it did as the one effect of its kind, or freely
-pub record ActsSo (kind : ClaimKind) (number : ℕ) (answer : Result SaidValue OutsideErr) (old new : Stores) : Type 0 where
-  pub acts : IfSome (claim_sample_on old.files old.ledger kind number) (λ effect. Acts answer effect old new)
+-- it acted as the effect of a claim that publishes these numbers, so it did as the one effect of
+-- its kind, or freely
+pub record ActsSo (kind : ClaimKind) (number : ℕ) (answer : Result SaidValue OutsideErr)
+    (old new : Stores) : Type 0 where
+  pub acts : IfSome (claim_sample_on old.files old.ledger kind number)
+      (λ effect. Acts answer effect old new)
   pub free : ActsFreely kind number answer old new
 
 module _ (number : ℕ) (numbers : List ℕ) (old new : Stores) where
-  freely : (answer : Result SaidValue OutsideErr) → IsMatchingOf (claim_case Matching number) numbers
-      → IfSome (effect_with Matching old.files old.ledger number numbers) (λ effect. Acts answer effect old new) → ActsFreely Matching number answer old new
+  freely : (answer : Result SaidValue OutsideErr)
+      → IsMatchingOf (claim_case Matching number) numbers
+      → IfSome (effect_with Matching old.files old.ledger number numbers)
+      (λ effect. Acts answer effect old new) → ActsFreely Matching number answer old new
   freely (Ok said) published acts = (numbers, published, acts)
   freely (Err stop) published acts = inr (numbers, published, acts)
 
-  by_kind : (kind : ClaimKind) (answer : Result SaidValue OutsideErr) → MayPublish kind (claim_case kind number) numbers
-      → IfSome (effect_with kind old.files old.ledger number numbers) (λ effect. Acts answer effect old new) → ActsSo kind number answer old new
+  by_kind : (kind : ClaimKind) (answer : Result SaidValue OutsideErr)
+      → MayPublish kind (claim_case kind number) numbers
+      → IfSome (effect_with kind old.files old.ledger number numbers)
+      (λ effect. Acts answer effect old new) → ActsSo kind number answer old new
   by_kind Uniform answer published acts = record {
-    acts = subst (λ ns. IfSome (effect_with Uniform old.files old.ledger number ns) (λ effect. Acts answer effect old new))
+    acts = subst (λ ns. IfSome (effect_with Uniform old.files old.ledger number ns)
+        (λ effect. Acts answer effect old new))
         (numbers_are number (claim_case Uniform number) numbers refl published) acts;
     free = tt;
   }
   by_kind Matching answer published acts = record { acts = tt; free = freely answer published acts }
 
 -- the case is that of the number, the numbers may be published of it, and this comes of its seeds
-pub claim_acts : (kind : ClaimKind) (number : ℕ) (case : SampleCase) (numbers : List ℕ) (made : Result ProofValue DrySeed) (answer : Result SaidValue OutsideErr) (old new : Stores)
-    → case ≡ claim_case kind number → MayPublish kind case numbers → proof_by kind case numbers ≡ made
-    → IfSome (effect_by kind old.files old.ledger number case numbers made) (λ effect. Acts answer effect old new) → ActsSo kind number answer old new
+pub claim_acts : (kind : ClaimKind) (number : ℕ) (case : SampleCase) (numbers : List ℕ)
+    (made : Result ProofValue DrySeed) (answer : Result SaidValue OutsideErr) (old new : Stores)
+    → case ≡ claim_case kind number → MayPublish kind case numbers
+    → proof_by kind case numbers ≡ made
+    → IfSome (effect_by kind old.files old.ledger number case numbers made)
+    (λ effect. Acts answer effect old new) → ActsSo kind number answer old new
 unfolding effect_with
 claim_acts kind number case numbers made answer old new case_is published comes acts =
-    let P : SampleCase → Type 0 = λ c. IfSome (effect_by kind old.files old.ledger number c numbers (proof_by kind c numbers)) (λ effect. Acts answer effect old new) in
-    let Q : Result ProofValue DrySeed → Type 0 = λ m. IfSome (effect_by kind old.files old.ledger number case numbers m) (λ effect. Acts answer effect old new) in
-    by_kind number numbers old new kind answer (subst (λ c. MayPublish kind c numbers) case_is published) (subst P case_is (subst Q (sym comes) acts))
+    let P : SampleCase → Type 0 =
+    λ c. IfSome (effect_by kind old.files old.ledger number c numbers (proof_by kind c numbers))
+    (λ effect. Acts answer effect old new) in
+    let Q : Result ProofValue DrySeed
+    → Type 0 = λ m. IfSome (effect_by kind old.files old.ledger number case numbers m)
+    (λ effect. Acts answer effect old new) in
+    by_kind number numbers old new kind answer
+    (subst (λ c. MayPublish kind c numbers) case_is published)
+    (subst P case_is (subst Q (sym comes) acts))
 
 -- it was stopped before any numbers were found, and nothing changed
-pub stopped_so : (kind : ClaimKind) (number : ℕ) (stop : OutsideErr) (old : Stores) → ActsSo kind number (Err stop) old old
-stopped_so Uniform number stop old = record { acts = stopped_first (claim_sample_on old.files old.ledger Uniform number) old stop; free = tt }
+pub stopped_so : (kind : ClaimKind) (number : ℕ) (stop : OutsideErr) (old : Stores)
+    → ActsSo kind number (Err stop) old old
+stopped_so Uniform number stop old =
+    record {
+      acts = stopped_first (claim_sample_on old.files old.ledger Uniform number) old stop;
+      free = tt;
+    }
 stopped_so Matching number stop old = record { acts = tt; free = inl refl }
 
 -- ---- of what was made and found
@@ -93,19 +124,27 @@ module _ (kind : ClaimKind) (number : ℕ) (sizes : Sizes) (sizes_are : sizes �
   may = subst (MayPublish kind case) (sym numbers_are_found) published
 
   -- its files were to be written and read back
-  pub held_so : (proof : ProofValue) (answer : Result SaidValue OutsideErr) (old new : Stores) → proof_by kind case numbers ≡ Ok proof
-      → IfSome (effect_by kind old.files old.ledger number case numbers (Ok proof)) (λ effect. Acts answer effect old new) → ActsSo kind number answer old new
-  held_so proof answer old new made acts = claim_acts kind number case numbers (Ok proof) answer old new case_is may made acts
+  pub held_so : (proof : ProofValue) (answer : Result SaidValue OutsideErr) (old new : Stores)
+      → proof_by kind case numbers ≡ Ok proof
+      → IfSome (effect_by kind old.files old.ledger number case numbers (Ok proof))
+      (λ effect. Acts answer effect old new) → ActsSo kind number answer old new
+  held_so proof answer old new made acts =
+      claim_acts kind number case numbers (Ok proof) answer old new case_is may made acts
 
   -- a seed is dry
-  pub dry_so : (dry : Option DrySeed) (said : SaidValue) (files : Option Files) (ledger : Option Ledger) → Refuses dry (proof_by kind case numbers)
-      → IfSome dry (λ seed. ◌≡◌ {A = Result SaidValue NoMemory} (Ok said) (Ok (dry_said seed))) → IsSome dry
+  pub dry_so : (dry : Option DrySeed) (said : SaidValue) (files : Option Files)
+      (ledger : Option Ledger) → Refuses dry (proof_by kind case numbers)
+      → IfSome dry (λ seed. ◌≡◌ {A = Result SaidValue NoMemory} (Ok said) (Ok (dry_said seed)))
+      → IsSome dry
       → ActsSo kind number (Ok said) (stores files ledger) (stores files ledger)
   dry_so dry said files ledger refuses is some =
-      claim_acts kind number case numbers (proof_by kind case numbers) (Ok said) (stores files ledger) (stores files ledger) case_is may refl
+      claim_acts kind number case numbers (proof_by kind case numbers) (Ok said)
+      (stores files ledger) (stores files ledger) case_is may refl
       (dry_acts dry (proof_by kind case numbers) files ledger
-      (λ proof. modelled_effect files ledger (files_of kind case numbers proof) (summary_said kind number proof)) said refuses
+      (λ proof. modelled_effect files ledger (files_of kind case numbers proof)
+      (summary_said kind number proof)) said refuses
       (if_some_map _ _ (λ seed. same_said said (dry_said seed)) dry is) some)
     where
-      same_said : (one other : SaidValue) → ◌≡◌ {A = Result SaidValue NoMemory} (Ok one) (Ok other) → one ≡ other
+      same_said : (one other : SaidValue) → ◌≡◌ {A = Result SaidValue NoMemory} (Ok one) (Ok other)
+          → one ≡ other
       same_said one other is = cc

@@ -34,18 +34,23 @@ module _ (case : SampleCase) (is : IsCaseOf (sizes_of Matching) case) (matching 
   matching_numbers : AreNumbers (case.width ∷ matching)
   matching_numbers =
       let within : All (λ number. number < 2 ^ 64) matching =
-      All-weaker (IsPerson couples) (λ number. number < 2 ^ 64) (λ person at. omega (arith, at.within)) matching permutes.are_persons in
+      All-weaker (IsPerson couples) (λ number. number < 2 ^ 64)
+      (λ person at. omega (arith, at.within)) matching permutes.are_persons in
       record {
         some = omega arith;
         few = omega (arith, permutes.one_each);
-        small = (omega (arith, is.width_is), recursion_from_All (λ number. number < 2 ^ 64) matching within);
+        small = (
+          omega (arith, is.width_is),
+          recursion_from_All (λ number. number < 2 ^ 64) matching within,
+        );
       }
 
 -- ---- of numbers that are those of a matching
 
 module _ (case : SampleCase) (is : IsCaseOf (sizes_of Matching) case) (numbers : List ℕ) (of : IsMatchingOf case numbers) where
   pub is_case : IsMatchingCase (length case.seats) numbers
-  is_case = subst (IsMatchingCase (length case.seats)) (sym of.numbers_are) (matching_case case is of.matching of.permutation of.stable)
+  is_case = subst (IsMatchingCase (length case.seats)) (sym of.numbers_are)
+      (matching_case case is of.matching of.permutation of.stable)
 
   pub is_claim : IsMatchingClaim (length case.seats) numbers case.bids
   is_claim =
@@ -53,12 +58,14 @@ module _ (case : SampleCase) (is : IsCaseOf (sizes_of Matching) case) (numbers :
       (matching_claim case is of.matching of.permutation of.stable)
 
   pub are_numbers : AreNumbers numbers
-  are_numbers = subst (λ ns. AreNumbers ns) (sym of.numbers_are) (matching_numbers case is of.matching of.permutation of.stable)
+  are_numbers = subst (λ ns. AreNumbers ns) (sym of.numbers_are)
+      (matching_numbers case is of.matching of.permutation of.stable)
 
   -- ---- how large the circuit is, by the width and the number of couples alone
 
   abbrev wires_with : ℕ → ℕ → ℕ
-  wires_with width size = 4 * size * size + 2 * size * size * width + size * (size - 1) * (2 * width + 3)
+  wires_with width size = 4 * size * size + 2 * size * size * width
+      + size * (size - 1) * (2 * width + 3)
 
   abbrev rows_with : ℕ → ℕ
   rows_with size = 4 * size * size + 2 * size * (size - 1)

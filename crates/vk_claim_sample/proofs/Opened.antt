@@ -62,14 +62,17 @@ use Rattle.vk_claim_sample.specs.Texts.{claim_names, files_of}
 module _ (width : ℕ) (proof : ProofValue) (is : IsSealedProof width proof) (front : List ℕ) (first second : Challenge)
     (right_first : IsChallenge first) (count_first : length first.bits ≡ proof.lanes)
     (right_second : IsChallenge second) (count_second : length second.bits ≡ proof.lanes) (differ : first.bits ≢ second.bits) where
-  abbrev pub two : TwoAcceptedBehind (statement_in proof) front (file_text front (lanes_in proof)) (challenge_text first) (reply_in proof first.bits) (challenge_text second) (reply_in proof second.bits)
+  abbrev pub two : TwoAcceptedBehind (statement_in proof) front (file_text front (lanes_in proof))
+      (challenge_text first) (reply_in proof first.bits) (challenge_text second)
+      (reply_in proof second.bits)
   two = record {
     first = accepts_proof width proof is first right_first count_first front;
     second = accepts_proof width proof is second right_second count_second front;
     differ = differ;
   }
 
-  -- a lane whose bits differ is one of the proof, and what is shown of it for a bit is what the prover shows for it
+  -- a lane whose bits differ is one of the proof, and what is shown of it for a bit is what the
+  -- prover shows for it
   record IsOpenedLane (lane : ℕ) : Type 0 where
     some : 1 ≤ lane
     within : lane ≤ proof.lanes
@@ -79,46 +82,70 @@ module _ (width : ℕ) (proof : ProofValue) (is : IsSealedProof width proof) (fr
   opened lane differs =
       let number : lane - 1 + 1 ≡ lane = omega (arith, differs.from) in
       let within : lane ≤ proof.lanes = omega (arith, differs.until, count_first) in
-      let of_first : slice_index_or (lanes_shown_from proof 1 first.bits) (lane - 1) [] ≡ lane_shown_in proof lane (bit_of first lane) =
-      shown_at width proof is first right_first count_first (lane - 1) (omega (arith, differs.from, count_first)) ∙ ap (λ n. lane_shown_in proof n (bit_of first n)) number in
-      let of_second : slice_index_or (lanes_shown_from proof 1 second.bits) (lane - 1) [] ≡ lane_shown_in proof lane (bit_of second lane) =
-      shown_at width proof is second right_second count_second (lane - 1) (omega (arith, differs.from, count_second)) ∙ ap (λ n. lane_shown_in proof n (bit_of second n)) number in
+      let of_first : slice_index_or (lanes_shown_from proof 1 first.bits) (lane - 1) []
+      ≡ lane_shown_in proof lane (bit_of first lane) =
+      shown_at width proof is first right_first count_first (lane - 1)
+      (omega (arith, differs.from, count_first))
+      ∙ ap (λ n. lane_shown_in proof n (bit_of first n)) number in
+      let of_second : slice_index_or (lanes_shown_from proof 1 second.bits) (lane - 1) []
+      ≡ lane_shown_in proof lane (bit_of second lane) =
+      shown_at width proof is second right_second count_second (lane - 1)
+      (omega (arith, differs.from, count_second))
+      ∙ ap (λ n. lane_shown_in proof n (bit_of second n)) number in
       record {
         some = differs.from;
         within = within;
         shown = λ bit.
-            ap (λ one. shown_for bit (bit_of first lane) one (slice_index_or (lanes_shown_from proof 1 second.bits) (lane - 1) [])) of_first
-            ∙ (ap (λ other. shown_for bit (bit_of first lane) (lane_shown_in proof lane (bit_of first lane)) other) of_second
-            ∙ shown_either (lane_shown_in proof lane) bit (bit_of first lane) (bit_of second lane) differs.bits_differ);
+            ap (λ one. shown_for bit (bit_of first lane) one
+            (slice_index_or (lanes_shown_from proof 1 second.bits) (lane - 1) [])) of_first
+            ∙ (ap (λ other. shown_for bit (bit_of first lane)
+            (lane_shown_in proof lane (bit_of first lane)) other) of_second
+            ∙ shown_either (lane_shown_in proof lane) bit (bit_of first lane) (bit_of second lane)
+            differs.bits_differ);
       }
 
   all_opened : All IsOpenedLane (differing 1 first.bits second.bits)
-  all_opened = All-weaker (DiffersIn 1 first.bits second.bits) IsOpenedLane opened (differing 1 first.bits second.bits) (all_differ 1 first.bits second.bits)
+  all_opened = All-weaker (DiffersIn 1 first.bits second.bits) IsOpenedLane opened
+      (differing 1 first.bits second.bits) (all_differ 1 first.bits second.bits)
 
   -- so what is shown of these lanes for both bits agrees
   agrees : (lane : ℕ) → IsOpenedLane lane → AgreesAt (lane_of two) lane
   agrees lane of wire inside =
-      let P : List Shown → Type 0 = λ zeros. WireAgrees zeros (lane_shown_in proof lane true) wire in
-      let Q : List Shown → Type 0 = λ ones. WireAgrees (lane_shown false (lane_of two lane)) ones wire in
-      subst Q (sym (of.shown true)) (subst P (sym (of.shown false)) (shown_agree width proof is lane of.some of.within wire))
+      let P : List Shown → Type 0 = λ zeros. WireAgrees zeros (lane_shown_in proof lane true) wire
+      in
+      let Q : List Shown → Type 0 =
+      λ ones. WireAgrees (lane_shown false (lane_of two lane)) ones wire in
+      subst Q (sym (of.shown true))
+      (subst P (sym (of.shown false)) (shown_agree width proof is lane of.some of.within wire))
 
   pub all_agree : All (AgreesAt (lane_of two)) (differing 1 first.bits second.bits)
-  all_agree = All-weaker IsOpenedLane (AgreesAt (lane_of two)) agrees (differing 1 first.bits second.bits) all_opened
+  all_agree = All-weaker IsOpenedLane (AgreesAt (lane_of two)) agrees
+      (differing 1 first.bits second.bits) all_opened
 
   -- the values that are found are those that were sealed
-  lane_is : (lane : LaneBids) → IsOpenedLane lane.number → AreShownIn (lane_shown false (lane_of two lane.number)) (lane_shown true (lane_of two lane.number)) lane.bids
+  lane_is : (lane : LaneBids) → IsOpenedLane lane.number
+      → AreShownIn (lane_shown false (lane_of two lane.number))
+      (lane_shown true (lane_of two lane.number)) lane.bids
       → LaneOpens (statement_in proof) lane → lane ≡ rows_in_lane proof.rows lane.number
   lane_is lane of shown opens =
-      let P : List Shown → Type 0 = λ zeros. AreShownIn zeros (lane_shown true (lane_of two lane.number)) lane.bids in
-      let Q : List Shown → Type 0 = λ ones. AreShownIn (lane_shown_in proof lane.number false) ones lane.bids in
+      let P : List Shown → Type 0 =
+      λ zeros. AreShownIn zeros (lane_shown true (lane_of two lane.number)) lane.bids in
+      let Q : List Shown → Type 0 =
+      λ ones. AreShownIn (lane_shown_in proof lane.number false) ones lane.bids in
       lane_same lane (map (bid_in_lane lane.number) proof.rows)
-      (bids_same width proof is lane.number of.some of.within lane.bids (subst Q (of.shown true) (subst P (of.shown false) shown))
+      (bids_same width proof is lane.number of.some of.within lane.bids
+      (subst Q (of.shown true) (subst P (of.shown false) shown))
       opens.one_each (λ index bid here. (opens.opened index bid here).is_sum))
 
-  pub lanes_are : (found : OpenedLanes) → IsOpened two found → found.lanes ≡ map (rows_in_lane proof.rows) (differing 1 first.bits second.bits)
+  pub lanes_are : (found : OpenedLanes) → IsOpened two found
+      → found.lanes ≡ map (rows_in_lane proof.rows) (differing 1 first.bits second.bits)
   lanes_are found right =
-      let opens : All (λ (lane : LaneBids). IsOpenedLane lane.number) found.lanes = of_numbers IsOpenedLane found.lanes (subst (All IsOpenedLane) (sym right.numbers) all_opened) in
-      by_number (rows_in_lane proof.rows) found.lanes (λ k d lt. lane_is (get_or found.lanes k d) (opens k d lt) (right.shown k d lt) (right.opens k d lt))
+      let opens : All (λ (lane : LaneBids). IsOpenedLane lane.number) found.lanes =
+      of_numbers IsOpenedLane found.lanes
+      (subst (All IsOpenedLane) (sym right.numbers) all_opened) in
+      by_number (rows_in_lane proof.rows) found.lanes
+      (λ k d lt. lane_is (get_or found.lanes k d) (opens k d lt) (right.shown k d lt)
+      (right.opens k d lt))
       ∙ ap (map (rows_in_lane proof.rows)) right.numbers
 
 -- ---- the claim of a case
@@ -146,7 +173,8 @@ module _ (kind : ClaimKind) (case : SampleCase) (is : IsCaseOf (sizes_of kind) c
   front_is : IsClaimFront front
   front_is = record {
     head = head_is;
-    seals = subst (λ n. AreSealsOf n case.lanes (map seal_lines_of rows)) all.count (seals_may_stand case is.right rows all);
+    seals = subst (λ n. AreSealsOf n case.lanes (map seal_lines_of rows)) all.count
+        (seals_may_stand case is.right rows all);
   }
 
   abbrev admitted : AdmittedFront admitted_plan
@@ -163,13 +191,21 @@ module _ (kind : ClaimKind) (case : SampleCase) (is : IsCaseOf (sizes_of kind) c
 
   file_is : file ≡ file_text (claim_front_text front) (lanes_in proof)
   file_is =
-      sym (append_assoc (claim_head_text (head_with kind case numbers)) (flat_map seal_lines_text (map seal_lines_of rows))
+      sym (append_assoc (claim_head_text (head_with kind case numbers))
+      (flat_map seal_lines_text (map seal_lines_of rows))
       (lanes_text 1 (lanes_in proof) ++ line (codes "end")))
 
-  accepted : (challenge : Challenge) → IsChallenge challenge → length challenge.bits ≡ case.lanes → ClaimAccepts admitted_plan file (challenge_text challenge) (reply_in proof challenge.bits)
+  accepted : (challenge : Challenge) → IsChallenge challenge → length challenge.bits ≡ case.lanes
+      → ClaimAccepts admitted_plan file (challenge_text challenge) (reply_in proof challenge.bits)
   accepted challenge right count =
-      let P : List ℕ → Type 0 = λ f. ClaimAccepts admitted_plan f (challenge_text challenge) (reply_in proof challenge.bits) in
-      subst P (sym file_is) (record { shown = admitted; behind = accepts_proof case.width proof sealed challenge right count (claim_front_text front) })
+      let P : List ℕ → Type 0 =
+      λ f. ClaimAccepts admitted_plan f (challenge_text challenge)
+      (reply_in proof challenge.bits) in
+      subst P (sym file_is) (record {
+        shown = admitted;
+        behind = accepts_proof case.width proof sealed challenge right count
+            (claim_front_text front);
+      })
 
   pub are_accepted : ClaimSampleIsAccepted kind case numbers proof
   are_accepted = record {
@@ -182,43 +218,71 @@ module _ (kind : ClaimKind) (case : SampleCase) (is : IsCaseOf (sizes_of kind) c
   differ : case.first.bits ≢ case.second.bits
   differ = λ same. turned_differ case.first.bits is.right.first.some_bit (same ∙ is.right.turned)
 
-  abbrev behind : TwoAcceptedBehind (statement_in proof) (claim_front_text front) (file_text (claim_front_text front) (lanes_in proof)) (challenge_text case.first) (reply_in proof case.first.bits) (challenge_text case.second) (reply_in proof case.second.bits)
-  behind = two case.width proof sealed (claim_front_text front) case.first case.second is.right.first is.right.first_count is.right.second is.right.second_count differ
+  abbrev behind : TwoAcceptedBehind (statement_in proof) (claim_front_text front)
+      (file_text (claim_front_text front) (lanes_in proof)) (challenge_text case.first)
+      (reply_in proof case.first.bits) (challenge_text case.second)
+      (reply_in proof case.second.bits)
+  behind = two case.width proof sealed (claim_front_text front) case.first case.second
+      is.right.first is.right.first_count is.right.second is.right.second_count differ
 
-  abbrev claims_two : TwoClaimsAccepted admitted_plan (file_text (claim_front_text front) (lanes_in proof)) (challenge_text case.first) (reply_in proof case.first.bits) (challenge_text case.second) (reply_in proof case.second.bits)
+  abbrev claims_two : TwoClaimsAccepted admitted_plan
+      (file_text (claim_front_text front) (lanes_in proof)) (challenge_text case.first)
+      (reply_in proof case.first.bits) (challenge_text case.second)
+      (reply_in proof case.second.bits)
   claims_two = record { shown = admitted; behind = behind }
 
   abbrev given : List LaneBids
   given = map (rows_in_lane rows) (differing 1 case.first.bits case.second.bits)
 
   abbrev all_found : OpenedClaim
-  all_found = record { head = head_with kind case numbers; opened = record { statement = statement_in proof; lanes = given } }
+  all_found = record {
+    head = head_with kind case numbers;
+    opened = record { statement = statement_in proof; lanes = given };
+  }
 
-  found_same : (found : OpenedClaim) → found.head ≡ head_with kind case numbers → found.opened.statement ≡ statement_in proof → found.opened.lanes ≡ given → found ≡ all_found
+  found_same : (found : OpenedClaim) → found.head ≡ head_with kind case numbers
+      → found.opened.statement ≡ statement_in proof → found.opened.lanes ≡ given → found ≡ all_found
   found_same found heads statements lanes =
-      let of : ClaimHead → StatementValue → List LaneBids → OpenedClaim = λ h s ls. record { head = h; opened = record { statement = s; lanes = ls } } in
+      let of : ClaimHead → StatementValue → List LaneBids
+      → OpenedClaim = λ h s ls.
+      record { head = h; opened = record { statement = s; lanes = ls } } in
       ap (λ h. of h found.opened.statement found.opened.lanes) heads
-      ∙ (ap (λ s. of (head_with kind case numbers) s found.opened.lanes) statements ∙ ap (of (head_with kind case numbers) (statement_in proof)) lanes)
+      ∙ (ap (λ s. of (head_with kind case numbers) s found.opened.lanes) statements
+      ∙ ap (of (head_with kind case numbers) (statement_in proof)) lanes)
 
-  gives : (extraction : ClaimExtraction) → IsOfClaim admitted_plan claimed claims_two extraction → extraction ≡ Bids all_found
+  gives : (extraction : ClaimExtraction) → IsOfClaim admitted_plan claimed claims_two extraction
+      → extraction ≡ Bids all_found
   gives (Refused second verdict) is_of = absurd is_of
   gives Same is_of = absurd is_of
   gives (Clash clash) is_of =
-      absurd (no_first_clash (lane_of behind) (differing 1 case.first.bits case.second.bits) case.auction clash
-      (all_agree case.width proof sealed (claim_front_text front) case.first case.second is.right.first is.right.first_count is.right.second is.right.second_count differ) is_of)
+      absurd (no_first_clash (lane_of behind) (differing 1 case.first.bits case.second.bits)
+      case.auction clash
+      (all_agree case.width proof sealed (claim_front_text front) case.first case.second
+      is.right.first is.right.first_count is.right.second is.right.second_count differ) is_of)
   gives (Bids found) is_of =
       ap (λ f. Bids f) (found_same found is_of.head is_of.opened.statement
-      (lanes_are case.width proof sealed (claim_front_text front) case.first case.second is.right.first is.right.first_count is.right.second is.right.second_count differ found.opened is_of.opened))
+      (lanes_are case.width proof sealed (claim_front_text front) case.first case.second
+      is.right.first is.right.first_count is.right.second is.right.second_count differ
+      found.opened is_of.opened))
 
-  extracted : claim_extraction_in admitted_plan file (challenge_text case.first) (reply_in proof case.first.bits) (challenge_text case.second) (reply_in proof case.second.bits) ≡ Bids all_found
+  extracted : claim_extraction_in admitted_plan file (challenge_text case.first)
+      (reply_in proof case.first.bits) (challenge_text case.second)
+      (reply_in proof case.second.bits) ≡ Bids all_found
   extracted =
-      ap (λ f. claim_extraction_in admitted_plan f (challenge_text case.first) (reply_in proof case.first.bits) (challenge_text case.second) (reply_in proof case.second.bits)) file_is
+      ap (λ f. claim_extraction_in admitted_plan f (challenge_text case.first)
+      (reply_in proof case.first.bits) (challenge_text case.second)
+      (reply_in proof case.second.bits)) file_is
       ∙ gives _ (claims_open admitted_plan claimed plans_are_right claims_are_sound claims_two)
 
   -- ---- read back
 
   size : HasSize kind case numbers proof
-  size = record { inputs = plan_inputs (kind_in kind) (length case.seats) numbers ∙ is.seals_are; lanes = is.lanes_are ∙ eight_lanes kind; wires = shown.wires; rows = shown.rows }
+  size = record {
+    inputs = plan_inputs (kind_in kind) (length case.seats) numbers ∙ is.seals_are;
+    lanes = is.lanes_are ∙ eight_lanes kind;
+    wires = shown.wires;
+    rows = shown.rows;
+  }
 
   few_wires : length proof.plan.kinds ≤ 10000
   few_wires = omega (arith, shown.wires, shown.few_wires)
@@ -227,55 +291,74 @@ module _ (kind : ClaimKind) (case : SampleCase) (is : IsCaseOf (sizes_of kind) c
   few_rows = omega (arith, shown.rows, shown.few_rows)
 
   -- a challenge and the reply to it, which are written before others of other names
-  abbrev attempt : (before : Files) (others : List (List ℕ × List ℕ)) (names : AttemptWords) (challenge : Challenge) → IsChallenge challenge → length challenge.bits ≡ case.lanes
-      → none_named names.challenge ((names.reply, reply_in proof challenge.bits) ∷ others) ≡ true → none_named names.reply others ≡ true
-      → HeldAttempt (written ((names.challenge, challenge_text challenge) ∷ (names.reply, reply_in proof challenge.bits) ∷ others) before) names.challenge names.reply
+  abbrev attempt : (before : Files) (others : List (List ℕ × List ℕ)) (names : AttemptWords)
+      (challenge : Challenge) → IsChallenge challenge → length challenge.bits ≡ case.lanes
+      → none_named names.challenge ((names.reply, reply_in proof challenge.bits) ∷ others) ≡ true
+      → none_named names.reply others ≡ true
+      → HeldAttempt (written ((names.challenge, challenge_text challenge)
+      ∷ (names.reply, reply_in proof challenge.bits) ∷ others) before) names.challenge names.reply
   attempt before others names challenge right count challenge_alone reply_alone = record {
     challenge_bytes = challenge_text challenge;
     reply_bytes = reply_in proof challenge.bits;
     challenge_is = record {
-      is = held_first ((names.reply, reply_in proof challenge.bits) ∷ others) before names.challenge (challenge_text challenge) challenge_alone;
+      is = held_first ((names.reply, reply_in proof challenge.bits) ∷ others) before names.challenge
+          (challenge_text challenge) challenge_alone;
       short = challenges_are_short challenge right;
     };
     reply_is = record {
-      is = held_first others (insert before names.challenge (challenge_text challenge)) names.reply (reply_in proof challenge.bits) reply_alone;
+      is = held_first others (insert before names.challenge (challenge_text challenge)) names.reply
+          (reply_in proof challenge.bits) reply_alone;
       short = reply_is_short proof sealed.right few_wires few_rows challenge right count;
     };
   }
 
   abbrev second_attempt : List (List ℕ × List ℕ)
-  second_attempt = (claim_names.second.challenge, challenge_text case.second) ∷ (claim_names.second.reply, reply_in proof case.second.bits) ∷ []
+  second_attempt = (claim_names.second.challenge, challenge_text case.second)
+      ∷ (claim_names.second.reply, reply_in proof case.second.bits) ∷ []
 
   abbrev both_attempts : List (List ℕ × List ℕ)
-  both_attempts = (claim_names.first.challenge, challenge_text case.first) ∷ (claim_names.first.reply, reply_in proof case.first.bits) ∷ second_attempt
+  both_attempts = (claim_names.first.challenge, challenge_text case.first)
+      ∷ (claim_names.first.reply, reply_in proof case.first.bits) ∷ second_attempt
 
-  abbrev held : (files : Files) → HeldFiles (written (files_of kind case numbers proof) files) claim_names.board claim_names.first.challenge claim_names.first.reply claim_names.second.challenge claim_names.second.reply
+  abbrev held : (files : Files)
+      → HeldFiles (written (files_of kind case numbers proof) files) claim_names.board
+      claim_names.first.challenge claim_names.first.reply claim_names.second.challenge
+      claim_names.second.reply
   held files =
       let board = insert files claim_names.board file in
-      let first = insert (insert board claim_names.first.challenge (challenge_text case.first)) claim_names.first.reply (reply_in proof case.first.bits) in
+      let first = insert (insert board claim_names.first.challenge (challenge_text case.first))
+      claim_names.first.reply (reply_in proof case.first.bits) in
       let seals = seals_may_stand case is.right rows all in
       record {
         board_bytes = file;
         board_is = record {
           is = held_first both_attempts files claim_names.board file refl;
-          short = file_is_short proof sealed.right few_wires few_rows (head_with kind case numbers) head_is (omega (arith, all.count, is.right.few_seals)) seals;
+          short = file_is_short proof sealed.right few_wires few_rows (head_with kind case numbers)
+              head_is (omega (arith, all.count, is.right.few_seals)) seals;
         };
-        first = attempt board second_attempt claim_names.first case.first is.right.first is.right.first_count refl refl;
-        second = attempt first [] claim_names.second case.second is.right.second is.right.second_count refl refl;
+        first = attempt board second_attempt claim_names.first case.first is.right.first
+            is.right.first_count refl refl;
+        second = attempt first [] claim_names.second case.second is.right.second
+            is.right.second_count refl refl;
       }
 
   pub opens_all : ClaimSampleOpensAll kind case numbers proof
   opens_all = record {
     found = all_found;
     read = λ files.
-        (claim_files_are_extracted admitted_plan (written (files_of kind case numbers proof) files) claim_names.board claim_names.first.challenge claim_names.first.reply
-        claim_names.second.challenge claim_names.second.reply (Bids all_found)).1 (record { held = held files; is = sym extracted });
+        (claim_files_are_extracted admitted_plan (written (files_of kind case numbers proof) files)
+        claim_names.board claim_names.first.challenge claim_names.first.reply
+        claim_names.second.challenge claim_names.second.reply (Bids all_found)).1
+        (record { held = held files; is = sym extracted });
     all_lanes =
         length-map (differing 1 case.first.bits case.second.bits) (rows_in_lane rows)
-        ∙ (ap (λ bits. length (differing 1 case.first.bits bits)) is.right.turned ∙ (length-differing_turned 1 case.first.bits ∙ is.right.first_count));
+        ∙ (ap (λ bits. length (differing 1 case.first.bits bits)) is.right.turned
+        ∙ (length-differing_turned 1 case.first.bits ∙ is.right.first_count));
     all_seals = sym all.count;
     all_same =
-        all_counted (λ index. has_one_bid index given) (λ index. equal_in rows index (differing 1 case.first.bits case.second.bits)) 0 (length case.seats) ∙ sym all.count;
+        all_counted (λ index. has_one_bid index given)
+        (λ index. equal_in rows index (differing 1 case.first.bits case.second.bits)) 0
+        (length case.seats) ∙ sym all.count;
   }
 
 -- ---- of every case and what was made of it
@@ -289,10 +372,13 @@ module _ (kind : ClaimKind) (case : SampleCase) (is : IsCaseOf (sizes_of kind) c
   shows = is_shown kind case is numbers published
 
   pub has_size : HasSize kind case numbers proof
-  has_size = subst (HasSize kind case numbers) of.same (size kind case is numbers shows of.rows of.all of.none)
+  has_size = subst (HasSize kind case numbers) of.same
+      (size kind case is numbers shows of.rows of.all of.none)
 
   pub accepts : ClaimSampleIsAccepted kind case numbers proof
-  accepts = subst (ClaimSampleIsAccepted kind case numbers) of.same (are_accepted kind case is numbers shows of.rows of.all of.none)
+  accepts = subst (ClaimSampleIsAccepted kind case numbers) of.same
+      (are_accepted kind case is numbers shows of.rows of.all of.none)
 
   pub opens : ClaimSampleOpensAll kind case numbers proof
-  opens = subst (ClaimSampleOpensAll kind case numbers) of.same (opens_all kind case is numbers shows of.rows of.all of.none)
+  opens = subst (ClaimSampleOpensAll kind case numbers) of.same
+      (opens_all kind case is numbers shows of.rows of.all of.none)

@@ -13,7 +13,8 @@ use Rattle.vk_claim_sample.specs.Claims.{head_with}
 use Rattle.vk_claim_sample.specs.Texts.{claim_names, files_of}
 
 texts_are : (kind : ClaimKind) (case : SampleCase) (numbers : List ℕ) (proof : ProofValue)
-    → texts_of (written_of claim_names (claim_head_text (head_with kind case numbers)) proof case.first case.second) ≡ files_of kind case numbers proof
+    → texts_of (written_of claim_names (claim_head_text (head_with kind case numbers)) proof
+    case.first case.second) ≡ files_of kind case numbers proof
 texts_are kind case numbers proof =
     rw (
       file_is_joined (claim_head_text (head_with kind case numbers)) proof,
@@ -24,11 +25,13 @@ texts_are kind case numbers proof =
     ) refl
 
 -- under these names, with this head and this proof
-pub texts_from : (names : ExtractWords) (head : List ℕ) (of proof : ProofValue) (kind : ClaimKind) (case : SampleCase) (numbers : List ℕ)
+pub texts_from : (names : ExtractWords) (head : List ℕ) (of proof : ProofValue) (kind : ClaimKind)
+    (case : SampleCase) (numbers : List ℕ)
     → names ≡ claim_names → head ≡ claim_head_text (head_with kind case numbers) → of ≡ proof
     → texts_of (written_of names head of case.first case.second) ≡ files_of kind case numbers proof
 texts_from names head of proof kind case numbers named headed proved =
     ap (λ n. texts_of (written_of n head of case.first case.second)) named
     ∙ ap (λ h. texts_of (written_of claim_names h of case.first case.second)) headed
-    ∙ ap (λ p. texts_of (written_of claim_names (claim_head_text (head_with kind case numbers)) p case.first case.second)) proved
+    ∙ ap (λ p. texts_of (written_of claim_names (claim_head_text (head_with kind case numbers)) p
+    case.first case.second)) proved
     ∙ texts_are kind case numbers proof

@@ -34,7 +34,10 @@ module _ (kind : ClaimKind) (case : SampleCase) (is : IsCase case) (numbers : Li
     values = shown.holds;
     count = is.size.lanes;
     secrets = All-weaker (IsSealRow case.auction case.width case.lanes) (HasTapesFor case.lanes)
-        (λ row right. record { count = lanes_of case.auction case.width case.lanes row right; each = right.secret.tapes }) rows all.right;
+        (λ row right. record {
+          count = lanes_of case.auction case.width case.lanes row right;
+          each = right.secret.tapes;
+        }) rows all.right;
     none_dry = none;
   }
 
@@ -43,32 +46,41 @@ module _ (kind : ClaimKind) (case : SampleCase) (is : IsCase case) (numbers : Li
     right = is_proof;
     rows = all.right;
     inputs =
-        ap (λ n. take n (values_of kind (length case.seats) numbers case.bids)) all.count ∙ shown.begins ∙ sym all.bids_are;
+        ap (λ n. take n (values_of kind (length case.seats) numbers case.bids)) all.count
+        ∙ shown.begins ∙ sym all.bids_are;
   }
 
 -- the seals may stand in a claim file
-pub seals_may_stand : (case : SampleCase) → IsCase case → (rows : List SealRow) → AllRows case rows → AreSealsOf (length rows) case.lanes (map seal_lines_of rows)
+pub seals_may_stand : (case : SampleCase) → IsCase case → (rows : List SealRow) → AllRows case rows
+    → AreSealsOf (length rows) case.lanes (map seal_lines_of rows)
 unfolding head_of
-seals_may_stand case is rows all = job_parts.seals_are (auction_with case rows) (is_auction case is rows all)
+seals_may_stand case is rows all =
+    job_parts.seals_are (auction_with case rows) (is_auction case is rows all)
 
 -- ---- what was made
 
-pub record IsMadeOf (kind : ClaimKind) (case : SampleCase) (numbers : List ℕ) (proof : ProofValue) : Type 0 where
+pub record IsMadeOf (kind : ClaimKind) (case : SampleCase) (numbers : List ℕ)
+    (proof : ProofValue) : Type 0 where
   pub rows : List SealRow
   pub all : AllRows case rows
   pub none : first_dry_in (source_of (proof_with kind case numbers rows)) ≡ None
   pub same : proof_with kind case numbers rows ≡ proof
 
-pub made_of : (kind : ClaimKind) (case : SampleCase) → IsCase case → (numbers : List ℕ) (proof : ProofValue) → proof_by kind case numbers ≡ Ok proof → IsMadeOf kind case numbers proof
+pub made_of : (kind : ClaimKind) (case : SampleCase) → IsCase case
+    → (numbers : List ℕ) (proof : ProofValue) → proof_by kind case numbers ≡ Ok proof
+    → IsMadeOf kind case numbers proof
 unfolding proof_by
 made_of kind case is numbers proof made =
-    let given = bind_ok (rows_onto case [] (length case.seats)) (proof_unless_dry kind case numbers) proof made in
+    let given = bind_ok (rows_onto case [] (length case.seats)) (proof_unless_dry kind case numbers)
+    proof made in
     let rows = given.0 in
-    let passed = none_dry (proof_with kind case numbers rows) proof (first_dry_in (source_of (proof_with kind case numbers rows))) given.2 in
+    let passed = none_dry (proof_with kind case numbers rows) proof
+    (first_dry_in (source_of (proof_with kind case numbers rows))) given.2 in
     record { rows = rows; all = all_rows case is rows given.1; none = passed.0; same = passed.1 }
 
 -- of a case whose numbers are right, it is honest
-pub is_honest : (kind : ClaimKind) (case : SampleCase) → IsCase case → (numbers : List ℕ) → IsShown kind case numbers
+pub is_honest : (kind : ClaimKind) (case : SampleCase) → IsCase case → (numbers : List ℕ)
+    → IsShown kind case numbers
     → (proof : ProofValue) → proof_by kind case numbers ≡ Ok proof → IsProof proof
 is_honest kind case is numbers shown proof made =
     let of = made_of kind case is numbers proof made in
@@ -76,41 +88,77 @@ is_honest kind case is numbers shown proof made =
 
 -- ---- what refuses it
 
-dry_refuses : (proof : ProofValue) (dry : Option Dry) (refused : JobErr) → Err refused ≡ dry_refusal dry → Refuses (dry_of (of_job refused)) (unless_dry proof dry)
+dry_refuses : (proof : ProofValue) (dry : Option Dry) (refused : JobErr)
+    → Err refused ≡ dry_refusal dry → Refuses (dry_of (of_job refused)) (unless_dry proof dry)
 dry_refuses proof None refused is = cc
 dry_refuses proof (Some dry) (job.DrySeed lane wire) is =
     let lanes : lane ≡ dry.lane = cc in
     let wires : wire ≡ dry.wire = cc in
-    let of : ℕ → ℕ → Result ProofValue DrySeed = λ l w. Err (OfHouse (record { lane = l; wire = w })) in
+    let of : ℕ → ℕ → Result ProofValue DrySeed =
+    λ l w. Err (OfHouse (record { lane = l; wire = w })) in
     ap (λ l. of l dry.wire) (sym lanes) ∙ ap (of lane) (sym wires)
 dry_refuses proof (Some dry) job.NoMemory is = tt
 
-dry_passes : (proof : ProofValue) (dry : Option Dry) → Ok tt ≡ dry_refusal dry → unless_dry proof dry ≡ Ok proof
+dry_passes : (proof : ProofValue) (dry : Option Dry) → Ok tt ≡ dry_refusal dry
+    → unless_dry proof dry ≡ Ok proof
 dry_passes proof None is = refl
 dry_passes proof (Some dry) is = cc
 
 -- what the tapes come from, with so many wires after the inputs
 abbrev pub source_with : SampleCase → List SealRow → ℕ → TapeSource
-source_with case rows further = record { id = case.auction; rows = rows; lanes = case.lanes; seed = case.seed; further = further }
+source_with case rows further =
+    record {
+      id = case.auction;
+      rows = rows;
+      lanes = case.lanes;
+      seed = case.seed;
+      further = further;
+    }
 
 module _ (kind : ClaimKind) (case : SampleCase) (numbers : List ℕ) (rows : List SealRow) (rows_are : rows_onto case [] (length case.seats) ≡ Ok rows)
     (plan : PlanValue) (plan_is : plan ≡ plan_of (kind_in kind) (length case.seats) numbers) (further : ℕ) (further_is : further ≡ length plan.kinds - plan.inputs) where
-  of_proof : (answer : Result Unit JobErr) → answer ≡ dry_refusal (first_dry_in (source_with case rows further)) → answer ≡ dry_refusal (first_dry_in (source_of (proof_with kind case numbers rows)))
+  of_proof : (answer : Result Unit JobErr)
+      → answer ≡ dry_refusal (first_dry_in (source_with case rows further))
+      → answer ≡ dry_refusal (first_dry_in (source_of (proof_with kind case numbers rows)))
   of_proof answer is =
-      is ∙ ap (λ f. dry_refusal (first_dry_in (source_with case rows f))) (further_is ∙ ap (λ (p : PlanValue). length p.kinds - p.inputs) plan_is)
+      is ∙ ap (λ f. dry_refusal (first_dry_in (source_with case rows f)))
+      (further_is ∙ ap (λ (p : PlanValue). length p.kinds - p.inputs) plan_is)
 
-  pub tapes_refuse : (refused : JobErr) → Err refused ≡ dry_refusal (first_dry_in (source_with case rows further)) → Refuses (dry_of (of_job refused)) (proof_by kind case numbers)
+  pub tapes_refuse : (refused : JobErr)
+      → Err refused ≡ dry_refusal (first_dry_in (source_with case rows further))
+      → Refuses (dry_of (of_job refused)) (proof_by kind case numbers)
   unfolding proof_by
   tapes_refuse refused is =
-      subst (λ r. Refuses (dry_of (of_job refused)) (r >>= proof_unless_dry kind case numbers)) (sym rows_are)
-      (dry_refuses (proof_with kind case numbers rows) (first_dry_in (source_of (proof_with kind case numbers rows))) refused (of_proof (Err refused) is))
+      subst (λ r. Refuses (dry_of (of_job refused)) (r >>= proof_unless_dry kind case numbers))
+      (sym rows_are)
+      (dry_refuses (proof_with kind case numbers rows)
+      (first_dry_in (source_of (proof_with kind case numbers rows))) refused
+      (of_proof (Err refused) is))
 
-  pub tapes_pass : (values : List ℕ) → values ≡ values_of kind (length case.seats) numbers case.bids → Ok tt ≡ dry_refusal (first_dry_in (source_with case rows further))
-      → proof_by kind case numbers ≡ Ok (record { id = case.auction; rows = rows; lanes = case.lanes; seed = case.seed; plan = plan; values = values })
+  pub tapes_pass : (values : List ℕ) → values ≡ values_of kind (length case.seats) numbers case.bids
+      → Ok tt ≡ dry_refusal (first_dry_in (source_with case rows further))
+      → proof_by kind case numbers
+      ≡ Ok (record {
+        id = case.auction;
+        rows = rows;
+        lanes = case.lanes;
+        seed = case.seed;
+        plan = plan;
+        values = values;
+      })
   unfolding proof_by
   tapes_pass values values_are is =
-      let made : PlanValue → List ℕ → Result ProofValue DrySeed = λ p vs. Ok (record { id = case.auction; rows = rows; lanes = case.lanes; seed = case.seed; plan = p; values = vs }) in
+      let made : PlanValue → List ℕ → Result ProofValue DrySeed =
+      λ p vs. Ok (record {
+        id = case.auction;
+        rows = rows;
+        lanes = case.lanes;
+        seed = case.seed;
+        plan = p;
+        values = vs;
+      }) in
       ap (λ r. r >>= proof_unless_dry kind case numbers) rows_are
-      ∙ dry_passes (proof_with kind case numbers rows) (first_dry_in (source_of (proof_with kind case numbers rows))) (of_proof (Ok tt) is)
+      ∙ dry_passes (proof_with kind case numbers rows)
+      (first_dry_in (source_of (proof_with kind case numbers rows))) (of_proof (Ok tt) is)
       ∙ ap (λ p. made p (values_of kind (length case.seats) numbers case.bids)) (sym plan_is)
       ∙ ap (made plan) (sym values_are)

@@ -18,15 +18,19 @@ use Rattle.vk_claim_sample.specs.Laws.{rows_of, wires_of}
 
 -- something is true of every case whose numbers may be published
 abbrev OfPublished : ClaimKind → (SampleCase → List ℕ → Type 0) → Type 0
-OfPublished kind P = (case : SampleCase) → IsCaseOf (sizes_of kind) case → (numbers : List ℕ) → MayPublish kind case numbers → P case numbers
+OfPublished kind P = (case : SampleCase) → IsCaseOf (sizes_of kind) case → (numbers : List ℕ)
+    → MayPublish kind case numbers → P case numbers
 
 -- the circuit may have these numbers
-pub has_case : (kind : ClaimKind) → OfPublished kind (λ case numbers. IsCase (kind_in kind) (length case.seats) numbers)
+pub has_case : (kind : ClaimKind)
+    → OfPublished kind (λ case numbers. IsCase (kind_in kind) (length case.seats) numbers)
 has_case Uniform = sale.is_case
 has_case Matching = matching.is_case
 
 -- the claim holds of the case's values
-pub has_claim : (kind : ClaimKind) → OfPublished kind (λ case numbers. claimed (kind_in kind) (length case.seats) numbers case.bids)
+pub has_claim : (kind : ClaimKind)
+    → OfPublished kind (λ case numbers. claimed (kind_in kind) (length case.seats) numbers
+    case.bids)
 unfolding claimed
 has_claim Uniform = sale.is_claim
 has_claim Matching = matching.is_claim
@@ -35,11 +39,15 @@ has_numbers : (kind : ClaimKind) → OfPublished kind (λ case numbers. AreNumbe
 has_numbers Uniform = sale.are_numbers
 has_numbers Matching = matching.are_numbers
 
-has_wires : (kind : ClaimKind) → OfPublished kind (λ case numbers. length (plan_of (kind_in kind) (length case.seats) numbers).kinds ≡ wires_of kind numbers)
+has_wires : (kind : ClaimKind)
+    → OfPublished kind (λ case numbers.
+    length (plan_of (kind_in kind) (length case.seats) numbers).kinds ≡ wires_of kind numbers)
 has_wires Uniform = sale.wires_are
 has_wires Matching = matching.wires_are
 
-has_rows : (kind : ClaimKind) → OfPublished kind (λ case numbers. length (plan_of (kind_in kind) (length case.seats) numbers).rows ≡ rows_of kind numbers)
+has_rows : (kind : ClaimKind) → OfPublished kind
+    (λ case numbers. length (plan_of (kind_in kind) (length case.seats) numbers).rows
+    ≡ rows_of kind numbers)
 has_rows Uniform = sale.rows_are
 has_rows Matching = matching.rows_are
 
@@ -54,13 +62,15 @@ few_rows Matching case is numbers published = omega arith
 -- ---- the values of the wires
 
 module _ (inputs : ℕ) (numbers values : List ℕ) where
-  values_hold : (kind : ClaimKind) → IsCase (kind_in kind) inputs numbers → claimed (kind_in kind) inputs numbers values
+  values_hold : (kind : ClaimKind) → IsCase (kind_in kind) inputs numbers
+      → claimed (kind_in kind) inputs numbers values
       → Holds (plan_of (kind_in kind) inputs numbers) (values_of kind inputs numbers values)
   unfolding claimed
   values_hold Uniform case claim = uniform_complete inputs numbers values case claim
   values_hold Matching case claim = matching_complete inputs numbers case values claim
 
-  values_begin : (kind : ClaimKind) → IsCase (kind_in kind) inputs numbers → claimed (kind_in kind) inputs numbers values
+  values_begin : (kind : ClaimKind) → IsCase (kind_in kind) inputs numbers
+      → claimed (kind_in kind) inputs numbers values
       → take inputs (values_of kind inputs numbers values) ≡ values
   unfolding claimed
   values_begin Uniform case claim = uniform_begins inputs numbers values case claim
@@ -71,10 +81,13 @@ module _ (inputs : ℕ) (numbers values : List ℕ) where
 -- the circuit of the case may have these numbers, holds for the case's values, and isn't large
 pub record IsShown (kind : ClaimKind) (case : SampleCase) (numbers : List ℕ) : Type 0 where
   pub case_is : IsCase (kind_in kind) (length case.seats) numbers
-  pub holds : Holds (plan_of (kind_in kind) (length case.seats) numbers) (values_of kind (length case.seats) numbers case.bids)
-  pub begins : take (length case.seats) (values_of kind (length case.seats) numbers case.bids) ≡ case.bids
+  pub holds : Holds (plan_of (kind_in kind) (length case.seats) numbers)
+      (values_of kind (length case.seats) numbers case.bids)
+  pub begins : take (length case.seats) (values_of kind (length case.seats) numbers case.bids)
+      ≡ case.bids
   pub numbers_are : AreNumbers numbers
-  pub wires : length (plan_of (kind_in kind) (length case.seats) numbers).kinds ≡ wires_of kind numbers
+  pub wires : length (plan_of (kind_in kind) (length case.seats) numbers).kinds
+      ≡ wires_of kind numbers
   pub rows : length (plan_of (kind_in kind) (length case.seats) numbers).rows ≡ rows_of kind numbers
   pub few_wires : wires_of kind numbers ≤ 10000
   pub few_rows : rows_of kind numbers ≤ 1000

@@ -16,35 +16,44 @@ use Rattle.vk_claim_sample.specs.Texts.{files_of, summary_said}
 
 -- ---- where the numbers are known
 
--- over files that are modelled the five files are written and the summary is said. A seed that is dry is said over any
--- files, and none is written
-abbrev pub effect_by : ClaimKind → Option Files → Option Ledger → ℕ → SampleCase → List ℕ → Result ProofValue DrySeed → Option Effect
+-- over files that are modelled the five files are written and the summary is said. A seed that is
+-- dry is said over any files, and none is written
+abbrev pub effect_by : ClaimKind → Option Files → Option Ledger → ℕ → SampleCase → List ℕ
+    → Result ProofValue DrySeed → Option Effect
 effect_by kind files ledger number case numbers =
-    effect_unless_dry ledger (λ proof. modelled_effect files ledger (files_of kind case numbers proof) (summary_said kind number proof))
+    effect_unless_dry ledger (λ proof. modelled_effect files ledger
+    (files_of kind case numbers proof) (summary_said kind number proof))
 
 -- the effect where these numbers are published. The ledger is left as it is
 unfoldable pub effect_with : ClaimKind → Option Files → Option Ledger → ℕ → List ℕ → Option Effect
 effect_with kind files ledger number numbers =
-    effect_by kind files ledger number (claim_case kind number) numbers (proof_by kind (claim_case kind number) numbers)
+    effect_by kind files ledger number (claim_case kind number) numbers
+    (proof_by kind (claim_case kind number) numbers)
 
 -- ---- equal units have one outcome, and so one effect
 
 abbrev pub claim_sample_on : Option Files → Option Ledger → ClaimKind → ℕ → Option Effect
-claim_sample_on files ledger Uniform number = effect_with Uniform files ledger number (numbers_of number)
+claim_sample_on files ledger Uniform number =
+    effect_with Uniform files ledger number (numbers_of number)
 claim_sample_on files ledger Matching number = None
 
 -- ---- of the kind matching there is an effect for each matching that is stable for the number's ranks
 
--- this holds of one of these effects. Which of the matchings is published is free, and nothing else is
+-- this holds of one of these effects. Which of the matchings is published is free, and nothing else
+-- is
 abbrev pub OfSomeMatching : Option Files → Option Ledger → ℕ → (Effect → Type 0) → Type 0
 OfSomeMatching files ledger number Holds =
-    (numbers : List ℕ) × IsMatchingOf (claim_case Matching number) numbers × IfSome (effect_with Matching files ledger number numbers) Holds
+    (numbers : List ℕ) × IsMatchingOf (claim_case Matching number) numbers
+    × IfSome (effect_with Matching files ledger number numbers) Holds
 
--- an answer stands so to one of them, and to what was before and after; or the command was stopped, and nothing changed
-abbrev pub Freely : {X Store : Type 0} → ClaimKind → ℕ → Option Files → Option Ledger → (Result X OutsideErr → Effect → Store → Store → Type 0)
+-- an answer stands so to one of them, and to what was before and after; or the command was stopped,
+-- and nothing changed
+abbrev pub Freely : {X Store : Type 0} → ClaimKind → ℕ → Option Files → Option Ledger
+    → (Result X OutsideErr → Effect → Store → Store → Type 0)
     → Result X OutsideErr → Store → Store → Type 0
 Freely Uniform number files ledger Stands answer old new = Unit {0}
-Freely Matching number files ledger Stands (Ok value) old new = OfSomeMatching files ledger number (λ effect. Stands (Ok value) effect old new)
+Freely Matching number files ledger Stands (Ok value) old new =
+    OfSomeMatching files ledger number (λ effect. Stands (Ok value) effect old new)
 Freely Matching number files ledger Stands (Err stop) old new =
     (new ≡ old) ⊎ OfSomeMatching files ledger number (λ effect. Stands (Err stop) effect old new)
 

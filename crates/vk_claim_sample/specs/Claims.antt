@@ -1,5 +1,5 @@
--- The claims of samples, each shown in eight lanes: three equal units are sold to ten bidders at one price; or four men and
--- four women are matched so that no pair blocks.
+-- The claims of samples, each shown in eight lanes: three equal units are sold to ten bidders at
+-- one price; or four men and four women are matched so that no pair blocks.
 use Rattle.std.specs.Prelude.{◌≡◌, ◌≤◌, ℕ, List, [], ◌∷◌, length, codes, Result}
 use Rattle.std.proofs.Common.{arith}
 use Rattle.vk_residue.specs.Steps.{◌>>=◌}
@@ -36,7 +36,8 @@ values_of Matching = matching_values
 
 -- ---- the case
 
--- the letters are `VKS2` or `VKS3`; a matching has a seal for each rank that one of the four has of one of the others
+-- the letters are `VKS2` or `VKS3`; a matching has a seal for each rank that one of the four has of
+-- one of the others
 abbrev pub sizes_of : ClaimKind → Sizes
 sizes_of Uniform = record { letters = codes "VKS2"; seals = 10; width = 16; lanes = 8 }
 sizes_of Matching = record { letters = codes "VKS3"; seals = 32; width = 8; lanes = 8 }
@@ -59,10 +60,12 @@ enough_bids number = omega arith
 
 -- who wins, at which price: of the bids there is one outcome with so many winners, and no other
 abbrev pub winners_of : ℕ → List ℕ
-winners_of number = (outcome_exists (claim_case Uniform number).bids units some_unit (enough_bids number)).0
+winners_of number = (outcome_exists (claim_case Uniform number).bids units some_unit
+    (enough_bids number)).0
 
 abbrev pub price_of : ℕ → ℕ
-price_of number = (outcome_exists (claim_case Uniform number).bids units some_unit (enough_bids number)).1
+price_of number = (outcome_exists (claim_case Uniform number).bids units some_unit
+    (enough_bids number)).1
 
 -- the numbers that are published: the width, the price and the winners
 unfoldable pub numbers_of : ℕ → List ℕ
@@ -91,7 +94,8 @@ pub record IsMatchingOf (case : SampleCase) (numbers : List ℕ) : Type 0 where
 
 -- ---- what is published
 
--- the numbers may be published of the case: those of the one outcome, or of a stable matching, of which there may be several
+-- the numbers may be published of the case: those of the one outcome, or of a stable matching, of
+-- which there may be several
 abbrev pub MayPublish : ClaimKind → SampleCase → List ℕ → Type 0
 MayPublish Uniform case numbers = IsSaleOf case numbers
 MayPublish Matching case numbers = IsMatchingOf case numbers
@@ -119,13 +123,17 @@ proof_with kind case numbers rows = record {
   values = values_of kind (length case.seats) numbers case.bids;
 }
 
-abbrev pub proof_unless_dry : ClaimKind → SampleCase → List ℕ → List SealRow → Result ProofValue DrySeed
+abbrev pub proof_unless_dry : ClaimKind → SampleCase → List ℕ → List SealRow
+    → Result ProofValue DrySeed
 proof_unless_dry kind case numbers rows =
-    unless_dry (proof_with kind case numbers rows) (first_dry_in (source_of (proof_with kind case numbers rows)))
+    unless_dry (proof_with kind case numbers rows)
+    (first_dry_in (source_of (proof_with kind case numbers rows)))
 
--- what the proof is made from, or the first seed that is dry: of the sealers in the order of their seals, then the prover's
+-- what the proof is made from, or the first seed that is dry: of the sealers in the order of their
+-- seals, then the prover's
 unfoldable pub proof_by : ClaimKind → SampleCase → List ℕ → Result ProofValue DrySeed
-proof_by kind case numbers = rows_onto case [] (length case.seats) >>= proof_unless_dry kind case numbers
+proof_by kind case numbers = rows_onto case [] (length case.seats) >>= proof_unless_dry kind case
+    numbers
 
 -- what was made of the case, as that of its proof
 abbrev pub proof_in : SampleCase → Made → ProofValue

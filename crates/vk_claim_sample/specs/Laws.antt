@@ -17,11 +17,14 @@ use Rattle.vk_sample.specs.Texts.{same_count}
 use Rattle.vk_claim_sample.specs.Claims.{MayPublish, claim_case, head_with, proof_by, sizes_of}
 use Rattle.vk_claim_sample.specs.Texts.{claim_read, files_of}
 
--- a law of every kind and number none of whose seeds is dry, whichever numbers are published that may be
+-- a law of every kind and number none of whose seeds is dry, whichever numbers are published that
+-- may be
 abbrev pub OfEachClaim : (ClaimKind → SampleCase → List ℕ → ProofValue → Type 0) → Type 0
 OfEachClaim Law =
-    (kind : ClaimKind) (number : ℕ) (numbers : List ℕ) (proof : ProofValue) → MayPublish kind (claim_case kind number) numbers
-    → proof_by kind (claim_case kind number) numbers ≡ Ok proof → Law kind (claim_case kind number) numbers proof
+    (kind : ClaimKind) (number : ℕ) (numbers : List ℕ) (proof : ProofValue)
+    → MayPublish kind (claim_case kind number) numbers
+    → proof_by kind (claim_case kind number) numbers ≡ Ok proof
+    → Law kind (claim_case kind number) numbers proof
 
 -- how many wires and rows the circuit has
 abbrev pub wires_of : ClaimKind → List ℕ → ℕ
@@ -33,22 +36,30 @@ rows_of Uniform numbers = sale.row_count 10 numbers
 rows_of Matching numbers = 88
 
 -- how large it is
-pub record HasSize (kind : ClaimKind) (case : SampleCase) (numbers : List ℕ) (proof : ProofValue) : Type 0 where
+pub record HasSize (kind : ClaimKind) (case : SampleCase) (numbers : List ℕ)
+    (proof : ProofValue) : Type 0 where
   pub inputs : proof.plan.inputs ≡ (sizes_of kind).seals
   pub lanes : proof.lanes ≡ 8
   pub wires : length proof.plan.kinds ≡ wires_of kind numbers
   pub rows : length proof.plan.rows ≡ rows_of kind numbers
 
 -- the claim file and a reply of the honest prover are accepted, for either challenge
-pub record ClaimSampleIsAccepted (kind : ClaimKind) (case : SampleCase) (numbers : List ℕ) (proof : ProofValue) : Type 0 where
-  pub first : ClaimAccepts admitted_plan (file_of (claim_head_text (head_with kind case numbers)) proof) (challenge_text case.first) (reply_in proof case.first.bits)
-  pub second : ClaimAccepts admitted_plan (file_of (claim_head_text (head_with kind case numbers)) proof) (challenge_text case.second) (reply_in proof case.second.bits)
+pub record ClaimSampleIsAccepted (kind : ClaimKind) (case : SampleCase) (numbers : List ℕ)
+    (proof : ProofValue) : Type 0 where
+  pub first : ClaimAccepts admitted_plan
+      (file_of (claim_head_text (head_with kind case numbers)) proof) (challenge_text case.first)
+      (reply_in proof case.first.bits)
+  pub second : ClaimAccepts admitted_plan
+      (file_of (claim_head_text (head_with kind case numbers)) proof) (challenge_text case.second)
+      (reply_in proof case.second.bits)
 
--- read from files that hold what was written, both replies open the values that were sealed: in every lane, and of every
--- seal the same
-pub record ClaimSampleOpensAll (kind : ClaimKind) (case : SampleCase) (numbers : List ℕ) (proof : ProofValue) : Type 0 where
+-- read from files that hold what was written, both replies open the values that were sealed: in
+-- every lane, and of every seal the same
+pub record ClaimSampleOpensAll (kind : ClaimKind) (case : SampleCase) (numbers : List ℕ)
+    (proof : ProofValue) : Type 0 where
   pub found : OpenedClaim
-  pub read : (files : Files) → claim_read (written (files_of kind case numbers proof) files) ≡ Ok (Bids found)
+  pub read : (files : Files) → claim_read (written (files_of kind case numbers proof) files)
+      ≡ Ok (Bids found)
   pub all_lanes : length found.opened.lanes ≡ proof.lanes
   pub all_seals : found.head.inputs ≡ length proof.rows
   pub all_same : same_count found.head.inputs found.opened.lanes ≡ length proof.rows

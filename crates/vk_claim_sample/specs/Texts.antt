@@ -28,8 +28,8 @@ claim_names = record {
   second = record { challenge = codes "claim-challenge-2"; reply = codes "claim-reply-2" };
 }
 
--- those that are written, in order: the honest prover's claim file, where these numbers are published, and its replies to
--- both challenges
+-- those that are written, in order: the honest prover's claim file, where these numbers are
+-- published, and its replies to both challenges
 abbrev pub files_of : ClaimKind → SampleCase → List ℕ → ProofValue → List (List ℕ × List ℕ)
 files_of kind case numbers proof =
     (claim_names.board, file_of (claim_head_text (head_with kind case numbers)) proof)
@@ -44,16 +44,24 @@ files_of kind case numbers proof =
 -- of the claim as it was made: its kind and its number, and how large its circuit is
 abbrev pub made_text : ClaimKind → ℕ → ℕ → PlanValue → List ℕ
 made_text kind number lanes plan =
-    (codes "claim-sample " +++ kind_word (kind_in kind) +++ codes " " +++ decimal number +++ line_feed)
+    (codes "claim-sample " +++ kind_word (kind_in kind) +++ codes " " +++ decimal number +++
+    line_feed)
     ++ (codes "inputs " +++ decimal plan.inputs +++ codes " lanes " +++ decimal lanes
-    +++ codes " wires " +++ decimal (length plan.kinds) +++ codes " rows " +++ decimal (length plan.rows) +++ line_feed)
+    +++ codes " wires " +++ decimal (length plan.kinds) +++ codes " rows " +++ decimal
+    (length plan.rows) +++ line_feed)
 
--- what is said of the files as they were read back: values are opened only where both replies are accepted. Else what
--- `claim-extract` says
+-- what is said of the files as they were read back: values are opened only where both replies are
+-- accepted. Else what `claim-extract` says
 abbrev pub opened_said : List ℕ → ClaimExtraction → SaidValue
 opened_said made (Bids found) =
-    record { status = 0; text = made ++ found_text (length found.opened.lanes) (same_count found.head.inputs found.opened.lanes) }
-opened_said made (Refused second verdict) = claim_extraction_said claim_names (Refused second verdict)
+    record {
+      status = 0;
+      text = made
+          ++ found_text (length found.opened.lanes)
+          (same_count found.head.inputs found.opened.lanes);
+    }
+opened_said made (Refused second verdict) =
+    claim_extraction_said claim_names (Refused second verdict)
 opened_said made Same = claim_extraction_said claim_names Same
 opened_said made (Clash two) = claim_extraction_said claim_names (Clash two)
 
@@ -64,10 +72,16 @@ read_said made (Err fault) = unread_said claim_names fault
 -- what the files come to
 abbrev pub claim_read : Files → Result ClaimExtraction VErr
 claim_read files =
-    claim_extraction_on admitted_plan files claim_names.board claim_names.first.challenge claim_names.first.reply
+    claim_extraction_on admitted_plan files claim_names.board claim_names.first.challenge
+    claim_names.first.reply
     claim_names.second.challenge claim_names.second.reply
 
--- the summary of files that both replies are accepted of, and that open the same value of every seal in every lane
+-- the summary of files that both replies are accepted of, and that open the same value of every
+-- seal in every lane
 abbrev pub summary_said : ClaimKind → ℕ → ProofValue → SaidValue
 summary_said kind number proof =
-    record { status = 0; text = made_text kind number proof.lanes proof.plan ++ found_text proof.lanes (length proof.rows) }
+    record {
+      status = 0;
+      text = made_text kind number proof.lanes proof.plan
+          ++ found_text proof.lanes (length proof.rows);
+    }

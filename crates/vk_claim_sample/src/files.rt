@@ -55,7 +55,8 @@ fn head_of(
     numbers: &[u64],
 ) -> Result<Vec<u8>, NoMemory>
     requires { length case.now.seats ≤ 64 }
-    ensures { IfOk result (λ text. text.items ≡ claim_head_text (head_with kind case.now numbers.now)) }
+    ensures { IfOk result (λ text. text.items
+        ≡ claim_head_text (head_with kind case.now numbers.now)) }
 {
     let head = ClaimHead {
         auction: case.auction,
@@ -68,7 +69,8 @@ fn head_of(
     Ok(text)
 }
 
-/// Writes the claim file, both challenges and the replies to them, lane by lane. Files that stand there are replaced.
+/// Writes the claim file, both challenges and the replies to them, lane by lane. Files that stand
+/// there are replaced.
 pub fn write_claim<S: Shelf>(
     alloc: Global,
     shelf: &mut S,
@@ -81,8 +83,11 @@ pub fn write_claim<S: Shelf>(
     requires right { IsProof (proof_in case.now made.now) }
     requires first { length case.now.first.bits ≡ case.now.lanes }
     requires second { length case.now.second.bits ≡ case.now.lanes }
-    ensures written { Modelled (WritesAll (files_of kind case.now numbers.now (proof_in case.now made.now)) result) (S.held shelf.old) (S.held shelf.new) }
-    ensures causes { Causes OutsideErr.Failed result (S.Shelf.faults shelf.old) (S.Shelf.faults shelf.new) }
+    ensures written { Modelled
+        (WritesAll (files_of kind case.now numbers.now (proof_in case.now made.now)) result)
+        (S.held shelf.old) (S.held shelf.new) }
+    ensures causes { Causes OutsideErr.Failed result (S.Shelf.faults shelf.old)
+        (S.Shelf.faults shelf.new) }
 {
     let head = head_of(alloc, kind, case, numbers)?;
     let proof = HonestProof::of(

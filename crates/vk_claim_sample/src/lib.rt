@@ -1,6 +1,6 @@
-//! `claim-sample`: a claim from one number. Three equal units are sold to ten bidders at one price, or four men and four
-//! women are matched so that no pair blocks. Its seals, its file and both replies are made, written, read back, judged and
-//! extracted.
+//! `claim-sample`: a claim from one number. Three equal units are sold to ten bidders at one price,
+//! or four men and four women are matched so that no pair blocks. Its seals, its file and both
+//! replies are made, written, read back, judged and extracted.
 #![tactic(auto)]
 
 mod files;

@@ -19,8 +19,8 @@ use vk_seq::Seq;
 use vk_uniform::UniformPlan;
 use vk_words::ClaimKind;
 
-/// What the honest proof of a case is made from besides it: the seals with their secrets, the circuit, and the values of
-/// its wires.
+/// What the honest proof of a case is made from besides it: the seals with their secrets, the
+/// circuit, and the values of its wires.
 #[derive(Drop)]
 pub struct Made {
     pub rows: Seq<SealRow>,
@@ -72,8 +72,11 @@ fn filled_by(
 ) -> Result<Filled, NoMemory>
     requires published { MayPublish kind case.now numbers.now }
     requires right { IsCaseOf (sizes_of kind) case.now }
-    ensures plan { IfOk result (λ filled. filled.plan ≡ plan_of (kind_in kind) (length case.now.seats) numbers.now) }
-    ensures values { IfOk result (λ filled. filled.values ≡ values_of kind (length case.now.seats) numbers.now case.now.bids) }
+    ensures plan { IfOk result
+        (λ filled. filled.plan ≡ plan_of (kind_in kind) (length case.now.seats) numbers.now) }
+    ensures values { IfOk result
+        (λ filled. filled.values
+        ≡ values_of kind (length case.now.seats) numbers.now case.now.bids) }
 {
     let inputs = case.seats.len() as u32;
     match kind {
@@ -94,8 +97,10 @@ fn filled_by(
 fn fill<C: Circuit>(alloc: Global, made: &Option<C>, inputs: &[u64]) -> Result<Filled, NoMemory>
     requires claim { IsSomeAnd made.now (λ circuit. C.claim circuit inputs.now) }
     requires small { All IsResidue inputs.now }
-    ensures plan { IfOk result (λ filled. IfSome made.now (λ circuit. filled.plan ≡ C.plan_of circuit)) }
-    ensures values { IfOk result (λ filled. IfSome made.now (λ circuit. filled.values ≡ C.filled circuit inputs.now)) }
+    ensures plan { IfOk result
+        (λ filled. IfSome made.now (λ circuit. filled.plan ≡ C.plan_of circuit)) }
+    ensures values { IfOk result
+        (λ filled. IfSome made.now (λ circuit. filled.values ≡ C.filled circuit inputs.now)) }
 {
     match made {
         Some(circuit) => {

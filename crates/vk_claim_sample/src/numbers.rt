@@ -1,4 +1,5 @@
-// The numbers that the claim of a sample publishes: the width of the sealed values, and what is claimed of them.
+// The numbers that the claim of a sample publishes: the width of the sealed values, and what is
+// claimed of them.
 ghost use Rattle.std.specs.Prelude.{◌≡◌, ◌++◌, IfOk};
 ghost use Rattle.vk_report.specs.Samples.{IsCaseOf};
 ghost use Rattle.vk_claim_sample.specs.Claims.{IsMatchingOf, IsSaleOf, MayPublish, sizes_of};
@@ -18,7 +19,8 @@ const UNITS: u32 = 3;
 /// How many men are matched with as many women.
 const COUPLES: u32 = 4;
 
-/// What the case of a claim has: 10 seals of bids below 2^16, or 32 of ranks below 2^8, and 8 lanes.
+/// What the case of a claim has: 10 seals of bids below 2^16, or 32 of ranks below 2^8, and 8
+/// lanes.
 pub fn sizes_of(kind: ClaimKind) -> Sizes
     ensures { result ≡ sizes_of kind }
 {

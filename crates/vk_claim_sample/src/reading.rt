@@ -13,14 +13,16 @@ use vk_claims::ClaimCircuits;
 use vk_effect::Said;
 use vk_io::{OutsideErr, Shelf};
 
-/// Reads the files back. Where both replies are accepted and open values, the summary is said, behind these lines of the
-/// claim as it was made; else what `claim-extract` says.
+/// Reads the files back. Where both replies are accepted and open values, the summary is said,
+/// behind these lines of the claim as it was made; else what `claim-extract` says.
 pub fn read_back<S: Shelf>(
     alloc: Global,
     shelf: &mut S,
     made: Vec<String>,
 ) -> Result<Said, OutsideErr>
-    ensures said { IfSome (S.held shelf.old) (λ files. IfOk result (λ said. said ≡ read_said (flat_map string_bytes made.items) (claim_read files))) }
+    ensures said { IfSome (S.held shelf.old)
+        (λ files. IfOk result (λ said. said
+        ≡ read_said (flat_map string_bytes made.items) (claim_read files))) }
     ensures shelf { OnlyReads S.held S.Shelf.faults OutsideErr.Failed result shelf.old shelf.new }
 {
     let names = claim_names();

@@ -18,19 +18,25 @@ use vk_io::{OutsideErr, Shelf};
 use vk_report::{SampleCase, case_of};
 use vk_words::ClaimKind;
 
-/// Makes the claim of a number with its file and two replies, writes them, reads them back, and says what they come to.
-/// Files that stand under their names are replaced; where a seed is dry none is written. Of the kind matching any of the
-/// matchings that are stable for the number's ranks may be published.
+/// Makes the claim of a number with its file and two replies, writes them, reads them back, and
+/// says what they come to. Files that stand under their names are replaced; where a seed is dry
+/// none is written. Of the kind matching any of the matchings that are stable for the number's
+/// ranks may be published.
 pub fn claim_sample<S: Shelf>(
     alloc: Global,
     shelf: &mut S,
     kind: ClaimKind,
     number: u64,
 ) -> Result<Said, OutsideErr>
-    ensures acts { (ledger : Option Ledger) → IfSome (claim_sample_on (S.held shelf.old) ledger kind number)
-        (λ effect. Acts result effect (stores (S.held shelf.old) ledger) (stores (S.held shelf.new) ledger)) }
-    ensures free { (ledger : Option Ledger) → ActsFreely kind number result (stores (S.held shelf.old) ledger) (stores (S.held shelf.new) ledger) }
-    ensures causes { Causes OutsideErr.Failed result (S.Shelf.faults shelf.old) (S.Shelf.faults shelf.new) }
+    ensures acts { (ledger : Option Ledger)
+        → IfSome (claim_sample_on (S.held shelf.old) ledger kind number)
+        (λ effect. Acts result effect (stores (S.held shelf.old) ledger)
+        (stores (S.held shelf.new) ledger)) }
+    ensures free { (ledger : Option Ledger)
+        → ActsFreely kind number result (stores (S.held shelf.old) ledger)
+        (stores (S.held shelf.new) ledger) }
+    ensures causes { Causes OutsideErr.Failed result (S.Shelf.faults shelf.old)
+        (S.Shelf.faults shelf.new) }
 {
     let case = case_of(alloc, &sizes_of(kind), number)?;
     let published = numbers_of(alloc, kind, &case)?;
@@ -60,9 +66,13 @@ fn hold<S: Shelf>(
     requires right { IsCaseOf (sizes_of kind) case.now }
     requires published { MayPublish kind case.now numbers.now }
     requires made { proof_by kind case.now numbers.now ≡ Ok (proof_in case.now made.now) }
-    ensures acts { (ledger : Option Ledger) → IfSome (effect_by kind (S.held shelf.old) ledger number case.now numbers.now (Ok (proof_in case.now made.now)))
-        (λ effect. Acts result effect (stores (S.held shelf.old) ledger) (stores (S.held shelf.new) ledger)) }
-    ensures causes { Causes OutsideErr.Failed result (S.Shelf.faults shelf.old) (S.Shelf.faults shelf.new) }
+    ensures acts { (ledger : Option Ledger)
+        → IfSome (effect_by kind (S.held shelf.old) ledger number case.now numbers.now
+        (Ok (proof_in case.now made.now)))
+        (λ effect. Acts result effect (stores (S.held shelf.old) ledger)
+        (stores (S.held shelf.new) ledger)) }
+    ensures causes { Causes OutsideErr.Failed result (S.Shelf.faults shelf.old)
+        (S.Shelf.faults shelf.new) }
 {
     let lines = made_lines(alloc, kind, number, case.lanes, &made.plan)?;
     write_claim(alloc, shelf, kind, case, numbers, made)?;

@@ -35,7 +35,8 @@ pub fn made_lines(
     lanes: u32,
     plan: &Plan,
 ) -> Result<Vec<String>, NoMemory>
-    ensures { IfOk result (λ text. flat_map string_bytes text.items ≡ made_text kind number lanes plan.now) }
+    ensures { IfOk result (λ text. flat_map string_bytes text.items
+        ≡ made_text kind number lanes plan.now) }
 {
     let mut text = Vec::new(alloc);
     let (name, inputs, wires, rows) = (kind_name(kind), plan.inputs(), plan.wires(), plan.rows());
@@ -51,7 +52,8 @@ fn values_lines(
     made: Vec<String>,
     found: &OpenedClaim,
 ) -> Result<Vec<String>, NoMemory>
-    ensures { IfOk result (λ text. flat_map string_bytes text.items ≡ flat_map string_bytes made.items
+    ensures { IfOk result (λ text. flat_map string_bytes text.items
+        ≡ flat_map string_bytes made.items
         ++ found_text (length found.now.opened.lanes) (same_count found.now.head.inputs found.now.opened.lanes)) }
 {
     let lanes = found.opened.lanes.as_slice();
@@ -66,7 +68,8 @@ pub fn opened(
     made: Vec<String>,
     extraction: &ClaimExtraction,
 ) -> Result<Said, NoMemory>
-    ensures { IfOk result (λ said. said ≡ opened_said (flat_map string_bytes made.items) extraction.now) }
+    ensures { IfOk result (λ said. said
+        ≡ opened_said (flat_map string_bytes made.items) extraction.now) }
 {
     match extraction {
         Extraction::Bids(found) => {

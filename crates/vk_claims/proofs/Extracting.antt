@@ -1,4 +1,5 @@
--- What `claim-extract` says holds of the files: of two replies that are accepted for different challenges, values or a clash, and of no others.
+-- What `claim-extract` says holds of the files: of two replies that are accepted for different
+-- challenges, values or a clash, and of no others.
 use Rattle.std.proofs.Common.{◌≡◌, ◌≢◌, ℕ, Bool, true, false, List, Option, Some, Result, Ok, Err, refl, sym, ap, subst, ◌∙◌, arith, inl, inr}
 use Rattle.vk_io.specs.Files.{Files}
 use Rattle.vk_verifier.specs.declared.answers.Part.{Part}
@@ -32,45 +33,57 @@ use Rattle.vk_claims.proofs.Verifying.{status_accepted, status_within}
 
 module _ (files : Files) (names : ExtractWords) where
   abbrev answer : Result ClaimExtraction VErr
-  answer = claim_extraction_on admitted_plan files names.board names.first.challenge names.first.reply names.second.challenge names.second.reply
+  answer = claim_extraction_on admitted_plan files names.board names.first.challenge
+      names.first.reply names.second.challenge names.second.reply
 
   abbrev of_held : HoldsFiles files names → ClaimExtraction
   of_held held =
-      claim_extraction_in admitted_plan held.board_bytes held.first.challenge_bytes held.first.reply_bytes held.second.challenge_bytes held.second.reply_bytes
+      claim_extraction_in admitted_plan held.board_bytes held.first.challenge_bytes
+      held.first.reply_bytes held.second.challenge_bytes held.second.reply_bytes
 
-  answer_unread : (unread : Part × Bool) → first_unread files (name_of names) extract_parts ≡ Some unread → answer ≡ Err (fault_of unread)
+  answer_unread : (unread : Part × Bool)
+      → first_unread files (name_of names) extract_parts ≡ Some unread
+      → answer ≡ Err (fault_of unread)
   unfolding claim_extraction_on
   answer_unread unread is = files_unread (claim_extraction admitted_plan) files names unread is
 
   answer_read : (held : HoldsFiles files names) → answer ≡ Ok (of_held held)
   answer_read held =
-      (claim_files_are_extracted admitted_plan files names.board names.first.challenge names.first.reply names.second.challenge names.second.reply (of_held held)).1
+      (claim_files_are_extracted admitted_plan files names.board names.first.challenge
+      names.first.reply names.second.challenge names.second.reply (of_held held)).1
       (record { held = held; is = refl })
 
   answer_holds : ClaimExtractHolds files names answer
   answer_holds =
-      answered_holds files names extract_parts (HasClaimExtraction files names) answer answer_unread (λ read.
+      answered_holds files names extract_parts (HasClaimExtraction files names) answer answer_unread
+      (λ read.
       let held : HoldsFiles files names = files_held read in
       let holds =
       extraction_holds admitted_plan claimed plans_are_right claims_are_sound
-      held.board_bytes held.first.challenge_bytes held.first.reply_bytes held.second.challenge_bytes held.second.reply_bytes in
-      subst (ClaimExtractHolds files names) (sym (answer_read held)) (record { held = held; holds = holds }))
+      held.board_bytes held.first.challenge_bytes held.first.reply_bytes held.second.challenge_bytes
+      held.second.reply_bytes in
+      subst (ClaimExtractHolds files names) (sym (answer_read held))
+      (record { held = held; holds = holds }))
 
   abbrev said_of : Result ClaimExtraction VErr → SaidValue
   said_of answered = answer_said (claim_extraction_said names) (unread_said names) answered
 
-  answer_settled : (other : Result ClaimExtraction VErr) → SettlesExtract other → ClaimExtractHolds files names other → said_of answer ≡ said_of other
+  answer_settled : (other : Result ClaimExtraction VErr) → SettlesExtract other
+      → ClaimExtractHolds files names other → said_of answer ≡ said_of other
   answer_settled =
-      answered_settled files names extract_parts (HasClaimExtraction files names) answer answer_unread (claim_extraction_said names) SettlesExtract
+      answered_settled files names extract_parts (HasClaimExtraction files names) answer
+      answer_unread (claim_extraction_said names) SettlesExtract
       (λ extraction settles has.
       let held = has.held in
       answer_read held ∙ ap (λ e. Ok e)
       (unfound_found admitted_plan claimed plans_are_right claims_are_sound
-      held.board_bytes held.first.challenge_bytes held.first.reply_bytes held.second.challenge_bytes held.second.reply_bytes extraction settles has.holds))
+      held.board_bytes held.first.challenge_bytes held.first.reply_bytes held.second.challenge_bytes
+      held.second.reply_bytes extraction settles has.holds))
 
 pub tells_claim_extractions : TellsClaimExtractions
 tells_claim_extractions files names taken =
-    tells (ClaimExtractHolds files names) SettlesExtract (said_of files names) (answer files names) taken
+    tells (ClaimExtractHolds files names) SettlesExtract (said_of files names) (answer files names)
+    taken
     (answer_holds files names) (answer_settled files names)
 
 -- ---- the status and the text
@@ -81,22 +94,31 @@ module _ {file challenge reply other second : List ℕ} (two : TwoClaimsAccepted
   Puts IsSuch text = PutsText IsSuch text
 
   said_extracted : (extraction : ClaimExtraction) → IsOfClaim admitted_plan claimed two extraction
-      → let said = claim_extraction_said names extraction in IsClaimExtracted two said.status taken (puts said.text taken)
+      → let said = claim_extraction_said names extraction in
+      IsClaimExtracted two said.status taken (puts said.text taken)
   said_extracted (Refused of_second refused) is = absurd is
   said_extracted Same is = absurd is
   said_extracted (Clash clash) is =
-      inr (refl, put_told (Puts (IsClashBehind two.behind) clash_text) (clash_text clash) (λ before. record { found = clash; is = is; put = refl }) taken)
+      inr (
+        refl,
+        put_told (Puts (IsClashBehind two.behind) clash_text) (clash_text clash)
+            (λ before. record { found = clash; is = is; put = refl }) taken,
+      )
   said_extracted (Bids found) is =
       inl (
         refl,
-        put_told (Puts (IsClaimOpened admitted_plan claimed two) claim_extraction_text) (claim_extraction_text found)
+        put_told (Puts (IsClaimOpened admitted_plan claimed two) claim_extraction_text)
+            (claim_extraction_text found)
             (λ before. record { found = found; is = is; put = refl }) taken,
       )
 
-said_of_accepted : (files : Files) (names : ExtractWords) (taken : Option (List ℕ)) (accepted : AcceptsTwoClaims files names)
-    → let said = claim_extract_said files names in IsClaimExtracted accepted.two said.status taken (puts said.text taken)
+said_of_accepted : (files : Files) (names : ExtractWords) (taken : Option (List ℕ))
+    (accepted : AcceptsTwoClaims files names)
+    → let said = claim_extract_said files names in
+    IsClaimExtracted accepted.two said.status taken (puts said.text taken)
 said_of_accepted files names taken accepted =
-    let P : Result ClaimExtraction VErr → Type 0 = λ answer. let said = said_of files names answer in IsClaimExtracted accepted.two said.status taken
+    let P : Result ClaimExtraction VErr → Type 0 = λ answer. let said = said_of files names answer
+    in IsClaimExtracted accepted.two said.status taken
     (puts said.text taken) in
     subst P (sym (answer_read files names accepted.held))
     (said_extracted accepted.two names taken (of_held files names accepted.held)
@@ -105,21 +127,28 @@ said_of_accepted files names taken accepted =
 -- ---- only such files
 
 -- no reply is refused by the verdict that it is accepted
-refused_never : (of_second : Bool) (refused : ClaimVerdict) (file challenge reply other second : List ℕ)
-    → ClaimExtractionHolds admitted_plan claimed (Refused of_second refused) file challenge reply other second → refused ≢ Accepted
+refused_never : (of_second : Bool) (refused : ClaimVerdict)
+    (file challenge reply other second : List ℕ)
+    → ClaimExtractionHolds admitted_plan claimed (Refused of_second refused) file challenge reply
+    other second → refused ≢ Accepted
 refused_never false refused file challenge reply other second holds = holds.0
-refused_never true refused file challenge reply other second holds = second_refused second_accepted holds.1
+refused_never true refused file challenge reply other second holds =
+    second_refused second_accepted holds.1
 
 pub extracts_claims_exactly : ExtractsClaimsExactly
 extracts_claims_exactly files names taken = (
   said_of_accepted files names taken,
   λ found. let apart = told_apart (claim_extract_said files names).status found in
-      only_found files names (extract_inputs names) (HasClaimExtraction files names) (claim_extraction_said names) refl (λ _. refl) (λ _. refl) (status_within names) (AcceptsTwoClaims files names)
+      only_found files names (extract_inputs names) (HasClaimExtraction files names)
+      (claim_extraction_said names) refl (λ _. refl) (λ _. refl) (status_within names)
+      (AcceptsTwoClaims files names)
       (λ of_second refused holds other small.
       let held = holds.held in
-      refused_never of_second refused held.board_bytes held.first.challenge_bytes held.first.reply_bytes held.second.challenge_bytes held.second.reply_bytes holds.holds
+      refused_never of_second refused held.board_bytes held.first.challenge_bytes
+      held.first.reply_bytes held.second.challenge_bytes held.second.reply_bytes holds.holds
       (status_accepted names of_second refused other small))
-      (λ clash holds. record { held = holds.held; two = holds.holds.0 }) (λ values holds. record { held = holds.held; two = holds.holds.0 })
+      (λ clash holds. record { held = holds.held; two = holds.holds.0 })
+      (λ values holds. record { held = holds.held; two = holds.holds.0 })
       (answer files names) (answer_holds files names) apart.0 apart.1,
 )
 
@@ -128,7 +157,9 @@ extracts_claims_exactly files names taken = (
 pub tells_same_claims_exactly : TellsSameClaimsExactly
 tells_same_claims_exactly files names = record {
   only =
-      only_same files names (extract_inputs names) (HasClaimExtraction files names) (claim_extraction_said names) refl (λ _. refl) (λ _. refl) (status_within names)
+      only_same files names (extract_inputs names) (HasClaimExtraction files names)
+      (claim_extraction_said names) refl (λ _. refl) (λ _. refl) (status_within names)
       (answer files names) (answer_holds files names);
-  always = λ same _ _. ap (λ (said : SaidValue). said.status) (answer_settled files names (Ok Same) (λ found. found) same);
+  always = λ same _ _. ap (λ (said : SaidValue). said.status)
+      (answer_settled files names (Ok Same) (λ found. found) same);
 }

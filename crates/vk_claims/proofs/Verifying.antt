@@ -1,4 +1,5 @@
--- What `claim-verify` says holds of the files, and status 0 comes exactly where the reply is accepted.
+-- What `claim-verify` says holds of the files, and status 0 comes exactly where the reply is
+-- accepted.
 use Rattle.std.proofs.Common.{◌≡◌, ◌≢◌, ℕ, ◌<◌, ◌≤◌, Bool, false, List, Some, Result, Ok, Err, refl, sym, ap, subst, ◌∙◌, arith}
 use Rattle.vk_io.specs.Files.{Files}
 use Rattle.vk_verifier.specs.declared.answers.Part.{Part}
@@ -22,7 +23,8 @@ use Rattle.vk_claims.proofs.Findings.{verdict_given, verdict_shown}
 -- ---- verdicts
 
 -- only that a reply is accepted has a status below 4 other than 1
-pub status_accepted : (names : ExtractWords) (second : Bool) (verdict : ClaimVerdict) → (claim_judged_said names second verdict).status ≢ 1
+pub status_accepted : (names : ExtractWords) (second : Bool) (verdict : ClaimVerdict)
+    → (claim_judged_said names second verdict).status ≢ 1
     → (claim_judged_said names second verdict).status < 4 → verdict ≡ Accepted
 status_accepted names second Accepted other small = refl
 status_accepted names second (Malformed part line) other small = absurd (omega arith)
@@ -31,7 +33,8 @@ status_accepted names second Lanes other small = absurd (other refl)
 status_accepted names second (Wire lane wire fault) other small = absurd (other refl)
 status_accepted names second (Row lane row) other small = absurd (other refl)
 
-pub status_within : (names : ExtractWords) (second : Bool) (verdict : ClaimVerdict) → (claim_judged_said names second verdict).status ≤ 4
+pub status_within : (names : ExtractWords) (second : Bool) (verdict : ClaimVerdict)
+    → (claim_judged_said names second verdict).status ≤ 4
 status_within names second Accepted = omega arith
 status_within names second (Malformed part line) = omega arith
 status_within names second Public = omega arith
@@ -43,41 +46,55 @@ status_within names second (Row lane row) = omega arith
 
 module _ (files : Files) (names : VerifyWords) where
   abbrev answer : Result ClaimVerdict VErr
-  answer = claim_verdict_on admitted_plan files names.board names.attempt.challenge names.attempt.reply
+  answer = claim_verdict_on admitted_plan files names.board names.attempt.challenge
+      names.attempt.reply
 
-  answer_unread : (unread : Part × Bool) → first_unread files (name_of (verified_words names)) verify_parts ≡ Some unread → answer ≡ Err (fault_of unread)
+  answer_unread : (unread : Part × Bool)
+      → first_unread files (name_of (verified_words names)) verify_parts ≡ Some unread
+      → answer ≡ Err (fault_of unread)
   unfolding claim_verdict_on
   answer_unread unread is = attempt_unread (claim_judged admitted_plan) files names unread is
 
-  answer_read : (board : List ℕ) → IsHeldFile files names.board board → (attempt : HeldAttempt files names.attempt.challenge names.attempt.reply)
-      → answer ≡ Ok (claim_verdict_of admitted_plan board attempt.challenge_bytes attempt.reply_bytes)
+  answer_read : (board : List ℕ) → IsHeldFile files names.board board
+      → (attempt : HeldAttempt files names.attempt.challenge names.attempt.reply)
+      → answer ≡ Ok (claim_verdict_of admitted_plan board attempt.challenge_bytes
+      attempt.reply_bytes)
   unfolding claim_verdict_on
-  answer_read board is attempt = attempt_read (claim_judged admitted_plan) files names board is attempt
+  answer_read board is attempt =
+      attempt_read (claim_judged admitted_plan) files names board is attempt
 
   answer_holds : ClaimVerifyHolds files names answer
   answer_holds =
-      answered_holds files (verified_words names) verify_parts (HasClaimVerdict files names) answer answer_unread (λ read.
-      let attempt : HeldAttempt files names.attempt.challenge names.attempt.reply = attempt_held read in
+      answered_holds files (verified_words names) verify_parts (HasClaimVerdict files names) answer
+      answer_unread (λ read.
+      let attempt : HeldAttempt files names.attempt.challenge names.attempt.reply =
+      attempt_held read in
       subst (ClaimVerifyHolds files names) (sym (answer_read read.0.0 read.0.1 attempt)) (record {
         board = read.0.0;
         board_is = read.0.1;
         attempt = attempt;
-        holds = verdict_shown admitted_plan plans_are_right read.0.0 attempt.challenge_bytes attempt.reply_bytes _ refl;
+        holds = verdict_shown admitted_plan plans_are_right read.0.0 attempt.challenge_bytes
+            attempt.reply_bytes _ refl;
       }))
 
   abbrev said_of : Result ClaimVerdict VErr → SaidValue
-  said_of answered = answer_said (claim_judged_said (verified_words names) false) (unread_said (verified_words names)) answered
+  said_of answered = answer_said (claim_judged_said (verified_words names) false)
+      (unread_said (verified_words names)) answered
 
-  answer_settled : (other : Result ClaimVerdict VErr) → ClaimVerifyHolds files names other → said_of answer ≡ said_of other
+  answer_settled : (other : Result ClaimVerdict VErr) → ClaimVerifyHolds files names other
+      → said_of answer ≡ said_of other
   answer_settled other holds =
-      answered_settled files (verified_words names) verify_parts (HasClaimVerdict files names) answer answer_unread
+      answered_settled files (verified_words names) verify_parts (HasClaimVerdict files names)
+      answer answer_unread
       (claim_judged_said (verified_words names) false) (λ _. Unit {0}) (λ verdict _ has.
       answer_read has.board has.board_is has.attempt
-      ∙ ap (λ v. Ok v) (verdict_given admitted_plan plans_are_right has.board has.attempt.challenge_bytes has.attempt.reply_bytes verdict has.holds)) other tt holds
+      ∙ ap (λ v. Ok v) (verdict_given admitted_plan plans_are_right has.board
+      has.attempt.challenge_bytes has.attempt.reply_bytes verdict has.holds)) other tt holds
 
 pub tells_claim_verdicts : TellsClaimVerdicts
 tells_claim_verdicts files names taken =
-    tells (ClaimVerifyHolds files names) (λ _. Unit {0}) (said_of files names) (answer files names) taken
+    tells (ClaimVerifyHolds files names) (λ _. Unit {0}) (said_of files names) (answer files names)
+    taken
     (answer_holds files names) (λ other settles holds. answer_settled files names other holds)
 
 -- ---- status 0
@@ -85,8 +102,12 @@ tells_claim_verdicts files names taken =
 pub verifies_claims_exactly : VerifiesClaimsExactly
 verifies_claims_exactly files names = record {
   only =
-      only_value files (verified_words names) (verify_inputs names) (HasClaimVerdict files names) (claim_judged_said (verified_words names) false) (AcceptsClaim files names)
-      (λ answered holds zero_is. subst (HasClaimVerdict files names) (status_accepted (verified_words names) false answered (λ one. omega arith) (omega arith)) holds)
+      only_value files (verified_words names) (verify_inputs names) (HasClaimVerdict files names)
+      (claim_judged_said (verified_words names) false) (AcceptsClaim files names)
+      (λ answered holds zero_is. subst (HasClaimVerdict files names)
+      (status_accepted (verified_words names) false answered (λ one. omega arith) (omega arith))
+      holds)
       (answer files names) (answer_holds files names);
-  always = λ accepts _ _. ap (λ (said : SaidValue). said.status) (answer_settled files names (Ok Accepted) accepts);
+  always = λ accepts _ _. ap (λ (said : SaidValue). said.status)
+      (answer_settled files names (Ok Accepted) accepts);
 }

@@ -32,18 +32,24 @@ le_decides : (a b : ℕ) → Decides (nat_le a b) (a ≤ b)
 le_decides a b = (leb-true a b, le-leb a b)
 
 among_decides : (most number : ℕ) → Decides (is_among most number) ((1 ≤ number) × (number ≤ most))
-among_decides most number = Decides-and (nat_le 1 number) (nat_le number most) (le_decides 1 number) (le_decides number most)
+among_decides most number = Decides-and (nat_le 1 number) (nat_le number most) (le_decides 1 number)
+    (le_decides number most)
 
-all_decides : (test : ℕ → Bool) (P : ℕ → Type 0) → ((number : ℕ) → Decides (test number) (P number)) → (numbers : List ℕ)
+all_decides : (test : ℕ → Bool) (P : ℕ → Type 0) → ((number : ℕ) → Decides (test number) (P number))
+    → (numbers : List ℕ)
     → Decides (list_all test numbers) (All P numbers)
-all_decides test P each numbers = Decides-by_and test P (list_all test) each refl (λ _ _. refl) numbers
+all_decides test P each numbers =
+    Decides-by_and test P (list_all test) each refl (λ _ _. refl) numbers
 
 module _ (test : ℕ → ℕ → Bool) (P : ℕ → ℕ → Type 0) (each : (earlier later : ℕ) → Decides (test earlier later) (P earlier later)) where
-  later_pass : (number : ℕ) (numbers : List ℕ) → AllPairs P (number ∷ numbers) → All (P number) numbers
-  later_pass number numbers pairs k d within = pairs 0 (suc k) d (omega arith) (omega (arith, within))
+  later_pass : (number : ℕ) (numbers : List ℕ) → AllPairs P (number ∷ numbers)
+      → All (P number) numbers
+  later_pass number numbers pairs k d within =
+      pairs 0 (suc k) d (omega arith) (omega (arith, within))
 
   rest_pass : (number : ℕ) (numbers : List ℕ) → AllPairs P (number ∷ numbers) → AllPairs P numbers
-  rest_pass number numbers pairs i j d before within = pairs (suc i) (suc j) d (omega (arith, before)) (omega (arith, within))
+  rest_pass number numbers pairs i j d before within =
+      pairs (suc i) (suc j) d (omega (arith, before)) (omega (arith, within))
 
   pairs_decide : (numbers : List ℕ) → Decides (all_pairs test numbers) (AllPairs P numbers)
   pairs_decide [] = (λ _ i j d before within. absurd (omega (arith, within)), λ _. refl)
@@ -55,36 +61,43 @@ module _ (test : ℕ → ℕ → Bool) (P : ℕ → ℕ → Type 0) (each : (ear
 
 -- ---- the numbers of a sale of equal units
 
--- whether a sale of equal units may have these numbers, which are the width, the price and the winners' positions: each is
--- within its limits, and where all win the price is 0
+-- whether a sale of equal units may have these numbers, which are the width, the price and the
+-- winners' positions: each is within its limits, and where all win the price is 0
 unfoldable pub is_uniform_case : ℕ → List ℕ → Bool
 is_uniform_case inputs numbers =
     (nat_le 1 inputs && (nat_le inputs 64 && (nat_le 3 (length numbers)
     && (is_among 40 (width_of numbers)
     && (nat_lt (price_of numbers) (2 ^ width_of numbers)
-    && (list_all (is_among inputs) (winners_of numbers) && all_pairs nat_lt (winners_of numbers)))))))
+    && (list_all (is_among inputs) (winners_of numbers)
+    && all_pairs nat_lt (winners_of numbers)))))))
     && (nat_lt 0 (length (losers_of inputs numbers)) || price_of numbers == 0)
 
 module _ (inputs : ℕ) (numbers : List ℕ) where
-  position_decides : (position : ℕ) → Decides (is_among inputs position) (IsPositionAmong inputs position)
+  position_decides : (position : ℕ)
+      → Decides (is_among inputs position) (IsPositionAmong inputs position)
   position_decides position =
-      Decides-like (is_among inputs position) (λ h. record { some = h.0; within = h.1 }) (λ is. (is.some, is.within))
+      Decides-like (is_among inputs position) (λ h. record { some = h.0; within = h.1 })
+      (λ is. (is.some, is.within))
       (among_decides inputs position)
 
   abbrev OwesNothing : Type 0
   OwesNothing = (0 < length (losers_of inputs numbers)) ⊎ (price_of numbers ≡ 0)
 
   abbrev AllWinFor0 : Type 0
-  AllWinFor0 = ((position : ℕ) → ¬ IsLoser inputs (winners_of numbers) position) → price_of numbers ≡ 0
+  AllWinFor0 = ((position : ℕ) → ¬ IsLoser inputs (winners_of numbers) position)
+      → price_of numbers ≡ 0
 
   for_nothing : OwesNothing → AllWinFor0
-  for_nothing (inl some) = λ nobody. absurd (nobody (slice_index (losers_of inputs numbers) 0) (losers_lose inputs (winners_of numbers) 0 0 some))
+  for_nothing (inl some) = λ nobody.
+      absurd (nobody (slice_index (losers_of inputs numbers) 0)
+      (losers_lose inputs (winners_of numbers) 0 0 some))
   for_nothing (inr nothing) = λ _. nothing
 
   owes_nothing : AllWinFor0 → OwesNothing
   owes_nothing all = elim (cases_lt 0 (length (losers_of inputs numbers))) [
     | inl some ↦ inl some
-    | inr empty ↦ inr (all (λ position loses. absurd (omega (arith, empty, (loser_listed inputs (winners_of numbers) position loses).1))))
+    | inr empty ↦ inr (all (λ position loses.
+        absurd (omega (arith, empty, (loser_listed inputs (winners_of numbers) position loses).1))))
   ]
 
   pub uniform_decides : Decides (is_uniform_case inputs numbers) (IsUniformCase inputs numbers)
@@ -104,7 +117,19 @@ module _ (inputs : ℕ) (numbers : List ℕ) where
         all_win_for_0 = for_nothing h.1;
       })
       (λ is. let limits = is.limits in (
-        (limits.some_inputs, (limits.most_inputs, (limits.enough, ((limits.wide.least, limits.wide.most), (limits.within_width, (limits.are_positions, limits.ascending)))))),
+        (
+          limits.some_inputs,
+          (
+            limits.most_inputs,
+            (
+              limits.enough,
+              (
+                (limits.wide.least, limits.wide.most),
+                (limits.within_width, (limits.are_positions, limits.ascending)),
+              ),
+            ),
+          ),
+        ),
         owes_nothing is.all_win_for_0,
       ))
       (Decides-and _ _
@@ -115,13 +140,16 @@ module _ (inputs : ℕ) (numbers : List ℕ) where
       (Decides-and _ _ (Decides-ltb (price_of numbers) (2 ^ width_of numbers))
       (Decides-and _ _
       (all_decides (is_among inputs) (IsPositionAmong inputs) position_decides (winners_of numbers))
-      (pairs_decide nat_lt (λ earlier later. earlier < later) Decides-ltb (winners_of numbers))))))))
-      (Decides-or _ _ (Decides-ltb 0 (length (losers_of inputs numbers))) (Decides-eqb (price_of numbers) 0)))
+      (pairs_decide nat_lt (λ earlier later. earlier < later) Decides-ltb
+      (winners_of numbers))))))))
+      (Decides-or _ _ (Decides-ltb 0 (length (losers_of inputs numbers)))
+      (Decides-eqb (price_of numbers) 0)))
 
 -- ---- the numbers of a matching
 
--- whether a matching may have these numbers, which are the width of the ranks and each man's woman: the width and the number
--- of men are within their limits, each has a woman of his own, and there is a rank of each by each
+-- whether a matching may have these numbers, which are the width of the ranks and each man's woman:
+-- the width and the number of men are within their limits, each has a woman of his own, and there
+-- is a rank of each by each
 unfoldable pub is_matching_case : ℕ → List ℕ → Bool
 is_matching_case inputs numbers =
     is_among 16 (size_of numbers)
@@ -131,9 +159,11 @@ is_matching_case inputs numbers =
     && inputs == 2 * size_of numbers * size_of numbers)))
 
 module _ (inputs : ℕ) (numbers : List ℕ) where
-  person_decides : (person : ℕ) → Decides (is_among (size_of numbers) person) (IsPerson (size_of numbers) person)
+  person_decides : (person : ℕ)
+      → Decides (is_among (size_of numbers) person) (IsPerson (size_of numbers) person)
   person_decides person =
-      Decides-like (is_among (size_of numbers) person) (λ h. record { some = h.0; within = h.1 }) (λ is. (is.some, is.within))
+      Decides-like (is_among (size_of numbers) person) (λ h. record { some = h.0; within = h.1 })
+      (λ is. (is.some, is.within))
       (among_decides (size_of numbers) person)
 
   differ_decides : (earlier later : ℕ) → Decides (differ earlier later) (earlier ≢ later)
@@ -144,15 +174,26 @@ module _ (inputs : ℕ) (numbers : List ℕ) where
   matching_decides =
       Decides-like (is_matching_case inputs numbers)
       (λ h. record {
-        limits = record { some = h.0.0; most = h.0.1; least_width = h.1.0.0; most_width = h.1.0.1; all_ranks = h.1.1.1.1 };
+        limits = record {
+          some = h.0.0;
+          most = h.0.1;
+          least_width = h.1.0.0;
+          most_width = h.1.0.1;
+          all_ranks = h.1.1.1.1;
+        };
         permutation = record { one_each = refl; are_persons = h.1.1.0; all_different = h.1.1.1.0 };
       })
       (λ is. (
         (is.limits.some, is.limits.most),
-        ((is.limits.least_width, is.limits.most_width), (is.permutation.are_persons, (is.permutation.all_different, is.limits.all_ranks))),
+        (
+          (is.limits.least_width, is.limits.most_width),
+          (is.permutation.are_persons, (is.permutation.all_different, is.limits.all_ranks)),
+        ),
       ))
       (Decides-and _ _ (among_decides 16 (size_of numbers))
       (Decides-and _ _ (among_decides 16 (ranks.width_of numbers))
-      (Decides-and _ _ (all_decides (is_among (size_of numbers)) (IsPerson (size_of numbers)) person_decides (matching_of numbers))
-      (Decides-and _ _ (pairs_decide differ (λ earlier later. earlier ≢ later) differ_decides (matching_of numbers))
+      (Decides-and _ _ (all_decides (is_among (size_of numbers)) (IsPerson (size_of numbers))
+      person_decides (matching_of numbers))
+      (Decides-and _ _ (pairs_decide differ (λ earlier later. earlier ≢ later) differ_decides
+      (matching_of numbers))
       (Decides-eqb inputs (2 * size_of numbers * size_of numbers))))))

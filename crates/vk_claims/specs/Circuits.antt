@@ -22,7 +22,8 @@ abbrev pub is_case : Kind → ℕ → List ℕ → Bool
 is_case Uniform = is_uniform_case
 is_case Matching = is_matching_case
 
-case_decides : (kind : Kind) (inputs : ℕ) (numbers : List ℕ) → Decides (is_case kind inputs numbers) (IsCase kind inputs numbers)
+case_decides : (kind : Kind) (inputs : ℕ) (numbers : List ℕ)
+    → Decides (is_case kind inputs numbers) (IsCase kind inputs numbers)
 case_decides Uniform = uniform_decides
 case_decides Matching = matching_decides
 
@@ -40,14 +41,16 @@ claimed Matching inputs numbers values = IsMatchingClaim inputs numbers values
 
 -- the plan of a public part, where it is admitted
 unfoldable pub admitted_plan : Plans
-admitted_plan kind inputs numbers = if is_case kind inputs numbers then Some (plan_of kind inputs numbers) else None
+admitted_plan kind inputs numbers = if is_case kind inputs numbers
+    then Some (plan_of kind inputs numbers) else None
 
 module _ (kind : Kind) (inputs : ℕ) (numbers : List ℕ) where
   abbrev plan_if : Bool → Option PlanValue
   plan_if test = if test then Some (plan_of kind inputs numbers) else None
 
   -- where it may have these numbers, and where it may not
-  pub part : IsCase kind inputs numbers → admitted_plan kind inputs numbers ≡ Some (plan_of kind inputs numbers)
+  pub part : IsCase kind inputs numbers
+      → admitted_plan kind inputs numbers ≡ Some (plan_of kind inputs numbers)
   unfolding admitted_plan
   part is = ap plan_if ((case_decides kind inputs numbers).1 is)
 
@@ -59,7 +62,9 @@ module _ (kind : Kind) (inputs : ℕ) (numbers : List ℕ) where
       not_case true is = absurd (none ((case_decides kind inputs numbers).0 is))
       not_case false is = refl
 
-  by_case : (P : PlanValue → Type 0) → (IsCase kind inputs numbers → P (plan_of kind inputs numbers)) → IfSome (admitted_plan kind inputs numbers) P
+  by_case : (P : PlanValue → Type 0)
+      → (IsCase kind inputs numbers → P (plan_of kind inputs numbers))
+      → IfSome (admitted_plan kind inputs numbers) P
   unfolding admitted_plan
   by_case P holds = by_test (is_case kind inputs numbers) refl
     where
@@ -69,29 +74,35 @@ module _ (kind : Kind) (inputs : ℕ) (numbers : List ℕ) where
 
 -- ---- the laws of circuits
 
-pub plan_is_right : (kind : Kind) (inputs : ℕ) (numbers : List ℕ) → IsCase kind inputs numbers → IsPlan (plan_of kind inputs numbers)
+pub plan_is_right : (kind : Kind) (inputs : ℕ) (numbers : List ℕ) → IsCase kind inputs numbers
+    → IsPlan (plan_of kind inputs numbers)
 plan_is_right Uniform = uniform_is_plan
 plan_is_right Matching = matching_is_plan
 
-pub plan_inputs : (kind : Kind) (inputs : ℕ) (numbers : List ℕ) → (plan_of kind inputs numbers).inputs ≡ inputs
+pub plan_inputs : (kind : Kind) (inputs : ℕ) (numbers : List ℕ)
+    → (plan_of kind inputs numbers).inputs ≡ inputs
 plan_inputs Uniform = uniform_inputs
 plan_inputs Matching = matching_inputs
 
-claim_is_sound : (kind : Kind) (inputs : ℕ) (numbers : List ℕ) → IsCase kind inputs numbers → (values : List ℕ)
+claim_is_sound : (kind : Kind) (inputs : ℕ) (numbers : List ℕ) → IsCase kind inputs numbers
+    → (values : List ℕ)
     → Holds (plan_of kind inputs numbers) values → claimed kind inputs numbers (take inputs values)
 unfolding claimed
 claim_is_sound Uniform = uniform_sound
 claim_is_sound Matching = matching_sound
 
 -- a plan keeps what every plan keeps, and has as many inputs as its part says
-pub plans_are_right : (kind : Kind) (inputs : ℕ) (numbers : List ℕ) → IfSome (admitted_plan kind inputs numbers) (λ plan. IsPlan plan × (plan.inputs ≡ inputs))
+pub plans_are_right : (kind : Kind) (inputs : ℕ) (numbers : List ℕ)
+    → IfSome (admitted_plan kind inputs numbers) (λ plan. IsPlan plan × (plan.inputs ≡ inputs))
 plans_are_right kind inputs numbers =
     by_case kind inputs numbers (λ plan. IsPlan plan × (plan.inputs ≡ inputs))
     (λ is. (plan_is_right kind inputs numbers is, plan_inputs kind inputs numbers))
 
 -- where values hold for it, its claim holds of the inputs
 pub claims_are_sound : (kind : Kind) (inputs : ℕ) (numbers values : List ℕ)
-    → IfSome (admitted_plan kind inputs numbers) (λ plan. Holds plan values → claimed kind inputs numbers (take inputs values))
+    → IfSome (admitted_plan kind inputs numbers)
+    (λ plan. Holds plan values → claimed kind inputs numbers (take inputs values))
 claims_are_sound kind inputs numbers values =
-    by_case kind inputs numbers (λ plan. Holds plan values → claimed kind inputs numbers (take inputs values))
+    by_case kind inputs numbers
+    (λ plan. Holds plan values → claimed kind inputs numbers (take inputs values))
     (λ is holds. claim_is_sound kind inputs numbers is values holds)

@@ -21,4 +21,5 @@ claim_extraction_said names (Bids found) = record { status = 0; text = claim_ext
 abbrev pub claim_extract_said : Files → ExtractWords → SaidValue
 claim_extract_said files names =
     answer_said (claim_extraction_said names) (unread_said names)
-    (claim_extraction_on admitted_plan files names.board names.first.challenge names.first.reply names.second.challenge names.second.reply)
+    (claim_extraction_on admitted_plan files names.board names.first.challenge names.first.reply
+    names.second.challenge names.second.reply)

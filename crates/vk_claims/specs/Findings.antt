@@ -1,5 +1,5 @@
--- The verdicts on claims, and what two replies to a claim file come to, by the bytes of the files, whatever public parts
--- are admitted.
+-- The verdicts on claims, and what two replies to a claim file come to, by the bytes of the files,
+-- whatever public parts are admitted.
 use Rattle.std.specs.Prelude.{◌≡◌, ◌≢◌, ℕ, false, true, List}
 use Rattle.vk_verifier.specs.declared.answers.Fault.TheVariants as behind
 use Rattle.vk_bids.specs.declared.extraction.Extraction.TheVariants.{Refused, Same, Clash, Bids}
@@ -18,10 +18,13 @@ module _ (plans : Plans) where
   abbrev pub ClaimVerdictHolds : ClaimVerdict → List ℕ → List ℕ → List ℕ → Type 0
   ClaimVerdictHolds Accepted file challenge reply = ClaimAccepts plans file challenge reply
   ClaimVerdictHolds Public file challenge reply = PublicFails plans file
-  ClaimVerdictHolds (Malformed part line) file challenge reply = ClaimFails plans file challenge reply (behind.Malformed part line)
+  ClaimVerdictHolds (Malformed part line) file challenge reply =
+      ClaimFails plans file challenge reply (behind.Malformed part line)
   ClaimVerdictHolds Lanes file challenge reply = ClaimFails plans file challenge reply behind.Lanes
-  ClaimVerdictHolds (Wire lane wire fault) file challenge reply = ClaimFails plans file challenge reply (behind.Wire lane wire fault)
-  ClaimVerdictHolds (Row lane row) file challenge reply = ClaimFails plans file challenge reply (behind.Row lane row)
+  ClaimVerdictHolds (Wire lane wire fault) file challenge reply =
+      ClaimFails plans file challenge reply (behind.Wire lane wire fault)
+  ClaimVerdictHolds (Row lane row) file challenge reply =
+      ClaimFails plans file challenge reply (behind.Row lane row)
 
   -- both replies are accepted, and the challenges are the same
   pub record SameClaimsAccepted (file challenge reply other second : List ℕ) : Type 0 where
@@ -31,17 +34,23 @@ module _ (plans : Plans) where
 
   abbrev pub SecondClaimFails : ClaimVerdict → List ℕ → List ℕ → List ℕ → Type 0
   SecondClaimFails verdict file challenge reply =
-      RefusesSecond Accepted told_of_second (λ fault. ClaimVerdictHolds fault file challenge reply) verdict
+      RefusesSecond Accepted told_of_second (λ fault. ClaimVerdictHolds fault file challenge reply)
+      verdict
 
-  -- the first reply is refused; or it is accepted, and the second is refused; or both are accepted, and the challenges
-  -- are the same, one commitment is opened with two values, or there are values of which the claim holds
-  abbrev pub ClaimExtractionHolds : Claims → ClaimExtraction → List ℕ → List ℕ → List ℕ → List ℕ → List ℕ → Type 0
+  -- the first reply is refused; or it is accepted, and the second is refused; or both are accepted,
+  -- and the challenges are the same, one commitment is opened with two values, or there are values
+  -- of which the claim holds
+  abbrev pub ClaimExtractionHolds : Claims → ClaimExtraction → List ℕ → List ℕ → List ℕ → List ℕ
+      → List ℕ → Type 0
   ClaimExtractionHolds claims (Refused false verdict) file challenge reply other second =
       (verdict ≢ Accepted) × ClaimVerdictHolds verdict file challenge reply
   ClaimExtractionHolds claims (Refused true verdict) file challenge reply other second =
       ClaimAccepts plans file challenge reply × SecondClaimFails verdict file other second
-  ClaimExtractionHolds claims Same file challenge reply other second = SameClaimsAccepted file challenge reply other second
+  ClaimExtractionHolds claims Same file challenge reply other second =
+      SameClaimsAccepted file challenge reply other second
   ClaimExtractionHolds claims (Clash clash) file challenge reply other second =
-      (two : TwoClaimsAccepted plans file challenge reply other second) × IsClashBehind two.behind clash
+      (two : TwoClaimsAccepted plans file challenge reply other second)
+      × IsClashBehind two.behind clash
   ClaimExtractionHolds claims (Bids found) file challenge reply other second =
-      (two : TwoClaimsAccepted plans file challenge reply other second) × IsClaimOpened plans claims two found
+      (two : TwoClaimsAccepted plans file challenge reply other second)
+      × IsClaimOpened plans claims two found

@@ -1,4 +1,5 @@
--- What the statuses of `claim-verify` and `claim-extract` mean, by the bytes of the named files alone.
+-- What the statuses of `claim-verify` and `claim-extract` mean, by the bytes of the named files
+-- alone.
 use Rattle.std.specs.Prelude.{◌≡◌, ◌⊎◌, ◌↔◌, ℕ, false, List, ◌++◌, Option, Some, None, Result}
 use Rattle.vk_io.specs.Files.{Files, Modelled}
 use Rattle.vk_verifier.specs.declared.answers.VErr.{VErr}
@@ -29,7 +30,8 @@ use Rattle.vk_claims.specs.Verdicts.{claim_judged_said, claim_verify_said}
 -- ---- public parts
 
 -- a part of this kind is admitted exactly in such a case, by this plan, and this is what it claims
-pub record Admits (kind : Kind) (inputs : ℕ) (numbers : List ℕ) (IsCase : Type 0) (plan : PlanValue) (IsClaim : List ℕ → Type 0) : Type 0 where
+pub record Admits (kind : Kind) (inputs : ℕ) (numbers : List ℕ) (IsCase : Type 0) (plan : PlanValue)
+    (IsClaim : List ℕ → Type 0) : Type 0 where
   pub admitted : IsCase → admitted_plan kind inputs numbers ≡ Some plan
   pub other : ¬ IsCase → admitted_plan kind inputs numbers ≡ None
   pub claims : (values : List ℕ) → claimed kind inputs numbers values ↔ IsClaim values
@@ -37,21 +39,25 @@ pub record Admits (kind : Kind) (inputs : ℕ) (numbers : List ℕ) (IsCase : Ty
 -- a sale of equal units, where it may have these numbers, which claims the outcome of the bids
 abbrev pub AdmitsUniform : ℕ → List ℕ → Type 0
 AdmitsUniform inputs numbers =
-    Admits Uniform inputs numbers (IsUniformCase inputs numbers) (uniform_plan inputs numbers) (IsUniformClaim inputs numbers)
+    Admits Uniform inputs numbers (IsUniformCase inputs numbers) (uniform_plan inputs numbers)
+    (IsUniformClaim inputs numbers)
 
 -- a matching, where it may have these numbers, which claims that no pair blocks it by the ranks
 abbrev pub AdmitsMatching : ℕ → List ℕ → Type 0
 AdmitsMatching inputs numbers =
-    Admits Matching inputs numbers (IsMatchingCase inputs numbers) (matching_plan inputs numbers) (IsMatchingClaim inputs numbers)
+    Admits Matching inputs numbers (IsMatchingCase inputs numbers) (matching_plan inputs numbers)
+    (IsMatchingClaim inputs numbers)
 
 -- ---- `claim-verify`
 
 -- the named files are held, and the verdict holds of their bytes
-pub record HasClaimVerdict (files : Files) (names : VerifyWords) (verdict : ClaimVerdict) : Type 0 where
-  pub board : List ℕ
-  pub board_is : IsHeldFile files names.board board
-  pub attempt : HeldAttempt files names.attempt.challenge names.attempt.reply
-  pub holds : ClaimVerdictHolds admitted_plan verdict board attempt.challenge_bytes attempt.reply_bytes
+pub record HasClaimVerdict (files : Files) (names : VerifyWords) (verdict : ClaimVerdict) : Type 0
+  where
+    pub board : List ℕ
+    pub board_is : IsHeldFile files names.board board
+    pub attempt : HeldAttempt files names.attempt.challenge names.attempt.reply
+    pub holds : ClaimVerdictHolds admitted_plan verdict board attempt.challenge_bytes
+        attempt.reply_bytes
 
 -- the reply is accepted with the claim file and the challenge
 abbrev pub AcceptsClaim : Files → VerifyWords → Type 0
@@ -63,24 +69,31 @@ IsClaimVerified files names status = ComesExactly 0 (AcceptsClaim files names) s
 
 -- every end says what holds, and every answer that holds is what is said
 abbrev pub ClaimVerifyHolds : Files → VerifyWords → Result ClaimVerdict VErr → Type 0
-ClaimVerifyHolds files names = AnswerHolds files (verified_words names) (verify_inputs names) (HasClaimVerdict files names)
+ClaimVerifyHolds files names =
+    AnswerHolds files (verified_words names) (verify_inputs names) (HasClaimVerdict files names)
 
 abbrev pub TellsClaimVerdict : Files → VerifyWords → ℕ → Option (List ℕ) → Option (List ℕ) → Type 0
 TellsClaimVerdict files names status old new =
-    TellsAnswer (ClaimVerifyHolds files names) (λ _. Unit {0}) (answer_said (claim_judged_said (verified_words names) false) (unread_said (verified_words names))) status old new
+    TellsAnswer (ClaimVerifyHolds files names) (λ _. Unit {0})
+    (answer_said (claim_judged_said (verified_words names) false)
+    (unread_said (verified_words names))) status old new
 
 -- ---- `claim-extract`
 
--- the named files are held, and both replies are accepted with the claim file, for challenges that differ
+-- the named files are held, and both replies are accepted with the claim file, for challenges that
+-- differ
 pub record AcceptsTwoClaims (files : Files) (names : ExtractWords) : Type 0 where
   pub held : HoldsFiles files names
-  pub two : TwoClaimsAccepted admitted_plan held.board_bytes held.first.challenge_bytes held.first.reply_bytes held.second.challenge_bytes held.second.reply_bytes
+  pub two : TwoClaimsAccepted admitted_plan held.board_bytes held.first.challenge_bytes
+      held.first.reply_bytes held.second.challenge_bytes held.second.reply_bytes
 
 -- they are held, and the extraction holds of their bytes
-pub record HasClaimExtraction (files : Files) (names : ExtractWords) (extraction : ClaimExtraction) : Type 0 where
+pub record HasClaimExtraction (files : Files) (names : ExtractWords)
+    (extraction : ClaimExtraction) : Type 0 where
   pub held : HoldsFiles files names
   pub holds : ClaimExtractionHolds admitted_plan claimed extraction
-      held.board_bytes held.first.challenge_bytes held.first.reply_bytes held.second.challenge_bytes held.second.reply_bytes
+      held.board_bytes held.first.challenge_bytes held.first.reply_bytes held.second.challenge_bytes
+      held.second.reply_bytes
 
 -- both replies are accepted, for challenges that don't differ
 abbrev pub AcceptsSameClaims : Files → ExtractWords → Type 0
@@ -91,46 +104,60 @@ abbrev pub IsSameClaim : Files → ExtractWords → ℕ → Type 0
 IsSameClaim files names status = ComesExactly 7 (AcceptsSameClaims files names) status
 
 -- the text of such a thing is put
-pub record PutsText {X : Type 0} (IsSuch : X → Type 0) (text : X → List ℕ) (old new : List ℕ) : Type 0 where
+pub record PutsText {X : Type 0} (IsSuch : X → Type 0) (text : X → List ℕ)
+    (old new : List ℕ) : Type 0 where
   pub found : X
   pub is : IsSuch found
   pub put : new ≡ old ++ text found
 
--- the status is 0, and the text of values is put: of every lane whose bits differ, opened by what the replies show of it,
--- which open the lane's seals, and of which the file's claim holds; or it is 3, and two openings of one commitment are put
+-- the status is 0, and the text of values is put: of every lane whose bits differ, opened by what
+-- the replies show of it, which open the lane's seals, and of which the file's claim holds; or it
+-- is 3, and two openings of one commitment are put
 abbrev pub IsClaimExtracted : {file challenge reply other second : List ℕ}
-    → TwoClaimsAccepted admitted_plan file challenge reply other second → ℕ → Option (List ℕ) → Option (List ℕ) → Type 0
+    → TwoClaimsAccepted admitted_plan file challenge reply other second → ℕ → Option (List ℕ)
+    → Option (List ℕ) → Type 0
 IsClaimExtracted two status old new =
-    ((status ≡ 0) × Modelled (PutsText (IsClaimOpened admitted_plan claimed two) claim_extraction_text) old new)
+    ((status ≡ 0) × Modelled (PutsText (IsClaimOpened admitted_plan claimed two)
+    claim_extraction_text) old new)
     ⊎ ((status ≡ 3) × Modelled (PutsText (IsClashBehind two.behind) clash_text) old new)
 
--- every end says what holds, and every answer that holds is what is said, but for values and a clash
+-- every end says what holds, and every answer that holds is what is said, but for values and a
+-- clash
 abbrev pub ClaimExtractHolds : Files → ExtractWords → Result ClaimExtraction VErr → Type 0
-ClaimExtractHolds files names = AnswerHolds files names (extract_inputs names) (HasClaimExtraction files names)
+ClaimExtractHolds files names =
+    AnswerHolds files names (extract_inputs names) (HasClaimExtraction files names)
 
-abbrev pub TellsClaimExtraction : Files → ExtractWords → ℕ → Option (List ℕ) → Option (List ℕ) → Type 0
+abbrev pub TellsClaimExtraction : Files → ExtractWords → ℕ → Option (List ℕ) → Option (List ℕ)
+    → Type 0
 TellsClaimExtraction files names status old new =
-    TellsAnswer (ClaimExtractHolds files names) SettlesExtract (answer_said (claim_extraction_said names) (unread_said names)) status old new
+    TellsAnswer (ClaimExtractHolds files names) SettlesExtract
+    (answer_said (claim_extraction_said names) (unread_said names)) status old new
 
 -- ---- the laws
 
 abbrev pub VerifiesClaimsExactly : Type 0
-VerifiesClaimsExactly = (files : Files) (names : VerifyWords) → IsClaimVerified files names (claim_verify_said files names).status
+VerifiesClaimsExactly = (files : Files) (names : VerifyWords)
+    → IsClaimVerified files names (claim_verify_said files names).status
 
 abbrev pub TellsClaimVerdicts : Type 0
-TellsClaimVerdicts = (files : Files) (names : VerifyWords) (taken : Option (List ℕ)) → let said = claim_verify_said files names in
+TellsClaimVerdicts = (files : Files) (names : VerifyWords) (taken : Option (List ℕ))
+    → let said = claim_verify_said files names in
     TellsClaimVerdict files names said.status taken (puts said.text taken)
 
--- two replies that are accepted for different challenges give the values or a clash, and only such replies do
+-- two replies that are accepted for different challenges give the values or a clash, and only such
+-- replies do
 abbrev pub ExtractsClaimsExactly : Type 0
 ExtractsClaimsExactly = (files : Files) (names : ExtractWords) (taken : Option (List ℕ)) →
     let said = claim_extract_said files names in
-    ((accepted : AcceptsTwoClaims files names) → IsClaimExtracted accepted.two said.status taken (puts said.text taken))
+    ((accepted : AcceptsTwoClaims files names)
+    → IsClaimExtracted accepted.two said.status taken (puts said.text taken))
     × ((said.status ≡ 0) ⊎ (said.status ≡ 3) → AcceptsTwoClaims files names)
 
 abbrev pub TellsSameClaimsExactly : Type 0
-TellsSameClaimsExactly = (files : Files) (names : ExtractWords) → IsSameClaim files names (claim_extract_said files names).status
+TellsSameClaimsExactly = (files : Files) (names : ExtractWords)
+    → IsSameClaim files names (claim_extract_said files names).status
 
 abbrev pub TellsClaimExtractions : Type 0
-TellsClaimExtractions = (files : Files) (names : ExtractWords) (taken : Option (List ℕ)) → let said = claim_extract_said files names in
+TellsClaimExtractions = (files : Files) (names : ExtractWords) (taken : Option (List ℕ))
+    → let said = claim_extract_said files names in
     TellsClaimExtraction files names said.status taken (puts said.text taken)

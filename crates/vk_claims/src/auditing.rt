@@ -30,7 +30,8 @@ fn claim_verified<S: Shelf>(
     shelf: &mut S,
     names: VerifyNames<'_>,
 ) -> Result<Said, OutsideErr>
-    ensures said { IfSome (S.held shelf.old) (λ files. IfOk result (λ said. said ≡ claim_verify_said files (verify_seen names.entry))) }
+    ensures said { IfSome (S.held shelf.old)
+        (λ files. IfOk result (λ said. said ≡ claim_verify_said files (verify_seen names.entry))) }
     ensures shelf { OnlyReads S.held S.Shelf.faults OutsideErr.Failed result shelf.old shelf.new }
 {
     let VerifyNames { board, attempt } = names;
@@ -57,7 +58,9 @@ fn claim_answered<S: Shelf>(
     names: ExtractNames<'_>,
 ) -> Result<Said, OutsideErr>
     ensures shelf { OnlyReads S.held S.Shelf.faults OutsideErr.Failed result shelf.old shelf.new }
-    ensures said { IfSome (S.held shelf.old) (λ files. IfOk result (λ said. said ≡ claim_extract_said files (extract_seen names.entry))) }
+    ensures said { IfSome (S.held shelf.old)
+        (λ files. IfOk result (λ said. said
+        ≡ claim_extract_said files (extract_seen names.entry))) }
 {
     let circuits = ClaimCircuits;
     let said = match extract_claim(alloc, shelf, &circuits, &replies_of(&names)) {
@@ -74,7 +77,8 @@ pub fn audit_claim<S: Shelf>(
     order: &ClaimOrder<'_>,
 ) -> Result<Said, OutsideErr>
     ensures shelf { OnlyReads S.held S.Shelf.faults OutsideErr.Failed result shelf.old shelf.new }
-    ensures said { IfSome (S.held shelf.old) (λ files. IfOk result (λ said. said ≡ claim_said files (claim_order_seen order.now))) }
+    ensures said { IfSome (S.held shelf.old)
+        (λ files. IfOk result (λ said. said ≡ claim_said files (claim_order_seen order.now))) }
 {
     match order {
         ClaimOrder::Verify(names) => {

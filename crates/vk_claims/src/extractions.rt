@@ -16,7 +16,8 @@ use vk_effect::Said;
 use vk_residue::NoMemory;
 use vk_words::ExtractNames;
 
-/// What is said of a reply that isn't accepted, or of what two accepted replies come to. A clash takes no memory.
+/// What is said of a reply that isn't accepted, or of what two accepted replies come to. A clash
+/// takes no memory.
 pub fn claim_extracted(
     alloc: Global,
     names: &ExtractNames<'_>,
@@ -24,7 +25,8 @@ pub fn claim_extracted(
 ) -> Result<Said, NoMemory>
     ensures clash { (two : TwoOpeningsSeen) → extraction.now ≡ comes.Clash two
         → result ≡ Ok (record { status = 3; text = clash_text two }) }
-    ensures said { IfOk result (λ said. said ≡ claim_extraction_said (extract_seen names.now) extraction.now) }
+    ensures said { IfOk result
+        (λ said. said ≡ claim_extraction_said (extract_seen names.now) extraction.now) }
 {
     match extraction {
         Extraction::Same => Ok(same_challenge()),

@@ -1,4 +1,5 @@
-//! What the commands on claims say of the files that they read, and the circuits that claims may be of.
+//! What the commands on claims say of the files that they read, and the circuits that claims may be
+//! of.
 #![tactic(auto)]
 
 mod auditing;

@@ -12,15 +12,16 @@ use vk_residue::NoMemory;
 use vk_verifier::BoardVerdict;
 use vk_words::ExtractNames;
 
-/// What is said of the verdict on the first reply, or on the second. Of one reply alone both names are the same. That it is
-/// accepted takes no memory.
+/// What is said of the verdict on the first reply, or on the second. Of one reply alone both names
+/// are the same. That it is accepted takes no memory.
 pub fn claim_judged(
     alloc: Global,
     names: &ExtractNames<'_>,
     second: bool,
     verdict: ClaimVerdict,
 ) -> Result<Said, NoMemory>
-    ensures said { IfOk result (λ said. said ≡ claim_judged_said (extract_seen names.now) second verdict) }
+    ensures said { IfOk result
+        (λ said. said ≡ claim_judged_said (extract_seen names.now) second verdict) }
     ensures accepted { verdict ≡ ClaimVerdict.Accepted → IsOk result }
 {
     let as_of_board = match verdict {

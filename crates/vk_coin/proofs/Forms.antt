@@ -26,41 +26,53 @@ use Rattle.vk_coin.proofs.Shown.{shares_at_places, shares_in_turn}
 -- ---- fields
 
 -- the number that is known
-number_shown : (auditor : ℕ) (word : List ℕ) (read : Option ℕ) → auditor < 2 ^ 64 → number_token auditor auditor word ≡ read
+number_shown : (auditor : ℕ) (word : List ℕ) (read : Option ℕ) → auditor < 2 ^ 64
+    → number_token auditor auditor word ≡ read
     → ◌≡◌ {A = Option Unit} (option_map (λ _. tt) read) (Some tt) → word ≡ decimal auditor
 number_shown auditor word (Some number) fits is some =
-    let shown = (meeting_token (λ n. nat_le auditor n) (decimal_token auditor fits)).shown word number is in
+    let shown = (meeting_token (λ n. nat_le auditor n) (decimal_token auditor fits)).shown word
+    number is in
     let least = from_test auditor number shown.0.1 in
     let most = shown.0.0 in
     let same : number ≡ auditor = omega arith in
     shown.1 ∙ ap decimal same
 number_shown auditor word None fits is some = cc
 
-auditor_token : (auditor : ℕ) → auditor < 2 ^ 64 → IsToken {X = Unit} 20 (λ _. Unit {0}) (λ _. decimal auditor) (auditor_of auditor)
+auditor_token : (auditor : ℕ) → auditor < 2 ^ 64
+    → IsToken {X = Unit} 20 (λ _. Unit {0}) (λ _. decimal auditor) (auditor_of auditor)
 auditor_token auditor fits =
     let number = meeting_token (λ n. nat_le auditor n) (decimal_token auditor fits) in
-    let itself : InRange auditor auditor auditor = (omega arith, to_test auditor auditor (omega arith)) in
+    let itself : InRange auditor auditor auditor =
+    (omega arith, to_test auditor auditor (omega arith)) in
     record {
       found = λ x is. ap (option_map (λ _. tt)) (number.found auditor itself);
-      shown = λ word x some. (tt, number_shown auditor word (number_token auditor auditor word) fits refl some);
+      shown = λ word x some. (
+        tt,
+        number_shown auditor word (number_token auditor auditor word) fits refl some,
+      );
       word = λ x is. number.word auditor itself;
       short = λ x is. number.short auditor itself;
     }
 
-bits_by : (test : Bool) (read : Option (List Bool)) (bits : List Bool) → (if test then read else None) ≡ Some bits → (test ≡ true) × (read ≡ Some bits)
+bits_by : (test : Bool) (read : Option (List Bool)) (bits : List Bool)
+    → (if test then read else None) ≡ Some bits → (test ≡ true) × (read ≡ Some bits)
 bits_by true read bits some = (refl, some)
 bits_by false read bits some = cc
 
 -- so many bits
-within_token : (count : ℕ) → 1 ≤ count → count ≤ 64 → IsToken 64 (λ bits. length bits ≡ count) bits_text (bits_within count)
+within_token : (count : ℕ) → 1 ≤ count → count ≤ 64
+    → IsToken 64 (λ bits. length bits ≡ count) bits_text (bits_within count)
 within_token count some few =
-    let inside : (bits : List Bool) → length bits ≡ count → (1 ≤ length bits) × (length bits ≤ 64) = λ bits is. (omega arith, omega arith) in
+    let inside : (bits : List Bool) → length bits ≡ count → (1 ≤ length bits) × (length bits ≤ 64) =
+    λ bits is. (omega arith, omega arith) in
     record {
-      found = λ bits is. rw (eq-eqb (length (bits_text bits)) count (length-map bits bit_character ∙ is)) (bits_token.found bits (inside bits is));
+      found = λ bits is. rw (eq-eqb (length (bits_text bits)) count
+          (length-map bits bit_character ∙ is)) (bits_token.found bits (inside bits is));
       shown = λ word bits read.
           let parts = bits_by (length word == count) (bits_of word) bits read in
           let shown = bits_token.shown word bits parts.1 in
-          let long : length word ≡ length bits = ap length shown.1 ∙ length-map bits bit_character in
+          let long : length word ≡ length bits = ap length shown.1 ∙ length-map bits bit_character
+          in
           (sym long ∙ eqb-true (length word) count parts.0, shown.1);
       word = λ bits is. bits_token.word bits (inside bits is);
       short = λ bits is. bits_token.short bits (inside bits is);
@@ -77,38 +89,58 @@ IsId id = (length id ≡ 16) × IsBytes id
 abbrev IsShow : Show → Type 0
 IsShow show = IsKey show.key × ((1 ≤ length show.bits) × (length show.bits ≤ 64))
 
-show_line_is : IsLine IsShow (λ show. spaced (codes "show" ∷ hex_text show.key ∷ bits_text show.bits ∷ [])) show_line
+show_line_is : IsLine IsShow (λ show.
+    spaced (codes "show" ∷ hex_text show.key ∷ bits_text show.bits ∷ [])) show_line
 show_line_is =
-    two_line (codes "show") refl (hex_token 32) bits_token (omega arith) show_by (λ show. show.key) (λ show. show.bits)
+    two_line (codes "show") refl (hex_token 32) bits_token (omega arith) show_by (λ show. show.key)
+    (λ show. show.bits)
     (λ x. refl) (λ a b. refl) (λ a b. refl)
 
-part_line_is : (auditor : ℕ) → auditor < 2 ^ 64 → IsLine (λ part. Unit {0} × IsKey part) (λ part. spaced (codes "part" ∷ decimal auditor ∷ hex_text part ∷ [])) (part_line auditor)
+part_line_is : (auditor : ℕ) → auditor < 2 ^ 64
+    → IsLine (λ part. Unit {0} × IsKey part)
+    (λ part. spaced (codes "part" ∷ decimal auditor ∷ hex_text part ∷ [])) (part_line auditor)
 part_line_is auditor fits =
-    two_line (codes "part") refl (auditor_token auditor fits) (hex_token 32) (omega arith) (λ _ part. part) (λ part. tt) (λ part. part)
+    two_line (codes "part") refl (auditor_token auditor fits) (hex_token 32) (omega arith)
+    (λ _ part. part) (λ part. tt) (λ part. part)
     (λ x. refl) (λ a b. refl) (λ a b. refl)
 
 shown_line_is : (bits auditor : ℕ) → 1 ≤ bits → bits ≤ 64 → auditor < 2 ^ 64
-    → IsLine (λ show. Unit {0} × IsKey show.key × (length show.bits ≡ bits)) (λ show. spaced (codes "show" ∷ decimal auditor ∷ hex_text show.key ∷ bits_text show.bits ∷ [])) (shown_line bits auditor)
+    → IsLine (λ show. Unit {0} × IsKey show.key × (length show.bits ≡ bits))
+    (λ show. spaced (codes "show" ∷ decimal auditor ∷ hex_text show.key ∷ bits_text show.bits ∷ []))
+    (shown_line bits auditor)
 shown_line_is bits auditor some few fits =
-    three_line (codes "show") refl (auditor_token auditor fits) (hex_token 32) (within_token bits some few) (omega arith) (λ _. show_by)
-    (λ show. tt) (λ show. show.key) (λ show. show.bits) (λ x. refl) (λ a b c. refl) (λ a b c. refl) (λ a b c. refl)
+    three_line (codes "show") refl (auditor_token auditor fits) (hex_token 32)
+    (within_token bits some few) (omega arith) (λ _. show_by)
+    (λ show. tt) (λ show. show.key) (λ show. show.bits) (λ x. refl) (λ a b c. refl) (λ a b c. refl)
+    (λ a b c. refl)
 
 -- ---- what stands behind a first line
 
-headed_whole : {X : Type 0} {IsValue : X → Type 0} {text : X → List ℕ} {read : Rest → Result (X × Rest) ℕ} (heading : List ℕ) → is_plain heading ≡ true → length heading ≤ 255
-    → IsWhole IsValue text read → IsWhole IsValue (λ x. line heading ++ text x) (λ rest. line_by (word_of heading) rest >>= λ first. read first.1)
+headed_whole : {X : Type 0} {IsValue : X → Type 0} {text : X → List ℕ}
+    {read : Rest → Result (X × Rest) ℕ} (heading : List ℕ) → is_plain heading ≡ true
+    → length heading ≤ 255
+    → IsWhole IsValue text read
+    → IsWhole IsValue (λ x. line heading ++ text x)
+    (λ rest. line_by (word_of heading) rest >>= λ first. read first.1)
 headed_whole {IsValue = IsValue} {text = text} {read = read} heading plain short whole =
     let behind =
-    whole_then {X = Unit {0}} {IsZ = λ _ x. IsValue x} {text_z = λ _ x. text x} {read_z = λ _ rest. read rest} (λ x. tt) (line_part (fixed_line heading plain short))
+    whole_then {X = Unit {0}} {IsZ = λ _ x. IsValue x} {text_z = λ _ x. text x}
+    {read_z = λ _ rest. read rest} (λ x. tt) (line_part (fixed_line heading plain short))
     (λ first _. whole) (λ first x is. refl) in
     whole_same behind (λ x is. is.1) (λ x is. (tt, is)) (λ x. refl)
 
 -- a value that begins with the line of its id
-id_whole : {Z : Type 0} {IsZ : List ℕ → Z → Type 0} {text : Z → List ℕ} {read : List ℕ → Rest → Result (Z × Rest) ℕ} (id : Z → List ℕ)
-    → ((auction : List ℕ) → IsWhole (IsZ auction) text (read auction)) → ((auction : List ℕ) (z : Z) → IsZ auction z → id z ≡ auction)
-    → IsWhole (λ z. IsId (id z) × IsZ (id z) z) (λ z. line (spaced (codes "auction" ∷ hex_text (id z) ∷ [])) ++ text z) (λ rest. line_by (id_line (codes "auction")) rest >>= λ auction. read auction.0 auction.1)
+id_whole : {Z : Type 0} {IsZ : List ℕ → Z → Type 0} {text : Z → List ℕ}
+    {read : List ℕ → Rest → Result (Z × Rest) ℕ} (id : Z → List ℕ)
+    → ((auction : List ℕ) → IsWhole (IsZ auction) text (read auction))
+    → ((auction : List ℕ) (z : Z) → IsZ auction z → id z ≡ auction)
+    → IsWhole (λ z. IsId (id z) × IsZ (id z) z)
+    (λ z. line (spaced (codes "auction" ∷ hex_text (id z) ∷ [])) ++ text z)
+    (λ rest. line_by (id_line (codes "auction")) rest >>= λ auction. read auction.0 auction.1)
 id_whole {IsZ = IsZ} {text = text} {read = read} id whole same =
-    whole_then {IsZ = IsZ} {text_z = λ _ z. text z} {read_z = read} id (line_part (id_line_is (codes "auction") refl (omega arith))) (λ auction _. whole auction) same
+    whole_then {IsZ = IsZ} {text_z = λ _ z. text z} {read_z = read} id
+    (line_part (id_line_is (codes "auction") refl (omega arith))) (λ auction _. whole auction)
+    same
 
 -- ---- a share
 
@@ -118,32 +150,40 @@ show_of share = record { key = share.key; bits = share.bits }
 
 -- what is read from the line that shows it, from the auditor and from the id on
 abbrev ShowOf : List ℕ → ℕ → Share → Type 0
-ShowOf auction auditor share = IsShow (show_of share) × (share ≡ share_with auction auditor (show_of share))
+ShowOf auction auditor share = IsShow (show_of share)
+    × (share ≡ share_with auction auditor (show_of share))
 
 abbrev AuditorOf : List ℕ → Share → Type 0
 AuditorOf auction share = InRange 1 16 share.auditor × ShowOf auction share.auditor share
 
 abbrev show_text : Share → List ℕ
-show_text share = line (spaced (codes "show" ∷ hex_text share.key ∷ bits_text share.bits ∷ [])) ++ line (codes "end")
+show_text share = line (spaced (codes "show" ∷ hex_text share.key ∷ bits_text share.bits ∷ []))
+    ++ line (codes "end")
 
 abbrev auditor_text : Share → List ℕ
 auditor_text share = line (spaced (codes "auditor" ∷ decimal share.auditor ∷ [])) ++ show_text share
 
 abbrev show_at : List ℕ → ℕ → Rest → Result (Share × Rest) ℕ
 show_at auction auditor rest =
-    line_by show_line rest >>= λ show. end_at show.1 >>= λ over. Ok (share_with auction auditor show.0, over.1)
+    line_by show_line rest >>= λ show. end_at show.1 >>= λ over.
+    Ok (share_with auction auditor show.0, over.1)
 
 abbrev auditor_at : List ℕ → Rest → Result (Share × Rest) ℕ
-auditor_at auction rest = line_by (number_line (codes "auditor") 1 16) rest >>= λ auditor. show_at auction auditor.0 auditor.1
+auditor_at auction rest = line_by (number_line (codes "auditor") 1 16) rest >>= λ auditor.
+    show_at auction auditor.0 auditor.1
 
-show_whole : (auction : List ℕ) (auditor : ℕ) → IsWhole (ShowOf auction auditor) show_text (show_at auction auditor)
+show_whole : (auction : List ℕ) (auditor : ℕ)
+    → IsWhole (ShowOf auction auditor) show_text (show_at auction auditor)
 show_whole auction auditor =
-    whole_then {IsZ = λ show share. share ≡ share_with auction auditor show} {text_z = λ show share. line (codes "end")} show_of
-    (line_part show_line_is) (λ show _. whole_end (share_with auction auditor show)) (λ show share same. ap show_of same)
+    whole_then {IsZ = λ show share. share ≡ share_with auction auditor show}
+    {text_z = λ show share. line (codes "end")} show_of
+    (line_part show_line_is) (λ show _. whole_end (share_with auction auditor show))
+    (λ show share same. ap show_of same)
 
 auditor_whole : (auction : List ℕ) → IsWhole (AuditorOf auction) auditor_text (auditor_at auction)
 auditor_whole auction =
-    whole_then {IsZ = λ auditor share. ShowOf auction auditor share} {text_z = λ auditor share. show_text share} (λ share. share.auditor)
+    whole_then {IsZ = λ auditor share. ShowOf auction auditor share}
+    {text_z = λ auditor share. show_text share} (λ share. share.auditor)
     (line_part (number_line_is (codes "auditor") 1 16 refl (omega arith) (omega arith)))
     (λ auditor _. show_whole auction auditor) (λ auditor share is. ap (λ s. s.auditor) is.1)
 
@@ -152,50 +192,73 @@ unfolding share_text share_at
 share_is_whole =
     whole_same
     (headed_whole (codes "vickrey-share 1") refl (omega arith)
-    (id_whole {IsZ = AuditorOf} {text = auditor_text} {read = auditor_at} (λ share. share.auction) auditor_whole (λ auction share is. ap (λ s. s.auction) is.1.1)))
+    (id_whole {IsZ = AuditorOf} {text = auditor_text} {read = auditor_at} (λ share. share.auction)
+    auditor_whole (λ auction share is. ap (λ s. s.auction) is.1.1)))
     (λ share is. record {
       id = is.0;
       auditor = record { least = from_test 1 share.auditor is.1.0.1; most = is.1.0.0 };
       count = record { least = is.1.1.0.1.0; most = is.1.1.0.1.1 };
       key = is.1.1.0.0;
     })
-    (λ share is. (is.id, ((is.auditor.most, to_test 1 share.auditor is.auditor.least), ((is.key, (is.count.least, is.count.most)), refl))))
+    (λ share is. (
+      is.id,
+      (
+        (is.auditor.most, to_test 1 share.auditor is.auditor.least),
+        ((is.key, (is.count.least, is.count.most)), refl),
+      ),
+    ))
     (λ share. refl)
 
 -- ---- the parts and the shares of a coin
 
-parts_part : (auditors : ℕ) → auditors ≤ 16 → IsPart (λ parts. (length parts ≡ auditors) × AllByRecursion (AreBytes 32) parts) (numbered_text part_text 1) (parts_at auditors)
+parts_part : (auditors : ℕ) → auditors ≤ 16
+    → IsPart (λ parts. (length parts ≡ auditors) × AllByRecursion (AreBytes 32) parts)
+    (numbered_text part_text 1) (parts_at auditors)
 parts_part auditors few =
     numbered_all {IsValue = AreBytes 32} 16 auditors few (λ auditor most.
-    part_same (line_part (part_line_is auditor (omega arith))) (λ part is. is.1) (λ part is. (tt, is)) (λ part. refl))
+    part_same (line_part (part_line_is auditor (omega arith))) (λ part is. is.1)
+    (λ part is. (tt, is)) (λ part. refl))
 
-shown_part : (auction : List ℕ) (bits auditor : ℕ) → 1 ≤ bits → bits ≤ 64 → auditor ≤ 16 → IsPart (IsShareOf auction bits auditor) (shown_text auditor) (shown_at auction bits auditor)
+shown_part : (auction : List ℕ) (bits auditor : ℕ) → 1 ≤ bits → bits ≤ 64 → auditor ≤ 16
+    → IsPart (IsShareOf auction bits auditor) (shown_text auditor) (shown_at auction bits auditor)
 unfolding shown_at
 shown_part auction bits auditor some few most =
-    part_same (part_last show_of (share_with auction auditor) (λ show. refl) (line_part (shown_line_is bits auditor some few (omega arith))))
-    (λ share is. record { auction = ap (λ s. s.auction) is.1; auditor = ap (λ s. s.auditor) is.1; bits = is.0.2; key = is.0.1 })
+    part_same (part_last show_of (share_with auction auditor) (λ show. refl)
+    (line_part (shown_line_is bits auditor some few (omega arith))))
+    (λ share is. record {
+      auction = ap (λ s. s.auction) is.1;
+      auditor = ap (λ s. s.auditor) is.1;
+      bits = is.0.2;
+      key = is.0.1;
+    })
     (λ share is. ((tt, is.key, is.bits), rw (sym is.auction, sym is.auditor) refl))
     (λ share. refl)
 
 shares_part : (auction : List ℕ) (bits auditors : ℕ) → 1 ≤ bits → bits ≤ 64 → auditors ≤ 16
-    → IsPart (λ shares. (length shares ≡ auditors) × EachAfter (λ before. IsShareOf auction bits (length before + 1)) [] shares) (numbered_text shown_text 1) (shares_at auction bits auditors)
+    → IsPart (λ shares. (length shares ≡ auditors)
+    × EachAfter (λ before. IsShareOf auction bits (length before + 1)) [] shares)
+    (numbered_text shown_text 1) (shares_at auction bits auditors)
 shares_part auction bits auditors some few most =
-    numbered_part {IsValue = IsShareOf auction bits} 16 auditors most (λ auditor small. shown_part auction bits auditor some few small)
+    numbered_part {IsValue = IsShareOf auction bits} 16 auditors most
+    (λ auditor small. shown_part auction bits auditor some few small)
 
 -- ---- a coin
 
 -- what is read from the shares, the parts, the number of auditors, the number of bits and the id on
 abbrev SharesOf : List ℕ → ℕ → ℕ → List (List ℕ) → Coin → Type 0
 SharesOf auction bits auditors parts coin =
-    ((length coin.shares ≡ auditors) × EachAfter (λ before. IsShareOf auction bits (length before + 1)) [] coin.shares)
+    ((length coin.shares ≡ auditors)
+    × EachAfter (λ before. IsShareOf auction bits (length before + 1)) [] coin.shares)
     × (coin ≡ coin_with auction bits parts coin.shares)
 
 abbrev PartsOf : List ℕ → ℕ → ℕ → Coin → Type 0
 PartsOf auction bits auditors coin =
-    ((length coin.parts ≡ auditors) × AllByRecursion (AreBytes 32) coin.parts) × SharesOf auction bits auditors coin.parts coin
+    ((length coin.parts ≡ auditors) × AllByRecursion (AreBytes 32) coin.parts)
+    × SharesOf auction bits auditors coin.parts coin
 
 abbrev AuditorsOf : List ℕ → ℕ → Coin → Type 0
-AuditorsOf auction bits coin = InRange 1 16 (length coin.parts) × PartsOf auction bits (length coin.parts) coin
+AuditorsOf auction bits coin = InRange 1 16 (length coin.parts)
+    × PartsOf auction bits (length coin.parts) coin
 
 abbrev BitsOf : List ℕ → Coin → Type 0
 BitsOf auction coin = InRange 1 64 coin.bits × AuditorsOf auction coin.bits coin
@@ -207,52 +270,72 @@ abbrev parts_text : Coin → List ℕ
 parts_text coin = numbered_text part_text 1 coin.parts ++ shares_text coin
 
 abbrev auditors_text : Coin → List ℕ
-auditors_text coin = line (spaced (codes "auditors" ∷ decimal (length coin.parts) ∷ [])) ++ parts_text coin
+auditors_text coin = line (spaced (codes "auditors" ∷ decimal (length coin.parts) ∷ []))
+    ++ parts_text coin
 
 abbrev count_text : Coin → List ℕ
 count_text coin = line (spaced (codes "bits" ∷ decimal coin.bits ∷ [])) ++ auditors_text coin
 
 abbrev shares_and_end : List ℕ → ℕ → ℕ → List (List ℕ) → Rest → Result (Coin × Rest) ℕ
 shares_and_end auction bits auditors parts rest =
-    shares_at auction bits auditors rest >>= λ shares. end_at shares.1 >>= λ over. Ok (coin_with auction bits parts shares.0, over.1)
+    shares_at auction bits auditors rest >>= λ shares. end_at shares.1 >>= λ over.
+    Ok (coin_with auction bits parts shares.0, over.1)
 
 abbrev parts_and_end : List ℕ → ℕ → ℕ → Rest → Result (Coin × Rest) ℕ
-parts_and_end auction bits auditors rest = parts_at auditors rest >>= λ parts. shares_and_end auction bits auditors parts.0 parts.1
+parts_and_end auction bits auditors rest =
+    parts_at auditors rest >>= λ parts. shares_and_end auction bits auditors parts.0 parts.1
 
 abbrev auditors_at : List ℕ → ℕ → Rest → Result (Coin × Rest) ℕ
-auditors_at auction bits rest = line_by (number_line (codes "auditors") 1 16) rest >>= λ auditors. parts_and_end auction bits auditors.0 auditors.1
+auditors_at auction bits rest =
+    line_by (number_line (codes "auditors") 1 16) rest >>= λ auditors. parts_and_end auction bits
+    auditors.0 auditors.1
 
 abbrev count_at : List ℕ → Rest → Result (Coin × Rest) ℕ
-count_at auction rest = line_by (number_line (codes "bits") 1 64) rest >>= λ bits. auditors_at auction bits.0 bits.1
+count_at auction rest = line_by (number_line (codes "bits") 1 64) rest >>= λ bits.
+    auditors_at auction bits.0 bits.1
 
-shares_whole : (auction : List ℕ) (bits auditors : ℕ) (parts : List (List ℕ)) → 1 ≤ bits → bits ≤ 64 → auditors ≤ 16
-    → IsWhole (SharesOf auction bits auditors parts) shares_text (shares_and_end auction bits auditors parts)
+shares_whole : (auction : List ℕ) (bits auditors : ℕ) (parts : List (List ℕ)) → 1 ≤ bits → bits ≤ 64
+    → auditors ≤ 16
+    → IsWhole (SharesOf auction bits auditors parts) shares_text
+    (shares_and_end auction bits auditors parts)
 shares_whole auction bits auditors parts some few most =
-    whole_then {IsZ = λ shares coin. coin ≡ coin_with auction bits parts shares} {text_z = λ shares coin. line (codes "end")} (λ coin. coin.shares)
-    (shares_part auction bits auditors some few most) (λ shares _. whole_end (coin_with auction bits parts shares)) (λ shares coin same. ap (λ c. c.shares) same)
+    whole_then {IsZ = λ shares coin. coin ≡ coin_with auction bits parts shares}
+    {text_z = λ shares coin. line (codes "end")} (λ coin. coin.shares)
+    (shares_part auction bits auditors some few most)
+    (λ shares _. whole_end (coin_with auction bits parts shares))
+    (λ shares coin same. ap (λ c. c.shares) same)
 
 parts_whole : (auction : List ℕ) (bits auditors : ℕ) → 1 ≤ bits → bits ≤ 64 → auditors ≤ 16
     → IsWhole (PartsOf auction bits auditors) parts_text (parts_and_end auction bits auditors)
 parts_whole auction bits auditors some few most =
-    whole_then {IsZ = λ parts coin. SharesOf auction bits auditors parts coin} {text_z = λ parts coin. shares_text coin} (λ coin. coin.parts)
-    (parts_part auditors most) (λ parts _. shares_whole auction bits auditors parts some few most) (λ parts coin is. ap (λ c. c.parts) is.1)
+    whole_then {IsZ = λ parts coin. SharesOf auction bits auditors parts coin}
+    {text_z = λ parts coin. shares_text coin} (λ coin. coin.parts)
+    (parts_part auditors most) (λ parts _. shares_whole auction bits auditors parts some few most)
+    (λ parts coin is. ap (λ c. c.parts) is.1)
 
-auditors_whole : (auction : List ℕ) (bits : ℕ) → 1 ≤ bits → bits ≤ 64 → IsWhole (AuditorsOf auction bits) auditors_text (auditors_at auction bits)
+auditors_whole : (auction : List ℕ) (bits : ℕ) → 1 ≤ bits → bits ≤ 64
+    → IsWhole (AuditorsOf auction bits) auditors_text (auditors_at auction bits)
 auditors_whole auction bits some few =
-    whole_then {IsZ = λ auditors coin. PartsOf auction bits auditors coin} {text_z = λ auditors coin. parts_text coin} (λ coin. length coin.parts)
+    whole_then {IsZ = λ auditors coin. PartsOf auction bits auditors coin}
+    {text_z = λ auditors coin. parts_text coin} (λ coin. length coin.parts)
     (line_part (number_line_is (codes "auditors") 1 16 refl (omega arith) (omega arith)))
     (λ auditors is. parts_whole auction bits auditors some few is.0) (λ auditors coin is. is.0.0)
 
 count_whole : (auction : List ℕ) → IsWhole (BitsOf auction) count_text (count_at auction)
 count_whole auction =
-    whole_then {IsZ = λ bits coin. AuditorsOf auction bits coin} {text_z = λ bits coin. auditors_text coin} (λ coin. coin.bits)
+    whole_then {IsZ = λ bits coin. AuditorsOf auction bits coin}
+    {text_z = λ bits coin. auditors_text coin} (λ coin. coin.bits)
     (line_part (number_line_is (codes "bits") 1 64 refl (omega arith) (omega arith)))
-    (λ bits is. auditors_whole auction bits (from_test 1 bits is.1) is.0) (λ bits coin is. ap (λ c. c.bits) is.1.1.1)
+    (λ bits is. auditors_whole auction bits (from_test 1 bits is.1) is.0)
+    (λ bits coin is. ap (λ c. c.bits) is.1.1.1)
 
 -- from the id on
-coin_whole : IsWhole (λ coin. IsId coin.auction × BitsOf coin.auction coin) (λ coin. line (spaced (codes "auction" ∷ hex_text coin.auction ∷ [])) ++ count_text coin) (λ rest. line_by (id_line (codes "auction")) rest >>= λ auction. count_at auction.0 auction.1)
+coin_whole : IsWhole (λ coin. IsId coin.auction × BitsOf coin.auction coin)
+    (λ coin. line (spaced (codes "auction" ∷ hex_text coin.auction ∷ [])) ++ count_text coin)
+    (λ rest. line_by (id_line (codes "auction")) rest >>= λ auction. count_at auction.0 auction.1)
 coin_whole =
-    id_whole {IsZ = BitsOf} {text = count_text} {read = count_at} (λ coin. coin.auction) count_whole (λ auction coin is. ap (λ c. c.auction) is.1.1.1.1)
+    id_whole {IsZ = BitsOf} {text = count_text} {read = count_at} (λ coin. coin.auction) count_whole
+    (λ auction coin is. ap (λ c. c.auction) is.1.1.1.1)
 
 pub coin_is_whole : IsWhole IsCoin coin_text coin_at
 unfolding coin_text coin_at
@@ -272,7 +355,16 @@ coin_is_whole =
         (is.bits.most, to_test 1 coin.bits is.bits.least),
         (
           (is.auditors.most, to_test 1 (length coin.parts) is.auditors.least),
-          ((refl, is.parts), ((is.one_each, shares_in_turn coin.auction coin.bits coin.shares is.shares), refl)),
+          (
+            (refl, is.parts),
+            (
+              (
+                is.one_each,
+                shares_in_turn coin.auction coin.bits coin.shares is.shares,
+              ),
+              refl,
+            ),
+          ),
         ),
       ),
     ))

@@ -19,9 +19,11 @@ bits_at place = map (λ bits. slice_index_or bits place false)
 -- of lists of equal lengths: in each place the exclusive or of their bits in that place
 unfoldable pub joint_of : List (List Bool) → List Bool
 joint_of [] = []
-joint_of (bits ∷ others) = map (λ place. xor_of (bits_at place (bits ∷ others))) (range_with_len 0 (length bits))
+joint_of (bits ∷ others) = map (λ place. xor_of (bits_at place (bits ∷ others)))
+    (range_with_len 0 (length bits))
 
--- what one has to add to those of the others for the joint bits that are wanted: the exclusive or of all
+-- what one has to add to those of the others for the joint bits that are wanted: the exclusive or
+-- of all
 abbrev pub own_bits_of : List Bool → List (List Bool) → List Bool
 own_bits_of wanted others = joint_of (wanted ∷ others)
 

@@ -1,4 +1,5 @@
--- A coin: the parts by which auditors commit to their shares, then the shares, and the challenge that these are together.
+-- A coin: the parts by which auditors commit to their shares, then the shares, and the challenge
+-- that these are together.
 use Rattle.std.specs.Prelude.{◌≡◌, ℕ, ◌+◌, ◌<◌, Bool, if◌then◌else◌, List, [], ◌∷◌, ◌++◌, length, map, codes, decimal, slice_get, Option, Some, None}
 use Rattle.std.specs.List.{AllByRecursion}
 use Rattle.std.specs.Str.{bytes_eq}
@@ -20,15 +21,16 @@ pub record IsShareOf (id : List ℕ) (count number : ℕ) (share : Share) : Type
   pub bits : length share.bits ≡ count
   pub key : AreBytes 32 share.key
 
--- a coin: the id of an auction, how many bits there are, and the part and the share of each of up to 16 auditors, of
--- whom the first is auditor 1
+-- a coin: the id of an auction, how many bits there are, and the part and the share of each of up
+-- to 16 auditors, of whom the first is auditor 1
 pub record IsCoin (coin : Coin) : Type 0 where
   pub id : AreBytes 16 coin.auction
   pub bits : IsLaneCount coin.bits
   pub auditors : IsAuditor (length coin.parts)
   pub parts : AllByRecursion (AreBytes 32) coin.parts
   pub one_each : length coin.shares ≡ length coin.parts
-  pub shares : (index : ℕ) (share : Share) → slice_get coin.shares index ≡ Some share → IsShareOf coin.auction coin.bits (index + 1) share
+  pub shares : (index : ℕ) (share : Share) → slice_get coin.shares index ≡ Some share
+      → IsShareOf coin.auction coin.bits (index + 1) share
 
 -- ---- the file
 
@@ -38,7 +40,8 @@ part_text auditor part = line (spaced (codes "part" ∷ decimal auditor ∷ hex_
 
 -- the line of an auditor's share, shown
 abbrev pub shown_text : ℕ → Share → List ℕ
-shown_text auditor share = line (spaced (codes "show" ∷ decimal auditor ∷ hex_text share.key ∷ bits_text share.bits ∷ []))
+shown_text auditor share = line
+    (spaced (codes "show" ∷ decimal auditor ∷ hex_text share.key ∷ bits_text share.bits ∷ []))
 
 -- the auditors are numbered from 1 on
 unfoldable pub coin_text : Coin → List ℕ
@@ -64,7 +67,8 @@ joint_challenge coin = record { bits = joint_of (shown_bits coin) }
 -- the share of that index, counted from 0, opens its part: it has that commitment
 abbrev pub OpensPart : Coin → ℕ → Type 0
 OpensPart coin index =
-    (part : List ℕ) (share : Share) → slice_get coin.parts index ≡ Some part → slice_get coin.shares index ≡ Some share
+    (part : List ℕ) (share : Share) → slice_get coin.parts index ≡ Some part
+    → slice_get coin.shares index ≡ Some share
     → share_digest share ≡ part
 
 -- each share opens its part
@@ -82,7 +86,8 @@ pub record IsFirstUnmet (coin : Coin) (auditor : ℕ) : Type 0 where
 -- the same found, auditor by auditor from that number on
 abbrev pub unmet_from : ℕ → List (List ℕ) → List Share → Option ℕ
 unmet_from auditor (part ∷ parts) (share ∷ shares) =
-    if bytes_eq (share_digest share) part then unmet_from (auditor + 1) parts shares else Some auditor
+    if bytes_eq (share_digest share) part then unmet_from (auditor + 1) parts shares
+    else Some auditor
 unmet_from auditor parts shares = None
 
 unfoldable pub unmet_part : Coin → Option ℕ

@@ -16,11 +16,12 @@ derived_message bytes = codes "VKD1" ++ bytes
 unfoldable pub derived_bits : ℕ → List ℕ → List Bool
 derived_bits lanes bytes = leading_bits lanes (sha256 (derived_message bytes))
 
--- the challenge for a file that holds these bytes, or the cause for which there is none: the file isn't held, or has
--- more than 2^30 bytes
+-- the challenge for a file that holds these bytes, or the cause for which there is none: the file
+-- isn't held, or has more than 2^30 bytes
 abbrev pub derived_by : ℕ → Option (List ℕ) → Result Challenge StartErr
 derived_by lanes None = Err Missing
-derived_by lanes (Some bytes) = if nat_lt (2 ^ 30) (length bytes) then Err TooLong else Ok (record { bits = derived_bits lanes bytes })
+derived_by lanes (Some bytes) = if nat_lt (2 ^ 30) (length bytes) then Err TooLong
+    else Ok (record { bits = derived_bits lanes bytes })
 
 -- that of the named file
 abbrev pub derived_on : Files → List ℕ → ℕ → Result Challenge StartErr

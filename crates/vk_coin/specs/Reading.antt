@@ -1,5 +1,5 @@
--- How a share and a coin are read, line by line. The laws say that this is exactly their texts, and stops at the
--- fault line.
+-- How a share and a coin are read, line by line. The laws say that this is exactly their texts, and
+-- stops at the fault line.
 use Rattle.std.specs.Prelude.{ℕ, ◌+◌, ◌==◌, Bool, if◌then◌else◌, List, length, codes, Option, None, option_map, Result, Ok}
 use Rattle.vk_residue.specs.Steps.{◌>>=◌}
 use Rattle.vk_lines.specs.Lines.{Rest, line_by, end_at}
@@ -30,15 +30,18 @@ show_line text = two_fields (codes "show") (hex_of 32) bits_of show_by text
 
 -- the line of an auditor's part
 abbrev pub part_line : ℕ → List ℕ → Option (List ℕ)
-part_line auditor text = two_fields (codes "part") (auditor_of auditor) (hex_of 32) (λ _ part. part) text
+part_line auditor text = two_fields (codes "part") (auditor_of auditor) (hex_of 32) (λ _ part. part)
+    text
 
 -- the line of an auditor's share in a coin
 abbrev pub shown_line : ℕ → ℕ → List ℕ → Option Show
 shown_line bits auditor text =
-    three_fields (codes "show") (auditor_of auditor) (hex_of 32) (bits_within bits) (λ _. show_by) text
+    three_fields (codes "show") (auditor_of auditor) (hex_of 32) (bits_within bits) (λ _. show_by)
+    text
 
 abbrev pub share_with : List ℕ → ℕ → Show → Share
-share_with auction auditor show = record { auction = auction; auditor = auditor; bits = show.bits; key = show.key }
+share_with auction auditor show =
+    record { auction = auction; auditor = auditor; bits = show.bits; key = show.key }
 
 -- ---- a share
 
@@ -54,7 +57,8 @@ share_at rest =
 -- ---- a coin
 
 abbrev pub coin_with : List ℕ → ℕ → List (List ℕ) → List Share → Coin
-coin_with auction bits parts shares = record { auction = auction; bits = bits; parts = parts; shares = shares }
+coin_with auction bits parts shares =
+    record { auction = auction; bits = bits; parts = parts; shares = shares }
 
 -- the parts of so many auditors
 abbrev pub parts_at : ℕ → Rest → Result (List (List ℕ) × Rest) ℕ
@@ -63,11 +67,13 @@ parts_at auditors rest = many_at auditors (λ before. line_by (part_line (length
 -- the share of an auditor
 unfoldable pub shown_at : List ℕ → ℕ → ℕ → Rest → Result (Share × Rest) ℕ
 shown_at auction bits auditor rest =
-    line_by (shown_line bits auditor) rest >>= λ show. Ok (share_with auction auditor show.0, show.1)
+    line_by (shown_line bits auditor) rest >>= λ show.
+    Ok (share_with auction auditor show.0, show.1)
 
 -- those of so many auditors
 abbrev pub shares_at : List ℕ → ℕ → ℕ → Rest → Result (List Share × Rest) ℕ
-shares_at auction bits auditors rest = many_at auditors (λ before. shown_at auction bits (length before + 1)) rest
+shares_at auction bits auditors rest =
+    many_at auditors (λ before. shown_at auction bits (length before + 1)) rest
 
 unfoldable pub coin_at : Rest → Result (Coin × Rest) ℕ
 coin_at rest =

@@ -1,4 +1,5 @@
--- What an auditor brings to a joint challenge: a share, how it is drawn, its commitment and its text.
+-- What an auditor brings to a joint challenge: a share, how it is drawn, its commitment and its
+-- text.
 use Rattle.std.specs.Prelude.{ℕ, ◌+◌, ◌/◌, ◌^◌, ◌≤◌, Bool, if◌then◌else◌, List, [], ◌∷◌, ◌++◌, length, map, codes, decimal}
 use Rattle.std.specs.Int.{w16, w64, to_be_bytes}
 use Rattle.std.specs.List.{range_with_len}
@@ -38,7 +39,8 @@ bits_number bits = weighed (2 ^ 63) bits
 -- the 64 bytes that the commitment to a share hashes, numbers big-endian
 abbrev pub share_message : Share → List ℕ
 share_message share =
-    codes "VKJ1" ++ share.auction ++ to_be_bytes w16 share.auditor ++ to_be_bytes w16 (length share.bits)
+    codes "VKJ1" ++ share.auction ++ to_be_bytes w16 share.auditor
+    ++ to_be_bytes w16 (length share.bits)
     ++ share.key ++ to_be_bytes w64 (bits_number share.bits)
 
 -- the commitment: SHA-256 of the message (FIPS 180-4, 6.2)
@@ -54,7 +56,12 @@ drawn_bits lanes ahead = map (λ lane. drawn_bit (later lane ahead)) (range_with
 -- a key, and then the bits
 abbrev pub drawn_share : List ℕ → ℕ → ℕ → (ℕ → ℕ) → Share
 drawn_share auction auditor lanes ahead =
-    record { auction = auction; auditor = auditor; bits = drawn_bits lanes (later 4 ahead); key = drawn_key ahead }
+    record {
+      auction = auction;
+      auditor = auditor;
+      bits = drawn_bits lanes (later 4 ahead);
+      key = drawn_key ahead;
+    }
 
 -- ---- the file
 

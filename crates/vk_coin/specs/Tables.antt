@@ -4,9 +4,9 @@ use Rattle.vk_lines.specs.Forms.{Table}
 use Rattle.vk_lines.specs.Tokens.{word_of, id_line, number_line}
 use Rattle.vk_coin.specs.Reading.{part_line, show_line, shown_line}
 
--- the places of both forms. In a coin, once there are so many bits: the number of auditors; the part of an auditor,
--- where there are so many, and so many parts after it; the share of an auditor, and so many after it. At `Last` the line
--- `end` stands next
+-- the places of both forms. In a coin, once there are so many bits: the number of auditors; the
+-- part of an auditor, where there are so many, and so many parts after it; the share of an auditor,
+-- and so many after it. At `Last` the line `end` stands next
 pub data CoinPlace : Type 0 where
   Heading : CoinPlace
   Auction : CoinPlace
@@ -48,9 +48,13 @@ abbrev pub coin_next : CoinPlace → List ℕ → Option CoinPlace
 coin_next Heading text = option_map (λ _. Auction) (word_of (codes "vickrey-coin 1") text)
 coin_next Auction text = option_map (λ _. Bits) (id_line (codes "auction") text)
 coin_next Bits text = option_map Auditors (number_line (codes "bits") 1 64 text)
-coin_next (Auditors bits) text = option_map (λ auditors. before_parts bits auditors 1 auditors) (number_line (codes "auditors") 1 16 text)
-coin_next (Part bits auditors auditor more) text = option_map (λ _. before_parts bits auditors (auditor + 1) more) (part_line auditor text)
-coin_next (Shown bits auditor more) text = option_map (λ _. before_shares bits (auditor + 1) more) (shown_line bits auditor text)
+coin_next (Auditors bits) text =
+    option_map (λ auditors. before_parts bits auditors 1 auditors)
+    (number_line (codes "auditors") 1 16 text)
+coin_next (Part bits auditors auditor more) text =
+    option_map (λ _. before_parts bits auditors (auditor + 1) more) (part_line auditor text)
+coin_next (Shown bits auditor more) text =
+    option_map (λ _. before_shares bits (auditor + 1) more) (shown_line bits auditor text)
 coin_next Last text = option_map (λ _. Over) (word_of (codes "end") text)
 coin_next _ text = None
 

@@ -26,7 +26,8 @@ impl HasBits for Challenge {
 }
 
 /// The bits with which an auditor makes the joint ones those that are wanted, where the others' are
-/// these: the exclusive or of all. With no others they are the wanted ones. Errs for want of memory alone.
+/// these: the exclusive or of all. With no others they are the wanted ones. Errs for want of memory
+/// alone.
 pub fn own_bits(
     alloc: Global,
     wanted: &Challenge,
@@ -40,8 +41,8 @@ pub fn own_bits(
     Ok(bits)
 }
 
-/// The joint bits of a list and of those of the others, which have as many bits each. Errs for want of
-/// memory alone.
+/// The joint bits of a list and of those of the others, which have as many bits each. Errs for want
+/// of memory alone.
 #[tactic(auto, unfolding(crate::specs::Bits::joint_of))]
 pub(crate) fn joint_bits<B: HasBits>(
     alloc: Global,
@@ -71,11 +72,14 @@ fn joint_bit<B: HasBits>(first: &[bool], others: &[B], place: usize) -> bool
     joint
 }
 
-/// Whatever bits the others give, with exactly one own list of bits, at whatever place among theirs, the joint bits
-/// are those that are wanted: with the exclusive or of the wanted bits and all the others'.
+/// Whatever bits the others give, with exactly one own list of bits, at whatever place among
+/// theirs, the joint bits are those that are wanted: with the exclusive or of the wanted bits and
+/// all the others'.
 pub fn one_own_list_makes_the_joint_bits_wanted()
     ensures one { (before after : List (List Bool)) (own wanted : List Bool)
         → length own ≡ length wanted → HaveBits (length wanted) (before ++ after)
-        → (joint_of (before ++ own ∷ after) ≡ wanted) ↔ (own ≡ own_bits_of wanted (before ++ after)) }
-    ensures as_many { (wanted : List Bool) (others : List (List Bool)) → length (own_bits_of wanted others) ≡ length wanted }
+        → (joint_of (before ++ own ∷ after) ≡ wanted)
+        ↔ (own ≡ own_bits_of wanted (before ++ after)) }
+    ensures as_many { (wanted : List Bool) (others : List (List Bool))
+        → length (own_bits_of wanted others) ≡ length wanted }
 {}

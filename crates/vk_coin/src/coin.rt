@@ -1,7 +1,8 @@
 use crate::share::Share;
 use vk_seq::Seq;
 
-/// A joint challenge as it was fixed: the parts by which auditors committed to their shares, and then the shares.
+/// A joint challenge as it was fixed: the parts by which auditors committed to their shares, and
+/// then the shares.
 #[derive(Debug, Drop)]
 pub struct Coin {
     pub auction: [u8; 16],

@@ -5,10 +5,11 @@ ghost use Rattle.vk_coin.specs.Shares.{bits_number, share_digest, share_message}
 use crate::share::Share;
 use sha2::{Digest, Sha256};
 
-/// The commitment to a share, which is the auditor's part of a coin: SHA-256 (FIPS 180-4) of a message of 64 bytes.
+/// The commitment to a share, which is the auditor's part of a coin: SHA-256 (FIPS 180-4) of a
+/// message of 64 bytes.
 ///
-/// The message has, with numbers big-endian, the letters `VKJ1`, the auction, the auditor, the number
-/// of bits, the key, and the bits as a number of 64 binary digits, that of lane 1 first.
+/// The message has, with numbers big-endian, the letters `VKJ1`, the auction, the auditor, the
+/// number of bits, the key, and the bits as a number of 64 binary digits, that of lane 1 first.
 pub fn share_commit(share: &Share) -> [u8; 32]
     requires few_bits { length share.now.bits ≤ 64 }
     ensures digest { result ≡ share_digest share.now }
@@ -42,7 +43,8 @@ fn put(bytes: &mut [u8; 64], at: usize, piece: &[u8])
     bytes[at..at + piece.len()].copy_from_slice(piece);
 }
 
-/// Bits as a number of 64 binary digits: the first is the highest, and there are zeros after the last.
+/// Bits as a number of 64 binary digits: the first is the highest, and there are zeros after the
+/// last.
 fn bits_number(bits: &[bool]) -> u64
     ensures { result ≡ bits_number bits.now }
 {

@@ -28,12 +28,12 @@ const MOST_BYTES: u64 = 1 << 30;
 /// How many bytes one call of `read_at` is asked for.
 const PIECE: usize = 4096;
 
-/// The challenge for 1 to 64 lanes that is derived from the named file: the first bits of SHA-256 of
-/// `VKD1` and the file's bytes, the most significant of each byte first.
+/// The challenge for 1 to 64 lanes that is derived from the named file: the first bits of SHA-256
+/// of `VKD1` and the file's bytes, the most significant of each byte first.
 ///
-/// Errs where the file isn't held or has more than 2^30 bytes, where the shelf fails, and for want of
-/// memory. No more bytes are taken than `length` told, and where the file shrinks meanwhile, those that
-/// are there.
+/// Errs where the file isn't held or has more than 2^30 bytes, where the shelf fails, and for want
+/// of memory. No more bytes are taken than `length` told, and where the file shrinks meanwhile,
+/// those that are there.
 pub fn board_challenge<S: Shelf>(
     alloc: Global,
     shelf: &mut S,
@@ -49,7 +49,8 @@ pub fn board_challenge<S: Shelf>(
     ensures right { IfOk result IsChallenge }
     ensures lanes { IfOk result (λ challenge. length challenge.bits ≡ lanes) }
     ensures shelf { OnlyReads S.held S.Shelf.faults BoardErr.Failed result shelf.old shelf.new }
-    ensures wants { MayCause BoardErr.NoMemory result (S.Shelf.wants shelf.old) (S.Shelf.wants shelf.new) }
+    ensures wants { MayCause BoardErr.NoMemory result (S.Shelf.wants shelf.old)
+        (S.Shelf.wants shelf.new) }
 {
     let told = shelf.length(board)?;
     let size = taken_size(told)?;
@@ -76,7 +77,8 @@ fn digest_behind<S: Shelf>(shelf: &mut S, name: &str, size: u64) -> Result<[u8; 
         digest ≡ sha256 (derived_message (take size (bytes_of files name.now))))) }
     ensures size { IfOk result (λ digest. length digest ≡ 32) }
     ensures shelf { OnlyReads S.held S.Shelf.faults OutsideErr.Failed result shelf.old shelf.new }
-    ensures wants { Causes OutsideErr.NoMemory result (S.Shelf.wants shelf.old) (S.Shelf.wants shelf.new) }
+    ensures wants { Causes OutsideErr.NoMemory result (S.Shelf.wants shelf.old)
+        (S.Shelf.wants shelf.new) }
 {
     let mut hasher = Sha256::new_with_prefix(b"VKD1".as_slice());
     let mut piece = [0u8; PIECE];
@@ -96,7 +98,8 @@ fn digest_behind<S: Shelf>(shelf: &mut S, name: &str, size: u64) -> Result<[u8; 
 /// The challenge of the first bits of a digest.
 fn challenge_of(alloc: Global, digest: &[u8; 32], lanes: u32) -> Result<Challenge, BoardErr>
     requires { IsLaneCount lanes }
-    ensures bits { IfOk result (λ challenge. challenge ≡ record { bits = leading_bits lanes digest.now }) }
+    ensures bits { IfOk result
+        (λ challenge. challenge ≡ record { bits = leading_bits lanes digest.now }) }
     ensures right { IfOk result IsChallenge }
     ensures lanes { IfOk result (λ challenge. length challenge.bits ≡ lanes) }
     ensures memory { IfErr result (λ refusal. refusal ≡ BoardErr.NoMemory) }

@@ -9,8 +9,8 @@ use vk_dice::{Words, draw_bit, draw_key};
 use vk_residue::NoMemory;
 use vk_seq::Seq;
 
-/// Draws an auditor's share for an auction of so many lanes: a key, and then a bit for each lane. Errs for want of
-/// memory alone, and all memory is taken before the first word.
+/// Draws an auditor's share for an auction of so many lanes: a key, and then a bit for each lane.
+/// Errs for want of memory alone, and all memory is taken before the first word.
 pub fn draw_share<W: Words>(
     alloc: Global,
     auction: &[u8; 16],
@@ -22,7 +22,8 @@ pub fn draw_share<W: Words>(
     requires few_auditors { auditor ≤ 16 }
     requires some_lane { 1 ≤ lanes }
     requires few_lanes { lanes ≤ 64 }
-    ensures drawn { IfOk result (λ share. share ≡ drawn_share auction.now auditor lanes (W.ahead words.old)) }
+    ensures drawn { IfOk result
+        (λ share. share ≡ drawn_share auction.now auditor lanes (W.ahead words.old)) }
     ensures after { IfOk result (λ _. W.ahead words.new ≡ later (4 + lanes) (W.ahead words.old)) }
     ensures memory { IfErr result (λ _. W.ahead words.new ≡ W.ahead words.old) }
     ensures right { IfOk result IsShare }

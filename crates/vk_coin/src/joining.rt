@@ -33,13 +33,14 @@ impl From<NoMemory> for JointErr {
     ghost from_gives = { λ _ e. e ≡ MemoryRefused };
 }
 
-/// The challenge that the shares of a coin are together: in each lane the exclusive or of their bits. `Part` comes
-/// exactly where a share doesn't open its auditor's part, and takes no memory.
+/// The challenge that the shares of a coin are together: in each lane the exclusive or of their
+/// bits. `Part` comes exactly where a share doesn't open its auditor's part, and takes no memory.
 pub fn joint(alloc: Global, coin: &Coin) -> Result<Challenge, JointErr>
     requires { IsCoin coin.now }
     ensures joined { IfOk result (λ challenge. challenge ≡ joint_challenge coin.now) }
     ensures opened { IfOk result (λ _. unmet_part coin.now ≡ None) }
-    ensures part { (auditor : ℕ) → (result ≡ Err (JointErr.Part auditor)) ↔ (unmet_part coin.now ≡ Some auditor) }
+    ensures part { (auditor : ℕ) → (result ≡ Err (JointErr.Part auditor))
+        ↔ (unmet_part coin.now ≡ Some auditor) }
     ensures right { IfOk result IsChallenge }
 {
     if let Some(auditor) = unmet_part(coin) {

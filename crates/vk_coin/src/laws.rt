@@ -40,16 +40,16 @@ pub fn all_but_coins_have_a_fault_line()
     ensures { FaultsAllButTexts IsCoin coin_text coin_table }
 {}
 
-/// A law: the message of every share has 64 bytes, and different shares have different messages. So who opens one part by
-/// two shares has two messages of one digest.
+/// A law: the message of every share has 64 bytes, and different shares have different messages. So
+/// who opens one part by two shares has two messages of one digest.
 pub fn messages_tell_shares_apart()
     ensures size { (share : Share) → IsShare share → length (share_message share) ≡ 64 }
     ensures apart { (first second : Share) → IsShare first → IsShare second
         → share_message first ≡ share_message second → first ≡ second }
 {}
 
-/// A law: in a coin with as many shares as parts, the auditor that is found is the first whose share doesn't open its
-/// part, and none is found exactly where each share opens its part.
+/// A law: in a coin with as many shares as parts, the auditor that is found is the first whose
+/// share doesn't open its part, and none is found exactly where each share opens its part.
 pub fn unmet_parts_are_found()
     ensures found { (coin : Coin) (auditor : ℕ) → IsCoin coin
         → (unmet_part coin ≡ Some auditor) ↔ IsFirstUnmet coin auditor }

@@ -1,5 +1,5 @@
-//! Challenges that nobody chooses alone: one that auditors fix together, by shares that each committed to before, and one
-//! that is derived from a board's bytes.
+//! Challenges that nobody chooses alone: one that auditors fix together, by shares that each
+//! committed to before, and one that is derived from a board's bytes.
 #![tactic(auto)]
 
 mod bits;

@@ -29,7 +29,8 @@ pub fn read_share<S: Shelf>(
     ensures shelf { OnlyReads S.held S.Shelf.faults ReadErr.Failed result shelf.old shelf.new }
     ensures file { KeepsFile lines.old lines.new }
     ensures modelled { ReadsPart share_at (S.held shelf.old) lines.old lines.new result }
-    ensures answers { AnswersWhole IsShare share_text share_table (S.held shelf.old) lines.old result }
+    ensures answers { AnswersWhole IsShare share_text share_table (S.held shelf.old) lines.old
+        result }
 {
     let share = share_read(alloc, shelf, lines);
     share
@@ -115,7 +116,8 @@ fn coin_from(auction: &[u8; 16], bits: u32, parts: Seq<[u8; 32]>, shares: Seq<Sh
     requires few_parts { length parts ≤ 16 }
     requires parts { All (AreBytes 32) parts }
     requires one_each { length shares ≡ length parts }
-    requires shares { EachAfter (λ before. IsShareOf auction.now bits (length before + 1)) [] shares }
+    requires shares { EachAfter (λ before. IsShareOf auction.now bits (length before + 1)) []
+        shares }
     ensures value { result ≡ coin_with auction.now bits parts shares }
     ensures right { IsCoin result }
 {
@@ -178,9 +180,11 @@ fn read_shares<S: Shelf>(
     bits: u32,
 ) -> Result<Seq<Share>, ReadErr>
     requires few { auditors ≤ 16 }
-    ensures modelled { ReadsPart (shares_at auction.now bits auditors) (S.held shelf.old) lines.old lines.new result }
+    ensures modelled { ReadsPart (shares_at auction.now bits auditors) (S.held shelf.old) lines.old
+        lines.new result }
     ensures count { IfOk result (λ shares. length shares ≡ auditors) }
-    ensures right { IfOk result (EachAfter (λ before. IsShareOf auction.now bits (length before + 1)) []) }
+    ensures right { IfOk result
+        (EachAfter (λ before. IsShareOf auction.now bits (length before + 1)) []) }
     ensures shelf { OnlyReads S.held S.Shelf.faults ReadErr.Failed result shelf.old shelf.new }
     ensures file { KeepsFile lines.old lines.new }
 {
@@ -203,7 +207,8 @@ fn read_shown<S: Shelf>(
     bits: u32,
     auditor: u16,
 ) -> Result<Share, ReadErr>
-    ensures modelled { ReadsPart (shown_at auction.now bits auditor) (S.held shelf.old) lines.old lines.new result }
+    ensures modelled { ReadsPart (shown_at auction.now bits auditor) (S.held shelf.old) lines.old
+        lines.new result }
     ensures right { IfOk result (IsShareOf auction.now bits auditor) }
     ensures shelf { OnlyReads S.held S.Shelf.faults ReadErr.Failed result shelf.old shelf.new }
     ensures file { KeepsFile lines.old lines.new }

@@ -5,7 +5,8 @@ ghost use Rattle.vk_coin.specs.Shares.{IsAuditor, IsShare};
 
 use vk_seq::Seq;
 
-/// What an auditor brings to a joint challenge. The auditor commits to it before the others show theirs.
+/// What an auditor brings to a joint challenge. The auditor commits to it before the others show
+/// theirs.
 #[derive(Debug, Drop)]
 pub struct Share {
     pub auction: [u8; 16],
@@ -18,7 +19,12 @@ pub struct Share {
 
 /// The share of these: its id and its key have as many bytes as their types say.
 pub(crate) fn share_from(auction: &[u8; 16], auditor: u16, bits: Seq<bool>, key: &[u8; 32]) -> Share
-    ensures value { result ≡ record { auction = auction.now; auditor = auditor; bits = bits; key = key.now } }
+    ensures value { result ≡ record {
+      auction = auction.now;
+      auditor = auditor;
+      bits = bits;
+      key = key.now;
+    } }
     ensures right { IsAuditor auditor → IsLaneCount (length bits) → IsShare result }
     ensures key { AreBytes 32 key.now }
 {

@@ -58,7 +58,8 @@ pub(crate) fn show_line(alloc: Global, text: &[u8]) -> Result<Option<Show>, Read
 
 /// The texts of the key and of the bits in a share's line.
 fn show_fields(text: &[u8]) -> Option<(&[u8], &[u8])>
-    ensures { option_map (λ x. (x.0.now, x.1.now)) result ≡ (behind_word (codes "show") (fields_of text.now) >>? two_of) }
+    ensures { option_map (λ x. (x.0.now, x.1.now)) result
+        ≡ (behind_word (codes "show") (fields_of text.now) >>? two_of) }
 {
     let fields = two_fields(behind_word(text, b"show")?)?;
     Some(fields)
@@ -66,15 +67,16 @@ fn show_fields(text: &[u8]) -> Option<(&[u8], &[u8])>
 
 /// What is shown by the text of a key, and by bits where these are some.
 fn show_of(key: &[u8], bits: Option<Seq<bool>>) -> Option<Show>
-    ensures { result ≡ (hex_of 32 key.now >>? λ bytes. bits >>? λ shown. Some (show_by bytes shown)) }
+    ensures { result ≡ (hex_of 32 key.now >>? λ bytes. bits >>? λ shown.
+        Some (show_by bytes shown)) }
 {
     let key = read_hex32(key)?;
     let bits = bits?;
     Some(Show { key, bits })
 }
 
-/// What the line of that auditor shows in a coin of so many bits, `None` where it is no such line. Errs for want
-/// of memory alone.
+/// What the line of that auditor shows in a coin of so many bits, `None` where it is no such line.
+/// Errs for want of memory alone.
 pub(crate) fn shown_line(
     alloc: Global,
     bits: u32,
@@ -96,7 +98,8 @@ pub(crate) fn shown_line(
 /// The texts of the key and of the bits in the line of that auditor.
 fn shown_fields(auditor: u16, text: &[u8]) -> Option<(&[u8], &[u8])>
     ensures { option_map {U = List ℕ × List ℕ} (λ x. (x.0.now, x.1.now)) result
-        ≡ (behind_word (codes "show") (fields_of text.now) >>? three_of >>? λ fields. auditor_of auditor fields.0 >>? λ _. Some (fields.1, fields.2)) }
+        ≡ (behind_word (codes "show") (fields_of text.now) >>? three_of >>? λ fields.
+        auditor_of auditor fields.0 >>? λ _. Some (fields.1, fields.2)) }
 {
     let (number, key, word) = three_fields(behind_word(text, b"show")?)?;
     auditor_of(auditor, number)?;

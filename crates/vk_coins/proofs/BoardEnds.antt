@@ -27,27 +27,37 @@ use Rattle.vk_coins.specs.Meaning.{DerivesExactly}
 
 -- the challenge behind a report
 abbrev behind : Files → List ℕ → Report → Result Challenge ReportErr
-behind files board report = in_start (derived_on files board report.head.lanes) >>= λ challenge. Ok challenge
+behind files board report = in_start (derived_on files board report.head.lanes) >>= λ challenge.
+    Ok challenge
 
-unfolded : (files : Files) (board : List ℕ) → derived_in files board ≡ (report_on files board >>= behind files board)
+unfolded : (files : Files) (board : List ℕ)
+    → derived_in files board ≡ (report_on files board >>= behind files board)
 unfolding derived_in
 unfolded files board = refl
 
-lanes_are : (files : Files) (board : List ℕ) (report : Report) → IsReportOn files board report → IsLaneCount report.head.lanes
+lanes_are : (files : Files) (board : List ℕ) (report : Report) → IsReportOn files board report
+    → IsLaneCount report.head.lanes
 lanes_are files board report is =
     let publishes = is.holds in
-    subst (λ (r : Report). IsLaneCount r.head.lanes) (sym publishes.report_is) publishes.is_board.head.size.lanes
+    subst (λ (r : Report). IsLaneCount r.head.lanes) (sym publishes.report_is)
+    publishes.is_board.head.size.lanes
 
-pub derived_length : (lanes : ℕ) (bytes : List ℕ) → IsLaneCount lanes → length (derived_bits lanes bytes) ≡ lanes
+pub derived_length : (lanes : ℕ) (bytes : List ℕ) → IsLaneCount lanes
+    → length (derived_bits lanes bytes) ≡ lanes
 unfolding derived_bits
-derived_length lanes bytes count = lane_bits lanes (sha256 (derived_message bytes)) (derived_bits lanes bytes) count (length-sha256 (derived_message bytes)) refl
+derived_length lanes bytes count =
+    lane_bits lanes (sha256 (derived_message bytes)) (derived_bits lanes bytes) count
+    (length-sha256 (derived_message bytes)) refl
 
-found : (files : Files) (board : List ℕ) (report : Report) (is : IsReportOn files board report) → derived_in files board ≡ Ok (record { bits = derived_bits report.head.lanes is.file })
+found : (files : Files) (board : List ℕ) (report : Report) (is : IsReportOn files board report)
+    → derived_in files board ≡ Ok (record { bits = derived_bits report.head.lanes is.file })
 found files board report is =
     let lanes = report.head.lanes in
     let challenge : Result Challenge StartErr = Ok (record { bits = derived_bits lanes is.file }) in
     let started : derived_on files board lanes ≡ challenge =
-    ap (derived_by lanes) is.held ∙ ap (λ long. if long then Err start.TooLong else challenge) (le-ltb (2 ^ 30) (length is.file) is.short) in
+    ap (derived_by lanes) is.held
+    ∙ ap (λ long. if long then Err start.TooLong else challenge)
+    (le-ltb (2 ^ 30) (length is.file) is.short) in
     unfolded files board ∙ ap (λ r. r >>= behind files board) (is_reported files board report is)
     ∙ ap (λ (c : Result Challenge StartErr). in_start c >>= λ x. Ok x) started
 
@@ -63,23 +73,33 @@ refuses board NoMemory zero = omega (arith, zero)
 
 module _ (files : Files) (names : ChallengeWords) where
   derived_of : (report : Report) (is : IsReportOn files names.from report)
-      → board_deed names files ≡ writes_one names.challenge (challenge_text (record { bits = derived_bits report.head.lanes is.file })) (derived_said report.head.lanes)
+      → board_deed names files
+      ≡ writes_one names.challenge
+      (challenge_text (record { bits = derived_bits report.head.lanes is.file }))
+      (derived_said report.head.lanes)
   derived_of report is =
       let bits = derived_bits report.head.lanes is.file in
       let challenge : Challenge = record { bits = bits } in
       ap (derive_deed names) (found files names.from report is)
-      ∙ ap (λ count. writes_one names.challenge (challenge_text challenge) (derived_said count)) (derived_length report.head.lanes is.file (lanes_are files names.from report is))
+      ∙ ap (λ count. writes_one names.challenge (challenge_text challenge) (derived_said count))
+      (derived_length report.head.lanes is.file (lanes_are files names.from report is))
 
-  unreported_of : (fault : ReportErr) → report_on files names.from ≡ Err fault → derived_in files names.from ≡ Err fault
+  unreported_of : (fault : ReportErr) → report_on files names.from ≡ Err fault
+      → derived_in files names.from ≡ Err fault
   unreported_of fault is = unfolded files names.from ∙ ap (λ r. r >>= behind files names.from) is
 
-  done_by : (read : Result Report ReportErr) → report_on files names.from ≡ read → (board_deed names files).said.status ≡ 0 → (report : Report) × IsReportOn files names.from report
+  done_by : (read : Result Report ReportErr) → report_on files names.from ≡ read
+      → (board_deed names files).said.status ≡ 0
+      → (report : Report) × IsReportOn files names.from report
   done_by (Ok report) is zero = (report, reported files names.from report is)
-  done_by (Err fault) is zero = absurd (refuses names.from fault (subst (λ c. (derive_deed names c).said.status ≡ 0) (unreported_of fault is) zero))
+  done_by (Err fault) is zero =
+      absurd (refuses names.from fault
+      (subst (λ c. (derive_deed names c).said.status ≡ 0) (unreported_of fault is) zero))
 
 pub derives_exactly : DerivesExactly
 derives_exactly files names = record {
   derived = derived_of files names;
-  unreported = λ fault is. ap (derive_deed names) (unreported_of files names fault ((unreported_exactly files names.from fault).1 is));
+  unreported = λ fault is. ap (derive_deed names)
+      (unreported_of files names fault ((unreported_exactly files names.from fault).1 is));
   done = done_by files names (report_on files names.from) refl;
 }

@@ -18,7 +18,8 @@ use Rattle.vk_coins.specs.Joining.{coin_deed, deed_by, join_deed, joined_if}
 use Rattle.vk_coins.specs.Meaning.{HasJoint, HasUnmet, IsCoinFile, JoinsExactly, coin_fault}
 
 -- the one fault of a file that isn't read
-same_fault : (read : Result Coin SaidValue) (said : SaidValue) → result_err read ≡ Some said → read ≡ Err said
+same_fault : (read : Result Coin SaidValue) (said : SaidValue) → result_err read ≡ Some said
+    → read ≡ Err said
 same_fault (Ok coin) said is = cc
 same_fault (Err other) said is = cc
 
@@ -34,38 +35,55 @@ module _ (files : Files) (names : ChallengeWords) where
   found coin is = named_found IsCoin coin_text coin_at coin_is_whole files names.from coin is
 
   file_of : (coin : Coin) → read_coin ≡ Ok coin → IsCoinFile files names.from coin
-  file_of coin is = (named_exactly IsCoin coin_text coin_at coin_is_whole files names.from coin).0 is
+  file_of coin is = (named_exactly IsCoin coin_text coin_at coin_is_whole files names.from coin).0
+      is
 
-  deed_of : (coin : Coin) (auditor : Option ℕ) → IsCoinFile files names.from coin → unmet_part coin ≡ auditor → join_deed names files ≡ joined_if names coin auditor
-  deed_of coin auditor file is = ap (deed_by (coin_deed names)) (found coin file) ∙ ap (joined_if names coin) is
+  deed_of : (coin : Coin) (auditor : Option ℕ) → IsCoinFile files names.from coin
+      → unmet_part coin ≡ auditor → join_deed names files ≡ joined_if names coin auditor
+  deed_of coin auditor file is = ap (deed_by (coin_deed names)) (found coin file)
+      ∙ ap (joined_if names coin) is
 
-  unread_of : (said : SaidValue) → coin_fault files names.from ≡ Some said → join_deed names files ≡ only_says said
+  unread_of : (said : SaidValue) → coin_fault files names.from ≡ Some said
+      → join_deed names files ≡ only_says said
   unread_of said is =
-      ap (deed_by (coin_deed names)) (same_fault read_coin said (named_said coin_table coin_at fault_of_coin files names.from ∙ is))
+      ap (deed_by (coin_deed names))
+      (same_fault read_coin said
+      (named_said coin_table coin_at fault_of_coin files names.from ∙ is))
 
   neither : (said : SaidValue) → read_coin ≡ Err said → IsNeither said
   neither said is =
       subst (λ read. IfErr read IsNeither) is
-      (named_says IsNeither (λ name. (λ zero. omega (arith, zero), λ one. omega (arith, one))) (λ name. (λ zero. omega (arith, zero), λ one. omega (arith, one)))
-      (λ name line. (λ zero. omega (arith, zero), λ one. omega (arith, one))) coin_at files names.from)
+      (named_says IsNeither (λ name. (λ zero. omega (arith, zero), λ one. omega (arith, one)))
+      (λ name. (λ zero. omega (arith, zero), λ one. omega (arith, one)))
+      (λ name line. (λ zero. omega (arith, zero), λ one. omega (arith, one))) coin_at files
+      names.from)
 
   -- ---- status 0
 
-  joint_by : (coin : Coin) (auditor : Option ℕ) → IsCoinFile files names.from coin → unmet_part coin ≡ auditor → (joined_if names coin auditor).said.status ≡ 0 → HasJoint files names.from coin
-  joint_by coin None file is zero = record { file = file; opens = none_opens_all coin file.right is }
+  joint_by : (coin : Coin) (auditor : Option ℕ) → IsCoinFile files names.from coin
+      → unmet_part coin ≡ auditor → (joined_if names coin auditor).said.status ≡ 0
+      → HasJoint files names.from coin
+  joint_by coin None file is zero =
+      record { file = file; opens = none_opens_all coin file.right is }
   joint_by coin (Some auditor) file is zero = absurd (omega (arith, zero))
 
-  done_by : (read : Result Coin SaidValue) → read_coin ≡ read → (deed_by (coin_deed names) read).said.status ≡ 0 → (coin : Coin) × HasJoint files names.from coin
+  done_by : (read : Result Coin SaidValue) → read_coin ≡ read
+      → (deed_by (coin_deed names) read).said.status ≡ 0
+      → (coin : Coin) × HasJoint files names.from coin
   done_by (Ok coin) is zero = (coin, joint_by coin (unmet_part coin) (file_of coin is) refl zero)
   done_by (Err said) is zero = absurd ((neither said is).0 zero)
 
   -- ---- status 1
 
-  unmet_by : (coin : Coin) (auditor : Option ℕ) → IsCoinFile files names.from coin → unmet_part coin ≡ auditor → (joined_if names coin auditor).said.status ≡ 1 → (number : ℕ) × HasUnmet files names.from coin number
+  unmet_by : (coin : Coin) (auditor : Option ℕ) → IsCoinFile files names.from coin
+      → unmet_part coin ≡ auditor → (joined_if names coin auditor).said.status ≡ 1
+      → (number : ℕ) × HasUnmet files names.from coin number
   unmet_by coin None file is one = absurd (omega (arith, one))
-  unmet_by coin (Some auditor) file is one = (auditor, record { file = file; unmet = found_is_first coin auditor is })
+  unmet_by coin (Some auditor) file is one =
+      (auditor, record { file = file; unmet = found_is_first coin auditor is })
 
-  refused_by : (read : Result Coin SaidValue) → read_coin ≡ read → (deed_by (coin_deed names) read).said.status ≡ 1
+  refused_by : (read : Result Coin SaidValue) → read_coin ≡ read
+      → (deed_by (coin_deed names) read).said.status ≡ 1
       → (coin : Coin) × ((auditor : ℕ) × HasUnmet files names.from coin auditor)
   refused_by (Ok coin) is one = (coin, unmet_by coin (unmet_part coin) (file_of coin is) refl one)
   refused_by (Err said) is one = absurd ((neither said is).1 one)
@@ -73,7 +91,8 @@ module _ (files : Files) (names : ChallengeWords) where
 pub joins_exactly : JoinsExactly
 joins_exactly files names = record {
   joined = λ coin has. deed_of files names coin None has.file (all_gives_none coin has.opens);
-  unmet = λ coin auditor has. deed_of files names coin (Some auditor) has.file (first_is_found coin auditor has.file.right has.unmet);
+  unmet = λ coin auditor has. deed_of files names coin (Some auditor) has.file
+      (first_is_found coin auditor has.file.right has.unmet);
   unread = unread_of files names;
   done = done_by files names (named_in coin_at files names.from) refl;
   refused = refused_by files names (named_in coin_at files names.from) refl;

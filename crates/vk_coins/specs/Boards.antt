@@ -21,11 +21,15 @@ derived_in files board = do
 
 -- what is said of a challenge of so many bits
 abbrev pub derived_said : ℕ → SaidValue
-derived_said bits = record { status = 0; text = codes "derived bits " +++ decimal bits +++ line_feed }
+derived_said bits = record {
+  status = 0;
+  text = codes "derived bits " +++ decimal bits +++ line_feed;
+}
 
 -- it is written
 abbrev pub derive_deed : ChallengeWords → Result Challenge ReportErr → DeedValue
-derive_deed names (Ok challenge) = writes_one names.challenge (challenge_text challenge) (derived_said (length challenge.bits))
+derive_deed names (Ok challenge) =
+    writes_one names.challenge (challenge_text challenge) (derived_said (length challenge.bits))
 derive_deed names (Err fault) = only_says (unreported_said names.from fault)
 
 abbrev pub board_deed : ChallengeWords → Files → DeedValue

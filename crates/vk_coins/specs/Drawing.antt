@@ -14,11 +14,16 @@ auditor_stream auditor = 131072 + auditor
 
 -- the share: it is drawn from the seed's words in the stream of the auditor
 unfoldable pub share_of : PartWords → Share
-share_of order = drawn_share order.auction order.auditor order.lanes (word_at order.seed order.auction (auditor_stream order.auditor))
+share_of order = drawn_share order.auction order.auditor order.lanes
+    (word_at order.seed order.auction (auditor_stream order.auditor))
 
 -- what is said of a share: the auditor's part of a coin, which is its commitment
 abbrev pub committed_said : Share → SaidValue
-committed_said share = record { status = 0; text = codes "part " +++ decimal share.auditor +++ codes " commit " +++ hex_text (share_digest share) +++ line_feed }
+committed_said share = record {
+  status = 0;
+  text = codes "part " +++ decimal share.auditor +++ codes " commit " +++ hex_text
+      (share_digest share) +++ line_feed;
+}
 
 -- the file of a share is written
 abbrev pub share_deed : List ℕ → Share → DeedValue

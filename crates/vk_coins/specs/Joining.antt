@@ -13,15 +13,21 @@ use Rattle.vk_coin.specs.Reading.{coin_at}
 
 -- what is said of a coin whose shares open its parts
 abbrev pub joined_said : Coin → SaidValue
-joined_said coin = record { status = 0; text = codes "joined auditors " +++ decimal (length coin.parts) +++ codes " bits " +++ decimal coin.bits +++ line_feed }
+joined_said coin = record {
+  status = 0;
+  text = codes "joined auditors " +++ decimal (length coin.parts) +++ codes " bits " +++ decimal
+      coin.bits +++ line_feed;
+}
 
--- what is said of a coin in the named file, where the share of that auditor is the first that doesn't open its part
+-- what is said of a coin in the named file, where the share of that auditor is the first that
+-- doesn't open its part
 abbrev pub unmet_said : (name : List ℕ) (auditor : ℕ) → SaidValue
 unmet_said name auditor = refused_said name (codes "part " ++ decimal auditor)
 
 -- the joint challenge is written where each share opens its part
 abbrev pub joined_if : ChallengeWords → Coin → Option ℕ → DeedValue
-joined_if names coin None = writes_one names.challenge (challenge_text (joint_challenge coin)) (joined_said coin)
+joined_if names coin None = writes_one names.challenge (challenge_text (joint_challenge coin))
+    (joined_said coin)
 joined_if names coin (Some auditor) = only_says (unmet_said names.from auditor)
 
 abbrev pub coin_deed : ChallengeWords → Coin → DeedValue

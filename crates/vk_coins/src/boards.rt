@@ -38,7 +38,8 @@ pub fn derive<S: Shelf>(
 /// The challenge for the lanes of the named board, where that may be reported on.
 #[tactic(auto, unfolding(crate::specs::Boards::derived_in))]
 fn named_board<S: Shelf>(alloc: Global, shelf: &mut S, board: &str) -> Result<Challenge, ReportErr>
-    ensures modelled { IfSome (S.held shelf.old) (λ files. Gives fault_of (λ challenge. challenge) result (derived_in files board.now)) }
+    ensures modelled { IfSome (S.held shelf.old)
+        (λ files. Gives fault_of (λ challenge. challenge) result (derived_in files board.now)) }
     ensures shelf { OnlyReads S.held S.Shelf.faults ReportErr.Failed result shelf.old shelf.new }
 {
     let report = read_report(alloc, shelf, board)?;
@@ -52,7 +53,8 @@ fn derived(
     names: &ChallengeNames<'_>,
     challenge: &Challenge,
 ) -> Result<Deed, NoMemory>
-    ensures { IfOk result (λ deed. deed ≡ derive_deed (challenge_seen names.now) (Ok challenge.now)) }
+    ensures { IfOk result (λ deed. deed
+        ≡ derive_deed (challenge_seen names.now) (Ok challenge.now)) }
 {
     let text = challenge_text(alloc, challenge)?;
     let deed = Deed::says(alloc, told(challenge)).with_file(alloc, names.challenge, text)?;

@@ -17,17 +17,20 @@ use vk_effect::{Deed, Said};
 use vk_io::{OutsideErr, Shelf};
 use vk_words::CoinOrder;
 
-/// Makes a challenge without the auctioneer, or a share of one, all but the printing. No file is made before all tests of
-/// the command have passed.
+/// Makes a challenge without the auctioneer, or a share of one, all but the printing. No file is
+/// made before all tests of the command have passed.
 pub fn make_challenge<S: Shelf>(
     alloc: Global,
     shelf: &mut S,
     order: &CoinOrder<'_>,
 ) -> Result<Said, OutsideErr>
     requires { IsCoinOrder order.now }
-    ensures acts { (ledger : Option Ledger) → IfSome (coin_on (S.held shelf.old) ledger (coin_seen order.now))
-        (λ effect. Acts result effect (stores (S.held shelf.old) ledger) (stores (S.held shelf.new) ledger)) }
-    ensures causes { Causes OutsideErr.Failed result (S.Shelf.faults shelf.old) (S.Shelf.faults shelf.new) }
+    ensures acts { (ledger : Option Ledger)
+        → IfSome (coin_on (S.held shelf.old) ledger (coin_seen order.now))
+        (λ effect. Acts result effect (stores (S.held shelf.old) ledger)
+        (stores (S.held shelf.new) ledger)) }
+    ensures causes { Causes OutsideErr.Failed result (S.Shelf.faults shelf.old)
+        (S.Shelf.faults shelf.new) }
 {
     let deed = deed(alloc, shelf, order)?;
     let said = deed.done(alloc, shelf)?;
@@ -37,7 +40,8 @@ pub fn make_challenge<S: Shelf>(
 /// What is to be said, and written before.
 fn deed<S: Shelf>(alloc: Global, shelf: &mut S, order: &CoinOrder<'_>) -> Result<Deed, OutsideErr>
     requires { IsCoinOrder order.now }
-    ensures modelled { IfSome (deed_on (S.held shelf.old) (coin_seen order.now)) (λ expected. IfOk result (λ deed. deed ≡ expected)) }
+    ensures modelled { IfSome (deed_on (S.held shelf.old) (coin_seen order.now))
+        (λ expected. IfOk result (λ deed. deed ≡ expected)) }
     ensures shelf { OnlyReads S.held S.Shelf.faults OutsideErr.Failed result shelf.old shelf.new }
 {
     match order {

@@ -13,7 +13,8 @@ use vk_residue::NoMemory;
 use vk_text::ShortText;
 use vk_words::PartOrder;
 
-/// The number of the stream of words that auditor 0 would have. Behind those of the lanes and of the seats.
+/// The number of the stream of words that auditor 0 would have. Behind those of the lanes and of
+/// the seats.
 const FIRST_STREAM: u64 = 131072;
 
 /// Draws the auditor's share. Errs for want of memory alone.

@@ -23,7 +23,8 @@ pub fn join<S: Shelf>(
     shelf: &mut S,
     names: &ChallengeNames<'_>,
 ) -> Result<Deed, OutsideErr>
-    ensures modelled { IfSome (S.held shelf.old) (λ files. IfOk result (λ deed. deed ≡ join_deed (challenge_seen names.now) files)) }
+    ensures modelled { IfSome (S.held shelf.old)
+        (λ files. IfOk result (λ deed. deed ≡ join_deed (challenge_seen names.now) files)) }
     ensures shelf { OnlyReads S.held S.Shelf.faults OutsideErr.Failed result shelf.old shelf.new }
 {
     let deed = match named_coin(alloc, shelf, names.from) {
@@ -36,7 +37,8 @@ pub fn join<S: Shelf>(
 /// Reads the named coin.
 #[tactic(auto, unfolding(vk_effect::specs::Reading::named_in))]
 fn named_coin<S: Shelf>(alloc: Global, shelf: &mut S, name: &str) -> Result<Coin, Unread>
-    ensures modelled { IfSome (S.held shelf.old) (λ files. Gives said_of_unread (λ coin. coin) result (named_in coin_at files name.now)) }
+    ensures modelled { IfSome (S.held shelf.old)
+        (λ files. Gives said_of_unread (λ coin. coin) result (named_in coin_at files name.now)) }
     ensures shelf { OnlyReads S.held S.Shelf.faults Unread.Failed result shelf.old shelf.new }
     ensures right { IfOk result IsCoin }
 {

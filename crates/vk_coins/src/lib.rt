@@ -1,4 +1,5 @@
-//! The commands that make a challenge without the auctioneer: auditors fix it together, or a board's bytes give it.
+//! The commands that make a challenge without the auctioneer: auditors fix it together, or a
+//! board's bytes give it.
 #![tactic(auto)]
 
 mod boards;

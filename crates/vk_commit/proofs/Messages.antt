@@ -14,12 +14,15 @@ pub same_ends : (xs ys zs ws : List ℕ) → length ys ≡ length ws → xs ++ y
 same_ends xs ys zs ws same e =
     let fronts : length xs ≡ length zs =
     omega (arith, same, length-append xs ys, length-append zs ws, ap length e) in
-    sym (drop_at xs ys (length xs) refl) ∙ ap (drop (length xs)) e ∙ drop_at zs ws (length xs) (sym fronts)
+    sym (drop_at xs ys (length xs) refl) ∙ ap (drop (length xs)) e
+    ∙ drop_at zs ws (length xs) (sym fronts)
 
 -- numbers that are written alike are equal
-pub same_number : (m n : ℕ) → m < 2 ^ 64 → n < 2 ^ 64 → to_be_bytes w64 m ≡ to_be_bytes w64 n → m ≡ n
+pub same_number : (m n : ℕ) → m < 2 ^ 64 → n < 2 ^ 64 → to_be_bytes w64 m ≡ to_be_bytes w64 n
+    → m ≡ n
 same_number m n fits_m fits_n e =
-    sym (from_be_bytes-to_be_bytes_8 m fits_m) ∙ ap (from_be_bytes w64) e ∙ from_be_bytes-to_be_bytes_8 n fits_n
+    sym (from_be_bytes-to_be_bytes_8 m fits_m) ∙ ap (from_be_bytes w64) e
+    ∙ from_be_bytes-to_be_bytes_8 n fits_n
 
 -- what stands before the value
 abbrev front : Place → Opening → List ℕ
@@ -28,7 +31,10 @@ front place opening =
     ++ to_be_bytes w32 place.slot ++ opening.key
 
 -- equal messages hold equal values
-pub same_value : (place other : Place) (first second : Opening) → first.value < modulus → second.value < modulus → message place first ≡ message other second → first.value ≡ second.value
+pub same_value : (place other : Place) (first second : Opening) → first.value < modulus
+    → second.value < modulus → message place first ≡ message other second
+    → first.value ≡ second.value
 same_value place other first second small_first small_second e =
     same_number first.value second.value (omega arith) (omega arith)
-    (same_ends (front place first) (to_be_bytes w64 first.value) (front other second) (to_be_bytes w64 second.value) refl e)
+    (same_ends (front place first) (to_be_bytes w64 first.value) (front other second)
+    (to_be_bytes w64 second.value) refl e)

@@ -26,17 +26,27 @@ pub is_opening_decides : (opening : Opening) → Decides (is_opening opening) (I
 unfolding is_opening
 is_opening_decides opening =
     let size = Decides-eqb (length opening.key) 32 in
-    let bytes = Decides-by_and (λ byte. nat_lt byte 256) (λ byte. byte < 256) (list_all (λ byte. nat_lt byte 256)) (λ byte. Decides-ltb byte 256) refl (λ _ _. refl) opening.key in
+    let bytes = Decides-by_and (λ byte. nat_lt byte 256) (λ byte. byte < 256)
+    (list_all (λ byte. nat_lt byte 256)) (λ byte. Decides-ltb byte 256) refl (λ _ _. refl)
+    opening.key in
     let value = Decides-ltb opening.value modulus in
     let all = Decides-and _ _ (Decides-and _ _ size bytes) value in (
-      λ test. let h = all.0 test in record { key = (h.0.0, bytes_at opening.key h.0.1); value = h.1 },
-      λ is. all.1 ((is.key.0, λ k d lt. rw (get_or_default opening.key k d 0 lt) (is.key.1 k)), is.value),
+      λ test. let h = all.0 test in
+          record { key = (h.0.0, bytes_at opening.key h.0.1); value = h.1 },
+      λ is. all.1 (
+        (is.key.0, λ k d lt. rw (get_or_default opening.key k d 0 lt) (is.key.1 k)),
+        is.value,
+      ),
     )
 
-pub opens_decides : (place : Place) (digest : List ℕ) (opening : Opening) → Decides (opens_test place digest opening) (Opens place digest opening)
+pub opens_decides : (place : Place) (digest : List ℕ) (opening : Opening)
+    → Decides (opens_test place digest opening) (Opens place digest opening)
 unfolding opens_test
 opens_decides place digest opening =
     let kind = is_opening_decides opening in
     let same = bytes_eq-Decides (digest_of place opening) digest in
-    let both = Decides-and (is_opening opening) (bytes_eq (digest_of place opening) digest) kind same in
-    (λ test. let h = both.0 test in record { opening_is = h.0; digest_is = h.1 }, λ opens. both.1 (opens.opening_is, opens.digest_is))
+    let both = Decides-and (is_opening opening) (bytes_eq (digest_of place opening) digest) kind
+    same in (
+      λ test. let h = both.0 test in record { opening_is = h.0; digest_is = h.1 },
+      λ opens. both.1 (opens.opening_is, opens.digest_is),
+    )

@@ -16,4 +16,5 @@ pub record IsOpening (opening : Opening) : Type 0 where
 -- the same as a test, for definitions that compute
 unfoldable pub is_opening : Opening → Bool
 is_opening opening =
-    length opening.key == 32 && list_all (λ byte. nat_lt byte 256) opening.key && nat_lt opening.value modulus
+    length opening.key == 32 && list_all (λ byte. nat_lt byte 256) opening.key
+    && nat_lt opening.value modulus

@@ -21,8 +21,8 @@ pub fn commit(place: &Place, opening: &Opening) -> [u8; 32]
     Sha256::digest(message.as_slice())
 }
 
-/// The digests that commit to four openings, each at its place. They are hashed side by side, in half
-/// of the time that four calls of `commit` take.
+/// The digests that commit to four openings, each at its place. They are hashed side by side, in
+/// half of the time that four calls of `commit` take.
 pub fn commit_four(places: &[Place; 4], openings: &[Opening; 4]) -> [[u8; 32]; 4]
     ensures { result ≡ zip2 digest_of places.now openings.now }
 {

@@ -4,7 +4,8 @@ use vk_residue::Residue;
 
 /// The place of one commitment in an auction.
 ///
-/// Seat 0 is the auctioneer's, and bidders have the seats from 1 on. Lanes count from 1 and slots from 0.
+/// Seat 0 is the auctioneer's, and bidders have the seats from 1 on. Lanes count from 1 and slots
+/// from 0.
 #[derive(Clone, Copy, Debug, PartialEq, Eq)]
 pub struct Place {
     pub auction: [u8; 16],

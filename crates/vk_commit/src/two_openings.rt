@@ -20,11 +20,21 @@ impl Model for TwoOpenings {
 
     ghost Value = { TwoOpeningsSeen };
 
-    ghost view = { λ a. record { place = a.place; digest = a.digest; first = a.first; second = a.second } };
+    ghost view = { λ a. record {
+      place = a.place;
+      digest = a.digest;
+      first = a.first;
+      second = a.second;
+    } };
 
     ghost invariant = { λ a. AreTwoOpenings a.place a.digest a.first a.second };
 
-    ghost inverse = { λ v. record { place = v.place; digest = v.digest; first = v.first; second = v.second } };
+    ghost inverse = { λ v. record {
+      place = v.place;
+      digest = v.digest;
+      first = v.first;
+      second = v.second;
+    } };
 }
 
 impl TwoOpenings {

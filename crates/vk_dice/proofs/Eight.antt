@@ -24,5 +24,7 @@ pub none_drawn : (word : ℕ) → word % 2 ^ 61 ≡ modulus → drawn_by word �
 none_drawn word e = grind (arith, nat_tests)
 
 -- one of the eight, by its size and its low bits
-pub one_of_eight : (word number : ℕ) → number < 2 ^ 61 → IsOneOfEight number word → (word < 2 ^ 64) × (word % 2 ^ 61 ≡ number)
-one_of_eight word number h w = let j : ℕ = w.0 in let l : j < 8 = w.1 in let e : word ≡ number + j * 2 ^ 61 = w.2 in (omega arith, omega arith)
+pub one_of_eight : (word number : ℕ) → number < 2 ^ 61 → IsOneOfEight number word
+    → (word < 2 ^ 64) × (word % 2 ^ 61 ≡ number)
+one_of_eight word number h w = let j : ℕ = w.0 in let l : j < 8 = w.1 in
+    let e : word ≡ number + j * 2 ^ 61 = w.2 in (omega arith, omega arith)

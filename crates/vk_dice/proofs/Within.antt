@@ -12,13 +12,15 @@ pub later-later : (m n : ℕ) (ahead : ℕ → ℕ) → later n (later m ahead) 
 later-later m n ahead = λ i k. ahead (sym (add_assoc m n k) i)
 
 -- a word that draws nothing leaves the draw to the others
-pub within_others : (n m : ℕ) (now new : ℕ → ℕ) → n ≡ suc m → drawn_by (now 0) ≡ None → new ≡ later 1 now → residue_within n now ≡ residue_within m new
+pub within_others : (n m : ℕ) (now new : ℕ → ℕ) → n ≡ suc m → drawn_by (now 0) ≡ None
+    → new ≡ later 1 now → residue_within n now ≡ residue_within m new
 within_others n m now new e none after =
     ap (λ k. residue_within k now) e
     ∙ ap (λ o. first_of o (residue_within m (later 1 now))) none
     ∙ ap (residue_within m) (sym after)
 
-pub looked_others : (n m : ℕ) (now new : ℕ → ℕ) → n ≡ suc m → drawn_by (now 0) ≡ None → new ≡ later 1 now → later (looked_at n now) now ≡ later (looked_at m new) new
+pub looked_others : (n m : ℕ) (now new : ℕ → ℕ) → n ≡ suc m → drawn_by (now 0) ≡ None
+    → new ≡ later 1 now → later (looked_at n now) now ≡ later (looked_at m new) new
 looked_others n m now new e none after =
     ap (λ k. later (looked_at k now) now) e
     ∙ ap (λ o. later (one_and o (looked_at m (later 1 now))) now) none
@@ -26,10 +28,13 @@ looked_others n m now new e none after =
     ∙ ap (λ f. later (looked_at m f) f) (sym after)
 
 -- a word that draws a residue ends the draw
-pub within_found : (n m r : ℕ) (now : ℕ → ℕ) → n ≡ suc m → drawn_by (now 0) ≡ Some r → residue_within n now ≡ Some r
+pub within_found : (n m r : ℕ) (now : ℕ → ℕ) → n ≡ suc m → drawn_by (now 0) ≡ Some r
+    → residue_within n now ≡ Some r
 within_found n m r now e found =
     ap (λ k. residue_within k now) e ∙ ap (λ o. first_of o (residue_within m (later 1 now))) found
 
-pub looked_found : (n m r : ℕ) (now : ℕ → ℕ) → n ≡ suc m → drawn_by (now 0) ≡ Some r → later (looked_at n now) now ≡ later 1 now
+pub looked_found : (n m r : ℕ) (now : ℕ → ℕ) → n ≡ suc m → drawn_by (now 0) ≡ Some r
+    → later (looked_at n now) now ≡ later 1 now
 looked_found n m r now e found =
-    ap (λ k. later (looked_at k now) now) e ∙ ap (λ o. later (one_and o (looked_at m (later 1 now))) now) found
+    ap (λ k. later (looked_at k now) now) e
+    ∙ ap (λ o. later (one_and o (looked_at m (later 1 now))) now) found

@@ -16,7 +16,8 @@ first_of (Some x) other = Some x
 -- the residue of the first of so many words that draws one
 abbrev pub residue_within : ℕ → (ℕ → ℕ) → Option ℕ
 residue_within zero ahead = None
-residue_within (suc more) ahead = first_of (drawn_by (ahead 0)) (residue_within more (later 1 ahead))
+residue_within (suc more) ahead =
+    first_of (drawn_by (ahead 0)) (residue_within more (later 1 ahead))
 
 -- one word was looked at where it drew a residue, else the rest besides
 abbrev pub one_and : Option ℕ → ℕ → ℕ
@@ -39,7 +40,8 @@ after_residue ahead = later (looked_at 4 ahead) ahead
 -- a key is four words, each as 8 bytes from the highest to the lowest
 abbrev pub drawn_key : (ℕ → ℕ) → List ℕ
 drawn_key ahead =
-    (to_be_bytes w64 (ahead 0) ++ to_be_bytes w64 (ahead 1)) ++ (to_be_bytes w64 (ahead 2) ++ to_be_bytes w64 (ahead 3))
+    (to_be_bytes w64 (ahead 0) ++ to_be_bytes w64 (ahead 1))
+    ++ (to_be_bytes w64 (ahead 2) ++ to_be_bytes w64 (ahead 3))
 
 -- a bit is the lowest bit of one word
 abbrev pub drawn_bit : (ℕ → ℕ) → Bool

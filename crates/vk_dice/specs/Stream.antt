@@ -9,8 +9,8 @@ use Rattle.rand_chacha.specs.ChaCha.{word_at as half_at}
 abbrev pub stream_key : List ℕ → List ℕ → List ℕ
 stream_key seed auction = key_of (sha256 (codes "VKT1" ++ seed ++ auction))
 
--- the word of 64 bits at a place of 32-bit words: the word of 32 bits there is its lower half, and the
--- next its upper half. Places count modulo 2^68
+-- the word of 64 bits at a place of 32-bit words: the word of 32 bits there is its lower half, and
+-- the next its upper half. Places count modulo 2^68
 abbrev pub word_from : List ℕ → ℕ → ℕ → ℕ
 word_from key stream place =
     half_at 10 key stream (place % 2 ^ 68) + 2 ^ 32 * half_at 10 key stream ((place + 1) % 2 ^ 68)

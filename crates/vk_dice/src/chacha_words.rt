@@ -28,7 +28,8 @@ impl Model for ChaChaWords {
 }
 
 impl ChaChaWords {
-    /// The words of that stream, for the key that is SHA-256 of `VKT1`, the seed and the auction's id.
+    /// The words of that stream, for the key that is SHA-256 of `VKT1`, the seed and the auction's
+    /// id.
     pub fn of(seed: &[u8; 32], auction: &[u8; 16], stream: u64) -> ChaChaWords
         ensures { words_ahead result ≡ word_at seed.now auction.now stream }
     {

@@ -53,7 +53,8 @@ pub fn draw_key<W: Words>(words: &mut W) -> [u8; 32]
 
 /// Two words, each as 8 bytes from the highest to the lowest.
 fn draw_half<W: Words>(words: &mut W) -> [u8; 16]
-    ensures drawn { result ≡ to_be_bytes w64 (W.ahead words.old 0) ++ to_be_bytes w64 (W.ahead words.old 1) }
+    ensures drawn { result ≡ to_be_bytes w64 (W.ahead words.old 0)
+        ++ to_be_bytes w64 (W.ahead words.old 1) }
     ensures after { W.ahead words.new ≡ later 2 (W.ahead words.old) }
 {
     let first = words.next();

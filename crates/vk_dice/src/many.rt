@@ -21,19 +21,21 @@ pub trait Draw {
     /// Draws one. None where the words are dry for it.
     fn draw<W: Words>(&self, words: &mut W) -> Option<Self::Item>
         ensures drawn { result ≡ (drawing self.now).drawn (W.ahead words.old) }
-        ensures after { W.ahead words.new ≡ words_after ((drawing self.now).dry (W.ahead words.old)) ((drawing self.now).after (W.ahead words.old)) result }
+        ensures after { W.ahead words.new
+            ≡ words_after ((drawing self.now).dry (W.ahead words.old))
+            ((drawing self.now).after (W.ahead words.old)) result }
         ensures right { IfSome result (is_item self.now) };
 }
 
-/// The draw of that number, counted from 0 with what was there before, is the first for which the words
-/// are dry.
+/// The draw of that number, counted from 0 with what was there before, is the first for which the
+/// words are dry.
 #[derive(Clone, Copy, Debug, PartialEq, Eq)]
 pub struct DryDraw {
     pub number: u32,
 }
 
-/// Draws so many of that kind, one after another, behind what is there. Where a draw is dry, no word is
-/// taken after those that it looked at. Takes no memory.
+/// Draws so many of that kind, one after another, behind what is there. Where a draw is dry, no
+/// word is taken after those that it looked at. Takes no memory.
 pub fn draw_onto<D: Draw, W: Words>(
     mut items: Vec<D::Item>,
     count: u32,
@@ -43,8 +45,12 @@ pub fn draw_onto<D: Draw, W: Words>(
     requires room { length items.items + count ≤ vec_capacity items }
     requires few { length items.items + count < 2 ^ 32 }
     requires right { All (D.is_item kind.now) items.items }
-    ensures drawn { IfOk result (λ all. drawn_onto (D.drawing kind.now) items.items count (W.ahead words.old) ≡ Ok all.items) }
-    ensures dry { IfErr result (λ dry. drawn_onto (D.drawing kind.now) items.items count (W.ahead words.old) ≡ Err dry.number) }
+    ensures drawn { IfOk result
+        (λ all. drawn_onto (D.drawing kind.now) items.items count (W.ahead words.old)
+        ≡ Ok all.items) }
+    ensures dry { IfErr result
+        (λ dry. drawn_onto (D.drawing kind.now) items.items count (W.ahead words.old)
+        ≡ Err dry.number) }
     ensures number { IfErr result (λ dry. dry.number < length items.items + count) }
     ensures after { W.ahead words.new ≡ after_draws (D.drawing kind.now) count (W.ahead words.old) }
     ensures count { IfOk result (λ all. length all.items ≡ length items.items + count) }

@@ -11,10 +11,12 @@ pub lane_zip2 : (f : ℕ → ℕ → ℕ) (x y : List ℕ) (j : ℕ) → length 
     → slice_index (zip2 f x y) j ≡ f (slice_index x j) (slice_index y j)
 lane_zip2 f x y j four_x four_y lt = get_or-zip2 f x y j 0 0 0 (omega arith) (omega arith)
 
-pub length_zip2 : (f : ℕ → ℕ → ℕ) (x y : List ℕ) → length x ≡ 4 → length y ≡ 4 → length (zip2 f x y) ≡ 4
+pub length_zip2 : (f : ℕ → ℕ → ℕ) (x y : List ℕ) → length x ≡ 4 → length y ≡ 4
+    → length (zip2 f x y) ≡ 4
 length_zip2 f x y four_x four_y = length-zip2 f x y (omega arith) ∙ four_x
 
-pub lane_map : (f : ℕ → ℕ) (x : List ℕ) (j : ℕ) → length x ≡ 4 → j < 4 → slice_index (map f x) j ≡ f (slice_index x j)
+pub lane_map : (f : ℕ → ℕ) (x : List ℕ) (j : ℕ) → length x ≡ 4 → j < 4
+    → slice_index (map f x) j ≡ f (slice_index x j)
 lane_map f x j four lt = get_or-map f x j 0 0 (omega arith)
 
 pub lane_splat : (n j : ℕ) → j < 4 → slice_index (n ∷ n ∷ n ∷ n ∷ []) j ≡ n
@@ -25,11 +27,13 @@ lane_splat n (suc (suc (suc zero))) lt = refl
 lane_splat n (suc (suc (suc (suc j)))) lt = absurd (omega arith)
 
 -- a word of a message
-pub lane_at : (j k : ℕ) (words : List (List ℕ)) → slice_index (lane j words) k ≡ slice_index (slice_index_or words k []) j
+pub lane_at : (j k : ℕ) (words : List (List ℕ))
+    → slice_index (lane j words) k ≡ slice_index (slice_index_or words k []) j
 lane_at j k words = get_or-map-default (λ word. slice_index word j) words k []
 
 -- another word at that place
-pub lane_set : (j k : ℕ) (words : List (List ℕ)) (word : List ℕ) → lane j (slice_set words k word) ≡ slice_set (lane j words) k (slice_index word j)
+pub lane_set : (j k : ℕ) (words : List (List ℕ)) (word : List ℕ)
+    → lane j (slice_set words k word) ≡ slice_set (lane j words) k (slice_index word j)
 lane_set j k words word = map-set (λ x. slice_index x j) words k word
 
 pub ruleset lanes = (lane_zip2, length_zip2, lane_map, length-map, lane_splat)

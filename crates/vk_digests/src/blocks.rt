@@ -5,7 +5,8 @@ ghost use Rattle.vk_digests.specs.Lanes.{lane};
 
 use std::simd::u32x4;
 
-// A last block with room for four bytes in front: a bit 1, zeros, and 544, the message's length in bits.
+// A last block with room for four bytes in front: a bit 1, zeros, and 544, the message's length in
+// bits.
 const PADDING: [u8; 64] = [
     0, 0, 0, 0, 0x80, 0, 0, 0, 0, 0, 0, 0, 0, 0, 0, 0, 0, 0, 0, 0, 0, 0, 0, 0, 0, 0, 0, 0, 0, 0, 0,
     0, 0, 0, 0, 0, 0, 0, 0, 0, 0, 0, 0, 0, 0, 0, 0, 0, 0, 0, 0, 0, 0, 0, 0, 0, 0, 0, 0, 0, 0, 0,

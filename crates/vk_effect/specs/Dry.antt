@@ -8,4 +8,5 @@ bidder_dry_line lane = codes "seal dry seed lane " +++ decimal lane +++ line_fee
 
 -- the line of the house's seed: the first lane and wire without a tape
 abbrev pub house_dry_line : ℕ → ℕ → List ℕ
-house_dry_line lane wire = codes "house dry seed lane " +++ decimal lane +++ codes " wire " +++ decimal wire +++ line_feed
+house_dry_line lane wire = codes "house dry seed lane " +++ decimal lane +++ codes " wire " +++
+    decimal wire +++ line_feed

@@ -25,8 +25,8 @@ outside stores taken = record { files = stores.files; ledger = stores.ledger; ta
 
 -- ---- effects
 
--- what a command does: its status, the text that it prints at its end, the names and whole texts of the files
--- that it writes, in order, and the ledger that it leaves, where it is modelled
+-- what a command does: its status, the text that it prints at its end, the names and whole texts of
+-- the files that it writes, in order, and the ledger that it leaves, where it is modelled
 pub record Effect : Type 0 where
   pub status : ℕ
   pub text : List ℕ
@@ -43,14 +43,15 @@ said_of effect = record { status = effect.status; text = effect.text }
 
 -- the effect of writing these files and saying this, where this ledger is left
 abbrev pub writes_and_says : Option Ledger → List (List ℕ × List ℕ) → SaidValue → Effect
-writes_and_says ledger writes said = record { status = said.status; text = said.text; writes = writes; ledger = ledger }
+writes_and_says ledger writes said =
+    record { status = said.status; text = said.text; writes = writes; ledger = ledger }
 
 -- the effect of saying this alone
 abbrev pub says : Option Ledger → SaidValue → Effect
 says ledger said = writes_and_says ledger [] said
 
--- what a command does that leaves the ledger: the names and whole texts of the files that it writes, in order, and what it
--- says then
+-- what a command does that leaves the ledger: the names and whole texts of the files that it
+-- writes, in order, and what it says then
 pub record DeedValue : Type 0 where
   pub said : SaidValue
   pub writes : List (List ℕ × List ℕ)
@@ -75,7 +76,10 @@ IsEnd status = (status ≢ 6) × (status ≢ 9)
 
 -- the stores after all of the effect but its text
 abbrev pub after : Effect → Stores → Stores
-after effect old = record { files = option_map (written effect.writes) old.files; ledger = effect.ledger }
+after effect old = record {
+  files = option_map (written effect.writes) old.files;
+  ledger = effect.ledger;
+}
 
 -- the text was printed
 abbrev pub puts : List ℕ → Option (List ℕ) → Option (List ℕ)
@@ -83,7 +87,11 @@ puts text taken = option_map (λ before. before ++ text) taken
 
 -- what is outside after the whole effect
 abbrev pub done : Effect → Outside → Outside
-done effect old = record { files = option_map (written effect.writes) old.files; ledger = effect.ledger; taken = puts effect.text old.taken }
+done effect old = record {
+  files = option_map (written effect.writes) old.files;
+  ledger = effect.ledger;
+  taken = puts effect.text old.taken;
+}
 
 -- ---- what is said
 

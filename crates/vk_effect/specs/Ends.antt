@@ -28,10 +28,11 @@ pub record StopsPrinting (effect : Effect) (old new : Outside) : Type 0 where
   pub files_are : new.files ≡ option_map (written effect.writes) old.files
   pub taken_is : Modelled (TakesPrefix effect.text) old.taken new.taken
 
--- the command was stopped: nothing changed; or the ledger is that of the effect, and the command was stopped
--- before it printed or while it did
+-- the command was stopped: nothing changed; or the ledger is that of the effect, and the command
+-- was stopped before it printed or while it did
 abbrev pub Stopped : Effect → Outside → Outside → Type 0
-Stopped effect old new = (new ≡ old) ⊎ ((new.ledger ≡ effect.ledger) × (StopsWriting effect old new ⊎ StopsPrinting effect old new))
+Stopped effect old new = (new ≡ old)
+    ⊎ ((new.ledger ≡ effect.ledger) × (StopsWriting effect old new ⊎ StopsPrinting effect old new))
 
 -- what a command's answer means for what is outside
 abbrev pub Ends : Result ℕ OutsideErr → Effect → Outside → Outside → Type 0
@@ -40,8 +41,9 @@ Ends (Err stop) effect old new = Stopped effect old new
 
 -- ---- all of a command but its printing
 
--- it said what its effect does, and left what that leaves; stopped, nothing changed, or the ledger is that of the
--- effect and the files are divided at one of them
+-- it said what its effect does, and left what that leaves; stopped, nothing changed, or the ledger
+-- is that of the effect and the files are divided at one of them
 abbrev pub Acts : Result SaidValue OutsideErr → Effect → Stores → Stores → Type 0
 Acts (Ok said) effect old new = (said ≡ said_of effect) × (new ≡ after effect old)
-Acts (Err stop) effect old new = (new ≡ old) ⊎ ((new.ledger ≡ effect.ledger) × Modelled (IsDivided effect.writes) old.files new.files)
+Acts (Err stop) effect old new = (new ≡ old)
+    ⊎ ((new.ledger ≡ effect.ledger) × Modelled (IsDivided effect.writes) old.files new.files)

@@ -13,8 +13,14 @@ too_long_said name = record { status = 4; text = codes "too long " +++ name +++ 
 
 -- it isn't of its form: the first line that isn't what its place demands
 abbrev pub malformed_said : List ℕ → ℕ → SaidValue
-malformed_said name line = record { status = 4; text = codes "malformed " +++ name +++ codes " line " +++ decimal line +++ line_feed }
+malformed_said name line = record {
+  status = 4;
+  text = codes "malformed " +++ name +++ codes " line " +++ decimal line +++ line_feed;
+}
 
 -- it is of its form, and refused for this
 abbrev pub refused_said : List ℕ → List ℕ → SaidValue
-refused_said name cause = record { status = 1; text = codes "refused " +++ name +++ codes " " +++ cause +++ line_feed }
+refused_said name cause = record {
+  status = 1;
+  text = codes "refused " +++ name +++ codes " " +++ cause +++ line_feed;
+}

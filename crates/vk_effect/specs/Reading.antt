@@ -22,21 +22,24 @@ from_first bytes = record { taken = 0; left = bytes }
 -- the file of that name from its first line on; or what is said where it isn't held or is too long
 abbrev pub begun_in : List ℕ → Option (List ℕ) → Result Rest SaidValue
 begun_in name None = Err (missing_said name)
-begun_in name (Some bytes) = if nat_lt (2 ^ 30) (length bytes) then Err (too_long_said name) else Ok (from_first bytes)
+begun_in name (Some bytes) = if nat_lt (2 ^ 30) (length bytes) then Err (too_long_said name)
+    else Ok (from_first bytes)
 
 -- the value that the file of that name was read as; or what is said of its fault line
 abbrev pub value_in : {X : Type 0} → List ℕ → Result (X × Rest) ℕ → Result X SaidValue
 value_in name (Ok read) = Ok read.0
 value_in name (Err number) = Err (malformed_said name number)
 
--- the value that the file of that name is read as; or what is said of the first of these tests that fails: it is held and not
--- too long, and then it is of its form
-unfoldable pub named_in : {X : Type 0} → (Rest → Result (X × Rest) ℕ) → Files → List ℕ → Result X SaidValue
+-- the value that the file of that name is read as; or what is said of the first of these tests that
+-- fails: it is held and not too long, and then it is of its form
+unfoldable pub named_in : {X : Type 0} → (Rest → Result (X × Rest) ℕ) → Files → List ℕ
+    → Result X SaidValue
 named_in read files name = begun_in name (get files name) >>= λ file. value_in name (read file)
 
 -- ---- what is answered of a file
 
--- what is said of a file that can't be worked on. After a failure of the outside or want of memory nothing is said
+-- what is said of a file that can't be worked on. After a failure of the outside or want of memory
+-- nothing is said
 abbrev pub said_of_unread : Unread → Option SaidValue
 said_of_unread (Said said) = Some said
 said_of_unread Failed = None
@@ -56,7 +59,8 @@ pub record IsFile (files : Files) (name text : List ℕ) : Type 0 where
   pub short : length text ≤ 2 ^ 30
 
 -- the file of that name holds the text of this value
-pub record IsFileOf {X : Type 0} (IsValue : X → Type 0) (text : X → List ℕ) (files : Files) (name : List ℕ) (value : X) : Type 0 where
+pub record IsFileOf {X : Type 0} (IsValue : X → Type 0) (text : X → List ℕ) (files : Files)
+    (name : List ℕ) (value : X) : Type 0 where
   pub right : IsValue value
   pub file : IsFile files name (text value)
 
@@ -65,6 +69,7 @@ abbrev pub unheld_said : List ℕ → Option (List ℕ) → Option SaidValue
 unheld_said name file = result_err (begun_in name file)
 
 -- what is said of one that is held, and isn't of the form of that table
-abbrev pub faulty_said : {Place : Type 0} → Table Place → List ℕ → Option (List ℕ) → Option SaidValue
+abbrev pub faulty_said : {Place : Type 0} → Table Place → List ℕ → Option (List ℕ)
+    → Option SaidValue
 faulty_said table name None = None
 faulty_said table name (Some bytes) = option_map (malformed_said name) (fault_line table bytes)

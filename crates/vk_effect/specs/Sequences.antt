@@ -15,7 +15,8 @@ done_each (effect ∷ effects) old = done_each effects (done effect old)
 
 -- after each of them and the line at the end
 abbrev pub done_all : List Effect → List ℕ → Outside → Outside
-done_all effects closing old = let last = done_each effects old in record last { taken = puts closing last.taken }
+done_all effects closing old = let last = done_each effects old in
+    record last { taken = puts closing last.taken }
 
 -- the ledger that the last of them leaves, and this one where there is none
 abbrev pub last_ledger : Option Ledger → List Effect → Option Ledger
@@ -32,7 +33,8 @@ one_effect status ledger effects closing = record {
 }
 
 abbrev pub AreOne : Type 0
-AreOne = (status : ℕ) (effects : List Effect) (closing : List ℕ) (old : Outside) → done_all effects closing old ≡ done (one_effect status old.ledger effects closing) old
+AreOne = (status : ℕ) (effects : List Effect) (closing : List ℕ) (old : Outside)
+    → done_all effects closing old ≡ done (one_effect status old.ledger effects closing) old
 
 -- ---- one of them is stopped
 
@@ -45,7 +47,8 @@ pub record StopsClosing (closing : List ℕ) (old new : Outside) : Type 0 where
 -- the first of them that wasn't done was stopped, or the line at the end
 abbrev pub StopsAmong : List Effect → List ℕ → Outside → Outside → Type 0
 StopsAmong [] closing old new = StopsClosing closing old new
-StopsAmong (effect ∷ effects) closing old new = Stopped effect old new ⊎ StopsAmong effects closing (done effect old) new
+StopsAmong (effect ∷ effects) closing old new = Stopped effect old new
+    ⊎ StopsAmong effects closing (done effect old) new
 
 -- this command was stopped, or where there is none the line at the end
 abbrev pub StopsIn : Option Effect → List ℕ → Outside → Outside → Type 0
@@ -53,9 +56,11 @@ StopsIn (Some effect) closing old new = Stopped effect old new
 StopsIn None closing old new = StopsClosing closing old new
 
 -- the first `count` of the commands were done, and what comes next was stopped
-pub record StopsAfter (effects : List Effect) (closing : List ℕ) (old new : Outside) (count : ℕ) : Type 0 where
+pub record StopsAfter (effects : List Effect) (closing : List ℕ) (old new : Outside)
+    (count : ℕ) : Type 0 where
   pub within : count ≤ length effects
   pub stop : StopsIn (slice_get effects count) closing (done_each (take count effects) old) new
 
 abbrev pub StopsAfterSome : Type 0
-StopsAfterSome = (effects : List Effect) (closing : List ℕ) (old new : Outside) → StopsAmong effects closing old new ↔ ((count : ℕ) × StopsAfter effects closing old new count)
+StopsAfterSome = (effects : List Effect) (closing : List ℕ) (old new : Outside)
+    → StopsAmong effects closing old new ↔ ((count : ℕ) × StopsAfter effects closing old new count)

@@ -13,7 +13,8 @@ use vk_io::{FileText, OutsideErr, Shelf, write_files};
 use vk_residue::NoMemory;
 use vk_seq::Seq;
 
-/// What a command does that asks no house: the files that it writes, one after another, and what it says then.
+/// What a command does that asks no house: the files that it writes, one after another, and what it
+/// says then.
 #[derive(Drop)]
 pub struct Deed {
     said: Said,
@@ -43,7 +44,8 @@ impl Deed {
     /// The same, with a file of that text behind the others. Errs for want of memory alone.
     pub fn with_file(self, alloc: Global, name: &str, text: Vec<u8>) -> Result<Deed, NoMemory>
         ensures said { IfOk result (λ deed. deed.said ≡ self.said) }
-        ensures writes { IfOk result (λ deed. deed.writes ≡ self.writes ++ (name.now, text.items) ∷ []) }
+        ensures writes { IfOk result
+            (λ deed. deed.writes ≡ self.writes ++ (name.now, text.items) ∷ []) }
     {
         let Deed { said, mut files } = self;
         let name = String::from_str(alloc, name)?;
@@ -56,7 +58,8 @@ impl Deed {
     pub fn done<S: Shelf>(self, alloc: Global, shelf: &mut S) -> Result<Said, OutsideErr>
         ensures acts { (ledger : Option Ledger) → Acts result (does ledger self)
             (stores (S.held shelf.old) ledger) (stores (S.held shelf.new) ledger) }
-        ensures causes { Causes OutsideErr.Failed result (S.Shelf.faults shelf.old) (S.Shelf.faults shelf.new) }
+        ensures causes { Causes OutsideErr.Failed result (S.Shelf.faults shelf.old)
+            (S.Shelf.faults shelf.new) }
     {
         let Deed { said, files } = self;
         write_files(alloc, shelf, &files)?;

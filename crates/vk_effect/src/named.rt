@@ -25,7 +25,8 @@ pub fn too_long(alloc: Global, name: &str) -> Result<Said, NoMemory>
     Ok(said)
 }
 
-/// The line of a file whose line of that number, from 1, is the first that isn't what its place demands.
+/// The line of a file whose line of that number, from 1, is the first that isn't what its place
+/// demands.
 pub fn malformed(alloc: Global, name: &str, line: u64) -> Result<Said, NoMemory>
     ensures { IfOk result (λ said. said ≡ malformed_said name.now line) }
 {

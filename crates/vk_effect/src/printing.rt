@@ -9,8 +9,10 @@ use vk_io::{OutsideErr, Sink};
 
 /// Prints the lines, each by itself.
 pub fn print<W: Sink>(lines: &[String], out: &mut W) -> Result<(), OutsideErr>
-    ensures printed { Modelled (Takes (flat_map string_bytes lines.now) result) (W.taken out.old) (W.taken out.new) }
-    ensures causes { Causes OutsideErr.Failed result (W.Sink.faults out.old) (W.Sink.faults out.new) }
+    ensures printed { Modelled (Takes (flat_map string_bytes lines.now) result) (W.taken out.old)
+        (W.taken out.new) }
+    ensures causes { Causes OutsideErr.Failed result (W.Sink.faults out.old)
+        (W.Sink.faults out.new) }
 {
     for line in lines {
         out.put(line.as_bytes())?;

@@ -55,7 +55,8 @@ impl Unread {
 /// Begins to read the named file.
 pub fn begin_named<S: Shelf>(alloc: Global, shelf: &mut S, name: &str) -> Result<Lines, Unread>
     ensures modelled { IfSome (S.held shelf.old) (λ files.
-        Gives said_of_unread (λ lines. rest_of lines files) result (begun_in name.now (map.get files name.now))) }
+        Gives said_of_unread (λ lines. rest_of lines files) result
+        (begun_in name.now (map.get files name.now))) }
     ensures before { IfOk result (IsBefore name.now) }
     ensures shelf { OnlyReads S.held S.Shelf.faults Unread.Failed result shelf.old shelf.new }
 {
@@ -68,9 +69,11 @@ pub fn begin_named<S: Shelf>(alloc: Global, shelf: &mut S, name: &str) -> Result
 fn begun(alloc: Global, name: &str, started: Result<Lines, StartErr>) -> Result<Lines, Unread>
     requires { IfOk started (IsBefore name.now) }
     ensures modelled { (files : Files) → Starts files name.now started
-        → Gives said_of_unread (λ lines. rest_of lines files) result (begun_in name.now (map.get files name.now)) }
+        → Gives said_of_unread (λ lines. rest_of lines files) result
+        (begun_in name.now (map.get files name.now)) }
     ensures before { IfOk result (IsBefore name.now) }
-    ensures causes { (before after : ℕ) → Causes StartErr.Failed started before after → Causes Unread.Failed result before after }
+    ensures causes { (before after : ℕ) → Causes StartErr.Failed started before after
+        → Causes Unread.Failed result before after }
 {
     match started {
         Ok(lines) => Ok(lines),
@@ -89,10 +92,12 @@ fn begun(alloc: Global, name: &str, started: Result<Lines, StartErr>) -> Result<
 
 /// What the named file was read as, or why it was not read.
 pub fn named_value<X>(alloc: Global, name: &str, read: Result<X, ReadErr>) -> Result<X, Unread>
-    ensures modelled { (rest : Rest) (expected : Result (X × Rest) ℕ) → GivesReading (λ x. x) read rest expected
+    ensures modelled { (rest : Rest) (expected : Result (X × Rest) ℕ)
+        → GivesReading (λ x. x) read rest expected
         → Gives said_of_unread (λ x. x) result (value_in name.now expected) }
     ensures same { IfOk result (λ value. read ≡ Ok value) }
-    ensures causes { (before after : ℕ) → Causes ReadErr.Failed read before after → Causes Unread.Failed result before after }
+    ensures causes { (before after : ℕ) → Causes ReadErr.Failed read before after
+        → Causes Unread.Failed result before after }
 {
     match read {
         Ok(value) => Ok(value),

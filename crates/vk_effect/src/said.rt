@@ -84,8 +84,10 @@ impl Said {
 
     /// Prints the text.
     pub fn print<W: Sink>(&self, out: &mut W) -> Result<(), OutsideErr>
-        ensures printed { Modelled (Takes self.now.text result) (W.taken out.old) (W.taken out.new) }
-        ensures causes { Causes OutsideErr.Failed result (W.Sink.faults out.old) (W.Sink.faults out.new) }
+        ensures printed { Modelled (Takes self.now.text result) (W.taken out.old)
+            (W.taken out.new) }
+        ensures causes { Causes OutsideErr.Failed result (W.Sink.faults out.old)
+            (W.Sink.faults out.new) }
     {
         match &self.text {
             SaidText::Lines(lines) => {

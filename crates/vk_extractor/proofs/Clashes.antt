@@ -26,8 +26,10 @@ record AreOfWire (place : Place) (digests : WireCom) (two : TwoOpeningsSeen) : T
   pub openings : AreTwoOpenings two.place two.digest two.first two.second
 
 -- of an accepted wire both openings of a clash open the entry
-wire_opens : (kind : WireKind) (place : Place) (digests : WireCom) (z o : Shown) (two : TwoOpeningsSeen) (g h : ℕ)
-    → Reads kind place digests z false g → Reads kind place digests o true h → IsClash place digests z o two → AreOfWire place digests two
+wire_opens : (kind : WireKind) (place : Place) (digests : WireCom) (z o : Shown)
+    (two : TwoOpeningsSeen) (g h : ℕ)
+    → Reads kind place digests z false g → Reads kind place digests o true h
+    → IsClash place digests z o two → AreOfWire place digests two
 wire_opens kind place digests (Whole a b) (Spent s o) two g h first second clash =
     let both = entry_opens kind place digests a b s o g h first second in
     let P : TwoOpeningsSeen → Type 0 = λ seen. AreOfWire place digests seen in
@@ -40,7 +42,8 @@ wire_opens kind place digests (Whole a b) (Spent s o) two g h first second clash
 wire_opens kind place digests z o two g h first second clash = absurd clash
 
 -- it is that of an entry of the lane
-pub clash_opens : (plan : PlanValue) (case : LaneCase) (zeros ones : List Shown) (firsts seconds : List ℕ) (two : TwoOpeningsSeen)
+pub clash_opens : (plan : PlanValue) (case : LaneCase) (zeros ones : List Shown)
+    (firsts seconds : List ℕ) (two : TwoOpeningsSeen)
     → IsAcceptedLane plan case false zeros firsts → IsAcceptedLane plan case true ones seconds
     → clash_of_lane case zeros ones ≡ Some two → AreOfLane plan case two
 clash_opens plan case zeros ones firsts seconds two first second found =
@@ -48,8 +51,10 @@ clash_opens plan case zeros ones firsts seconds two first second found =
     let k = at.0 in
     let here = first_of_clashes case zeros ones k two at.1 in
     let within : k < length plan.kinds = omega (arith, here.within, first.counts.coms) in
-    let entry = wire_opens (slice_index_or plan.kinds k Split) (place_in case k) (slice_index_or case.coms k no_digests)
-    (slice_index_or zeros k nothing_shown) (slice_index_or ones k nothing_shown) two (slice_index firsts k) (slice_index seconds k)
+    let entry = wire_opens (slice_index_or plan.kinds k Split) (place_in case k)
+    (slice_index_or case.coms k no_digests)
+    (slice_index_or zeros k nothing_shown) (slice_index_or ones k nothing_shown) two
+    (slice_index firsts k) (slice_index seconds k)
     (first.wires.each k within) (second.wires.each k within) here.clash in
     record {
       wire = k;

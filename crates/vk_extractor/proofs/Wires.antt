@@ -33,18 +33,24 @@ pair_sum p a b g h some most small (inl e) =
 pair_sum p a b g h some most small (inr e) = grind (arith, nat_tests)
 
 -- the computed value of a wire is the sum of the halves that it reads
-pub wire_value_is_sum : (kind : WireKind) (place : Place) (digests : WireCom) (zero one : Shown) (g h : ℕ) → HasWeight kind
-    → Reads kind place digests zero false g → Reads kind place digests one true h → wire_value kind zero one ≡ sum g h
-wire_value_is_sum Split place digests (Half u) (Half v) g h weight first second = let e = first.1 in let f = second.1 in cc
+pub wire_value_is_sum : (kind : WireKind) (place : Place) (digests : WireCom) (zero one : Shown)
+    (g h : ℕ) → HasWeight kind
+    → Reads kind place digests zero false g → Reads kind place digests one true h
+    → wire_value kind zero one ≡ sum g h
+wire_value_is_sum Split place digests (Half u) (Half v) g h weight first second = let e = first.1 in
+    let f = second.1 in cc
 wire_value_is_sum Split place digests (Half u) (Whole c d) g h weight first second = absurd second
 wire_value_is_sum Split place digests (Half u) (Spent s c) g h weight first second = absurd second
 wire_value_is_sum Split place digests (Whole a b) one g h weight first second = absurd first
 wire_value_is_sum Split place digests (Spent s a) one g h weight first second = absurd first
 wire_value_is_sum (Pair i) place digests (Half u) one g h weight first second = absurd first
-wire_value_is_sum (Pair i) place digests (Whole a b) (Half v) g h weight first second = absurd second
-wire_value_is_sum (Pair i) place digests (Whole a b) (Whole c d) g h weight first second = absurd second
+wire_value_is_sum (Pair i) place digests (Whole a b) (Half v) g h weight first second =
+    absurd second
+wire_value_is_sum (Pair i) place digests (Whole a b) (Whole c d) g h weight first second =
+    absurd second
 wire_value_is_sum (Pair i) place digests (Whole a b) (Spent s o) g h weight first second =
-    rw second.1 (pair_sum (2 ^ i) a.value b.value g h (omega (arith, pow_pos i)) (weight_bound i weight) first.2.0 first.2.1)
+    rw second.1 (pair_sum (2 ^ i) a.value b.value g h (omega (arith, pow_pos i))
+    (weight_bound i weight) first.2.0 first.2.1)
 wire_value_is_sum (Pair i) place digests (Spent s a) one g h weight first second = absurd first
 
 -- an entry with the mask g and the mask come to 0 or to the weight
@@ -57,25 +63,30 @@ entry_sum p a b g h some most small (inr e) (inl s) = inr (omega (arith, e.0, s)
 entry_sum p a b g h some most small (inr e) (inr s) = inl (omega (arith, e.1, s))
 
 -- where the spent entry agrees it has the value of one of the two
-spent_is_entry : (a b : Opening) (s : Bool) (o : Opening) → Agree (Whole a b) (Spent s o) → (a.value ≡ o.value) ⊎ (b.value ≡ o.value)
+spent_is_entry : (a b : Opening) (s : Bool) (o : Opening) → Agree (Whole a b) (Spent s o)
+    → (a.value ≡ o.value) ⊎ (b.value ≡ o.value)
 spent_is_entry a b false o same = inl same
 spent_is_entry a b true o same = inr same
 
 -- the sum of the halves of a wire is a value that its kind may have
-pub sum_is_fair : (kind : WireKind) (place : Place) (digests : WireCom) (zero one : Shown) (g h : ℕ) → HasWeight kind
+pub sum_is_fair : (kind : WireKind) (place : Place) (digests : WireCom) (zero one : Shown) (g h : ℕ)
+    → HasWeight kind
     → Reads kind place digests zero false g → Reads kind place digests one true h → Agree zero one
     → MayHave kind (sum g h)
 sum_is_fair Split place digests zero one g h weight first second same = tt
 sum_is_fair (Pair i) place digests (Half u) one g h weight first second same = absurd first
 sum_is_fair (Pair i) place digests (Whole a b) (Half v) g h weight first second same = absurd second
-sum_is_fair (Pair i) place digests (Whole a b) (Whole c d) g h weight first second same = absurd second
+sum_is_fair (Pair i) place digests (Whole a b) (Whole c d) g h weight first second same =
+    absurd second
 sum_is_fair (Pair i) place digests (Whole a b) (Spent s o) g h weight first second same =
-    entry_sum (2 ^ i) a.value b.value g h (omega (arith, pow_pos i)) (weight_bound i weight) first.2.0 first.2.1
+    entry_sum (2 ^ i) a.value b.value g h (omega (arith, pow_pos i)) (weight_bound i weight)
+    first.2.0 first.2.1
     (rw second.1 at (spent_is_entry a b s o same))
 sum_is_fair (Pair i) place digests (Spent s a) one g h weight first second same = absurd first
 
 -- of an accepted pair both openings of the spent entry open it
-pub entry_opens : (kind : WireKind) (place : Place) (digests : WireCom) (a b : Opening) (s : Bool) (o : Opening) (g h : ℕ)
+pub entry_opens : (kind : WireKind) (place : Place) (digests : WireCom) (a b : Opening) (s : Bool)
+    (o : Opening) (g h : ℕ)
     → Reads kind place digests (Whole a b) false g → Reads kind place digests (Spent s o) true h
     → OpensEntry place digests s (entry_opening s a b) × OpensEntry place digests s o
 entry_opens Split place digests a b s o g h first second = absurd first

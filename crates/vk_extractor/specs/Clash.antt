@@ -33,7 +33,8 @@ or_else (Some two) later = Some two
 or_else None later = later
 
 -- the first of the wires from that one on
-unfoldable pub clash_from : LaneCase → ℕ → List WireCom → List Shown → List Shown → Option TwoOpeningsSeen
+unfoldable pub clash_from : LaneCase → ℕ → List WireCom → List Shown → List Shown
+    → Option TwoOpeningsSeen
 clash_from case wire (digests ∷ coms) (zero ∷ zeros) (one ∷ ones) =
     or_else (clash_at case wire digests zero one) (clash_from case (wire + 1) coms zeros ones)
 clash_from case wire _ _ _ = None

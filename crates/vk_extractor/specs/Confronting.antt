@@ -27,7 +27,12 @@ tape_in secret lane = slice_index_or secret.lanes (lane - 1) no_tape
 -- where the commitment to the first half, or to the second, stands
 abbrev pub secret_place : Secret → ℕ → Bool → Place
 secret_place secret lane second =
-    let place : Place = record { auction = secret.auction; seat = secret.seat; lane = lane; slot = 0 } in entry_place place second
+    let place : Place = record {
+      auction = secret.auction;
+      seat = secret.seat;
+      lane = lane;
+      slot = 0;
+    } in entry_place place second
 
 -- both commitments
 abbrev pub secret_com : Secret → ℕ → WireCom
@@ -41,13 +46,15 @@ secret_digest secret lane second = entry_digest (secret_com secret lane) second
 abbrev pub secret_opening : Secret → ℕ → Bool → Opening
 secret_opening secret lane second =
     let tape = wire_tape (tape_in secret lane) in
-    entry_opening second (first_opening Split secret.bid tape) (second_opening Split secret.bid tape)
+    entry_opening second (first_opening Split secret.bid tape)
+    (second_opening Split secret.bid tape)
 
 -- ---- what is shown of the lane
 
 -- the opening opens the secret's commitment to the first half, or to the second
 abbrev pub OpensSecret : Secret → ℕ → Bool → Opening → Type 0
-OpensSecret secret lane second shown = Opens (secret_place secret lane second) (secret_digest secret lane second) shown
+OpensSecret secret lane second shown =
+    Opens (secret_place secret lane second) (secret_digest secret lane second) shown
 
 -- both values that are shown are the secret's
 pub record AreItsHalves (secret : Secret) (lane : ℕ) (first second : Opening) : Type 0 where
@@ -68,11 +75,13 @@ confronted_half secret lane second shown =
 
 -- the same of the first half where their values differ there, else of the second half
 abbrev pub confronted : Secret → ℕ → Opening → Opening → Option TwoOpeningsSeen
-confronted secret lane first second = or_else (confronted_half secret lane false first) (confronted_half secret lane true second)
+confronted secret lane first second =
+    or_else (confronted_half secret lane false first) (confronted_half secret lane true second)
 
--- of one of the halves the secret's opening, and after it the shown one, both open the secret's commitment,
--- and their values differ
-pub record IsConfronted (secret : Secret) (lane : ℕ) (first second : Opening) (two : TwoOpeningsSeen) : Type 0 where
+-- of one of the halves the secret's opening, and after it the shown one, both open the secret's
+-- commitment, and their values differ
+pub record IsConfronted (secret : Secret) (lane : ℕ) (first second : Opening)
+    (two : TwoOpeningsSeen) : Type 0 where
   pub half : Bool
   pub place : two.place ≡ secret_place secret lane half
   pub digest : two.digest ≡ secret_digest secret lane half

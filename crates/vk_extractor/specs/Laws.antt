@@ -14,11 +14,13 @@ use Rattle.vk_extractor.specs.FirstClash.{IsFirstClash, WireAgrees}
 -- for every plan: where no entry is opened to two values, the sums of accepted halves hold for it
 abbrev pub ExtractedHold : Type 0
 ExtractedHold =
-    (plan : PlanValue) (case : LaneCase) (zero one : List Shown) (firsts seconds : List ℕ) → IsPlan plan
+    (plan : PlanValue) (case : LaneCase) (zero one : List Shown) (firsts seconds : List ℕ)
+    → IsPlan plan
     → IsAcceptedLane plan case false zero firsts → IsAcceptedLane plan case true one seconds
     → clash_of_lane case zero one ≡ None → Holds plan (sums firsts seconds)
 
--- two openings of an entry of a wire of the lane: they open its digest at its place, and their values differ
+-- two openings of an entry of a wire of the lane: they open its digest at its place, and their
+-- values differ
 pub record AreOfLane (plan : PlanValue) (case : LaneCase) (two : TwoOpeningsSeen) : Type 0 where
   pub wire : ℕ
   pub second : Bool
@@ -27,17 +29,21 @@ pub record AreOfLane (plan : PlanValue) (case : LaneCase) (two : TwoOpeningsSeen
   pub digest : two.digest ≡ entry_digest (slice_index_or case.coms wire no_digests) second
   pub openings : AreTwoOpenings two.place two.digest two.first two.second
 
--- for every plan: what is found in a lane that was accepted for both bits are two openings of one entry of it
+-- for every plan: what is found in a lane that was accepted for both bits are two openings of one
+-- entry of it
 abbrev pub ClashesOpen : Type 0
 ClashesOpen =
-    (plan : PlanValue) (case : LaneCase) (zero one : List Shown) (firsts seconds : List ℕ) (two : TwoOpeningsSeen)
+    (plan : PlanValue) (case : LaneCase) (zero one : List Shown) (firsts seconds : List ℕ)
+    (two : TwoOpeningsSeen)
     → IsAcceptedLane plan case false zero firsts → IsAcceptedLane plan case true one seconds
     → clash_of_lane case zero one ≡ Some two → AreOfLane plan case two
 
--- for every lane: what is computed is its first clash, and it has none where every spent entry agrees
--- with the same entry opened whole
+-- for every lane: what is computed is its first clash, and it has none where every spent entry
+-- agrees with the same entry opened whole
 abbrev pub ClashIsFirst : Type 0
 ClashIsFirst =
     (case : LaneCase) (zero one : List Shown)
-    → ((two : TwoOpeningsSeen) → (clash_of_lane case zero one ≡ Some two) ↔ ((wire : ℕ) × IsFirstClash case zero one wire two))
-    × ((clash_of_lane case zero one ≡ None) ↔ ((wire : ℕ) → wire < length case.coms → WireAgrees zero one wire))
+    → ((two : TwoOpeningsSeen) → (clash_of_lane case zero one ≡ Some two)
+    ↔ ((wire : ℕ) × IsFirstClash case zero one wire two))
+    × ((clash_of_lane case zero one ≡ None)
+    ↔ ((wire : ℕ) → wire < length case.coms → WireAgrees zero one wire))

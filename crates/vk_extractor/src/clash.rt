@@ -8,7 +8,8 @@ use vk_plan::Plan;
 use vk_row::LaneCase;
 use vk_wire::{Shown, wire_place};
 
-/// The two openings of the first entry that is spent with another value than it is opened whole with.
+/// The two openings of the first entry that is spent with another value than it is opened whole
+/// with.
 #[tactic(auto, using(crate::proofs::Steps::clash_from_step), unfolding(crate::specs::Clash::clash_from))]
 pub(crate) fn first_clash(
     plan: &Plan,

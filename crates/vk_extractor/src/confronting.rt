@@ -7,8 +7,9 @@ use vk_commit::{Opening, Place, TwoOpenings, commit};
 use vk_residue::Residue;
 use vk_seal::Secret;
 
-/// The secret's opening and the shown one of the lane's first half, where their values differ; else of its
-/// second half, where they differ there; else none, and then the values that are shown add up to the bid.
+/// The secret's opening and the shown one of the lane's first half, where their values differ; else
+/// of its second half, where they differ there; else none, and then the values that are shown add
+/// up to the bid.
 ///
 /// Lanes are counted from 1. It takes no memory.
 pub fn confront(
@@ -35,7 +36,8 @@ pub fn confront(
     two
 }
 
-/// The secret's opening and the shown one of the lane's first or second half, where their values differ.
+/// The secret's opening and the shown one of the lane's first or second half, where their values
+/// differ.
 fn confront_half(secret: &Secret, lane: u32, second: bool, shown: &Opening) -> Option<TwoOpenings>
     requires small_bid { secret.now.bid < 2 ^ 40 }
     requires few_lanes { length secret.now.lanes ≤ 64 }

@@ -44,11 +44,11 @@ impl From<OutOfMemory> for LaneErr {
     }
 }
 
-/// The values of the wires of a lane, from what was accepted for bit 0 and what was accepted for bit 1:
-/// for each wire the sum of its two halves. They hold for the plan.
+/// The values of the wires of a lane, from what was accepted for bit 0 and what was accepted for
+/// bit 1: for each wire the sum of its two halves. They hold for the plan.
 ///
-/// Where an entry of a pair was spent with another value than it was opened whole with, the answer is
-/// the first such entry's two openings, that of bit 0 first. It takes no memory.
+/// Where an entry of a pair was spent with another value than it was opened whole with, the answer
+/// is the first such entry's two openings, that of bit 0 first. It takes no memory.
 pub fn extract_lane(
     alloc: Global,
     plan: &Plan,
@@ -61,7 +61,8 @@ pub fn extract_lane(
     ensures sums { IfOk result (λ values. AreSums plan.now case.now zero.now one.now values.items) }
     ensures holds { IfOk result (λ values. Holds plan.now values.items) }
     ensures agree { OnOk result (clash_of_lane case.now zero.now one.now ≡ None) }
-    ensures clash { IfSome (clash_of_lane case.now zero.now one.now) (λ two. result ≡ Err (Clash two)) }
+    ensures clash { IfSome (clash_of_lane case.now zero.now one.now)
+        (λ two. result ≡ Err (Clash two)) }
     ensures refused { IfErr result (λ refused. IsRefusalOf refused case.now zero.now one.now) }
 {
     match first_clash(plan, case, zero, one) {

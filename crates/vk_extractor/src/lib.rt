@@ -1,5 +1,5 @@
-//! What two accepted challenges of one lane give: the values of its wires, or two openings of one commitment.
-//! And a bidder's secret against what is shown of it in a lane.
+//! What two accepted challenges of one lane give: the values of its wires, or two openings of one
+//! commitment. And a bidder's secret against what is shown of it in a lane.
 #![tactic(auto)]
 
 mod clash;

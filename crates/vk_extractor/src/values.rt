@@ -22,7 +22,8 @@ pub(crate) fn values_of(
     requires zero { length zero.now ≡ length plan.now.kinds }
     requires one { length one.now ≡ length plan.now.kinds }
     ensures plan { IsPlan plan.now }
-    ensures sums { IfOk result (λ values. (case : LaneCase) → AreSums plan.now case zero.now one.now values.items) }
+    ensures sums { IfOk result
+        (λ values. (case : LaneCase) → AreSums plan.now case zero.now one.now values.items) }
 {
     let wires = plan.wires();
     let mut values = Vec::with_capacity(alloc, wires as usize)?;
@@ -33,8 +34,8 @@ pub(crate) fn values_of(
     Ok(values)
 }
 
-/// The sum of the two halves that a wire shows. Of a pair that is the spent entry less the entry from
-/// which the other rises by the weight. What no accepted lane shows counts as 0.
+/// The sum of the two halves that a wire shows. Of a pair that is the spent entry less the entry
+/// from which the other rises by the weight. What no accepted lane shows counts as 0.
 fn value_of_wire(plan: &Plan, zero: &[Shown], one: &[Shown], wire: u32) -> Residue
     requires wire { wire < length plan.now.kinds }
     requires zero { length zero.now ≡ length plan.now.kinds }

@@ -17,19 +17,26 @@ use Rattle.vk_files.specs.Store.{endings, is_ending, is_store_name}
 -- behind one front, two texts are the same where the rests are
 same_behind : (front a b : List ℕ) → bytes_eq (front ++ a) (front ++ b) ≡ bytes_eq a b
 same_behind front a b =
-    same_from_decides {P = a ≡ b} _ _
-    (λ same. append_cancel_left front a b ((bytes_eq-Decides (front ++ a) (front ++ b)).0 same), λ e. (bytes_eq-Decides (front ++ a) (front ++ b)).1 (ap (λ x. front ++ x) e))
+    same_from_decides {P = a ≡ b} _ _ (
+      λ same. append_cancel_left front a b ((bytes_eq-Decides (front ++ a) (front ++ b)).0 same),
+      λ e. (bytes_eq-Decides (front ++ a) (front ++ b)).1 (ap (λ x. front ++ x) e),
+    )
     (bytes_eq-Decides a b)
 
-any_behind : (front a : List ℕ) (texts : List (List ℕ)) → list_any (bytes_eq (front ++ a)) (map (λ text. front ++ text) texts) ≡ list_any (bytes_eq a) texts
+any_behind : (front a : List ℕ) (texts : List (List ℕ))
+    → list_any (bytes_eq (front ++ a)) (map (λ text. front ++ text) texts)
+    ≡ list_any (bytes_eq a) texts
 any_behind front a [] = refl
 any_behind front a (text ∷ texts) =
-    ap (λ b. b || list_any (bytes_eq (front ++ a)) (map (λ t. front ++ t) texts)) (same_behind front a text)
+    ap (λ b. b || list_any (bytes_eq (front ++ a)) (map (λ t. front ++ t) texts))
+    (same_behind front a text)
     ∙ ap (λ b. bytes_eq a text || b) (any_behind front a texts)
 
 -- a name that begins with the store's is one of its files' by what stands behind that
-pub store_name_by_ending : (name store ending : List ℕ) → name ≡ store ++ ending → is_store_name name store ≡ is_ending ending
-store_name_by_ending name store ending e = ap (λ n. is_store_name n store) e ∙ any_behind store ending endings
+pub store_name_by_ending : (name store ending : List ℕ) → name ≡ store ++ ending
+    → is_store_name name store ≡ is_ending ending
+store_name_by_ending name store ending e = ap (λ n. is_store_name n store) e
+    ∙ any_behind store ending endings
 
 same_number : (n : ℕ) → (n == n) ≡ true
 same_number n = search (rules, tests)
@@ -38,7 +45,10 @@ same_itself : (id : FileId) → same_file id id ≡ true
 same_itself id = both_true (same_number id.device) (same_number id.node)
 
 -- a file is there by the name that was noted last
-pub named_last : (opened : List NamedId) (file : NamedId) (name : List ℕ) → string_bytes file.name ≡ name → is_named (opened ++ file ∷ []) file.id name ≡ true
+pub named_last : (opened : List NamedId) (file : NamedId) (name : List ℕ)
+    → string_bytes file.name ≡ name → is_named (opened ++ file ∷ []) file.id name ≡ true
 named_last opened file name e =
     list_any-append _ opened (file ∷ [])
-    ∙ or_right (is_named opened file.id name) _ (or_left _ _ (both_true (same_itself file.id) ((bytes_eq-Decides (string_bytes file.name) name).1 e)))
+    ∙ or_right (is_named opened file.id name) _
+    (or_left _ _ (both_true (same_itself file.id)
+    ((bytes_eq-Decides (string_bytes file.name) name).1 e)))

@@ -3,24 +3,33 @@ use Rattle.std.proofs.Common.{◌≡◌, ℕ, ◌+◌, List, ◌++◌, length, t
 use Rattle.std.proofs.Math.Seq.{take-add, take-append-add}
 use Rattle.std.specs.Io.KnownBytes.{Consumes, Appends}
 
-Consumes_chain : (a b c : Option (List ℕ)) (xs ys : List ℕ) → Consumes a b xs → Consumes b c ys → Consumes a c (xs ++ ys)
+Consumes_chain : (a b c : Option (List ℕ)) (xs ys : List ℕ) → Consumes a b xs → Consumes b c ys
+    → Consumes a c (xs ++ ys)
 Consumes_chain None b c xs ys p q = tt
 Consumes_chain (Some x) None c xs ys p q = absurd p
 Consumes_chain (Some x) (Some y) None xs ys p q = absurd q
-Consumes_chain (Some x) (Some y) (Some z) xs ys p q = p ∙ ap (λ l. xs ++ l) q ∙ sym (append_assoc xs ys z)
+Consumes_chain (Some x) (Some y) (Some z) xs ys p q = p ∙ ap (λ l. xs ++ l) q
+    ∙ sym (append_assoc xs ys z)
 
-Appends_chain : (a b c : Option (List ℕ)) (xs ys : List ℕ) → Appends a b xs → Appends b c ys → Appends a c (xs ++ ys)
+Appends_chain : (a b c : Option (List ℕ)) (xs ys : List ℕ) → Appends a b xs → Appends b c ys
+    → Appends a c (xs ++ ys)
 Appends_chain None b c xs ys p q = tt
 Appends_chain (Some x) None c xs ys p q = absurd p
 Appends_chain (Some x) (Some y) None xs ys p q = absurd q
 Appends_chain (Some x) (Some y) (Some z) xs ys p q = q ∙ ap (λ l. l ++ ys) p ∙ append_assoc x xs ys
 
 -- what was written before and then the first of the rest
-pub written_more : (a b c : Option (List ℕ)) (piece : List ℕ) (written count : ℕ) → Appends a b (take written piece) → Appends b c (take count (drop written piece)) → Appends a c (take (written + count) piece)
+pub written_more : (a b c : Option (List ℕ)) (piece : List ℕ) (written count : ℕ)
+    → Appends a b (take written piece) → Appends b c (take count (drop written piece))
+    → Appends a c (take (written + count) piece)
 written_more a b c piece written count p q =
-    subst (Appends a c) (sym (take-add written count piece)) (Appends_chain a b c (take written piece) (take count (drop written piece)) p q)
+    subst (Appends a c) (sym (take-add written count piece))
+    (Appends_chain a b c (take written piece) (take count (drop written piece)) p q)
 
 -- what was filled before and then the first of the rest
-pub filled_more : (a b c : Option (List ℕ)) (front rest : List ℕ) (filled count : ℕ) → length front ≡ filled → Consumes a b front → Consumes b c (take count rest) → Consumes a c (take (filled + count) (front ++ rest))
+pub filled_more : (a b c : Option (List ℕ)) (front rest : List ℕ) (filled count : ℕ)
+    → length front ≡ filled → Consumes a b front → Consumes b c (take count rest)
+    → Consumes a c (take (filled + count) (front ++ rest))
 filled_more a b c front rest filled count own p q =
-    subst (Consumes a c) (sym (ap (λ n. take (n + count) (front ++ rest)) (sym own) ∙ take-append-add front rest count)) (Consumes_chain a b c front (take count rest) p q)
+    subst (Consumes a c) (sym (ap (λ n. take (n + count) (front ++ rest)) (sym own)
+    ∙ take-append-add front rest count)) (Consumes_chain a b c front (take count rest) p q)

@@ -19,11 +19,13 @@ are_same None other = false
 
 -- the file was opened by that name
 abbrev pub is_named : List NamedId → FileId → List ℕ → Bool
-is_named opened id name = list_any (λ file. same_file file.id id && bytes_eq (string_bytes file.name) name) opened
+is_named opened id name = list_any
+    (λ file. same_file file.id id && bytes_eq (string_bytes file.name) name) opened
 
 -- the file was opened by another name
 abbrev pub is_named_otherwise : List NamedId → FileId → List ℕ → Bool
-is_named_otherwise opened id name = list_any (λ file. same_file file.id id && not (bytes_eq (string_bytes file.name) name)) opened
+is_named_otherwise opened id name =
+    list_any (λ file. same_file file.id id && not (bytes_eq (string_bytes file.name) name)) opened
 
 -- a file that is kept open was opened by that name
 abbrev pub HasName : {F : Type 0} → List ℕ → NamedFile F → Type 0

@@ -5,7 +5,8 @@ ghost use Rattle.vk_files.specs.Identity.{same_file, are_same};
 use std::fs::Metadata;
 use std::os::unix::fs::MetadataExt;
 
-/// Which file it is, by whatever name it was reached: the number of its device, and its number there.
+/// Which file it is, by whatever name it was reached: the number of its device, and its number
+/// there.
 #[derive(Clone, Copy, Drop)]
 pub struct FileId {
     device: u64,
@@ -13,8 +14,8 @@ pub struct FileId {
 }
 
 impl FileId {
-    /// Which file that is. None where it can't be told: no file has the number 0, and what stands in
-    /// for the file system may give no other.
+    /// Which file that is. None where it can't be told: no file has the number 0, and what stands
+    /// in for the file system may give no other.
     pub fn of(metadata: &Metadata) -> Option<FileId> {
         match metadata.ino() {
             0 => None,

@@ -46,8 +46,8 @@ pub struct NamedFault<'a> {
 /// written or [`FileShelf::settle`] is called: it is synced then, so that its last error is told.
 ///
 /// Two kinds of file are not written, whatever the name that leads to them: those of the store, and
-/// those that were opened by another name before. To create or append to one is a fault, and leaves it
-/// as it was.
+/// those that were opened by another name before. To create or append to one is a fault, and leaves
+/// it as it was.
 #[derive(Drop)]
 pub struct FileShelf<'a, R: Files> {
     rt: &'a R,
@@ -62,8 +62,8 @@ pub struct FileShelf<'a, R: Files> {
 }
 
 impl<'a, R: Files> FileShelf<'a, R> {
-    /// The files that `rt` reaches, of which those of the SQLite store at the path `store` aren't to be
-    /// written. There are no faults yet. It takes no memory and is never refused.
+    /// The files that `rt` reaches, of which those of the SQLite store at the path `store` aren't
+    /// to be written. There are no faults yet. It takes no memory and is never refused.
     pub fn new(rt: &'a R, alloc: Global, store: &'a str) -> FileShelf<'a, R>
         ensures faults { result.faults ≡ 0 }
         ensures wants { result.wants ≡ 0 }
@@ -86,7 +86,8 @@ impl<R: Files> FileShelf<'_, R> {
     /// The place of the file that is open under that name.
     fn place_of(&self, name: &str) -> Option<usize>
         ensures place { IfSome result (λ place. place < length self.now.kept.items) }
-        ensures name { IfSome result (λ place. HoldsAt (HasName name.now) self.now.kept.items place) }
+        ensures name { IfSome result
+            (λ place. HoldsAt (HasName name.now) self.now.kept.items place) }
     {
         for (place, kept) in self.kept.iter().enumerate() {
             if name == kept.name.as_str() {
@@ -125,9 +126,11 @@ impl<R: Files> FileShelf<'_, R> {
     /// The place of the file under that name, which is opened where it isn't open. None where
     /// nothing is there.
     fn opened(&mut self, name: &str) -> Result<Option<usize>, OutsideErr>
-        ensures place { IfOk result (λ found. IfSome found (λ place. place < length self.new.kept.items)) }
+        ensures place { IfOk result
+            (λ found. IfSome found (λ place. place < length self.new.kept.items)) }
         ensures name { IfOk result
-            (λ found. IfSome found (λ place. HoldsAt (HasName name.now) self.new.kept.items place)) }
+            (λ found. IfSome found
+            (λ place. HoldsAt (HasName name.now) self.new.kept.items place)) }
         ensures causes { Causes OutsideErr.Failed result self.old.faults self.new.faults }
         ensures wants { self.new.wants ≡ self.old.wants }
     {
@@ -145,8 +148,8 @@ impl<R: Files> FileShelf<'_, R> {
         }
     }
 
-    /// Notes by which name a file was opened. A device, a folder and a pipe have no bytes that could be
-    /// lost by another name, and are passed over.
+    /// Notes by which name a file was opened. A device, a folder and a pipe have no bytes that
+    /// could be lost by another name, and are passed over.
     fn note(&mut self, metadata: &Metadata, name: &str) -> Result<(), NoMemory>
         ensures written { self.new.written ≡ self.old.written }
         ensures kept { self.new.faults ≡ self.old.faults }
@@ -177,7 +180,8 @@ impl<R: Files> FileShelf<'_, R> {
     /// The file under that name, to be written on at its end.
     fn writer(&mut self, name: &str) -> Result<NamedFile<R::File>, OutsideErr>
         ensures name { IfOk result (HasName name.now) }
-        ensures same { IfSome self.old.written (λ written. HasName name.now written → result ≡ Ok written) }
+        ensures same { IfSome self.old.written
+            (λ written. HasName name.now written → result ≡ Ok written) }
         ensures none { self.new.written ≡ None }
         ensures causes { Causes OutsideErr.Failed result self.old.faults self.new.faults }
         ensures wants { self.new.wants ≡ self.old.wants }
@@ -192,8 +196,8 @@ impl<R: Files> FileShelf<'_, R> {
         Ok(opened)
     }
 
-    /// The file under that name, opened to be written: at its end, or from its front on with nothing in
-    /// it. A file that may not be written is a fault, and stays as it is.
+    /// The file under that name, opened to be written: at its end, or from its front on with
+    /// nothing in it. A file that may not be written is a fault, and stays as it is.
     fn opened_to_write(
         &mut self,
         name: &str,
@@ -215,8 +219,8 @@ impl<R: Files> FileShelf<'_, R> {
         Ok(NamedFile { name: owned, file })
     }
 
-    /// The file under that name, opened to be written, which is made where nothing is there: where the
-    /// name is a link to nothing, at the place that it leads to.
+    /// The file under that name, opened to be written, which is made where nothing is there: where
+    /// the name is a link to nothing, at the place that it leads to.
     fn found_or_made(&mut self, name: &str, at_end: bool) -> Result<R::File, OutsideErr>
         ensures kept { self.new.written ≡ self.old.written }
         ensures causes { Causes OutsideErr.Failed result self.old.faults self.new.faults }
@@ -250,7 +254,8 @@ impl<R: Files> FileShelf<'_, R> {
 
     /// Refuses a file of the store, and one that was opened by another name.
     fn admit_id(&mut self, id: FileId, name: &str) -> Result<(), OutsideErr>
-        ensures one_name { OnOk result (is_named_otherwise self.old.opened.items id name.now ≡ false) }
+        ensures one_name { OnOk result
+            (is_named_otherwise self.old.opened.items id name.now ≡ false) }
         ensures written { self.new.written ≡ self.old.written }
         ensures causes { Causes OutsideErr.Failed result self.old.faults self.new.faults }
         ensures wants { self.new.wants ≡ self.old.wants }
@@ -275,8 +280,8 @@ impl<R: Files> FileShelf<'_, R> {
         Ok(())
     }
 
-    /// Adds the piece at the end of the file under that name, which is the one that is written then.
-    /// Refused, none is.
+    /// Adds the piece at the end of the file under that name, which is the one that is written
+    /// then. Refused, none is.
     fn add(&mut self, name: &str, piece: &[u8]) -> Result<(), OutsideErr>
         ensures added { OnOk result (IsSomeAnd self.new.written (HasName name.now)) }
         ensures piece { IfSome self.old.written (λ old. HasName name.now old → OnOk result
@@ -306,7 +311,8 @@ impl<R: Files> FileShelf<'_, R> {
         with_want(answer, &mut self.wants)
     }
 
-    /// The last fault, and the file that it is of. None where there was none, or its name is longer than any that a command takes.
+    /// The last fault, and the file that it is of. None where there was none, or its name is longer
+    /// than any that a command takes.
     pub fn last_fault(&self) -> Option<NamedFault<'_>> {
         let name = self.faulty.as_ref()?;
         Some(NamedFault {

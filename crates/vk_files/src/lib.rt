@@ -1,5 +1,5 @@
-//! The real edge of the program: the files of the system as a shelf, and standard output as a sink. Each error of
-//! the system is counted as a fault.
+//! The real edge of the program: the files of the system as a shelf, and standard output as a sink.
+//! Each error of the system is counted as a fault.
 #![tactic(auto)]
 
 mod faults;

@@ -27,8 +27,8 @@ pub fn put_counted<W: Write>(
     Ok(())
 }
 
-/// Fills `into` with what the reader gives from `at` on, as far as it gives any, and answers how many
-/// bytes that are. An error is counted, once.
+/// Fills `into` with what the reader gives from `at` on, as far as it gives any, and answers how
+/// many bytes that are. An error is counted, once.
 pub fn read_counted<F: Read + Seek>(
     file: &mut F,
     at: u64,
@@ -37,7 +37,8 @@ pub fn read_counted<F: Read + Seek>(
 ) -> Result<usize, OutsideErr>
     ensures bound { IfOk result (λ n. n ≤ length into.old) }
     ensures bytes { IfOk result
-        (λ n. GivesFrom F.stream_position F.remaining at (length into.old) (take n into.new) file.old file.new) }
+        (λ n. GivesFrom F.stream_position F.remaining at (length into.old) (take n into.new)
+        file.old file.new) }
     ensures causes { Causes OutsideErr.Failed result faults.old faults.new }
     ensures fault { OnErr result (result ≡ Err OutsideErr.Failed) }
     ensures counted { OnErr result (faults.new ≡ one_more faults.old) }
@@ -46,12 +47,13 @@ pub fn read_counted<F: Read + Seek>(
     Ok(count)
 }
 
-/// Fills `into` with what the reader gives from `at` on, as far as it gives any, and answers how many
-/// bytes that are.
+/// Fills `into` with what the reader gives from `at` on, as far as it gives any, and answers how
+/// many bytes that are.
 fn read_from<F: Read + Seek>(file: &mut F, at: u64, into: &mut [u8]) -> io::Result<usize>
     ensures bound { IfOk result (λ n. n ≤ length into.old) }
     ensures bytes { IfOk result
-        (λ n. GivesFrom F.stream_position F.remaining at (length into.old) (take n into.new) file.old file.new) }
+        (λ n. GivesFrom F.stream_position F.remaining at (length into.old) (take n into.new)
+        file.old file.new) }
 {
     file.seek(SeekFrom::Start(at))?;
     let count = read_fully(file, into)?;

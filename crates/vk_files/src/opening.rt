@@ -89,8 +89,8 @@ fn to_make(at_end: bool) -> OpenOptions
     options
 }
 
-/// Waits until what was written is where it belongs. A device or a pipe has no such place, and is as
-/// good as its last write.
+/// Waits until what was written is where it belongs. A device or a pipe has no such place, and is
+/// as good as its last write.
 pub fn synced<F: OpenFile>(file: &F) -> io::Result<()> {
     match file.sync_data() {
         Err(error) if error.kind() != ErrorKind::InvalidInput => Err(error),

@@ -41,7 +41,8 @@ impl<R: Files> Store<'_, R> {
         Ok(id.is_one_of(ids.as_slice()))
     }
 
-    /// Whether a file that was made at that path would be one of the store's, where nothing is there.
+    /// Whether a file that was made at that path would be one of the store's, where nothing is
+    /// there.
     pub fn awaits(&self, path: &str, faults: &mut FaultCount) -> Result<bool, OutsideErr>
         ensures causes { Causes OutsideErr.Failed result faults.old faults.new }
     {
@@ -55,7 +56,8 @@ impl<R: Files> Store<'_, R> {
         Ok(awaits)
     }
 
-    /// Puts behind the others which files those of a store at that path are, as far as they are there.
+    /// Puts behind the others which files those of a store at that path are, as far as they are
+    /// there.
     fn push_ids(
         &self,
         store: &str,

@@ -27,7 +27,8 @@ id_text head = line (spaced (codes "auction" ∷ hex_text head.auction ∷ [])) 
 
 abbrev total_at : List ℕ → Rest → Result (SumHead × Rest) ℕ
 total_at auction rest =
-    line_by (number_line (codes "sum") 0 21) rest >>= λ total. Ok (head_with auction total.0, total.1)
+    line_by (number_line (codes "sum") 0 21) rest >>= λ total.
+    Ok (head_with auction total.0, total.1)
 
 abbrev id_at : Rest → Result (SumHead × Rest) ℕ
 id_at rest = line_by (id_line (codes "auction")) rest >>= λ auction. total_at auction.0 auction.1
@@ -39,7 +40,8 @@ total_part auction =
 
 id_part : IsPart IdOf id_text id_at
 id_part =
-    part_then {IsZ = λ auction head. TotalOf auction head} {text_z = λ auction head. total_text head} (λ head. head.auction)
+    part_then {IsZ = λ auction head. TotalOf auction head}
+    {text_z = λ auction head. total_text head} (λ head. head.auction)
     (line_part (id_line_is (codes "auction") refl (omega arith))) (λ auction _. total_part auction)
     (λ auction head is. ap (λ h. h.auction) is.1)
 
@@ -47,8 +49,10 @@ pub head_is_part : IsPart IsSumHead sum_head_text sum_head_at
 unfolding sum_head_text sum_head_at
 head_is_part =
     part_same (
-    part_then {X = Unit {0}} {IsZ = λ _ head. IdOf head} {text_z = λ _ head. id_text head} (λ head. tt)
-    (line_part (fixed_line (codes "sum-file 1") refl (omega arith))) (λ heading _. id_part) (λ heading head is. refl)
+    part_then {X = Unit {0}} {IsZ = λ _ head. IdOf head} {text_z = λ _ head. id_text head}
+    (λ head. tt)
+    (line_part (fixed_line (codes "sum-file 1") refl (omega arith))) (λ heading _. id_part)
+    (λ heading head is. refl)
     )
     (λ head is. record { id = is.1.0; most = is.1.1.0.0 })
     (λ head is. (tt, (is.id, ((is.most, to_test 0 head.total (omega arith)), refl))))
@@ -63,7 +67,8 @@ pub file_is_whole : IsWhole IsSumFile sum_file_text sum_file_at
 unfolding sum_file_text sum_file_at
 file_is_whole =
     whole_same (
-    whole_then {IsZ = λ head file. HeadOf head file} {text_z = λ head file. behind_text file.seals file.lanes}
+    whole_then {IsZ = λ head file. HeadOf head file}
+    {text_z = λ head file. behind_text file.seals file.lanes}
     (λ file. file.head) head_is_part
     (λ head right. behind_is_whole (sum_frame head) (file_with head) (λ f. f.seals) (λ f. f.lanes)
     (omega arith) (λ seals lanes. refl) (λ seals lanes. refl))

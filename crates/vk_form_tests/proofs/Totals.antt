@@ -8,11 +8,13 @@ use Rattle.vk_form_tests.specs.SumLaws.{sum_complete}
 abbrev IsSmall : ℕ → Type 0
 IsSmall number = number < 2 ^ 3
 
-pub three_sum : (numbers : List ℕ) → length numbers ≡ 3 → slice_index numbers 0 < 8 → slice_index numbers 1 < 8 → slice_index numbers 2 < 8
+pub three_sum : (numbers : List ℕ) → length numbers ≡ 3 → slice_index numbers 0 < 8
+    → slice_index numbers 1 < 8 → slice_index numbers 2 < 8
     → SumTo (slice_index numbers 0 + slice_index numbers 1 + slice_index numbers 2) numbers
 three_sum (a ∷ b ∷ c ∷ []) three small-a small-b small-c = record {
   three = refl;
-  small = All-cons IsSmall a (b ∷ c ∷ []) small-a (All-cons IsSmall b (c ∷ []) small-b (All-cons IsSmall c [] small-c (All-nil IsSmall)));
+  small = All-cons IsSmall a (b ∷ c ∷ []) small-a
+      (All-cons IsSmall b (c ∷ []) small-b (All-cons IsSmall c [] small-c (All-nil IsSmall)));
   come_to = omega arith;
 }
 three_sum [] three small-a small-b small-c = omega (arith, three)
@@ -23,18 +25,29 @@ three_sum (a ∷ b ∷ c ∷ d ∷ more) three small-a small-b small-c = omega (
 pub few_refused : (total : ℕ) (numbers : List ℕ) → length numbers ≢ 3 → ¬ SumTo total numbers
 few_refused total numbers few claim = few claim.three
 
-pub large_refused : (total : ℕ) (numbers : List ℕ) (index : ℕ) → index < 3 → 8 ≤ slice_index numbers index → ¬ SumTo total numbers
-large_refused total numbers index within large claim = omega (arith, large, claim.small index 0 (omega (arith, claim.three)))
+pub large_refused : (total : ℕ) (numbers : List ℕ) (index : ℕ) → index < 3
+    → 8 ≤ slice_index numbers index → ¬ SumTo total numbers
+large_refused total numbers index within large claim =
+    omega (arith, large, claim.small index 0 (omega (arith, claim.three)))
 
 small_total : (total : ℕ) (numbers : List ℕ) → SumTo total numbers → total ≤ 21
-small_total total (a ∷ b ∷ c ∷ []) claim = omega (arith, claim.come_to, claim.small 0 0 (omega arith), claim.small 1 0 (omega arith), claim.small 2 0 (omega arith))
+small_total total (a ∷ b ∷ c ∷ []) claim =
+    omega (
+      arith,
+      claim.come_to,
+      claim.small 0 0 (omega arith),
+      claim.small 1 0 (omega arith),
+      claim.small 2 0 (omega arith),
+    )
 small_total total [] claim = omega (arith, claim.three)
 small_total total (a ∷ []) claim = omega (arith, claim.three)
 small_total total (a ∷ b ∷ []) claim = omega (arith, claim.three)
 small_total total (a ∷ b ∷ c ∷ d ∷ more) claim = omega (arith, claim.three)
 
-pub filled_hold : (total : ℕ) (numbers : List ℕ) (plan : PlanValue) (values : List ℕ) → SumTo total numbers → plan ≡ sum_plan total
+pub filled_hold : (total : ℕ) (numbers : List ℕ) (plan : PlanValue) (values : List ℕ)
+    → SumTo total numbers → plan ≡ sum_plan total
     → values ≡ sum_values numbers → Holds plan values
 filled_hold total numbers plan values claim same-plan same-values =
     let whole = sum_complete total numbers (small_total total numbers claim) claim in
-    subst (λ p. Holds p values) (sym same-plan) (subst (Holds (sum_plan total)) (sym same-values) whole)
+    subst (λ p. Holds p values) (sym same-plan)
+    (subst (Holds (sum_plan total)) (sym same-values) whole)

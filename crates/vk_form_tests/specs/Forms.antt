@@ -1,5 +1,5 @@
--- The form of a sum file: its head, its frame, and the table of its places. What stands behind the head is what stands
--- behind any head.
+-- The form of a sum file: its head, its frame, and the table of its places. What stands behind the
+-- head is what stands behind any head.
 use Rattle.std.specs.Prelude.{◌≡◌, ℕ, ◌≤◌, List, [], ◌∷◌, ◌++◌, codes, decimal, length, Option, option_map, Result, Ok}
 use Rattle.std.specs.List.{AllByRecursion}
 use Rattle.vk_residue.specs.Steps.{◌>>=◌}
@@ -41,7 +41,11 @@ sum_head_at rest =
 abbrev pub sum_frame : SumHead → Frame
 sum_frame head =
     let plan = sum_plan head.total in
-    record { seals = 3; lanes = 2; shape = record { wires = later_wires plan; rows = length plan.rows } }
+    record {
+      seals = 3;
+      lanes = 2;
+      shape = record { wires = later_wires plan; rows = length plan.rows };
+    }
 
 -- ---- whole files
 
@@ -57,13 +61,15 @@ pub record IsSumFile (file : SumFile) : Type 0 where
   pub head : IsSumHead file.head
   pub seals : AreSealsOf 3 2 file.seals
   pub count : length file.lanes ≡ 2
-  pub lanes : AllByRecursion (IsLaneLines (sum_frame file.head).shape.wires (sum_frame file.head).shape.rows) file.lanes
+  pub lanes : AllByRecursion (IsLaneLines (sum_frame file.head).shape.wires
+      (sum_frame file.head).shape.rows) file.lanes
 
 unfoldable pub sum_file_text : SumFile → List ℕ
 sum_file_text file = sum_head_text file.head ++ behind_text file.seals file.lanes
 
 unfoldable pub sum_file_at : Rest → Result (SumFile × Rest) ℕ
-sum_file_at rest = sum_head_at rest >>= λ head. behind_at (sum_frame head.0) (file_with head.0) head.1
+sum_file_at rest = sum_head_at rest >>= λ head. behind_at (sum_frame head.0) (file_with head.0)
+    head.1
 
 -- ---- the places of a file
 
@@ -75,9 +81,11 @@ pub data SumPlace : Type 0 where
 
 abbrev pub sum_next : SumPlace → List ℕ → Option (BoardPlace SumPlace)
 sum_next Heading text = option_map (λ _. InHead Auction) (word_of (codes "sum-file 1") text)
-sum_next Auction text = option_map (λ auction. InHead (Total auction)) (id_line (codes "auction") text)
+sum_next Auction text = option_map (λ auction. InHead (Total auction))
+    (id_line (codes "auction") text)
 sum_next (Total auction) text =
-    option_map (λ total. behind_head (sum_frame (head_with auction total))) (number_line (codes "sum") 0 21 text)
+    option_map (λ total. behind_head (sum_frame (head_with auction total)))
+    (number_line (codes "sum") 0 21 text)
 
 abbrev pub sum_head_table : HeadTable SumPlace
 sum_head_table = record { first = Heading; next = sum_next }

@@ -26,7 +26,12 @@ use Rattle.vk_form_tests.specs.Forms.{IsSumHead, sum_head_text, sum_head_at}
 
 -- what the lanes of a file with this head and these seals are to show
 abbrev pub sum_statement : SumHead → List SealLines → StatementValue
-sum_statement head seals = record { auction = head.auction; lanes = 2; seals = seals; plan = sum_plan head.total }
+sum_statement head seals = record {
+  auction = head.auction;
+  lanes = 2;
+  seals = seals;
+  plan = sum_plan head.total;
+}
 
 -- the head and the seals
 unfoldable pub statement_at : Rest → Result (StatementValue × Rest) Fault
@@ -62,17 +67,20 @@ sum_judged_on = of_attempt sum_judged
 -- ---- extraction
 
 -- what two replies come to past what was read of the front
-abbrev pub extraction_past : Result (StatementValue × Rest) Fault → Rest → Rest → Rest → Rest → LaneExtraction
+abbrev pub extraction_past : Result (StatementValue × Rest) Fault → Rest → Rest → Rest → Rest
+    → LaneExtraction
 extraction_past (Ok front) first_challenge first_reply second_challenge second_reply =
     lane_extraction_behind front.0 front.1 first_challenge first_reply second_challenge second_reply
-extraction_past (Err fault) first_challenge first_reply second_challenge second_reply = Refused false fault
+extraction_past (Err fault) first_challenge first_reply second_challenge second_reply =
+    Refused false fault
 
 -- what two replies to a sum file come to
 abbrev pub sum_extraction : Rest → Rest → Rest → Rest → Rest → LaneExtraction
 sum_extraction file = extraction_past (statement_at file)
 
 -- of the named files
-unfoldable pub sum_extraction_on : Files → List ℕ → List ℕ → List ℕ → List ℕ → List ℕ → Result LaneExtraction VErr
+unfoldable pub sum_extraction_on : Files → List ℕ → List ℕ → List ℕ → List ℕ → List ℕ
+    → Result LaneExtraction VErr
 sum_extraction_on = of_files sum_extraction
 
 -- the values of the lane open its seals, and are numbers below 2^3 that come to the total

@@ -29,29 +29,38 @@ names_total total =
 
 pub ranges_fit : AreRanges input_ranges 3
 ranges_fit = record {
-  names = All-listed (λ form. NamesBelow 3 form.terms) input_form 3 (λ i h. All-cons IsInput (plus i) [] h (All-nil IsInput));
+  names = All-listed (λ form. NamesBelow 3 form.terms) input_form 3
+      (λ i h. All-cons IsInput (plus i) [] h (All-nil IsInput));
   wide = record { least = omega arith; most = omega arith };
 }
 
 pub total_is_plan : (total : ℕ) → IsPlan (total_plan total)
-total_is_plan total = sum_is_room (plan_of_inputs 3) (total_form total) (IsPlan-inputs 3 (omega arith)) (names_total total) (omega arith)
+total_is_plan total = sum_is_room (plan_of_inputs 3) (total_form total)
+    (IsPlan-inputs 3 (omega arith)) (names_total total) (omega arith)
 
 pub sum_is_plan : (total : ℕ) → IsPlan (sum_plan total)
 unfolding sum_plan
-sum_is_plan total = ranges_room (total_plan total) input_ranges (total_is_plan total) ranges_fit (lit≤ tt) (lit≤ tt)
+sum_is_plan total = ranges_room (total_plan total) input_ranges (total_is_plan total) ranges_fit
+    (lit≤ tt) (lit≤ tt)
 
 -- ---- three numbers
 
 by_rows : (total : ℕ) (numbers : List ℕ) → total ≤ 21 → length numbers ≡ 3 → All IsResidue numbers
-    → AreOfWidth input_ranges numbers → form_value (total_form total) numbers ≡ 0 → SumTo total numbers
+    → AreOfWidth input_ranges numbers → form_value (total_form total) numbers ≡ 0
+    → SumTo total numbers
 unfolding form_value linear_part
 by_rows total (a ∷ b ∷ c ∷ []) few three residues widths zero' =
-    let small-a : a < 8 = omega (arith, widths 0 (input_form 0) (omega arith), residues 0 0 (omega arith)) in
-    let small-b : b < 8 = omega (arith, widths 1 (input_form 0) (omega arith), residues 1 0 (omega arith)) in
-    let small-c : c < 8 = omega (arith, widths 2 (input_form 0) (omega arith), residues 2 0 (omega arith)) in
+    let small-a : a < 8 = omega
+    (arith, widths 0 (input_form 0) (omega arith), residues 0 0 (omega arith)) in
+    let small-b : b < 8 = omega
+    (arith, widths 1 (input_form 0) (omega arith), residues 1 0 (omega arith)) in
+    let small-c : c < 8 = omega
+    (arith, widths 2 (input_form 0) (omega arith), residues 2 0 (omega arith)) in
     record {
       three = refl;
-      small = All-cons (λ n. n < 8) a (b ∷ c ∷ []) small-a (All-cons (λ n. n < 8) b (c ∷ []) small-b (All-cons (λ n. n < 8) c [] small-c (All-nil (λ n. n < 8))));
+      small = All-cons (λ n. n < 8) a (b ∷ c ∷ []) small-a
+          (All-cons (λ n. n < 8) b (c ∷ []) small-b
+          (All-cons (λ n. n < 8) c [] small-c (All-nil (λ n. n < 8))));
       come_to = omega (arith, zero');
     }
 by_rows total [] few three residues widths zero' = cc
@@ -61,7 +70,8 @@ by_rows total (a ∷ b ∷ c ∷ d ∷ more) few three residues widths zero' = o
 
 -- ---- the laws
 
-pub sum_begins : (total : ℕ) (numbers : List ℕ) → SumTo total numbers → take (sum_plan total).inputs (sum_values numbers) ≡ numbers
+pub sum_begins : (total : ℕ) (numbers : List ℕ) → SumTo total numbers
+    → take (sum_plan total).inputs (sum_values numbers) ≡ numbers
 unfolding sum_plan
 sum_begins total numbers claim = take_at numbers (ranges_values input_ranges numbers) 3 claim.three
 
@@ -70,37 +80,54 @@ pub sum_sound : (total : ℕ) (values : List ℕ) → total ≤ 21 → Holds (su
 unfolding sum_plan
 sum_sound total values few holds =
     let before : Holds (total_plan total) (take 3 values) =
-    Holds-before (total_plan total) (ranges_wires input_ranges) (ranges_rows input_ranges 3) values (total_is_plan total).names holds in
+    Holds-before (total_plan total) (ranges_wires input_ranges) (ranges_rows input_ranges 3) values
+    (total_is_plan total).names holds in
     let widths : AreOfWidth input_ranges (take 3 values) =
-    ranges_sound input_ranges (total_plan total) values (total_is_plan total).names ranges_fit holds in
-    let zero' = sum_is_sound (plan_of_inputs 3) (total_form total) (take 3 values) (names_total total) before in
+    ranges_sound input_ranges (total_plan total) values (total_is_plan total).names ranges_fit holds
+    in
+    let zero' = sum_is_sound (plan_of_inputs 3) (total_form total) (take 3 values)
+    (names_total total) before in
     let same = take_all 3 (take 3 values) (omega (arith, before.one_each)) in
     by_rows total (take 3 values) few before.one_each before.residues widths (rw same at zero')
 
 residues_of : (numbers : List ℕ) → All (λ number. number < 2 ^ 3) numbers → All IsResidue numbers
 residues_of numbers small k d h = omega (arith, small k d h)
 
-total_of : (total : ℕ) (numbers : List ℕ) → total ≤ 21 → SumTo total numbers → form_value (total_form total) numbers ≡ 0
+total_of : (total : ℕ) (numbers : List ℕ) → total ≤ 21 → SumTo total numbers
+    → form_value (total_form total) numbers ≡ 0
 unfolding form_value linear_part
-total_of total (a ∷ b ∷ c ∷ []) few claim = omega (arith, claim.come_to, claim.small 0 0 (omega arith), claim.small 1 0 (omega arith), claim.small 2 0 (omega arith))
+total_of total (a ∷ b ∷ c ∷ []) few claim =
+    omega (
+      arith,
+      claim.come_to,
+      claim.small 0 0 (omega arith),
+      claim.small 1 0 (omega arith),
+      claim.small 2 0 (omega arith),
+    )
 total_of total [] few claim = omega (arith, claim.three)
 total_of total (a ∷ []) few claim = omega (arith, claim.three)
 total_of total (a ∷ b ∷ []) few claim = omega (arith, claim.three)
 total_of total (a ∷ b ∷ c ∷ d ∷ more) few claim = omega (arith, claim.three)
 
-width_of : (numbers : List ℕ) (i : ℕ) → slice_index numbers i < 8 → IsOfWidth 3 (form_value (input_form i) numbers)
+width_of : (numbers : List ℕ) (i : ℕ) → slice_index numbers i < 8
+    → IsOfWidth 3 (form_value (input_form i) numbers)
 unfolding form_value linear_part
 width_of numbers i small = omega (arith, small)
 
-pub widths_of : (numbers : List ℕ) → length numbers ≡ 3 → All (λ number. number < 2 ^ 3) numbers → AreOfWidth input_ranges numbers
+pub widths_of : (numbers : List ℕ) → length numbers ≡ 3 → All (λ number. number < 2 ^ 3) numbers
+    → AreOfWidth input_ranges numbers
 widths_of numbers three small =
-    All-listed (λ form. IsOfWidth 3 (form_value form numbers)) input_form 3 (λ i h. width_of numbers i (small i 0 (omega (arith, three))))
+    All-listed (λ form. IsOfWidth 3 (form_value form numbers)) input_form 3
+    (λ i h. width_of numbers i (small i 0 (omega (arith, three))))
 
-pub sum_complete : (total : ℕ) (numbers : List ℕ) → total ≤ 21 → SumTo total numbers → Holds (sum_plan total) (sum_values numbers)
+pub sum_complete : (total : ℕ) (numbers : List ℕ) → total ≤ 21 → SumTo total numbers
+    → Holds (sum_plan total) (sum_values numbers)
 unfolding sum_plan
 sum_complete total numbers few claim =
     let inputs = Holds-inputs 3 numbers claim.three (residues_of numbers claim.small) in
-    let before = sum_is_complete (plan_of_inputs 3) (total_form total) numbers (IsPlan-inputs 3 (omega arith)).names (names_total total)
+    let before = sum_is_complete (plan_of_inputs 3) (total_form total) numbers
+    (IsPlan-inputs 3 (omega arith)).names (names_total total)
     inputs (total_of total numbers few claim) in
     ranges_complete input_ranges (total_plan total) numbers (total_is_plan total).names ranges_fit
-    (subst (Holds (total_plan total)) (append-nil numbers) before) (widths_of numbers claim.three claim.small)
+    (subst (Holds (total_plan total)) (append-nil numbers) before)
+    (widths_of numbers claim.three claim.small)

@@ -1,5 +1,5 @@
--- What is claimed of three hidden numbers: each is below 2^3, and they come to a published total. And the circuit that
--- shows it.
+-- What is claimed of three hidden numbers: each is below 2^3, and they come to a published total.
+-- And the circuit that shows it.
 use Rattle.std.specs.Prelude.{◌≡◌, ℕ, ◌-◌, ◌%◌, ◌^◌, ◌<◌, List, [], ◌∷◌, ◌++◌, All, length, sum}
 use Rattle.vk_residue.specs.Residue.{modulus}
 use Rattle.vk_plan.specs.declared.form.Form.{Form}
@@ -16,7 +16,10 @@ pub record SumTo (total : ℕ) (numbers : List ℕ) : Type 0 where
 
 -- the inputs less the total: 0 where they come to it
 abbrev pub total_form : ℕ → Form
-total_form total = record { terms = plus 0 ∷ plus 1 ∷ plus 2 ∷ []; constant = (modulus - total) % modulus }
+total_form total = record {
+  terms = plus 0 ∷ plus 1 ∷ plus 2 ∷ [];
+  constant = (modulus - total) % modulus;
+}
 
 -- one input as it is
 abbrev pub input_form : ℕ → Form
@@ -32,7 +35,8 @@ total_plan total = extended (plan_of_inputs 3) [] (total_form total ∷ [])
 
 -- and the ranges
 unfoldable pub sum_plan : ℕ → PlanValue
-sum_plan total = extended (total_plan total) (ranges_wires input_ranges) (ranges_rows input_ranges (length (total_plan total).kinds))
+sum_plan total = extended (total_plan total) (ranges_wires input_ranges)
+    (ranges_rows input_ranges (length (total_plan total).kinds))
 
 -- the values of all wires: the inputs, and then the bits of each
 abbrev pub sum_values : List ℕ → List ℕ

@@ -11,7 +11,8 @@ use vk_range::{Ranges, SumIs, one_term};
 use vk_residue::{NoMemory, Residue};
 use vk_seq::Seq;
 
-/// The circuit that shows, of three hidden numbers, that each is below 2^3 and that they come to a published total.
+/// The circuit that shows, of three hidden numbers, that each is below 2^3 and that they come to a
+/// published total.
 #[derive(Clone, Copy, Debug)]
 pub struct SumPlan {
     /// At most 21.
@@ -20,7 +21,8 @@ pub struct SumPlan {
 }
 
 impl SumPlan {
-    /// The circuit of these numbers at their total. None where they aren't three, or one isn't below 2^3.
+    /// The circuit of these numbers at their total. None where they aren't three, or one isn't
+    /// below 2^3.
     #[tactic(auto, using(crate::proofs::Totals::three_sum, crate::proofs::Totals::few_refused, crate::proofs::Totals::large_refused))]
     pub fn of(numbers: &[Residue]) -> Option<SumPlan>
         ensures claim { IfSome result (λ circuit. SumTo circuit.total numbers.now) }

@@ -17,8 +17,8 @@ pub struct SumHead {
 }
 
 impl SumHead {
-    /// Reads the head of a sum file, its first three lines. Malformed carries the number of the first line
-    /// that isn't what its place demands.
+    /// Reads the head of a sum file, its first three lines. Malformed carries the number of the
+    /// first line that isn't what its place demands.
     #[tactic(auto, unfolding(crate::specs::Forms::sum_head_at))]
     pub fn read<S: Shelf>(shelf: &mut S, lines: &mut Lines) -> Result<SumHead, ReadErr>
         ensures modelled { ReadsPart sum_head_at (S.held shelf.old) lines.old lines.new result }

@@ -21,8 +21,8 @@ use vk_plan::Circuit;
 use vk_residue::NoMemory;
 use vk_seq::Seq;
 use vk_verifier::{
-    Attempt, OneReply, Fault, Halt, Part, Statement, TwoAttempts, TwoReplies, VErr,
-    begin_attempt, begin_two, in_part, judge_behind, known,
+    Attempt, Fault, Halt, OneReply, Part, Statement, TwoAttempts, TwoReplies, VErr, begin_attempt,
+    begin_two, in_part, judge_behind, known,
 };
 
 /// Reads the head and the seals of a sum file: what its lanes are to show.
@@ -33,7 +33,8 @@ pub fn read_statement<S: Shelf>(
     lines: &mut Lines,
 ) -> Result<Statement, Halt<Fault>>
     ensures modelled { IfSome (S.held shelf.old) (λ files.
-        Judges (λ statement. (statement, rest_of lines.new files)) result (statement_at (rest_of lines.old files))) }
+        Judges (λ statement. (statement, rest_of lines.new files)) result
+        (statement_at (rest_of lines.old files))) }
     ensures right { IfOk result (IsOfHead IsSumHead) }
     ensures shelf { OnlyReads S.held S.Shelf.faults Halt.Failed result shelf.old shelf.new }
 {
@@ -59,8 +60,8 @@ fn statement_of(alloc: Global, head: SumHead, seals: Seq<SealLines>) -> Result<S
 
 /// The first fault of a sum file, a challenge and a reply, if there is one.
 ///
-/// Errs where a file is missing or longer than 2^30 bytes, and names the first that is; where the shelf
-/// fails; and for want of memory.
+/// Errs where a file is missing or longer than 2^30 bytes, and names the first that is; where the
+/// shelf fails; and for want of memory.
 #[tactic(auto, using(crate::proofs::Opening::sum_begun))]
 pub fn judge<S: Shelf>(
     alloc: Global,
@@ -68,7 +69,8 @@ pub fn judge<S: Shelf>(
     names: &OneReply<'_>,
 ) -> Result<Result<(), Fault>, VErr>
     ensures modelled { IfSome (S.held shelf.old) (λ files.
-        Gives unread_file (λ judged. judged) result (sum_judged_on files names.now.file.now names.now.challenge.now names.now.reply.now)) }
+        Gives unread_file (λ judged. judged) result
+        (sum_judged_on files names.now.file.now names.now.challenge.now names.now.reply.now)) }
     ensures shelf { OnlyReads S.held S.Shelf.faults VErr.Failed result shelf.old shelf.new }
 {
     let attempt = begin_attempt(alloc, shelf, names)?;
@@ -80,7 +82,8 @@ pub fn judge<S: Shelf>(
 /// Judges the files, from their first lines to their ends.
 #[tactic(auto, using(vk_verifier::proofs::Joined::behind_parts), unfolding(crate::specs::Judging::sum_judged))]
 fn judge_lines<S: Shelf>(alloc: Global, shelf: &mut S, attempt: Attempt) -> Result<(), Halt<Fault>>
-    ensures modelled { IfSome (S.held shelf.old) (λ files. Judges (λ done. done) result (of_begun sum_judged attempt files)) }
+    ensures modelled { IfSome (S.held shelf.old)
+        (λ files. Judges (λ done. done) result (of_begun sum_judged attempt files)) }
     ensures shelf { OnlyReads S.held S.Shelf.faults Halt.Failed result shelf.old shelf.new }
 {
     let mut attempt = attempt;
@@ -89,11 +92,11 @@ fn judge_lines<S: Shelf>(alloc: Global, shelf: &mut S, attempt: Attempt) -> Resu
     Ok(())
 }
 
-/// What the replies to two challenges come to: of each lane whose bits differ three numbers, which come to
-/// the file's total; or a commitment that was opened with two values; or the first fault.
+/// What the replies to two challenges come to: of each lane whose bits differ three numbers, which
+/// come to the file's total; or a commitment that was opened with two values; or the first fault.
 ///
-/// Errs where a file is missing or longer than 2^30 bytes, and names the first that is, in the order of the
-/// names; where the shelf fails; and for want of memory.
+/// Errs where a file is missing or longer than 2^30 bytes, and names the first that is, in the
+/// order of the names; where the shelf fails; and for want of memory.
 #[tactic(auto, using(crate::proofs::Opening::sum_extraction_begun))]
 pub fn extract<S: Shelf>(
     alloc: Global,
@@ -101,9 +104,11 @@ pub fn extract<S: Shelf>(
     names: &TwoReplies<'_>,
 ) -> Result<LaneExtraction, VErr>
     ensures modelled { IfSome (S.held shelf.old) (λ files. Gives unread_file (λ found. found) result
-        (sum_extraction_on files names.now.board.now names.now.challenge1.now names.now.reply1.now names.now.challenge2.now names.now.reply2.now)) }
+        (sum_extraction_on files names.now.board.now names.now.challenge1.now names.now.reply1.now
+        names.now.challenge2.now names.now.reply2.now)) }
     ensures opens { IfOk result (OpensSums IsSumHead) }
-    ensures of_file { IfSome (S.held shelf.old) (λ files. IfSome (map.get files names.now.board.now) (λ file.
+    ensures of_file { IfSome (S.held shelf.old)
+        (λ files. IfSome (map.get files names.now.board.now) (λ file.
         IfOk result (OpensSums (Begins file)))) }
     ensures shelf { OnlyReads S.held S.Shelf.faults VErr.Failed result shelf.old shelf.new }
 {
@@ -118,7 +123,8 @@ fn extract_lines<S: Shelf>(
     shelf: &mut S,
     two: TwoAttempts,
 ) -> Result<LaneExtraction, OutsideErr>
-    ensures modelled { IfSome (S.held shelf.old) (λ files. IfOk result (λ found. of_two sum_extraction two files ≡ found)) }
+    ensures modelled { IfSome (S.held shelf.old)
+        (λ files. IfOk result (λ found. of_two sum_extraction two files ≡ found)) }
     ensures opens { IfOk result (OpensSums IsSumHead) }
     ensures of_file { IfSome (S.held shelf.old) (λ files.
         IfOk result (OpensSums (Begins (rest_of two.readers.pair.board files).left))) }

@@ -1,5 +1,5 @@
-//! A form of file of its own: what three sealed numbers come to. It has a head and a circuit, and all that stands
-//! behind a head is read, judged and extracted by what serves boards.
+//! A form of file of its own: what three sealed numbers come to. It has a head and a circuit, and
+//! all that stands behind a head is read, judged and extracted by what serves boards.
 #![tactic(auto)]
 
 mod circuit;

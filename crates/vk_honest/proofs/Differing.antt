@@ -10,39 +10,56 @@ pub record DiffersIn (number : ℕ) (bits others : List Bool) (lane : ℕ) : Typ
   pub until : lane < number + length bits
   pub bits_differ : get_or bits (lane - number) false ≢ get_or others (lane - number) false
 
-differ_here : (number : ℕ) (bit other : Bool) (bits others : List Bool) → bit ≢ other → DiffersIn number (bit ∷ bits) (other ∷ others) number
+differ_here : (number : ℕ) (bit other : Bool) (bits others : List Bool) → bit ≢ other
+    → DiffersIn number (bit ∷ bits) (other ∷ others) number
 differ_here number bit other bits others differ =
     let none : 0 ≡ number - number = omega arith in
     let P : ℕ → Type 0 = λ k. get_or (bit ∷ bits) k false ≢ get_or (other ∷ others) k false in
     record { from = omega arith; until = omega arith; bits_differ = subst P none differ }
 
-differ_later : (number : ℕ) (bit other : Bool) (bits others : List Bool) (lane : ℕ) → DiffersIn (number + 1) bits others lane → DiffersIn number (bit ∷ bits) (other ∷ others) lane
+differ_later : (number : ℕ) (bit other : Bool) (bits others : List Bool) (lane : ℕ)
+    → DiffersIn (number + 1) bits others lane → DiffersIn number (bit ∷ bits) (other ∷ others) lane
 differ_later number bit other bits others lane later =
     let next : suc (lane - (number + 1)) ≡ lane - number = omega (arith, later.from) in
     let P : ℕ → Type 0 = λ k. get_or (bit ∷ bits) k false ≢ get_or (other ∷ others) k false in
-    record { from = omega (arith, later.from); until = omega (arith, later.until); bits_differ = subst P next later.bits_differ }
+    record {
+      from = omega (arith, later.from);
+      until = omega (arith, later.until);
+      bits_differ = subst P next later.bits_differ;
+    }
 
-pub all_differ : (number : ℕ) (bits others : List Bool) → All (DiffersIn number bits others) (differing number bits others)
+pub all_differ : (number : ℕ) (bits others : List Bool)
+    → All (DiffersIn number bits others) (differing number bits others)
 all_differ number [] others = All-nil (DiffersIn number [] others)
 all_differ number (false ∷ bits) [] = All-nil (DiffersIn number (false ∷ bits) [])
 all_differ number (true ∷ bits) [] = All-nil (DiffersIn number (true ∷ bits) [])
 all_differ number (false ∷ bits) (false ∷ others) =
-    All-weaker (DiffersIn (number + 1) bits others) (DiffersIn number (false ∷ bits) (false ∷ others)) (differ_later number false false bits others)
+    All-weaker (DiffersIn (number + 1) bits others)
+    (DiffersIn number (false ∷ bits) (false ∷ others))
+    (differ_later number false false bits others)
     (differing (number + 1) bits others) (all_differ (number + 1) bits others)
 all_differ number (true ∷ bits) (true ∷ others) =
-    All-weaker (DiffersIn (number + 1) bits others) (DiffersIn number (true ∷ bits) (true ∷ others)) (differ_later number true true bits others)
+    All-weaker (DiffersIn (number + 1) bits others) (DiffersIn number (true ∷ bits) (true ∷ others))
+    (differ_later number true true bits others)
     (differing (number + 1) bits others) (all_differ (number + 1) bits others)
 all_differ number (false ∷ bits) (true ∷ others) =
-    All-cons (DiffersIn number (false ∷ bits) (true ∷ others)) number (differing (number + 1) bits others) (differ_here number false true bits others (λ e. cc))
-    (All-weaker (DiffersIn (number + 1) bits others) (DiffersIn number (false ∷ bits) (true ∷ others)) (differ_later number false true bits others)
+    All-cons (DiffersIn number (false ∷ bits) (true ∷ others)) number
+    (differing (number + 1) bits others) (differ_here number false true bits others (λ e. cc))
+    (All-weaker (DiffersIn (number + 1) bits others)
+    (DiffersIn number (false ∷ bits) (true ∷ others))
+    (differ_later number false true bits others)
     (differing (number + 1) bits others) (all_differ (number + 1) bits others))
 all_differ number (true ∷ bits) (false ∷ others) =
-    All-cons (DiffersIn number (true ∷ bits) (false ∷ others)) number (differing (number + 1) bits others) (differ_here number true false bits others (λ e. cc))
-    (All-weaker (DiffersIn (number + 1) bits others) (DiffersIn number (true ∷ bits) (false ∷ others)) (differ_later number true false bits others)
+    All-cons (DiffersIn number (true ∷ bits) (false ∷ others)) number
+    (differing (number + 1) bits others) (differ_here number true false bits others (λ e. cc))
+    (All-weaker (DiffersIn (number + 1) bits others)
+    (DiffersIn number (true ∷ bits) (false ∷ others))
+    (differ_later number true false bits others)
     (differing (number + 1) bits others) (all_differ (number + 1) bits others))
 
 -- where each bit is turned
-pub length-differing_turned : (number : ℕ) (bits : List Bool) → length (differing number bits (map not bits)) ≡ length bits
+pub length-differing_turned : (number : ℕ) (bits : List Bool)
+    → length (differing number bits (map not bits)) ≡ length bits
 length-differing_turned number [] = refl
 length-differing_turned number (false ∷ bits) = ap suc (length-differing_turned (number + 1) bits)
 length-differing_turned number (true ∷ bits) = ap suc (length-differing_turned (number + 1) bits)

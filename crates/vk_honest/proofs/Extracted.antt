@@ -55,25 +55,32 @@ no_bid = record { seat = 0; bid = 0; first = no_opening; second = no_opening }
 same_half : (one other : Opening) → Half one ≡ Half other → one ≡ other
 same_half one other same = cc
 
-same_bid : (one other : OpenedBid) → one.seat ≡ other.seat → one.bid ≡ other.bid → one.first ≡ other.first → one.second ≡ other.second → one ≡ other
+same_bid : (one other : OpenedBid) → one.seat ≡ other.seat → one.bid ≡ other.bid
+    → one.first ≡ other.first → one.second ≡ other.second → one ≡ other
 same_bid one other seat bid first second =
-    let of : ℕ → ℕ → Opening → Opening → OpenedBid = λ s b u v. record { seat = s; bid = b; first = u; second = v } in
+    let of : ℕ → ℕ → Opening → Opening
+    → OpenedBid = λ s b u v. record { seat = s; bid = b; first = u; second = v } in
     ap (λ s. of s one.bid one.first one.second) seat
-    ∙ (ap (λ b. of other.seat b one.first one.second) bid ∙ (ap (λ u. of other.seat other.bid u one.second) first ∙ ap (of other.seat other.bid other.first) second))
+    ∙ (ap (λ b. of other.seat b one.first one.second) bid
+    ∙ (ap (λ u. of other.seat other.bid u one.second) first
+    ∙ ap (of other.seat other.bid other.first) second))
 
 module _ (width : ℕ) (proof : ProofValue) (is : IsSealedProof width proof) (lane : ℕ) (some : 1 ≤ lane) (within : lane ≤ proof.lanes) (bids : List OpenedBid)
     (shown : AreShownIn (lane_shown_in proof lane false) (lane_shown_in proof lane true) bids)
     (one_each : map (λ (bid : OpenedBid). bid.seat) bids ≡ board.seats_of (map seal_lines_of proof.rows))
     (sums : (index : ℕ) (bid : OpenedBid) → slice_get bids index ≡ Some bid → bid.bid ≡ sum bid.first.value bid.second.value) where
   -- one for each seal, at its seat
-  seats_same : map (λ (bid : OpenedBid). bid.seat) bids ≡ map (λ (row : SealRow). row.seal.seat) proof.rows
+  seats_same : map (λ (bid : OpenedBid). bid.seat) bids
+      ≡ map (λ (row : SealRow). row.seal.seat) proof.rows
   seats_same = one_each ∙ seats_are proof.rows
 
   count_same : length bids ≡ length proof.rows
-  count_same = sym (length-map bids (λ bid. bid.seat)) ∙ (ap length seats_same ∙ length-map proof.rows (λ row. row.seal.seat))
+  count_same = sym (length-map bids (λ bid. bid.seat))
+      ∙ (ap length seats_same ∙ length-map proof.rows (λ row. row.seal.seat))
 
   -- both halves are the secret's, so their sum is its bid
-  bid_same : (index : ℕ) → index < length bids → get_or bids index no_bid ≡ bid_in_lane lane (get_or proof.rows index no_row)
+  bid_same : (index : ℕ) → index < length bids
+      → get_or bids index no_bid ≡ bid_in_lane lane (get_or proof.rows index no_row)
   bid_same index lt =
       let inside : index < length proof.rows = omega (arith, count_same) in
       let bid = get_or bids index no_bid in
@@ -81,53 +88,78 @@ module _ (width : ℕ) (proof : ProofValue) (is : IsSealedProof width proof) (la
       let right : IsSealRow proof.id width proof.lanes row = is.rows index no_row inside in
       let here = slice_get-get_or bids index no_bid lt in
       let halves = shown index bid here in
-      let first : bid.first ≡ secret_opening row.secret lane false = same_half _ _ (sym halves.0 ∙ half_shown width proof is lane some within false index inside) in
-      let second : bid.second ≡ secret_opening row.secret lane true = same_half _ _ (sym halves.1 ∙ half_shown width proof is lane some within true index inside) in
-      let last : lane ≤ length row.secret.lanes = omega (arith, lanes_of proof.id width proof.lanes row right) in
+      let first : bid.first ≡ secret_opening row.secret lane false =
+      same_half _ _ (sym halves.0
+      ∙ half_shown width proof is lane some within false index inside) in
+      let second : bid.second ≡ secret_opening row.secret lane true =
+      same_half _ _ (sym halves.1
+      ∙ half_shown width proof is lane some within true index inside) in
+      let last : lane ≤ length row.secret.lanes =
+      omega (arith, lanes_of proof.id width proof.lanes row right) in
       same_bid bid (bid_in_lane lane row)
       (sym (get_or-map (λ (b : OpenedBid). b.seat) bids index no_bid 0 lt)
-      ∙ (ap (λ seats. slice_index seats index) seats_same ∙ get_or-map (λ (r : SealRow). r.seal.seat) proof.rows index no_row 0 inside))
+      ∙ (ap (λ seats. slice_index seats index) seats_same
+      ∙ get_or-map (λ (r : SealRow). r.seal.seat) proof.rows index no_row 0 inside))
       (sums index bid here
       ∙ (ap (λ (u : Opening). sum u.value bid.second.value) first
-      ∙ (ap (λ (v : Opening). sum (secret_opening row.secret lane false).value v.value) second ∙ halves_sum row.secret lane right.secret some last)))
+      ∙ (ap (λ (v : Opening). sum (secret_opening row.secret lane false).value v.value) second
+      ∙ halves_sum row.secret lane right.secret some last)))
       first second
 
   pub bids_same : bids ≡ map (bid_in_lane lane) proof.rows
   bids_same =
-      let long : length (map (bid_in_lane lane) proof.rows) ≡ length proof.rows = length-map proof.rows (bid_in_lane lane) in
+      let long : length (map (bid_in_lane lane) proof.rows) ≡ length proof.rows =
+      length-map proof.rows (bid_in_lane lane) in
       ext_get_or no_bid bids (map (bid_in_lane lane) proof.rows) (count_same ∙ sym long)
-      (λ index lt. bid_same index lt ∙ sym (get_or-map (bid_in_lane lane) proof.rows index no_row no_bid (omega (arith, count_same))))
+      (λ index lt. bid_same index lt
+      ∙ sym (get_or-map (bid_in_lane lane) proof.rows index no_row no_bid
+      (omega (arith, count_same))))
 
 -- ---- lane by lane
 
 -- what is true of the numbers of lanes
-pub of_numbers : (P : ℕ → Type 0) (lanes : List LaneBids) → All P (map (λ (lane : LaneBids). lane.number) lanes) → All (λ (lane : LaneBids). P lane.number) lanes
+pub of_numbers : (P : ℕ → Type 0) (lanes : List LaneBids)
+    → All P (map (λ (lane : LaneBids). lane.number) lanes)
+    → All (λ (lane : LaneBids). P lane.number) lanes
 of_numbers P lanes all k d lt =
-    let long : length (map (λ (lane : LaneBids). lane.number) lanes) ≡ length lanes = length-map lanes (λ lane. lane.number) in
+    let long : length (map (λ (lane : LaneBids). lane.number) lanes) ≡ length lanes =
+    length-map lanes (λ lane. lane.number) in
     subst P (get_or-map (λ (lane : LaneBids). lane.number) lanes k d 0 lt) (all k 0 (omega arith))
 
 -- the same value by its parts
-pub lane_same : (one : LaneBids) (bids : List OpenedBid) → one.bids ≡ bids → one ≡ record { number = one.number; bids = bids }
-lane_same one bids same = let of : List OpenedBid → LaneBids = λ bs. record { number = one.number; bids = bs } in ap of same
+pub lane_same : (one : LaneBids) (bids : List OpenedBid) → one.bids ≡ bids
+    → one ≡ record { number = one.number; bids = bids }
+lane_same one bids same = let of : List OpenedBid
+    → LaneBids = λ bs. record { number = one.number; bids = bs } in ap of same
 
 -- lanes that follow from their numbers
-pub by_number : (of : ℕ → LaneBids) (lanes : List LaneBids) → All (λ (lane : LaneBids). lane ≡ of lane.number) lanes → lanes ≡ map of (map (λ (lane : LaneBids). lane.number) lanes)
+pub by_number : (of : ℕ → LaneBids) (lanes : List LaneBids)
+    → All (λ (lane : LaneBids). lane ≡ of lane.number) lanes
+    → lanes ≡ map of (map (λ (lane : LaneBids). lane.number) lanes)
 by_number of [] all = refl
 by_number of (lane ∷ lanes) all =
     let P : LaneBids → Type 0 = λ lane. lane ≡ of lane.number in
-    ap (λ l. l ∷ lanes) (All-head P lane lanes all) ∙ ap (λ ls. of lane.number ∷ ls) (by_number of lanes (All-tail P lane lanes all))
+    ap (λ l. l ∷ lanes) (All-head P lane lanes all)
+    ∙ ap (λ ls. of lane.number ∷ ls) (by_number of lanes (All-tail P lane lanes all))
 
-extracted_same : (one : Extracted) (front : Front) (lanes : List LaneBids) → one.front ≡ front → one.lanes ≡ lanes → one ≡ record { front = front; lanes = lanes }
+extracted_same : (one : Extracted) (front : Front) (lanes : List LaneBids) → one.front ≡ front
+    → one.lanes ≡ lanes → one ≡ record { front = front; lanes = lanes }
 extracted_same one front lanes fronts same =
     let of : Front → List LaneBids → Extracted = λ f ls. record { front = f; lanes = ls } in
     ap (λ f. of f one.lanes) fronts ∙ ap (of front) same
 
 module _ (auction : Auction) (proved : IsProvedAuction auction) (first second : Challenge) (is_first : IsChallengeTo auction first) (is_second : IsChallengeTo auction second)
     (differ : first.bits ≢ second.bits) where
-  abbrev two : TwoAccepted (board_of auction) (challenge_text first) (reply_of auction first) (challenge_text second) (reply_of auction second)
-  two = record { first = accepts auction proved first is_first; second = accepts auction proved second is_second; differ = differ }
+  abbrev two : TwoAccepted (board_of auction) (challenge_text first) (reply_of auction first)
+      (challenge_text second) (reply_of auction second)
+  two = record {
+    first = accepts auction proved first is_first;
+    second = accepts auction proved second is_second;
+    differ = differ;
+  }
 
-  -- a lane whose bits differ is one of the auction, and what is shown of it for a bit is what the auctioneer shows for it
+  -- a lane whose bits differ is one of the auction, and what is shown of it for a bit is what the
+  -- auctioneer shows for it
   record IsOpened (lane : ℕ) : Type 0 where
     some : 1 ≤ lane
     within : lane ≤ auction.lanes
@@ -138,28 +170,41 @@ module _ (auction : Auction) (proved : IsProvedAuction auction) (first second : 
       let number : lane - 1 + 1 ≡ lane = omega (arith, is.from) in
       let some : 1 ≤ lane = is.from in
       let within : lane ≤ auction.lanes = omega (arith, is.until, is_first.one_bit_each) in
-      let of_first : slice_index_or (shown_from auction 1 first.bits) (lane - 1) [] ≡ shown_in auction lane (bit_of first lane) =
-      shown_at auction.width (proof_of auction) (sealed auction proved) first is_first.right is_first.one_bit_each (lane - 1) (omega (arith, is_first.one_bit_each)) ∙ ap (λ n. shown_in auction n (bit_of first n)) number in
-      let of_second : slice_index_or (shown_from auction 1 second.bits) (lane - 1) [] ≡ shown_in auction lane (bit_of second lane) =
-      shown_at auction.width (proof_of auction) (sealed auction proved) second is_second.right is_second.one_bit_each (lane - 1) (omega (arith, is_second.one_bit_each)) ∙ ap (λ n. shown_in auction n (bit_of second n)) number in
+      let of_first : slice_index_or (shown_from auction 1 first.bits) (lane - 1) []
+      ≡ shown_in auction lane (bit_of first lane) =
+      shown_at auction.width (proof_of auction) (sealed auction proved) first is_first.right
+      is_first.one_bit_each (lane - 1) (omega (arith, is_first.one_bit_each))
+      ∙ ap (λ n. shown_in auction n (bit_of first n)) number in
+      let of_second : slice_index_or (shown_from auction 1 second.bits) (lane - 1) []
+      ≡ shown_in auction lane (bit_of second lane) =
+      shown_at auction.width (proof_of auction) (sealed auction proved) second is_second.right
+      is_second.one_bit_each (lane - 1) (omega (arith, is_second.one_bit_each))
+      ∙ ap (λ n. shown_in auction n (bit_of second n)) number in
       record {
         some = some;
         within = within;
         shown = λ bit.
-            ap (λ one. shown_for bit (bit_of first lane) one (slice_index_or (shown_from auction 1 second.bits) (lane - 1) [])) of_first
-            ∙ (ap (λ other. shown_for bit (bit_of first lane) (shown_in auction lane (bit_of first lane)) other) of_second
-            ∙ shown_either (shown_in auction lane) bit (bit_of first lane) (bit_of second lane) is.bits_differ);
+            ap (λ one. shown_for bit (bit_of first lane) one
+            (slice_index_or (shown_from auction 1 second.bits) (lane - 1) [])) of_first
+            ∙ (ap (λ other. shown_for bit (bit_of first lane)
+            (shown_in auction lane (bit_of first lane)) other) of_second
+            ∙ shown_either (shown_in auction lane) bit (bit_of first lane) (bit_of second lane)
+            is.bits_differ);
       }
 
   -- so what is shown of these lanes for both bits agrees, and there is no clash
   all_opened : All IsOpened (differing 1 first.bits second.bits)
-  all_opened = All-weaker (DiffersIn 1 first.bits second.bits) IsOpened opened (differing 1 first.bits second.bits) (all_differ 1 first.bits second.bits)
+  all_opened = All-weaker (DiffersIn 1 first.bits second.bits) IsOpened opened
+      (differing 1 first.bits second.bits) (all_differ 1 first.bits second.bits)
 
   agrees : (lane : ℕ) → IsOpened lane → LaneAgrees two lane
   agrees lane is wire inside =
       let P : List Shown → Type 0 = λ zeros. WireAgrees zeros (shown_in auction lane true) wire in
       let Q : List Shown → Type 0 = λ ones. WireAgrees (shown_of two false lane) ones wire in
-      subst Q (sym (is.shown true)) (subst P (sym (is.shown false)) (shown_agree auction.width (proof_of auction) (sealed auction proved) lane is.some is.within wire))
+      subst Q (sym (is.shown true))
+      (subst P (sym (is.shown false))
+      (shown_agree auction.width (proof_of auction) (sealed auction proved) lane is.some
+      is.within wire))
 
   record GivesBids (extraction : Extraction) : Type 0 where
     found : Extracted
@@ -169,59 +214,81 @@ module _ (auction : Auction) (proved : IsProvedAuction auction) (first second : 
   gives_bids : (extraction : Extraction) → IsOf two extraction → GivesBids extraction
   gives_bids (Refused second_reply verdict) is = absurd is
   gives_bids Same is = absurd is
-  gives_bids (Clash clash) is = absurd (no_clash two clash (All-weaker IsOpened (LaneAgrees two) agrees (differing 1 first.bits second.bits) all_opened) is)
+  gives_bids (Clash clash) is =
+      absurd (no_clash two clash
+      (All-weaker IsOpened (LaneAgrees two) agrees (differing 1 first.bits second.bits) all_opened)
+      is)
   gives_bids (Bids found) is = record { found = found; is = refl; right = is }
 
   -- the bids that are found are those that were sealed
-  lane_is : (lane : LaneBids) → IsOpened lane.number → AreShownIn (shown_of two false lane.number) (shown_of two true lane.number) lane.bids
-      → ShowsOutcome (front_of auction) lane.number lane.bids → lane ≡ bids_in_lane auction lane.number
+  lane_is : (lane : LaneBids) → IsOpened lane.number
+      → AreShownIn (shown_of two false lane.number) (shown_of two true lane.number) lane.bids
+      → ShowsOutcome (front_of auction) lane.number lane.bids
+      → lane ≡ bids_in_lane auction lane.number
   lane_is lane is shown shows =
-      let P : List Shown → Type 0 = λ zeros. AreShownIn zeros (shown_of two true lane.number) lane.bids in
-      let Q : List Shown → Type 0 = λ ones. AreShownIn (shown_in auction lane.number false) ones lane.bids in
+      let P : List Shown → Type 0 =
+      λ zeros. AreShownIn zeros (shown_of two true lane.number) lane.bids in
+      let Q : List Shown → Type 0 =
+      λ ones. AreShownIn (shown_in auction lane.number false) ones lane.bids in
       lane_same lane (map (bid_in_lane lane.number) auction.seals)
-      (bids_same auction.width (proof_of auction) (sealed auction proved) lane.number is.some is.within lane.bids (subst Q (is.shown true) (subst P (is.shown false) shown))
+      (bids_same auction.width (proof_of auction) (sealed auction proved) lane.number is.some
+      is.within lane.bids (subst Q (is.shown true) (subst P (is.shown false) shown))
       shows.one_each (λ index bid here. (shows.opened index bid here).is_sum))
 
   found_is : (found : Extracted) → IsExtraction two found → found ≡ sealed_bids auction first second
   found_is found right =
-      let opens : All (λ (lane : LaneBids). IsOpened lane.number) found.lanes = of_numbers IsOpened found.lanes (subst (All IsOpened) (sym right.numbers) all_opened) in
-      extracted_same found (front_of auction) (map (bids_in_lane auction) (differing 1 first.bits second.bits)) right.front
-      (by_number (bids_in_lane auction) found.lanes (λ k d lt. lane_is (get_or found.lanes k d) (opens k d lt) (right.shown k d lt) (right.outcomes k d lt))
+      let opens : All (λ (lane : LaneBids). IsOpened lane.number) found.lanes =
+      of_numbers IsOpened found.lanes (subst (All IsOpened) (sym right.numbers) all_opened) in
+      extracted_same found (front_of auction)
+      (map (bids_in_lane auction) (differing 1 first.bits second.bits)) right.front
+      (by_number (bids_in_lane auction) found.lanes
+      (λ k d lt. lane_is (get_or found.lanes k d) (opens k d lt) (right.shown k d lt)
+      (right.outcomes k d lt))
       ∙ ap (map (bids_in_lane auction)) right.numbers)
 
 pub replies_give_bids : RepliesGiveBids
 replies_give_bids auction first second proved is_first is_second differ =
     let both = two auction proved first second is_first is_second differ in
     let given = gives_bids auction proved first second is_first is_second differ _
-    (accepted_are_extracted (board_of auction) (challenge_text first) (reply_of auction first) (challenge_text second) (reply_of auction second) both) in
-    given.is ∙ ap Bids (found_is auction proved first second is_first is_second differ given.found given.right)
+    (accepted_are_extracted (board_of auction) (challenge_text first) (reply_of auction first)
+    (challenge_text second) (reply_of auction second) both) in
+    given.is ∙ ap Bids (found_is auction proved first second is_first is_second differ given.found
+    given.right)
 
 -- ---- how many lanes, and whether the bids are equal in all of them
 
 -- a seal has one bid in all lanes
-one_bid : (rows : List SealRow) (index lane other : ℕ) → bid_or_zero (slice_get (map (bid_in_lane lane) rows) index) ≡ bid_or_zero (slice_get (map (bid_in_lane other) rows) index)
+one_bid : (rows : List SealRow) (index lane other : ℕ)
+    → bid_or_zero (slice_get (map (bid_in_lane lane) rows) index)
+    ≡ bid_or_zero (slice_get (map (bid_in_lane other) rows) index)
 one_bid [] index lane other = refl
 one_bid (row ∷ rows) zero lane other = refl
 one_bid (row ∷ rows) (suc index) lane other = one_bid rows index lane other
 
-all_equal : (rows : List SealRow) (index value : ℕ) (lanes : List ℕ) → ((lane : ℕ) → bid_in index (rows_in_lane rows lane) ≡ value)
+all_equal : (rows : List SealRow) (index value : ℕ) (lanes : List ℕ)
+    → ((lane : ℕ) → bid_in index (rows_in_lane rows lane) ≡ value)
     → list_all (λ lane. bid_in index lane == value) (map (rows_in_lane rows) lanes) ≡ true
 all_equal rows index value [] equal = refl
 all_equal rows index value (lane ∷ lanes) equal =
     let rest = list_all (λ lane. bid_in index lane == value) (map (rows_in_lane rows) lanes) in
-    ap (λ test. test && rest) (eq-eqb (bid_in index (rows_in_lane rows lane)) value (equal lane)) ∙ all_equal rows index value lanes equal
+    ap (λ test. test && rest) (eq-eqb (bid_in index (rows_in_lane rows lane)) value (equal lane))
+    ∙ all_equal rows index value lanes equal
 
-pub equal_in : (rows : List SealRow) (index : ℕ) (lanes : List ℕ) → has_one_bid index (map (rows_in_lane rows) lanes) ≡ true
+pub equal_in : (rows : List SealRow) (index : ℕ) (lanes : List ℕ)
+    → has_one_bid index (map (rows_in_lane rows) lanes) ≡ true
 equal_in rows index [] = refl
 equal_in rows index (lane ∷ lanes) =
-    all_equal rows index (bid_in index (rows_in_lane rows lane)) (lane ∷ lanes) (λ other. one_bid rows index other lane)
+    all_equal rows index (bid_in index (rows_in_lane rows lane)) (lane ∷ lanes)
+    (λ other. one_bid rows index other lane)
 
 pub bids_are_equal : BidsAreEqual
-bids_are_equal auction first second index = equal_in auction.seals index (differing 1 first.bits second.bits)
+bids_are_equal auction first second index =
+    equal_in auction.seals index (differing 1 first.bits second.bits)
 
 pub turned_open_all : TurnedOpenAll
 turned_open_all auction first second is turned = (
   λ same. turned_differ first.bits is.right.some_bit (same ∙ turned),
   length-map (differing 1 first.bits second.bits) (bids_in_lane auction)
-      ∙ (ap (λ bits. length (differing 1 first.bits bits)) turned ∙ (length-differing_turned 1 first.bits ∙ is.one_bit_each)),
+      ∙ (ap (λ bits. length (differing 1 first.bits bits)) turned
+      ∙ (length-differing_turned 1 first.bits ∙ is.one_bit_each)),
 )

@@ -1,5 +1,5 @@
--- What stands on the board of a proved auction before its first lane: the price and the winner may stand. Its statement is
--- that of the auction's proof, whose rows are sealed.
+-- What stands on the board of a proved auction before its first lane: the price and the winner may
+-- stand. Its statement is that of the auction's proof, whose rows are sealed.
 use Rattle.std.proofs.Common.{◌≡◌, ℕ, ◌-◌, ◌++◌, codes, length, map, take, refl, ap, append_assoc, sym, ◌∙◌, arith}
 use Rattle.std.specs.Prelude.{option_map, slice_index}
 use Rattle.std.specs.List.{flat_map}
@@ -28,7 +28,8 @@ use Rattle.vk_job.proofs.Parts.{head_is, seals_are}
 use Rattle.vk_honest.specs.Answers.{IsSealedProof, front_of, statement_in}
 use Rattle.vk_honest.proofs.Cases.{seats_are}
 
-pub seats_on_board : (auction : Auction) → board.seats_of (map seal_lines_of auction.seals) ≡ seats_of auction
+pub seats_on_board : (auction : Auction)
+    → board.seats_of (map seal_lines_of auction.seals) ≡ seats_of auction
 seats_on_board auction = seats_are auction.seals
 
 -- its position and its price tell the sale
@@ -37,14 +38,16 @@ sale_told (Sold position price) = refl
 sale_told Unsold = refl
 
 -- what the board is to show is what the proof does
-pub same_statement : (auction : Auction) → statement_of (front_of auction) ≡ statement_in (proof_of auction)
+pub same_statement : (auction : Auction)
+    → statement_of (front_of auction) ≡ statement_in (proof_of auction)
 unfolding plan_of head_of
 same_statement auction =
     let showing : Sale → StatementValue = λ sale. record {
       auction = auction.id;
       lanes = auction.lanes;
       seals = map seal_lines_of auction.seals;
-      plan = board_plan (board_numbers auction.version (length auction.seals) auction.width auction.reserve sale);
+      plan = board_plan (board_numbers auction.version (length auction.seals) auction.width
+          auction.reserve sale);
     } in
     ap showing (sale_told (sale_in auction))
 
@@ -53,25 +56,32 @@ unfolding head_of
 same_lanes auction = refl
 
 -- the board is its front, the lanes and the end
-pub board_is_file : (auction : Auction) → board_of auction ≡ file_text (front_text (front_of auction)) (lanes_in (proof_of auction))
+pub board_is_file : (auction : Auction)
+    → board_of auction ≡ file_text (front_text (front_of auction)) (lanes_in (proof_of auction))
 unfolding board_text
 board_is_file auction =
-    sym (append_assoc (head_text (head_of auction)) (flat_map seal_lines_text (map seal_lines_of auction.seals))
+    sym (append_assoc (head_text (head_of auction))
+    (flat_map seal_lines_text (map seal_lines_of auction.seals))
     (lanes_text 1 (lanes_in (proof_of auction)) ++ line (codes "end")))
 
 -- the price of a sale may stand beside its winner, whatever the seats
-price_for : (head : Head) (seat_of : ℕ → ℕ) (sale : Sale) → head.price ≡ price_in sale → IsSaleCase head.seals head.width head.reserve sale
+price_for : (head : Head) (seat_of : ℕ → ℕ) (sale : Sale) → head.price ≡ price_in sale
+    → IsSaleCase head.seals head.width head.reserve sale
     → PriceStandsFor head (option_map seat_of (position_in sale))
 price_for head seat_of (Sold position price) paid is = record {
   within_width = omega (arith, paid, is.within_width);
   reserve_within_price = omega (arith, paid, is.reserve_within_price);
   alone = λ one. paid ∙ is.alone one;
 }
-price_for head seat_of Unsold paid is = record { some_reserve = λ none. omega (arith, is, none); no_price = paid }
+price_for head seat_of Unsold paid is =
+    record { some_reserve = λ none. omega (arith, is, none); no_price = paid }
 
 -- its position is that of the winner's seal
-placed_for : (auction : Auction) (sale : Sale) → IsSaleCase (length auction.seals) auction.width auction.reserve sale
-    → IsPlaced (map seal_lines_of auction.seals) (option_map (λ position. slice_index (seats_of auction) (position - 1)) (position_in sale)) (position_in sale)
+placed_for : (auction : Auction) (sale : Sale)
+    → IsSaleCase (length auction.seals) auction.width auction.reserve sale
+    → IsPlaced (map seal_lines_of auction.seals)
+    (option_map (λ position. slice_index (seats_of auction) (position - 1)) (position_in sale))
+    (position_in sale)
 placed_for auction (Sold position price) is = record {
   some = is.some_position;
   within = omega (arith, is.within_seals, length-map auction.seals seal_lines_of);
@@ -84,16 +94,23 @@ module _ (auction : Auction) (proved : IsProvedAuction auction) where
   unfolding head_of
   price_stands = record {
     reserve_within_width = proved.right.terms.small;
-    price = price_for (head_of auction) (λ position. slice_index (seats_of auction) (position - 1)) (sale_in auction) refl
+    price = price_for (head_of auction) (λ position. slice_index (seats_of auction) (position - 1))
+        (sale_in auction) refl
         (reserve_case auction proved.right (has_seal auction proved)).sale_case;
   }
 
   is_placed : IsPlaced (front_of auction).seals (head_of auction).winner (front_of auction).position
   unfolding head_of
-  is_placed = placed_for auction (sale_in auction) (reserve_case auction proved.right (has_seal auction proved)).sale_case
+  is_placed = placed_for auction (sale_in auction)
+      (reserve_case auction proved.right (has_seal auction proved)).sale_case
 
   pub front_is : IsFront (front_of auction)
-  front_is = record { head = head_is auction proved.right (has_seal auction proved); seals = seals_are auction proved.right; price = price_stands; winner = is_placed }
+  front_is = record {
+    head = head_is auction proved.right (has_seal auction proved);
+    seals = seals_are auction proved.right;
+    price = price_stands;
+    winner = is_placed;
+  }
 
   -- the first values are the bids
   begins_with_bids : take (length auction.seals) (values_of auction) ≡ bids_of auction
@@ -102,8 +119,14 @@ module _ (auction : Auction) (proved : IsProvedAuction auction) where
       let sealed = has_seal auction proved in
       let n = numbers_in auction in
       ap (λ count. take count (values_of auction)) (inputs_are auction proved.right sealed)
-      ∙ of_plans (λ n. BoardClaim n (bids_of auction) → take (board_plan n).inputs (board_values n (bids_of auction)) ≡ bids_of auction)
-      (λ plan. board_begins plan (bids_of auction)) n (case_is auction proved.right sealed) (claim_is auction proved.right sealed)
+      ∙ of_plans (λ n. BoardClaim n (bids_of auction)
+      → take (board_plan n).inputs (board_values n (bids_of auction)) ≡ bids_of auction)
+      (λ plan. board_begins plan (bids_of auction)) n (case_is auction proved.right sealed)
+      (claim_is auction proved.right sealed)
 
   pub sealed : IsSealedProof auction.width (proof_of auction)
-  sealed = record { right = proof_is auction proved; rows = proved.right.held.rows; inputs = begins_with_bids }
+  sealed = record {
+    right = proof_is auction proved;
+    rows = proved.right.held.rows;
+    inputs = begins_with_bids;
+  }

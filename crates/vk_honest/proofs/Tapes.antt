@@ -15,5 +15,8 @@ unfolding drawn_in
 tape_begins proof right lane some within =
     let has = tapes_of_none (source_of proof) right.none_dry lane some within in
     let count = length-map proof.rows (λ row. wire_tape (tape_in row.secret lane)) in
-    let begins = drawn_begins wire_drawing (given_in proof.rows lane) (length proof.plan.kinds - proof.plan.inputs) (word_at proof.seed proof.id lane) has.0 has.1 in
-    ap (λ found. take (length proof.rows) (tape_or_none found)) has.1 ∙ (ap (λ n. take n has.0) (sym count) ∙ begins)
+    let begins = drawn_begins wire_drawing (given_in proof.rows lane)
+    (length proof.plan.kinds - proof.plan.inputs) (word_at proof.seed proof.id lane) has.0 has.1
+    in
+    ap (λ found. take (length proof.rows) (tape_or_none found)) has.1
+    ∙ (ap (λ n. take n has.0) (sym count) ∙ begins)

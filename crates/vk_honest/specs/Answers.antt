@@ -1,4 +1,5 @@
--- What an honest prover answers is accepted: of every proof behind any front, and so of auctions with their boards.
+-- What an honest prover answers is accepted: of every proof behind any front, and so of auctions
+-- with their boards.
 use Rattle.std.specs.Prelude.{◌≡◌, ℕ, All, List, length, map, take}
 use Rattle.vk_board.specs.declared.front.Front.{Front}
 use Rattle.vk_reply.specs.declared.challenge.Challenge.{Challenge}
@@ -17,10 +18,15 @@ use Rattle.vk_job.specs.Published.{IsChallengeTo, board_of, head_of, reply_of}
 
 -- what a proof shows: of its auction, in its lanes, of the seals of its rows, by its circuit
 abbrev pub statement_in : ProofValue → StatementValue
-statement_in proof = record { auction = proof.id; lanes = proof.lanes; seals = map seal_lines_of proof.rows; plan = proof.plan }
+statement_in proof = record {
+  auction = proof.id;
+  lanes = proof.lanes;
+  seals = map seal_lines_of proof.rows;
+  plan = proof.plan;
+}
 
--- the seal of each row is that of its secret, of the proof's auction and lanes, and the sealed numbers, which are below
--- 2^width, are the values of the inputs
+-- the seal of each row is that of its secret, of the proof's auction and lanes, and the sealed
+-- numbers, which are below 2^width, are the values of the inputs
 pub record IsSealedProof (width : ℕ) (proof : ProofValue) : Type 0 where
   pub right : IsProof proof
   pub rows : All (IsSealRow proof.id width proof.lanes) proof.rows
@@ -30,18 +36,27 @@ pub record IsSealedProof (width : ℕ) (proof : ProofValue) : Type 0 where
 abbrev pub ProofsAreAccepted : Type 0
 ProofsAreAccepted = (width : ℕ) (proof : ProofValue) (front : List ℕ) (challenge : Challenge)
     → IsSealedProof width proof → IsChallenge challenge → length challenge.bits ≡ proof.lanes
-    → AcceptsBehind (statement_in proof) front (file_text front (lanes_in proof)) (challenge_text challenge) (reply_in proof challenge.bits)
+    → AcceptsBehind (statement_in proof) front (file_text front (lanes_in proof))
+    (challenge_text challenge) (reply_in proof challenge.bits)
 
 -- ---- of auctions
 
 -- a law of every auction that is proved and every such challenge to it
 abbrev pub WhereChallenged : (Auction → Challenge → Type 0) → Type 0
-WhereChallenged Law = (auction : Auction) (challenge : Challenge) → IsProvedAuction auction → IsChallengeTo auction challenge → Law auction challenge
+WhereChallenged Law = (auction : Auction) (challenge : Challenge)
+    → IsProvedAuction auction → IsChallengeTo auction challenge → Law auction challenge
 
 -- the reply is accepted with the board
 abbrev pub AnswersAreAccepted : Type 0
-AnswersAreAccepted = WhereChallenged (λ auction challenge. Accepts (board_of auction) (challenge_text challenge) (reply_of auction challenge))
+AnswersAreAccepted = WhereChallenged
+    (λ auction challenge. Accepts (board_of auction) (challenge_text challenge)
+    (reply_of auction challenge))
 
--- what stands on the board before its first lane, with the place of the winner's seal where there is one
+-- what stands on the board before its first lane, with the place of the winner's seal where there
+-- is one
 abbrev pub front_of : Auction → Front
-front_of auction = record { head = head_of auction; seals = map seal_lines_of auction.seals; position = position_in (sale_in auction) }
+front_of auction = record {
+  head = head_of auction;
+  seals = map seal_lines_of auction.seals;
+  position = position_in (sale_in auction);
+}

@@ -35,22 +35,30 @@ bids_in_lane auction = rows_in_lane auction.seals
 
 -- the bids of all lanes whose two bits differ, under what the board publishes
 abbrev pub sealed_bids : Auction → Challenge → Challenge → Extracted
-sealed_bids auction first second = record { front = front_of auction; lanes = map (bids_in_lane auction) (differing 1 first.bits second.bits) }
+sealed_bids auction first second =
+    record {
+      front = front_of auction;
+      lanes = map (bids_in_lane auction) (differing 1 first.bits second.bits);
+    }
 
 -- the replies to two challenges that differ give these bids, and no clash
 abbrev pub RepliesGiveBids : Type 0
 RepliesGiveBids =
-    (auction : Auction) (first second : Challenge) → IsProvedAuction auction → IsChallengeTo auction first → IsChallengeTo auction second
+    (auction : Auction) (first second : Challenge) → IsProvedAuction auction
+    → IsChallengeTo auction first → IsChallengeTo auction second
     → first.bits ≢ second.bits
-    → extraction_in (board_of auction) (challenge_text first) (reply_of auction first) (challenge_text second) (reply_of auction second)
+    → extraction_in (board_of auction) (challenge_text first) (reply_of auction first)
+    (challenge_text second) (reply_of auction second)
     ≡ Bids (sealed_bids auction first second)
 
 -- the bids of each seal are equal in all of these lanes
 abbrev pub BidsAreEqual : Type 0
-BidsAreEqual = (auction : Auction) (first second : Challenge) (index : ℕ) → has_one_bid index (sealed_bids auction first second).lanes ≡ true
+BidsAreEqual = (auction : Auction) (first second : Challenge) (index : ℕ)
+    → has_one_bid index (sealed_bids auction first second).lanes ≡ true
 
 -- where each bit is turned the challenges differ, and all lanes are opened
 abbrev pub TurnedOpenAll : Type 0
 TurnedOpenAll =
-    (auction : Auction) (first second : Challenge) → IsChallengeTo auction first → second.bits ≡ map not first.bits
+    (auction : Auction) (first second : Challenge) → IsChallengeTo auction first
+    → second.bits ≡ map not first.bits
     → (first.bits ≢ second.bits) × (length (sealed_bids auction first second).lanes ≡ auction.lanes)

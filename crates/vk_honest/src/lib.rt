@@ -1,5 +1,5 @@
-//! What an honest auctioneer hands out of an auction: it is accepted, whatever the challenge, replies to two
-//! challenges open the bids that were sealed, and no file is too long to be read.
+//! What an honest auctioneer hands out of an auction: it is accepted, whatever the challenge,
+//! replies to two challenges open the bids that were sealed, and no file is too long to be read.
 #![tactic(auto)]
 
 mod laws;

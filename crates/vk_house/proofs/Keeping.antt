@@ -13,33 +13,61 @@ use Rattle.vk_house.specs.Deciding.{IsDecisionOn, KeepsAnew, step_of}
 use Rattle.vk_house.specs.Steps.{Step, step_at, ledger_after, house_step}
 
 -- what is kept stands under the id that was asked for
-under : (id : List ℕ) (kept : Option Auction) (old new : Ledger) → IfSome kept (λ auction. auction.id ≡ id) → KeepsAnew {E = OutsideErr} kept (Ok tt) old new → new ≡ ledger_after old id kept
+under : (id : List ℕ) (kept : Option Auction) (old new : Ledger)
+    → IfSome kept (λ auction. auction.id ≡ id) → KeepsAnew {E = OutsideErr} kept (Ok tt) old new
+    → new ≡ ledger_after old id kept
 under id None old new own keeps = keeps
 under id (Some auction) old new own keeps = keeps ∙ ap (λ i. insert old i auction) own
 
-step_on : (command : HouseCommand) (found kept : Option Auction) (reply : HouseReply) (old new : Ledger) → found ≡ get old (id_of command) → record { reply = reply; kept = kept } ≡ step_at command found → new ≡ ledger_after old (id_of command) kept → house_step old command ≡ (reply, new)
+step_on : (command : HouseCommand) (found kept : Option Auction) (reply : HouseReply)
+    (old new : Ledger) → found ≡ get old (id_of command)
+    → record { reply = reply; kept = kept } ≡ step_at command found
+    → new ≡ ledger_after old (id_of command) kept → house_step old command ≡ (reply, new)
 step_on command found kept reply old new finds decided keeps =
-    let step : step_at command (get old (id_of command)) ≡ record { reply = reply; kept = kept } = ap (step_at command) (sym finds) ∙ sym decided in
-    let shown : ◌≡◌ {A = HouseReply × Ledger} (house_step old command) (reply, ledger_after old (id_of command) kept) = ap (λ (s : Step). (s.reply, ledger_after old (id_of command) s.kept)) step in
+    let step : step_at command (get old (id_of command)) ≡ record { reply = reply; kept = kept } =
+    ap (step_at command) (sym finds) ∙ sym decided in
+    let shown : ◌≡◌ {A = HouseReply × Ledger} (house_step old command)
+    (reply, ledger_after old (id_of command) kept) =
+    ap (λ (s : Step). (s.reply, ledger_after old (id_of command) s.kept)) step in
     shown ∙ ap (λ l. (reply, l)) (sym keeps)
 
-told_step : (command : HouseCommand) (found kept : Option Auction) (reply : HouseReply) (old new : Option Ledger) → IfSome old (λ ledger. found ≡ get ledger (id_of command)) → record { reply = reply; kept = kept } ≡ step_at command found → IfSome kept (λ auction. auction.id ≡ id_of command) → Modelled (KeepsAnew {E = OutsideErr} kept (Ok tt)) old new → Modelled (λ before after. house_step before command ≡ (reply, after)) old new
+told_step : (command : HouseCommand) (found kept : Option Auction) (reply : HouseReply)
+    (old new : Option Ledger) → IfSome old (λ ledger. found ≡ get ledger (id_of command))
+    → record { reply = reply; kept = kept } ≡ step_at command found
+    → IfSome kept (λ auction. auction.id ≡ id_of command)
+    → Modelled (KeepsAnew {E = OutsideErr} kept (Ok tt)) old new
+    → Modelled (λ before after. house_step before command ≡ (reply, after)) old new
 told_step command found kept reply None new finds decided own keeps = keeps
 told_step command found kept reply (Some old) None finds decided own keeps = absurd keeps
 told_step command found kept reply (Some old) (Some new) finds decided own keeps =
-    step_on command found kept reply old new finds decided (under (id_of command) kept old new own keeps)
+    step_on command found kept reply old new finds decided
+    (under (id_of command) kept old new own keeps)
 
 -- the auction was found, nothing changed up to then, and what was decided is kept
-pub step_made : (command : HouseCommand) (found kept : Option Auction) (reply : HouseReply) (old between new : Option Ledger) → IfSome old (λ ledger. found ≡ get ledger (id_of command)) → between ≡ old → record { reply = reply; kept = kept } ≡ step_at command found → IfSome kept (λ auction. auction.id ≡ id_of command) → Modelled (KeepsAnew {E = OutsideErr} kept (Ok tt)) between new → Modelled (λ before after. house_step before command ≡ (reply, after)) old new
+pub step_made : (command : HouseCommand) (found kept : Option Auction) (reply : HouseReply)
+    (old between new : Option Ledger) → IfSome old (λ ledger. found ≡ get ledger (id_of command))
+    → between ≡ old → record { reply = reply; kept = kept } ≡ step_at command found
+    → IfSome kept (λ auction. auction.id ≡ id_of command)
+    → Modelled (KeepsAnew {E = OutsideErr} kept (Ok tt)) between new
+    → Modelled (λ before after. house_step before command ≡ (reply, after)) old new
 step_made command found kept reply old between new finds same decided own keeps =
-    told_step command found kept reply old new finds decided own (subst (λ l. Modelled (KeepsAnew {E = OutsideErr} kept (Ok tt)) l new) same keeps)
+    told_step command found kept reply old new finds decided own
+    (subst (λ l. Modelled (KeepsAnew {E = OutsideErr} kept (Ok tt)) l new) same keeps)
 
 -- what is kept is the auction that was decided on
-own_kept : (id : List ℕ) (auction : Auction) (kept : Option Auction) → auction.id ≡ id → IfSome kept (λ k. k ≡ auction) → IfSome kept (λ k. k.id ≡ id)
+own_kept : (id : List ℕ) (auction : Auction) (kept : Option Auction) → auction.id ≡ id
+    → IfSome kept (λ k. k ≡ auction) → IfSome kept (λ k. k.id ≡ id)
 own_kept id auction None own is = tt
 own_kept id auction (Some kept) own is = ap (λ k. k.id) is ∙ own
 
 -- the same of a decision: its work is answered
-pub work_made : (command : HouseCommand) (found : Option Auction) (decision : Decision) (old between new : Option Ledger) → IfSome old (λ ledger. found ≡ get ledger (id_of command)) → between ≡ old → step_of decision ≡ step_at command found → IfSome found (λ auction. auction.id ≡ id_of command) → IsDecisionOn found decision → Modelled (KeepsAnew {E = OutsideErr} decision.kept (Ok tt)) between new → Modelled (λ before after. house_step before command ≡ (work_of decision.job, after)) old new
+pub work_made : (command : HouseCommand) (found : Option Auction) (decision : Decision)
+    (old between new : Option Ledger) → IfSome old (λ ledger. found ≡ get ledger (id_of command))
+    → between ≡ old → step_of decision ≡ step_at command found
+    → IfSome found (λ auction. auction.id ≡ id_of command) → IsDecisionOn found decision
+    → Modelled (KeepsAnew {E = OutsideErr} decision.kept (Ok tt)) between new
+    → Modelled (λ before after. house_step before command ≡ (work_of decision.job, after)) old new
 work_made command found decision old between new finds same decided own on keeps =
-    step_made command found decision.kept (work_of decision.job) old between new finds same decided (own_kept (id_of command) decision.job.auction decision.kept (on.id (id_of command) own) on.kept) keeps
+    step_made command found decision.kept (work_of decision.job) old between new finds same decided
+    (own_kept (id_of command) decision.job.auction decision.kept (on.id (id_of command) own)
+    on.kept) keeps

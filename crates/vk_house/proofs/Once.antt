@@ -28,7 +28,8 @@ Stays old new = IfSome old (λ auction. KeepsAnswer auction auction.phase new)
 
 -- ---- one auction
 
-stays_by : (held : Auction) (phase : Phase) → let auction = in_phase held phase in KeepsAnswer auction phase (Some auction)
+stays_by : (held : Auction) (phase : Phase) → let auction = in_phase held phase in
+    KeepsAnswer auction phase (Some auction)
 stays_by held Taking = tt
 stays_by held (Proved seed) = record { same = refl; seed = refl }
 stays_by held (Answered seed challenge) = refl
@@ -38,7 +39,9 @@ stays None = tt
 stays (Some auction) = stays_by auction auction.phase
 
 -- a command that isn't refused
-kept_stays : (command : HouseCommand) (held : Auction) (phase : Phase) → let auction = in_phase held phase in refusal_of command (Some auction) ≡ None → KeepsAnswer auction phase (option_or (kept_by command (Some auction)) (Some auction))
+kept_stays : (command : HouseCommand) (held : Auction) (phase : Phase)
+    → let auction = in_phase held phase in refusal_of command (Some auction) ≡ None
+    → KeepsAnswer auction phase (option_or (kept_by command (Some auction)) (Some auction))
 unfolding first_of
 kept_stays (Announce asked w l) held phase passes = cc
 kept_stays (AnnounceReserve asked w l reserve) held phase passes = cc
@@ -53,25 +56,35 @@ kept_stays (Answer asked given) held (Proved seed) passes = record { same = refl
 kept_stays (Answer asked given) held (Answered seed challenge) passes = refl
 kept_stays (Show asked) held phase passes = stays_by held phase
 
-step_stays : (command : HouseCommand) (auction : Auction) (refusal : Option HouseErr) → refusal_of command (Some auction) ≡ refusal → KeepsAnswer auction auction.phase (option_or (step_by refusal command (Some auction) (kept_by command (Some auction))).kept (Some auction))
+step_stays : (command : HouseCommand) (auction : Auction) (refusal : Option HouseErr)
+    → refusal_of command (Some auction) ≡ refusal
+    → KeepsAnswer auction auction.phase
+    (option_or (step_by refusal command (Some auction) (kept_by command (Some auction))).kept
+    (Some auction))
 step_stays command auction (Some refusal) is = stays (Some auction)
 step_stays command auction None is = kept_stays command auction auction.phase is
 
-value_stays : (command : HouseCommand) (found : Option Auction) → Stays found (value_after command found)
+value_stays : (command : HouseCommand) (found : Option Auction)
+    → Stays found (value_after command found)
 unfolding value_after step_at
 value_stays command None = tt
-value_stays command (Some auction) = step_stays command auction (refusal_of command (Some auction)) refl
+value_stays command (Some auction) =
+    step_stays command auction (refusal_of command (Some auction)) refl
 
 -- ---- ledgers
 
-pub call_keeps : (old new : Ledger) (command : HouseCommand) (reply : HouseReply) → HouseCall old command reply new → KeepsAnswers old new
-call_keeps old new command reply = call_each (λ id. Stays) old new command reply (λ id. stays) (value_stays command (get old (id_of command)))
+pub call_keeps : (old new : Ledger) (command : HouseCommand) (reply : HouseReply)
+    → HouseCall old command reply new → KeepsAnswers old new
+call_keeps old new command reply =
+    call_each (λ id. Stays) old new command reply (λ id. stays)
+    (value_stays command (get old (id_of command)))
 
 pub keeps_same : (ledger : Ledger) → KeepsAnswers ledger ledger
 keeps_same ledger id = stays (get ledger id)
 
 -- an auction with that seed later, and one still later
-seed_on : (auction later last : Auction) (kept : List ℕ) → KeepsSeed auction kept later → KeepsSeed later kept last → KeepsSeed auction kept last
+seed_on : (auction later last : Auction) (kept : List ℕ) → KeepsSeed auction kept later
+    → KeepsSeed later kept last → KeepsSeed auction kept last
 seed_on auction later last kept first second = record {
   same = second.same ∙ ap (λ (a : Auction). record a { phase = last.phase }) first.same;
   seed = second.seed;
@@ -80,15 +93,21 @@ seed_on auction later last kept first second = record {
 some_seed : (seed kept : List ℕ) → Some seed ≡ Some kept → seed ≡ kept
 some_seed seed kept is = cc
 
-proved_on : (auction : Auction) (kept : List ℕ) (held : Auction) (phase : Phase) (last : Option Auction) → let later = in_phase held phase in KeepsSeed auction kept later → KeepsAnswer later phase last → IsSomeAnd last (KeepsSeed auction kept)
+proved_on : (auction : Auction) (kept : List ℕ) (held : Auction) (phase : Phase)
+    (last : Option Auction) → let later = in_phase held phase in KeepsSeed auction kept later
+    → KeepsAnswer later phase last → IsSomeAnd last (KeepsSeed auction kept)
 proved_on auction kept held Taking last first second = cc first.seed
 proved_on auction kept held (Proved seed) None first second = absurd second
 proved_on auction kept held (Proved seed) (Some last) first second =
-    seed_on auction (in_phase held (Proved seed)) last kept first (subst (λ s. KeepsSeed (in_phase held (Proved seed)) s last) (some_seed seed kept first.seed) second)
+    seed_on auction (in_phase held (Proved seed)) last kept first
+    (subst (λ s. KeepsSeed (in_phase held (Proved seed)) s last)
+    (some_seed seed kept first.seed) second)
 proved_on auction kept held (Answered seed challenge) last first second =
     subst (λ l. IsSomeAnd l (KeepsSeed auction kept)) (sym second) first
 
-on_by : (held : Auction) (phase : Phase) (between last : Option Auction) → let auction = in_phase held phase in KeepsAnswer auction phase between → Stays between last → KeepsAnswer auction phase last
+on_by : (held : Auction) (phase : Phase) (between last : Option Auction)
+    → let auction = in_phase held phase in KeepsAnswer auction phase between → Stays between last
+    → KeepsAnswer auction phase last
 on_by held Taking between last first second = tt
 on_by held (Proved seed) None last first second = absurd first
 on_by held (Proved seed) (Some later) last first second =
@@ -96,18 +115,23 @@ on_by held (Proved seed) (Some later) last first second =
 on_by held (Answered seed challenge) between last first second =
     subst (λ b. Stays b last) first second
 
-stays_on : (found between last : Option Auction) → Stays found between → Stays between last → Stays found last
+stays_on : (found between last : Option Auction) → Stays found between → Stays between last
+    → Stays found last
 stays_on None between last first second = tt
 stays_on (Some auction) between last first second =
     on_by auction auction.phase between last first second
 
-pub keeps_on : (old between new : Ledger) → KeepsAnswers old between → KeepsAnswers between new → KeepsAnswers old new
-keeps_on old between new first second id = stays_on (get old id) (get between id) (get new id) (first id) (second id)
+pub keeps_on : (old between new : Ledger) → KeepsAnswers old between → KeepsAnswers between new
+    → KeepsAnswers old new
+keeps_on old between new first second id =
+    stays_on (get old id) (get between id) (get new id) (first id) (second id)
 
-pub run_keeps : (events : List Event) (old new : Ledger) → HouseRun events old new → KeepsAnswers old new
+pub run_keeps : (events : List Event) (old new : Ledger) → HouseRun events old new
+    → KeepsAnswers old new
 run_keeps [] old new run = subst (KeepsAnswers old) (sym run) (keeps_same old)
 run_keeps (event ∷ later) old new run =
-    keeps_on old run.0 new (call_keeps old run.0 event.command event.reply run.1) (run_keeps later run.0 new run.2)
+    keeps_on old run.0 new (call_keeps old run.0 event.command event.reply run.1)
+    (run_keeps later run.0 new run.2)
 
 -- ---- once
 
@@ -115,53 +139,81 @@ run_keeps (event ∷ later) old new run =
 abbrev Answers : Challenge → Option Auction → Type 0
 Answers challenge found = IsSomeAnd found (λ auction. challenge_of auction.phase ≡ Some challenge)
 
-stays_answered_by : (challenge : Challenge) (held : Auction) (phase : Phase) (later : Option Auction) → let auction = in_phase held phase in challenge_of phase ≡ Some challenge → KeepsAnswer auction phase later → Answers challenge later
+stays_answered_by : (challenge : Challenge) (held : Auction) (phase : Phase)
+    (later : Option Auction) → let auction = in_phase held phase in
+    challenge_of phase ≡ Some challenge → KeepsAnswer auction phase later → Answers challenge later
 stays_answered_by challenge held Taking later is keeps = cc
 stays_answered_by challenge held (Proved seed) later is keeps = cc
-stays_answered_by challenge held (Answered seed kept) later is keeps = subst (Answers challenge) (sym keeps) is
+stays_answered_by challenge held (Answered seed kept) later is keeps =
+    subst (Answers challenge) (sym keeps) is
 
-stays_answered : (challenge : Challenge) (found later : Option Auction) → Answers challenge found → Stays found later → Answers challenge later
+stays_answered : (challenge : Challenge) (found later : Option Auction) → Answers challenge found
+    → Stays found later → Answers challenge later
 stays_answered challenge None later is keeps = absurd is
 stays_answered challenge (Some auction) later is keeps =
     stays_answered_by challenge auction auction.phase later is keeps
 
-answered_in : (asked : List ℕ) (challenge : Challenge) (held : Auction) (phase : Phase) → let auction = in_phase held phase in refusal_of (Answer asked challenge) (Some auction) ≡ None → Answers challenge (option_or (kept_by (Answer asked challenge) (Some auction)) (Some auction))
+answered_in : (asked : List ℕ) (challenge : Challenge) (held : Auction) (phase : Phase)
+    → let auction = in_phase held phase in refusal_of (Answer asked challenge) (Some auction) ≡ None
+    → Answers challenge (option_or (kept_by (Answer asked challenge) (Some auction)) (Some auction))
 unfolding first_of
 answered_in asked challenge held Taking passes = cc
 answered_in asked challenge held (Proved seed) passes = refl
 answered_in asked challenge held (Answered seed kept) passes =
     let auction = in_phase held (Answered seed kept) in
     let tests = none_holds (refusals_of (Answer asked challenge) (Some auction)) passes in
-    ap (λ bits. Some (challenge_with bits)) (kept_same challenge.bits kept.bits (nothing_there _ (other_than challenge (Some kept)) tests.1.1.1.0))
+    ap (λ bits. Some (challenge_with bits))
+    (kept_same challenge.bits kept.bits
+    (nothing_there _ (other_than challenge (Some kept)) tests.1.1.1.0))
 
-work_answers : (asked : List ℕ) (challenge : Challenge) (found : Option Auction) (refusal : Option HouseErr) (auction : Auction) (sale : Sale) → refusal_of (Answer asked challenge) found ≡ refusal → (step_by refusal (Answer asked challenge) found (kept_by (Answer asked challenge) found)).reply ≡ Work auction sale → Answers challenge (option_or (step_by refusal (Answer asked challenge) found (kept_by (Answer asked challenge) found)).kept found)
+work_answers : (asked : List ℕ) (challenge : Challenge) (found : Option Auction)
+    (refusal : Option HouseErr) (auction : Auction) (sale : Sale)
+    → refusal_of (Answer asked challenge) found ≡ refusal
+    → (step_by refusal (Answer asked challenge) found
+    (kept_by (Answer asked challenge) found)).reply ≡ Work auction sale
+    → Answers challenge (option_or
+    (step_by refusal (Answer asked challenge) found (kept_by (Answer asked challenge) found)).kept
+    found)
 work_answers asked challenge found (Some refusal) auction sale is works = cc
 work_answers asked challenge None None auction sale is works = cc
 work_answers asked challenge (Some found) None auction sale is works =
     answered_in asked challenge found found.phase is
 
-value_answers : (asked : List ℕ) (challenge : Challenge) (found : Option Auction) (auction : Auction) (sale : Sale) → (step_at (Answer asked challenge) found).reply ≡ Work auction sale → Answers challenge (value_after (Answer asked challenge) found)
+value_answers : (asked : List ℕ) (challenge : Challenge) (found : Option Auction)
+    (auction : Auction) (sale : Sale)
+    → (step_at (Answer asked challenge) found).reply ≡ Work auction sale
+    → Answers challenge (value_after (Answer asked challenge) found)
 unfolding value_after step_at
 value_answers asked challenge found auction sale works =
-    work_answers asked challenge found (refusal_of (Answer asked challenge) found) auction sale refl works
+    work_answers asked challenge found (refusal_of (Answer asked challenge) found) auction sale refl
+    works
 
-call_answers : (old new : Ledger) (id : List ℕ) (challenge : Challenge) (auction : Auction) (sale : Sale) → HouseCall old (Answer id challenge) (Work auction sale) new → Answers challenge (get new id)
+call_answers : (old new : Ledger) (id : List ℕ) (challenge : Challenge) (auction : Auction)
+    (sale : Sale) → HouseCall old (Answer id challenge) (Work auction sale) new
+    → Answers challenge (get new id)
 call_answers old new id challenge auction sale is =
     subst (Answers challenge) (sym (step_here old new (Answer id challenge) (Work auction sale) is))
-    (value_answers id challenge (get old id) auction sale (step_reply old new (Answer id challenge) (Work auction sale) is))
+    (value_answers id challenge (get old id) auction sale
+    (step_reply old new (Answer id challenge) (Work auction sale) is))
 
-run_answers : (events : List Event) (old new : Ledger) (id : List ℕ) (challenge : Challenge) → HouseRun events old new → IsAnswered id events challenge → Answers challenge (get new id)
+run_answers : (events : List Event) (old new : Ledger) (id : List ℕ) (challenge : Challenge)
+    → HouseRun events old new → IsAnswered id events challenge → Answers challenge (get new id)
 run_answers [] old new id challenge run (auction, sale, (k, below, at)) = absurd (omega arith)
 run_answers (event ∷ later) old new id challenge run (auction, sale, (zero, below, at)) =
     let call = subst (λ (e : Event). HouseCall old e.command e.reply run.0) at run.1 in
-    stays_answered challenge (get run.0 id) (get new id) (call_answers old run.0 id challenge auction sale call) (run_keeps later run.0 new run.2 id)
+    stays_answered challenge (get run.0 id) (get new id)
+    (call_answers old run.0 id challenge auction sale call) (run_keeps later run.0 new run.2 id)
 run_answers (event ∷ later) old new id challenge run (auction, sale, (suc k, below, at)) =
     run_answers later run.0 new id challenge run.2 (auction, sale, (k, omega arith, at))
 
-one_answer : (first second : Challenge) (found : Option Auction) → Answers first found → Answers second found → first ≡ second
+one_answer : (first second : Challenge) (found : Option Auction) → Answers first found
+    → Answers second found → first ≡ second
 one_answer first second None one other = absurd one
 one_answer first second (Some auction) one other = cc (one, other)
 
-pub answered_once : (events : List Event) (old new : Ledger) (id : List ℕ) (first second : Challenge) → HouseRun events old new → IsAnswered id events first → IsAnswered id events second → first ≡ second
+pub answered_once : (events : List Event) (old new : Ledger) (id : List ℕ)
+    (first second : Challenge) → HouseRun events old new → IsAnswered id events first
+    → IsAnswered id events second → first ≡ second
 answered_once events old new id first second run one other =
-    one_answer first second (get new id) (run_answers events old new id first run one) (run_answers events old new id second run other)
+    one_answer first second (get new id) (run_answers events old new id first run one)
+    (run_answers events old new id second run other)

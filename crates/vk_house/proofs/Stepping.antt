@@ -16,23 +16,34 @@ use Rattle.vk_house.specs.Steps.{step_at, ledger_after, house_step, HouseCall}
 
 -- ---- a ledger at an id
 
-pub same_or_other : (id other : List ℕ) → (id ≡ other) ⊎ ((id ≢ other) × (bytes_eq id other ≡ false))
+pub same_or_other : (id other : List ℕ)
+    → (id ≡ other) ⊎ ((id ≢ other) × (bytes_eq id other ≡ false))
 same_or_other id other =
-    elim (bytes_eq id other) as (λ b. bytes_eq id other ≡ b → (id ≡ other) ⊎ ((id ≢ other) × (bytes_eq id other ≡ false))) [
+    elim (bytes_eq id other) as
+    (λ b. bytes_eq id other ≡ b → (id ≡ other) ⊎ ((id ≢ other) × (bytes_eq id other ≡ false))) [
       | true ↦ λ equal. inl ((bytes_eq-Decides id other).0 equal)
-      | false ↦ λ differ. inr ((λ same. true≢false (sym ((bytes_eq-Decides id other).1 same) ∙ differ)), differ)
+      | false ↦ λ differ. inr (
+        (λ same.
+            true≢false (sym ((bytes_eq-Decides id other).1 same) ∙ differ)),
+        differ,
+      )
     ] refl
 
-pub get_after : (ledger : Ledger) (id asked : List ℕ) (auction : Auction) → get (insert ledger id auction) asked ≡ cond (bytes_eq asked id) (Some auction) (get ledger asked)
+pub get_after : (ledger : Ledger) (id asked : List ℕ) (auction : Auction)
+    → get (insert ledger id auction) asked
+    ≡ cond (bytes_eq asked id) (Some auction) (get ledger asked)
 get_after ledger id asked auction =
     get-insert nat_list_cmp_total ledger id auction asked
     ∙ ap (λ b. cond b (Some auction) (get ledger asked)) (is_eq-slice_cmp asked id)
 
-pub get_here : (ledger : Ledger) (id : List ℕ) (auction : Auction) → get (insert ledger id auction) id ≡ Some auction
+pub get_here : (ledger : Ledger) (id : List ℕ) (auction : Auction)
+    → get (insert ledger id auction) id ≡ Some auction
 get_here ledger id auction =
-    get_after ledger id id auction ∙ ap (λ b. cond b (Some auction) (get ledger id)) ((bytes_eq-Decides id id).1 refl)
+    get_after ledger id id auction
+    ∙ ap (λ b. cond b (Some auction) (get ledger id)) ((bytes_eq-Decides id id).1 refl)
 
-pub here_after : (ledger : Ledger) (id : List ℕ) (kept : Option Auction) → get (ledger_after ledger id kept) id ≡ option_or kept (get ledger id)
+pub here_after : (ledger : Ledger) (id : List ℕ) (kept : Option Auction)
+    → get (ledger_after ledger id kept) id ≡ option_or kept (get ledger id)
 here_after ledger id None = refl
 here_after ledger id (Some auction) = get_here ledger id auction
 
@@ -40,21 +51,27 @@ other_test : (id other : List ℕ) → id ≢ other → bytes_eq id other ≡ fa
 other_test id other differ =
     elim (same_or_other id other) [ inl same ↦ absurd (differ same) | inr tests ↦ tests.1 ]
 
-pub others_after : (ledger : Ledger) (id other : List ℕ) (kept : Option Auction) → other ≢ id → get (ledger_after ledger id kept) other ≡ get ledger other
+pub others_after : (ledger : Ledger) (id other : List ℕ) (kept : Option Auction) → other ≢ id
+    → get (ledger_after ledger id kept) other ≡ get ledger other
 others_after ledger id other None differ = refl
 others_after ledger id other (Some auction) differ =
-    get_after ledger id other auction ∙ ap (λ b. cond b (Some auction) (get ledger other)) (other_test other id differ)
+    get_after ledger id other auction
+    ∙ ap (λ b. cond b (Some auction) (get ledger other)) (other_test other id differ)
 
 -- ---- a call
 
 -- a call is the step, or leaves the ledger
-pub call_cases : (old new : Ledger) (command : HouseCommand) (reply : HouseReply) → HouseCall old command reply new → (house_step old command ≡ (reply, new)) ⊎ (new ≡ old)
+pub call_cases : (old new : Ledger) (command : HouseCommand) (reply : HouseReply)
+    → HouseCall old command reply new → (house_step old command ≡ (reply, new)) ⊎ (new ≡ old)
 call_cases old new command (Refused KeeperFailed) call = inr call
 call_cases old new command (Refused NoMemory) call = inr call
 call_cases old new command reply call = inl call
 
 -- a call between other ledgers, where the step and the ledger that is left are
-pub call_moved : (old new other later : Ledger) (command : HouseCommand) (reply : HouseReply) → (house_step old command ≡ (reply, new) → house_step other command ≡ (reply, later)) → (new ≡ old → later ≡ other) → HouseCall old command reply new → HouseCall other command reply later
+pub call_moved : (old new other later : Ledger) (command : HouseCommand) (reply : HouseReply)
+    → (house_step old command ≡ (reply, new) → house_step other command ≡ (reply, later))
+    → (new ≡ old → later ≡ other) → HouseCall old command reply new
+    → HouseCall other command reply later
 call_moved old new other later command (Refused KeeperFailed) steps stays call = stays call
 call_moved old new other later command (Refused NoMemory) steps stays call = stays call
 call_moved old new other later command reply steps stays call = steps call
@@ -64,30 +81,52 @@ unfoldable pub value_after : HouseCommand → Option Auction → Option Auction
 value_after command found = option_or (step_at command found).kept found
 
 -- what a step leaves under its own id, and under another
-pub step_here : (old new : Ledger) (command : HouseCommand) (reply : HouseReply) → house_step old command ≡ (reply, new) → get new (id_of command) ≡ value_after command (get old (id_of command))
+pub step_here : (old new : Ledger) (command : HouseCommand) (reply : HouseReply)
+    → house_step old command ≡ (reply, new)
+    → get new (id_of command) ≡ value_after command (get old (id_of command))
 unfolding value_after
 step_here old new command reply is =
     ap (λ (r : HouseReply × Ledger). get r.1 (id_of command)) (sym is)
     ∙ here_after old (id_of command) (step_at command (get old (id_of command))).kept
 
-pub step_reply : (old new : Ledger) (command : HouseCommand) (reply : HouseReply) → house_step old command ≡ (reply, new) → (step_at command (get old (id_of command))).reply ≡ reply
+pub step_reply : (old new : Ledger) (command : HouseCommand) (reply : HouseReply)
+    → house_step old command ≡ (reply, new)
+    → (step_at command (get old (id_of command))).reply ≡ reply
 step_reply old new command reply is = ap (λ (r : HouseReply × Ledger). r.0) is
 
-pub call_others : (old new : Ledger) (command : HouseCommand) (reply : HouseReply) (id : List ℕ) → HouseCall old command reply new → id ≢ id_of command → get new id ≡ get old id
+pub call_others : (old new : Ledger) (command : HouseCommand) (reply : HouseReply) (id : List ℕ)
+    → HouseCall old command reply new → id ≢ id_of command → get new id ≡ get old id
 call_others old new command reply id call differ =
     elim (call_cases old new command reply call) [
-      | inl is ↦ ap (λ (r : HouseReply × Ledger). get r.1 id) (sym is) ∙ others_after old (id_of command) id (step_at command (get old (id_of command))).kept differ
+      | inl is ↦ ap (λ (r : HouseReply × Ledger). get r.1 id) (sym is)
+          ∙ others_after old (id_of command) id (step_at command (get old (id_of command))).kept
+          differ
       | inr same ↦ ap (λ l. get l id) same
     ]
 
-step_each : (P : List ℕ → Option Auction → Option Auction → Type 0) (old new : Ledger) (command : HouseCommand) (reply : HouseReply) → ((id : List ℕ) (found : Option Auction) → P id found found) → P (id_of command) (get old (id_of command)) (value_after command (get old (id_of command))) → house_step old command ≡ (reply, new) → (id : List ℕ) → (id ≡ id_of command) ⊎ ((id ≢ id_of command) × (bytes_eq id (id_of command) ≡ false)) → P id (get old id) (get new id)
+step_each : (P : List ℕ → Option Auction → Option Auction → Type 0) (old new : Ledger)
+    (command : HouseCommand) (reply : HouseReply)
+    → ((id : List ℕ) (found : Option Auction) → P id found found)
+    → P (id_of command) (get old (id_of command)) (value_after command (get old (id_of command)))
+    → house_step old command ≡ (reply, new) → (id : List ℕ) → (id ≡ id_of command)
+    ⊎ ((id ≢ id_of command) × (bytes_eq id (id_of command) ≡ false))
+    → P id (get old id) (get new id)
 step_each P old new command reply same own is id (inl its) =
-    subst (λ i. P i (get old i) (get new i)) (sym its) (subst (P (id_of command) (get old (id_of command))) (sym (step_here old new command reply is)) own)
+    subst (λ i. P i (get old i) (get new i)) (sym its)
+    (subst (P (id_of command) (get old (id_of command)))
+    (sym (step_here old new command reply is)) own)
 step_each P old new command reply same own is id (inr differ) =
-    subst (P id (get old id)) (sym (ap (λ (r : HouseReply × Ledger). get r.1 id) (sym is) ∙ others_after old (id_of command) id (step_at command (get old (id_of command))).kept differ.0)) (same id (get old id))
+    subst (P id (get old id)) (sym
+    (ap (λ (r : HouseReply × Ledger). get r.1 id) (sym is)
+    ∙ others_after old (id_of command) id (step_at command (get old (id_of command))).kept
+    differ.0)) (same id (get old id))
 
 -- what a call makes of each id, by what a step makes of its own
-pub call_each : (P : List ℕ → Option Auction → Option Auction → Type 0) (old new : Ledger) (command : HouseCommand) (reply : HouseReply) → ((id : List ℕ) (found : Option Auction) → P id found found) → P (id_of command) (get old (id_of command)) (value_after command (get old (id_of command))) → HouseCall old command reply new → (id : List ℕ) → P id (get old id) (get new id)
+pub call_each : (P : List ℕ → Option Auction → Option Auction → Type 0) (old new : Ledger)
+    (command : HouseCommand) (reply : HouseReply)
+    → ((id : List ℕ) (found : Option Auction) → P id found found)
+    → P (id_of command) (get old (id_of command)) (value_after command (get old (id_of command)))
+    → HouseCall old command reply new → (id : List ℕ) → P id (get old id) (get new id)
 call_each P old new command reply same own call id =
     elim (call_cases old new command reply call) [
       | inl is ↦ step_each P old new command reply same own is id (same_or_other id (id_of command))
@@ -96,10 +135,15 @@ call_each P old new command reply same own call id =
 
 -- ---- the first law
 
-pub same_reply : (one other : Ledger) (command : HouseCommand) → get one (id_of command) ≡ get other (id_of command) → (house_step one command).0 ≡ (house_step other command).0
+pub same_reply : (one other : Ledger) (command : HouseCommand)
+    → get one (id_of command) ≡ get other (id_of command)
+    → (house_step one command).0 ≡ (house_step other command).0
 same_reply one other command same = ap (λ found. (step_at command found).reply) same
 
-pub same_value : (one other : Ledger) (command : HouseCommand) → get one (id_of command) ≡ get other (id_of command) → get (house_step one command).1 (id_of command) ≡ get (house_step other command).1 (id_of command)
+pub same_value : (one other : Ledger) (command : HouseCommand)
+    → get one (id_of command) ≡ get other (id_of command)
+    → get (house_step one command).1 (id_of command)
+    ≡ get (house_step other command).1 (id_of command)
 same_value one other command same =
     let id = id_of command in
     here_after one id (step_at command (get one id)).kept

@@ -28,13 +28,15 @@ work_of job = Work job.auction job.sale
 
 -- the ledger, where it is modelled, makes this call
 abbrev pub MakesCall : HouseCommand → HouseReply → Option Ledger → Option Ledger → Type 0
-MakesCall command reply old new = Modelled (λ before after. HouseCall before command reply after) old new
+MakesCall command reply old new =
+    Modelled (λ before after. HouseCall before command reply after) old new
 
--- over a keeper that isn't modelled: the reply is that of the step on some auction that may stand under the id, or on
--- none there
+-- over a keeper that isn't modelled: the reply is that of the step on some auction that may stand
+-- under the id, or on none there
 abbrev pub StepsSomewhere : HouseCommand → HouseReply → Type 0
 StepsSomewhere command reply =
-    (found : Option Auction) × IfSome found (IsKeptUnder (id_of command)) × ((step_at command found).reply ≡ reply)
+    (found : Option Auction) × IfSome found (IsKeptUnder (id_of command))
+    × ((step_at command found).reply ≡ reply)
 
 abbrev pub MayReply : HouseCommand → HouseReply → Type 0
 MayReply command (Refused house.KeeperFailed) = Unit {0}

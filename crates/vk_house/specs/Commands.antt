@@ -8,8 +8,8 @@ use Rattle.vk_seal.specs.declared.secret.Secret.{Secret}
 use Rattle.vk_seal.specs.declared.secret.Seal.{Seal}
 use Rattle.vk_seal.specs.Values.{IsSeal, IsSecret}
 
--- one auction is begun, without a reserve or with one, is handed a seal with its secret, is proved with a seed, answers a
--- challenge, or is shown
+-- one auction is begun, without a reserve or with one, is handed a seal with its secret, is proved
+-- with a seed, answers a challenge, or is shown
 pub data HouseCommand : Type 0 where
   Announce : (id : List ℕ) (width lanes : ℕ) → HouseCommand
   AnnounceReserve : (id : List ℕ) (width lanes reserve : ℕ) → HouseCommand
@@ -32,11 +32,12 @@ id_of (Prove id seed) = id
 id_of (Answer id challenge) = id
 id_of (Show id) = id
 
--- what a house may be asked: ids have 16 bytes and seeds 32, a reserve is below 2^width, and seals, secrets and
--- challenges are such
+-- what a house may be asked: ids have 16 bytes and seeds 32, a reserve is below 2^width, and seals,
+-- secrets and challenges are such
 abbrev pub IsHouseCommand : HouseCommand → Type 0
 IsHouseCommand (Announce id width lanes) = AreBytes 16 id × IsSize width lanes
-IsHouseCommand (AnnounceReserve id width lanes reserve) = AreBytes 16 id × IsSize width lanes × (reserve < 2 ^ width)
+IsHouseCommand (AnnounceReserve id width lanes reserve) = AreBytes 16 id × IsSize width lanes
+    × (reserve < 2 ^ width)
 IsHouseCommand (Submit id seal secret) = AreBytes 16 id × IsSeal seal × IsSecret secret
 IsHouseCommand (Prove id seed) = AreBytes 16 id × AreBytes 32 seed
 IsHouseCommand (Answer id challenge) = AreBytes 16 id × IsChallenge challenge

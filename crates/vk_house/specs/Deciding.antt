@@ -53,7 +53,8 @@ work_step auction phase =
     let later = phased auction phase in
     worked (own_dry later) later (option_map (in_phase auction) phase)
 
--- a decision on what was found: it is on that auction, and what is kept anew is the auction that is answered of
+-- a decision on what was found: it is on that auction, and what is kept anew is the auction that is
+-- answered of
 pub record IsDecisionOn (found : Option Auction) (decision : Decision) : Type 0 where
   pub id : (id : List ℕ) → IfSome found (λ auction. auction.id ≡ id) → decision.job.auction.id ≡ id
   pub kept : IfSome decision.kept (λ auction. auction ≡ decision.job.auction)

@@ -1,4 +1,5 @@
--- The house from before auctions had a version and a reserve: the same table, over what was kept then.
+-- The house from before auctions had a version and a reserve: the same table, over what was kept
+-- then.
 use Rattle.std.specs.Prelude.{ℕ, List, [], ◌∷◌, ◌++◌, length, map, Option, None}
 use Rattle.vk_vickrey.specs.declared.outcomes.VickreyOutcome.{VickreyOutcome}
 use Rattle.vk_vickrey.specs.declared.sales.Sale.{Sale}
@@ -36,7 +37,8 @@ first_proof first seed =
       lanes = first.lanes;
       seed = seed;
       plan = vickrey_plan (length first.seals) first.width outcome.position outcome.price;
-      values = honest_values (length first.seals) first.width outcome.position outcome.price (first_bids first);
+      values = honest_values (length first.seals) first.width outcome.position outcome.price
+          (first_bids first);
     }
 
 -- how it stood
@@ -51,7 +53,13 @@ pub record FirstStanding : Type 0 where
 -- the former house, which knew no reserve
 abbrev pub first_auctions : shaped.HouseShape FirstAuction VickreyOutcome FirstStanding
 first_auctions = record {
-  opened = λ id width lanes. record { id = id; width = width; lanes = lanes; phase = Taking; seals = [] };
+  opened = λ id width lanes. record {
+    id = id;
+    width = width;
+    lanes = lanes;
+    phase = Taking;
+    seals = [];
+  };
   reserved = λ id width lanes reserve. None;
   lanes = λ first. first.lanes;
   phase = λ first. first.phase;
@@ -62,7 +70,12 @@ first_auctions = record {
   dry = λ first seed. first_dry_in (source_of (first_proof first seed));
   sale = first_outcome;
   standing = λ first.
-      record { width = first.width; lanes = first.lanes; seals = length first.seals; phase = phase_name first.phase };
+      record {
+        width = first.width;
+        lanes = first.lanes;
+        seals = length first.seals;
+        phase = phase_name first.phase;
+      };
 }
 
 -- what it replied, and its step
@@ -92,7 +105,13 @@ lifted_outcome outcome = Sold outcome.position outcome.price
 -- no reserve was named
 abbrev pub lifted_standing : FirstStanding → Standing
 lifted_standing standing =
-    record { width = standing.width; lanes = standing.lanes; seals = standing.seals; phase = standing.phase; reserve = None }
+    record {
+      width = standing.width;
+      lanes = standing.lanes;
+      seals = standing.seals;
+      phase = standing.phase;
+      reserve = None;
+    }
 
 abbrev pub lifted_reply : FirstReply → HouseReply
 lifted_reply Done = Done

@@ -18,9 +18,8 @@ pub record KeepsSeed (auction : Auction) (kept : List ℕ) (later : Auction) : T
   pub same : later ≡ record auction { phase = later.phase }
   pub seed : seed_of later.phase ≡ Some kept
 
--- what may stand later under the id of an auction: once it is proved, an auction on the same terms, with the same seals
--- and seed;
--- once it is answered, that auction
+-- what may stand later under the id of an auction: once it is proved, an auction on the same terms,
+-- with the same seals and seed; once it is answered, that auction
 abbrev pub KeepsAnswer : Auction → Phase → Option Auction → Type 0
 KeepsAnswer auction Taking later = Unit {0}
 KeepsAnswer auction (Proved seed) later = IsSomeAnd later (KeepsSeed auction seed)
@@ -28,12 +27,14 @@ KeepsAnswer auction (Answered seed challenge) later = later ≡ Some auction
 
 -- no auction that is proved or answered is another one later
 abbrev pub KeepsAnswers : Ledger → Ledger → Type 0
-KeepsAnswers old new = (id : List ℕ) → IfSome (get old id) (λ auction. KeepsAnswer auction auction.phase (get new id))
+KeepsAnswers old new = (id : List ℕ)
+    → IfSome (get old id) (λ auction. KeepsAnswer auction auction.phase (get new id))
 
 -- the challenge was answered for the auction of that id
 abbrev pub IsAnswered : List ℕ → List Event → Challenge → Type 0
 IsAnswered id events challenge =
-    (auction : Auction) × (sale : Sale) × Contains events (record { command = Answer id challenge; reply = Work auction sale })
+    (auction : Auction) × (sale : Sale)
+    × Contains events (record { command = Answer id challenge; reply = Work auction sale })
 
 -- ---- seeds
 

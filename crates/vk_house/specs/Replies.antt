@@ -16,7 +16,15 @@ pub use Rattle.vk_house.specs.Shaped.{Done, Position, Work, Stands, Refused}
 -- an auction that takes seals and has none, of that version and with that reserve
 abbrev pub new_auction : (version : ℕ) (id : List ℕ) (width lanes reserve : ℕ) → Auction
 new_auction version id width lanes reserve =
-    record { id = id; version = version; width = width; lanes = lanes; reserve = reserve; phase = Taking; seals = [] }
+    record {
+      id = id;
+      version = version;
+      width = width;
+      lanes = lanes;
+      reserve = reserve;
+      phase = Taking;
+      seals = [];
+    }
 
 -- the same auction in that phase
 abbrev pub in_phase : Auction → Phase → Auction

@@ -17,7 +17,8 @@ pub record Event : Type 0 where
 abbrev pub HouseRun : List Event → Ledger → Ledger → Type 0
 HouseRun [] old new = new ≡ old
 HouseRun (event ∷ later) old new =
-    (between : Ledger) × HouseCall old event.command event.reply between × HouseRun later between new
+    (between : Ledger) × HouseCall old event.command event.reply between
+    × HouseRun later between new
 
 -- ---- one auction alone
 

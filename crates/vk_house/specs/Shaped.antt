@@ -1,5 +1,6 @@
--- What a house does, whatever it keeps of an auction: its table of tests, its replies and its step. The house of today is
--- one such, and so is the one from before auctions had a version and a reserve.
+-- What a house does, whatever it keeps of an auction: its table of tests, its replies and its step.
+-- The house of today is one such, and so is the one from before auctions had a version and a
+-- reserve.
 use Rattle.std.specs.Prelude.{ℕ, List, [], ◌∷◌, length, Option, Some, None, option_map, option_and_then, unwrap_or}
 use Rattle.std.specs.Option.{option_or}
 use Rattle.std.specs.Ordering.{nat_cmp}
@@ -20,7 +21,8 @@ use Rattle.vk_house.specs.declared.errors.HouseErr.TheVariants.{Unknown}
 use Rattle.vk_house.specs.Commands.{HouseCommand, Announce, AnnounceReserve, Submit, Prove, Answer, Show, id_of}
 use Rattle.vk_house.specs.Tests.{known, unknown, not_taking, still_taking, house_err_of, other_length, no_seals, other_seed, other_challenge, dry_seed}
 
--- what it keeps of an auction (A): how that begins, what is read of it and made of it, its sale (S) and how it stands (T)
+-- what it keeps of an auction (A): how that begins, what is read of it and made of it, its sale (S)
+-- and how it stands (T)
 pub record HouseShape (A S T : Type 0) : Type 0 where
   pub opened : (id : List ℕ) (width lanes : ℕ) → A
   -- with a reserve, if the house knows any
@@ -36,8 +38,8 @@ pub record HouseShape (A S T : Type 0) : Type 0 where
   pub sale : A → S
   pub standing : A → T
 
--- that it is done; the position of a seal, from 1; an auction with its sale, to publish or to reply from; how an auction
--- stands; or a refusal
+-- that it is done; the position of a seal, from 1; an auction with its sale, to publish or to reply
+-- from; how an auction stands; or a refusal
 pub data Reply (A S T : Type 0) : Type 0 where
   Done : Reply A S T
   Position : (position : ℕ) → Reply A S T
@@ -62,7 +64,8 @@ phase_answered challenge (Proved seed) = Some (Answered seed challenge)
 phase_answered challenge (Answered seed kept) = None
 
 -- the ledger after a step: all other ids stay
-abbrev pub ledger_after : {A : Type 0} → FinMap (slice_cmp nat_cmp) A → List ℕ → Option A → FinMap (slice_cmp nat_cmp) A
+abbrev pub ledger_after : {A : Type 0} → FinMap (slice_cmp nat_cmp) A → List ℕ → Option A
+    → FinMap (slice_cmp nat_cmp) A
 ledger_after ledger id None = ledger
 ledger_after ledger id (Some auction) = insert ledger id auction
 
@@ -81,7 +84,8 @@ module _ {A S T : Type 0} (shape : HouseShape A S T) where
   refusals_of (Submit id seal secret) found =
       unknown found
       ∷ option_and_then (λ auction. not_taking (shape.phase auction)) found
-      ∷ option_and_then (λ auction. option_map house_err_of (shape.may_not_join auction seal secret)) found
+      ∷ option_and_then (λ auction. option_map house_err_of
+      (shape.may_not_join auction seal secret)) found
       ∷ []
   refusals_of (Prove id seed) found =
       unknown found
@@ -94,7 +98,8 @@ module _ {A S T : Type 0} (shape : HouseShape A S T) where
       ∷ option_and_then (λ auction. still_taking (shape.phase auction)) found
       ∷ option_and_then (λ auction. other_length challenge (shape.lanes auction)) found
       ∷ option_and_then (λ auction. other_challenge challenge (shape.phase auction)) found
-      ∷ option_and_then (λ auction. dry_seed (shape.dry auction (unwrap_or (seed_of (shape.phase auction)) []))) found
+      ∷ option_and_then (λ auction.
+      dry_seed (shape.dry auction (unwrap_or (seed_of (shape.phase auction)) []))) found
       ∷ []
   refusals_of (Show id) found =
       unknown found
@@ -108,15 +113,19 @@ module _ {A S T : Type 0} (shape : HouseShape A S T) where
   abbrev pub kept_by : HouseCommand → Option A → Option A
   kept_by (Announce id width lanes) found = Some (shape.opened id width lanes)
   kept_by (AnnounceReserve id width lanes reserve) found = shape.reserved id width lanes reserve
-  kept_by (Submit id seal secret) found = option_map (λ auction. shape.with_last auction (record { seal = seal; secret = secret })) found
+  kept_by (Submit id seal secret) found =
+      option_map (λ auction. shape.with_last auction (record { seal = seal; secret = secret }))
+      found
   kept_by (Prove id seed) None = None
-  kept_by (Prove id seed) (Some auction) = option_map (shape.in_phase auction) (phase_proved seed (shape.phase auction))
+  kept_by (Prove id seed) (Some auction) =
+      option_map (shape.in_phase auction) (phase_proved seed (shape.phase auction))
   kept_by (Answer id challenge) None = None
-  kept_by (Answer id challenge) (Some auction) = option_map (shape.in_phase auction) (phase_answered challenge (shape.phase auction))
+  kept_by (Answer id challenge) (Some auction) =
+      option_map (shape.in_phase auction) (phase_answered challenge (shape.phase auction))
   kept_by (Show id) found = None
 
-  -- the reply to a command that isn't refused, by what then stands under the id; a command that is not an announcement
-  -- finds an auction there
+  -- the reply to a command that isn't refused, by what then stands under the id; a command that is
+  -- not an announcement finds an auction there
   abbrev pub reply_to : HouseCommand → Option A → Reply A S T
   reply_to command None = Refused Unknown
   reply_to (Announce id width lanes) (Some auction) = Done
@@ -129,7 +138,8 @@ module _ {A S T : Type 0} (shape : HouseShape A S T) where
   -- a command that is refused, or that keeps this
   abbrev pub step_by : Option HouseErr → HouseCommand → Option A → Option A → Step A S T
   step_by (Some refusal) command found kept = refused refusal
-  step_by None command found kept = record { reply = reply_to command (option_or kept found); kept = kept }
+  step_by None command found kept =
+      record { reply = reply_to command (option_or kept found); kept = kept }
 
   -- the step of a command by what stands under its id
   abbrev pub step_at : HouseCommand → Option A → Step A S T
@@ -138,13 +148,15 @@ module _ {A S T : Type 0} (shape : HouseShape A S T) where
 -- ---- on a ledger
 
 -- a step by what stands under the id of the command
-abbrev pub stepped : {A S T : Type 0} → (HouseCommand → Option A → Step A S T) → FinMap (slice_cmp nat_cmp) A → HouseCommand → Reply A S T × FinMap (slice_cmp nat_cmp) A
+abbrev pub stepped : {A S T : Type 0} → (HouseCommand → Option A → Step A S T)
+    → FinMap (slice_cmp nat_cmp) A → HouseCommand → Reply A S T × FinMap (slice_cmp nat_cmp) A
 stepped step_at ledger command =
     let step = step_at command (get ledger (id_of command)) in
     (step.reply, ledger_after ledger (id_of command) step.kept)
 
 -- the replies to commands one after another, and the last ledger
-abbrev pub stepped_all : {L R : Type 0} → (L → HouseCommand → R × L) → L → List HouseCommand → List R × L
+abbrev pub stepped_all : {L R : Type 0} → (L → HouseCommand → R × L) → L → List HouseCommand
+    → List R × L
 stepped_all step ledger [] = ([], ledger)
 stepped_all step ledger (command ∷ later) =
     let here = step ledger command in

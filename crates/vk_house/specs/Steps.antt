@@ -40,8 +40,8 @@ house_steps = shaped.stepped_all house_step
 
 -- ---- a call
 
--- a call of the house: where the keeper fails or memory is wanting nothing changed, and every other call is the step
--- of its command
+-- a call of the house: where the keeper fails or memory is wanting nothing changed, and every other
+-- call is the step of its command
 abbrev pub HouseCall : Ledger → HouseCommand → HouseReply → Ledger → Type 0
 HouseCall old command (Refused KeeperFailed) new = new ≡ old
 HouseCall old command (Refused NoMemory) new = new ≡ old

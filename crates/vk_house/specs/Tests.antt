@@ -55,13 +55,16 @@ no_seals seals = then_some (length seals == 0) house.NoSeals
 
 -- another seed, or another challenge, is kept than the given one
 abbrev pub other_seed : List ℕ → Phase → Option HouseErr
-other_seed seed phase = option_and_then (λ kept. then_some (not (bytes_eq kept seed)) (house.OtherSeed kept)) (seed_of phase)
+other_seed seed phase = option_and_then
+    (λ kept. then_some (not (bytes_eq kept seed)) (house.OtherSeed kept)) (seed_of phase)
 
 abbrev pub other_than : Challenge → Option Challenge → Option Challenge
-other_than challenge kept = option_and_then (λ kept. then_some (not (pointwise beq kept.bits challenge.bits)) kept) kept
+other_than challenge kept = option_and_then
+    (λ kept. then_some (not (pointwise beq kept.bits challenge.bits)) kept) kept
 
 abbrev pub other_challenge : Challenge → Phase → Option HouseErr
-other_challenge challenge phase = option_map house.OtherChallenge (other_than challenge (challenge_of phase))
+other_challenge challenge phase =
+    option_map house.OtherChallenge (other_than challenge (challenge_of phase))
 
 -- the seed gives no tape; the first lane and wire
 abbrev pub dry_seed : Option Dry → Option HouseErr

@@ -12,7 +12,8 @@ use vk_reply::Challenge;
 use vk_residue::NoMemory;
 use vk_seal::Mismatch;
 
-/// Why a house refused a command, in the order in which it is tested. Nothing that is kept has changed.
+/// Why a house refused a command, in the order in which it is tested. Nothing that is kept has
+/// changed.
 #[derive(Debug, Drop)]
 pub enum HouseErr {
     /// The keeper failed. Its count of faults rose in this call.

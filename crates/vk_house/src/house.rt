@@ -45,11 +45,14 @@ impl<'a, K: Keeper + Drop> House<'a, K> {
         lanes: u32,
     ) -> Result<(), HouseErr>
         requires { IsSize width lanes }
-        ensures call { MakesCall (Announce id.now width lanes) (as_reply (λ _. Done) result) (K.ledger self.old.keeper.now) (K.ledger self.new.keeper.now) }
-        ensures refused { OnErr result (K.ledger self.new.keeper.now ≡ K.ledger self.old.keeper.now) }
+        ensures call { MakesCall (Announce id.now width lanes) (as_reply (λ _. Done) result)
+            (K.ledger self.old.keeper.now) (K.ledger self.new.keeper.now) }
+        ensures refused { OnErr result
+            (K.ledger self.new.keeper.now ≡ K.ledger self.old.keeper.now) }
         ensures reply { MayReply (Announce id.now width lanes) (as_reply (λ _. Done) result) }
         ensures turns { GetsOnce (K.turns self.old.keeper.now) (K.turns self.new.keeper.now) }
-        ensures causes { Causes HouseErr.KeeperFailed result (K.faults self.old.keeper.now) (K.faults self.new.keeper.now) }
+        ensures causes { Causes HouseErr.KeeperFailed result (K.faults self.old.keeper.now)
+            (K.faults self.new.keeper.now) }
         ensures keeper { self.new.keeper.ghost_name ≡ self.old.keeper.ghost_name }
     {
         let found = self.keeper.get(id)?;
@@ -58,7 +61,8 @@ impl<'a, K: Keeper + Drop> House<'a, K> {
         Ok(())
     }
 
-    /// Keeps an auction of version 2 with that reserve, in phase Taking without seals. Refused where the id is known.
+    /// Keeps an auction of version 2 with that reserve, in phase Taking without seals. Refused
+    /// where the id is known.
     pub fn announce_reserve(
         &mut self,
         alloc: Global,
@@ -69,11 +73,16 @@ impl<'a, K: Keeper + Drop> House<'a, K> {
     ) -> Result<(), HouseErr>
         requires size { IsSize width lanes }
         requires small { reserve < 2 ^ width }
-        ensures call { MakesCall (AnnounceReserve id.now width lanes reserve) (as_reply (λ _. Done) result) (K.ledger self.old.keeper.now) (K.ledger self.new.keeper.now) }
-        ensures refused { OnErr result (K.ledger self.new.keeper.now ≡ K.ledger self.old.keeper.now) }
-        ensures reply { MayReply (AnnounceReserve id.now width lanes reserve) (as_reply (λ _. Done) result) }
+        ensures call { MakesCall (AnnounceReserve id.now width lanes reserve)
+            (as_reply (λ _. Done) result) (K.ledger self.old.keeper.now)
+            (K.ledger self.new.keeper.now) }
+        ensures refused { OnErr result
+            (K.ledger self.new.keeper.now ≡ K.ledger self.old.keeper.now) }
+        ensures reply { MayReply (AnnounceReserve id.now width lanes reserve)
+            (as_reply (λ _. Done) result) }
         ensures turns { GetsOnce (K.turns self.old.keeper.now) (K.turns self.new.keeper.now) }
-        ensures causes { Causes HouseErr.KeeperFailed result (K.faults self.old.keeper.now) (K.faults self.new.keeper.now) }
+        ensures causes { Causes HouseErr.KeeperFailed result (K.faults self.old.keeper.now)
+            (K.faults self.new.keeper.now) }
         ensures keeper { self.new.keeper.ghost_name ≡ self.old.keeper.ghost_name }
     {
         let found = self.keeper.get(id)?;
@@ -82,16 +91,19 @@ impl<'a, K: Keeper + Drop> House<'a, K> {
         Ok(())
     }
 
-    /// Keeps the seal and its secret last, and answers its position, from 1. Refused where the id is unknown, where seals are
-    /// no longer taken, and where the seal may not join.
+    /// Keeps the seal and its secret last, and answers its position, from 1. Refused where the id
+    /// is unknown, where seals are no longer taken, and where the seal may not join.
     pub fn submit(&mut self, id: &[u8; 16], seal: Seal, secret: Secret) -> Result<u32, HouseErr>
         requires seal { IsSeal seal }
         requires secret { IsSecret secret }
-        ensures call { MakesCall (Submit id.now seal secret) (as_reply Position result) (K.ledger self.old.keeper.now) (K.ledger self.new.keeper.now) }
-        ensures refused { OnErr result (K.ledger self.new.keeper.now ≡ K.ledger self.old.keeper.now) }
+        ensures call { MakesCall (Submit id.now seal secret) (as_reply Position result)
+            (K.ledger self.old.keeper.now) (K.ledger self.new.keeper.now) }
+        ensures refused { OnErr result
+            (K.ledger self.new.keeper.now ≡ K.ledger self.old.keeper.now) }
         ensures reply { MayReply (Submit id.now seal secret) (as_reply Position result) }
         ensures turns { GetsOnce (K.turns self.old.keeper.now) (K.turns self.new.keeper.now) }
-        ensures causes { Causes HouseErr.KeeperFailed result (K.faults self.old.keeper.now) (K.faults self.new.keeper.now) }
+        ensures causes { Causes HouseErr.KeeperFailed result (K.faults self.old.keeper.now)
+            (K.faults self.new.keeper.now) }
         ensures keeper { self.new.keeper.ghost_name ≡ self.old.keeper.ghost_name }
     {
         let found = self.keeper.get(id)?;
@@ -100,17 +112,20 @@ impl<'a, K: Keeper + Drop> House<'a, K> {
         Ok(joined.position)
     }
 
-    /// The job of the auction with that seed. In phase Taking the seed is kept, and no more seals are taken; in the later
-    /// phases nothing new is kept. Refused where the id is unknown, where no seal or another seed is held, and where
-    /// the seed is dry.
+    /// The job of the auction with that seed. In phase Taking the seed is kept, and no more seals
+    /// are taken; in the later phases nothing new is kept. Refused where the id is unknown, where
+    /// no seal or another seed is held, and where the seed is dry.
     pub fn prove(&mut self, alloc: Global, id: &[u8; 16], seed: &[u8; 32]) -> Result<Job, HouseErr>
-        ensures call { MakesCall (Prove id.now seed.now) (as_reply work_of result) (K.ledger self.old.keeper.now) (K.ledger self.new.keeper.now) }
-        ensures refused { OnErr result (K.ledger self.new.keeper.now ≡ K.ledger self.old.keeper.now) }
+        ensures call { MakesCall (Prove id.now seed.now) (as_reply work_of result)
+            (K.ledger self.old.keeper.now) (K.ledger self.new.keeper.now) }
+        ensures refused { OnErr result
+            (K.ledger self.new.keeper.now ≡ K.ledger self.old.keeper.now) }
         ensures reply { MayReply (Prove id.now seed.now) (as_reply work_of result) }
         ensures id { IfOk result (λ job. job.auction.id ≡ id.now) }
         ensures seed { IfOk result (λ job. seed_of job.auction.phase ≡ Some seed.now) }
         ensures turns { GetsOnce (K.turns self.old.keeper.now) (K.turns self.new.keeper.now) }
-        ensures causes { Causes HouseErr.KeeperFailed result (K.faults self.old.keeper.now) (K.faults self.new.keeper.now) }
+        ensures causes { Causes HouseErr.KeeperFailed result (K.faults self.old.keeper.now)
+            (K.faults self.new.keeper.now) }
         ensures keeper { self.new.keeper.ghost_name ≡ self.old.keeper.ghost_name }
     {
         let found = self.keeper.get(id)?;
@@ -119,9 +134,10 @@ impl<'a, K: Keeper + Drop> House<'a, K> {
         Ok(proving.job)
     }
 
-    /// The job of the auction with that challenge. In phase Proved the challenge is kept, and no other is answered from then
-    /// on; in phase Answered nothing new is kept. Refused where the id is unknown, where seals are still taken, where the
-    /// challenge doesn't have a bit for each lane, where another one is kept, and where the seed is dry.
+    /// The job of the auction with that challenge. In phase Proved the challenge is kept, and no
+    /// other is answered from then on; in phase Answered nothing new is kept. Refused where the id
+    /// is unknown, where seals are still taken, where the challenge doesn't have a bit for each
+    /// lane, where another one is kept, and where the seed is dry.
     pub fn answer(
         &mut self,
         alloc: Global,
@@ -129,14 +145,18 @@ impl<'a, K: Keeper + Drop> House<'a, K> {
         challenge: &Challenge,
     ) -> Result<Job, HouseErr>
         requires { IsChallenge challenge.now }
-        ensures call { MakesCall (Answer id.now challenge.now) (as_reply work_of result) (K.ledger self.old.keeper.now) (K.ledger self.new.keeper.now) }
-        ensures refused { OnErr result (K.ledger self.new.keeper.now ≡ K.ledger self.old.keeper.now) }
+        ensures call { MakesCall (Answer id.now challenge.now) (as_reply work_of result)
+            (K.ledger self.old.keeper.now) (K.ledger self.new.keeper.now) }
+        ensures refused { OnErr result
+            (K.ledger self.new.keeper.now ≡ K.ledger self.old.keeper.now) }
         ensures reply { MayReply (Answer id.now challenge.now) (as_reply work_of result) }
         ensures turns { GetsOnce (K.turns self.old.keeper.now) (K.turns self.new.keeper.now) }
-        ensures causes { Causes HouseErr.KeeperFailed result (K.faults self.old.keeper.now) (K.faults self.new.keeper.now) }
+        ensures causes { Causes HouseErr.KeeperFailed result (K.faults self.old.keeper.now)
+            (K.faults self.new.keeper.now) }
         ensures keeper { self.new.keeper.ghost_name ≡ self.old.keeper.ghost_name }
         ensures id { IfOk result (λ job. job.auction.id ≡ id.now) }
-        ensures answered { IfOk result (λ job. challenge_of job.auction.phase ≡ Some challenge.now) }
+        ensures answered { IfOk result
+            (λ job. challenge_of job.auction.phase ≡ Some challenge.now) }
     {
         let found = self.keeper.get(id)?;
         let answering = decide_answer(alloc, found, challenge)?;
@@ -146,11 +166,14 @@ impl<'a, K: Keeper + Drop> House<'a, K> {
 
     /// How the auction stands. Refused where the id is unknown.
     pub fn show(&mut self, id: &[u8; 16]) -> Result<Standing, HouseErr>
-        ensures call { MakesCall (Show id.now) (as_reply Stands result) (K.ledger self.old.keeper.now) (K.ledger self.new.keeper.now) }
-        ensures refused { OnErr result (K.ledger self.new.keeper.now ≡ K.ledger self.old.keeper.now) }
+        ensures call { MakesCall (Show id.now) (as_reply Stands result)
+            (K.ledger self.old.keeper.now) (K.ledger self.new.keeper.now) }
+        ensures refused { OnErr result
+            (K.ledger self.new.keeper.now ≡ K.ledger self.old.keeper.now) }
         ensures reply { MayReply (Show id.now) (as_reply Stands result) }
         ensures turns { GetsOnce (K.turns self.old.keeper.now) (K.turns self.new.keeper.now) }
-        ensures causes { Causes HouseErr.KeeperFailed result (K.faults self.old.keeper.now) (K.faults self.new.keeper.now) }
+        ensures causes { Causes HouseErr.KeeperFailed result (K.faults self.old.keeper.now)
+            (K.faults self.new.keeper.now) }
         ensures keeper { self.new.keeper.ghost_name ≡ self.old.keeper.ghost_name }
     {
         let found = self.keeper.get(id)?;

@@ -1,5 +1,5 @@
-//! The auctioneer's house: its calls over a keeper of auctions, each of which reads one auction, decides, and keeps at most
-//! one auction anew.
+//! The auctioneer's house: its calls over a keeper of auctions, each of which reads one auction,
+//! decides, and keeps at most one auction anew.
 #![tactic(auto)]
 
 mod errors;

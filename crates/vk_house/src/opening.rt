@@ -41,7 +41,8 @@ pub fn decide_announce(
 ) -> Result<Auction, HouseErr>
     requires size { IsSize width lanes }
     requires small { IfSome reserve (λ reserve. reserve < 2 ^ width) }
-    ensures decided { Decides (λ auction. record { reply = Done; kept = Some auction }) result (step_at (announcing id.now width lanes reserve) found) }
+    ensures decided { Decides (λ auction. record { reply = Done; kept = Some auction }) result
+        (step_at (announcing id.now width lanes reserve) found) }
     ensures right { IfOk result IsAuction }
     ensures id { IfOk result (λ auction. auction.id ≡ id.now) }
 {
@@ -89,9 +90,14 @@ pub fn decide_submit(found: Option<Auction>, seal: Seal, secret: Secret) -> Resu
     requires found { IfSome found IsAuction }
     requires seal { IsSeal seal }
     requires secret { IsSecret secret }
-    ensures decided { (id : List ℕ) → Decides (λ joined. record { reply = Position joined.position; kept = Some joined.auction }) result (step_at (Submit id seal secret) found) }
+    ensures decided { (id : List ℕ)
+        → Decides (λ joined. record {
+          reply = Position joined.position;
+          kept = Some joined.auction;
+        }) result (step_at (Submit id seal secret) found) }
     ensures right { IfOk result (λ joined. IsAuction joined.auction) }
-    ensures id { (id : List ℕ) → IfSome found (λ auction. auction.id ≡ id) → IfOk result (λ joined. joined.auction.id ≡ id) }
+    ensures id { (id : List ℕ) → IfSome found (λ auction. auction.id ≡ id)
+        → IfOk result (λ joined. joined.auction.id ≡ id) }
     ensures inside { IsErrOf result HouseErr.KeeperFailed → ⊥ }
 {
     let mut auction = found.ok_or(HouseErr::Unknown)?;

@@ -78,7 +78,9 @@ impl PhaseName {
 #[tactic(auto, unfolding(crate::specs::Steps::step_at, vk_keeper::specs::Joining::first_of))]
 pub fn decide_show(found: Option<Auction>) -> Result<Standing, HouseErr>
     requires { IfSome found IsAuction }
-    ensures decided { (id : List ℕ) → Decides (λ standing. record { reply = Stands standing; kept = None }) result (step_at (Show id) found) }
+    ensures decided { (id : List ℕ)
+        → Decides (λ standing. record { reply = Stands standing; kept = None }) result
+        (step_at (Show id) found) }
     ensures inside { IsErrOf result HouseErr.KeeperFailed → ⊥ }
 {
     let auction = found.ok_or(HouseErr::Unknown)?;

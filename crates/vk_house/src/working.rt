@@ -26,13 +26,15 @@ pub struct Decision {
     pub kept: Option<Auction>,
 }
 
-/// The work on the auction in that phase, which is then kept anew, or in its own. All memory is taken here.
+/// The work on the auction in that phase, which is then kept anew, or in its own. All memory is
+/// taken here.
 fn work_in(alloc: Global, mut auction: Auction, phase: Option<Phase>) -> Result<Decision, HouseErr>
     requires right { IsAuction (phased auction phase) }
     requires seeded { IsSome (seed_of (phased auction phase).phase) }
     ensures decided { Decides step_of result (work_step auction phase) }
     ensures job { IfOk result (λ decision. decision.job.auction ≡ phased auction phase) }
-    ensures kept { IfOk result (λ decision. IfSome decision.kept (λ auction. auction ≡ decision.job.auction)) }
+    ensures kept { IfOk result
+        (λ decision. IfSome decision.kept (λ auction. auction ≡ decision.job.auction)) }
     ensures right { IfOk result (λ decision. IfSome decision.kept IsAuction) }
     ensures memory { IsErrOf result HouseErr.NoMemory → own_dry (phased auction phase) ≡ None }
 {
@@ -82,7 +84,8 @@ fn proved_phase(phase: &Phase, seed: &[u8; 32]) -> Option<Phase>
     }
 }
 
-/// What `prove` answers and keeps, by what was found under the id. A dry seed is told whatever memory there is.
+/// What `prove` answers and keeps, by what was found under the id. A dry seed is told whatever
+/// memory there is.
 #[tactic(auto, unfolding(crate::specs::Steps::step_at, vk_keeper::specs::Joining::first_of))]
 pub fn decide_prove(
     alloc: Global,
@@ -94,7 +97,8 @@ pub fn decide_prove(
     ensures inside { IsErrOf result HouseErr.KeeperFailed → ⊥ }
     ensures on { IfOk result (IsDecisionOn found) }
     ensures seed { IfOk result (λ decision. seed_of decision.job.auction.phase ≡ Some seed.now) }
-    ensures memory { IsErrOf result HouseErr.NoMemory → IfSome found (λ auction. dry_seed (dry_in auction seed.now) ≡ None) }
+    ensures memory { IsErrOf result HouseErr.NoMemory
+        → IfSome found (λ auction. dry_seed (dry_in auction seed.now) ≡ None) }
 {
     let auction = found.ok_or(HouseErr::Unknown)?;
     check_seals(&auction)?;
@@ -186,10 +190,12 @@ pub fn decide_answer(
 ) -> Result<Decision, HouseErr>
     requires found { IfSome found IsAuction }
     requires challenge { IsChallenge challenge.now }
-    ensures decided { (id : List ℕ) → Decides step_of result (step_at (Answer id challenge.now) found) }
+    ensures decided { (id : List ℕ)
+        → Decides step_of result (step_at (Answer id challenge.now) found) }
     ensures inside { IsErrOf result HouseErr.KeeperFailed → ⊥ }
     ensures on { IfOk result (IsDecisionOn found) }
-    ensures answered { IfOk result (λ decision. challenge_of decision.job.auction.phase ≡ Some challenge.now) }
+    ensures answered { IfOk result
+        (λ decision. challenge_of decision.job.auction.phase ≡ Some challenge.now) }
 {
     let auction = found.ok_or(HouseErr::Unknown)?;
     check_proved(&auction.phase)?;

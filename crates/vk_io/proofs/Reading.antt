@@ -10,15 +10,21 @@ own_length (suc n) [] = refl
 own_length (suc n) (b ∷ bytes) = ap (λ t. b ∷ t) (own_length n bytes)
 
 -- the bytes up to a place and a part from there on are the bytes up to the part's end
-joined : (bytes : List ℕ) (at room : ℕ) → take at bytes ++ part_of bytes at room ≡ take (at + length (part_of bytes at room)) bytes
+joined : (bytes : List ℕ) (at room : ℕ)
+    → take at bytes ++ part_of bytes at room ≡ take (at + length (part_of bytes at room)) bytes
 joined bytes at room =
     ap (λ t. take at bytes ++ t) (sym (own_length room (drop at bytes))) ∙ sym (take-add at _ bytes)
 
-part_joined : (bytes old new into front rest : List ℕ) (at n : ℕ) → old ≡ take at bytes → n ≡ length (part_of bytes at (length into)) → front ≡ part_of bytes at (length into) ++ drop n into → new ≡ old ++ take n (front ++ rest) → new ≡ take (at + n) bytes
+part_joined : (bytes old new into front rest : List ℕ) (at n : ℕ) → old ≡ take at bytes
+    → n ≡ length (part_of bytes at (length into))
+    → front ≡ part_of bytes at (length into) ++ drop n into → new ≡ old ++ take n (front ++ rest)
+    → new ≡ take (at + n) bytes
 part_joined bytes old new into front rest at n begun count put grown =
     let part = part_of bytes at (length into) in
     grown
-    ∙ ap (λ t. old ++ t) (ap (λ f. take n (f ++ rest)) put ∙ ap (take n) (append_assoc part (drop n into) rest) ∙ take_at part (drop n into ++ rest) n (sym count))
+    ∙ ap (λ t. old ++ t) (ap (λ f. take n (f ++ rest)) put
+    ∙ ap (take n) (append_assoc part (drop n into) rest)
+    ∙ take_at part (drop n into ++ rest) n (sym count))
     ∙ ap (λ t. t ++ part) begun
     ∙ joined bytes at (length into)
     ∙ ap (λ k. take (at + k) bytes) (sym count)
@@ -43,4 +49,5 @@ read_more h g name old new into front rest at n same =
         → new ≡ old ++ take n (front ++ rest)
         → IfSome o (λ files. new ≡ take (at + n) (bytes_of files name))
     here None begun count put grown = tt
-    here (Some files) begun count put grown = part_joined (bytes_of files name) old new into front rest at n begun count put grown
+    here (Some files) begun count put grown =
+        part_joined (bytes_of files name) old new into front rest at n begun count put grown

@@ -15,7 +15,8 @@ Rose before now = one_more before ≤ now
 -- a call that answers this error raised the count, and any other left it as it was
 abbrev pub Causes : {T E : Type 0} → E → Result T E → ℕ → ℕ → Type 0
 Causes fault (Ok value) old new = new ≡ old
-Causes fault (Err refusal) old new = (refusal ≡ fault → Rose old new) × (refusal ≢ fault → new ≡ old)
+Causes fault (Err refusal) old new = (refusal ≡ fault → Rose old new)
+    × (refusal ≢ fault → new ≡ old)
 
 -- a call that answers no such error left the count as it was
 abbrev pub MayCause : {T E : Type 0} → E → Result T E → ℕ → ℕ → Type 0

@@ -1,4 +1,5 @@
--- Named files as a finite map, and what the calls of a shelf and of a sink do to what is held and taken.
+-- Named files as a finite map, and what the calls of a shelf and of a sink do to what is held and
+-- taken.
 use Rattle.std.specs.Prelude.{◌≡◌, ℕ, ◌≤◌, List, [], ◌++◌, length, take, drop, Option, Some, None, Result, Ok, Err, unwrap_or, IsSomeAnd, ◌⊎◌}
 use Rattle.std.specs.Ordering.{nat_cmp}
 use Rattle.std.specs.Cmp.Lexicographic.{slice_cmp}
@@ -30,10 +31,12 @@ Creates name (Err refusal) old new = (new ≡ old) ⊎ (new ≡ insert old name 
 abbrev pub Grows : List ℕ → List ℕ → ℕ → Files → Files → Type 0
 Grows name piece k old new = new ≡ insert old name (bytes_of old name ++ take k piece)
 
--- `append` adds the piece to the named file; refused, a prefix of it or nothing. All other files stay
+-- `append` adds the piece to the named file; refused, a prefix of it or nothing. All other files
+-- stay
 abbrev pub Appends : {E : Type 0} → List ℕ → List ℕ → Result Unit E → Files → Files → Type 0
 Appends name piece (Ok done) old new = new ≡ insert old name (bytes_of old name ++ piece)
-Appends name piece (Err refusal) old new = (new ≡ old) ⊎ ((k : ℕ) × (k ≤ length piece) × Grows name piece k old new)
+Appends name piece (Err refusal) old new = (new ≡ old)
+    ⊎ ((k : ℕ) × (k ≤ length piece) × Grows name piece k old new)
 
 -- `put` takes the piece; refused, a prefix of it
 abbrev pub Takes : {E : Type 0} → List ℕ → Result Unit E → List ℕ → List ℕ → Type 0

@@ -20,9 +20,12 @@ pub record MemoryBytes : Type 0 where
 abbrev pub calls_code : Coded Calls
 calls_code =
     code_by (ℕ × (List ℕ × ℕ)) (coded× coded_ℕ (coded× (coded_list coded_ℕ) coded_ℕ))
-    (λ c. (c.made, (c.failing, c.faults))) (λ p. record { made = p.0; failing = p.1.0; faults = p.1.1 }) (λ _. refl)
+    (λ c. (c.made, (c.failing, c.faults)))
+    (λ p. record { made = p.0; failing = p.1.0; faults = p.1.1 }) (λ _. refl)
 
 abbrev pub files_code : Coded MemoryFiles
 files_code =
-    code_by (Files × (Calls × ℕ)) (coded× (finite.code (coded_list coded_ℕ) (coded_list coded_ℕ)) (coded× calls_code coded_ℕ))
-    (λ m. (m.files, (m.calls, m.wants))) (λ p. record { files = p.0; calls = p.1.0; wants = p.1.1 }) (λ _. refl)
+    code_by (Files × (Calls × ℕ))
+    (coded× (finite.code (coded_list coded_ℕ) (coded_list coded_ℕ)) (coded× calls_code coded_ℕ))
+    (λ m. (m.files, (m.calls, m.wants))) (λ p. record { files = p.0; calls = p.1.0; wants = p.1.1 })
+    (λ _. refl)

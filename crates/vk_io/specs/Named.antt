@@ -15,4 +15,5 @@ files_in files = from_entries (map entry_of files)
 
 -- to write a file of that name at the place is to change the map at the name
 abbrev pub IsPlaceOf : List ℕ → List NamedFile → ℕ → Type 0
-IsPlaceOf name files place = (file : NamedFile) → string_bytes file.name ≡ name → files_in (slice_set files place file) ≡ insert (files_in files) name file.bytes.items
+IsPlaceOf name files place = (file : NamedFile) → string_bytes file.name ≡ name
+    → files_in (slice_set files place file) ≡ insert (files_in files) name file.bytes.items

@@ -25,11 +25,13 @@ texts_of files = map (λ file. (file.name, text_of file)) files
 
 -- files whose texts are given whole
 abbrev pub whole_files : List FileText → List WrittenFile
-whole_files files = map (λ file. record { name = string_bytes file.name; pieces = file.text ∷ [] }) files
+whole_files files = map (λ file. record { name = string_bytes file.name; pieces = file.text ∷ [] })
+    files
 
 -- the named file is as before or holds the first bytes of the text. All other files stay
 abbrev pub IsPartOf : List ℕ → List ℕ → Files → Files → Type 0
-IsPartOf name text old new = (new ≡ old) ⊎ ((k : ℕ) × (k ≤ length text) × (new ≡ insert old name (take k text)))
+IsPartOf name text old new = (new ≡ old)
+    ⊎ ((k : ℕ) × (k ≤ length text) × (new ≡ insert old name (take k text)))
 
 -- the named file holds the text; after a refusal a part of it
 abbrev pub Writes : {E : Type 0} → List ℕ → List ℕ → Result Unit E → Files → Files → Type 0
@@ -45,9 +47,11 @@ written (text ∷ texts) old = written texts (insert old text.0 text.1)
 -- text or what it held, and those after it are as before. With no files nothing changed
 abbrev pub IsDivided : List (List ℕ × List ℕ) → Files → Files → Type 0
 IsDivided [] old new = new ≡ old
-IsDivided (text ∷ texts) old new = IsPartOf text.0 text.1 old new ⊎ IsDivided texts (insert old text.0 text.1) new
+IsDivided (text ∷ texts) old new = IsPartOf text.0 text.1 old new
+    ⊎ IsDivided texts (insert old text.0 text.1) new
 
 -- all files hold their texts; after a refusal they are divided at one of them
-abbrev pub WritesAll : {E : Type 0} → List (List ℕ × List ℕ) → Result Unit E → Files → Files → Type 0
+abbrev pub WritesAll : {E : Type 0} → List (List ℕ × List ℕ) → Result Unit E → Files → Files
+    → Type 0
 WritesAll texts (Ok done) old new = new ≡ written texts old
 WritesAll texts (Err refusal) old new = IsDivided texts old new

@@ -38,7 +38,8 @@ pub fn read_whole<S: Shelf>(
     ensures free { IfSome (S.held shelf.old) (λ files. TakesNone (content_of files name.now most)
         → Causes OutsideErr.NoMemory result (S.Shelf.wants shelf.old) (S.Shelf.wants shelf.new)) }
     ensures shelf { OnlyReads S.held S.Shelf.faults OutsideErr.Failed result shelf.old shelf.new }
-    ensures wants { MayCause OutsideErr.NoMemory result (S.Shelf.wants shelf.old) (S.Shelf.wants shelf.new) }
+    ensures wants { MayCause OutsideErr.NoMemory result (S.Shelf.wants shelf.old)
+        (S.Shelf.wants shelf.new) }
 {
     let length = shelf.length(name)?;
     match length {
@@ -64,7 +65,8 @@ fn read_bytes<S: Shelf>(
         (λ files. IfOk result (λ bytes. bytes.items ≡ take size (bytes_of files name.now))) }
     ensures within { IfOk result (λ bytes. vec_len bytes ≤ size) }
     ensures shelf { OnlyReads S.held S.Shelf.faults OutsideErr.Failed result shelf.old shelf.new }
-    ensures wants { MayCause OutsideErr.NoMemory result (S.Shelf.wants shelf.old) (S.Shelf.wants shelf.new) }
+    ensures wants { MayCause OutsideErr.NoMemory result (S.Shelf.wants shelf.old)
+        (S.Shelf.wants shelf.new) }
 {
     let mut bytes = Vec::new(alloc);
     let mut piece = [0u8; PIECE];

@@ -31,14 +31,22 @@ impl Model for MemShelf {
 
     ghost use Rattle.vk_io.specs.Named.{files_in};
 
-    ghost view = { λ s. record { files = files_in s.files.items; calls = s.calls; wants = s.wants } };
+    ghost view = { λ s. record {
+      files = files_in s.files.items;
+      calls = s.calls;
+      wants = s.wants;
+    } };
 }
 
 impl MemShelf {
     /// No files, and no call that is to fail. What is held later is made with this allocator.
     #[tactic(auto, unfolding(crate::specs::Named::files_in))]
     pub fn new(alloc: Global) -> MemShelf
-        ensures { result ≡ record { files = map.empty; calls = record { made = 0; failing = []; faults = 0 }; wants = 0 } }
+        ensures { result ≡ record {
+          files = map.empty;
+          calls = record { made = 0; failing = []; faults = 0 };
+          wants = 0;
+        } }
     {
         MemShelf {
             files: Vec::new(alloc),
@@ -51,7 +59,8 @@ impl MemShelf {
     /// Makes the named file hold these bytes. It is no call of the trait, and is not counted. Errs
     /// for want of memory alone, and then nothing changed.
     pub fn put_file(&mut self, name: &str, bytes: &[u8]) -> Result<(), NoMemory>
-        ensures put { OnOk result (self.new ≡ record self.old { files = map.insert self.old.files name.now bytes.now }) }
+        ensures put { OnOk result
+            (self.new ≡ record self.old { files = map.insert self.old.files name.now bytes.now }) }
         ensures refused { OnErr result (self.new ≡ self.old) }
     {
         let bytes = Vec::from_slice(self.alloc, bytes)?;
@@ -69,7 +78,8 @@ impl MemShelf {
     /// Has the call of that number fail, counted from 1 over the shelf's life. Errs for want of
     /// memory alone, and then nothing changed.
     pub fn fail_at(&mut self, call: u64) -> Result<(), NoMemory>
-        ensures named { OnOk result (self.new ≡ record self.old { calls = fails_too call self.old.calls }) }
+        ensures named { OnOk result
+            (self.new ≡ record self.old { calls = fails_too call self.old.calls }) }
         ensures refused { OnErr result (self.new ≡ self.old) }
     {
         self.calls.name(call)?;
@@ -93,7 +103,8 @@ impl Shelf for MemShelf {
             else Ok (option_map length (map.get self.old.files name.now))) }
         ensures files { self.new.files ≡ self.old.files }
         ensures counted { self.new.calls ≡ after_call self.old.calls }
-        ensures causes { Causes OutsideErr.Failed result self.old.calls.faults self.new.calls.faults }
+        ensures causes { Causes OutsideErr.Failed result self.old.calls.faults
+            self.new.calls.faults }
         ensures wants { Causes OutsideErr.NoMemory result self.old.wants self.new.wants }
     {
         self.calls.begin()?;
@@ -108,7 +119,8 @@ impl Shelf for MemShelf {
         ensures unread { OnErr result (into.new ≡ into.old) }
         ensures files { self.new.files ≡ self.old.files }
         ensures counted { self.new.calls ≡ after_call self.old.calls }
-        ensures causes { Causes OutsideErr.Failed result self.old.calls.faults self.new.calls.faults }
+        ensures causes { Causes OutsideErr.Failed result self.old.calls.faults
+            self.new.calls.faults }
         ensures wants { Causes OutsideErr.NoMemory result self.old.wants self.new.wants }
     {
         self.calls.begin()?;
@@ -120,7 +132,8 @@ impl Shelf for MemShelf {
         ensures created { OnOk result (self.new.files ≡ map.insert self.old.files name.now []) }
         ensures refused { OnErr result (self.new.files ≡ self.old.files) }
         ensures counted { self.new.calls ≡ after_call self.old.calls }
-        ensures causes { Causes OutsideErr.Failed result self.old.calls.faults self.new.calls.faults }
+        ensures causes { Causes OutsideErr.Failed result self.old.calls.faults
+            self.new.calls.faults }
         ensures wants { Causes OutsideErr.NoMemory result self.old.wants self.new.wants }
     {
         self.calls.begin()?;
@@ -131,10 +144,12 @@ impl Shelf for MemShelf {
     fn append(&mut self, name: &str, piece: &[u8]) -> Result<(), OutsideErr>
         ensures fails { IsErrOf result OutsideErr.Failed ↔ IsTrue (fails_next self.old.calls) }
         ensures appended { OnOk result
-            (self.new.files ≡ map.insert self.old.files name.now (bytes_of self.old.files name.now ++ piece.now)) }
+            (self.new.files ≡ map.insert self.old.files name.now
+            (bytes_of self.old.files name.now ++ piece.now)) }
         ensures refused { OnErr result (self.new.files ≡ self.old.files) }
         ensures counted { self.new.calls ≡ after_call self.old.calls }
-        ensures causes { Causes OutsideErr.Failed result self.old.calls.faults self.new.calls.faults }
+        ensures causes { Causes OutsideErr.Failed result self.old.calls.faults
+            self.new.calls.faults }
         ensures wants { Causes OutsideErr.NoMemory result self.old.wants self.new.wants }
     {
         self.calls.begin()?;

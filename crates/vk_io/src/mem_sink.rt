@@ -30,7 +30,11 @@ impl Model for MemSink {
 impl MemSink {
     /// Nothing taken, and no call that is to fail.
     pub fn new(alloc: Global) -> MemSink
-        ensures { result ≡ record { taken = []; calls = record { made = 0; failing = []; faults = 0 }; wants = 0 } }
+        ensures { result ≡ record {
+          taken = [];
+          calls = record { made = 0; failing = []; faults = 0 };
+          wants = 0;
+        } }
     {
         MemSink {
             taken: Vec::new(alloc),
@@ -49,7 +53,8 @@ impl MemSink {
     /// Has the `put` of that number fail, counted from 1 over the sink's life. Errs for want of
     /// memory alone, and then nothing changed.
     pub fn fail_at(&mut self, call: u64) -> Result<(), NoMemory>
-        ensures named { OnOk result (self.new ≡ record self.old { calls = fails_too call self.old.calls }) }
+        ensures named { OnOk result
+            (self.new ≡ record self.old { calls = fails_too call self.old.calls }) }
         ensures refused { OnErr result (self.new ≡ self.old) }
     {
         self.calls.name(call)?;
@@ -71,7 +76,8 @@ impl Sink for MemSink {
         ensures put { OnOk result (self.new.taken ≡ self.old.taken ++ piece.now) }
         ensures refused { OnErr result (self.new.taken ≡ self.old.taken) }
         ensures counted { self.new.calls ≡ after_call self.old.calls }
-        ensures causes { Causes OutsideErr.Failed result self.old.calls.faults self.new.calls.faults }
+        ensures causes { Causes OutsideErr.Failed result self.old.calls.faults
+            self.new.calls.faults }
         ensures wants { Causes OutsideErr.NoMemory result self.old.wants self.new.wants }
     {
         self.calls.begin()?;

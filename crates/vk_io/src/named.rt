@@ -18,7 +18,8 @@ pub struct NamedFile {
 /// What the named file holds. None where no file has that name.
 pub fn bytes_at<'a>(files: &'a [NamedFile], name: &str) -> Option<&'a [u8]>
     ensures absent { IfNone result (map.get (files_in files.now) name.now ≡ None) }
-    ensures found { IfSome result (λ bytes. map.get (files_in files.now) name.now ≡ Some bytes.now) }
+    ensures found { IfSome result
+        (λ bytes. map.get (files_in files.now) name.now ≡ Some bytes.now) }
 {
     for file in files {
         if name == file.name.as_str() {
@@ -36,7 +37,8 @@ fn place_of(files: &[NamedFile], name: &str) -> Option<usize>
     ensures named { IfSome result
         (λ i. (d : NamedFile) → string_bytes (slice_index_or files.now i d).name ≡ name.now) }
     ensures held { IfSome result
-        (λ i. (d : NamedFile) → bytes_of (files_in files.now) name.now ≡ (slice_index_or files.now i d).bytes.items) }
+        (λ i. (d : NamedFile) → bytes_of (files_in files.now) name.now
+        ≡ (slice_index_or files.now i d).bytes.items) }
 {
     for (i, file) in files.iter().enumerate() {
         if name == file.name.as_str() {
@@ -80,7 +82,8 @@ pub fn append_to(
 ) -> Result<(), NoMemory>
     ensures appended { OnOk result
         (files_in files.new.items
-        ≡ map.insert (files_in files.old.items) name.now (bytes_of (files_in files.old.items) name.now ++ piece.now)) }
+        ≡ map.insert (files_in files.old.items) name.now
+        (bytes_of (files_in files.old.items) name.now ++ piece.now)) }
     ensures refused { OnErr result (files_in files.new.items ≡ files_in files.old.items) }
 {
     match place_of(files, name) {
@@ -124,9 +127,11 @@ fn put_part(bytes: &[u8], at: u64, into: &mut [u8]) -> usize
 /// Puts bytes of the named file into the front of `into`, as [`put_part`] does, and none where no
 /// file has the name.
 pub fn read_in(files: &[NamedFile], name: &str, at: u64, into: &mut [u8]) -> usize
-    ensures count { result ≡ length (part_of (bytes_of (files_in files.now) name.now) at (length into.old)) }
+    ensures count { result ≡ length
+        (part_of (bytes_of (files_in files.now) name.now) at (length into.old)) }
     ensures bytes { into.new
-        ≡ part_of (bytes_of (files_in files.now) name.now) at (length into.old) ++ drop result into.old }
+        ≡ part_of (bytes_of (files_in files.now) name.now) at (length into.old)
+        ++ drop result into.old }
 {
     match bytes_at(files, name) {
         Some(bytes) => put_part(bytes, at, into),

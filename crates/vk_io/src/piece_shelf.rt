@@ -13,9 +13,9 @@ const MOST_READ: usize = 4096;
 /// The most bytes that are appended at once. The largest lane of a reply has fewer.
 const MOST_APPENDED: usize = 2097152;
 
-/// A shelf in memory for tests of code that takes files in pieces: it fails where the shelf under it
-/// does, where more than 4096 bytes are read at once, and where more than 2097152 are appended at
-/// once. In the last two cases nothing changes but its count.
+/// A shelf in memory for tests of code that takes files in pieces: it fails where the shelf under
+/// it does, where more than 4096 bytes are read at once, and where more than 2097152 are appended
+/// at once. In the last two cases nothing changes but its count.
 #[derive(Drop)]
 pub struct PieceShelf {
     inner: MemShelf,
@@ -73,11 +73,14 @@ impl Shelf for PieceShelf {
     ghost length_gives = { λ _ _ _ _. Unit {0} };
 
     fn length(&mut self, name: &str) -> Result<Option<u64>, OutsideErr>
-        ensures answer { IfOk result (λ n. n ≡ option_map length (map.get self.old.inner.files name.now)) }
-        ensures fails { IsErrOf result OutsideErr.Failed ↔ IsTrue (fails_next self.old.inner.calls) }
+        ensures answer { IfOk result
+            (λ n. n ≡ option_map length (map.get self.old.inner.files name.now)) }
+        ensures fails { IsErrOf result OutsideErr.Failed
+            ↔ IsTrue (fails_next self.old.inner.calls) }
         ensures files { self.new.inner.files ≡ self.old.inner.files }
         ensures causes { Causes OutsideErr.Failed result self.old.faults self.new.faults }
-        ensures wants { Causes OutsideErr.NoMemory result self.old.inner.wants self.new.inner.wants }
+        ensures wants { Causes OutsideErr.NoMemory result self.old.inner.wants
+            self.new.inner.wants }
     {
         let answer = self.inner.length(name);
         self.passed(answer)
@@ -85,16 +88,20 @@ impl Shelf for PieceShelf {
 
     fn read_at(&mut self, name: &str, at: u64, into: &mut [u8]) -> Result<usize, OutsideErr>
         ensures bound { IfOk result (λ n. n ≤ length into.old) }
-        ensures count { IfOk result (λ n. n ≡ length (part_of (bytes_of self.old.inner.files name.now) at (length into.old))) }
+        ensures count { IfOk result
+            (λ n. n ≡ length (part_of (bytes_of self.old.inner.files name.now) at
+            (length into.old))) }
         ensures bytes { IfOk result (λ n. into.new
-            ≡ part_of (bytes_of self.old.inner.files name.now) at (length into.old) ++ drop n into.old) }
+            ≡ part_of (bytes_of self.old.inner.files name.now) at (length into.old)
+            ++ drop n into.old) }
         ensures unread { OnErr result (into.new ≡ into.old) }
         ensures too_large { 4096 < length into.old → self.new.inner ≡ self.old.inner }
         ensures fails { IsErrOf result OutsideErr.Failed
             ↔ IsTrue (nat_lt 4096 (length into.old) || fails_next self.old.inner.calls) }
         ensures files { self.new.inner.files ≡ self.old.inner.files }
         ensures causes { Causes OutsideErr.Failed result self.old.faults self.new.faults }
-        ensures wants { Causes OutsideErr.NoMemory result self.old.inner.wants self.new.inner.wants }
+        ensures wants { Causes OutsideErr.NoMemory result self.old.inner.wants
+            self.new.inner.wants }
     {
         if MOST_READ < into.len() {
             return Err(self.fault());
@@ -105,21 +112,25 @@ impl Shelf for PieceShelf {
 
     fn create(&mut self, name: &str) -> Result<(), OutsideErr>
         ensures created { Creates name.now result self.old.inner.files self.new.inner.files }
-        ensures fails { IsErrOf result OutsideErr.Failed ↔ IsTrue (fails_next self.old.inner.calls) }
+        ensures fails { IsErrOf result OutsideErr.Failed
+            ↔ IsTrue (fails_next self.old.inner.calls) }
         ensures causes { Causes OutsideErr.Failed result self.old.faults self.new.faults }
-        ensures wants { Causes OutsideErr.NoMemory result self.old.inner.wants self.new.inner.wants }
+        ensures wants { Causes OutsideErr.NoMemory result self.old.inner.wants
+            self.new.inner.wants }
     {
         let answer = self.inner.create(name);
         self.passed(answer)
     }
 
     fn append(&mut self, name: &str, piece: &[u8]) -> Result<(), OutsideErr>
-        ensures appended { Appends name.now piece.now result self.old.inner.files self.new.inner.files }
+        ensures appended { Appends name.now piece.now result self.old.inner.files
+            self.new.inner.files }
         ensures too_long { 2097152 < length piece.now → self.new.inner ≡ self.old.inner }
         ensures fails { IsErrOf result OutsideErr.Failed
             ↔ IsTrue (nat_lt 2097152 (length piece.now) || fails_next self.old.inner.calls) }
         ensures causes { Causes OutsideErr.Failed result self.old.faults self.new.faults }
-        ensures wants { Causes OutsideErr.NoMemory result self.old.inner.wants self.new.inner.wants }
+        ensures wants { Causes OutsideErr.NoMemory result self.old.inner.wants
+            self.new.inner.wants }
     {
         if MOST_APPENDED < piece.len() {
             return Err(self.fault());

@@ -31,7 +31,8 @@ pub trait Shelf {
         ensures wants { Causes OutsideErr.NoMemory result (wants self.old) (wants self.new) };
 
     /// Puts the bytes of the named file from byte `at` on into the front of `into`, as many as are
-    /// left or fit, and answers their number. The rest of `into` stays. 0 where the name isn't held.
+    /// left or fit, and answers their number. The rest of `into` stays. 0 where the name isn't
+    /// held.
     fn read_at(&mut self, name: &str, at: u64, into: &mut [u8]) -> Result<usize, OutsideErr>
         ensures bound { IfOk result (λ n. n ≤ length into.old) }
         ensures count { IfSome (held self.old)
@@ -53,7 +54,8 @@ pub trait Shelf {
     /// Adds the piece at the end of the named file, which counts as empty where it isn't held.
     /// Refused, the file has grown by a prefix of the piece, or is as before.
     fn append(&mut self, name: &str, piece: &[u8]) -> Result<(), OutsideErr>
-        ensures appended { Modelled (Appends name.now piece.now result) (held self.old) (held self.new) }
+        ensures appended { Modelled (Appends name.now piece.now result) (held self.old)
+            (held self.new) }
         ensures causes { Causes OutsideErr.Failed result (faults self.old) (faults self.new) }
         ensures wants { Causes OutsideErr.NoMemory result (wants self.old) (wants self.new) };
 }

@@ -9,7 +9,8 @@ use std::alloc::Global;
 use vk_residue::NoMemory;
 use vk_seq::Seq;
 
-/// Files that are to be written one after another, each piece by piece. Files and pieces count from 0.
+/// Files that are to be written one after another, each piece by piece. Files and pieces count from
+/// 0.
 pub trait WrittenFiles {
     /// The files in order.
     ghost files: { Self → List WrittenFile };
@@ -32,7 +33,8 @@ pub trait WrittenFiles {
     fn piece(&self, alloc: Global, file: usize, index: usize) -> Result<Vec<u8>, NoMemory>
         requires file { file < length (files self.now) }
         requires index { index < length (slice_index_or (files self.now) file no_file).pieces }
-        ensures { IfOk result (λ piece. piece.items ≡ slice_index_or (slice_index_or (files self.now) file no_file).pieces index []) };
+        ensures { IfOk result (λ piece. piece.items
+            ≡ slice_index_or (slice_index_or (files self.now) file no_file).pieces index []) };
 }
 
 /// A file that is to be written: its name, and the whole of what it is to hold.
@@ -66,16 +68,19 @@ impl WrittenFiles for Seq<FileText> {
 }
 
 /// Writes the files one after another: each is created, and its pieces are added. Refused, those
-/// before one of them hold their texts, that one is as before or holds a prefix of its text, and the
-/// later ones are as before. All other files stay.
+/// before one of them hold their texts, that one is as before or holds a prefix of its text, and
+/// the later ones are as before. All other files stay.
 pub fn write_files<S: Shelf, F: WrittenFiles>(
     alloc: Global,
     shelf: &mut S,
     files: &F,
 ) -> Result<(), OutsideErr>
-    ensures written { Modelled (WritesAll (texts_of (F.files files.now)) result) (S.held shelf.old) (S.held shelf.new) }
-    ensures causes { Causes OutsideErr.Failed result (S.Shelf.faults shelf.old) (S.Shelf.faults shelf.new) }
-    ensures wants { MayCause OutsideErr.NoMemory result (S.Shelf.wants shelf.old) (S.Shelf.wants shelf.new) }
+    ensures written { Modelled (WritesAll (texts_of (F.files files.now)) result) (S.held shelf.old)
+        (S.held shelf.new) }
+    ensures causes { Causes OutsideErr.Failed result (S.Shelf.faults shelf.old)
+        (S.Shelf.faults shelf.new) }
+    ensures wants { MayCause OutsideErr.NoMemory result (S.Shelf.wants shelf.old)
+        (S.Shelf.wants shelf.new) }
 {
     for file in 0..files.count() {
         write_file(alloc, shelf, files, file)?;
@@ -91,10 +96,14 @@ fn write_file<S: Shelf, F: WrittenFiles>(
     file: usize,
 ) -> Result<(), OutsideErr>
     requires { file < length (F.files files.now) }
-    ensures written { Modelled (Writes (slice_index_or (F.files files.now) file no_file).name (text_of (slice_index_or (F.files files.now) file no_file)) result)
+    ensures written { Modelled
+        (Writes (slice_index_or (F.files files.now) file no_file).name
+        (text_of (slice_index_or (F.files files.now) file no_file)) result)
         (S.held shelf.old) (S.held shelf.new) }
-    ensures causes { Causes OutsideErr.Failed result (S.Shelf.faults shelf.old) (S.Shelf.faults shelf.new) }
-    ensures wants { MayCause OutsideErr.NoMemory result (S.Shelf.wants shelf.old) (S.Shelf.wants shelf.new) }
+    ensures causes { Causes OutsideErr.Failed result (S.Shelf.faults shelf.old)
+        (S.Shelf.faults shelf.new) }
+    ensures wants { MayCause OutsideErr.NoMemory result (S.Shelf.wants shelf.old)
+        (S.Shelf.wants shelf.new) }
 {
     shelf.create(files.name(file))?;
     for index in 0..files.pieces(file) {

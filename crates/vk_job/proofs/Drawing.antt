@@ -31,13 +31,15 @@ use Rattle.vk_job.proofs.Dry.{tapes_of_none}
 
 bytes_of_word : (count n : ℕ) → All (λ byte. byte < 256) (bytes_high_first count n)
 bytes_of_word zero n = All-nil (λ byte. byte < 256)
-bytes_of_word (suc count) n = All-cons (λ byte. byte < 256) (byte_at count n) (bytes_high_first count n) (one count) (bytes_of_word count n)
+bytes_of_word (suc count) n = All-cons (λ byte. byte < 256) (byte_at count n)
+    (bytes_high_first count n) (one count) (bytes_of_word count n)
   where
     one : (i : ℕ) → byte_at i n < 256
     one zero = omega arith
     one (suc i) = omega arith
 
-below_everywhere : (bytes : List ℕ) → All (λ byte. byte < 256) bytes → (i : ℕ) → slice_index bytes i < 256
+below_everywhere : (bytes : List ℕ) → All (λ byte. byte < 256) bytes → (i : ℕ)
+    → slice_index bytes i < 256
 below_everywhere bytes all i =
     elim (cases_lt i (length bytes)) [
       | inl within ↦ all i 0 within
@@ -50,28 +52,36 @@ key_is_bytes ahead =
     let word = λ (k : ℕ). to_be_bytes w64 (ahead k) in
     let are = λ (k : ℕ). bytes_of_word 8 (ahead k) in
     let front = All-append below (word 0) (word 1) (are 0) (are 1) in
-    let back = All-append below (word 2) (word 3) (are 2) (are 3) in
-    (refl, below_everywhere (drawn_key ahead) (All-append below (word 0 ++ word 1) (word 2 ++ word 3) front back))
+    let back = All-append below (word 2) (word 3) (are 2) (are 3) in (
+      refl,
+      below_everywhere (drawn_key ahead)
+          (All-append below (word 0 ++ word 1) (word 2 ++ word 3) front back),
+    )
 
 word_is_residue : (word r : ℕ) → drawn_by word ≡ Some r → IsResidue r
 word_is_residue word r is = grind (arith, nat_tests)
 
-residue_from : (drawn rest : Option ℕ) (word r : ℕ) → drawn_by word ≡ drawn → (rest ≡ Some r → IsResidue r) → first_of drawn rest ≡ Some r → IsResidue r
+residue_from : (drawn rest : Option ℕ) (word r : ℕ) → drawn_by word ≡ drawn
+    → (rest ≡ Some r → IsResidue r) → first_of drawn rest ≡ Some r → IsResidue r
 residue_from None rest word r none later found = later found
 residue_from (Some x) rest word r some later found = word_is_residue word r (some ∙ found)
 
-pub residue_is : (count : ℕ) (ahead : ℕ → ℕ) (r : ℕ) → residue_within count ahead ≡ Some r → IsResidue r
+pub residue_is : (count : ℕ) (ahead : ℕ → ℕ) (r : ℕ) → residue_within count ahead ≡ Some r
+    → IsResidue r
 residue_is zero ahead r is = cc
 residue_is (suc more) ahead r is =
-    residue_from (drawn_by (ahead 0)) (residue_within more (later 1 ahead)) (ahead 0) r refl (residue_is more (later 1 ahead) r) is
+    residue_from (drawn_by (ahead 0)) (residue_within more (later 1 ahead)) (ahead 0) r refl
+    (residue_is more (later 1 ahead) r) is
 
-pub of_some : {X Y : Type 0} (f : X → Y) (o : Option X) (y : Y) → option_map f o ≡ Some y → (x : X) × (o ≡ Some x) × (f x ≡ y)
+pub of_some : {X Y : Type 0} (f : X → Y) (o : Option X) (y : Y) → option_map f o ≡ Some y
+    → (x : X) × (o ≡ Some x) × (f x ≡ y)
 of_some f None y is = cc
 of_some f (Some x) y is = (x, refl, cc)
 
 wire_is : (ahead : ℕ → ℕ) (tape : WireTape) → drawn_wire ahead ≡ Some tape → IsTape tape
 wire_is ahead tape is =
-    let drawn = of_some (λ mask. wire_with mask (after_residue ahead)) (drawn_residue ahead) tape is in
+    let drawn = of_some (λ mask. wire_with mask (after_residue ahead)) (drawn_residue ahead) tape is
+    in
     let right : IsTape (wire_with drawn.0 (after_residue ahead)) = record {
       mask = residue_is 4 ahead drawn.0 drawn.1;
       first_key = key_is_bytes (later 1 (after_residue ahead));
@@ -82,34 +92,50 @@ wire_is ahead tape is =
 -- ---- the tapes of a proof
 
 -- a secret has a tape for each lane of its seal
-pub lanes_of : (id : List ℕ) (width lanes : ℕ) (row : SealRow) → IsSealRow id width lanes row → length row.secret.lanes ≡ lanes
+pub lanes_of : (id : List ℕ) (width lanes : ℕ) (row : SealRow) → IsSealRow id width lanes row
+    → length row.secret.lanes ≡ lanes
 lanes_of id width lanes row is =
-    let made : row.seal ≡ seal_of row.secret = (match_exact row.secret row.seal).0 (rw is.matched refl) in
-    sym (length-lane_coms row.secret.auction row.secret.seat row.secret.bid 1 row.secret.lanes) ∙ sym (ap (λ seal. length seal.lanes) made) ∙ is.count
+    let made : row.seal ≡ seal_of row.secret =
+    (match_exact row.secret row.seal).0 (rw is.matched refl) in
+    sym (length-lane_coms row.secret.auction row.secret.seat row.secret.bid 1 row.secret.lanes)
+    ∙ sym (ap (λ seal. length seal.lanes) made) ∙ is.count
 
-given_is : (lanes lane : ℕ) (row : SealRow) → 1 ≤ lane → lane ≤ lanes → HasTapesFor lanes row → IsTape (wire_tape (tape_in row.secret lane))
+given_is : (lanes lane : ℕ) (row : SealRow) → 1 ≤ lane → lane ≤ lanes → HasTapesFor lanes row
+    → IsTape (wire_tape (tape_in row.secret lane))
 given_is lanes lane row some last has =
-    let tape = All-from_recursion IsXTape row.secret.lanes has.each (lane - 1) no_tape (omega (arith, has.count)) in
+    let tape = All-from_recursion IsXTape row.secret.lanes has.each (lane - 1) no_tape
+    (omega (arith, has.count)) in
     record { mask = tape.0; first_key = tape.1; second_key = tape.2 }
 
-given_are : (rows : List SealRow) (lanes lane : ℕ) → All (HasTapesFor lanes) rows → 1 ≤ lane → lane ≤ lanes → All IsTape (given_in rows lane)
+given_are : (rows : List SealRow) (lanes lane : ℕ) → All (HasTapesFor lanes) rows → 1 ≤ lane
+    → lane ≤ lanes → All IsTape (given_in rows lane)
 given_are rows lanes lane have some last =
     All-map IsTape (λ row. wire_tape (tape_in row.secret lane)) rows
-    (All-weaker (HasTapesFor lanes) (λ row. IsTape (wire_tape (tape_in row.secret lane))) (λ row has. given_is lanes lane row some last has) rows have)
+    (All-weaker (HasTapesFor lanes) (λ row. IsTape (wire_tape (tape_in row.secret lane)))
+    (λ row has. given_is lanes lane row some last has) rows have)
 
 pub one_given_each : (rows : List SealRow) (lane : ℕ) → length (given_in rows lane) ≡ length rows
 one_given_each rows lane = length-map rows (λ row. wire_tape (tape_in row.secret lane))
 
-drawn_is_tape : (proof : ProofValue) (lane : ℕ) (tape : List WireTape) → IsProof proof → 1 ≤ lane → lane ≤ proof.lanes
+drawn_is_tape : (proof : ProofValue) (lane : ℕ) (tape : List WireTape) → IsProof proof → 1 ≤ lane
+    → lane ≤ proof.lanes
     → drawn_in (source_of proof) lane ≡ Ok tape → IsTapeOf proof.plan tape
 unfolding drawn_in
 drawn_is_tape proof lane tape right some last drawn =
     let further = length proof.plan.kinds - proof.plan.inputs in
-    let is = drawn_each wire_drawing IsTape wire_is (given_in proof.rows lane) further (word_at proof.seed proof.id lane) tape (given_are proof.rows proof.lanes lane right.secrets some last) drawn in
+    let is = drawn_each wire_drawing IsTape wire_is (given_in proof.rows lane) further
+    (word_at proof.seed proof.id lane) tape
+    (given_are proof.rows proof.lanes lane right.secrets some last) drawn in
     let few = inputs_within proof.plan right.plan in
-    record { one_each = is.0 ∙ omega (arith, one_given_each proof.rows lane, right.one_input_each, few); each = is.1 }
+    record {
+      one_each = is.0 ∙ omega
+          (arith, one_given_each proof.rows lane, right.one_input_each, few);
+      each = is.1;
+    }
 
-pub lane_tape_is : (proof : ProofValue) (lane : ℕ) → IsProof proof → 1 ≤ lane → lane ≤ proof.lanes → IsTapeOf proof.plan (lane_tape_in proof lane)
+pub lane_tape_is : (proof : ProofValue) (lane : ℕ) → IsProof proof → 1 ≤ lane → lane ≤ proof.lanes
+    → IsTapeOf proof.plan (lane_tape_in proof lane)
 lane_tape_is proof lane right some last =
     let drawn = tapes_of_none (source_of proof) right.none_dry lane some last in
-    subst (IsTapeOf proof.plan) (sym (ap tape_or_none drawn.1)) (drawn_is_tape proof lane drawn.0 right some last drawn.1)
+    subst (IsTapeOf proof.plan) (sym (ap tape_or_none drawn.1))
+    (drawn_is_tape proof lane drawn.0 right some last drawn.1)

@@ -11,7 +11,8 @@ use Rattle.vk_job.specs.Outcome.{greatest, place_of_greatest, all_but, outcome_o
 
 -- ---- the greatest
 
-pub at_most_greatest : (numbers : List ℕ) (k : ℕ) → k < length numbers → slice_index numbers k ≤ greatest numbers
+pub at_most_greatest : (numbers : List ℕ) (k : ℕ) → k < length numbers
+    → slice_index numbers k ≤ greatest numbers
 at_most_greatest [] k lt = absurd (omega arith)
 at_most_greatest (x ∷ xs) zero lt = le-max_left x (greatest xs)
 at_most_greatest (x ∷ xs) (suc k) lt =
@@ -19,7 +20,8 @@ at_most_greatest (x ∷ xs) (suc k) lt =
     omega arith
 
 -- one of them is it
-pub holder_of_greatest : (numbers : List ℕ) → 1 ≤ length numbers → (k : ℕ) × (k < length numbers) × (slice_index numbers k ≡ greatest numbers)
+pub holder_of_greatest : (numbers : List ℕ) → 1 ≤ length numbers → (k : ℕ) × (k < length numbers)
+    × (slice_index numbers k ≡ greatest numbers)
 holder_of_greatest [] some = absurd (omega arith)
 holder_of_greatest (x ∷ []) some = (0, omega arith, omega arith)
 holder_of_greatest (x ∷ y ∷ ys) some =
@@ -37,17 +39,21 @@ place_within bids some =
     elim (cases_lt (place_of_greatest bids) (length bids)) [
       | inl within ↦ within
       | inr past ↦
-          (let fails : eqb (slice_index bids holder.0) (greatest bids) ≡ false = fails_before_first test bids holder.0 0 (omega (arith, holder.1)) in
+          (let fails : eqb (slice_index bids holder.0) (greatest bids)
+          ≡ false = fails_before_first test bids holder.0 0 (omega (arith, holder.1)) in
           let passes = eq-eqb (slice_index bids holder.0) (greatest bids) holder.2 in
           cc (fails, passes))
     ]
 
-place_holds : (bids : List ℕ) → 1 ≤ length bids → slice_index bids (place_of_greatest bids) ≡ greatest bids
+place_holds : (bids : List ℕ) → 1 ≤ length bids
+    → slice_index bids (place_of_greatest bids) ≡ greatest bids
 place_holds bids some =
-    let passes = passes_at_first (λ number. eqb number (greatest bids)) bids 0 (place_within bids some) in
+    let passes = passes_at_first (λ number. eqb number (greatest bids)) bids 0
+    (place_within bids some) in
     grind (arith, nat_tests, passes)
 
-place_first : (bids : List ℕ) (k : ℕ) → k < place_of_greatest bids → k < length bids → slice_index bids k < greatest bids
+place_first : (bids : List ℕ) (k : ℕ) → k < place_of_greatest bids → k < length bids
+    → slice_index bids k < greatest bids
 place_first bids k before within =
     let fails = fails_before_first (λ number. eqb number (greatest bids)) bids k 0 before in
     let most = at_most_greatest bids k within in
@@ -55,25 +61,31 @@ place_first bids k before within =
 
 -- ---- all but one
 
-length_all_but : (place : ℕ) (numbers : List ℕ) → place < length numbers → length (all_but place numbers) ≡ length numbers - 1
+length_all_but : (place : ℕ) (numbers : List ℕ) → place < length numbers
+    → length (all_but place numbers) ≡ length numbers - 1
 length_all_but place numbers within =
     length-append (take place numbers) (drop (place + 1) numbers)
     ∙ omega (arith, length-take-le place numbers (omega arith), length-drop (place + 1) numbers)
 
-before_place : (place : ℕ) (numbers : List ℕ) (k : ℕ) → place < length numbers → k < place → slice_index (all_but place numbers) k ≡ slice_index numbers k
+before_place : (place : ℕ) (numbers : List ℕ) (k : ℕ) → place < length numbers → k < place
+    → slice_index (all_but place numbers) k ≡ slice_index numbers k
 before_place place numbers k within before =
     let long = length-take-le place numbers (omega arith) in
-    get_or_append_left (take place numbers) (drop (place + 1) numbers) 0 k (omega arith) ∙ get_or-take place numbers k 0 before
+    get_or_append_left (take place numbers) (drop (place + 1) numbers) 0 k (omega arith)
+    ∙ get_or-take place numbers k 0 before
 
-after_place : (place : ℕ) (numbers : List ℕ) (k : ℕ) → place < length numbers → place ≤ k → slice_index (all_but place numbers) k ≡ slice_index numbers (k + 1)
+after_place : (place : ℕ) (numbers : List ℕ) (k : ℕ) → place < length numbers → place ≤ k
+    → slice_index (all_but place numbers) k ≡ slice_index numbers (k + 1)
 after_place place numbers k within after =
     let next : place + 1 + (k - place) ≡ k + 1 = omega arith in
-    get_or-append_right (take place numbers) (drop (place + 1) numbers) place k 0 (length-take-le place numbers (omega arith)) after
+    get_or-append_right (take place numbers) (drop (place + 1) numbers) place k 0
+    (length-take-le place numbers (omega arith)) after
     ∙ get_or-drop (place + 1) numbers (k - place) 0
     ∙ ap (slice_index numbers) next
 
 -- each of the others is at most their greatest, and one of them is it
-others_at_most : (place : ℕ) (numbers : List ℕ) (k : ℕ) → place < length numbers → k < length numbers → k ≢ place → slice_index numbers k ≤ greatest (all_but place numbers)
+others_at_most : (place : ℕ) (numbers : List ℕ) (k : ℕ) → place < length numbers
+    → k < length numbers → k ≢ place → slice_index numbers k ≤ greatest (all_but place numbers)
 others_at_most place numbers k within lt other =
     let long = length_all_but place numbers within in
     elim (cases_lt k place) [
@@ -82,24 +94,38 @@ others_at_most place numbers k within lt other =
           omega (arith, at_most_greatest (all_but place numbers) k (omega arith)))
       | inr after ↦
           (let back : k - 1 + 1 ≡ k = omega (arith, other) in
-          let same = after_place place numbers (k - 1) within (omega (arith, other)) ∙ ap (slice_index numbers) back in
+          let same = after_place place numbers (k - 1) within (omega (arith, other))
+          ∙ ap (slice_index numbers) back in
           omega (arith, at_most_greatest (all_but place numbers) (k - 1) (omega (arith, other))))
     ]
 
 holder_of_other : (place : ℕ) (numbers : List ℕ) → place < length numbers → 2 ≤ length numbers
-    → (k : ℕ) × (k < length numbers) × (k ≢ place) × (slice_index numbers k ≡ greatest (all_but place numbers))
+    → (k : ℕ) × (k < length numbers) × (k ≢ place)
+    × (slice_index numbers k ≡ greatest (all_but place numbers))
 holder_of_other place numbers within many =
     let long = length_all_but place numbers within in
     let holder = holder_of_greatest (all_but place numbers) (omega arith) in
     let k : ℕ = holder.0 in
     let lt : k < length (all_but place numbers) = holder.1 in
     elim (cases_lt k place) [
-      | inl before ↦ (k, omega arith, (λ e. omega arith), sym (before_place place numbers k within before) ∙ holder.2)
-      | inr after ↦ (k + 1, omega arith, (λ e. omega arith), sym (after_place place numbers k within after) ∙ holder.2)
+      | inl before ↦ (
+        k,
+        omega arith,
+        (λ e. omega arith),
+        sym (before_place place numbers k within before) ∙ holder.2,
+      )
+      | inr after ↦ (
+        k + 1,
+        omega arith,
+        (λ e. omega arith),
+        sym (after_place place numbers k within after) ∙ holder.2,
+      )
     ]
 
-none_but : (place : ℕ) (numbers : List ℕ) → place < length numbers → length numbers ≡ 1 → greatest (all_but place numbers) ≡ 0
-none_but place numbers within one = no_numbers (all_but place numbers) (length_all_but place numbers within ∙ omega arith)
+none_but : (place : ℕ) (numbers : List ℕ) → place < length numbers → length numbers ≡ 1
+    → greatest (all_but place numbers) ≡ 0
+none_but place numbers within one =
+    no_numbers (all_but place numbers) (length_all_but place numbers within ∙ omega arith)
   where
     no_numbers : (xs : List ℕ) → length xs ≡ 0 → greatest xs ≡ 0
     no_numbers [] none = refl
@@ -108,13 +134,15 @@ none_but place numbers within one = no_numbers (all_but place numbers) (length_a
 -- ---- the outcome
 
 -- the winner's bid is the greatest
-pub outcome_bids_most : (bids : List ℕ) → 1 ≤ length bids → bid_at bids (outcome_of bids).position ≡ greatest bids
+pub outcome_bids_most : (bids : List ℕ) → 1 ≤ length bids
+    → bid_at bids (outcome_of bids).position ≡ greatest bids
 unfolding outcome_of
 outcome_bids_most bids some =
     let back : place_of_greatest bids + 1 - 1 ≡ place_of_greatest bids = omega arith in
     ap (slice_index bids) back ∙ place_holds bids some
 
-pub outcome_is_vickrey : (bids : List ℕ) → 1 ≤ length bids → IsVickreyOutcome bids (outcome_of bids).position (outcome_of bids).price
+pub outcome_is_vickrey : (bids : List ℕ) → 1 ≤ length bids
+    → IsVickreyOutcome bids (outcome_of bids).position (outcome_of bids).price
 unfolding outcome_of
 outcome_is_vickrey bids some =
     let place = place_of_greatest bids in
@@ -122,16 +150,24 @@ outcome_is_vickrey bids some =
     let best : bid_at bids (place + 1) ≡ greatest bids = outcome_bids_most bids some in
     record {
       is_position = record { some = omega arith; within = omega arith };
-      none_bids_more = λ other at. omega (arith, at_most_greatest bids (other - 1) (omega (arith, at.some, at.within)));
-      first_of_the_greatest = λ other at before. omega (arith, place_first bids (other - 1) (omega (arith, at.some)) (omega (arith, at.some, at.within)));
+      none_bids_more = λ other at.
+          omega (arith, at_most_greatest bids (other - 1) (omega (arith, at.some, at.within)));
+      first_of_the_greatest = λ other at before.
+          omega (
+            arith,
+            place_first bids (other - 1) (omega (arith, at.some))
+                (omega (arith, at.some, at.within)),
+          );
       alone_pays_0 = none_but place bids within;
-      others_within_price = λ many other at ne. others_at_most place bids (other - 1) within (omega (arith, at.some, at.within)) (λ e. ne (omega (arith, at.some)));
+      others_within_price = λ many other at ne. others_at_most place bids (other - 1) within
+          (omega (arith, at.some, at.within)) (λ e. ne (omega (arith, at.some)));
       price_is_bid = λ many.
           let held = holder_of_other place bids within many in
           record {
             holder = held.0 + 1;
             is_position = record { some = omega arith; within = omega (arith, held.1) };
             is_other = λ e. held.2 (omega arith);
-            bids_price = (let e : held.0 + 1 - 1 ≡ held.0 = omega arith in ap (slice_index bids) e) ∙ held.3;
+            bids_price = (let e : held.0 + 1 - 1 ≡ held.0 = omega arith in ap (slice_index bids) e)
+                ∙ held.3;
           };
     }

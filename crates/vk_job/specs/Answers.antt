@@ -15,6 +15,8 @@ dry_refusal (Some dry) = Err (DrySeed dry.lane dry.wire)
 -- the job of the auction, which is proved, or the first wire that is dry in it; want of memory is
 -- told only where none is dry
 abbrev pub JobAnswer : Result JobValue JobErr → Auction → Type 0
-JobAnswer (Ok job) auction = (job ≡ record { auction = auction; sale = sale_in auction }) × IsProvedAuction auction
-JobAnswer (Err (DrySeed lane wire)) auction = dry_in auction (seed_in auction) ≡ Some (record { lane = lane; wire = wire })
+JobAnswer (Ok job) auction = (job ≡ record { auction = auction; sale = sale_in auction })
+    × IsProvedAuction auction
+JobAnswer (Err (DrySeed lane wire)) auction =
+    dry_in auction (seed_in auction) ≡ Some (record { lane = lane; wire = wire })
 JobAnswer (Err NoMemory) auction = dry_in auction (seed_in auction) ≡ None

@@ -28,7 +28,8 @@ sale_from-sale_parts Unsold = refl
 
 -- by which proofs tell jobs apart: each as the tuple of its fields
 abbrev pub sale_code : Coded Sale
-sale_code = code_by (Option (ℕ × ℕ)) (coded_option (coded× coded_ℕ coded_ℕ)) sale_parts sale_from sale_from-sale_parts
+sale_code = code_by (Option (ℕ × ℕ)) (coded_option (coded× coded_ℕ coded_ℕ)) sale_parts sale_from
+    sale_from-sale_parts
 
 abbrev pub job_code : Coded JobValue
 job_code =
@@ -36,8 +37,9 @@ job_code =
     (λ j. (j.auction, j.sale)) (λ p. record { auction = p.0; sale = p.1 }) (λ _. refl)
 
 -- what every job keeps: its auction is proved, and the rest is what the auction gives
-pub record IsJob (auction : Auction) (sale : Sale) (plan : PlanValue) (values : List ℕ) : Type 0 where
-  pub proved : IsProvedAuction auction
-  pub sale_is : sale ≡ sale_in auction
-  pub plan_is : plan ≡ plan_of auction
-  pub values_are : values ≡ values_of auction
+pub record IsJob (auction : Auction) (sale : Sale) (plan : PlanValue) (values : List ℕ) : Type 0
+  where
+    pub proved : IsProvedAuction auction
+    pub sale_is : sale ≡ sale_in auction
+    pub plan_is : plan ≡ plan_of auction
+    pub values_are : values ≡ values_of auction

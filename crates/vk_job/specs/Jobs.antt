@@ -24,11 +24,13 @@ sale_in auction = sale_of (bids_of auction) auction.reserve
 
 -- the seat that wins, none where nothing is sold
 abbrev pub winner_of : Auction → Option ℕ
-winner_of auction = option_map (λ position. slice_index (seats_of auction) (position - 1)) (position_in (sale_in auction))
+winner_of auction = option_map (λ position. slice_index (seats_of auction) (position - 1))
+    (position_in (sale_in auction))
 
 -- the numbers that its board publishes
 abbrev pub numbers_in : Auction → BoardNumbers
-numbers_in auction = board_numbers auction.version (length auction.seals) auction.width auction.reserve (sale_in auction)
+numbers_in auction = board_numbers auction.version (length auction.seals) auction.width
+    auction.reserve (sale_in auction)
 
 -- the circuit that shows the sale, and the values of its wires
 unfoldable pub plan_of : Auction → PlanValue

@@ -33,16 +33,21 @@ HasTapes source = EachLane source.lanes (IsDrawnIn source)
 abbrev pub HasTapesOfPlan : ProofValue → Type 0
 HasTapesOfPlan proof = EachLane proof.lanes (λ lane. IsTapeOf proof.plan (lane_tape_in proof lane))
 
--- what is published of each lane has two digests for each wire after the inputs, and a number for each row
+-- what is published of each lane has two digests for each wire after the inputs, and a number for
+-- each row
 abbrev pub HasLaneLines : ProofValue → Type 0
 HasLaneLines proof =
-    AllByRecursion (IsLaneLines (length proof.plan.kinds - proof.plan.inputs) (length proof.plan.rows)) (lanes_in proof)
+    AllByRecursion (IsLaneLines (length proof.plan.kinds - proof.plan.inputs)
+    (length proof.plan.rows)) (lanes_in proof)
 
 -- what is shown of each lane for a bit has what each wire's kind and the bit ask for
 abbrev pub HasShown : ProofValue → Type 0
-HasShown proof = (bit : Bool) → EachLane proof.lanes (λ lane. AreShown proof.plan.kinds bit (lane_shown_in proof lane bit))
+HasShown proof = (bit : Bool) → EachLane proof.lanes
+    (λ lane. AreShown proof.plan.kinds bit (lane_shown_in proof lane bit))
 
 -- what is shown for a challenge that has a bit for each lane is a reply
 abbrev pub HasReplies : ProofValue → Type 0
-HasReplies proof = (challenge : Challenge) → IsChallenge challenge → length challenge.bits ≡ proof.lanes
-    → IsReply proof.plan.kinds (λ lane. slice_index_or challenge.bits (lane - 1) false) (lanes_shown_from proof 1 challenge.bits)
+HasReplies proof = (challenge : Challenge) → IsChallenge challenge
+    → length challenge.bits ≡ proof.lanes
+    → IsReply proof.plan.kinds (λ lane. slice_index_or challenge.bits (lane - 1) false)
+    (lanes_shown_from proof 1 challenge.bits)

@@ -1,4 +1,5 @@
--- The outcome of bids, and their sale under a reserve, as functions of them: who wins, and at which price.
+-- The outcome of bids, and their sale under a reserve, as functions of them: who wins, and at which
+-- price.
 use Rattle.std.specs.Prelude.{ℕ, ◌+◌, ◌==◌, if◌then◌else◌, nat_lt, max, List, [], ◌∷◌, ◌++◌, take, drop, Option, Some, None}
 use Rattle.std.specs.List.{position_or_len}
 use Rattle.vk_vickrey.specs.declared.outcomes.VickreyOutcome.{VickreyOutcome}
@@ -20,13 +21,17 @@ all_but place numbers = take place numbers ++ drop (place + 1) numbers
 
 -- the first of the greatest bids wins, at the greatest of the others
 unfoldable pub outcome_of : List ℕ → VickreyOutcome
-outcome_of bids = record { position = place_of_greatest bids + 1; price = greatest (all_but (place_of_greatest bids) bids) }
+outcome_of bids = record {
+  position = place_of_greatest bids + 1;
+  price = greatest (all_but (place_of_greatest bids) bids);
+}
 
--- Nothing is sold where the greatest bid is below the reserve. Else the same bid wins, at the greatest of the others, or at
--- the reserve where that is more.
+-- Nothing is sold where the greatest bid is below the reserve. Else the same bid wins, at the
+-- greatest of the others, or at the reserve where that is more.
 unfoldable pub sale_of : List ℕ → ℕ → Sale
 sale_of bids reserve =
-    if nat_lt (greatest bids) reserve then Unsold else Sold (outcome_of bids).position (max (outcome_of bids).price reserve)
+    if nat_lt (greatest bids) reserve then Unsold
+    else Sold (outcome_of bids).position (max (outcome_of bids).price reserve)
 
 -- ---- what a sale tells
 

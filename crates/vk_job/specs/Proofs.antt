@@ -1,5 +1,5 @@
--- What an honest proof is made from, and what comes of it: the tapes of its lanes, what is published, what is shown, and
--- the files. Lanes count from 1, wires from 0.
+-- What an honest proof is made from, and what comes of it: the tapes of its lanes, what is
+-- published, what is shown, and the files. Lanes count from 1, wires from 0.
 use Rattle.std.specs.Prelude.{◌≡◌, ℕ, zero, suc, ◌+◌, ◌-◌, ◌<◌, ◌≤◌, Bool, All, List, [], ◌∷◌, ◌++◌, length, map, codes, Option, Some, None, Result, Ok, Err}
 use Rattle.std.specs.List.{AllByRecursion, flat_map}
 use Rattle.vk_residue.specs.Limits.{IsLaneCount}
@@ -19,8 +19,9 @@ use Rattle.vk_prover.specs.Drawn.{drawn_tape}
 use Rattle.vk_prover.specs.Honest.{honest_lane, honest_reply}
 use Rattle.vk_keeper.specs.declared.auction.SealRow.{SealRow}
 
--- what an honest proof is made from: the auction's id, the rows of the inputs (each a seal with its secret), how many
--- lanes there are, the auctioneer's seed, the circuit, and the values of its wires
+-- what an honest proof is made from: the auction's id, the rows of the inputs (each a seal with its
+-- secret), how many lanes there are, the auctioneer's seed, the circuit, and the values of its
+-- wires
 pub record ProofValue : Type 0 where
   pub id : List ℕ
   pub rows : List SealRow
@@ -31,8 +32,8 @@ pub record ProofValue : Type 0 where
 
 -- ---- tapes
 
--- what the tapes of the lanes come from: all that but the circuit and its values, of which it is enough to know how many
--- wires each lane has after the inputs
+-- what the tapes of the lanes come from: all that but the circuit and its values, of which it is
+-- enough to know how many wires each lane has after the inputs
 pub record TapeSource : Type 0 where
   pub id : List ℕ
   pub rows : List SealRow
@@ -54,10 +55,11 @@ source_of proof = record {
 abbrev pub given_in : List SealRow → ℕ → List WireTape
 given_in rows lane = map (λ row. wire_tape (tape_in row.secret lane)) rows
 
--- the tape of a lane: those, and for each further wire what is drawn from the seed's words in the stream of the
--- lane; or the first wire whose tape can't be drawn
+-- the tape of a lane: those, and for each further wire what is drawn from the seed's words in the
+-- stream of the lane; or the first wire whose tape can't be drawn
 unfoldable pub drawn_in : TapeSource → ℕ → Result (List WireTape) ℕ
-drawn_in source lane = drawn_tape (given_in source.rows lane) source.further (word_at source.seed source.id lane)
+drawn_in source lane = drawn_tape (given_in source.rows lane) source.further
+    (word_at source.seed source.id lane)
 
 -- a wire of a lane that is dry: its tape can't be drawn from the seed's words
 pub record Dry : Type 0 where
@@ -72,7 +74,8 @@ dry_or (Err wire) lane later = Some (record { lane = lane; wire = wire })
 -- the first such wire, in the first such lane of so many from that one on
 unfoldable pub first_dry_from : TapeSource → ℕ → ℕ → Option Dry
 first_dry_from source lane zero = None
-first_dry_from source lane (suc more) = dry_or (drawn_in source lane) lane (first_dry_from source (lane + 1) more)
+first_dry_from source lane (suc more) =
+    dry_or (drawn_in source lane) lane (first_dry_from source (lane + 1) more)
 
 -- the first wire that is dry, if there is one
 abbrev pub first_dry_in : TapeSource → Option Dry
@@ -105,7 +108,8 @@ pub record HasTapesFor (lanes : ℕ) (row : SealRow) : Type 0 where
   pub count : length row.secret.lanes ≡ lanes
   pub each : AllByRecursion IsXTape row.secret.lanes
 
--- an input for each row, values that hold for the circuit, 1 to 64 lanes, and each of them has a tape
+-- an input for each row, values that hold for the circuit, 1 to 64 lanes, and each of them has a
+-- tape
 pub record IsProof (proof : ProofValue) : Type 0 where
   pub plan : IsPlan proof.plan
   pub one_input_each : length proof.rows ≡ proof.plan.inputs
@@ -136,12 +140,14 @@ lanes_in proof = listed (λ index. lane_in proof (index + 1)) proof.lanes
 
 -- what is shown of a lane for the bit
 unfoldable pub lane_shown_in : ProofValue → ℕ → Bool → List Shown
-lane_shown_in proof lane bit = honest_reply proof.plan.kinds proof.values (lane_tape_in proof lane) bit
+lane_shown_in proof lane bit =
+    honest_reply proof.plan.kinds proof.values (lane_tape_in proof lane) bit
 
 -- what is shown of each lane for its bit, from the lane of that number on
 abbrev pub lanes_shown_from : ProofValue → ℕ → List Bool → List (List Shown)
 lanes_shown_from proof lane [] = []
-lanes_shown_from proof lane (bit ∷ bits) = lane_shown_in proof lane bit ∷ lanes_shown_from proof (lane + 1) bits
+lanes_shown_from proof lane (bit ∷ bits) =
+    lane_shown_in proof lane bit ∷ lanes_shown_from proof (lane + 1) bits
 
 -- ---- the files
 
@@ -168,7 +174,9 @@ file_pieces head proof =
 -- the lanes of a reply, from the lane of that number on
 abbrev pub reply_lanes_in : ProofValue → ℕ → List Bool → List (List ℕ)
 reply_lanes_in proof lane [] = []
-reply_lanes_in proof lane (bit ∷ bits) = reply_lane_text lane (lane_shown_in proof lane bit) ∷ reply_lanes_in proof (lane + 1) bits
+reply_lanes_in proof lane (bit ∷ bits) =
+    reply_lane_text lane (lane_shown_in proof lane bit) ∷ reply_lanes_in proof (lane + 1) bits
 
 abbrev pub reply_pieces_in : ProofValue → List Bool → List (List ℕ)
-reply_pieces_in proof bits = reply_head_text (length bits) ∷ (reply_lanes_in proof 1 bits ++ line (codes "end") ∷ [])
+reply_pieces_in proof bits = reply_head_text (length bits)
+    ∷ (reply_lanes_in proof 1 bits ++ line (codes "end") ∷ [])

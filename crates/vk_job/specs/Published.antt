@@ -1,4 +1,5 @@
--- What an honest auctioneer publishes of an auction that is proved, and what it shows for a challenge.
+-- What an honest auctioneer publishes of an auction that is proved, and what it shows for a
+-- challenge.
 use Rattle.std.specs.Prelude.{◌≡◌, ℕ, ◌-◌, Bool, false, slice_index_or, List, length, map}
 use Rattle.vk_wire.specs.declared.wire.Shown.{Shown}
 use Rattle.vk_board.specs.declared.board.Head.{Head}
@@ -34,7 +35,11 @@ abbrev pub lane_of : Auction → ℕ → LaneLines
 lane_of auction lane = lane_in (proof_of auction) lane
 
 abbrev pub published : Auction → Board
-published auction = record { head = head_of auction; seals = map seal_lines_of auction.seals; lanes = lanes_in (proof_of auction) }
+published auction = record {
+  head = head_of auction;
+  seals = map seal_lines_of auction.seals;
+  lanes = lanes_in (proof_of auction);
+}
 
 -- the board's file, and its pieces
 abbrev pub board_of : Auction → List ℕ

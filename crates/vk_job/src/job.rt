@@ -45,8 +45,8 @@ impl Model for Job {
 }
 
 impl Job {
-    /// The job of an auction whose phase has a seed. Errs where a wire is dry, which the first is told
-    /// of, whatever memory there is; and where none is dry, for want of memory.
+    /// The job of an auction whose phase has a seed. Errs where a wire is dry, which the first is
+    /// told of, whatever memory there is; and where none is dry, for want of memory.
     pub fn of(alloc: Global, auction: Auction) -> Result<Job, JobErr>
         requires right { IsAuction auction }
         requires seeded { IsSome (seed_of auction.phase) }
@@ -116,7 +116,8 @@ impl Job {
         requires some { 1 ≤ position }
         requires last { position ≤ length self.now.auction.seals }
         ensures { IfOk result
-            (λ lines. lines ≡ seal_lines_of (slice_index_or self.now.auction.seals (position - 1) no_row)) }
+            (λ lines. lines ≡ seal_lines_of
+            (slice_index_or self.now.auction.seals (position - 1) no_row)) }
     {
         let lines = self.proof().seal(alloc, position)?;
         Ok(lines)
@@ -142,13 +143,15 @@ impl Job {
         Ok(shown)
     }
 
-    /// What is shown of the lane, counted from 1, for its bit in the challenge that is kept. The phase has one.
+    /// What is shown of the lane, counted from 1, for its bit in the challenge that is kept. The
+    /// phase has one.
     pub fn reply(&self, alloc: Global, lane: u32) -> Result<Seq<Shown>, NoMemory>
         requires answered { IsSome (challenge_of self.now.auction.phase) }
         requires some { 1 ≤ lane }
         requires last { lane ≤ self.now.auction.lanes }
         ensures { IfOk result
-            (λ shown. shown ≡ shown_in self.now.auction lane (kept_bit self.now.auction.phase lane)) }
+            (λ shown. shown ≡ shown_in self.now.auction lane
+            (kept_bit self.now.auction.phase lane)) }
     {
         let bit = bit_in(&self.auction.phase, lane);
         let shown = self.shown(alloc, lane, bit)?;
@@ -165,15 +168,16 @@ impl Job {
     /// A piece of the board's file, counted from 0.
     pub fn board_piece(&self, alloc: Global, index: usize) -> Result<Vec<u8>, NoMemory>
         requires { index < length (board_pieces self.now.auction) }
-        ensures { IfOk result (λ piece. piece.items ≡ slice_index_or (board_pieces self.now.auction) index []) }
+        ensures { IfOk result (λ piece. piece.items
+            ≡ slice_index_or (board_pieces self.now.auction) index []) }
     {
         let head = head_text(alloc, &self.head())?;
         let piece = self.proof().file_piece(alloc, head.as_slice(), index)?;
         Ok(piece)
     }
 
-    /// How many pieces the file of the reply to a challenge is written in: its head, each lane, and its
-    /// end. The challenge has a bit for each lane.
+    /// How many pieces the file of the reply to a challenge is written in: its head, each lane, and
+    /// its end. The challenge has a bit for each lane.
     pub fn reply_pieces(&self, challenge: &Challenge) -> usize
         requires { length challenge.now.bits ≡ self.now.auction.lanes }
         ensures { result ≡ length (reply_pieces self.now.auction challenge.now) }
@@ -191,7 +195,8 @@ impl Job {
         requires bits { length challenge.now.bits ≡ self.now.auction.lanes }
         requires index { index < length (reply_pieces self.now.auction challenge.now) }
         ensures { IfOk result
-            (λ piece. piece.items ≡ slice_index_or (reply_pieces self.now.auction challenge.now) index []) }
+            (λ piece. piece.items
+            ≡ slice_index_or (reply_pieces self.now.auction challenge.now) index []) }
     {
         let piece = self.proof().reply_piece(alloc, challenge, index)?;
         Ok(piece)

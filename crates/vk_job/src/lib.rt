@@ -1,5 +1,5 @@
-//! What an honest auctioneer makes: a proof over sealed inputs, with its file and its replies; and the job of an
-//! auction whose seals are taken, with its sale and its board.
+//! What an honest auctioneer makes: a proof over sealed inputs, with its file and its replies; and
+//! the job of an auction whose seals are taken, with its sale and its board.
 #![tactic(auto)]
 
 mod errors;

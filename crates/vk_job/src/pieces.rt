@@ -23,7 +23,8 @@ impl<'a> HonestProof<'a> {
     /// A piece of its file behind that text of a head, counted from 0, which is that text.
     pub fn file_piece(&self, alloc: Global, head: &[u8], index: usize) -> Result<Vec<u8>, NoMemory>
         requires { index < length (file_pieces head.now self.now) }
-        ensures { IfOk result (λ piece. piece.items ≡ slice_index_or (file_pieces head.now self.now) index []) }
+        ensures { IfOk result (λ piece. piece.items
+            ≡ slice_index_or (file_pieces head.now self.now) index []) }
     {
         let seals = self.seals();
         let lanes = self.lanes() as usize;
@@ -48,7 +49,8 @@ impl<'a> HonestProof<'a> {
         requires some { 1 ≤ position }
         requires last { position ≤ length self.now.rows }
         ensures { IfOk result (λ piece.
-            piece.items ≡ seal_lines_text (seal_lines_of (slice_index_or self.now.rows (position - 1) no_row))) }
+            piece.items ≡ seal_lines_text
+            (seal_lines_of (slice_index_or self.now.rows (position - 1) no_row))) }
     {
         let lines = self.seal(alloc, position)?;
         let piece = seal_lines_text(alloc, &lines)?;
@@ -66,8 +68,8 @@ impl<'a> HonestProof<'a> {
         Ok(piece)
     }
 
-    /// How many pieces the file of the reply to a challenge is written in: its head, each lane, and its
-    /// end. The challenge has a bit for each lane.
+    /// How many pieces the file of the reply to a challenge is written in: its head, each lane, and
+    /// its end. The challenge has a bit for each lane.
     pub fn reply_pieces(&self, challenge: &Challenge) -> usize
         requires { length challenge.now.bits ≡ self.now.lanes }
         ensures { result ≡ length (reply_pieces_in self.now challenge.now.bits) }
@@ -85,7 +87,8 @@ impl<'a> HonestProof<'a> {
         requires bits { length challenge.now.bits ≡ self.now.lanes }
         requires index { index < length (reply_pieces_in self.now challenge.now.bits) }
         ensures { IfOk result
-            (λ piece. piece.items ≡ slice_index_or (reply_pieces_in self.now challenge.now.bits) index []) }
+            (λ piece. piece.items
+            ≡ slice_index_or (reply_pieces_in self.now challenge.now.bits) index []) }
     {
         let lanes = self.lanes();
         if index == 0 {
@@ -105,7 +108,8 @@ impl<'a> HonestProof<'a> {
     fn shown_piece(&self, alloc: Global, lane: u32, bit: bool) -> Result<Vec<u8>, NoMemory>
         requires some { 1 ≤ lane }
         requires last { lane ≤ self.now.lanes }
-        ensures { IfOk result (λ piece. piece.items ≡ reply_lane_text lane (lane_shown_in self.now lane bit)) }
+        ensures { IfOk result (λ piece. piece.items
+            ≡ reply_lane_text lane (lane_shown_in self.now lane bit)) }
     {
         let shown = self.shown(alloc, lane, bit)?;
         let piece = reply_lane_text(alloc, lane, shown.as_slice())?;

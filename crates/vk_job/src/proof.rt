@@ -30,14 +30,30 @@ impl<'a> Model for HonestProof<'a> {
 
     ghost Value = { ProofValue };
 
-    ghost view = { λ p. record { id = p.id.now; rows = p.rows.now; lanes = p.lanes; seed = p.seed; plan = p.plan.now; values = p.values.now } };
+    ghost view = { λ p. record {
+      id = p.id.now;
+      rows = p.rows.now;
+      lanes = p.lanes;
+      seed = p.seed;
+      plan = p.plan.now;
+      values = p.values.now;
+    } };
 
-    ghost invariant = { λ p. IsProof (record { id = p.id.now; rows = p.rows.now; lanes = p.lanes; seed = p.seed; plan = p.plan.now; values = p.values.now }) };
+    ghost invariant = { λ p. IsProof
+        (record {
+          id = p.id.now;
+          rows = p.rows.now;
+          lanes = p.lanes;
+          seed = p.seed;
+          plan = p.plan.now;
+          values = p.values.now;
+        }) };
 }
 
 impl<'a> HonestProof<'a> {
-    /// The proof that is made from the auction's id, the rows of the circuit's inputs, so many lanes, the
-    /// auctioneer's seed, and the values of the circuit's wires. `check_tapes` tells that no wire is dry.
+    /// The proof that is made from the auction's id, the rows of the circuit's inputs, so many
+    /// lanes, the auctioneer's seed, and the values of the circuit's wires. `check_tapes` tells
+    /// that no wire is dry.
     pub fn of(
         id: &'a [u8; 16],
         rows: &'a [SealRow],
@@ -46,8 +62,22 @@ impl<'a> HonestProof<'a> {
         plan: &'a Plan,
         values: &'a [Residue],
     ) -> HonestProof<'a>
-        requires { IsProof (record { id = id.now; rows = rows.now; lanes = lanes; seed = seed; plan = plan.now; values = values.now }) }
-        ensures { result ≡ record { id = id.now; rows = rows.now; lanes = lanes; seed = seed; plan = plan.now; values = values.now } }
+        requires { IsProof (record {
+          id = id.now;
+          rows = rows.now;
+          lanes = lanes;
+          seed = seed;
+          plan = plan.now;
+          values = values.now;
+        }) }
+        ensures { result ≡ record {
+          id = id.now;
+          rows = rows.now;
+          lanes = lanes;
+          seed = seed;
+          plan = plan.now;
+          values = values.now;
+        } }
     {
         HonestProof {
             id,

@@ -13,8 +13,8 @@ use vk_prover::first_dry;
 use vk_residue::NoMemory;
 use vk_wire::WireTape;
 
-/// Errs where a lane has no tape: the first such, and its first wire that is dry. Each lane has so many
-/// wires further than the rows. Takes no memory.
+/// Errs where a lane has no tape: the first such, and its first wire that is dry. Each lane has so
+/// many wires further than the rows. Takes no memory.
 pub fn check_tapes(
     id: &[u8; 16],
     rows: &[SealRow],
@@ -23,7 +23,14 @@ pub fn check_tapes(
     further: u32,
 ) -> Result<(), JobErr>
     requires { length rows.now + further < 2 ^ 32 }
-    ensures { result ≡ dry_refusal (first_dry_in (record { id = id.now; rows = rows.now; lanes = lanes; seed = seed.now; further = further })) }
+    ensures { result ≡ dry_refusal
+        (first_dry_in (record {
+          id = id.now;
+          rows = rows.now;
+          lanes = lanes;
+          seed = seed.now;
+          further = further;
+        })) }
 {
     for before in 0..lanes {
         let lane = before + 1;
@@ -35,7 +42,9 @@ pub fn check_tapes(
 /// Errs where the lane has no tape: its words run dry for one of the wires further than the inputs.
 fn check_tape(inputs: u32, further: u32, mut words: ChaChaWords, lane: u32) -> Result<(), JobErr>
     requires { inputs + further < 2 ^ 32 }
-    ensures { result ≡ dry_refusal (option_map (λ wire. record { lane = lane; wire = wire }) (dry_wire inputs further (words_ahead words))) }
+    ensures { result ≡ dry_refusal
+        (option_map (λ wire. record { lane = lane; wire = wire })
+        (dry_wire inputs further (words_ahead words))) }
 {
     match first_dry(inputs, further, &mut words) {
         Some(wire) => Err(JobErr::DrySeed { lane, wire }),

@@ -20,7 +20,8 @@ use Rattle.vk_keeper.specs.Joining.{refused_if, first_of, is_taken, join_refusal
 use Rattle.vk_keeper.proofs.Rows.{with_row}
 
 -- where none is the first, none is there
-none_here : {X : Type 0} (here : Option X) (rest : List (Option X)) → first_of (here ∷ rest) ≡ None → (here ≡ None) × (first_of rest ≡ None)
+none_here : {X : Type 0} (here : Option X) (rest : List (Option X)) → first_of (here ∷ rest) ≡ None
+    → (here ≡ None) × (first_of rest ≡ None)
 unfolding first_of
 none_here None rest none = (refl, none)
 none_here (Some x) rest none = absurd (true≢false (ap is_some none))
@@ -48,18 +49,23 @@ neither false true none = absurd (true≢false none)
 neither true b none = absurd (true≢false none)
 
 -- a seal in which no field differs is that of the secret
-no_mismatch : (found : Result Unit seal_mismatch.Mismatch) → option_map Mismatch (result_err found) ≡ None → found ≡ Ok tt
+no_mismatch : (found : Result Unit seal_mismatch.Mismatch)
+    → option_map Mismatch (result_err found) ≡ None → found ≡ Ok tt
 no_mismatch (Ok done) none = refl
 no_mismatch (Err mismatch) none = absurd (true≢false (ap is_some none))
 
 -- no held seal has a seat that isn't taken
-others_at : (seat : ℕ) (held : List SealRow) → is_taken seat held ≡ false → All (λ earlier. earlier.seal.seat ≢ seat) held
+others_at : (seat : ℕ) (held : List SealRow) → is_taken seat held ≡ false
+    → All (λ earlier. earlier.seal.seat ≢ seat) held
 others_at seat [] free = All-nil (λ earlier. earlier.seal.seat ≢ seat)
 others_at seat (row ∷ held) free =
     let none = neither (row.seal.seat == seat) (is_taken seat held) free in
-    All-cons (λ earlier. earlier.seal.seat ≢ seat) row held (other row.seal.seat seat none.0) (others_at seat held none.1)
+    All-cons (λ earlier. earlier.seal.seat ≢ seat) row held (other row.seal.seat seat none.0)
+    (others_at seat held none.1)
 
-pub may_join : (auction : Auction) (row : SealRow) → IsAuction auction → IsSeal row.seal → IsSecret row.secret → join_refusal auction row.seal row.secret ≡ None → IsAuction (with_last auction row)
+pub may_join : (auction : Auction) (row : SealRow) → IsAuction auction → IsSeal row.seal
+    → IsSecret row.secret → join_refusal auction row.seal row.secret ≡ None
+    → IsAuction (with_last auction row)
 may_join auction row is seal secret none =
     let full = none_here _ _ none in
     let foreign = none_here _ _ full.1 in
@@ -67,15 +73,20 @@ may_join auction row is seal secret none =
     let length_of = none_here _ _ taken.1 in
     let large = none_here _ _ length_of.1 in
     let unmatched = none_here _ _ large.1 in
-    let own = denied _ (test_fails (not (bytes_eq row.seal.auction auction.id)) (OtherAuction row.seal.auction) foreign.0) in
-    let count = denied _ (test_fails (not (length row.seal.lanes == auction.lanes)) (Length auction.lanes (length row.seal.lanes)) length_of.0) in
-    with_row auction row is (leb-false 64 (length auction.seals) (test_fails (nat_le 64 (length auction.seals)) Full full.0))
+    let own = denied _ (test_fails (not (bytes_eq row.seal.auction auction.id))
+    (OtherAuction row.seal.auction) foreign.0) in
+    let count = denied _ (test_fails (not (length row.seal.lanes == auction.lanes))
+    (Length auction.lanes (length row.seal.lanes)) length_of.0) in
+    with_row auction row is (leb-false 64 (length auction.seals)
+    (test_fails (nat_le 64 (length auction.seals)) Full full.0))
     (record {
       seal = seal;
       secret = secret;
       id = (bytes_eq-Decides row.seal.auction auction.id).0 own;
       count = same (length row.seal.lanes) auction.lanes count;
       matched = no_mismatch (match_of row.secret row.seal) unmatched.0;
-      small_bid = leb-false (2 ^ auction.width) row.secret.bid (test_fails (nat_le (2 ^ auction.width) row.secret.bid) BidTooLarge large.0);
+      small_bid = leb-false (2 ^ auction.width) row.secret.bid
+          (test_fails (nat_le (2 ^ auction.width) row.secret.bid) BidTooLarge large.0);
     })
-    (others_at row.seal.seat auction.seals (test_fails (is_taken row.seal.seat auction.seals) SeatTaken taken.0))
+    (others_at row.seal.seat auction.seals
+    (test_fails (is_taken row.seal.seat auction.seals) SeatTaken taken.0))

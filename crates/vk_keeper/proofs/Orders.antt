@@ -8,7 +8,8 @@ one_call Get old = refl
 one_call Put old = refl
 
 -- below the greatest number each call counts
-all_counted : (calls : List Call) (old : Turns) → old.calls + length calls < 2 ^ 64 → (turns_after_all calls old).calls ≡ old.calls + length calls
+all_counted : (calls : List Call) (old : Turns) → old.calls + length calls < 2 ^ 64
+    → (turns_after_all calls old).calls ≡ old.calls + length calls
 all_counted [] old below = omega arith
 all_counted (call ∷ later) old below =
     let next = one_call call old in
@@ -16,17 +17,30 @@ all_counted (call ∷ later) old below =
     omega (arith, next, rest)
 
 -- other calls leave another number of calls, or another last `get`
-pub only_these : (calls : List Call) (old : Turns) → old.last_get ≤ old.calls → old.calls + length calls < 2 ^ 64 - 1 → GetsOnce old (turns_after_all calls old) → (calls ≡ Get ∷ []) ⊎ (calls ≡ Get ∷ Put ∷ [])
-only_these [] old before below once = let last : old.last_get ≡ one_more old.calls = once.get in absurd (omega arith)
+pub only_these : (calls : List Call) (old : Turns) → old.last_get ≤ old.calls
+    → old.calls + length calls < 2 ^ 64 - 1 → GetsOnce old (turns_after_all calls old)
+    → (calls ≡ Get ∷ []) ⊎ (calls ≡ Get ∷ Put ∷ [])
+only_these [] old before below once = let last : old.last_get ≡ one_more old.calls = once.get in
+    absurd (omega arith)
 only_these (Get ∷ []) old before below once = inl refl
-only_these (Put ∷ []) old before below once = let last : old.last_get ≡ one_more old.calls = once.get in absurd (omega arith)
+only_these (Put ∷ []) old before below once = let last : old.last_get ≡ one_more old.calls =
+    once.get in absurd (omega arith)
 only_these (Get ∷ Put ∷ []) old before below once = inr refl
-only_these (Get ∷ Get ∷ []) old before below once = let last : one_more (one_more old.calls) ≡ one_more old.calls = once.get in absurd (omega arith)
-only_these (Put ∷ Get ∷ []) old before below once = let last : one_more (one_more old.calls) ≡ one_more old.calls = once.get in absurd (omega arith)
-only_these (Put ∷ Put ∷ []) old before below once = let last : old.last_get ≡ one_more old.calls = once.get in absurd (omega arith)
+only_these (Get ∷ Get ∷ []) old before below once = let last : one_more (one_more old.calls)
+    ≡ one_more old.calls = once.get in absurd (omega arith)
+only_these (Put ∷ Get ∷ []) old before below once = let last : one_more (one_more old.calls)
+    ≡ one_more old.calls = once.get in absurd (omega arith)
+only_these (Put ∷ Put ∷ []) old before below once = let last : old.last_get ≡ one_more old.calls =
+    once.get in absurd (omega arith)
 only_these (first ∷ second ∷ third ∷ later) old before below once =
-    let count = all_counted (first ∷ second ∷ third ∷ later) old (omega arith) in absurd (omega (arith, once.few, count))
+    let count = all_counted (first ∷ second ∷ third ∷ later) old (omega arith) in
+    absurd (omega (arith, once.few, count))
 
-pub these_do : (calls : List Call) (old : Turns) → (calls ≡ Get ∷ []) ⊎ (calls ≡ Get ∷ Put ∷ []) → GetsOnce old (turns_after_all calls old)
-these_do calls old (inl same) = subst (λ made. GetsOnce old (turns_after_all made old)) (sym same) (record { get = refl; few = omega arith })
-these_do calls old (inr same) = subst (λ made. GetsOnce old (turns_after_all made old)) (sym same) (record { get = refl; few = omega arith })
+pub these_do : (calls : List Call) (old : Turns) → (calls ≡ Get ∷ []) ⊎ (calls ≡ Get ∷ Put ∷ [])
+    → GetsOnce old (turns_after_all calls old)
+these_do calls old (inl same) =
+    subst (λ made. GetsOnce old (turns_after_all made old)) (sym same)
+    (record { get = refl; few = omega arith })
+these_do calls old (inr same) =
+    subst (λ made. GetsOnce old (turns_after_all made old)) (sym same)
+    (record { get = refl; few = omega arith })

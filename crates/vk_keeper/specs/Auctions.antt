@@ -23,7 +23,8 @@ challenge_of Taking = None
 challenge_of (Proved seed) = None
 challenge_of (Answered seed challenge) = Some challenge
 
--- a seal of an auction with that id, width and number of lanes, and the secret that it is the seal of
+-- a seal of an auction with that id, width and number of lanes, and the secret that it is the seal
+-- of
 pub record IsSealRow (auction : List ℕ) (width lanes : ℕ) (row : SealRow) : Type 0 where
   pub seal : IsSeal row.seal
   pub secret : IsSecret row.secret
@@ -32,16 +33,18 @@ pub record IsSealRow (auction : List ℕ) (width lanes : ℕ) (row : SealRow) : 
   pub matched : match_of row.secret row.seal ≡ Ok tt
   pub small_bid : row.secret.bid < 2 ^ width
 
--- the version of an auction's board, 1 or 2, and its reserve: below 2^width, and 0 in version 1, which names none
+-- the version of an auction's board, 1 or 2, and its reserve: below 2^width, and 0 in version 1,
+-- which names none
 pub record IsTerms (version width reserve : ℕ) : Type 0 where
   pub least : 1 ≤ version
   pub most : version ≤ 2
   pub small : reserve < 2 ^ width
   pub unnamed : version ≢ 2 → reserve ≡ 0
 
--- what is kept beside the terms: up to 64 seals whose seats differ, and at least one, a seed and a bit for each lane
--- in the phases that have them
-pub record IsHeld (auction : List ℕ) (width lanes : ℕ) (phase : Phase) (seals : List SealRow) : Type 0 where
+-- what is kept beside the terms: up to 64 seals whose seats differ, and at least one, a seed and a
+-- bit for each lane in the phases that have them
+pub record IsHeld (auction : List ℕ) (width lanes : ℕ) (phase : Phase)
+    (seals : List SealRow) : Type 0 where
   pub id : AreBytes 16 auction
   pub size : IsSize width lanes
   pub few_seals : length seals ≤ 64

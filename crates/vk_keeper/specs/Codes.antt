@@ -11,7 +11,8 @@ use Rattle.vk_keeper.specs.declared.auction.SealRow.{SealRow}
 use Rattle.vk_keeper.specs.declared.auction.Auction.{Auction}
 
 -- a code of what two numbers make
-abbrev pub numbers_code : {X : Type 0} (parts : X → ℕ × ℕ) (whole : ℕ × ℕ → X) → ((x : X) → whole (parts x) ≡ x) → Coded X
+abbrev pub numbers_code : {X : Type 0} (parts : X → ℕ × ℕ) (whole : ℕ × ℕ → X)
+    → ((x : X) → whole (parts x) ≡ x) → Coded X
 numbers_code = code_by (ℕ × ℕ) (coded× coded_ℕ coded_ℕ)
 
 abbrev pub bytes_code : Coded (List ℕ)
@@ -25,17 +26,21 @@ com_code =
 abbrev pub tape_code : Coded XTape
 tape_code =
     code_by (ℕ × (List ℕ × List ℕ)) (coded× coded_ℕ (coded× bytes_code bytes_code))
-    (λ t. (t.mask, (t.first_key, t.second_key))) (λ p. record { mask = p.0; first_key = p.1.0; second_key = p.1.1 }) (λ _. refl)
+    (λ t. (t.mask, (t.first_key, t.second_key)))
+    (λ p. record { mask = p.0; first_key = p.1.0; second_key = p.1.1 }) (λ _. refl)
 
 abbrev pub seal_code : Coded Seal
 seal_code =
     code_by (List ℕ × (ℕ × List WireCom)) (coded× bytes_code (coded× coded_ℕ (coded_list com_code)))
-    (λ s. (s.auction, (s.seat, s.lanes))) (λ p. record { auction = p.0; seat = p.1.0; lanes = p.1.1 }) (λ _. refl)
+    (λ s. (s.auction, (s.seat, s.lanes)))
+    (λ p. record { auction = p.0; seat = p.1.0; lanes = p.1.1 }) (λ _. refl)
 
 abbrev pub secret_code : Coded Secret
 secret_code =
-    code_by (List ℕ × (ℕ × (ℕ × List XTape))) (coded× bytes_code (coded× coded_ℕ (coded× coded_ℕ (coded_list tape_code))))
-    (λ s. (s.auction, (s.seat, (s.bid, s.lanes)))) (λ p. record { auction = p.0; seat = p.1.0; bid = p.1.1.0; lanes = p.1.1.1 }) (λ _. refl)
+    code_by (List ℕ × (ℕ × (ℕ × List XTape)))
+    (coded× bytes_code (coded× coded_ℕ (coded× coded_ℕ (coded_list tape_code))))
+    (λ s. (s.auction, (s.seat, (s.bid, s.lanes))))
+    (λ p. record { auction = p.0; seat = p.1.0; bid = p.1.1.0; lanes = p.1.1.1 }) (λ _. refl)
 
 abbrev pub row_code : Coded SealRow
 row_code =
@@ -63,12 +68,23 @@ phase_from-phase_parts (Answered seed challenge) = refl
 
 abbrev pub phase_code : Coded Phase
 phase_code =
-    code_by (Option (List ℕ × Option (List Bool))) (coded_option (coded× bytes_code (coded_option (coded_list coded_bool))))
+    code_by (Option (List ℕ × Option (List Bool)))
+    (coded_option (coded× bytes_code (coded_option (coded_list coded_bool))))
     phase_parts phase_from phase_from-phase_parts
 
 abbrev pub auction_code : Coded Auction
 auction_code =
     code_by (List ℕ × (ℕ × (ℕ × (ℕ × (ℕ × (Phase × List SealRow))))))
-    (coded× bytes_code (coded× coded_ℕ (coded× coded_ℕ (coded× coded_ℕ (coded× coded_ℕ (coded× phase_code (coded_list row_code)))))))
+    (coded× bytes_code (coded× coded_ℕ
+    (coded× coded_ℕ (coded× coded_ℕ
+    (coded× coded_ℕ (coded× phase_code (coded_list row_code)))))))
     (λ a. (a.id, (a.version, (a.width, (a.lanes, (a.reserve, (a.phase, a.seals)))))))
-    (λ p. record { id = p.0; version = p.1.0; width = p.1.1.0; lanes = p.1.1.1.0; reserve = p.1.1.1.1.0; phase = p.1.1.1.1.1.0; seals = p.1.1.1.1.1.1 }) (λ _. refl)
+    (λ p. record {
+      id = p.0;
+      version = p.1.0;
+      width = p.1.1.0;
+      lanes = p.1.1.1.0;
+      reserve = p.1.1.1.1.0;
+      phase = p.1.1.1.1.1.0;
+      seals = p.1.1.1.1.1.1;
+    }) (λ _. refl)

@@ -25,8 +25,10 @@ first_of (None ∷ rest) = first_of rest
 abbrev pub is_taken : ℕ → List SealRow → Bool
 is_taken seat held = list_any (λ row. row.seal.seat == seat) held
 
--- why a seal and its secret may not join what is held of an auction: the first of these tests that holds
-abbrev pub held_refusal : (auction : List ℕ) (width lanes : ℕ) (held : List SealRow) → Seal → Secret → Option Refusal
+-- why a seal and its secret may not join what is held of an auction: the first of these tests that
+-- holds
+abbrev pub held_refusal : (auction : List ℕ) (width lanes : ℕ) (held : List SealRow) → Seal → Secret
+    → Option Refusal
 held_refusal auction width lanes held seal secret = first_of
     (refused_if (nat_le 64 (length held)) Full
     ∷ refused_if (not (bytes_eq seal.auction auction)) (OtherAuction seal.auction)

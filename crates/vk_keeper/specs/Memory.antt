@@ -15,9 +15,12 @@ pub record MemoryLedger : Type 0 where
   pub turns : Turns
 
 abbrev pub turns_code : Coded Turns
-turns_code = numbers_code (λ t. (t.calls, t.last_get)) (λ p. record { calls = p.0; last_get = p.1 }) (λ _. refl)
+turns_code = numbers_code (λ t. (t.calls, t.last_get)) (λ p. record { calls = p.0; last_get = p.1 })
+    (λ _. refl)
 
 abbrev pub ledger_code : Coded MemoryLedger
 ledger_code =
-    code_by (Ledger × (Calls × Turns)) (coded× (finite.code bytes_code auction_code) (coded× calls_code turns_code))
-    (λ m. (m.ledger, (m.calls, m.turns))) (λ p. record { ledger = p.0; calls = p.1.0; turns = p.1.1 }) (λ _. refl)
+    code_by (Ledger × (Calls × Turns))
+    (coded× (finite.code bytes_code auction_code) (coded× calls_code turns_code))
+    (λ m. (m.ledger, (m.calls, m.turns)))
+    (λ p. record { ledger = p.0; calls = p.1.0; turns = p.1.1 }) (λ _. refl)

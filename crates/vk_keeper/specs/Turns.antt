@@ -7,8 +7,8 @@ pub data Call : Type 0 where
   Get : Call
   Put : Call
 
--- the number of calls, and the number of the last `get` among them, from 1. Both stand still at the greatest
--- u64, and from there on say nothing of later calls
+-- the number of calls, and the number of the last `get` among them, from 1. Both stand still at the
+-- greatest u64, and from there on say nothing of later calls
 pub record Turns : Type 0 where
   pub calls : ℕ
   pub last_get : ℕ

@@ -56,8 +56,8 @@ impl Auction {
         Some(Refusal::Mismatch(mismatch))
     }
 
-    /// Puts a row that isn't refused last. Errs for want of memory alone, and then the auction is as
-    /// before.
+    /// Puts a row that isn't refused last. Errs for want of memory alone, and then the auction is
+    /// as before.
     pub fn join(&mut self, row: SealRow) -> Result<(), NoMemory>
         requires auction { IsAuction self.old }
         requires seal { IsSeal row.seal }

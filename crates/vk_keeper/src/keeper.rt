@@ -23,7 +23,8 @@ pub trait Keeper {
 
     /// The auction of that id. None where none is kept under it.
     fn get(&mut self, id: &[u8; 16]) -> Result<Option<Auction>, OutsideErr>
-        ensures answer { IfSome (ledger self.old) (λ kept. IfOk result (λ found. found ≡ map.get kept id.now)) }
+        ensures answer { IfSome (ledger self.old)
+            (λ kept. IfOk result (λ found. found ≡ map.get kept id.now)) }
         ensures id { IfOk result (λ found. IfSome found (λ auction. auction.id ≡ id.now)) }
         ensures right { IfOk result (λ found. IfSome found IsAuction) }
         ensures ledger { IfSome (ledger self.old) IsLedger }
@@ -31,8 +32,8 @@ pub trait Keeper {
         ensures turn { AfterGet (turns self.old) (turns self.new) }
         ensures causes { Causes OutsideErr.Failed result (faults self.old) (faults self.new) };
 
-    /// Keeps the auction under its id, in place of the one that was kept there. Refused, the ledger is
-    /// as before.
+    /// Keeps the auction under its id, in place of the one that was kept there. Refused, the ledger
+    /// is as before.
     fn put(&mut self, auction: Auction) -> Result<(), OutsideErr>
         requires { IsAuction auction }
         ensures ledger { IfSome (ledger self.old) IsLedger }

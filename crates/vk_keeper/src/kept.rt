@@ -16,9 +16,11 @@ fn place_of(auctions: &[Auction], id: &[u8; 16]) -> Option<usize>
     ensures within { IfSome result (λ i. i < length auctions.now) }
     ensures before { IfSome result
         (λ i. (k : ℕ) (d : Auction) → k < i → (slice_index_or auctions.now k d).id ≢ id.now) }
-    ensures id { IfSome result (λ i. (d : Auction) → (slice_index_or auctions.now i d).id ≡ id.now) }
+    ensures id { IfSome result
+        (λ i. (d : Auction) → (slice_index_or auctions.now i d).id ≡ id.now) }
     ensures found { IfSome result
-        (λ i. (d : Auction) → map.get (ledger_in auctions.now) id.now ≡ Some (slice_index_or auctions.now i d)) }
+        (λ i. (d : Auction) → map.get (ledger_in auctions.now) id.now
+        ≡ Some (slice_index_or auctions.now i d)) }
 {
     for (i, auction) in auctions.iter().enumerate() {
         if *id == auction.id {
@@ -48,12 +50,13 @@ pub fn copy_of(
     }
 }
 
-/// Keeps the auction in place of the one of its id, or as one more. Errs for want of memory alone, and
-/// then nothing changed.
+/// Keeps the auction in place of the one of its id, or as one more. Errs for want of memory alone,
+/// and then nothing changed.
 pub fn keep(auctions: &mut Vec<Auction>, auction: Auction) -> Result<(), NoMemory>
     requires kept { AreKept auctions.old.items }
     requires right { IsAuction auction }
-    ensures put { OnOk result (ledger_in auctions.new.items ≡ map.insert (ledger_in auctions.old.items) auction.id auction) }
+    ensures put { OnOk result (ledger_in auctions.new.items
+        ≡ map.insert (ledger_in auctions.old.items) auction.id auction) }
     ensures refused { OnErr result (ledger_in auctions.new.items ≡ ledger_in auctions.old.items) }
     ensures kept { AreKept auctions.new.items }
 {

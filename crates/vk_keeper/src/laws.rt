@@ -15,7 +15,8 @@ ghost use Rattle.vk_keeper.specs.declared.auction.Auction.{Auction};
 
 /// A law: an auction stays one with a seal and its secret that aren't refused.
 pub fn what_may_join_makes_an_auction()
-    ensures { (auction : Auction) (row : SealRow) → IsAuction auction → IsSeal row.seal → IsSecret row.secret
+    ensures { (auction : Auction) (row : SealRow) → IsAuction auction → IsSeal row.seal
+        → IsSecret row.secret
         → join_refusal auction row.seal row.secret ≡ None → IsAuction (with_last auction row) }
 {}
 
@@ -25,7 +26,8 @@ pub fn a_ledger_with_an_auction_is_a_ledger()
         → IsLedger (insert kept auction.id auction) }
 {}
 
-/// A law: a ledger lifted has under each id what stood there, lifted. It is what the auctions make once each is lifted.
+/// A law: a ledger lifted has under each id what stood there, lifted. It is what the auctions make
+/// once each is lifted.
 pub fn a_lifted_ledger_has_each_auction_lifted()
     ensures each { (firsts : FirstLedger) (id : List ℕ)
         → get (lifted_ledger firsts) id ≡ option_map lifted (get firsts id) }
@@ -33,9 +35,11 @@ pub fn a_lifted_ledger_has_each_auction_lifted()
         → ledger_in (map lifted firsts) ≡ lifted_ledger (first_ledger_in firsts) }
 {}
 
-/// A law: below the greatest u64, `GetsOnce` is said of one `get`, alone or with one `put` after it,
-/// and of no other calls.
+/// A law: below the greatest u64, `GetsOnce` is said of one `get`, alone or with one `put` after
+/// it, and of no other calls.
 pub fn one_get_and_then_at_most_one_put()
-    ensures { (old : Turns) (calls : List Call) → old.last_get ≤ old.calls → old.calls + length calls < 2 ^ 64 - 1
-        → GetsOnce old (turns_after_all calls old) ↔ ((calls ≡ Get ∷ []) ⊎ (calls ≡ Get ∷ Put ∷ [])) }
+    ensures { (old : Turns) (calls : List Call) → old.last_get ≤ old.calls
+        → old.calls + length calls < 2 ^ 64 - 1
+        → GetsOnce old (turns_after_all calls old)
+        ↔ ((calls ≡ Get ∷ []) ⊎ (calls ≡ Get ∷ Put ∷ [])) }
 {}

@@ -37,7 +37,11 @@ impl Model for MemKeeper {
 
     ghost use Rattle.vk_keeper.specs.Kept.{AreKept, ledger_in};
 
-    ghost view = { λ k. record { ledger = ledger_in k.auctions.items; calls = k.calls; turns = k.turns } };
+    ghost view = { λ k. record {
+      ledger = ledger_in k.auctions.items;
+      calls = k.calls;
+      turns = k.turns;
+    } };
 
     ghost invariant = { λ k. AreKept k.auctions.items };
 }
@@ -58,7 +62,8 @@ impl MemKeeper {
     /// These auctions, each lifted, and no call that is to fail. Errs for want of memory alone.
     pub fn lifted(alloc: Global, firsts: Vec<FirstAuction>) -> Result<MemKeeper, NoMemory>
         requires each { All IsFirstAuction firsts.items }
-        requires ids { AllPairs (λ earlier later. earlier ≢ later) (list.map (λ first. first.id) firsts.items) }
+        requires ids { AllPairs (λ earlier later. earlier ≢ later)
+            (list.map (λ first. first.id) firsts.items) }
         ensures { IfOk result (λ keeper. keeper ≡ record {
           ledger = ledger_in (list.map lifted firsts.items);
           calls = record { made = 0; failing = []; faults = 0 };
@@ -89,7 +94,8 @@ impl MemKeeper {
     /// Has the call of that number fail, counted from 1 over the keeper's life. Errs for want of
     /// memory alone, and then nothing changed.
     pub fn fail_at(&mut self, call: u64) -> Result<(), NoMemory>
-        ensures named { OnOk result (self.new ≡ record self.old { calls = fails_too call self.old.calls }) }
+        ensures named { OnOk result
+            (self.new ≡ record self.old { calls = fails_too call self.old.calls }) }
         ensures refused { OnErr result (self.new ≡ self.old) }
     {
         self.calls.name(call)?;
@@ -102,7 +108,8 @@ impl MemKeeper {
         ensures outside { IfErr result (λ refusal. refusal ≡ OutsideErr.Failed) }
         ensures ledger { IsLedger self.old.ledger }
         ensures counted { self.new ≡ record self.old { calls = after_call self.old.calls } }
-        ensures causes { Causes OutsideErr.Failed result self.old.calls.faults self.new.calls.faults }
+        ensures causes { Causes OutsideErr.Failed result self.old.calls.faults
+            self.new.calls.faults }
     {
         self.calls.begin()?;
         Ok(())
@@ -127,7 +134,8 @@ impl Keeper for MemKeeper {
         ensures kept { self.new.ledger ≡ self.old.ledger }
         ensures counted { self.new.calls ≡ after_call self.old.calls }
         ensures turn { AfterGet self.old.turns self.new.turns }
-        ensures causes { Causes OutsideErr.Failed result self.old.calls.faults self.new.calls.faults }
+        ensures causes { Causes OutsideErr.Failed result self.old.calls.faults
+            self.new.calls.faults }
     {
         self.turns.count_get();
         self.begin()?;
@@ -139,11 +147,13 @@ impl Keeper for MemKeeper {
         requires { IsAuction auction }
         ensures fails { IsErrOf result OutsideErr.Failed ↔ IsTrue (fails_next self.old.calls) }
         ensures ledger { IsLedger self.old.ledger }
-        ensures put { OnOk result (self.new.ledger ≡ map.insert self.old.ledger auction.id auction) }
+        ensures put { OnOk result
+            (self.new.ledger ≡ map.insert self.old.ledger auction.id auction) }
         ensures refused { OnErr result (self.new.ledger ≡ self.old.ledger) }
         ensures counted { self.new.calls ≡ after_call self.old.calls }
         ensures turn { AfterPut self.old.turns self.new.turns }
-        ensures causes { Causes OutsideErr.Failed result self.old.calls.faults self.new.calls.faults }
+        ensures causes { Causes OutsideErr.Failed result self.old.calls.faults
+            self.new.calls.faults }
     {
         self.turns.count_put();
         self.begin()?;

@@ -3,8 +3,8 @@ ghost use Rattle.vk_keeper.specs.Turns.{AfterGet, AfterPut};
 
 use std::marker::Model;
 
-/// Counts the calls of a keeper from 1 on, and has the number of the last `get`. Both numbers stay at
-/// the greatest u64 once they are there.
+/// Counts the calls of a keeper from 1 on, and has the number of the last `get`. Both numbers stay
+/// at the greatest u64 once they are there.
 #[derive(Debug, Drop)]
 pub struct TurnCount {
     calls: u64,

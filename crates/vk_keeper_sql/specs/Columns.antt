@@ -26,7 +26,8 @@ abbrev pub phase_of : ℕ → Option (List ℕ) → Option Challenge → Option 
 phase_of number None None = if number == 0 then Some Taking else None
 phase_of number None (Some challenge) = None
 phase_of number (Some seed) None = if number == 1 then Some (Proved seed) else None
-phase_of number (Some seed) (Some challenge) = if number == 2 then Some (Answered seed challenge) else None
+phase_of number (Some seed) (Some challenge) = if number == 2 then Some (Answered seed challenge)
+    else None
 
 -- a challenge as the text of its bits
 abbrev pub bits_value : Challenge → Value
@@ -39,16 +40,22 @@ bits_in phase = option_map (λ challenge. bits_text challenge.bits) (challenge_o
 -- the row of an auction; the seed and the bits are NULL where the phase has none
 abbrev pub auction_row : Auction → Row
 auction_row auction =
-    Blob auction.id ∷ Int (pos auction.width) ∷ Int (pos auction.lanes) ∷ Int (pos (phase_number auction.phase))
+    Blob auction.id ∷ Int (pos auction.width) ∷ Int (pos auction.lanes)
+    ∷ Int (pos (phase_number auction.phase))
     ∷ or_null Blob (seed_of auction.phase) ∷ or_null Text (bits_in auction.phase) ∷ []
 
 -- the row of its terms
 abbrev pub terms_row : Auction → Row
 terms_row auction = Blob auction.id ∷ Int (pos auction.version) ∷ Int (pos auction.reserve) ∷ []
 
--- what stands in the row of a seal beside the id and the position: the seat, and the texts of its files
+-- what stands in the row of a seal beside the id and the position: the seat, and the texts of its
+-- files
 abbrev pub seal_texts : SealRow → SealTexts
-seal_texts row = record { seat = row.seal.seat; seal = seal_text row.seal; secret = secret_text row.secret }
+seal_texts row = record {
+  seat = row.seal.seat;
+  seal = seal_text row.seal;
+  secret = secret_text row.secret;
+}
 
 -- the row of the seal with these texts
 abbrev pub seal_row : List ℕ → ℕ → SealTexts → Row
@@ -80,10 +87,11 @@ abbrev pub ShowSeals : ℕ → List Row → List SealTexts → Type 0
 ShowSeals before [] [] = Unit {0}
 ShowSeals before [] (seal ∷ seals) = ⊥
 ShowSeals before (row ∷ rows) [] = ⊥
-ShowSeals before (row ∷ rows) (seal ∷ seals) = ShowsSeal row (before + 1) seal × ShowSeals (before + 1) rows seals
+ShowSeals before (row ∷ rows) (seal ∷ seals) = ShowsSeal row (before + 1) seal
+    × ShowSeals (before + 1) rows seals
 
--- the row of an auction, that of its terms and those of its seals show all of it but for its id: its seals
--- are those of the rows from position 1 on, one by one and equally many
+-- the row of an auction, that of its terms and those of its seals show all of it but for its id:
+-- its seals are those of the rows from position 1 on, one by one and equally many
 pub record ShowsWhole (row terms_row : Row) (rows : List Row) (auction : Auction) : Type 0 where
   pub head : ShowsAuction row auction
   pub terms : ShowsTerms terms_row auction

@@ -22,7 +22,12 @@ pub record TableShape : Type 0 where
   pub keys : List (List ℕ)
 
 abbrev pub shape_of : Column → ColumnShape
-shape_of column = record { name = column.name; kind = column.kind; not_null = column.not_null; is_strict = column.is_strict }
+shape_of column = record {
+  name = column.name;
+  kind = column.kind;
+  not_null = column.not_null;
+  is_strict = column.is_strict;
+}
 
 -- a column that takes no NULL, and one that does
 abbrev pub always : List ℕ → Kind → ColumnShape
@@ -33,12 +38,17 @@ maybe name kind = record { name = name; kind = kind; not_null = false; is_strict
 
 -- a column of type BLOB takes any value
 abbrev pub about_shape : TableShape
-about_shape = record { name = codes "about"; columns = always (codes "version") kind.Integer ∷ []; keys = [] }
+about_shape = record {
+  name = codes "about";
+  columns = always (codes "version") kind.Integer ∷ [];
+  keys = [];
+}
 
 abbrev pub auction_shape : TableShape
 auction_shape = record {
   name = codes "auction";
-  columns = always (codes "id") kind.Any ∷ always (codes "width") kind.Integer ∷ always (codes "lanes") kind.Integer ∷ always (codes "phase") kind.Integer
+  columns = always (codes "id") kind.Any ∷ always (codes "width") kind.Integer
+      ∷ always (codes "lanes") kind.Integer ∷ always (codes "phase") kind.Integer
       ∷ maybe (codes "seed") kind.Any ∷ maybe (codes "bits") kind.Text ∷ [];
   keys = (1 ∷ []) ∷ [];
 }
@@ -46,14 +56,17 @@ auction_shape = record {
 abbrev pub seal_shape : TableShape
 seal_shape = record {
   name = codes "seal";
-  columns = always (codes "id") kind.Any ∷ always (codes "position") kind.Integer ∷ always (codes "seat") kind.Integer ∷ always (codes "seal") kind.Text ∷ always (codes "secret") kind.Text ∷ [];
+  columns = always (codes "id") kind.Any ∷ always (codes "position") kind.Integer
+      ∷ always (codes "seat") kind.Integer ∷ always (codes "seal") kind.Text
+      ∷ always (codes "secret") kind.Text ∷ [];
   keys = (1 ∷ 2 ∷ []) ∷ (1 ∷ 3 ∷ []) ∷ [];
 }
 
 abbrev pub terms_shape : TableShape
 terms_shape = record {
   name = codes "terms";
-  columns = always (codes "id") kind.Any ∷ always (codes "version") kind.Integer ∷ always (codes "reserve") kind.Integer ∷ [];
+  columns = always (codes "id") kind.Any ∷ always (codes "version") kind.Integer
+      ∷ always (codes "reserve") kind.Integer ∷ [];
   keys = (1 ∷ []) ∷ [];
 }
 

@@ -19,8 +19,8 @@ abbrev pub ShowNumber : List Row → ℕ → Type 0
 ShowNumber [] number = ⊥
 ShowNumber (row ∷ rows) number = (column row 0 ≡ Int (pos 1)) × (column row 1 ≡ Int (pos number))
 
--- the terms of an auction that was kept before auctions had any, by the id that is stored: version 1, which
--- names no reserve
+-- the terms of an auction that was kept before auctions had any, by the id that is stored: version
+-- 1, which names no reserve
 abbrev pub first_terms : Value → Row
 first_terms id = bound_value id ∷ Int (pos 1) ∷ Int (pos 0) ∷ []
 
@@ -46,7 +46,8 @@ module _ {S : Type 0} (g : Ghosts S) where
   -- terms were put for each of these ids
   abbrev pub AddsTerms : List Row → Held S → Held S → Type 0
   AddsTerms [] old new = new ≡ old
-  AddsTerms (row ∷ rows) old new = (mid : Held S) × Ran g keep_terms (first_terms (column row 0)) old mid × AddsTerms rows mid new
+  AddsTerms (row ∷ rows) old new = (mid : Held S)
+      × Ran g keep_terms (first_terms (column row 0)) old mid × AddsTerms rows mid new
 
   -- tables of the number 1 got terms for each of their auctions, and the number 2
   pub record LiftsTables (old new : Held S) : Type 0 where
@@ -70,4 +71,5 @@ module _ {S : Type 0} (g : Ghosts S) where
   abbrev pub Prepares : Held S → Trees → Type 0
   Prepares old trees =
       (layout : Layout) × HasLayout layout old.schema
-      × ((last : Held S) × PreparesFrom layout (record old { in_transaction = true }) last × (trees ≡ (state g last).now.trees))
+      × ((last : Held S) × PreparesFrom layout (record old { in_transaction = true }) last
+      × (trees ≡ (state g last).now.trees))

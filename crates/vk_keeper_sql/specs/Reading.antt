@@ -9,11 +9,13 @@ use Rattle.vk_keeper_sql.specs.Columns.{ShowsWhole}
 use Rattle.vk_keeper_sql.specs.Statements.{auction_query, terms_query, seals_query}
 use Rattle.vk_keeper_sql.specs.Transactions.{Answers}
 
--- one row shows an auction with one of its terms and those of its seals, and no rows show that there is none
+-- one row shows an auction with one of its terms and those of its seals, and no rows show that
+-- there is none
 abbrev pub ShowFound : List Row → List Row → List Row → Option Auction → Type 0
 ShowFound heads terms rows None = (heads ≡ []) × (terms ≡ []) × (rows ≡ [])
 ShowFound heads terms rows (Some auction) =
-    (head : Row) × (term : Row) × (heads ≡ head ∷ []) × (terms ≡ term ∷ []) × ShowsWhole head term rows auction
+    (head : Row) × (term : Row) × (heads ≡ head ∷ []) × (terms ≡ term ∷ [])
+    × ShowsWhole head term rows auction
 
 module _ {S : Type 0} (g : Ghosts S) (id : List ℕ) where
   -- the rows that stand under an id, which are asked for in one transaction
@@ -21,7 +23,8 @@ module _ {S : Type 0} (g : Ghosts S) (id : List ℕ) where
     pub one : Held S
     pub two : Held S
     pub last : Held S
-    pub head : Answers g auction_query (Blob id ∷ []) (record old { in_transaction = true }) one heads
+    pub head : Answers g auction_query (Blob id ∷ []) (record old { in_transaction = true }) one
+        heads
     pub term : Answers g terms_query (Blob id ∷ []) one two terms
     pub seals : Answers g seals_query (Blob id ∷ []) two last rows
 

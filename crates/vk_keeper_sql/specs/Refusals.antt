@@ -1,5 +1,5 @@
--- What a refusal from below is to the caller of a keeper: want of memory is told as that, and all else
--- is a fault of the store.
+-- What a refusal from below is to the caller of a keeper: want of memory is told as that, and all
+-- else is a fault of the store.
 use Rattle.sqlite.specs.declared.error.Error.{Error}
 use Rattle.sqlite.specs.declared.error.Error.TheVariants.{SqliteFailure}
 use Rattle.sqlite.specs.declared.error.ErrorCode.TheVariants.{OutOfMemory}

@@ -7,7 +7,8 @@ unfoldable pub make_about : List ℕ
 make_about = codes "CREATE TABLE about (version INTEGER NOT NULL)"
 
 unfoldable pub make_auctions : List ℕ
-make_auctions = codes "CREATE TABLE auction (id BLOB PRIMARY KEY NOT NULL, width INTEGER NOT NULL, lanes INTEGER NOT NULL, phase INTEGER NOT NULL, seed BLOB, bits TEXT)"
+make_auctions = codes
+    "CREATE TABLE auction (id BLOB PRIMARY KEY NOT NULL, width INTEGER NOT NULL, lanes INTEGER NOT NULL, phase INTEGER NOT NULL, seed BLOB, bits TEXT)"
 
 unfoldable pub make_seals : List ℕ
 make_seals = codes "CREATE TABLE seal (id BLOB NOT NULL, position INTEGER NOT NULL, seat INTEGER NOT NULL, seal TEXT NOT NULL, secret TEXT NOT NULL, PRIMARY KEY (id, position), UNIQUE (id, seat))"

@@ -10,9 +10,10 @@ use Rattle.sqlite.specs.Held.{Held, state}
 abbrev pub CommitsNothing : State → State → Type 0
 CommitsNothing old new = Survives old new (λ _. ⊥)
 
--- one transaction: a crash leaves what it could leave before the call, or one and the same content, which
--- was made as said, and is committed where the call was not refused
-pub record CommitsAtOnce {E : Type 0} (Makes : Trees → Type 0) (old new : State) (result : Result Unit E) : Type 0 where
+-- one transaction: a crash leaves what it could leave before the call, or one and the same content,
+-- which was made as said, and is committed where the call was not refused
+pub record CommitsAtOnce {E : Type 0} (Makes : Trees → Type 0) (old new : State)
+    (result : Result Unit E) : Type 0 where
   pub whole : Trees
   pub crash : Survives old new (λ trees. (trees ≡ whole) × Makes trees)
   pub done : HasCleanDisk new → OnOk result ((new.committed.trees ≡ whole) × Makes whole)
@@ -20,7 +21,8 @@ pub record CommitsAtOnce {E : Type 0} (Makes : Trees → Type 0) (old new : Stat
 module _ {S : Type 0} (g : Ghosts S) where
   -- a statement with these parameters was run inside a transaction, and was not refused
   unfoldable pub Ran : List ℕ → Row → Held S → Held S → Type 0
-  Ran statement columns old new = (count : ℕ) × ExecutesInside 0 statement columns (state g old) (state g new) (Ok count)
+  Ran statement columns old new = (count : ℕ)
+      × ExecutesInside 0 statement columns (state g old) (state g new) (Ok count)
 
   -- the answer to a query with these parameters inside a transaction
   abbrev pub Answers : List ℕ → Row → Held S → Held S → List Row → Type 0

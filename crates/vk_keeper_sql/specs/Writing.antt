@@ -16,7 +16,8 @@ module _ {S : Type 0} (g : Ghosts S) where
   abbrev pub AddsSeals : List ℕ → ℕ → List SealTexts → Held S → Held S → Type 0
   AddsSeals id before [] old new = new ≡ old
   AddsSeals id before (seal ∷ seals) old new =
-      (mid : Held S) × Ran g keep_seal (seal_row id (before + 1) seal) old mid × AddsSeals id (before + 1) seals mid new
+      (mid : Held S) × Ran g keep_seal (seal_row id (before + 1) seal) old mid
+      × AddsSeals id (before + 1) seals mid new
 
   -- of the rows of an id so many from the first position on are as they are to be; all others were
   -- dropped, and the rows of the seals behind were written
@@ -42,4 +43,5 @@ module _ {S : Type 0} (g : Ghosts S) where
   -- what was made of a store by writing an auction in one transaction, and nothing else
   abbrev pub Keeps : Auction → Held S → Trees → Type 0
   Keeps auction old trees =
-      (last : Held S) × WritesAuction auction (record old { in_transaction = true }) last × (trees ≡ (state g last).now.trees)
+      (last : Held S) × WritesAuction auction (record old { in_transaction = true }) last
+      × (trees ≡ (state g last).now.trees)

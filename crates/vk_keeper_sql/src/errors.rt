@@ -10,11 +10,11 @@ use vk_lines::{ReadErr, StartErr};
 /// Why no keeper was made over a store.
 #[derive(Clone, Copy, Debug, PartialEq, Eq)]
 pub enum OpenErr {
-    /// The table `about` doesn't hold one row with the number 1 or 2, but so many rows, and this number
-    /// in the first of them. 0 where there is none.
+    /// The table `about` doesn't hold one row with the number 1 or 2, but so many rows, and this
+    /// number in the first of them. 0 where there is none.
     Version { rows: u64, number: i64 },
-    /// The tables aren't those of the number that `about` holds; or a statement, or the reading of its
-    /// row, was refused.
+    /// The tables aren't those of the number that `about` holds; or a statement, or the reading of
+    /// its row, was refused.
     Refused,
     /// Want of memory.
     NoMemory,

@@ -14,8 +14,8 @@ use std::alloc::Global;
 use vk_io::OutsideErr;
 use vk_keeper::Auction;
 
-/// The auction of that id, read in a transaction that is rolled back. None where the store has no row
-/// of it. Errs where its rows aren't an auction.
+/// The auction of that id, read in a transaction that is rolled back. None where the store has no
+/// row of it. Errs where its rows aren't an auction.
 pub fn find<S: Alter>(
     alloc: Global,
     connection: &mut Connection<S>,
@@ -23,7 +23,8 @@ pub fn find<S: Alter>(
 ) -> Result<Option<Auction>, OutsideErr>
     ensures id { IfOk result (λ found. IfSome found (λ auction. auction.id ≡ id.now)) }
     ensures right { IfOk result (λ found. IfSome found IsAuction) }
-    ensures shown { HasCleanDisk (state S.Store connection.new) → IfOk result (Finds S.Store id.now connection.old) }
+    ensures shown { HasCleanDisk (state S.Store connection.new)
+        → IfOk result (Finds S.Store id.now connection.old) }
     ensures crash { CommitsNothing (state S.Store connection.old) (state S.Store connection.new) }
 {
     if !connection.is_autocommit() {

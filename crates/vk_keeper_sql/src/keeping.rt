@@ -77,7 +77,8 @@ fn write_rows<S: Alter>(
     ensures same_reference { transaction.new.conn.ghost_name ≡ transaction.old.conn.ghost_name }
     ensures wrote { HasCleanDisk (state S.Store transaction.new.conn.now) → OnOk result
         (WritesAuction S.Store auction.now transaction.old.conn.now transaction.new.conn.now) }
-    ensures crash { CommitsNothing (state S.Store transaction.old.conn.now) (state S.Store transaction.new.conn.now) }
+    ensures crash { CommitsNothing (state S.Store transaction.old.conn.now)
+        (state S.Store transaction.new.conn.now) }
 {
     write_auction(transaction, auction, &texts.bits)?;
     write_terms(transaction, auction)?;
@@ -94,8 +95,10 @@ fn write_auction<S: Alter>(
     requires { bits.now ≡ bits_in auction.now.phase }
     ensures same_reference { transaction.new.conn.ghost_name ≡ transaction.old.conn.ghost_name }
     ensures ran { HasCleanDisk (state S.Store transaction.new.conn.now) → OnOk result
-        (Ran S.Store keep_auction (auction_row auction.now) transaction.old.conn.now transaction.new.conn.now) }
-    ensures crash { CommitsNothing (state S.Store transaction.old.conn.now) (state S.Store transaction.new.conn.now) }
+        (Ran S.Store keep_auction (auction_row auction.now) transaction.old.conn.now
+        transaction.new.conn.now) }
+    ensures crash { CommitsNothing (state S.Store transaction.old.conn.now)
+        (state S.Store transaction.new.conn.now) }
 {
     let columns = auction_columns(auction, bits);
     run(transaction, KEEP_AUCTION, &columns)?;
@@ -134,8 +137,10 @@ fn write_terms<S: Alter>(
     requires { auction.now.reserve < 2 ^ 40 }
     ensures same_reference { transaction.new.conn.ghost_name ≡ transaction.old.conn.ghost_name }
     ensures ran { HasCleanDisk (state S.Store transaction.new.conn.now) → OnOk result
-        (Ran S.Store keep_terms (terms_row auction.now) transaction.old.conn.now transaction.new.conn.now) }
-    ensures crash { CommitsNothing (state S.Store transaction.old.conn.now) (state S.Store transaction.new.conn.now) }
+        (Ran S.Store keep_terms (terms_row auction.now) transaction.old.conn.now
+        transaction.new.conn.now) }
+    ensures crash { CommitsNothing (state S.Store transaction.old.conn.now)
+        (state S.Store transaction.new.conn.now) }
 {
     let columns = terms_columns(auction);
     run(transaction, KEEP_TERMS, &columns)?;

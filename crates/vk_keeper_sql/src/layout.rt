@@ -161,7 +161,8 @@ fn are(places: &[usize], wanted: &[usize]) -> bool
 /// Whether these are the columns, each by its name and type, and whether it takes no NULL.
 fn are_columns(columns: &[Column], wanted: &[(&str, Kind, bool)]) -> bool
     ensures { IsTrue result → map shape_of columns.now
-        ≡ map (λ w. record { name = w.0.now; kind = w.1; not_null = w.2; is_strict = false }) wanted.now }
+        ≡ map (λ w. record { name = w.0.now; kind = w.1; not_null = w.2; is_strict = false })
+        wanted.now }
 {
     if columns.len() != wanted.len() {
         return false;
@@ -176,7 +177,12 @@ fn are_columns(columns: &[Column], wanted: &[(&str, Kind, bool)]) -> bool
 
 fn is_column(column: &Column, wanted: &(&str, Kind, bool)) -> bool
     ensures { IsTrue result → shape_of column.now
-        ≡ record { name = wanted.now.0.now; kind = wanted.now.1; not_null = wanted.now.2; is_strict = false } }
+        ≡ record {
+          name = wanted.now.0.now;
+          kind = wanted.now.1;
+          not_null = wanted.now.2;
+          is_strict = false;
+        } }
 {
     let (name, kind, not_null) = wanted;
     column.name.as_slice() == name.as_bytes()

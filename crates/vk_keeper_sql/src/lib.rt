@@ -1,5 +1,5 @@
-//! Auctions kept in an SQLite store: a keeper whose `put` is one transaction, and whose `get` answers
-//! an auction or says that the store is at fault.
+//! Auctions kept in an SQLite store: a keeper whose `put` is one transaction, and whose `get`
+//! answers an auction or says that the store is at fault.
 #![tactic(auto)]
 
 mod columns;

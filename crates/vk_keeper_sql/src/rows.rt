@@ -28,8 +28,8 @@ use vk_seq::Seq;
 /// The name of a stored text on the shelf that it is read from.
 const STORED: &str = "stored";
 
-/// The auction of that id that the rows are: its own row, that of its terms, and those of its seals by
-/// their positions. Errs where they aren't one, and for want of memory.
+/// The auction of that id that the rows are: its own row, that of its terms, and those of its seals
+/// by their positions. Errs where they aren't one, and for want of memory.
 pub fn auction_from(
     alloc: Global,
     id: &[u8; 16],
@@ -96,7 +96,8 @@ fn are_terms(version: u32, width: u32, reserve: u64) -> bool
 fn phase_from(alloc: Global, head: &Row) -> Result<Phase, OutsideErr>
     ensures number { IfOk result (λ phase. column head.now 2 ≡ Int (pos (phase_number phase))) }
     ensures seed_is { IfOk result (λ phase. column head.now 3 ≡ or_null Blob (seed_of phase)) }
-    ensures bits { IfOk result (λ phase. column head.now 4 ≡ or_null bits_value (challenge_of phase)) }
+    ensures bits { IfOk result
+        (λ phase. column head.now 4 ≡ or_null bits_value (challenge_of phase)) }
     ensures seed { IfOk result (λ phase. IfSome (seed_of phase) (AreBytes 32)) }
     ensures challenge { IfOk result (λ phase. IfSome (challenge_of phase) IsChallenge) }
 {
@@ -112,7 +113,9 @@ fn phase_of(number: u32, seed: Option<[u8; 32]>, challenge: Option<Challenge>) -
     requires seed { IfSome seed (AreBytes 32) }
     requires challenge { IfSome challenge IsChallenge }
     ensures value { result ≡ phase_of number seed challenge }
-    ensures parts { IfSome result (λ phase. (number ≡ phase_number phase) × (seed ≡ seed_of phase) × (challenge ≡ challenge_of phase)) }
+    ensures parts { IfSome result
+        (λ phase. (number ≡ phase_number phase) × (seed ≡ seed_of phase)
+        × (challenge ≡ challenge_of phase)) }
     ensures seed { IfSome result (λ phase. IfSome (seed_of phase) (AreBytes 32)) }
     ensures challenge { IfSome result (λ phase. IfSome (challenge_of phase) IsChallenge) }
 {
@@ -146,8 +149,8 @@ fn in_phase(mut auction: Auction, phase: Phase) -> Option<Auction>
     Some(auction)
 }
 
-/// The auction with the seals of these rows, which stand at the positions from 1 on. Errs where one may
-/// not join.
+/// The auction with the seals of these rows, which stand at the positions from 1 on. Errs where one
+/// may not join.
 fn with_seals(alloc: Global, mut auction: Auction, rows: &[Row]) -> Result<Auction, OutsideErr>
     requires auction { IsAuction auction }
     requires none { auction.seals ≡ [] }
@@ -178,7 +181,8 @@ fn join(auction: &mut Auction, row: SealRow) -> Result<(), OutsideErr>
     Ok(())
 }
 
-/// The seal of a row and its secret. Errs where the row isn't that of the position, or of another seat.
+/// The seal of a row and its secret. Errs where the row isn't that of the position, or of another
+/// seat.
 fn seal_row_from(alloc: Global, row: &Row, position: usize) -> Result<SealRow, OutsideErr>
     ensures shown { IfOk result (λ kept. ShowsSeal row.now position (seal_texts kept)) }
     ensures seal { IfOk result (λ row. IsSeal row.seal) }
@@ -209,7 +213,8 @@ fn read_texts(alloc: Global, seal_text: &[u8], secret_text: &[u8]) -> Result<Sea
 
 /// A stored text on a shelf of its own, and a reader before its first line.
 fn lines_of(alloc: Global, text: &[u8]) -> Result<(MemShelf, Lines), OutsideErr>
-    ensures { IfOk result (λ made. rest_of made.1 made.0.files ≡ record { taken = 0; left = text.now }) }
+    ensures { IfOk result (λ made. rest_of made.1 made.0.files
+        ≡ record { taken = 0; left = text.now }) }
 {
     let mut shelf = MemShelf::new(alloc);
     shelf.put_file(STORED, text)?;

@@ -33,7 +33,8 @@ pub fn write_seals<S: Alter>(
     ensures same_reference { transaction.new.conn.ghost_name ≡ transaction.old.conn.ghost_name }
     ensures wrote { HasCleanDisk (state S.Store transaction.new.conn.now) → OnOk result
         (WritesSeals S.Store id.now seals.now transaction.old.conn.now transaction.new.conn.now) }
-    ensures crash { CommitsNothing (state S.Store transaction.old.conn.now) (state S.Store transaction.new.conn.now) }
+    ensures crash { CommitsNothing (state S.Store transaction.old.conn.now)
+        (state S.Store transaction.new.conn.now) }
 {
     let held = rows_under(transaction, SEALS, id)?;
     let standing = count_standing(held.as_slice(), seals);
@@ -79,8 +80,10 @@ fn clear_seals<S: Alter>(
 ) -> Result<(), OutsideErr>
     ensures same_reference { transaction.new.conn.ghost_name ≡ transaction.old.conn.ghost_name }
     ensures ran { HasCleanDisk (state S.Store transaction.new.conn.now) → OnOk result
-        (Ran S.Store drop_seals (Blob id.now ∷ Int (pos standing) ∷ []) transaction.old.conn.now transaction.new.conn.now) }
-    ensures crash { CommitsNothing (state S.Store transaction.old.conn.now) (state S.Store transaction.new.conn.now) }
+        (Ran S.Store drop_seals (Blob id.now ∷ Int (pos standing) ∷ []) transaction.old.conn.now
+        transaction.new.conn.now) }
+    ensures crash { CommitsNothing (state S.Store transaction.old.conn.now)
+        (state S.Store transaction.new.conn.now) }
 {
     let columns = clear_columns(id, standing);
     run(transaction, DROP_SEALS, &columns)?;
@@ -107,8 +110,10 @@ fn add_seals<S: Alter>(
     requires { before + length seals.now ≤ 64 }
     ensures same_reference { transaction.new.conn.ghost_name ≡ transaction.old.conn.ghost_name }
     ensures added { HasCleanDisk (state S.Store transaction.new.conn.now) → OnOk result
-        (AddsSeals S.Store id.now before seals.now transaction.old.conn.now transaction.new.conn.now) }
-    ensures crash { CommitsNothing (state S.Store transaction.old.conn.now) (state S.Store transaction.new.conn.now) }
+        (AddsSeals S.Store id.now before seals.now transaction.old.conn.now
+        transaction.new.conn.now) }
+    ensures crash { CommitsNothing (state S.Store transaction.old.conn.now)
+        (state S.Store transaction.new.conn.now) }
 {
     for (i, seal) in seals.iter().enumerate() {
         add_seal(transaction, id, before + i as u32 + 1, seal)?;
@@ -125,8 +130,10 @@ fn add_seal<S: Alter>(
 ) -> Result<(), OutsideErr>
     ensures same_reference { transaction.new.conn.ghost_name ≡ transaction.old.conn.ghost_name }
     ensures ran { HasCleanDisk (state S.Store transaction.new.conn.now) → OnOk result
-        (Ran S.Store keep_seal (seal_row id.now position seal.now) transaction.old.conn.now transaction.new.conn.now) }
-    ensures crash { CommitsNothing (state S.Store transaction.old.conn.now) (state S.Store transaction.new.conn.now) }
+        (Ran S.Store keep_seal (seal_row id.now position seal.now) transaction.old.conn.now
+        transaction.new.conn.now) }
+    ensures crash { CommitsNothing (state S.Store transaction.old.conn.now)
+        (state S.Store transaction.new.conn.now) }
 {
     let columns = seal_columns(id, position, seal);
     run(transaction, KEEP_SEAL, &columns)?;

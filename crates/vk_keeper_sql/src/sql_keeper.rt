@@ -32,16 +32,18 @@ pub struct SqlKeeper<S: Alter> {
 }
 
 impl<S: Alter> SqlKeeper<S> {
-    /// A keeper over this store, with no faults yet, which makes what it answers with this allocator.
-    /// A store without tables gets them, and one of the version before gets what it lacks, in one
-    /// transaction. Refused, the connection comes back.
+    /// A keeper over this store, with no faults yet, which makes what it answers with this
+    /// allocator. A store without tables gets them, and one of the version before gets what it
+    /// lacks, in one transaction. Refused, the connection comes back.
     pub fn over(
         alloc: Global,
         mut connection: Connection<S>,
     ) -> Result<SqlKeeper<S>, (OpenErr, Connection<S>)>
         ensures crash { MatchResult result
-            (λ keeper. CommitsAtOnce {E = Refusal} (Prepares S.Store connection) (state S.Store connection) (state S.Store keeper.connection) (Ok tt))
-            (λ refused. CommitsAtOnce (Prepares S.Store connection) (state S.Store connection) (state S.Store refused.1) (Err refused.0)) }
+            (λ keeper. CommitsAtOnce {E = Refusal} (Prepares S.Store connection)
+            (state S.Store connection) (state S.Store keeper.connection) (Ok tt))
+            (λ refused. CommitsAtOnce (Prepares S.Store connection) (state S.Store connection)
+            (state S.Store refused.1) (Err refused.0)) }
     {
         match prepare(&mut connection) {
             Ok(()) => Ok(SqlKeeper {
@@ -91,8 +93,10 @@ impl<S: Alter> Keeper for SqlKeeper<S> {
     fn get(&mut self, id: &[u8; 16]) -> Result<Option<Auction>, OutsideErr>
         ensures id { IfOk result (λ found. IfSome found (λ auction. auction.id ≡ id.now)) }
         ensures right { IfOk result (λ found. IfSome found IsAuction) }
-        ensures shown { HasCleanDisk (state S.Store self.new.connection) → IfOk result (Finds S.Store id.now self.old.connection) }
-        ensures crash { CommitsNothing (state S.Store self.old.connection) (state S.Store self.new.connection) }
+        ensures shown { HasCleanDisk (state S.Store self.new.connection)
+            → IfOk result (Finds S.Store id.now self.old.connection) }
+        ensures crash { CommitsNothing (state S.Store self.old.connection)
+            (state S.Store self.new.connection) }
         ensures turn { AfterGet self.old.turns self.new.turns }
         ensures causes { Causes OutsideErr.Failed result self.old.faults self.new.faults }
     {

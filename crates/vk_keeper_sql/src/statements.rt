@@ -19,7 +19,8 @@ pub const AUCTION: &str =
 /// Its terms, likewise.
 pub const TERMS: &str = "SELECT version, reserve FROM terms WHERE id = ?1 LIMIT 2";
 
-/// The rows of its seals in order. One more than an auction may have is asked for, so that it is seen.
+/// The rows of its seals in order. One more than an auction may have is asked for, so that it is
+/// seen.
 pub const SEALS: &str =
     "SELECT position, seat, seal, secret FROM seal WHERE id = ?1 ORDER BY position LIMIT 65";
 
@@ -36,7 +37,8 @@ pub fn rows_under<S: Alter>(
     ensures same_reference { transaction.new.conn.ghost_name ≡ transaction.old.conn.ghost_name }
     ensures rows { HasCleanDisk (state S.Store transaction.new.conn.now) → IfOk result (λ rows.
         Answers S.Store query.now (Blob id.now ∷ []) transaction.old.conn.now transaction.new.conn.now rows.items) }
-    ensures crash { CommitsNothing (state S.Store transaction.old.conn.now) (state S.Store transaction.new.conn.now) }
+    ensures crash { CommitsNothing (state S.Store transaction.old.conn.now)
+        (state S.Store transaction.new.conn.now) }
 {
     let rows = ask(transaction, query, &[ValueRef::Blob(id.as_slice())])?;
     Ok(rows)
@@ -51,7 +53,8 @@ pub fn ask<S: Alter>(
     ensures same_reference { transaction.new.conn.ghost_name ≡ transaction.old.conn.ghost_name }
     ensures rows { HasCleanDisk (state S.Store transaction.new.conn.now) → IfOk result (λ rows.
         Answers S.Store query.now (bound columns.now) transaction.old.conn.now transaction.new.conn.now rows.items) }
-    ensures crash { CommitsNothing (state S.Store transaction.old.conn.now) (state S.Store transaction.new.conn.now) }
+    ensures crash { CommitsNothing (state S.Store transaction.old.conn.now)
+        (state S.Store transaction.new.conn.now) }
 {
     let rows = transaction
         .query_all(query, columns)
@@ -67,8 +70,10 @@ pub fn run<S: Alter>(
 ) -> Result<(), OutsideErr>
     ensures same_reference { transaction.new.conn.ghost_name ≡ transaction.old.conn.ghost_name }
     ensures ran { HasCleanDisk (state S.Store transaction.new.conn.now) → OnOk result
-        (Ran S.Store statement.now (bound columns.now) transaction.old.conn.now transaction.new.conn.now) }
-    ensures crash { CommitsNothing (state S.Store transaction.old.conn.now) (state S.Store transaction.new.conn.now) }
+        (Ran S.Store statement.now (bound columns.now) transaction.old.conn.now
+        transaction.new.conn.now) }
+    ensures crash { CommitsNothing (state S.Store transaction.old.conn.now)
+        (state S.Store transaction.new.conn.now) }
 {
     match transaction.execute(statement, columns) {
         Ok(_) => Ok(()),

@@ -26,7 +26,8 @@ const MAKE_AUCTIONS: &str =
 const MAKE_SEALS: &str =
     "CREATE TABLE seal (id BLOB NOT NULL, position INTEGER NOT NULL, seat INTEGER NOT NULL, seal TEXT NOT NULL, secret TEXT NOT NULL, PRIMARY KEY (id, position), UNIQUE (id, seat))";
 
-/// The table of what an auction has since stores of number 2: the version of its board, and its reserve.
+/// The table of what an auction has since stores of number 2: the version of its board, and its
+/// reserve.
 pub const MAKE_TERMS: &str =
     "CREATE TABLE terms (id BLOB PRIMARY KEY NOT NULL, version INTEGER NOT NULL, reserve INTEGER NOT NULL)";
 
@@ -37,8 +38,8 @@ const NUMBER: &str = "SELECT (SELECT count(*) FROM about), version FROM about LI
 /// The number of the version of these tables.
 pub const VERSION: i64 = 2;
 
-/// Makes the tables where the store has none, and gives those of the number 1 what they lack, in one
-/// transaction. Errs where they are of another version, or aren't those of their number.
+/// Makes the tables where the store has none, and gives those of the number 1 what they lack, in
+/// one transaction. Errs where they are of another version, or aren't those of their number.
 #[tactic(auto, using(crate::proofs::AtOnce::untouched_at_once))]
 pub fn prepare<S: Alter>(connection: &mut Connection<S>) -> Result<(), OpenErr>
     ensures crash { CommitsAtOnce (Prepares S.Store connection.old)
@@ -75,7 +76,8 @@ fn prepare_within<S: Alter>(
     ensures same_reference { transaction.new.conn.ghost_name ≡ transaction.old.conn.ghost_name }
     ensures prepared { HasCleanDisk (state S.Store transaction.new.conn.now) → OnOk result
         (PreparesFrom S.Store layout transaction.old.conn.now transaction.new.conn.now) }
-    ensures crash { CommitsNothing (state S.Store transaction.old.conn.now) (state S.Store transaction.new.conn.now) }
+    ensures crash { CommitsNothing (state S.Store transaction.old.conn.now)
+        (state S.Store transaction.new.conn.now) }
 {
     match layout {
         Layout::Blank => make_tables(transaction)?,
@@ -97,7 +99,8 @@ fn check_number<S: Alter>(transaction: &mut Transaction<'_, S>, number: u32) -> 
     ensures same_reference { transaction.new.conn.ghost_name ≡ transaction.old.conn.ghost_name }
     ensures numbered { HasCleanDisk (state S.Store transaction.new.conn.now) → OnOk result
         (IsNumbered S.Store number transaction.old.conn.now transaction.new.conn.now) }
-    ensures crash { CommitsNothing (state S.Store transaction.old.conn.now) (state S.Store transaction.new.conn.now) }
+    ensures crash { CommitsNothing (state S.Store transaction.old.conn.now)
+        (state S.Store transaction.new.conn.now) }
 {
     if number_in(transaction)? != number {
         return Err(OpenErr::Refused);
@@ -108,9 +111,11 @@ fn check_number<S: Alter>(transaction: &mut Transaction<'_, S>, number: u32) -> 
 /// The number of the tables. Errs where it is of another version.
 fn number_in<S: Alter>(transaction: &mut Transaction<'_, S>) -> Result<u32, OpenErr>
     ensures same_reference { transaction.new.conn.ghost_name ≡ transaction.old.conn.ghost_name }
-    ensures numbered { HasCleanDisk (state S.Store transaction.new.conn.now) → IfOk result (λ number.
+    ensures numbered { HasCleanDisk (state S.Store transaction.new.conn.now)
+        → IfOk result (λ number.
         IsNumbered S.Store number transaction.old.conn.now transaction.new.conn.now) }
-    ensures crash { CommitsNothing (state S.Store transaction.old.conn.now) (state S.Store transaction.new.conn.now) }
+    ensures crash { CommitsNothing (state S.Store transaction.old.conn.now)
+        (state S.Store transaction.new.conn.now) }
 {
     let rows = ask(transaction, NUMBER, &[])?;
     let number = number_from(rows.as_slice())?;
@@ -146,7 +151,8 @@ fn make_tables<S: Alter>(transaction: &mut Transaction<'_, S>) -> Result<(), Out
     ensures same_reference { transaction.new.conn.ghost_name ≡ transaction.old.conn.ghost_name }
     ensures made { HasCleanDisk (state S.Store transaction.new.conn.now) → OnOk result
         (MakesTables S.Store transaction.old.conn.now transaction.new.conn.now) }
-    ensures crash { CommitsNothing (state S.Store transaction.old.conn.now) (state S.Store transaction.new.conn.now) }
+    ensures crash { CommitsNothing (state S.Store transaction.old.conn.now)
+        (state S.Store transaction.new.conn.now) }
 {
     run(transaction, MAKE_ABOUT, &[])?;
     run(transaction, MAKE_AUCTIONS, &[])?;

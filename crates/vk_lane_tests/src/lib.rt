@@ -1,4 +1,5 @@
-//! Rows, lanes, their provers and extractors against outside vectors, worked examples and ample memory.
+//! Rows, lanes, their provers and extractors against outside vectors, worked examples and ample
+//! memory.
 #![tactic(auto)]
 
 #[cfg(test)]

@@ -16,20 +16,26 @@ use Rattle.hex.proofs.HexLemmas.{length-encode_with, decode_of-even, decode_of-o
 use Rattle.hex.proofs.Pairs.{cons_byte, decode_pairs-ok_pair}
 use Rattle.vk_lines.specs.Tokens.{hex_text, hex_of, is_lower_digit, digit_value, ReadsHex}
 
-encode_with-append : (table bytes more : List ℕ) → encode_with table (bytes ++ more) ≡ encode_with table bytes ++ encode_with table more
+encode_with-append : (table bytes more : List ℕ)
+    → encode_with table (bytes ++ more) ≡ encode_with table bytes ++ encode_with table more
 unfolding encode_with
 encode_with-append table [] more = refl
-encode_with-append table (x ∷ bytes) more = ap (λ rest. slice_index table (x / 16) ∷ slice_index table (x % 16) ∷ rest) (encode_with-append table bytes more)
+encode_with-append table (x ∷ bytes) more =
+    ap (λ rest. slice_index table (x / 16) ∷ slice_index table (x % 16) ∷ rest)
+    (encode_with-append table bytes more)
 
 encode_with-push : (table bytes : List ℕ) (b : ℕ)
-    → encode_with table (bytes ++ b ∷ []) ≡ encode_with table bytes ++ slice_index table (b / 16) ∷ slice_index table (b % 16) ∷ []
+    → encode_with table (bytes ++ b ∷ []) ≡ encode_with table bytes ++ slice_index table (b / 16)
+    ∷ slice_index table (b % 16) ∷ []
 unfolding encode_with
 encode_with-push table bytes b = encode_with-append table bytes (b ∷ [])
 
 -- a piece more
 pub hex_text_more : (bytes : List ℕ) (written count : ℕ)
-    → hex_text (take (written + count) bytes) ≡ hex_text (take written bytes) ++ hex_text (take count (drop written bytes))
-hex_text_more bytes written count = ap hex_text (take-add written count bytes) ∙ encode_with-append lower_digits (take written bytes) (take count (drop written bytes))
+    → hex_text (take (written + count) bytes)
+    ≡ hex_text (take written bytes) ++ hex_text (take count (drop written bytes))
+hex_text_more bytes written count = ap hex_text (take-add written count bytes)
+    ∙ encode_with-append lower_digits (take written bytes) (take count (drop written bytes))
 
 -- no bytes have the empty text
 pub hex_text_none : (bytes : List ℕ) → bytes ≡ [] → hex_text bytes ≡ []
@@ -43,7 +49,8 @@ digit_of : (v : ℕ) → v < 16 → slice_index lower_digits v ≡ (if nat_lt v 
 digit_of v small = search rules
 
 -- a lower-case digit has a value, and is that value's digit
-lower_value : (c : ℕ) → is_lower_digit c ≡ true → (v : ℕ) × (v < 16) × (hex_digit_value c ≡ Some v) × (slice_index lower_digits v ≡ c)
+lower_value : (c : ℕ) → is_lower_digit c ≡ true → (v : ℕ) × (v < 16) × (hex_digit_value c ≡ Some v)
+    × (slice_index lower_digits v ≡ c)
 lower_value c lower =
     elim (cases_lt c 58) [
       | inl digit ↦
@@ -66,7 +73,8 @@ unfolding decode_pairs encode_with
 lower_pairs i [] even lower = ([], refl, refl)
 lower_pairs i (a ∷ []) even lower = absurd (omega arith)
 lower_pairs i (a ∷ b ∷ text) even lower =
-    let front = and_parts (is_lower_digit a) (is_lower_digit b && list_all is_lower_digit text) lower in
+    let front = and_parts (is_lower_digit a) (is_lower_digit b && list_all is_lower_digit text)
+    lower in
     let next = and_parts (is_lower_digit b) (list_all is_lower_digit text) front.1 in
     let high = lower_value a front.0 in
     let low = lower_value b next.0 in
@@ -82,7 +90,8 @@ lower_pairs i (a ∷ b ∷ text) even lower =
     )
 
 -- the text of bytes has lower-case digits alone
-pub hex_text-lower : (bytes : List ℕ) → IsBytes bytes → list_all is_lower_digit (hex_text bytes) ≡ true
+pub hex_text-lower : (bytes : List ℕ) → IsBytes bytes
+    → list_all is_lower_digit (hex_text bytes) ≡ true
 unfolding encode_with
 hex_text-lower [] fit = refl
 hex_text-lower (b ∷ bytes) fit =
@@ -90,23 +99,29 @@ hex_text-lower (b ∷ bytes) fit =
     let high = digit_of (b / 16) (omega arith) in
     let low = digit_of (b % 16) (omega arith) in
     let rest = hex_text-lower bytes (λ k. fit (suc k)) in
-    let ha : is_lower_digit (slice_index lower_digits (b / 16)) ≡ true = rw high (grind (arith, nat_tests)) in
-    let hb : is_lower_digit (slice_index lower_digits (b % 16)) ≡ true = rw low (grind (arith, nat_tests)) in
+    let ha : is_lower_digit (slice_index lower_digits (b / 16)) ≡ true =
+    rw high (grind (arith, nat_tests)) in
+    let hb : is_lower_digit (slice_index lower_digits (b % 16)) ≡ true =
+    rw low (grind (arith, nat_tests)) in
     rw (ha, hb, rest) refl
 
-ok_of_some : (r : Result (List ℕ) FromHexError) (bytes : List ℕ) → result_ok r ≡ Some bytes → r ≡ Ok bytes
+ok_of_some : (r : Result (List ℕ) FromHexError) (bytes : List ℕ) → result_ok r ≡ Some bytes
+    → r ≡ Ok bytes
 ok_of_some (Ok xs) bytes h = cc
 ok_of_some (Err e) bytes h = cc
 
-some_where : (test : Bool) (o : Option (List ℕ)) (bytes : List ℕ) → (if test then o else None) ≡ Some bytes → (test ≡ true) × (o ≡ Some bytes)
+some_where : (test : Bool) (o : Option (List ℕ)) (bytes : List ℕ)
+    → (if test then o else None) ≡ Some bytes → (test ≡ true) × (o ≡ Some bytes)
 some_where true o bytes h = (refl, h)
 some_where false o bytes h = cc
 
 -- what is read as bytes is their text
-pub hex_of-some : (count : ℕ) (text bytes : List ℕ) → hex_of count text ≡ Some bytes → (length bytes ≡ count) × IsBytes bytes × (text ≡ hex_text bytes)
+pub hex_of-some : (count : ℕ) (text bytes : List ℕ) → hex_of count text ≡ Some bytes
+    → (length bytes ≡ count) × IsBytes bytes × (text ≡ hex_text bytes)
 unfolding hex_of
 hex_of-some count text bytes h =
-    let found = some_where (list_all is_lower_digit text) (result_ok (decode_sized text count)) bytes h in
+    let found = some_where (list_all is_lower_digit text) (result_ok (decode_sized text count))
+    bytes h in
     let sized = ok_of_some (decode_sized text count) bytes found.1 in
     let long = decode_sized-ok text count bytes sized in
     let even : length text % 2 ≡ 0 = omega arith in
@@ -118,23 +133,27 @@ hex_of-some count text bytes h =
     (omega (arith, facts.2), facts.3, sym lower.2 ∙ ap hex_text bytes_same)
 
 -- and the text of bytes is read as them
-pub hex_of-hex_text : (count : ℕ) (bytes : List ℕ) → length bytes ≡ count → IsBytes bytes → hex_of count (hex_text bytes) ≡ Some bytes
+pub hex_of-hex_text : (count : ℕ) (bytes : List ℕ) → length bytes ≡ count → IsBytes bytes
+    → hex_of count (hex_text bytes) ≡ Some bytes
 unfolding hex_of
-hex_of-hex_text count bytes long fit = rw (hex_text-lower bytes fit, decode_sized-encode_lower bytes count long fit) refl
+hex_of-hex_text count bytes long fit =
+    rw (hex_text-lower bytes fit, decode_sized-encode_lower bytes count long fit) refl
 
 -- two digits for each byte
 pub length-hex_text : (bytes : List ℕ) → length (hex_text bytes) ≡ 2 * length bytes
 length-hex_text bytes = length-encode_with lower_digits bytes
 
 -- both directions
-pub ReadsHex-hex_of : (count : ℕ) (text : List ℕ) (result : Option (List ℕ)) → result ≡ hex_of count text → ReadsHex count text result
+pub ReadsHex-hex_of : (count : ℕ) (text : List ℕ) (result : Option (List ℕ))
+    → result ≡ hex_of count text → ReadsHex count text result
 ReadsHex-hex_of count text result value bytes = (
   λ some. hex_of-some count text bytes (sym value ∙ some),
   λ facts. value ∙ ap (hex_of count) facts.2 ∙ hex_of-hex_text count bytes facts.0 facts.1,
 )
 
 -- what is read is so many bytes
-pub read_bytes : (count : ℕ) (text : List ℕ) (result : Option (List ℕ)) → ReadsHex count text result → IfSome result (λ bytes. (length bytes ≡ count) × IsBytes bytes)
+pub read_bytes : (count : ℕ) (text : List ℕ) (result : Option (List ℕ)) → ReadsHex count text result
+    → IfSome result (λ bytes. (length bytes ≡ count) × IsBytes bytes)
 read_bytes count text (Some bytes) exact = let is = (exact bytes).0 refl in (is.0, is.1)
 read_bytes count text None exact = tt
 
@@ -145,8 +164,12 @@ none_of (Some bytes) never = absurd (never bytes refl)
 none_of None never = refl
 
 -- a text of another length is that of no bytes
-pub hex_none_long : (count : ℕ) (text : List ℕ) → (length text ≡ 2 * count → ⊥) → hex_of count text ≡ None
-hex_none_long count text other = none_of (hex_of count text) (λ bytes some. let is = hex_of-some count text bytes some in other (ap length is.2 ∙ length-hex_text bytes ∙ ap (λ n. 2 * n) is.0))
+pub hex_none_long : (count : ℕ) (text : List ℕ) → (length text ≡ 2 * count → ⊥)
+    → hex_of count text ≡ None
+hex_none_long count text other =
+    none_of (hex_of count text)
+    (λ bytes some. let is = hex_of-some count text bytes some in
+    other (ap length is.2 ∙ length-hex_text bytes ∙ ap (λ n. 2 * n) is.0))
 
 -- a digit is that of its value, and another character has none
 digit_is : (c : ℕ) → digit_value c ≤ 15 → slice_index lower_digits (digit_value c) ≡ c
@@ -167,14 +190,17 @@ digit_none : (c : ℕ) → 15 < digit_value c → is_lower_digit c ≡ false
 digit_none c great = grind (arith, nat_tests)
 
 -- a text with another character is that of no bytes
-pub hex_none_at : (count : ℕ) (text : List ℕ) (i : ℕ) → i < length text → 15 < digit_value (get_or text i 0) → hex_of count text ≡ None
+pub hex_none_at : (count : ℕ) (text : List ℕ) (i : ℕ) → i < length text
+    → 15 < digit_value (get_or text i 0) → hex_of count text ≡ None
 unfolding hex_of
-hex_none_at count text i within great = rw (list_all_at is_lower_digit text i 0 within (digit_none (get_or text i 0) great)) refl
+hex_none_at count text i within great =
+    rw (list_all_at is_lower_digit text i 0 within (digit_none (get_or text i 0) great)) refl
 
 -- the greatest value of the digits so far and of two more is none of a digit
 pub none_more : (count : ℕ) (text : List ℕ) (i greatest high low : ℕ) → 2 * i + 1 < length text
     → high ≡ digit_value (get_or text (2 * i) 0) → low ≡ digit_value (get_or text (2 * i + 1) 0)
-    → (15 < greatest → hex_of count text ≡ None) → 15 < max greatest (max high low) → hex_of count text ≡ None
+    → (15 < greatest → hex_of count text ≡ None) → 15 < max greatest (max high low)
+    → hex_of count text ≡ None
 none_more count text i greatest high low within is_high is_low before great =
     elim (cases_lt 15 greatest) [
       | inl one ↦ before one
@@ -190,33 +216,46 @@ byte_of high low = (high * 16 % 256 + low) % 256
 
 -- two digits more write one byte more
 pair_read : (bytes text : List ℕ) (i high low : ℕ) → i < length bytes → 2 * i + 1 < length text
-    → high ≡ digit_value (get_or text (2 * i) 0) → low ≡ digit_value (get_or text (2 * i + 1) 0) → high ≤ 15 → low ≤ 15
-    → hex_text (take i bytes) ≡ take (2 * i) text → hex_text (take (i + 1) (set bytes i (high * 16 + low))) ≡ take (2 * (i + 1)) text
+    → high ≡ digit_value (get_or text (2 * i) 0) → low ≡ digit_value (get_or text (2 * i + 1) 0)
+    → high ≤ 15 → low ≤ 15
+    → hex_text (take i bytes) ≡ take (2 * i) text
+    → hex_text (take (i + 1) (set bytes i (high * 16 + low))) ≡ take (2 * (i + 1)) text
 pair_read bytes text i high low within inside is_high is_low small_high small_low so_far =
     let over : (high * 16 + low) / 16 ≡ high = omega arith in
     let under : (high * 16 + low) % 16 ≡ low = omega arith in
-    let first : slice_index lower_digits high ≡ get_or text (2 * i) 0 = rw is_high (digit_is (get_or text (2 * i) 0) (omega arith)) in
-    let second : slice_index lower_digits low ≡ get_or text (2 * i + 1) 0 = rw is_low (digit_is (get_or text (2 * i + 1) 0) (omega arith)) in
-    let more : take (2 * i + 1) text ≡ take (2 * i) text ++ get_or text (2 * i) 0 ∷ [] = take_more text (2 * i) 0 (omega arith) in
-    let last : take (2 * i + 1 + 1) text ≡ take (2 * i + 1) text ++ get_or text (2 * i + 1) 0 ∷ [] = take_more text (2 * i + 1) 0 inside in
+    let first : slice_index lower_digits high ≡ get_or text (2 * i) 0 =
+    rw is_high (digit_is (get_or text (2 * i) 0) (omega arith)) in
+    let second : slice_index lower_digits low ≡ get_or text (2 * i + 1) 0 =
+    rw is_low (digit_is (get_or text (2 * i + 1) 0) (omega arith)) in
+    let more : take (2 * i + 1) text ≡ take (2 * i) text ++ get_or text (2 * i) 0 ∷ [] =
+    take_more text (2 * i) 0 (omega arith) in
+    let last : take (2 * i + 1 + 1) text ≡ take (2 * i + 1) text ++ get_or text (2 * i + 1) 0 ∷ [] =
+    take_more text (2 * i + 1) 0 inside in
     let count : 2 * (i + 1) ≡ 2 * i + 1 + 1 = omega arith in
     ap hex_text (take-set_at bytes i (i + 1) (high * 16 + low) refl within)
     ∙ encode_with-push lower_digits (take i bytes) (high * 16 + low)
-    ∙ rw (over, under, first, second, so_far, count, last, more) (sym (append_assoc (take (2 * i) text) (get_or text (2 * i) 0 ∷ []) (get_or text (2 * i + 1) 0 ∷ [])))
+    ∙ rw (over, under, first, second, so_far, count, last, more)
+    (sym (append_assoc (take (2 * i) text) (get_or text (2 * i) 0 ∷ [])
+    (get_or text (2 * i + 1) 0 ∷ [])))
 
 -- so do they where the greatest of all digits so far is that of a digit
-pub digits_more : (bytes text : List ℕ) (i greatest high low : ℕ) → i < length bytes → 2 * i + 1 < length text
-    → high ≡ digit_value (get_or text (2 * i) 0) → low ≡ digit_value (get_or text (2 * i + 1) 0) → max greatest (max high low) ≤ 15
-    → (greatest ≤ 15 → hex_text (take i bytes) ≡ take (2 * i) text) → hex_text (take (i + 1) (set bytes i (byte_of high low))) ≡ take (2 * (i + 1)) text
+pub digits_more : (bytes text : List ℕ) (i greatest high low : ℕ) → i < length bytes
+    → 2 * i + 1 < length text
+    → high ≡ digit_value (get_or text (2 * i) 0) → low ≡ digit_value (get_or text (2 * i + 1) 0)
+    → max greatest (max high low) ≤ 15
+    → (greatest ≤ 15 → hex_text (take i bytes) ≡ take (2 * i) text)
+    → hex_text (take (i + 1) (set bytes i (byte_of high low))) ≡ take (2 * (i + 1)) text
 digits_more bytes text i greatest high low within inside is_high is_low small so_far =
     let byte : byte_of high low ≡ high * 16 + low = omega arith in
-    rw byte (pair_read bytes text i high low within inside is_high is_low (omega arith) (omega arith) (so_far (omega arith)))
+    rw byte (pair_read bytes text i high low within inside is_high is_low (omega arith)
+    (omega arith) (so_far (omega arith)))
 
 pub bytes_set : (bytes : List ℕ) (i v : ℕ) → v < 256 → IsBytes bytes → IsBytes (set bytes i v)
 bytes_set bytes i v small fit k = let there = fit k in grind (arith, common_steps)
 
 -- bytes whose digits were all read
-hex_some : (bytes text : List ℕ) (count i : ℕ) → length bytes ≡ count → length text ≡ 2 * count → i ≡ count → IsBytes bytes
+hex_some : (bytes text : List ℕ) (count i : ℕ) → length bytes ≡ count → length text ≡ 2 * count
+    → i ≡ count → IsBytes bytes
     → hex_text (take i bytes) ≡ take (2 * i) text → hex_of count text ≡ Some bytes
 hex_some bytes text count i long twice all fit so_far =
     let front : take i bytes ≡ bytes = take_all i bytes (omega arith) in
@@ -225,11 +264,15 @@ hex_some bytes text count i long twice all fit so_far =
     ap (hex_of count) is ∙ hex_of-hex_text count bytes long fit
 
 -- whether or not they were
-pub hex_by : (bytes text : List ℕ) (count i greatest : ℕ) → length bytes ≡ count → length text ≡ 2 * count → i ≡ count → IsBytes bytes
-    → (greatest ≤ 15 → hex_text (take i bytes) ≡ take (2 * i) text) → (15 < greatest → hex_of (length bytes) text ≡ None)
+pub hex_by : (bytes text : List ℕ) (count i greatest : ℕ) → length bytes ≡ count
+    → length text ≡ 2 * count → i ≡ count → IsBytes bytes
+    → (greatest ≤ 15 → hex_text (take i bytes) ≡ take (2 * i) text)
+    → (15 < greatest → hex_of (length bytes) text ≡ None)
     → hex_of count text ≡ (if nat_le greatest 15 then Some bytes else None)
 hex_by bytes text count i greatest long twice all fit so_far none =
     elim (cases_lt 15 greatest) [
-      | inl great ↦ let other : nat_le greatest 15 ≡ false = grind (arith, nat_tests) in rw other (ap (λ n. hex_of n text) (sym long) ∙ none great)
-      | inr small ↦ let is : nat_le greatest 15 ≡ true = grind (arith, nat_tests) in rw is (hex_some bytes text count i long twice all fit (so_far (omega arith)))
+      | inl great ↦ let other : nat_le greatest 15 ≡ false = grind (arith, nat_tests) in
+          rw other (ap (λ n. hex_of n text) (sym long) ∙ none great)
+      | inr small ↦ let is : nat_le greatest 15 ≡ true = grind (arith, nat_tests) in
+          rw is (hex_some bytes text count i long twice all fit (so_far (omega arith)))
     ]

@@ -13,7 +13,8 @@ abbrev pub pieces : List ℕ → List (List ℕ)
 pieces left = slice_split (λ byte. byte == 10) left
 
 -- the first line and what is left after it
-pub pieces_feed : (left : List ℕ) → feed_at left < length left → pieces left ≡ take (feed_at left) left ∷ pieces (drop (feed_at left + 1) left)
+pub pieces_feed : (left : List ℕ) → feed_at left < length left
+    → pieces left ≡ take (feed_at left) left ∷ pieces (drop (feed_at left + 1) left)
 pieces_feed left within = slice_split_first (λ byte. byte == 10) left 0 within
 
 -- no line feed
@@ -34,8 +35,10 @@ not_text_tells : (feed count : ℕ) → (step_by feed count ≡ Text → ⊥) �
 not_text_tells feed count other within = grind (arith, nat_tests)
 
 -- where no line stands next, the first piece is too long for a line or the only one
-pub other_pieces : {A : Type 0} (f : List (List ℕ) → A) (answer : A) (left : List ℕ) → (step_of left ≡ Text → ⊥)
-    → ((line piece : List ℕ) (more : List (List ℕ)) → 256 ≤ length line → f (line ∷ piece ∷ more) ≡ answer) → f (left ∷ []) ≡ answer
+pub other_pieces : {A : Type 0} (f : List (List ℕ) → A) (answer : A) (left : List ℕ)
+    → (step_of left ≡ Text → ⊥)
+    → ((line piece : List ℕ) (more : List (List ℕ)) → 256 ≤ length line
+    → f (line ∷ piece ∷ more) ≡ answer) → f (left ∷ []) ≡ answer
     → f (pieces left) ≡ answer
 other_pieces f answer left other long only =
     elim (cases_lt (feed_at left) (length left)) [
@@ -43,7 +46,9 @@ other_pieces f answer left other long only =
           let far = not_text_tells (feed_at left) (length left) other within in
           let line : List ℕ = take (feed_at left) left in
           let some = split_some 10 (drop (feed_at left + 1) left) in
-          let same : length line ≡ feed_at left = length-take-le (feed_at left) left (omega arith) in
-          ap f (pieces_feed left within ∙ ap (λ ps. line ∷ ps) some.2) ∙ long line some.0 some.1 (omega arith)
+          let same : length line ≡ feed_at left = length-take-le (feed_at left) left (omega arith)
+          in
+          ap f (pieces_feed left within ∙ ap (λ ps. line ∷ ps) some.2)
+          ∙ long line some.0 some.1 (omega arith)
       | inr none ↦ ap f (pieces_none left none) ∙ only
     ]

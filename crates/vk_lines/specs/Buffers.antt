@@ -20,7 +20,8 @@ pub record AreInOrder (first feed next end : ℕ) : Type 0 where
   pub ahead : next ≤ end
   pub within : end ≤ 4096
 
--- of the bytes left, so many show what stands next: with those ahead they are as many as a line may have, or all
+-- of the bytes left, so many show what stands next: with those ahead they are as many as a line may
+-- have, or all
 pub record IsEnough (ahead left asked : ℕ) : Type 0 where
   pub within : asked ≤ left
   pub enough : (256 ≤ ahead + asked) ⊎ (asked ≡ left)
@@ -29,7 +30,8 @@ pub record IsEnough (ahead left asked : ℕ) : Type 0 where
 abbrev pub with_piece : List ℕ → LinesValue → LinesValue
 with_piece piece lines = record lines { ahead = lines.ahead ++ piece }
 
--- nothing but what is ahead has changed, and what is left is the same; the bytes ahead show what stands next
+-- nothing but what is ahead has changed, and what is left is the same; the bytes ahead show what
+-- stands next
 pub record HasLooked (old new : LinesValue) (files : Files) : Type 0 where
   pub rest : rest_of new files ≡ rest_of old files
   pub taken : new.taken ≡ old.taken

@@ -1,8 +1,8 @@
 -- What is answered, held against what a definition gives: a value, or the first fault.
 use Rattle.std.specs.Prelude.{◌≡◌, Option, Some, None, Result, Ok, Err}
 
--- a refusal that tells a fault is the definition's. One that tells none, as after a failure of the outside
--- or want of memory, says nothing
+-- a refusal that tells a fault is the definition's. One that tells none, as after a failure of the
+-- outside or want of memory, says nothing
 abbrev pub Refuses : {X F : Type 0} → Option F → Result X F → Type 0
 Refuses (Some fault) expected = expected ≡ Err fault
 Refuses None expected = Unit {0}

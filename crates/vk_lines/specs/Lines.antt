@@ -39,9 +39,13 @@ step_by feed count =
 abbrev pub step_of : List ℕ → Step
 step_of left = step_by (feed_at left) (length left)
 
--- the next line without its line feed, with what is left after it; or the number of the line that isn't there
+-- the next line without its line feed, with what is left after it; or the number of the line that
+-- isn't there
 abbrev pub text_by : Step → Rest → Result (List ℕ × Rest) ℕ
-text_by Text rest = Ok (take (feed_at rest.left) rest.left, record { taken = rest.taken + 1; left = drop (feed_at rest.left + 1) rest.left })
+text_by Text rest = Ok (
+  take (feed_at rest.left) rest.left,
+  record { taken = rest.taken + 1; left = drop (feed_at rest.left + 1) rest.left },
+)
 text_by End rest = Err (rest.taken + 1)
 text_by Long rest = Err (rest.taken + 1)
 text_by Cut rest = Err (rest.taken + 1)
@@ -51,8 +55,8 @@ text_at rest = text_by (step_of rest.left) rest
 
 -- ---- a reader of lines
 
--- a reader: the file's name and its length as it was told, how many bytes and lines were taken of it, the
--- bytes that were read and not yet taken, and the last line taken
+-- a reader: the file's name and its length as it was told, how many bytes and lines were taken of
+-- it, the bytes that were read and not yet taken, and the last line taken
 pub record LinesValue : Type 0 where
   pub name : List ℕ
   pub size : ℕ
@@ -106,14 +110,16 @@ Starts files name (Err refused.NoMemory) = Unit {0}
 -- a file from its first line on, where it is held and has at most 2^30 bytes
 abbrev pub started : Option (List ℕ) → Result Rest StartErr
 started None = Err Missing
-started (Some bytes) = if nat_lt (2 ^ 30) (length bytes) then Err TooLong else Ok (record { taken = 0; left = bytes })
+started (Some bytes) = if nat_lt (2 ^ 30) (length bytes) then Err TooLong
+    else Ok (record { taken = 0; left = bytes })
 
 -- why a file of this length isn't read as lines, if it isn't
 abbrev pub refusal_of : Option ℕ → Option StartErr
 refusal_of None = Some Missing
 refusal_of (Some size) = if nat_lt (2 ^ 30) size then Some TooLong else None
 
--- a reader of a file of this length is made or refused so; only one that could be made is refused for want of memory
+-- a reader of a file of this length is made or refused so; only one that could be made is refused
+-- for want of memory
 abbrev pub IsBegun : Option ℕ → Result LinesValue StartErr → Type 0
 IsBegun told (Ok lines) = refusal_of told ≡ None
 IsBegun told (Err refusal) = refusal ≡ unwrap_or (refusal_of told) refused.NoMemory
@@ -123,7 +129,8 @@ abbrev pub IsBegunBy : Result (Option ℕ) OutsideErr → Result LinesValue Star
 IsBegunBy (Ok told) result = IsBegun told result
 IsBegunBy (Err outside) result = result ≡ Err (told_as refused.Failed refused.NoMemory outside)
 
--- the line that a reader took, with what is left after it; or the number of the line that isn't there
+-- the line that a reader took, with what is left after it; or the number of the line that isn't
+-- there
 abbrev pub line_taken : Step → LinesValue → LinesValue → Files → Result (List ℕ × Rest) ℕ
 line_taken Text old new files = Ok (new.text, rest_of new files)
 line_taken End old new files = Err (old.taken + 1)
@@ -145,12 +152,16 @@ line_of Failed = None
 line_of NoMemory = None
 
 -- a reader's answer is what the definition gives: the value with what is left, or the fault line
-abbrev pub GivesReading : {T X : Type 0} → (T → X) → Result T ReadErr → Rest → Result (X × Rest) ℕ → Type 0
+abbrev pub GivesReading : {T X : Type 0} → (T → X) → Result T ReadErr → Rest → Result (X × Rest) ℕ
+    → Type 0
 GivesReading value result rest expected = Gives line_of (λ x. (value x, rest)) result expected
 
 -- a call's answer is that of this reading of what was left before it, where the files are modelled
-abbrev pub ReadsPart : {X : Type 0} → (Rest → Result (X × Rest) ℕ) → Option Files → LinesValue → LinesValue → Result X ReadErr → Type 0
-ReadsPart read held old new result = IfSome held (λ files. GivesReading (λ x. x) result (rest_of new files) (read (rest_of old files)))
+abbrev pub ReadsPart : {X : Type 0} → (Rest → Result (X × Rest) ℕ) → Option Files → LinesValue
+    → LinesValue → Result X ReadErr → Type 0
+ReadsPart read held old new result =
+    IfSome held (λ files. GivesReading (λ x. x) result (rest_of new files)
+    (read (rest_of old files)))
 
 -- the value of a line, or the line's number where it has none
 abbrev pub value_at : {X : Type 0} → Option X → Rest → Result (X × Rest) ℕ

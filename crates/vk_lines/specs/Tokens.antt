@@ -15,7 +15,8 @@ fields_of text = slice_split (λ byte. byte == 32) text
 
 -- whether a text is not empty and has no zero before another character
 abbrev pub starts_canonical : List ℕ → Bool
-starts_canonical text = length text == 1 || (nat_lt 1 (length text) && not (slice_index text 0 == 48))
+starts_canonical text = length text == 1
+    || (nat_lt 1 (length text) && not (slice_index text 0 == 48))
 
 -- whether a text is one or more decimal digits, with no zero before another digit
 abbrev pub is_canonical : List ℕ → Bool
@@ -23,19 +24,23 @@ is_canonical text = starts_canonical text && all_ascii_digits text
 
 -- the number whose canonical decimal a text is, if it is at most `most`
 unfoldable pub decimal_of : ℕ → List ℕ → Option ℕ
-decimal_of most text = if is_canonical text && nat_le (digits_value 10 text) most then Some (digits_value 10 text) else None
+decimal_of most text = if is_canonical text && nat_le (digits_value 10 text) most
+    then Some (digits_value 10 text) else None
 
 -- the residue whose canonical decimal a text is
 abbrev pub residue_of : List ℕ → Option ℕ
 residue_of text = decimal_of (modulus - 1) text
 
--- a decimal is read exactly from its text: the canonical decimals of the numbers up to `most`, and no other text
+-- a decimal is read exactly from its text: the canonical decimals of the numbers up to `most`, and
+-- no other text
 abbrev pub ReadsDecimal : ℕ → List ℕ → Option ℕ → Type 0
 ReadsDecimal most text result = (n : ℕ) → (result ≡ Some n) ↔ ((n ≤ most) × (text ≡ decimal n))
 
--- the number whose digits are those of `number` and then this one, if it is one and the number is at most `most`
+-- the number whose digits are those of `number` and then this one, if it is one and the number is
+-- at most `most`
 abbrev pub next_number : ℕ → ℕ → ℕ → Option ℕ
-next_number most number digit = if is_ascii_digit digit && nat_le (10 * number + (digit - 48)) most then Some (10 * number + (digit - 48)) else None
+next_number most number digit = if is_ascii_digit digit && nat_le (10 * number + (digit - 48)) most
+    then Some (10 * number + (digit - 48)) else None
 
 -- bytes as text: two lower-case hexadecimal digits a byte, the high four bits first
 abbrev pub hex_text : List ℕ → List ℕ
@@ -47,15 +52,18 @@ is_lower_digit byte = (nat_le 48 byte && nat_le byte 57) || (nat_le 97 byte && n
 
 -- the value of such a digit, and 255 for any other byte
 abbrev pub digit_value : ℕ → ℕ
-digit_value byte = if nat_le 48 byte && nat_le byte 57 then byte - 48 else if nat_le 97 byte && nat_le byte 102 then byte - 87 else 255
+digit_value byte = if nat_le 48 byte && nat_le byte 57 then byte - 48
+    else if nat_le 97 byte && nat_le byte 102 then byte - 87 else 255
 
 -- the `count` bytes whose text in lower-case hexadecimal a text is
 unfoldable pub hex_of : ℕ → List ℕ → Option (List ℕ)
-hex_of count text = if list_all is_lower_digit text then result_ok (decode_sized text count) else None
+hex_of count text = if list_all is_lower_digit text then result_ok (decode_sized text count)
+    else None
 
 -- bytes are read exactly from their text: that of `count` bytes in lower case, and no other text
 abbrev pub ReadsHex : ℕ → List ℕ → Option (List ℕ) → Type 0
-ReadsHex count text result = (bytes : List ℕ) → (result ≡ Some bytes) ↔ ((length bytes ≡ count) × IsBytes bytes × (text ≡ hex_text bytes))
+ReadsHex count text result = (bytes : List ℕ) → (result ≡ Some bytes)
+    ↔ ((length bytes ≡ count) × IsBytes bytes × (text ≡ hex_text bytes))
 
 -- ---- lines of fields
 
@@ -101,17 +109,20 @@ one_by word parse fields = behind_word word fields >>? one_of >>? parse
 abbrev pub one_field : {X : Type 0} → List ℕ → (List ℕ → Option X) → List ℕ → Option X
 one_field word parse text = one_by word parse (fields_of text)
 
-abbrev pub two_by : {A B X : Type 0} → List ℕ → (List ℕ → Option A) → (List ℕ → Option B) → (A → B → X) → List (List ℕ) → Option X
+abbrev pub two_by : {A B X : Type 0} → List ℕ → (List ℕ → Option A) → (List ℕ → Option B)
+    → (A → B → X) → List (List ℕ) → Option X
 two_by word first second make fields =
     behind_word word fields >>? two_of >>? λ fields.
     first fields.0 >>? λ a.
     second fields.1 >>? λ b.
     Some (make a b)
 
-abbrev pub two_fields : {A B X : Type 0} → List ℕ → (List ℕ → Option A) → (List ℕ → Option B) → (A → B → X) → List ℕ → Option X
+abbrev pub two_fields : {A B X : Type 0} → List ℕ → (List ℕ → Option A) → (List ℕ → Option B)
+    → (A → B → X) → List ℕ → Option X
 two_fields word first second make text = two_by word first second make (fields_of text)
 
-abbrev pub three_by : {A B C X : Type 0} → List ℕ → (List ℕ → Option A) → (List ℕ → Option B) → (List ℕ → Option C) → (A → B → C → X) → List (List ℕ) → Option X
+abbrev pub three_by : {A B C X : Type 0} → List ℕ → (List ℕ → Option A) → (List ℕ → Option B)
+    → (List ℕ → Option C) → (A → B → C → X) → List (List ℕ) → Option X
 three_by word first second third make fields =
     behind_word word fields >>? three_of >>? λ fields.
     first fields.0 >>? λ a.
@@ -119,10 +130,13 @@ three_by word first second third make fields =
     third fields.2 >>? λ c.
     Some (make a b c)
 
-abbrev pub three_fields : {A B C X : Type 0} → List ℕ → (List ℕ → Option A) → (List ℕ → Option B) → (List ℕ → Option C) → (A → B → C → X) → List ℕ → Option X
-three_fields word first second third make text = three_by word first second third make (fields_of text)
+abbrev pub three_fields : {A B C X : Type 0} → List ℕ → (List ℕ → Option A) → (List ℕ → Option B)
+    → (List ℕ → Option C) → (A → B → C → X) → List ℕ → Option X
+three_fields word first second third make text =
+    three_by word first second third make (fields_of text)
 
-abbrev pub four_by : {A B C D X : Type 0} → List ℕ → (List ℕ → Option A) → (List ℕ → Option B) → (List ℕ → Option C) → (List ℕ → Option D) → (A → B → C → D → X) → List (List ℕ) → Option X
+abbrev pub four_by : {A B C D X : Type 0} → List ℕ → (List ℕ → Option A) → (List ℕ → Option B)
+    → (List ℕ → Option C) → (List ℕ → Option D) → (A → B → C → D → X) → List (List ℕ) → Option X
 four_by word first second third fourth make fields =
     behind_word word fields >>? four_of >>? λ fields.
     first fields.0 >>? λ a.
@@ -131,8 +145,10 @@ four_by word first second third fourth make fields =
     fourth fields.3 >>? λ d.
     Some (make a b c d)
 
-abbrev pub four_fields : {A B C D X : Type 0} → List ℕ → (List ℕ → Option A) → (List ℕ → Option B) → (List ℕ → Option C) → (List ℕ → Option D) → (A → B → C → D → X) → List ℕ → Option X
-four_fields word first second third fourth make text = four_by word first second third fourth make (fields_of text)
+abbrev pub four_fields : {A B C D X : Type 0} → List ℕ → (List ℕ → Option A) → (List ℕ → Option B)
+    → (List ℕ → Option C) → (List ℕ → Option D) → (A → B → C → D → X) → List ℕ → Option X
+four_fields word first second third fourth make text =
+    four_by word first second third fourth make (fields_of text)
 
 -- ---- the lines that several forms have
 
@@ -149,7 +165,8 @@ id_line word text = one_field word (hex_of 16) text
 
 -- two digests
 abbrev pub HasDigests : List ℕ → List ℕ → Type 0
-HasDigests first second = ((length first ≡ 32) × IsBytes first) × ((length second ≡ 32) × IsBytes second)
+HasDigests first second = ((length first ≡ 32) × IsBytes first)
+    × ((length second ≡ 32) × IsBytes second)
 
 -- a line of a word and two digests of 32 bytes, as what they make
 abbrev pub digests_line : {X : Type 0} → (List ℕ → List ℕ → X) → List ℕ → List ℕ → Option X

@@ -27,7 +27,11 @@ impl Model for Buffer {
 
     ghost Value = { BufferValue };
 
-    ghost view = { λ b. record { text = take (b.feed - b.first) (drop b.first b.bytes); ahead = take (b.end - b.next) (drop b.next b.bytes); free = 4096 - b.end } };
+    ghost view = { λ b. record {
+      text = take (b.feed - b.first) (drop b.first b.bytes);
+      ahead = take (b.end - b.next) (drop b.next b.bytes);
+      free = 4096 - b.end;
+    } };
 
     ghost invariant = { λ b. AreInOrder b.first b.feed b.next b.end };
 }
@@ -75,8 +79,8 @@ impl Buffer {
         self.next = self.feed + 1;
     }
 
-    /// Reads on in the named file from `at` on, of which `left` bytes are left: none where a line may
-    /// be seen from the bytes ahead. Answers how many were asked for.
+    /// Reads on in the named file from `at` on, of which `left` bytes are left: none where a line
+    /// may be seen from the bytes ahead. Answers how many were asked for.
     pub fn read_on<S: Shelf>(
         &mut self,
         shelf: &mut S,
@@ -85,13 +89,17 @@ impl Buffer {
         left: u64,
     ) -> Result<usize, OutsideErr>
         ensures modelled { IfSome (S.held shelf.old) (λ files.
-            IfOk result (λ asked. self.new.ahead ≡ self.old.ahead ++ part_of (bytes_of files name.now) at asked)) }
+            IfOk result (λ asked. self.new.ahead
+            ≡ self.old.ahead ++ part_of (bytes_of files name.now) at asked)) }
         ensures enough { IfOk result (λ asked. IsEnough (length self.old.ahead) left asked) }
-        ensures within { IfOk result (λ asked. length self.new.ahead ≤ length self.old.ahead + asked) }
+        ensures within { IfOk result
+            (λ asked. length self.new.ahead ≤ length self.old.ahead + asked) }
         ensures text { self.new.text ≡ self.old.text }
         ensures refused { OnErr result (self.new.ahead ≡ self.old.ahead) }
-        ensures shelf { OnlyReads S.held S.Shelf.faults OutsideErr.Failed result shelf.old shelf.new }
-        ensures wants { Causes OutsideErr.NoMemory result (S.Shelf.wants shelf.old) (S.Shelf.wants shelf.new) }
+        ensures shelf { OnlyReads S.held S.Shelf.faults OutsideErr.Failed result shelf.old
+            shelf.new }
+        ensures wants { Causes OutsideErr.NoMemory result (S.Shelf.wants shelf.old)
+            (S.Shelf.wants shelf.new) }
     {
         let room = self.make_room(left);
         if room == 0 {
@@ -150,12 +158,15 @@ impl Buffer {
     ) -> Result<(), OutsideErr>
         requires { room ≤ self.old.free }
         ensures modelled { IfSome (S.held shelf.old) (λ files.
-            IfOk result (λ _. self.new.ahead ≡ self.old.ahead ++ part_of (bytes_of files name.now) at room)) }
+            IfOk result (λ _. self.new.ahead
+            ≡ self.old.ahead ++ part_of (bytes_of files name.now) at room)) }
         ensures within { length self.new.ahead ≤ length self.old.ahead + room }
         ensures text { self.new.text ≡ self.old.text }
         ensures refused { OnErr result (self.new.ahead ≡ self.old.ahead) }
-        ensures shelf { OnlyReads S.held S.Shelf.faults OutsideErr.Failed result shelf.old shelf.new }
-        ensures wants { Causes OutsideErr.NoMemory result (S.Shelf.wants shelf.old) (S.Shelf.wants shelf.new) }
+        ensures shelf { OnlyReads S.held S.Shelf.faults OutsideErr.Failed result shelf.old
+            shelf.new }
+        ensures wants { Causes OutsideErr.NoMemory result (S.Shelf.wants shelf.old)
+            (S.Shelf.wants shelf.new) }
     {
         let count = read_behind(shelf, name, at, &mut self.bytes, self.end, room)?;
         self.end += count;
@@ -176,9 +187,11 @@ fn read_behind<S: Shelf>(
     ensures few { IfOk result (λ count. count ≤ room) }
     ensures front { take end bytes.new ≡ take end bytes.old }
     ensures modelled { IfSome (S.held shelf.old) (λ files.
-        IfOk result (λ count. take count (drop end bytes.new) ≡ part_of (bytes_of files name.now) at room)) }
+        IfOk result (λ count. take count (drop end bytes.new)
+        ≡ part_of (bytes_of files name.now) at room)) }
     ensures shelf { OnlyReads S.held S.Shelf.faults OutsideErr.Failed result shelf.old shelf.new }
-    ensures wants { Causes OutsideErr.NoMemory result (S.Shelf.wants shelf.old) (S.Shelf.wants shelf.new) }
+    ensures wants { Causes OutsideErr.NoMemory result (S.Shelf.wants shelf.old)
+        (S.Shelf.wants shelf.new) }
 {
     let count = shelf.read_at(name, at, &mut bytes[end..end + room])?;
     Ok(count)

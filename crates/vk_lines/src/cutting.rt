@@ -95,7 +95,8 @@ pub fn three_fields(text: &[u8]) -> Option<(&[u8], &[u8], &[u8])>
 
 /// The fields of a text that has four.
 pub fn four_fields(text: &[u8]) -> Option<(&[u8], &[u8], &[u8], &[u8])>
-    ensures { option_map (λ x. (x.0.now, x.1.now, x.2.now, x.3.now)) result ≡ four_of (fields_of text.now) }
+    ensures { option_map (λ x. (x.0.now, x.1.now, x.2.now, x.3.now)) result
+        ≡ four_of (fields_of text.now) }
 {
     let (first, rest) = cut(text);
     let (second, third, fourth) = three_fields(rest?)?;

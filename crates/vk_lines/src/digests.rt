@@ -40,7 +40,8 @@ pub fn push_digests_lines<C: TwoDigests>(
     items: &[C],
 ) -> Result<(), NoMemory>
     ensures { OnOk result (out.new.items ≡ out.old.items
-        ++ flat_map (λ item. line (digests_text word.now (C.first_of item) (C.second_of item))) items.now) }
+        ++ flat_map (λ item. line (digests_text word.now (C.first_of item) (C.second_of item)))
+        items.now) }
 {
     for item in items {
         push_digests_line(out, word, item.first(), item.second())?;

@@ -34,9 +34,20 @@ impl Model for Lines {
 
     ghost Value = { LinesValue };
 
-    ghost view = { λ l. record { name = string_bytes l.name; size = l.size; at = l.at; taken = l.taken; ahead = l.buffer.ahead; text = l.buffer.text } };
+    ghost view = { λ l. record {
+      name = string_bytes l.name;
+      size = l.size;
+      at = l.at;
+      taken = l.taken;
+      ahead = l.buffer.ahead;
+      text = l.buffer.text;
+    } };
 
-    ghost invariant = { λ l. record { within : l.at + length l.buffer.ahead ≤ l.size; small : l.size ≤ 2 ^ 30; fewer : l.taken ≤ l.at } };
+    ghost invariant = { λ l. record {
+      within : l.at + length l.buffer.ahead ≤ l.size;
+      small : l.size ≤ 2 ^ 30;
+      fewer : l.taken ≤ l.at;
+    } };
 }
 
 impl Lines {
@@ -52,17 +63,19 @@ impl Lines {
             IsSome (refusal_of (option_map length (map.get files name.now)))
             → Causes StartErr.NoMemory result (S.Shelf.wants shelf.old) (S.Shelf.wants shelf.new)) }
         ensures shelf { OnlyReads S.held S.Shelf.faults StartErr.Failed result shelf.old shelf.new }
-        ensures wants { MayCause StartErr.NoMemory result (S.Shelf.wants shelf.old) (S.Shelf.wants shelf.new) }
+        ensures wants { MayCause StartErr.NoMemory result (S.Shelf.wants shelf.old)
+            (S.Shelf.wants shelf.new) }
     {
         let told = shelf.length(name)?;
         let lines = Lines::before_first(alloc, name, told)?;
         Ok(lines)
     }
 
-    /// Before the first line of a file of this length, as a shelf tells it. Errs as [`Lines::start`]
-    /// does where the shelf does not fail.
+    /// Before the first line of a file of this length, as a shelf tells it. Errs as
+    /// [`Lines::start`] does where the shelf does not fail.
     pub fn before_first(alloc: Global, name: &str, told: Option<u64>) -> Result<Lines, StartErr>
-        ensures started { (files : Files) → told ≡ option_map length (map.get files name.now) → Starts files name.now result }
+        ensures started { (files : Files) → told ≡ option_map length (map.get files name.now)
+            → Starts files name.now result }
         ensures before { IfOk result (IsBefore name.now) }
         ensures exact { IsBegun told result }
     {
@@ -82,15 +95,19 @@ impl Lines {
 
     /// Takes the next line, where one stands there. After a refusal the value is as before.
     pub fn next_line<S: Shelf>(&mut self, shelf: &mut S) -> Result<Step, OutsideErr>
-        ensures modelled { IfSome (S.held shelf.old) (λ files. IfOk result (λ step. IsNext step self.old self.new files)) }
+        ensures modelled { IfSome (S.held shelf.old)
+            (λ files. IfOk result (λ step. IsNext step self.old self.new files)) }
         ensures file { KeepsFile self.old self.new }
         ensures same { IfOk result (λ step. step ≢ Step.Text → self.new.taken ≡ self.old.taken) }
         ensures text { IfOk result (λ step. step ≢ Step.Text → self.new.text ≡ self.old.text) }
-        ensures taken { IfOk result (λ step. step ≡ Step.Text → self.new.taken ≡ self.old.taken + 1) }
+        ensures taken { IfOk result
+            (λ step. step ≡ Step.Text → self.new.taken ≡ self.old.taken + 1) }
         ensures within { unread self.new ≤ self.new.size }
         ensures refused { OnErr result (self.new ≡ self.old) }
-        ensures shelf { OnlyReads S.held S.Shelf.faults OutsideErr.Failed result shelf.old shelf.new }
-        ensures wants { Causes OutsideErr.NoMemory result (S.Shelf.wants shelf.old) (S.Shelf.wants shelf.new) }
+        ensures shelf { OnlyReads S.held S.Shelf.faults OutsideErr.Failed result shelf.old
+            shelf.new }
+        ensures wants { Causes OutsideErr.NoMemory result (S.Shelf.wants shelf.old)
+            (S.Shelf.wants shelf.new) }
     {
         self.look_ahead(shelf)?;
         let step = self.take_next();
@@ -99,14 +116,17 @@ impl Lines {
 
     /// Reads on where fewer bytes are ahead than a line may have.
     fn look_ahead<S: Shelf>(&mut self, shelf: &mut S) -> Result<(), OutsideErr>
-        ensures modelled { IfSome (S.held shelf.old) (λ files. IfOk result (λ _. HasLooked self.old self.new files)) }
+        ensures modelled { IfSome (S.held shelf.old)
+            (λ files. IfOk result (λ _. HasLooked self.old self.new files)) }
         ensures file { KeepsFile self.old self.new }
         ensures taken { self.new.taken ≡ self.old.taken }
         ensures text { self.new.text ≡ self.old.text }
         ensures within { unread self.new ≤ self.new.size }
         ensures refused { OnErr result (self.new ≡ self.old) }
-        ensures shelf { OnlyReads S.held S.Shelf.faults OutsideErr.Failed result shelf.old shelf.new }
-        ensures wants { Causes OutsideErr.NoMemory result (S.Shelf.wants shelf.old) (S.Shelf.wants shelf.new) }
+        ensures shelf { OnlyReads S.held S.Shelf.faults OutsideErr.Failed result shelf.old
+            shelf.new }
+        ensures wants { Causes OutsideErr.NoMemory result (S.Shelf.wants shelf.old)
+            (S.Shelf.wants shelf.new) }
     {
         let at = self.unread();
         let left = self.left();
@@ -134,7 +154,8 @@ impl Lines {
         ensures taken { result ≡ Step.Text → self.new.taken ≡ self.old.taken + 1 }
         ensures file { KeepsFile self.old self.new }
         ensures within { unread self.new ≤ self.new.size }
-        ensures next { (files : Files) (before : LinesValue) → HasLooked before self.old files → IsNext result before self.new files }
+        ensures next { (files : Files) (before : LinesValue) → HasLooked before self.old files
+            → IsNext result before self.new files }
     {
         let step = self.take_line();
         step
@@ -157,10 +178,13 @@ impl Lines {
         step
     }
 
-    /// What is left for a reader depends on the bytes of its own file alone, whatever other files hold.
+    /// What is left for a reader depends on the bytes of its own file alone, whatever other files
+    /// hold.
     #[tactic(auto, unfolding(crate::specs::Lines::rest_of))]
     pub fn rests_on_its_file(&self)
-        ensures { (one : Files) (other : Files) → bytes_of one self.now.name ≡ bytes_of other self.now.name → rest_of self.now one ≡ rest_of self.now other }
+        ensures { (one : Files) (other : Files)
+            → bytes_of one self.now.name ≡ bytes_of other self.now.name
+            → rest_of self.now one ≡ rest_of self.now other }
     {}
 
     /// No reader goes past the length that it was told of its file, which is at most 2^30.
@@ -176,10 +200,12 @@ impl Lines {
     /// feed within 256 bytes.
     pub fn read_text<S: Shelf>(&mut self, shelf: &mut S) -> Result<(), ReadErr>
         ensures modelled { IfSome (S.held shelf.old) (λ files.
-            GivesReading (λ _. self.new.text) result (rest_of self.new files) (text_at (rest_of self.old files))) }
+            GivesReading (λ _. self.new.text) result (rest_of self.new files)
+            (text_at (rest_of self.old files))) }
         ensures file { KeepsFile self.old self.new }
         ensures shelf { OnlyReads S.held S.Shelf.faults ReadErr.Failed result shelf.old shelf.new }
-        ensures wants { Causes ReadErr.NoMemory result (S.Shelf.wants shelf.old) (S.Shelf.wants shelf.new) }
+        ensures wants { Causes ReadErr.NoMemory result (S.Shelf.wants shelf.old)
+            (S.Shelf.wants shelf.new) }
     {
         let before = self.number();
         let step = self.next_line(shelf)?;
@@ -191,19 +217,22 @@ impl Lines {
     #[tactic(auto, unfolding(crate::specs::Lines::rest_of, crate::specs::Lines::rest_in))]
     pub fn found<X>(&self, value: Option<X>) -> Result<X, ReadErr>
         ensures exact { result ≡ ok_or value (ReadErr.Malformed self.now.taken) }
-        ensures modelled { (files : Files) → GivesReading (λ x. x) result (rest_of self.now files) (value_at value (rest_of self.now files)) }
+        ensures modelled { (files : Files)
+            → GivesReading (λ x. x) result (rest_of self.now files)
+            (value_at value (rest_of self.now files)) }
     {
         value.ok_or(ReadErr::Malformed { line: self.taken })
     }
 
-    /// Reads the line `end`, after which no byte stands. Malformed with the number of the first line
-    /// that isn't so.
+    /// Reads the line `end`, after which no byte stands. Malformed with the number of the first
+    /// line that isn't so.
     #[tactic(auto, unfolding(crate::specs::Lines::end_at, crate::specs::Lines::line_by))]
     pub fn read_end<S: Shelf>(&mut self, shelf: &mut S) -> Result<(), ReadErr>
         ensures modelled { ReadsPart end_at (S.held shelf.old) self.old self.new result }
         ensures file { KeepsFile self.old self.new }
         ensures shelf { OnlyReads S.held S.Shelf.faults ReadErr.Failed result shelf.old shelf.new }
-        ensures wants { Causes ReadErr.NoMemory result (S.Shelf.wants shelf.old) (S.Shelf.wants shelf.new) }
+        ensures wants { Causes ReadErr.NoMemory result (S.Shelf.wants shelf.old)
+            (S.Shelf.wants shelf.new) }
     {
         self.read_text(shelf)?;
         self.found(read_word(self.text(), b"end"))?;
@@ -216,17 +245,20 @@ impl Lines {
     /// Reads a line that is this text. Malformed, with its number, where the next line is another.
     #[tactic(auto, unfolding(crate::specs::Lines::line_by))]
     pub fn read_fixed<S: Shelf>(&mut self, shelf: &mut S, line: &[u8]) -> Result<(), ReadErr>
-        ensures modelled { ReadsPart (line_by (word_of line.now)) (S.held shelf.old) self.old self.new result }
+        ensures modelled { ReadsPart (line_by (word_of line.now)) (S.held shelf.old) self.old
+            self.new result }
         ensures file { KeepsFile self.old self.new }
         ensures shelf { OnlyReads S.held S.Shelf.faults ReadErr.Failed result shelf.old shelf.new }
-        ensures wants { Causes ReadErr.NoMemory result (S.Shelf.wants shelf.old) (S.Shelf.wants shelf.new) }
+        ensures wants { Causes ReadErr.NoMemory result (S.Shelf.wants shelf.old)
+            (S.Shelf.wants shelf.new) }
     {
         self.read_text(shelf)?;
         let value = self.found(read_word(self.text(), line));
         value
     }
 
-    /// Reads a line of this word and a number from `least` to `most`. Malformed, with its number, where the next line is another.
+    /// Reads a line of this word and a number from `least` to `most`. Malformed, with its number,
+    /// where the next line is another.
     #[tactic(auto, unfolding(crate::specs::Lines::line_by))]
     pub fn read_number<S: Shelf>(
         &mut self,
@@ -235,25 +267,30 @@ impl Lines {
         least: u64,
         most: u64,
     ) -> Result<u64, ReadErr>
-        ensures modelled { ReadsPart (line_by (number_line word.now least most)) (S.held shelf.old) self.old self.new result }
+        ensures modelled { ReadsPart (line_by (number_line word.now least most)) (S.held shelf.old)
+            self.old self.new result }
         ensures file { KeepsFile self.old self.new }
         ensures within { IfOk result (λ number. (least ≤ number) × (number ≤ most)) }
         ensures shelf { OnlyReads S.held S.Shelf.faults ReadErr.Failed result shelf.old shelf.new }
-        ensures wants { Causes ReadErr.NoMemory result (S.Shelf.wants shelf.old) (S.Shelf.wants shelf.new) }
+        ensures wants { Causes ReadErr.NoMemory result (S.Shelf.wants shelf.old)
+            (S.Shelf.wants shelf.new) }
     {
         self.read_text(shelf)?;
         let value = self.found(read_number(self.text(), word, least, most));
         value
     }
 
-    /// Reads a line of this word and an id. Malformed, with its number, where the next line is another.
+    /// Reads a line of this word and an id. Malformed, with its number, where the next line is
+    /// another.
     #[tactic(auto, unfolding(crate::specs::Lines::line_by))]
     pub fn read_id<S: Shelf>(&mut self, shelf: &mut S, word: &[u8]) -> Result<[u8; 16], ReadErr>
-        ensures modelled { ReadsPart (line_by (id_line word.now)) (S.held shelf.old) self.old self.new result }
+        ensures modelled { ReadsPart (line_by (id_line word.now)) (S.held shelf.old) self.old
+            self.new result }
         ensures file { KeepsFile self.old self.new }
         ensures bytes { IfOk result (λ id. (length id ≡ 16) × IsBytes id) }
         ensures shelf { OnlyReads S.held S.Shelf.faults ReadErr.Failed result shelf.old shelf.new }
-        ensures wants { Causes ReadErr.NoMemory result (S.Shelf.wants shelf.old) (S.Shelf.wants shelf.new) }
+        ensures wants { Causes ReadErr.NoMemory result (S.Shelf.wants shelf.old)
+            (S.Shelf.wants shelf.new) }
     {
         self.read_text(shelf)?;
         let value = self.found(read_id(self.text(), word));
@@ -304,7 +341,8 @@ fn step_by(feed: usize, count: usize) -> Step
 /// Whether a line was taken, after so many before.
 fn line_found(step: Step, before: u64) -> Result<(), ReadErr>
     requires { before ≤ 2 ^ 30 }
-    ensures modelled { (files : Files) (old new : LinesValue) → before ≡ old.taken → IsNext step old new files
+    ensures modelled { (files : Files) (old new : LinesValue) → before ≡ old.taken
+        → IsNext step old new files
         → GivesReading (λ _. new.text) result (rest_of new files) (text_at (rest_of old files)) }
     ensures exact { result ≡ answer_by (is_text step) before }
 {
@@ -317,7 +355,8 @@ fn line_found(step: Step, before: u64) -> Result<(), ReadErr>
 /// Whether the file has ended, after so many lines.
 fn nothing_left(step: Step, before: u64) -> Result<(), ReadErr>
     requires { before ≤ 2 ^ 30 }
-    ensures modelled { (files : Files) (old new : LinesValue) → before ≡ old.taken → IsNext step old new files
+    ensures modelled { (files : Files) (old new : LinesValue) → before ≡ old.taken
+        → IsNext step old new files
         → GivesReading (λ x. x) result (rest_of new files) (none_left (rest_of old files)) }
     ensures exact { result ≡ answer_by (is_end step) before }
 {

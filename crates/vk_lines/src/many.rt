@@ -45,12 +45,15 @@ pub fn read_many<S: Shelf, K: LineKind>(
     count: u32,
 ) -> Result<Seq<K::Item>, ReadErr>
     requires { count ≤ K.most kind.now }
-    ensures modelled { ReadsPart (many_at count (λ before. line_by (K.item_of kind.now (length before)))) (S.held shelf.old) lines.old lines.new result }
+    ensures modelled { ReadsPart
+        (many_at count (λ before. line_by (K.item_of kind.now (length before)))) (S.held shelf.old)
+        lines.old lines.new result }
     ensures number { IfOk result (λ items. length items ≡ count) }
     ensures each { IfOk result (EachNumbered (K.is_item kind.now)) }
     ensures file { KeepsFile lines.old lines.new }
     ensures shelf { OnlyReads S.held S.Shelf.faults ReadErr.Failed result shelf.old shelf.new }
-    ensures wants { MayCause ReadErr.NoMemory result (S.Shelf.wants shelf.old) (S.Shelf.wants shelf.new) }
+    ensures wants { MayCause ReadErr.NoMemory result (S.Shelf.wants shelf.old)
+        (S.Shelf.wants shelf.new) }
     ensures first { IsErrOf result ReadErr.NoMemory
         → (lines.new ≡ lines.old) ⊎ Rose (S.Shelf.wants shelf.old) (S.Shelf.wants shelf.new) }
 {
@@ -71,11 +74,13 @@ pub fn read_item<S: Shelf, K: LineKind>(
     number: u32,
 ) -> Result<K::Item, ReadErr>
     requires { number < K.most kind.now }
-    ensures modelled { ReadsPart (line_by (K.item_of kind.now number)) (S.held shelf.old) lines.old lines.new result }
+    ensures modelled { ReadsPart (line_by (K.item_of kind.now number)) (S.held shelf.old) lines.old
+        lines.new result }
     ensures right { IfOk result (K.is_item kind.now number) }
     ensures file { KeepsFile lines.old lines.new }
     ensures shelf { OnlyReads S.held S.Shelf.faults ReadErr.Failed result shelf.old shelf.new }
-    ensures wants { Causes ReadErr.NoMemory result (S.Shelf.wants shelf.old) (S.Shelf.wants shelf.new) }
+    ensures wants { Causes ReadErr.NoMemory result (S.Shelf.wants shelf.old)
+        (S.Shelf.wants shelf.new) }
 {
     lines.read_text(shelf)?;
     let item = lines.found(kind.read(number, lines.text()));

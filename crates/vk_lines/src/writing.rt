@@ -19,7 +19,8 @@ pub fn push_line(out: &mut Vec<u8>, text: &[u8]) -> Result<(), NoMemory>
 
 /// Appends the line of a word and a number.
 pub fn push_number_line(out: &mut Vec<u8>, word: &[u8], number: u64) -> Result<(), NoMemory>
-    ensures { OnOk result (out.new.items ≡ out.old.items ++ line (spaced (word.now ∷ decimal number ∷ []))) }
+    ensures { OnOk result (out.new.items
+        ≡ out.old.items ++ line (spaced (word.now ∷ decimal number ∷ []))) }
 {
     out.extend_from_slice(word)?;
     push_space(out)?;
@@ -30,7 +31,8 @@ pub fn push_number_line(out: &mut Vec<u8>, word: &[u8], number: u64) -> Result<(
 
 /// Appends the line of a word and bytes in hexadecimal.
 pub fn push_hex_line(out: &mut Vec<u8>, word: &[u8], bytes: &[u8]) -> Result<(), NoMemory>
-    ensures { OnOk result (out.new.items ≡ out.old.items ++ line (spaced (word.now ∷ hex_text bytes.now ∷ []))) }
+    ensures { OnOk result (out.new.items
+        ≡ out.old.items ++ line (spaced (word.now ∷ hex_text bytes.now ∷ []))) }
 {
     out.extend_from_slice(word)?;
     push_space(out)?;

@@ -1,5 +1,5 @@
--- What a question changes, of courts as functions: the man has asked the woman, and either she stays with the one whom
--- she holds, or she takes him.
+-- What a question changes, of courts as functions: the man has asked the woman, and either she
+-- stays with the one whom she holds, or she takes him.
 use Rattle.std.proofs.Common.{ℕ, ◌<◌, ◌≤◌, ◌≡◌, ◌≢◌, Bool, true, false, Option, Some, ◌⊎◌, inl, inr, refl, sym, ap, subst, ◌∙◌, arith}
 use Rattle.std.proofs.lemmas.Bool.{cases_eq}
 use Rattle.vk_matching.specs.Courting.{Court, AreHeld, IsWithout, HoldsAsGood, AreRules, IsBest}
@@ -9,22 +9,26 @@ is_question : (suitor woman man other : ℕ)
     → ((man ≡ suitor) × (other ≡ woman)) ⊎ ((man ≢ suitor) ⊎ (other ≢ woman))
 is_question suitor woman man other = elim (cases_eq man suitor) [
   | inr differs ↦ inr (inl differs)
-  | inl same ↦ elim (cases_eq other woman) [ inl too ↦ inl (same, too) | inr differs ↦ inr (inr differs) ]
+  | inl same ↦ elim (cases_eq other woman)
+      [ inl too ↦ inl (same, too) | inr differs ↦ inr (inr differs) ]
 ]
 
 module _ {court : Court} {entered suitor woman : ℕ} (rules : AreRules court entered (Some suitor))
     (best : IsBest court suitor court.size woman) (asked : ℕ → ℕ → Bool) (here : asked suitor woman ≡ true)
     (there : (man other : ℕ) → other < court.size → (man ≢ suitor) ⊎ (other ≢ woman)
     → asked man other ≡ court.asked man other) where
-  still_asked : (man other : ℕ) → other < court.size → court.asked man other ≡ true → asked man other ≡ true
+  still_asked : (man other : ℕ) → other < court.size → court.asked man other ≡ true
+      → asked man other ≡ true
   still_asked man other inside before = elim (is_question suitor woman man other) [
     | inl same ↦ ap (λ m. asked m other) same.0 ∙ ap (asked suitor) same.1 ∙ here
     | inr differs ↦ there man other inside differs ∙ before
   ]
 
-  not_before : (man other : ℕ) → other < court.size → asked man other ≡ false → court.asked man other ≡ false
+  not_before : (man other : ℕ) → other < court.size → asked man other ≡ false
+      → court.asked man other ≡ false
   not_before man other inside now = elim (is_question suitor woman man other) [
-    | inl same ↦ (let asked_now = ap (λ m. asked m other) same.0 ∙ ap (asked suitor) same.1 ∙ here in cc)
+    | inl same ↦ (let asked_now = ap (λ m. asked m other) same.0 ∙ ap (asked suitor) same.1 ∙ here
+        in cc)
     | inr differs ↦ sym (there man other inside differs) ∙ now
   ]
 
@@ -36,19 +40,22 @@ module _ {court : Court} {entered suitor woman : ℕ} (rules : AreRules court en
   ]
 
   better_first : (man liked other : ℕ) → man < court.size → liked < court.size → other < court.size
-      → asked man liked ≡ true → asked man other ≡ false → court.his_rank man liked ≤ court.his_rank man other
+      → asked man liked ≡ true → asked man other ≡ false
+      → court.his_rank man liked ≤ court.his_rank man other
   better_first man liked other is_man is_liked is_other asks not_other =
       let not_yet = not_before man other is_other not_other in
       elim (was_asked man liked is_liked asks) [
         | inl same ↦
             subst (λ m. court.his_rank m liked ≤ court.his_rank m other) (sym same.0)
             (subst (λ w. court.his_rank suitor w ≤ court.his_rank suitor other) (sym same.1)
-            (best.no_better other is_other (subst (λ m. court.asked m other ≡ false) same.0 not_yet)))
+            (best.no_better other is_other
+            (subst (λ m. court.asked m other ≡ false) same.0 not_yet)))
         | inr before ↦ rules.better_first man liked other is_man is_liked is_other before not_yet
       ]
 
   -- she stays with the one whom she holds
-  pub stays : HoldsAsGood court woman suitor → AreRules (record court { asked = asked }) entered (Some suitor)
+  pub stays : HoldsAsGood court woman suitor
+      → AreRules (record court { asked = asked }) entered (Some suitor)
   stays as_good = record {
     entering = rules.entering;
     are_held = rules.are_held;
@@ -108,13 +115,15 @@ module _ {court : Court} {entered suitor woman : ℕ} (rules : AreRules court en
           ];
     }
 
-    left_without : IsWithout (record court { asked = asked; holds = holds }) entered (court.holds woman)
+    left_without : IsWithout (record court { asked = asked; holds = holds }) entered
+        (court.holds woman)
     left_without = record {
       has_entered = λ man held. rules.are_held.have_entered man woman is_woman held;
       not_held = λ man other inside now held.
           elim (now_held man other now) [
             | inl same ↦ not_him woman is_woman (held ∙ ap Some same.0)
-            | inr before ↦ before.0 (rules.are_held.by_one man other woman inside is_woman before.1 held)
+            | inr before ↦ before.0
+                (rules.are_held.by_one man other woman inside is_woman before.1 held)
           ];
       all_others = λ man early other_man.
           elim (cases_eq man suitor) [
@@ -124,7 +133,8 @@ module _ {court : Court} {entered suitor woman : ℕ} (rules : AreRules court en
                 let other = held.0 in (
                   other,
                   held.1,
-                  others_hold other (λ same. other_man (ap court.holds (sym same) ∙ held.2)) ∙ held.2,
+                  others_hold other (λ same. other_man (ap court.holds (sym same) ∙ held.2))
+                      ∙ held.2,
                 ))
           ];
     }

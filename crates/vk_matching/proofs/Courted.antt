@@ -21,7 +21,8 @@ module _ {size : ℕ} {ranks : List ℕ} {asked : List Bool} {holders : List (Op
   is_suitor = omega (arith, courting.rules.without.has_entered suitor refl, courting.rules.entering)
 
   -- there is a woman whom he can ask: one who is free
-  pub has_choice : {choice : Option ℕ} → IsChoice (court_of size ranks asked holders) suitor size choice
+  pub has_choice : {choice : Option ℕ}
+      → IsChoice (court_of size ranks asked holders) suitor size choice
       → (woman : ℕ) × (choice ≡ Some woman)
   has_choice {choice = Some woman} best = (woman, refl)
   has_choice {choice = None} all =
@@ -29,7 +30,8 @@ module _ {size : ℕ} {ranks : List ℕ} {asked : List Bool} {holders : List (Op
       let many = courting.rules.entering in
       let found = some_free holders (omega arith) in
       let is_woman : found.0 < size = omega (arith, found.1, courting.lists.one_holder_each) in
-      let held = courting.rules.best_held suitor found.0 is_suitor is_woman (all found.0 is_woman) in
+      let held = courting.rules.best_held suitor found.0 is_suitor is_woman (all found.0 is_woman)
+      in
       let nobody = found.2 in
       let somebody = held.1 in
       absurd (cc)
@@ -58,7 +60,8 @@ module _ {size : ℕ} {ranks : List ℕ} {asked : List Bool} {holders : List (Op
         ≡ slice_index_or asked (man * size + other) false
     there man other is_other differs =
         get_or-set_other asked place (man * size + other) true false
-        (λ same. other_place size suitor woman man other best.is_before is_other differs (same ∙ is_place))
+        (λ same. other_place size suitor woman man other best.is_before is_other differs
+        (same ∙ is_place))
 
     pub after_staying : HoldsAsGood (court_of size ranks asked holders) woman suitor
         → IsCourting size ranks (slice_set asked place true) holders entered (Some suitor)
@@ -91,7 +94,8 @@ module _ {size : ℕ} {ranks : List ℕ} {asked : List Bool} {holders : List (Op
         ]
 
     taken : ¬ HoldsAsGood (court_of size ranks asked holders) woman suitor
-        → IsCourting size ranks (slice_set asked place true) (slice_set holders woman (Some suitor)) entered
+        → IsCourting size ranks (slice_set asked place true) (slice_set holders woman (Some suitor))
+        entered
         (held_by holders woman)
     taken worse = record {
       lists = record {
@@ -108,15 +112,18 @@ module _ {size : ℕ} {ranks : List ℕ} {asked : List Bool} {holders : List (Op
           (λ other differs. get_or-set_other holders woman other (Some suitor) None differs)
           (prefers worse);
       are_free =
-          grows (held_by holders woman) (free holders) (free (slice_set holders woman (Some suitor))) entered size
+          grows (held_by holders woman) (free holders)
+          (free (slice_set holders woman (Some suitor))) entered size
           (free_after holders woman suitor is_woman) courting.are_free;
     }
 
     pub after_taking : {before : Option ℕ} → before ≡ slice_index_or holders woman before
         → ¬ HoldsAsGood (court_of size ranks asked holders) woman suitor
-        → IsCourting size ranks (slice_set asked place true) (slice_set holders woman (Some suitor)) entered before
+        → IsCourting size ranks (slice_set asked place true) (slice_set holders woman (Some suitor))
+        entered before
     after_taking {before} read worse =
         subst
-        (IsCourting size ranks (slice_set asked place true) (slice_set holders woman (Some suitor)) entered)
+        (IsCourting size ranks (slice_set asked place true) (slice_set holders woman (Some suitor))
+        entered)
         (get_or_default holders woman None before is_woman ∙ sym read)
         (taken worse)

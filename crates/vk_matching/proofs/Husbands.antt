@@ -37,22 +37,26 @@ module _ (wives husbands : List ℕ) (place : ℕ) (are : AreEntered wives husba
         one_each = length-set husbands at (place + 1) ∙ are.one_each;
         are_persons = λ k h. elim (cases_lt k place) [
           | inl q ↦ are.are_persons k q
-          | inr q ↦ (let last : k ≡ place = omega arith in subst (λ n. IsPerson (length wives) (slice_index wives n)) (sym last) is)
+          | inr q ↦ (let last : k ≡ place = omega arith in
+              subst (λ n. IsPerson (length wives) (slice_index wives n)) (sym last) is)
         ];
         entered = λ k h. elim (cases_lt k place) [
           | inl q ↦
               (let before = are.entered k q in
-              let other : slice_index wives k - 1 ≢ at = λ same. omega (arith, before, free, ap (slice_index husbands) same) in
+              let other : slice_index wives k - 1 ≢ at =
+              λ same. omega (arith, before, free, ap (slice_index husbands) same) in
               get_or-set_other husbands at (slice_index wives k - 1) (place + 1) 0 other ∙ before)
           | inr q ↦
               (let last : k ≡ place = omega arith in
-              subst (λ n. slice_index (slice_set husbands at (place + 1)) (slice_index wives n - 1) ≡ n + 1) (sym last) here)
+              subst (λ n. slice_index (slice_set husbands at (place + 1)) (slice_index wives n - 1)
+              ≡ n + 1) (sym last) here)
         ];
         only = λ w h some. elim (eqb_tells w at) [
           | inl same ↦
               (let read : slice_index (slice_set husbands at (place + 1)) w ≡ place + 1 =
               ap (slice_index (slice_set husbands at (place + 1))) same.1 ∙ here in
-              let back : slice_index (slice_set husbands at (place + 1)) w - 1 ≡ place = omega arith in (
+              let back : slice_index (slice_set husbands at (place + 1)) w - 1 ≡ place = omega arith
+              in (
                 omega arith,
                 ap (slice_index wives) back ∙ omega (arith, same.1, is.some),
               ))
@@ -66,11 +70,13 @@ module _ (wives husbands : List ℕ) (place : ℕ) (are : AreEntered wives husba
       }
 
   -- where she is another's already, they don't all have women of their own
-  pub entered_twice : slice_index husbands (slice_index wives place - 1) ≢ 0 → ¬ IsPermutation (length wives) wives
+  pub entered_twice : slice_index husbands (slice_index wives place - 1) ≢ 0
+      → ¬ IsPermutation (length wives) wives
   entered_twice taken permutation =
       let at = slice_index wives place - 1 in
       let other = are.only at (omega (arith, is.some, is.within)) taken in
-      permutation.all_different (slice_index husbands at - 1) place 0 (omega (arith, other.0, taken)) inside
+      permutation.all_different (slice_index husbands at - 1) place 0
+      (omega (arith, other.0, taken)) inside
       (other.1 ∙ omega (arith, is.some))
 
 module _ (wives husbands : List ℕ) (are : AreEntered wives husbands (length wives)) where
@@ -78,12 +84,18 @@ module _ (wives husbands : List ℕ) (are : AreEntered wives husbands (length wi
   pub all_entered : IsPermutation (length wives) wives
   all_entered = record {
     one_each = refl;
-    are_persons = λ k d h. subst (IsPerson (length wives)) (sym (get_or_default wives k d 0 h)) (are.are_persons k h);
+    are_persons = λ k d h. subst (IsPerson (length wives)) (sym (get_or_default wives k d 0 h))
+        (are.are_persons k h);
     all_different = λ k l d before h same.
         let k_inside : k < length wives = omega arith in
         let same' : slice_index wives k ≡ slice_index wives l =
         sym (get_or_default wives k d 0 k_inside) ∙ same ∙ get_or_default wives l d 0 h in
-        omega (arith, are.entered k k_inside, are.entered l h, ap (λ w. slice_index husbands (w - 1)) same');
+        omega (
+          arith,
+          are.entered k k_inside,
+          are.entered l h,
+          ap (λ w. slice_index husbands (w - 1)) same',
+        );
   }
 
   pub entered_are : husbands ≡ husbands_of wives
@@ -91,10 +103,12 @@ module _ (wives husbands : List ℕ) (are : AreEntered wives husbands (length wi
       let size = length wives in
       let long = length_listed (λ place. husband_of wives (place + 1)) size in
       ext_get_or 0 husbands (husbands_of wives) (are.one_each ∙ sym long) (λ w h.
-      let is : IsPerson size (w + 1) = record { some = omega arith; within = omega (arith, are.one_each) } in
+      let is : IsPerson size (w + 1) =
+      record { some = omega arith; within = omega (arith, are.one_each) } in
       let husband = husband_is size wives all_entered (w + 1) is in
       let man = husband_of wives (w + 1) in
       let back : wife_of wives man - 1 ≡ w = omega (arith, husband.1) in
       let entered = are.entered (man - 1) (omega (arith, husband.0.some, husband.0.within)) in
       ap (slice_index husbands) (sym back) ∙ entered ∙ omega (arith, husband.0.some)
-      ∙ sym (at_listed (λ place. husband_of wives (place + 1)) size w 0 (omega (arith, are.one_each))))
+      ∙ sym (at_listed (λ place. husband_of wives (place + 1)) size w 0
+      (omega (arith, are.one_each))))

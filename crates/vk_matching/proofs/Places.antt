@@ -23,7 +23,8 @@ some_free (Some man ∷ rest) some =
 
 -- one question more is asked
 pub fewer_unasked : (asked : List Bool) (place : ℕ) → place < length asked
-    → slice_index_or asked place false ≡ false → unasked (slice_set asked place true) + 1 ≡ unasked asked
+    → slice_index_or asked place false ≡ false
+    → unasked (slice_set asked place true) + 1 ≡ unasked asked
 fewer_unasked asked place inside open_yet =
     let e : unasked (slice_set asked place true) + cond (not (slice_index_or asked place false)) 1 0
     ≡ unasked asked + 0 = sum_by-set (λ x. cond (not x) 1 0) asked place true false inside in
@@ -33,8 +34,10 @@ fewer_unasked asked place inside open_yet =
 
 -- who is free, before and after she takes a man
 pub free_after : (holders : List (Option ℕ)) (woman man : ℕ) → woman < length holders
-    → free (slice_set holders woman (Some man)) + cond (is_none (held_by holders woman)) 1 0 ≡ free holders
+    → free (slice_set holders woman (Some man)) + cond (is_none (held_by holders woman)) 1 0
+    ≡ free holders
 free_after holders woman man inside =
     let e : free (slice_set holders woman (Some man)) + cond (is_none (held_by holders woman)) 1 0
-    ≡ free holders + 0 = sum_by-set (λ holder. cond (is_none holder) 1 0) holders woman (Some man) None inside in
+    ≡ free holders + 0 = sum_by-set (λ holder. cond (is_none holder) 1 0) holders woman (Some man)
+    None inside in
     omega arith

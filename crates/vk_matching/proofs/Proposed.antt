@@ -10,7 +10,8 @@ module _ {size entered : ℕ} {ranks : List ℕ} {asked : List Bool} {holders : 
     (wives : AreWives size (held_by holders) size matching) where
   -- each man is held, by the woman before the number that he is matched with
   his_woman : (man : ℕ) → man < size
-      → (woman : ℕ) × (woman < size) × (held_by holders woman ≡ Some man) × (slice_index matching man ≡ woman + 1)
+      → (woman : ℕ) × (woman < size) × (held_by holders woman ≡ Some man)
+      × (slice_index matching man ≡ woman + 1)
   his_woman man is_man =
       let held = courting.rules.without.all_others man (omega (arith, is_man, all)) (λ is. cc) in
       (held.0, held.1, held.2, wives.is_wife man held.0 held.1 held.2)
@@ -26,7 +27,8 @@ module _ {size entered : ℕ} {ranks : List ℕ} {asked : List Bool} {holders : 
         let his = his_woman man (omega (arith, wives.one_each)) in
         let others = his_woman other (omega (arith, wives.one_each)) in
         let one : slice_index matching man ≡ slice_index matching other =
-        get_or_default matching man 0 d (omega arith) ∙ same ∙ sym (get_or_default matching other 0 d inside) in
+        get_or_default matching man 0 d (omega arith) ∙ same
+        ∙ sym (get_or_default matching other 0 d inside) in
         let woman : his.0 ≡ others.0 = omega (arith, his.3, others.3, one) in
         let men : Some man ≡ Some other = sym his.2 ∙ ap (held_by holders) woman ∙ others.2 in
         let e : man ≡ other = cc in
@@ -34,7 +36,8 @@ module _ {size entered : ℕ} {ranks : List ℕ} {asked : List Bool} {holders : 
   }
 
   -- whoever holds a woman's number is the man whom she holds
-  her_man : (woman husband : ℕ) → 1 ≤ woman → IsPerson size husband → wife_of matching husband ≡ woman
+  her_man : (woman husband : ℕ) → 1 ≤ woman → IsPerson size husband
+      → wife_of matching husband ≡ woman
       → held_by holders (woman - 1) ≡ Some (husband - 1)
   her_man woman husband some is_husband is_hers =
       let his = his_woman (husband - 1) (omega (arith, is_husband.some, is_husband.within)) in
@@ -52,7 +55,8 @@ module _ {size entered : ℕ} {ranks : List ℕ} {asked : List Bool} {holders : 
       let own : wife_of matching man - 1 ≡ his.0 = omega (arith, his.3) in
       let prefers : court.his_rank he she < court.his_rank he his.0 =
       subst (λ w. court.his_rank he she < court.his_rank he w) own blocking.he_prefers in
-      let husband = her_man woman blocking.husband blocking.is_woman.some blocking.is_husband blocking.is_hers in
+      let husband = her_man woman blocking.husband blocking.is_woman.some blocking.is_husband
+      blocking.is_hers in
       elim (cases_Bool (court.asked he she)) [
         | inl yes_asked ↦
             (let held = courting.rules.best_held he she is_he is_she yes_asked in

@@ -17,18 +17,27 @@ numbers_of c = c.width ∷ c.wives
 pub circuit_is_plan : (c : MatchingPlan) → IsPlan (matching_plan (inputs_of c) (numbers_of c))
 circuit_is_plan c = matching_is_plan (inputs_of c) (numbers_of c) c.in_limits
 
-pub circuit_begins : (c : MatchingPlan) (ranks : List ℕ) → IsMatchingClaim (inputs_of c) (numbers_of c) ranks
-    → take (matching_plan (inputs_of c) (numbers_of c)).inputs (matching_values (inputs_of c) (numbers_of c) ranks) ≡ ranks
+pub circuit_begins : (c : MatchingPlan) (ranks : List ℕ)
+    → IsMatchingClaim (inputs_of c) (numbers_of c) ranks
+    → take (matching_plan (inputs_of c) (numbers_of c)).inputs
+    (matching_values (inputs_of c) (numbers_of c) ranks) ≡ ranks
 circuit_begins c ranks claim =
-    ap (λ n. take n (matching_values (inputs_of c) (numbers_of c) ranks)) (matching_inputs (inputs_of c) (numbers_of c))
+    ap (λ n. take n (matching_values (inputs_of c) (numbers_of c) ranks))
+    (matching_inputs (inputs_of c) (numbers_of c))
     ∙ matching_begins (inputs_of c) (numbers_of c) c.in_limits ranks claim
 
-pub circuit_sound : (c : MatchingPlan) (values : List ℕ) → Holds (matching_plan (inputs_of c) (numbers_of c)) values
-    → IsMatchingClaim (inputs_of c) (numbers_of c) (take (matching_plan (inputs_of c) (numbers_of c)).inputs values)
+pub circuit_sound : (c : MatchingPlan) (values : List ℕ)
+    → Holds (matching_plan (inputs_of c) (numbers_of c)) values
+    → IsMatchingClaim (inputs_of c) (numbers_of c)
+    (take (matching_plan (inputs_of c) (numbers_of c)).inputs values)
 circuit_sound c values holds =
-    subst (λ n. IsMatchingClaim (inputs_of c) (numbers_of c) (take n values)) (sym (matching_inputs (inputs_of c) (numbers_of c)))
+    subst (λ n. IsMatchingClaim (inputs_of c) (numbers_of c) (take n values))
+    (sym (matching_inputs (inputs_of c) (numbers_of c)))
     (matching_sound (inputs_of c) (numbers_of c) c.in_limits values holds)
 
-pub circuit_complete : (c : MatchingPlan) (ranks : List ℕ) → IsMatchingClaim (inputs_of c) (numbers_of c) ranks
-    → Holds (matching_plan (inputs_of c) (numbers_of c)) (matching_values (inputs_of c) (numbers_of c) ranks)
-circuit_complete c ranks claim = matching_complete (inputs_of c) (numbers_of c) c.in_limits ranks claim
+pub circuit_complete : (c : MatchingPlan) (ranks : List ℕ)
+    → IsMatchingClaim (inputs_of c) (numbers_of c) ranks
+    → Holds (matching_plan (inputs_of c) (numbers_of c))
+    (matching_values (inputs_of c) (numbers_of c) ranks)
+circuit_complete c ranks claim =
+    matching_complete (inputs_of c) (numbers_of c) c.in_limits ranks claim

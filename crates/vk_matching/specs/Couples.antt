@@ -22,7 +22,8 @@ module _ (size : ℕ) (f : ℕ → ℕ) where
   moved : ℕ → ℕ
   moved k = if f k == suc size then f (suc size) else f k
 
-  moved_is : (k : ℕ) → ((f k ≡ suc size) × (moved k ≡ f (suc size))) ⊎ ((f k ≢ suc size) × (moved k ≡ f k))
+  moved_is : (k : ℕ) → ((f k ≡ suc size) × (moved k ≡ f (suc size)))
+      ⊎ ((f k ≢ suc size) × (moved k ≡ f k))
   unfolding moved
   moved_is k = elim (eqb_tells (f k) (suc size)) [
     | inl last ↦ inl (last.1, ap (λ b. if b then f (suc size) else f k) last.0)
@@ -42,10 +43,13 @@ crowded (suc n) f are differ =
     let behind = are (suc n) (omega arith) in
     elim (moved_is n f k) [
       | inl last ↦
-          (let other : f (suc n) ≢ suc n = λ e. differ k (suc n) (omega arith) (omega arith) (last.0 ∙ sym e) in
-          subst (IsPerson n) (sym last.1) (record { some = behind.some; within = omega (arith, behind.within, other) }))
+          (let other : f (suc n)
+          ≢ suc n = λ e. differ k (suc n) (omega arith) (omega arith) (last.0 ∙ sym e) in
+          subst (IsPerson n) (sym last.1)
+          (record { some = behind.some; within = omega (arith, behind.within, other) }))
       | inr kept ↦
-          subst (IsPerson n) (sym kept.1) (record { some = here.some; within = omega (arith, here.within, kept.0) })
+          subst (IsPerson n) (sym kept.1)
+          (record { some = here.some; within = omega (arith, here.within, kept.0) })
     ])
     (λ k l before h same. elim (moved_is n f k) [
       | inl last ↦ elim (moved_is n f l) [
@@ -59,60 +63,76 @@ crowded (suc n) f are differ =
     ])
 
 -- a woman before all women of a matching
-are_persons : (size woman : ℕ) (matching : List ℕ) → All (IsPerson size) matching → IsPerson size woman → (k : ℕ)
+are_persons : (size woman : ℕ) (matching : List ℕ) → All (IsPerson size) matching
+    → IsPerson size woman → (k : ℕ)
     → k < length matching + 1 → IsPerson size (slice_index (woman ∷ matching) k)
 are_persons size woman matching are is_woman zero h = is_woman
 are_persons size woman matching are is_woman (suc k) h = are k 0 (omega arith)
 
-are_different : (woman : ℕ) (matching : List ℕ) → AllPairs (λ earlier later. earlier ≢ later) matching
-    → ((k : ℕ) → k < length matching → slice_index matching k ≢ woman) → (k l : ℕ) → k < l → l < length matching + 1
+are_different : (woman : ℕ) (matching : List ℕ)
+    → AllPairs (λ earlier later. earlier ≢ later) matching
+    → ((k : ℕ) → k < length matching → slice_index matching k ≢ woman) → (k l : ℕ) → k < l
+    → l < length matching + 1
     → slice_index (woman ∷ matching) k ≢ slice_index (woman ∷ matching) l
 are_different woman matching differ none k zero before h = absurd (omega arith)
-are_different woman matching differ none zero (suc l) before h = λ same. none l (omega arith) (sym same)
-are_different woman matching differ none (suc k) (suc l) before h = differ k l 0 (omega arith) (omega arith)
+are_different woman matching differ none zero (suc l) before h =
+    λ same. none l (omega arith) (sym same)
+are_different woman matching differ none (suc k) (suc l) before h =
+    differ k l 0 (omega arith) (omega arith)
 
 module _ (size : ℕ) (matching : List ℕ) (permutation : IsPermutation size matching) where
   -- each woman stands in it
-  stands : (woman : ℕ) → IsPerson size woman → position_or_len (λ wife. wife == woman) matching < length matching
+  stands : (woman : ℕ) → IsPerson size woman
+      → position_or_len (λ wife. wife == woman) matching < length matching
   stands woman is_woman =
       let place = position_or_len (λ wife. wife == woman) matching in
-      let none : length matching ≤ place → (k : ℕ) → k < length matching → slice_index matching k ≢ woman =
+      let none : length matching ≤ place → (k : ℕ) → k < length matching
+      → slice_index matching k ≢ woman =
       λ all k h. eqb-false (slice_index matching k) woman
       (fails_before_first (λ wife. wife == woman) matching k 0 (omega arith)) in
       elim (cases_lt place (length matching)) [
         | inl h ↦ h
         | inr all ↦
             absurd (crowded size (λ k. slice_index (woman ∷ matching) k)
-            (λ k h. are_persons size woman matching permutation.are_persons is_woman k (omega (arith, permutation.one_each)))
-            (λ k l before h. are_different woman matching permutation.all_different (none all) k l before
+            (λ k h. are_persons size woman matching permutation.are_persons is_woman k
+            (omega (arith, permutation.one_each)))
+            (λ k l before h. are_different woman matching permutation.all_different (none all) k l
+            before
             (omega (arith, permutation.one_each))))
       ]
 
   -- so she is matched with a man, and with no other
   pub husband_is : (woman : ℕ) → IsPerson size woman
-      → IsPerson size (husband_of matching woman) × (wife_of matching (husband_of matching woman) ≡ woman)
+      → IsPerson size (husband_of matching woman)
+      × (wife_of matching (husband_of matching woman) ≡ woman)
   husband_is woman is_woman =
       let place = position_or_len (λ wife. wife == woman) matching in
       let inside = stands woman is_woman in
       let first : place + 1 - 1 ≡ place = omega arith in (
         record { some = omega arith; within = omega (arith, permutation.one_each) },
         ap (slice_index matching) first
-            ∙ eqb-true (slice_index matching place) woman (passes_at_first (λ wife. wife == woman) matching 0 inside),
+            ∙ eqb-true (slice_index matching place) woman
+            (passes_at_first (λ wife. wife == woman) matching 0 inside),
       )
 
-  pub husband_alone : (man woman : ℕ) → IsPerson size man → wife_of matching man ≡ woman → husband_of matching woman ≡ man
+  pub husband_alone : (man woman : ℕ) → IsPerson size man → wife_of matching man ≡ woman
+      → husband_of matching woman ≡ man
   husband_alone man woman is_man is_wife =
-      let place : man - 1 < length matching = omega (arith, permutation.one_each, is_man.some, is_man.within) in
+      let place : man - 1 < length matching =
+      omega (arith, permutation.one_each, is_man.some, is_man.within) in
       let first =
       position_or_len_is (λ wife. wife == woman) matching (man - 1) 0 (omega arith)
-      (λ k h. ne_eqb (slice_index matching k) woman (λ same. permutation.all_different k (man - 1) 0 h place (same ∙ sym is_wife)))
+      (λ k h. ne_eqb (slice_index matching k) woman
+      (λ same. permutation.all_different k (man - 1) 0 h place (same ∙ sym is_wife)))
       (λ h. eq-eqb (slice_index matching (man - 1)) woman is_wife) in
       omega (arith, first, is_man.some)
 
 -- the list of the men has him in her place
-pub husband_read : (size woman : ℕ) (matching : List ℕ) → length matching ≡ size → IsPerson size woman
+pub husband_read : (size woman : ℕ) (matching : List ℕ) → length matching ≡ size
+    → IsPerson size woman
     → slice_index (husbands_of matching) (woman - 1) ≡ husband_of matching woman
 husband_read size woman matching long is =
     let place : woman - 1 + 1 ≡ woman = omega (arith, is.some) in
-    at_listed (λ place. husband_of matching (place + 1)) (length matching) (woman - 1) 0 (omega (arith, is.some, is.within))
+    at_listed (λ place. husband_of matching (place + 1)) (length matching) (woman - 1) 0
+    (omega (arith, is.some, is.within))
     ∙ ap (husband_of matching) place

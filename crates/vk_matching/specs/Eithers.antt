@@ -1,5 +1,6 @@
--- The first of two differences isn't below 0, or the second isn't: a pair e of weight 1 says which. It is 1 where the
--- first has to be in its range, and 0 where the second has to; the other may miss it by less than 2 ^ width.
+-- The first of two differences isn't below 0, or the second isn't: a pair e of weight 1 says which.
+-- It is 1 where the first has to be in its range, and 0 where the second has to; the other may miss
+-- it by less than 2 ^ width.
 use Rattle.std.specs.Prelude.{ℕ, ◌+◌, ◌^◌, ◌<◌, ◌≤◌, ◌⊎◌, ◌&&◌, Bool, true, false, if◌then◌else◌, nat_lt, List, [], ◌∷◌, ◌++◌}
 use Rattle.vk_residue.specs.Residue.{negative}
 use Rattle.vk_plan.specs.declared.wire.WireKind.{WireKind}
@@ -24,19 +25,23 @@ pub record IsEither (relation : EitherAtLeast) (wires : ℕ) : Type 0 where
 
 -- left less right, and a constant
 abbrev pub shifted_form : ℕ → ℕ → ℕ → Form
-shifted_form left right constant = record { terms = plus left ∷ minus right ∷ []; constant = constant }
+shifted_form left right constant =
+    record { terms = plus left ∷ minus right ∷ []; constant = constant }
 
 -- first_left - first_right + 2 ^ width * (1 - e), for e = 1 and for e = 0
 abbrev pub first_at : EitherAtLeast → Bool → Form
-first_at relation e = shifted_form relation.first_left relation.first_right (if e then 0 else 2 ^ relation.width)
+first_at relation e = shifted_form relation.first_left relation.first_right
+    (if e then 0 else 2 ^ relation.width)
 
 -- second_left - second_right + 2 ^ width * e
 abbrev pub second_at : EitherAtLeast → Bool → Form
-second_at relation e = shifted_form relation.second_left relation.second_right (if e then 2 ^ relation.width else 0)
+second_at relation e = shifted_form relation.second_left relation.second_right
+    (if e then 2 ^ relation.width else 0)
 
 -- both, of one bit more than the width
 abbrev pub ranges_at : EitherAtLeast → Bool → Ranges
-ranges_at relation e = ranges_of (first_at relation e ∷ second_at relation e ∷ []) (relation.width + 1)
+ranges_at relation e = ranges_of (first_at relation e ∷ second_at relation e ∷ [])
+    (relation.width + 1)
 
 -- for e = 1 or for e = 0 both are in their ranges
 abbrev pub IsEitherAtLeast : EitherAtLeast → List ℕ → Type 0
@@ -61,7 +66,8 @@ first_form relation pair =
 
 abbrev pub second_form : EitherAtLeast → ℕ → Form
 second_form relation pair =
-    paired_form relation.second_left relation.second_right 0 (record { wire = pair; factor = 2 ^ relation.width })
+    paired_form relation.second_left relation.second_right 0
+    (record { wire = pair; factor = 2 ^ relation.width })
 
 abbrev pub paired_ranges : EitherAtLeast → ℕ → Ranges
 paired_ranges relation pair =

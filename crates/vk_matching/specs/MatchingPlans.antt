@@ -1,5 +1,6 @@
--- The plan that shows that no pair blocks a matching, and the values that hold for it. Wires, rows and places count from
--- 0, persons from 1. The numbers that are published are the width of the ranks and then, for each man, his woman.
+-- The plan that shows that no pair blocks a matching, and the values that hold for it. Wires, rows
+-- and places count from 0, persons from 1. The numbers that are published are the width of the
+-- ranks and then, for each man, his woman.
 use Rattle.std.specs.Prelude.{ℕ, ◌+◌, ◌-◌, ◌*◌, ◌/◌, ◌%◌, ◌^◌, ◌<◌, ◌≤◌, ◌≡◌, List, [], ◌∷◌, ◌++◌, All, drop, length, slice_index}
 use Rattle.vk_plan.specs.declared.form.Form.{Form}
 use Rattle.vk_plan.specs.Plans.{PlanValue}
@@ -68,8 +69,8 @@ pair_either inputs numbers man woman =
       width = width_of numbers;
     }
 
--- how many pairs of a man and a woman other than his own there are, and the man and the woman of each: those of the
--- first man first, and of one man's by ascending woman
+-- how many pairs of a man and a woman other than his own there are, and the man and the woman of
+-- each: those of the first man first, and of one man's by ascending woman
 abbrev pub pair_count : ℕ → ℕ
 pair_count size = size * (size - 1)
 
@@ -77,14 +78,16 @@ abbrev pub man_at : ℕ → ℕ → ℕ
 man_at size pair = pair / (size - 1) + 1
 
 abbrev pub woman_at : ℕ → List ℕ → ℕ → ℕ
-woman_at size matching pair = other (wife_of matching (man_at size pair) - 1) (pair % (size - 1)) + 1
+woman_at size matching pair = other (wife_of matching (man_at size pair) - 1) (pair % (size - 1))
+    + 1
 
 abbrev pub either_at : ℕ → List ℕ → ℕ → EitherAtLeast
 either_at inputs numbers pair =
-    pair_either inputs numbers (man_at (size_of numbers) pair) (woman_at (size_of numbers) (matching_of numbers) pair)
+    pair_either inputs numbers (man_at (size_of numbers) pair)
+    (woman_at (size_of numbers) (matching_of numbers) pair)
 
--- The rows, in order: each rank is its copy; each copy is of the width; and of each pair, he or she doesn't prefer the
--- other.
+-- The rows, in order: each rank is its copy; each copy is of the width; and of each pair, he or she
+-- doesn't prefer the other.
 unfoldable pub matching_plan : ℕ → List ℕ → PlanValue
 matching_plan inputs numbers =
     blocks (either_wires (width_of numbers)) (λ pair. either_rows (either_at inputs numbers pair))
@@ -94,7 +97,8 @@ matching_plan inputs numbers =
 unfoldable pub matching_values : ℕ → List ℕ → List ℕ → List ℕ
 matching_values inputs numbers ranks =
     let before = ranged_values ranks (rank_ranges inputs numbers) in
-    before ++ joined (λ pair. either_values (either_at inputs numbers pair) before) (pair_count (size_of numbers))
+    before ++ joined (λ pair. either_values (either_at inputs numbers pair) before)
+    (pair_count (size_of numbers))
 
 -- how many wires it has, and how many rows
 abbrev pub wire_count : List ℕ → ℕ

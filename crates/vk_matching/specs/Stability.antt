@@ -1,5 +1,5 @@
--- Marriages of so many men and as many women: which of them no pair would rather leave. Persons count from 1, and of two
--- ranks the less is the better.
+-- Marriages of so many men and as many women: which of them no pair would rather leave. Persons
+-- count from 1, and of two ranks the less is the better.
 use Rattle.std.specs.Prelude.{ℕ, ◌+◌, ◌-◌, ◌*◌, ◌<◌, ◌≤◌, ◌≡◌, ◌≢◌, List, All, AllPairs, length, slice_index}
 
 -- one of so many men, or of as many women

@@ -30,14 +30,17 @@ impl Circuit for MatchingPlan {
     #[tactic(auto, using(crate::specs::MatchingLaws::matching_inputs))]
     fn inputs(&self) -> u32
         ensures ranks { result ≡ inputs_of self.now }
-        ensures inputs { result ≡ (matching_plan (inputs_of self.now) (numbers_of self.now)).inputs }
+        ensures inputs { result
+            ≡ (matching_plan (inputs_of self.now) (numbers_of self.now)).inputs }
     {
         self.inputs
     }
 
-    /// For n men and ranks of width t it has `4n^2 + 2n^2*t + n(n-1)(2t + 3)` wires and `4n^2 + 2n(n-1)` rows.
+    /// For n men and ranks of width t it has `4n^2 + 2n^2*t + n(n-1)(2t + 3)` wires and `4n^2 +
+    /// 2n(n-1)` rows.
     fn plan(&self, alloc: Global) -> Result<Plan, NoMemory>
-        ensures plan { IfOk result (λ plan. plan ≡ matching_plan (inputs_of self.now) (numbers_of self.now)) }
+        ensures plan { IfOk result
+            (λ plan. plan ≡ matching_plan (inputs_of self.now) (numbers_of self.now)) }
         ensures wires { IfOk result (λ plan. length plan.kinds ≡ wire_count (numbers_of self.now)) }
         ensures rows { IfOk result (λ plan. length plan.rows ≡ row_count (numbers_of self.now)) }
     {
@@ -66,7 +69,8 @@ impl Circuit for MatchingPlan {
 impl MatchingPlan {
     /// That the copy of each rank is of the width.
     fn ranges(&self, alloc: Global) -> Result<Ranges, NoMemory>
-        ensures { IfOk result (λ ranges. ranges ≡ rank_ranges (inputs_of self.now) (numbers_of self.now)) }
+        ensures { IfOk result (λ ranges. ranges
+            ≡ rank_ranges (inputs_of self.now) (numbers_of self.now)) }
     {
         let mut forms = Vec::new(alloc);
         for place in 0..self.inputs {
@@ -98,7 +102,8 @@ impl MatchingPlan {
     fn his_copy(&self, man: u32, woman: u32) -> u32
         requires man { IsPerson (size_of (numbers_of self.now)) man }
         requires woman { IsPerson (size_of (numbers_of self.now)) woman }
-        ensures { result ≡ copy_at (inputs_of self.now) (his_place (size_of (numbers_of self.now)) man woman) }
+        ensures { result ≡ copy_at (inputs_of self.now)
+            (his_place (size_of (numbers_of self.now)) man woman) }
     {
         self.inputs + ((man - 1) * self.size() + (woman - 1))
     }
@@ -107,7 +112,8 @@ impl MatchingPlan {
     fn her_copy(&self, woman: u32, man: u32) -> u32
         requires woman { IsPerson (size_of (numbers_of self.now)) woman }
         requires man { IsPerson (size_of (numbers_of self.now)) man }
-        ensures { result ≡ copy_at (inputs_of self.now) (her_place (size_of (numbers_of self.now)) woman man) }
+        ensures { result ≡ copy_at (inputs_of self.now)
+            (her_place (size_of (numbers_of self.now)) woman man) }
     {
         let size = self.size();
         self.inputs + (size * size + (woman - 1) * size + (man - 1))
@@ -125,7 +131,8 @@ impl MatchingPlan {
     /// The woman of a pair.
     fn woman_at(&self, pair: u32) -> u32
         requires { pair < pair_count (size_of (numbers_of self.now)) }
-        ensures woman { result ≡ woman_at (size_of (numbers_of self.now)) (matching_of (numbers_of self.now)) pair }
+        ensures woman { result
+            ≡ woman_at (size_of (numbers_of self.now)) (matching_of (numbers_of self.now)) pair }
         ensures person { IsPerson (size_of (numbers_of self.now)) result }
     {
         let wife = self.wife(self.man_at(pair));

@@ -1,5 +1,5 @@
-// Deferred acceptance: men enter one after another and ask, and each woman holds the best of those who asked her.
-// Persons count from 0 here.
+// Deferred acceptance: men enter one after another and ask, and each woman holds the best of those
+// who asked her. Persons count from 0 here.
 ghost use Rattle.std.specs.Prelude.{◌+◌, ◌*◌, ◌<◌, ◌≤◌, ◌≡◌};
 
 use std::alloc::Global;
@@ -74,8 +74,8 @@ impl Courtship {
         }
     }
 
-    /// The man asks the best woman whom he hasn't asked, and she holds the better of two men: who is without a woman
-    /// then, if anybody is.
+    /// The man asks the best woman whom he hasn't asked, and she holds the better of two men: who
+    /// is without a woman then, if anybody is.
     fn ask(&mut self, ranks: &[u64], suitor: usize) -> Option<usize>
         requires courting { IsCourtship ranks.now self.old (Some suitor) }
         ensures courting { IsCourtship ranks.now self.new result }
@@ -94,7 +94,8 @@ impl Courtship {
         before
     }
 
-    /// The first of the women whom the man ranks best of those whom he hasn't asked; none where he has asked all.
+    /// The first of the women whom the man ranks best of those whom he hasn't asked; none where he
+    /// has asked all.
     fn choice(&self, ranks: &[u64], man: usize) -> Option<usize>
         requires lists { AreListsIn ranks.now self.now }
         requires is_man { man < self.now.size }
@@ -117,7 +118,8 @@ impl Courtship {
         requires is_woman { woman < self.now.size }
         requires is_other { (best : ℕ) → other ≡ Some best → best < self.now.size }
         ensures { IsTrue result ↔ ((best : ℕ) → other ≡ Some best
-            → (court_in ranks.now self.now).his_rank man woman < (court_in ranks.now self.now).his_rank man best) }
+            → (court_in ranks.now self.now).his_rank man woman
+            < (court_in ranks.now self.now).his_rank man best) }
     {
         match other {
             Some(other) => self.his_rank(ranks, man, woman) < self.his_rank(ranks, man, other),
@@ -130,7 +132,8 @@ impl Courtship {
         requires lists { AreListsIn ranks.now self.now }
         requires is_woman { woman < self.now.size }
         requires is_man { man < self.now.size }
-        requires are_men { (holder : ℕ) → held_by self.now.holders.items woman ≡ Some holder → holder < self.now.size }
+        requires are_men { (holder : ℕ) → held_by self.now.holders.items woman ≡ Some holder
+            → holder < self.now.size }
         ensures { IsTrue result ↔ HoldsAsGood (court_in ranks.now self.now) woman man }
     {
         match self.holders[woman] {
@@ -164,7 +167,8 @@ impl Courtship {
         requires few { self.now.size ≤ 16 }
         requires one_holder_each { length self.now.holders.items ≡ self.now.size }
         requires are_held { AreHeld self.now.size (held_by self.now.holders.items) self.now.size }
-        ensures { IfOk result (λ matching. AreWives self.now.size (held_by self.now.holders.items) self.now.size
+        ensures { IfOk result (λ matching. AreWives self.now.size (held_by self.now.holders.items)
+            self.now.size
             matching.items) }
     {
         let mut matching = vec![in alloc; 0u32; self.size]?;

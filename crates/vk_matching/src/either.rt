@@ -9,8 +9,8 @@ use vk_range::{Ranges, difference};
 use vk_residue::{NoMemory, Residue};
 use vk_seq::Seq;
 
-/// One wire isn't below another, or a third isn't below a fourth, for values below 2^width and a width of 1 to 16.
-/// A pair of weight 1 says which: it is 1 where the first is shown.
+/// One wire isn't below another, or a third isn't below a fourth, for values below 2^width and a
+/// width of 1 to 16. A pair of weight 1 says which: it is 1 where the first is shown.
 #[derive(Clone, Copy, Debug)]
 pub struct EitherAtLeast {
     pub first_left: u32,
@@ -62,8 +62,8 @@ impl Relation for EitherAtLeast {
 }
 
 impl EitherAtLeast {
-    /// Left less right of both, and what is more of one of them, over the wire of the pair; of one bit more than the
-    /// width.
+    /// Left less right of both, and what is more of one of them, over the wire of the pair; of one
+    /// bit more than the width.
     fn paired_ranges(&self, alloc: Global, pair: u32) -> Result<Ranges, NoMemory>
         requires { self.now.width ≤ 16 }
         ensures { IfOk result (λ ranges. ranges ≡ paired_ranges self.now pair) }
@@ -122,7 +122,8 @@ fn pair_of(one: bool) -> Residue
 
 /// Both forms, of one width.
 fn both(alloc: Global, first: Form, second: Form, width: u32) -> Result<Ranges, NoMemory>
-    ensures { IfOk result (λ ranges. ranges ≡ record { forms = first ∷ second ∷ []; width = width }) }
+    ensures { IfOk result (λ ranges. ranges
+        ≡ record { forms = first ∷ second ∷ []; width = width }) }
 {
     let mut forms = Vec::new(alloc);
     forms.push(first)?;
@@ -162,10 +163,11 @@ fn shifted_value(values: &[Residue], left: u32, right: u32, constant: Residue) -
     sum_of_terms(&terms, values).add(constant)
 }
 
-/// For four values below 2^width the relation is true exactly where the first isn't below the second, or the third
-/// not below the fourth.
+/// For four values below 2^width the relation is true exactly where the first isn't below the
+/// second, or the third not below the fourth.
 pub fn either_is_at_least()
-    ensures { (relation : EitherAtLeast) (values : List ℕ) → relation.width ≤ 16 → AreSmall relation values
+    ensures { (relation : EitherAtLeast) (values : List ℕ) → relation.width ≤ 16
+        → AreSmall relation values
         → IsEitherAtLeast relation values
         ↔ ((slice_index values relation.first_right ≤ slice_index values relation.first_left)
         ⊎ (slice_index values relation.second_right ≤ slice_index values relation.second_left)) }

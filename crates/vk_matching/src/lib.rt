@@ -1,5 +1,5 @@
-//! Stable matchings of so many men and as many women: one is proposed, of their ranks, and a plan shows of hidden ranks
-//! that no pair blocks a published one.
+//! Stable matchings of so many men and as many women: one is proposed, of their ranks, and a plan
+//! shows of hidden ranks that no pair blocks a published one.
 #![tactic(auto)]
 
 mod circuit;

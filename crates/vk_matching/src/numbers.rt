@@ -24,8 +24,10 @@ pub(crate) fn are_in_limits(inputs: u32, numbers: &[u64]) -> bool
 /// The man of each woman, where each man has a woman of his own.
 pub(crate) fn husbands(alloc: Global, wives: &[u64]) -> Result<Option<Vec<u32>>, NoMemory>
     requires { length wives.now ≤ 16 }
-    ensures permutation { IfOk result (λ found. IsSome found ↔ IsPermutation (length wives.now) wives.now) }
-    ensures husbands { IfOk result (λ found. IfSome found (λ husbands. husbands.items ≡ husbands_of wives.now)) }
+    ensures permutation { IfOk result
+        (λ found. IsSome found ↔ IsPermutation (length wives.now) wives.now) }
+    ensures husbands { IfOk result
+        (λ found. IfSome found (λ husbands. husbands.items ≡ husbands_of wives.now)) }
 {
     let mut husbands = vec![in alloc; 0; wives.len()]?;
     for place in 0..wives.len() {

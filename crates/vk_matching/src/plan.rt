@@ -7,7 +7,8 @@ use std::alloc::Global;
 use vk_residue::NoMemory;
 use vk_seq::Seq;
 
-/// The plan that shows, of hidden ranks, that no man and woman would rather leave whom a published matching gives them.
+/// The plan that shows, of hidden ranks, that no man and woman would rather leave whom a published
+/// matching gives them.
 #[derive(Debug, Drop)]
 pub struct MatchingPlan {
     pub(crate) inputs: u32,
@@ -22,9 +23,10 @@ impl MatchingPlan {
     ghost use Rattle.vk_matching.specs.Circuits.{inputs_of, numbers_of};
     ghost use Rattle.std.specs.Prelude.{◌↔◌, IsSome, IfSome, IfOk};
 
-    /// For so many ranks and these numbers: the width of the ranks and then, for each man in order, his woman. None
-    /// where the width isn't 1 to 16, there aren't 1 to 16 men, one of as many women isn't matched with one of them, or
-    /// there aren't twice as many ranks as pairs of a man and a woman.
+    /// For so many ranks and these numbers: the width of the ranks and then, for each man in order,
+    /// his woman. None where the width isn't 1 to 16, there aren't 1 to 16 men, one of as many
+    /// women isn't matched with one of them, or there aren't twice as many ranks as pairs of a man
+    /// and a woman.
     pub fn from_numbers(
         alloc: Global,
         inputs: u32,

@@ -6,7 +6,8 @@ use Rattle.vk_plan.specs.declared.wire.WireKind.TheVariants.{Split, Pair}
 use Rattle.vk_plan.specs.declared.form.Form.{Form}
 use Rattle.vk_plan.specs.Forms.{form_value, NamesBelow}
 
--- how many of the first wires are inputs, what values each wire may have, and the forms that are to be 0
+-- how many of the first wires are inputs, what values each wire may have, and the forms that are to
+-- be 0
 pub record PlanValue : Type 0 where
   pub inputs : ℕ
   pub kinds : List WireKind
@@ -35,11 +36,19 @@ plan_of_inputs inputs = record { inputs = inputs; kinds = replicate inputs Split
 
 -- the plan with wires and rows at its end
 abbrev pub extended : PlanValue → List WireKind → List Form → PlanValue
-extended plan kinds rows = record { inputs = plan.inputs; kinds = plan.kinds ++ kinds; rows = plan.rows ++ rows }
+extended plan kinds rows = record {
+  inputs = plan.inputs;
+  kinds = plan.kinds ++ kinds;
+  rows = plan.rows ++ rows;
+}
 
 -- the first wires and rows of the plan
 abbrev pub shortened : PlanValue → ℕ → ℕ → PlanValue
-shortened plan wires rows = record { inputs = plan.inputs; kinds = take wires plan.kinds; rows = take rows plan.rows }
+shortened plan wires rows = record {
+  inputs = plan.inputs;
+  kinds = take wires plan.kinds;
+  rows = take rows plan.rows;
+}
 
 -- a wire of this kind may have this value: a pair has 0 or its weight
 abbrev pub MayHave : WireKind → ℕ → Type 0
@@ -50,5 +59,6 @@ MayHave (Pair i) value = (value ≡ 0) ⊎ (value ≡ 2 ^ i)
 pub record Holds (plan : PlanValue) (values : List ℕ) : Type 0 where
   pub one_each : length values ≡ length plan.kinds
   pub residues : All IsResidue values
-  pub pairs : (w : ℕ) → w < length plan.kinds → MayHave (slice_index_or plan.kinds w Split) (slice_index values w)
+  pub pairs : (w : ℕ) → w < length plan.kinds
+      → MayHave (slice_index_or plan.kinds w Split) (slice_index values w)
   pub zero_rows : All (λ row. form_value row values ≡ 0) plan.rows

@@ -45,8 +45,11 @@ impl Flat {
 
     /// Adds the wires and factors of a row.
     fn push_terms(&mut self, terms: &[Term]) -> Result<(), NoMemory>
-        ensures wires { OnOk result (self.new.wires.items ≡ self.old.wires.items ++ map (λ term. term.wire) terms.now) }
-        ensures factors { OnOk result (self.new.factors.items ≡ self.old.factors.items ++ map (λ term. term.factor) terms.now) }
+        ensures wires { OnOk result
+            (self.new.wires.items ≡ self.old.wires.items ++ map (λ term. term.wire) terms.now) }
+        ensures factors { OnOk result
+            (self.new.factors.items
+            ≡ self.old.factors.items ++ map (λ term. term.factor) terms.now) }
         ensures ends { self.new.ends ≡ self.old.ends }
         ensures constants { self.new.constants ≡ self.old.constants }
     {
@@ -62,8 +65,10 @@ impl Flat {
     pub fn sum(&self, row: usize, values: &[Residue]) -> Residue
         requires flat { AreFlat self.now }
         requires row { row < length self.now.ends.items }
-        requires names { NamesBelow (length values.now) (slice_index_or (flat_rows self.now) row no_row).terms }
-        ensures { result ≡ linear_part (slice_index_or (flat_rows self.now) row no_row).terms values.now }
+        requires names { NamesBelow (length values.now)
+            (slice_index_or (flat_rows self.now) row no_row).terms }
+        ensures { result ≡ linear_part (slice_index_or (flat_rows self.now) row no_row).terms
+            values.now }
     {
         let mut sum = Acc::new();
         for at in self.start(row)..self.ends[row] {

@@ -12,7 +12,8 @@ pub struct Term {
     pub factor: Residue,
 }
 
-/// On a list of values: the sum of factor times value over the terms, plus the constant, modulo 2^61 - 1.
+/// On a list of values: the sum of factor times value over the terms, plus the constant, modulo
+/// 2^61 - 1.
 #[derive(Debug, Drop)]
 pub struct Form {
     pub terms: Seq<Term>,
@@ -49,7 +50,8 @@ impl Form {
     }
 }
 
-/// What the terms come to on the values: the sum of factor times value, modulo 2^61 - 1. Takes no memory.
+/// What the terms come to on the values: the sum of factor times value, modulo 2^61 - 1. Takes no
+/// memory.
 #[tactic(auto, using(crate::specs::FormLaws::linear_part_more), unfolding(crate::specs::Forms::linear_part))]
 pub fn sum_of_terms(terms: &[Term], values: &[Residue]) -> Residue
     requires { NamesBelow (length values.now) terms.now }

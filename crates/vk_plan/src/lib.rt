@@ -1,5 +1,5 @@
-//! Plans: lists of wires, and rows of linear forms over them that are to be 0. What may be appended to
-//! a plan is a relation, and what is shown by a whole plan is a circuit.
+//! Plans: lists of wires, and rows of linear forms over them that are to be 0. What may be appended
+//! to a plan is a relation, and what is shown by a whole plan is a circuit.
 #![tactic(auto)]
 
 mod circuit;

@@ -9,7 +9,8 @@ use std::alloc::Global;
 use std::marker::Model;
 use vk_residue::NoMemory;
 
-/// Wires, rows over them, and how many of the first wires are inputs. A row is a form that is to be 0.
+/// Wires, rows over them, and how many of the first wires are inputs. A row is a form that is to be
+/// 0.
 #[derive(Debug, Drop)]
 pub struct Plan {
     inputs: u32,
@@ -24,7 +25,8 @@ impl Model for Plan {
 
     ghost view = { λ p. record { inputs = p.inputs; kinds = p.kinds.items; rows = p.rows.items } };
 
-    ghost invariant = { λ p. IsPlan (record { inputs = p.inputs; kinds = p.kinds.items; rows = p.rows.items }) };
+    ghost invariant = { λ p. IsPlan
+        (record { inputs = p.inputs; kinds = p.kinds.items; rows = p.rows.items }) };
 }
 
 impl Plan {
@@ -91,7 +93,8 @@ impl Plan {
     /// Appends the wires, and the row if there is one. After a refusal the plan is as before.
     pub fn append(&mut self, kinds: &[WireKind], row: Option<Form>) -> Result<(), NoMemory>
         requires { IsPlan (extended self.old kinds.now (option_to_list row)) }
-        ensures appended { OnOk result (self.new ≡ extended self.old kinds.now (option_to_list row)) }
+        ensures appended { OnOk result
+            (self.new ≡ extended self.old kinds.now (option_to_list row)) }
         ensures as_before { OnErr result (self.new ≡ self.old) }
     {
         let before = self.kinds.len();

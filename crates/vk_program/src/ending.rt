@@ -56,8 +56,8 @@ pub fn explain<R: Eprint>(rt: &R, refusal: Unopened) {
     let _ = eprintln!(rt; "{STORE}: {refusal}");
 }
 
-/// Says on standard error what a person can mend: which word isn't what it has to be, where the words are no command, and
-/// which file a fault of the outside is of, with what the system said.
+/// Says on standard error what a person can mend: which word isn't what it has to be, where the
+/// words are no command, and which file a fault of the outside is of, with what the system said.
 pub fn advise<R: Eprint>(rt: &R, code: ExitCode, words: &[String], fault: Option<NamedFault<'_>>) {
     if code == ExitCode::from(2) {
         advise_on_words(rt, words);

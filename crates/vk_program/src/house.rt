@@ -10,11 +10,13 @@ use vk_io::OutsideErr;
 use vk_keeper::Keeper;
 use vk_keeper_sql::OpenErr;
 
-/// What keeps the auctions of a house: opened for a command that asks for them, and closed behind it.
+/// What keeps the auctions of a house: opened for a command that asks for them, and closed behind
+/// it.
 pub trait HousePlace {
     type Kept: Keeper;
 
-    /// Whether something is kept already. Where nothing is, opening makes a place for it. Errs where that can't be told.
+    /// Whether something is kept already. Where nothing is, opening makes a place for it. Errs
+    /// where that can't be told.
     fn is_made(&self) -> Result<bool, Unopened>;
 
     /// The keeper of the auctions. Errs where they can't be reached.

@@ -8,9 +8,9 @@ use crate::house::{HousePlace, Unopened};
 use vk_io::OutsideErr;
 use vk_keeper::{Auction, Keeper, TurnCount};
 
-/// The keeper of a house, which is opened where the keeper is asked for the first time: so what asks nothing
-/// leaves no store. Its ledger isn't modelled. What is opened stands in the place that it was given, to be closed by
-/// whom the place belongs to.
+/// The keeper of a house, which is opened where the keeper is asked for the first time: so what
+/// asks nothing leaves no store. Its ledger isn't modelled. What is opened stands in the place that
+/// it was given, to be closed by whom the place belongs to.
 #[derive(Drop)]
 pub struct LateKeeper<'a, H: HousePlace> {
     house: &'a H,

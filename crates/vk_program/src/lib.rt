@@ -1,5 +1,5 @@
-//! The program but for its `main`: what the words of a command line do, over a house of auctions, files, an output
-//! and standard error.
+//! The program but for its `main`: what the words of a command line do, over a house of auctions,
+//! files, an output and standard error.
 #![tactic(auto)]
 
 mod ending;

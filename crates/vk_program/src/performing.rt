@@ -49,8 +49,8 @@ fn words_of<E: Env + AllocGlobal>(env: &E) -> Result<Vec<String>, NoMemory> {
     }
 }
 
-/// Does what the words say over the shelf and the keeper, prints to the sink, and ends with the status. What `run` promises of
-/// its status holds of the program's.
+/// Does what the words say over the shelf and the keeper, prints to the sink, and ends with the
+/// status. What `run` promises of its status holds of the program's.
 fn perform<R: Eprint + AllocGlobal, S: Shelf, K: Keeper + Drop, W: Sink>(
     rt: &R,
     words: &[String],
@@ -58,46 +58,73 @@ fn perform<R: Eprint + AllocGlobal, S: Shelf, K: Keeper + Drop, W: Sink>(
     keeper: &mut K,
     out: &mut W,
 ) -> ExitCode
-    ensures done { IfSome (work_on (S.held shelf.old) (K.ledger keeper.old) (map string_bytes words.now))
+    ensures done { IfSome (work_on (S.held shelf.old) (K.ledger keeper.old)
+        (map string_bytes words.now))
         (λ work. exit_status result ≢ 6 → exit_status result ≢ 9
-        → DoesWork (exit_status result) work (outside (stores (S.held shelf.old) (K.ledger keeper.old)) (W.taken out.old))
+        → DoesWork (exit_status result) work
+        (outside (stores (S.held shelf.old) (K.ledger keeper.old)) (W.taken out.old))
         (outside (stores (S.held shelf.new) (K.ledger keeper.new)) (W.taken out.new))) }
-    ensures stopped { IfSome (work_on (S.held shelf.old) (K.ledger keeper.old) (map string_bytes words.now))
+    ensures stopped { IfSome (work_on (S.held shelf.old) (K.ledger keeper.old)
+        (map string_bytes words.now))
         (λ work. (exit_status result ≡ 6) ⊎ (exit_status result ≡ 9)
-        → StopsWork work (outside (stores (S.held shelf.old) (K.ledger keeper.old)) (W.taken out.old))
+        → StopsWork work (outside (stores (S.held shelf.old) (K.ledger keeper.old))
+        (W.taken out.old))
         (outside (stores (S.held shelf.new) (K.ledger keeper.new)) (W.taken out.new))) }
-    ensures headline { IfSome (S.held shelf.old) (λ files. Headline files (map string_bytes words.now) (exit_status result) (W.taken out.old) (W.taken out.new)) }
-    ensures audits { IfSome (S.held shelf.old) (λ files. Audits files (map string_bytes words.now) (exit_status result) (W.taken out.old) (W.taken out.new)) }
-    ensures claim_headline { IfSome (S.held shelf.old) (λ files. ClaimHeadline files (map string_bytes words.now) (exit_status result) (W.taken out.old) (W.taken out.new)) }
-    ensures claims { IfSome (S.held shelf.old) (λ files. Claims files (map string_bytes words.now) (exit_status result) (W.taken out.old) (W.taken out.new)) }
-    ensures matching { (number : ℕ) → command_words (map string_bytes words.now) ≡ Some (ClaimSample Matching number)
-        → SamplesMatching number (exit_status result) (outside (stores (S.held shelf.old) (K.ledger keeper.old)) (W.taken out.old))
+    ensures headline { IfSome (S.held shelf.old)
+        (λ files. Headline files (map string_bytes words.now) (exit_status result) (W.taken out.old)
+        (W.taken out.new)) }
+    ensures audits { IfSome (S.held shelf.old)
+        (λ files. Audits files (map string_bytes words.now) (exit_status result) (W.taken out.old)
+        (W.taken out.new)) }
+    ensures claim_headline { IfSome (S.held shelf.old)
+        (λ files. ClaimHeadline files (map string_bytes words.now) (exit_status result)
+        (W.taken out.old) (W.taken out.new)) }
+    ensures claims { IfSome (S.held shelf.old)
+        (λ files. Claims files (map string_bytes words.now) (exit_status result) (W.taken out.old)
+        (W.taken out.new)) }
+    ensures matching { (number : ℕ)
+        → command_words (map string_bytes words.now) ≡ Some (ClaimSample Matching number)
+        → SamplesMatching number (exit_status result)
+        (outside (stores (S.held shelf.old) (K.ledger keeper.old)) (W.taken out.old))
         (outside (stores (S.held shelf.new) (K.ledger keeper.new)) (W.taken out.new)) }
-    ensures coins { (order : CoinWords) → command_words (map string_bytes words.now) ≡ Some (Coin order) → exit_status result ≢ 6 → exit_status result ≢ 9
-        → MakesChallenge order (S.held shelf.old) (S.held shelf.new) (exit_status result) (W.taken out.old) (W.taken out.new) }
-    ensures seals { (order : SealWords) → command_words (map string_bytes words.now) ≡ Some (Seal order) → exit_status result ≢ 6 → exit_status result ≢ 9
-        → Seals order (S.held shelf.old) (S.held shelf.new) (exit_status result) (W.taken out.old) (W.taken out.new) }
+    ensures coins { (order : CoinWords)
+        → command_words (map string_bytes words.now) ≡ Some (Coin order) → exit_status result ≢ 6
+        → exit_status result ≢ 9
+        → MakesChallenge order (S.held shelf.old) (S.held shelf.new) (exit_status result)
+        (W.taken out.old) (W.taken out.new) }
+    ensures seals { (order : SealWords)
+        → command_words (map string_bytes words.now) ≡ Some (Seal order) → exit_status result ≢ 6
+        → exit_status result ≢ 9
+        → Seals order (S.held shelf.old) (S.held shelf.new) (exit_status result) (W.taken out.old)
+        (W.taken out.new) }
     ensures house { IfSome (S.held shelf.old) (λ files. IfSome (K.ledger keeper.old) (λ ledger.
         KeepsHouse files ledger (map string_bytes words.now) (exit_status result) (S.held shelf.new) (K.ledger keeper.new) (W.taken out.old) (W.taken out.new))) }
     ensures ceremony { IfSome (S.held shelf.old) (λ files. IfSome (K.ledger keeper.old) (λ ledger.
         HoldsCeremony files ledger (map string_bytes words.now) (exit_status result) (S.held shelf.new) (K.ledger keeper.new) (W.taken out.old) (W.taken out.new))) }
     ensures files { exit_status result ≢ 6 → exit_status result ≢ 9
-        → RunLeaves (map string_bytes words.now) (exit_status result) (S.held shelf.old) (S.held shelf.new) }
+        → RunLeaves (map string_bytes words.now) (exit_status result) (S.held shelf.old)
+        (S.held shelf.new) }
     ensures usage { IfSome (S.held shelf.old) (λ files. IfSome (K.ledger keeper.old) (λ ledger.
         TellsUsage (map string_bytes words.now) (exit_status result) (W.taken out.old) (W.taken out.new))) }
     ensures once { Modelled KeepsAnswers (K.ledger keeper.old) (K.ledger keeper.new) }
     ensures keeper { AsksNoKeeper (command_words (map string_bytes words.now))
-        → (K.ledger keeper.new ≡ K.ledger keeper.old) × (K.Keeper.faults keeper.new ≡ K.Keeper.faults keeper.old) }
-    ensures fault { exit_status result ≡ 6 → Rose (S.Shelf.faults shelf.old) (S.Shelf.faults shelf.new)
-        ⊎ Rose (K.Keeper.faults keeper.old) (K.Keeper.faults keeper.new) ⊎ Rose (W.Sink.faults out.old) (W.Sink.faults out.new) }
-    ensures no_fault { exit_status result ≢ 6 → (S.Shelf.faults shelf.new ≡ S.Shelf.faults shelf.old)
-        × (K.Keeper.faults keeper.new ≡ K.Keeper.faults keeper.old) × (W.Sink.faults out.new ≡ W.Sink.faults out.old) }
+        → (K.ledger keeper.new ≡ K.ledger keeper.old)
+        × (K.Keeper.faults keeper.new ≡ K.Keeper.faults keeper.old) }
+    ensures fault { exit_status result ≡ 6
+        → Rose (S.Shelf.faults shelf.old) (S.Shelf.faults shelf.new)
+        ⊎ Rose (K.Keeper.faults keeper.old) (K.Keeper.faults keeper.new)
+        ⊎ Rose (W.Sink.faults out.old) (W.Sink.faults out.new) }
+    ensures no_fault { exit_status result ≢ 6
+        → (S.Shelf.faults shelf.new ≡ S.Shelf.faults shelf.old)
+        × (K.Keeper.faults keeper.new ≡ K.Keeper.faults keeper.old)
+        × (W.Sink.faults out.new ≡ W.Sink.faults out.old) }
 {
     let status = run(rt.alloc(), words, shelf, keeper, out);
     end(rt, status)
 }
 
-/// Does the same, sees that what was written last is where it belongs, and says what a person can mend.
+/// Does the same, sees that what was written last is where it belongs, and says what a person can
+/// mend.
 fn perform_settled<R: Eprint + AllocGlobal, S: Settle, K: Keeper + Drop, W: Sink>(
     rt: &R,
     words: &[String],
@@ -105,8 +132,10 @@ fn perform_settled<R: Eprint + AllocGlobal, S: Settle, K: Keeper + Drop, W: Sink
     keeper: &mut K,
     out: &mut W,
 ) -> ExitCode
-    ensures no_fault { exit_status result ≢ 6 → exit_status result ≢ 9 → (S.Shelf.faults files.new ≡ S.Shelf.faults files.old)
-        × (K.Keeper.faults keeper.new ≡ K.Keeper.faults keeper.old) × (W.Sink.faults out.new ≡ W.Sink.faults out.old) }
+    ensures no_fault { exit_status result ≢ 6 → exit_status result ≢ 9
+        → (S.Shelf.faults files.new ≡ S.Shelf.faults files.old)
+        × (K.Keeper.faults keeper.new ≡ K.Keeper.faults keeper.old)
+        × (W.Sink.faults out.new ≡ W.Sink.faults out.old) }
 {
     let code = perform(rt, words, files, keeper, out);
     let is_faulty = files.settle().is_err();
@@ -123,13 +152,15 @@ fn perform_alone<R: Eprint + AllocGlobal, S: Settle, W: Sink>(
     out: &mut W,
 ) -> ExitCode
     requires { AsksNoKeeper (command_words (map string_bytes words.now)) }
-    ensures no_fault { exit_status result ≢ 6 → exit_status result ≢ 9 → (S.Shelf.faults shelf.new ≡ S.Shelf.faults shelf.old)
+    ensures no_fault { exit_status result ≢ 6 → exit_status result ≢ 9
+        → (S.Shelf.faults shelf.new ≡ S.Shelf.faults shelf.old)
         × (W.Sink.faults out.new ≡ W.Sink.faults out.old) }
 {
     perform_settled(rt, words, shelf, &mut MemKeeper::new(rt.alloc()), out)
 }
 
-/// Does what the words say over the auctions of the house, which is closed behind it where it was opened.
+/// Does what the words say over the auctions of the house, which is closed behind it where it was
+/// opened.
 fn perform_in<R: Eprint + AllocGlobal, H: HousePlace, S: Settle, W: Sink>(
     rt: &R,
     words: &[String],
@@ -160,8 +191,9 @@ fn open_made<H: HousePlace>(house: &H, keeper: &mut LateKeeper<'_, H>) -> Result
     Ok(())
 }
 
-/// Does what the words say over the keeper of the house. A house in which something is kept is opened before, and no other one
-/// unless the keeper is asked: so words that are no command, and files that are missing, leave no store.
+/// Does what the words say over the keeper of the house. A house in which something is kept is
+/// opened before, and no other one unless the keeper is asked: so words that are no command, and
+/// files that are missing, leave no store.
 fn perform_asking<R: Eprint + AllocGlobal, H: HousePlace, S: Settle, W: Sink>(
     rt: &R,
     words: &[String],
@@ -180,7 +212,8 @@ fn perform_asking<R: Eprint + AllocGlobal, H: HousePlace, S: Settle, W: Sink>(
     code
 }
 
-/// Does what the words of `env` say. Where they may ask the house its keeper is theirs, and else an empty one.
+/// Does what the words of `env` say. Where they may ask the house its keeper is theirs, and else an
+/// empty one.
 pub fn program<E: Env + AllocGlobal, R: Eprint + AllocGlobal, H: HousePlace, S: Settle, W: Sink>(
     env: &E,
     rt: &R,

@@ -10,7 +10,8 @@ use vk_io::{OutsideErr, Shelf};
 pub trait Settle: Shelf {
     /// Sees that what was written last is where it belongs. Errs where it isn't.
     fn settle(&mut self) -> Result<(), OutsideErr>
-        ensures causes { Causes OutsideErr.Failed result (Self.faults self.old) (Self.faults self.new) };
+        ensures causes { Causes OutsideErr.Failed result (Self.faults self.old)
+            (Self.faults self.new) };
 
     /// The last fault, and the file that it is of, for a person. None where there was none.
     fn last_fault(&self) -> Option<NamedFault<'_>>;

@@ -12,12 +12,13 @@ use std::rt::Files;
 use vk_io::OutsideErr;
 use vk_keeper_sql::SqlKeeper;
 
-/// The path of the store. No file that the program writes is this one, or one that SQLite keeps beside it.
+/// The path of the store. No file that the program writes is this one, or one that SQLite keeps
+/// beside it.
 pub const STORE: &str = "house.sqlite";
 
-/// Who may read and write a store that is made anew: its owner alone, since the secrets of the bidders
-/// are in it. No umask widens this, and the log beside it gets the same. A store that holds anything keeps
-/// what it has.
+/// Who may read and write a store that is made anew: its owner alone, since the secrets of the
+/// bidders are in it. No umask widens this, and the log beside it gets the same. A store that holds
+/// anything keeps what it has.
 const OWNER_ALONE: u32 = 0o600;
 
 /// The part of a mode that says what others than the owner may do.
@@ -53,8 +54,8 @@ impl HousePlace for StoreHouse<'_> {
         }
     }
 
-    /// What is kept in the log beside the store is copied into it. Where that fails nothing is lost, since
-    /// the next opening finds the log; but the fault is told.
+    /// What is kept in the log beside the store is copied into it. Where that fails nothing is
+    /// lost, since the next opening finds the log; but the fault is told.
     fn close(&self, kept: SqlKeeper<FileStore<File>>) -> Result<(), OutsideErr> {
         match kept.close().close() {
             Ok(()) => Ok(()),
@@ -86,7 +87,8 @@ fn has_name<R: Files>(rt: &R) -> Result<bool, Unopened> {
     }
 }
 
-/// Makes the empty file of the store, where nothing has its name, and refuses one that is there and exposed.
+/// Makes the empty file of the store, where nothing has its name, and refuses one that is there and
+/// exposed.
 fn make_file<R: Files>(rt: &R) -> Result<(), Unopened> {
     let made = OpenOptions::new()
         .write(true)
@@ -100,7 +102,8 @@ fn make_file<R: Files>(rt: &R) -> Result<(), Unopened> {
     }
 }
 
-/// Refuses a file that is exposed, and a link to nothing, at whose end SQLite would make such a one.
+/// Refuses a file that is exposed, and a link to nothing, at whose end SQLite would make such a
+/// one.
 fn admit<R: Files>(rt: &R) -> Result<(), Unopened> {
     match fs::metadata(rt, STORE) {
         Ok(metadata) if is_exposed(metadata.len(), metadata.permissions().mode()) => {
@@ -111,8 +114,8 @@ fn admit<R: Files>(rt: &R) -> Result<(), Unopened> {
     }
 }
 
-/// Whether a file of that length and mode is empty and others may use it. What would be written into it they could read:
-/// it isn't closed to them first, since they may have it open already.
+/// Whether a file of that length and mode is empty and others may use it. What would be written
+/// into it they could read: it isn't closed to them first, since they may have it open already.
 fn is_exposed(length: u64, mode: u32) -> bool
     ensures { result ≡ is_exposed length mode }
 {

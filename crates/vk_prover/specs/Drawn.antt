@@ -25,12 +25,13 @@ drawn_wire ahead = with_residue wire_with ahead
 abbrev pub after_wire : (ℕ → ℕ) → ℕ → ℕ
 after_wire ahead = later 4 (later 4 (later 1 (after_residue ahead)))
 
--- the draw of a wire's tape; where no residue can be drawn, only the words looked at for it are taken
+-- the draw of a wire's tape; where no residue can be drawn, only the words looked at for it are
+-- taken
 abbrev pub wire_drawing : Drawing WireTape
 wire_drawing = record { drawn = drawn_wire; after = after_wire; dry = after_residue }
 
--- the tapes of so many wires, one after another, after those before; or the number of the first wire
--- whose tape can't be drawn, counted from 0 with those before
+-- the tapes of so many wires, one after another, after those before; or the number of the first
+-- wire whose tape can't be drawn, counted from 0 with those before
 abbrev pub drawn_tape : List WireTape → ℕ → (ℕ → ℕ) → Result (List WireTape) ℕ
 drawn_tape before count ahead = drawn_onto wire_drawing before count ahead
 
@@ -39,13 +40,15 @@ abbrev pub dry_else : ℕ → Option ℕ → Option WireTape → Option ℕ
 dry_else wire later None = Some wire
 dry_else wire later (Some tape) = later
 
--- the first of so many wires, counted on from that number, whose tape can't be drawn, if there is one
+-- the first of so many wires, counted on from that number, whose tape can't be drawn, if there is
+-- one
 unfoldable pub dry_wire : ℕ → ℕ → (ℕ → ℕ) → Option ℕ
 dry_wire wire zero ahead = None
-dry_wire wire (suc count) ahead = dry_else wire (dry_wire (wire + 1) count (after_wire ahead)) (drawn_wire ahead)
+dry_wire wire (suc count) ahead =
+    dry_else wire (dry_wire (wire + 1) count (after_wire ahead)) (drawn_wire ahead)
 
--- the words ahead after the tapes of so many wires; where one can't be drawn, those after the last word
--- that was looked at for the first such wire
+-- the words ahead after the tapes of so many wires; where one can't be drawn, those after the last
+-- word that was looked at for the first such wire
 abbrev pub after_wires : ℕ → (ℕ → ℕ) → ℕ → ℕ
 after_wires count ahead = after_draws wire_drawing count ahead
 
@@ -55,7 +58,8 @@ TapeAnswer (Ok tape) expected = expected ≡ Ok tape.wires
 TapeAnswer (Err (DrySeed wire)) expected = expected ≡ Err wire
 TapeAnswer (Err NoMemory) expected = Unit {0}
 
--- the words left are those after the tape, or after its first wire that is dry, unless it is want of memory
+-- the words left are those after the tape, or after its first wire that is dry, unless it is want
+-- of memory
 abbrev pub TapeWords : Result LaneTape DrawErr → (ℕ → ℕ) → (ℕ → ℕ) → Type 0
 TapeWords (Ok tape) left expected = left ≡ expected
 TapeWords (Err (DrySeed wire)) left expected = left ≡ expected

@@ -18,17 +18,21 @@ no_tape = record { mask = 0; swap = false; first_key = []; second_key = [] }
 
 -- what f gives of the number, the kind, the value and the tape of each wire, where the first in the
 -- lists has that number
-unfoldable pub each_wire : {A : Type 0} → (ℕ → WireKind → ℕ → WireTape → A) → ℕ → List WireKind → List ℕ → List WireTape → List A
-each_wire f wire (kind ∷ kinds) (value ∷ values) (tape ∷ tapes) = f wire kind value tape ∷ each_wire f (wire + 1) kinds values tapes
+unfoldable pub each_wire : {A : Type 0} → (ℕ → WireKind → ℕ → WireTape → A) → ℕ → List WireKind
+    → List ℕ → List WireTape → List A
+each_wire f wire (kind ∷ kinds) (value ∷ values) (tape ∷ tapes) =
+    f wire kind value tape ∷ each_wire f (wire + 1) kinds values tapes
 each_wire f wire _ _ _ = []
 
 -- the commitments to a wire, at its place
 abbrev pub com_of : List ℕ → ℕ → List ℕ → ℕ → WireKind → ℕ → WireTape → WireCom
-com_of auction lane seats wire kind value tape = made_com kind (place_of_wire auction lane seats wire) value tape
+com_of auction lane seats wire kind value tape =
+    made_com kind (place_of_wire auction lane seats wire) value tape
 
 -- the commitments to each wire
 abbrev pub honest_coms : List ℕ → ℕ → List ℕ → List WireKind → List ℕ → List WireTape → List WireCom
-honest_coms auction lane seats kinds values tape = each_wire (com_of auction lane seats) 0 kinds values tape
+honest_coms auction lane seats kinds values tape =
+    each_wire (com_of auction lane seats) 0 kinds values tape
 
 -- the first half of each wire
 abbrev pub masks : List WireTape → List ℕ
@@ -42,11 +46,12 @@ posted_on firsts row = linear_part row.terms firsts
 abbrev pub honest_posted : List Form → List WireTape → List ℕ
 honest_posted rows tape = map (posted_on (masks tape)) rows
 
--- what is published of the lane: the commitments to each wire after the inputs, none of which stands
--- at a bidder's seat, and the posted numbers
+-- what is published of the lane: the commitments to each wire after the inputs, none of which
+-- stands at a bidder's seat, and the posted numbers
 abbrev pub honest_lane : PlanValue → List ℕ → ℕ → List ℕ → List WireTape → LaneLines
 honest_lane plan auction lane values tape = record {
-  coms = each_wire (com_of auction lane []) plan.inputs (drop plan.inputs plan.kinds) (drop plan.inputs values) (drop plan.inputs tape);
+  coms = each_wire (com_of auction lane []) plan.inputs (drop plan.inputs plan.kinds)
+      (drop plan.inputs values) (drop plan.inputs tape);
   posted = honest_posted plan.rows tape;
 }
 
@@ -70,5 +75,6 @@ honest_reply kinds values tape bit = each_wire (shown_of bit) 0 kinds values tap
 
 -- the half of each wire that the bit names
 unfoldable pub honest_halves : List ℕ → List WireTape → Bool → List ℕ
-honest_halves (value ∷ values) (wire ∷ tape) bit = half_of value wire bit ∷ honest_halves values tape bit
+honest_halves (value ∷ values) (wire ∷ tape) bit =
+    half_of value wire bit ∷ honest_halves values tape bit
 honest_halves _ _ bit = []

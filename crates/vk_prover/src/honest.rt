@@ -14,8 +14,8 @@ use vk_residue::{NoMemory, Residue};
 use vk_seq::Seq;
 use vk_wire::{HonestWire, Shown, WireCom, WireTape, make, make_two, show, wire_place};
 
-/// What is published of the lane, counted from 1: the commitments to each wire after the inputs, and
-/// the posted number of each row. The values are those of all wires, and hold for the plan.
+/// What is published of the lane, counted from 1: the commitments to each wire after the inputs,
+/// and the posted number of each row. The values are those of all wires, and hold for the plan.
 pub fn make_lane(
     alloc: Global,
     plan: &Plan,
@@ -42,8 +42,8 @@ pub fn make_lane(
     Ok(LaneLines { coms, posted })
 }
 
-/// What is shown of each wire for the challenge bit. The values are those of all wires, and hold for
-/// the plan.
+/// What is shown of each wire for the challenge bit. The values are those of all wires, and hold
+/// for the plan.
 pub fn answer_lane(
     alloc: Global,
     plan: &Plan,
@@ -53,7 +53,8 @@ pub fn answer_lane(
 ) -> Result<Seq<Shown>, NoMemory>
     requires holds { Holds plan.now values.now }
     requires one_each { length tape.now.wires ≡ length plan.now.kinds }
-    ensures { IfOk result (λ shown. shown ≡ honest_reply plan.now.kinds values.now tape.now.wires bit) }
+    ensures { IfOk result (λ shown. shown
+        ≡ honest_reply plan.now.kinds values.now tape.now.wires bit) }
 {
     let mut shown = Seq::new(alloc);
     for wire in 0..plan.wires() {
@@ -62,8 +63,8 @@ pub fn answer_lane(
     Ok(shown)
 }
 
-/// The wires of a lane, to be made: its plan, auction and number, and the values and secret choices of all
-/// its wires.
+/// The wires of a lane, to be made: its plan, auction and number, and the values and secret choices
+/// of all its wires.
 #[derive(Clone, Copy)]
 struct LaneWires<'a> {
     plan: &'a Plan,
@@ -78,9 +79,11 @@ fn commit_wires(alloc: Global, wires: &LaneWires) -> Result<Seq<WireCom>, NoMemo
     requires holds { Holds wires.now.plan.now wires.now.values.now }
     requires one_each { length wires.now.tape.now.wires ≡ length wires.now.plan.now.kinds }
     ensures { IfOk result
-        (λ coms. coms ≡ each_wire (com_of wires.now.auction.now wires.now.lane []) wires.now.plan.now.inputs
+        (λ coms. coms ≡ each_wire (com_of wires.now.auction.now wires.now.lane [])
+        wires.now.plan.now.inputs
         (drop wires.now.plan.now.inputs wires.now.plan.now.kinds)
-        (drop wires.now.plan.now.inputs wires.now.values.now) (drop wires.now.plan.now.inputs wires.now.tape.now.wires)) }
+        (drop wires.now.plan.now.inputs wires.now.values.now)
+        (drop wires.now.plan.now.inputs wires.now.tape.now.wires)) }
 {
     let inputs = wires.plan.inputs();
     let count = wires.plan.wires() - inputs;
@@ -108,8 +111,10 @@ fn honest_wire(wires: &LaneWires, wire: u32) -> HonestWire
     requires few { length wires.now.plan.now.kinds ≤ 16777216 }
     ensures can { CanBeMade result }
     ensures coms { made_com result.kind result.place result.value result.tape
-        ≡ com_of wires.now.auction.now wires.now.lane [] wire (slice_index_or wires.now.plan.now.kinds wire Split)
-        (slice_index wires.now.values.now wire) (slice_index_or wires.now.tape.now.wires wire no_tape) }
+        ≡ com_of wires.now.auction.now wires.now.lane [] wire
+        (slice_index_or wires.now.plan.now.kinds wire Split)
+        (slice_index wires.now.values.now wire)
+        (slice_index_or wires.now.tape.now.wires wire no_tape) }
 {
     let at = wire as usize;
     HonestWire {

@@ -15,9 +15,9 @@ pub fn honest_replies_are_accepted<C: Circuit>()
         → InputsAreSealed inputs (C.plan_of circuit) (C.filled circuit inputs) }
 {}
 
-/// Of any plan and lane: where the values hold for the plan, the honest reply to either challenge bit
-/// is accepted, whatever the tape is, with the halves that the bit names; and what is published of the
-/// lane, after the commitments of the inputs, is what the reply is accepted for.
+/// Of any plan and lane: where the values hold for the plan, the honest reply to either challenge
+/// bit is accepted, whatever the tape is, with the halves that the bit names; and what is published
+/// of the lane, after the commitments of the inputs, is what the reply is accepted for.
 pub fn replies_of_held_values_are_accepted()
     ensures accepted { WhereHeld HonestLaneIsAccepted }
     ensures checked { WhereHeld AreChecked }
@@ -25,7 +25,8 @@ pub fn replies_of_held_values_are_accepted()
     ensures published { WhereHeld ArePublished }
 {}
 
-/// What an honest prover publishes of a lane may stand on a board, and what it shows of it in a reply.
+/// What an honest prover publishes of a lane may stand on a board, and what it shows of it in a
+/// reply.
 pub fn honest_lanes_are_of_their_form()
     ensures lines { WhereHeld AreLines }
     ensures shown { WhereHeld AreOfForm }

@@ -21,7 +21,8 @@ pub struct LaneTape {
 /// Why no tape was drawn.
 #[derive(Clone, Copy, Debug, PartialEq, Eq)]
 pub enum DrawErr {
-    /// The residue of that wire, the first such, can't be drawn. Wires count from 0, the inputs' first.
+    /// The residue of that wire, the first such, can't be drawn. Wires count from 0, the inputs'
+    /// first.
     DrySeed { wire: u32 },
     /// Want of memory.
     NoMemory,
@@ -44,8 +45,9 @@ impl From<DryDraw> for DrawErr {
 }
 
 /// Draws the tape of a lane: the given tapes of the inputs, and then for each further wire in order
-/// a residue, a bit and two keys, drawn from the words in this order. Where a wire is dry, no word after
-/// those that were looked at for its residue is taken. All memory is taken before the first word.
+/// a residue, a bit and two keys, drawn from the words in this order. Where a wire is dry, no word
+/// after those that were looked at for its residue is taken. All memory is taken before the first
+/// word.
 pub fn draw_tape<W: Words>(
     alloc: Global,
     plan: &Plan,
@@ -53,8 +55,10 @@ pub fn draw_tape<W: Words>(
     words: &mut W,
 ) -> Result<LaneTape, DrawErr>
     requires { length given.now ≡ plan.now.inputs }
-    ensures drawn { TapeAnswer result (drawn_tape given.now (length plan.now.kinds - plan.now.inputs) (W.ahead words.old)) }
-    ensures after { TapeWords result (W.ahead words.new) (after_wires (length plan.now.kinds - plan.now.inputs) (W.ahead words.old)) }
+    ensures drawn { TapeAnswer result
+        (drawn_tape given.now (length plan.now.kinds - plan.now.inputs) (W.ahead words.old)) }
+    ensures after { TapeWords result (W.ahead words.new)
+        (after_wires (length plan.now.kinds - plan.now.inputs) (W.ahead words.old)) }
     ensures tape { IfOk result (λ tape. IsTapeOf plan.now tape.wires) }
     ensures memory { IsErrOf result DrawErr.NoMemory → W.ahead words.new ≡ W.ahead words.old }
 {
@@ -65,8 +69,8 @@ pub fn draw_tape<W: Words>(
     })
 }
 
-/// The first of so many wires, counted on from `before`, whose tape can't be drawn from the words. None where
-/// each has one. Takes no memory.
+/// The first of so many wires, counted on from `before`, whose tape can't be drawn from the words.
+/// None where each has one. Takes no memory.
 pub fn first_dry<W: Words>(before: u32, count: u32, words: &mut W) -> Option<u32>
     requires { before + count < 2 ^ 32 }
     ensures { result ≡ dry_wire before count (W.ahead words.old) }

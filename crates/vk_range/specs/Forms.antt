@@ -19,7 +19,8 @@ less_one strict = if strict then modulus - 1 else 0
 
 -- left - right, less 1 where strict
 abbrev pub difference_form : ℕ → ℕ → Bool → Form
-difference_form left right strict = record { terms = plus left ∷ minus right ∷ []; constant = less_one strict }
+difference_form left right strict =
+    record { terms = plus left ∷ minus right ∷ []; constant = less_one strict }
 
 -- a form over the wires of the plan, and a width from 1 to 40
 pub record IsRange (form : Form) (width : ℕ) (plan : PlanValue) : Type 0 where

@@ -31,7 +31,12 @@ pub other_of : (count place another : ℕ) → another < count → place < count
     → (k : ℕ) × (k < count - 1) × (other place k ≡ another)
 other_of count place another h p ne = elim (cases_lt another place) [
   | inl q ↦ (another, omega arith, other_before place another q)
-  | inr q ↦ (another - 1, omega (arith, ne), other_after place (another - 1) (omega (arith, ne)) ∙ omega (arith, ne))
+  | inr q ↦ (
+    another - 1,
+    omega (arith, ne),
+    other_after place (another - 1) (omega (arith, ne))
+        ∙ omega (arith, ne),
+  )
 ]
 
 pub other_index : (place k another : ℕ) → other place k ≡ another → another < place → k < place

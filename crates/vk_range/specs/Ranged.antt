@@ -13,7 +13,8 @@ ranges_of forms width = record { forms = forms; width = width }
 
 -- the plan with these ranges at its end
 abbrev pub with_ranges : PlanValue → Ranges → PlanValue
-with_ranges plan relation = extended plan (ranges_wires relation) (ranges_rows relation (length plan.kinds))
+with_ranges plan relation = extended plan (ranges_wires relation)
+    (ranges_rows relation (length plan.kinds))
 
 -- the inputs, their copies, and the ranges
 abbrev pub ranged_plan : ℕ → Ranges → PlanValue

@@ -26,15 +26,18 @@ ranges_wires relation = series_kinds relation.width (length relation.forms)
 
 -- the row of each form's set, where the first set begins at a wire
 abbrev pub ranges_rows : Ranges → ℕ → List Form
-ranges_rows relation start = series_rows (form_at relation.forms) start relation.width (length relation.forms)
+ranges_rows relation start = series_rows (form_at relation.forms) start relation.width
+    (length relation.forms)
 
 -- each form is of the width
 abbrev pub AreOfWidth : Ranges → List ℕ → Type 0
-AreOfWidth relation values = All (λ form. IsOfWidth relation.width (form_value form values)) relation.forms
+AreOfWidth relation values = All (λ form. IsOfWidth relation.width (form_value form values))
+    relation.forms
 
 -- each set has the value of its form
 abbrev pub ranges_values : Ranges → List ℕ → List ℕ
-ranges_values relation values = series_values values (form_at relation.forms) relation.width (length relation.forms)
+ranges_values relation values =
+    series_values values (form_at relation.forms) relation.width (length relation.forms)
 
 -- the first so many forms of a function
 abbrev pub listed_ranges : (ℕ → Form) → ℕ → ℕ → Ranges

@@ -14,7 +14,8 @@ use Rattle.vk_range.specs.Series.{IsSeries, series, series_kinds, series_rows, s
 use Rattle.vk_range.specs.Ranges.{no_form, form_at, AreRanges, AreOfWidth, ranges_wires, ranges_rows, ranges_values, listed_ranges}
 
 -- what is so of the form at each index is so of all
-All-forms : (P : Form → Type 0) (forms : List Form) → ((i : ℕ) → i < length forms → P (form_at forms i)) → All P forms
+All-forms : (P : Form → Type 0) (forms : List Form)
+    → ((i : ℕ) → i < length forms → P (form_at forms i)) → All P forms
 All-forms P forms each k d h = subst P (get_or_default forms k no_form d h) (each k h)
 
 -- the plan with the sets of the first so many forms at its end
@@ -22,7 +23,8 @@ abbrev pub ranges_stage : Ranges → PlanValue → ℕ → PlanValue
 ranges_stage relation plan count = series plan (form_at relation.forms) relation.width count
 
 pub ranges_series : (relation : Ranges) (plan : PlanValue) → AreRanges relation (length plan.kinds)
-    → IsSeries plan (form_at relation.forms) relation.width (length plan.kinds) (length relation.forms)
+    → IsSeries plan (form_at relation.forms) relation.width (length plan.kinds)
+    (length relation.forms)
 ranges_series relation plan fits = record {
   names = λ i h. fits.names i no_form h;
   base_within = omega arith;
@@ -31,81 +33,104 @@ ranges_series relation plan fits = record {
 
 pub ranges_sound : (relation : Ranges) (plan : PlanValue) (values : List ℕ) → NamesOwnWires plan
     → AreRanges relation (length plan.kinds)
-    → Holds (extended plan (ranges_wires relation) (ranges_rows relation (length plan.kinds))) values
+    → Holds (extended plan (ranges_wires relation) (ranges_rows relation (length plan.kinds)))
+    values
     → AreOfWidth relation (take (length plan.kinds) values)
 ranges_sound relation plan values own fits holds =
     let start = length plan.kinds in
-    let found = series_sound plan (form_at relation.forms) relation.width start (length relation.forms) values own
+    let found = series_sound plan (form_at relation.forms) relation.width start
+    (length relation.forms) values own
     (ranges_series relation plan fits) holds in
-    All-forms (λ form. IsOfWidth relation.width (form_value form (take start values))) relation.forms found.1
+    All-forms (λ form. IsOfWidth relation.width (form_value form (take start values)))
+    relation.forms found.1
 
 pub ranges_complete : (relation : Ranges) (plan : PlanValue) (values : List ℕ) → NamesOwnWires plan
     → AreRanges relation (length plan.kinds) → Holds plan values → AreOfWidth relation values
-    → Holds (extended plan (ranges_wires relation) (ranges_rows relation (length plan.kinds))) (values ++ ranges_values relation values)
+    → Holds (extended plan (ranges_wires relation) (ranges_rows relation (length plan.kinds)))
+    (values ++ ranges_values relation values)
 ranges_complete relation plan values own fits holds each =
-    series_complete plan (form_at relation.forms) relation.width (length plan.kinds) (length relation.forms) values own
+    series_complete plan (form_at relation.forms) relation.width (length plan.kinds)
+    (length relation.forms) values own
     (ranges_series relation plan fits) holds (λ i h. each i no_form h)
 
 -- what the code meets: a form of the list, the wires that it names, and room for its set
-pub form_read : (forms items : List Form) (i : ℕ) (form : Form) → items ≡ forms → i < length items → form ≡ slice_index_or items i form
+pub form_read : (forms items : List Form) (i : ℕ) (form : Form) → items ≡ forms → i < length items
+    → form ≡ slice_index_or items i form
     → form ≡ form_at forms i
 form_read forms items i form same h is =
     is ∙ get_or_default items i form no_form h ∙ ap (λ fs. form_at fs i) same
 
 pub names_over : (relation : Ranges) (values : List ℕ) (i : ℕ)
-    → (plan : PlanValue) × (AreRanges relation (length plan.kinds) × (length plan.kinds ≡ length values))
+    → (plan : PlanValue) × (AreRanges relation (length plan.kinds)
+    × (length plan.kinds ≡ length values))
     → i < length relation.forms → NamesBelow (length values) (form_at relation.forms i).terms
 names_over relation values i over h =
     subst (λ n. NamesBelow n (form_at relation.forms i).terms) over.1.1 (over.1.0.names i no_form h)
 
-pub set_room : (relation : Ranges) (plan now : PlanValue) (count : ℕ) → IsPlan plan → AreRanges relation (length plan.kinds)
-    → IsPlan (extended plan (ranges_wires relation) (ranges_rows relation (length plan.kinds))) → count < length relation.forms
+pub set_room : (relation : Ranges) (plan now : PlanValue) (count : ℕ) → IsPlan plan
+    → AreRanges relation (length plan.kinds)
+    → IsPlan (extended plan (ranges_wires relation) (ranges_rows relation (length plan.kinds)))
+    → count < length relation.forms
     → now ≡ ranges_stage relation plan count
-    → IsPlan (extended now (test_set relation.width) (set_row (form_at relation.forms count) (length now.kinds) relation.width ∷ []))
+    → IsPlan (extended now (test_set relation.width)
+    (set_row (form_at relation.forms count) (length now.kinds) relation.width ∷ []))
 set_room relation plan now count is_plan fits whole h same =
     let form = form_at relation.forms in
     next_room plan now form relation.width count same
-    (series_shorter plan form relation.width (length plan.kinds) (count + 1) (length relation.forms) is_plan
+    (series_shorter plan form relation.width (length plan.kinds) (count + 1) (length relation.forms)
+    is_plan
     (ranges_series relation plan fits) (omega arith) whole)
 
 -- as many values as there are wires
 pub ranges_over : (relation : Ranges) (values : List ℕ) → AreRanges relation (length values)
-    → (plan : PlanValue) × (AreRanges relation (length plan.kinds) × (length plan.kinds ≡ length values))
+    → (plan : PlanValue) × (AreRanges relation (length plan.kinds)
+    × (length plan.kinds ≡ length values))
 ranges_over relation values fits =
     let same = length-replicate (length values) Split in
     (plan_of_inputs (length values), (subst (AreRanges relation) (sym same) fits, same))
 
--- the forms of a function: their plan and values are those of a series, they fit where it does, and are of the width
+-- the forms of a function: their plan and values are those of a series, they fit where it does, and
+-- are of the width
 series_listed : (plan : PlanValue) (form : ℕ → Form) (width count : ℕ)
-    → extended plan (ranges_wires (listed_ranges form width count)) (ranges_rows (listed_ranges form width count) (length plan.kinds))
+    → extended plan (ranges_wires (listed_ranges form width count))
+    (ranges_rows (listed_ranges form width count) (length plan.kinds))
     ≡ series plan form width count
 series_listed plan form width count =
     let forms = listed form count in
     let start = length plan.kinds in
-    same_plan plan.inputs (plan.kinds ++ series_kinds width (length forms)) (plan.kinds ++ series_kinds width count)
-    (plan.rows ++ series_rows (form_at forms) start width (length forms)) (plan.rows ++ series_rows form start width count)
+    same_plan plan.inputs (plan.kinds ++ series_kinds width (length forms))
+    (plan.kinds ++ series_kinds width count)
+    (plan.rows ++ series_rows (form_at forms) start width (length forms))
+    (plan.rows ++ series_rows form start width count)
     (ap (λ n. plan.kinds ++ series_kinds width n) (length_listed form count))
     (ap (λ n. plan.rows ++ series_rows (form_at forms) start width n) (length_listed form count)
-    ∙ ap (λ rows. plan.rows ++ rows) (listed-same (λ i. set_row (form_at forms i) (start + i * width) width)
+    ∙ ap (λ rows. plan.rows ++ rows)
+    (listed-same (λ i. set_row (form_at forms i) (start + i * width) width)
     (λ i. set_row (form i) (start + i * width) width) count
     (λ i h. ap (λ f. set_row f (start + i * width) width) (at_listed form count i no_form h))))
 
-pub listed_added : (plan now next : PlanValue) (relation : Ranges) (form : ℕ → Form) (width count : ℕ) → now ≡ plan
-    → relation ≡ listed_ranges form width count → next ≡ extended now (ranges_wires relation) (ranges_rows relation (length now.kinds))
+pub listed_added : (plan now next : PlanValue) (relation : Ranges) (form : ℕ → Form)
+    (width count : ℕ) → now ≡ plan
+    → relation ≡ listed_ranges form width count
+    → next ≡ extended now (ranges_wires relation) (ranges_rows relation (length now.kinds))
     → next ≡ series plan form width count
 listed_added plan now next relation form width count same is added =
-    added ∙ ap (λ p. extended p (ranges_wires relation) (ranges_rows relation (length p.kinds))) same
-    ∙ ap (λ r. extended plan (ranges_wires r) (ranges_rows r (length plan.kinds))) is ∙ series_listed plan form width count
+    added ∙ ap (λ p. extended p (ranges_wires relation) (ranges_rows relation (length p.kinds)))
+    same
+    ∙ ap (λ r. extended plan (ranges_wires r) (ranges_rows r (length plan.kinds))) is
+    ∙ series_listed plan form width count
 
 pub values_listed : (values : List ℕ) (form : ℕ → Form) (width count : ℕ)
     → ranges_values (listed_ranges form width count) values ≡ series_values values form width count
 values_listed values form width count =
     let forms = listed form count in
     ap (λ n. series_values values (form_at forms) width n) (length_listed form count)
-    ∙ joined-same (λ i. bit_parts (form_value (form_at forms i) values) width) (λ i. bit_parts (form_value (form i) values) width) count
+    ∙ joined-same (λ i. bit_parts (form_value (form_at forms i) values) width)
+    (λ i. bit_parts (form_value (form i) values) width) count
     (λ i h. ap (λ f. bit_parts (form_value f values) width) (at_listed form count i no_form h))
 
-pub listed_fits : (plan : PlanValue) (form : ℕ → Form) (width base count wires : ℕ) → IsSeries plan form width base count → base ≤ wires
+pub listed_fits : (plan : PlanValue) (form : ℕ → Form) (width base count wires : ℕ)
+    → IsSeries plan form width base count → base ≤ wires
     → AreRanges (listed_ranges form width count) wires
 listed_fits plan form width base count wires is_series enough = record {
   names = All-listed (λ f. NamesBelow wires f.terms) form count
@@ -114,5 +139,7 @@ listed_fits plan form width base count wires is_series enough = record {
 }
 
 pub listed_of_width : (form : ℕ → Form) (width count : ℕ) (values : List ℕ)
-    → ((i : ℕ) → i < count → IsOfWidth width (form_value (form i) values)) → AreOfWidth (listed_ranges form width count) values
-listed_of_width form width count values each = All-listed (λ f. IsOfWidth width (form_value f values)) form count each
+    → ((i : ℕ) → i < count → IsOfWidth width (form_value (form i) values))
+    → AreOfWidth (listed_ranges form width count) values
+listed_of_width form width count values each =
+    All-listed (λ f. IsOfWidth width (form_value f values)) form count each

@@ -23,16 +23,19 @@ listed_more f n = map-range_with_len_more f 0 n n (omega arith)
 
 -- a push of the next
 pub listed_push : {A : Type 0} (f : ℕ → A) (front items all : List A) (value : A) (n : ℕ)
-    → all ≡ items ++ value ∷ [] → items ≡ front ++ listed f n → value ≡ f n → all ≡ front ++ listed f (n + 1)
+    → all ≡ items ++ value ∷ [] → items ≡ front ++ listed f n → value ≡ f n
+    → all ≡ front ++ listed f (n + 1)
 listed_push f front items all value n pushed before here =
-    pushed ∙ (cc (before, here, append_assoc front (listed f n) (f n ∷ [])) ∙ ap (λ more. front ++ more) (sym (listed_more f n)))
+    pushed ∙ (cc (before, here, append_assoc front (listed f n) (f n ∷ []))
+    ∙ ap (λ more. front ++ more) (sym (listed_more f n)))
 
 -- one more at the end of a sum
 pub sum_listed_more : (f : ℕ → ℕ) (n : ℕ) → sum (listed f (n + 1)) ≡ sum (listed f n) + f n
 sum_listed_more f n = sum_by-map-range_with_len_more (λ x. x) f 0 n n (omega arith)
 
 -- lists that agree at each place are one
-pub listed-same : {A : Type 0} (f g : ℕ → A) (n : ℕ) → ((i : ℕ) → i < n → f i ≡ g i) → listed f n ≡ listed g n
+pub listed-same : {A : Type 0} (f g : ℕ → A) (n : ℕ) → ((i : ℕ) → i < n → f i ≡ g i)
+    → listed f n ≡ listed g n
 listed-same f g zero h = refl
 listed-same f g (suc n) h =
     subst (λ m. listed f m ≡ listed g m) (add-one n)
@@ -49,23 +52,29 @@ sum_bit_parts number (suc n) =
     ∙ omega (arith, ap (λ m. number % 2 ^ m) (add_comm n 1), mod-pow-add number 1 n)))
 
 -- what pairs come to is below 2 ^ width
-set_sum_below : (values : List ℕ) (start width : ℕ) → ((i : ℕ) → i < width → MayHave (Pair i) (slice_index values (start + i)))
+set_sum_below : (values : List ℕ) (start width : ℕ)
+    → ((i : ℕ) → i < width → MayHave (Pair i) (slice_index values (start + i)))
     → IsOfWidth width (set_sum values start width)
 set_sum_below values start zero fit = omega arith
 set_sum_below values start (suc n) fit =
     let before = set_sum_below values start n (λ i h. fit i (omega arith)) in
-    let here : slice_index values (start + n) ≤ 2 ^ n = elim (fit n (omega arith)) [ inl z ↦ omega arith | inr w ↦ omega arith ] in
+    let here : slice_index values (start + n) ≤ 2 ^ n =
+    elim (fit n (omega arith)) [ inl z ↦ omega arith | inr w ↦ omega arith ] in
     let more = sum_listed_more (λ i. slice_index values (start + i)) n in
     subst (λ m. IsOfWidth m (set_sum values start m)) (add-one n) (omega (arith, pow-add 2 n 1))
 
 -- the terms of a set, all taken off
-linear_minus_set : (values : List ℕ) (start width : ℕ) → sum_by (term_value values) (minus_set start width) ≡ (modulus - 1) * set_sum values start width
+linear_minus_set : (values : List ℕ) (start width : ℕ)
+    → sum_by (term_value values) (minus_set start width)
+    ≡ (modulus - 1) * set_sum values start width
 linear_minus_set values start zero = omega arith
 linear_minus_set values start (suc n) =
     let before = linear_minus_set values start n in
-    let terms = sum_by-map-range_with_len_more (term_value values) (λ i. minus (start + i)) 0 n n (omega arith) in
+    let terms = sum_by-map-range_with_len_more (term_value values) (λ i. minus (start + i)) 0 n n
+    (omega arith) in
     let sums = sum_listed_more (λ i. slice_index values (start + i)) n in
-    subst (λ m. sum_by (term_value values) (minus_set start m) ≡ (modulus - 1) * set_sum values start m) (add-one n) (omega arith)
+    subst (λ m. sum_by (term_value values) (minus_set start m)
+    ≡ (modulus - 1) * set_sum values start m) (add-one n) (omega arith)
 
 -- the terms of wires one after another
 pub linear_plus_set : (values : List ℕ) (start count : ℕ)
@@ -73,29 +82,38 @@ pub linear_plus_set : (values : List ℕ) (start count : ℕ)
 linear_plus_set values start zero = omega arith
 linear_plus_set values start (suc n) =
     let before = linear_plus_set values start n in
-    let terms = sum_by-map-range_with_len_more (term_value values) (λ i. plus (start + i)) 0 n n (omega arith) in
+    let terms = sum_by-map-range_with_len_more (term_value values) (λ i. plus (start + i)) 0 n n
+    (omega arith) in
     let sums = sum_listed_more (λ i. slice_index values (start + i)) n in
-    subst (λ m. sum_by (term_value values) (listed (λ i. plus (start + i)) m) ≡ set_sum values start m) (add-one n) (omega arith)
+    subst (λ m. sum_by (term_value values) (listed (λ i. plus (start + i)) m)
+    ≡ set_sum values start m) (add-one n) (omega arith)
 
 -- a row is 0 exactly where the form is what is taken off
 reads_sum : (terms taken constant : ℕ) → taken < modulus
-    → ((terms % modulus + (modulus - 1) * taken % modulus) % modulus + constant) % modulus ≡ 0 → (terms % modulus + constant) % modulus ≡ taken
+    → ((terms % modulus + (modulus - 1) * taken % modulus) % modulus + constant) % modulus ≡ 0
+    → (terms % modulus + constant) % modulus ≡ taken
 reads_sum terms taken constant below nothing = omega arith
 
 takes_sum : (terms taken constant : ℕ) → taken < modulus
-    → (terms % modulus + constant) % modulus ≡ taken → ((terms % modulus + (modulus - 1) * taken % modulus) % modulus + constant) % modulus ≡ 0
+    → (terms % modulus + constant) % modulus ≡ taken
+    → ((terms % modulus + (modulus - 1) * taken % modulus) % modulus + constant) % modulus ≡ 0
 takes_sum terms taken constant below same = omega arith
 
 set_row_is : (form : Form) (start width : ℕ) (values : List ℕ)
     → form_value (set_row form start width) values
-    ≡ ((sum_by (term_value values) form.terms % modulus + (modulus - 1) * set_sum values start width % modulus) % modulus + form.constant) % modulus
+    ≡ ((sum_by (term_value values) form.terms % modulus
+    + (modulus - 1) * set_sum values start width % modulus) % modulus + form.constant) % modulus
 unfolding form_value linear_part
 set_row_is form start width values =
     let whole = linear_part-append form.terms (minus_set start width) values in
     let set = linear_minus_set values start width in
-    ap (λ n. (n + form.constant) % modulus) (whole ∙ ap (λ n. (sum_by (term_value values) form.terms % modulus + n % modulus) % modulus) set)
+    ap (λ n. (n + form.constant) % modulus)
+    (whole ∙ ap (λ n. (sum_by (term_value values) form.terms % modulus + n % modulus) % modulus)
+    set)
 
-form_is : (form : Form) (values : List ℕ) → form_value form values ≡ (sum_by (term_value values) form.terms % modulus + form.constant) % modulus
+form_is : (form : Form) (values : List ℕ)
+    → form_value form values ≡ (sum_by (term_value values) form.terms % modulus + form.constant) %
+    modulus
 unfolding form_value linear_part
 form_is form values = refl
 
@@ -105,21 +123,26 @@ pub set_row_sound : (form : Form) (start width : ℕ) (values : List ℕ) → wi
     → form_value (set_row form start width) values ≡ 0 → IsOfWidth width (form_value form values)
 set_row_sound form start width values small fit nothing =
     let below = set_sum_below values start width fit in
-    let fits : set_sum values start width < modulus = omega (arith, pow_mono {i = width} {j = 60} small) in
-    let same = reads_sum (sum_by (term_value values) form.terms) (set_sum values start width) form.constant fits (sym (set_row_is form start width values) ∙ nothing) in
+    let fits : set_sum values start width < modulus =
+    omega (arith, pow_mono {i = width} {j = 60} small) in
+    let same = reads_sum (sum_by (term_value values) form.terms) (set_sum values start width)
+    form.constant fits (sym (set_row_is form start width values) ∙ nothing) in
     subst (λ n. n < 2 ^ width) (sym (form_is form values ∙ same)) below
 
 -- a bit's part is 0 or the weight
 pub bit_part_fits : (number i : ℕ) → MayHave (Pair i) (bit_part number i)
 bit_part_fits number i = elim (cases_lt (number / 2 ^ i % 2) 1) [
-  | inl q ↦ inl (let e : number / 2 ^ i % 2 ≡ 0 = omega arith in ap (λ b. b * 2 ^ i) e ∙ omega arith)
-  | inr q ↦ inr (let e : number / 2 ^ i % 2 ≡ 1 = omega arith in ap (λ b. b * 2 ^ i) e ∙ omega arith)
+  | inl q ↦ inl (let e : number / 2 ^ i % 2 ≡ 0 = omega arith in
+      ap (λ b. b * 2 ^ i) e ∙ omega arith)
+  | inr q ↦ inr (let e : number / 2 ^ i % 2 ≡ 1 = omega arith in
+      ap (λ b. b * 2 ^ i) e ∙ omega arith)
 ]
 
 pub length_listed : {A : Type 0} (f : ℕ → A) (n : ℕ) → length (listed f n) ≡ n
 length_listed f n = length-map-range_with_len f 0 n
 
-pub at_listed : {A : Type 0} (f : ℕ → A) (n i : ℕ) (d : A) → i < n → slice_index_or (listed f n) i d ≡ f i
+pub at_listed : {A : Type 0} (f : ℕ → A) (n i : ℕ) (d : A) → i < n
+    → slice_index_or (listed f n) i d ≡ f i
 at_listed f n i d h = get_or-map-range_with_len f 0 n i i d h (omega arith)
 
 -- the values of a set are residues
@@ -135,48 +158,61 @@ bit_parts_below number width small k d h =
 pub bit_parts_fit : (number width : ℕ) → FitKinds (test_set width) (bit_parts number width)
 bit_parts_fit number width w h =
     let inside : w < width = omega (arith, length_listed Pair width) in
-    rw (at_listed Pair width w Split inside, at_listed (bit_part number) width w 0 inside) (bit_part_fits number w)
+    rw (at_listed Pair width w Split inside, at_listed (bit_part number) width w 0 inside)
+    (bit_part_fits number w)
 
 -- the sum of values that stand after others
-pub set_sum-after : (values : List ℕ) (f : ℕ → ℕ) (count : ℕ) → set_sum (values ++ listed f count) (length values) count ≡ sum (listed f count)
+pub set_sum-after : (values : List ℕ) (f : ℕ → ℕ) (count : ℕ)
+    → set_sum (values ++ listed f count) (length values) count ≡ sum (listed f count)
 set_sum-after values f count =
     ap sum (listed-same (λ i. slice_index (values ++ listed f count) (length values + i)) f count
     (λ i h. get_or-append-add values (listed f count) i 0 ∙ at_listed f count i 0 h))
 
 -- after any values, the values of a set come to the number
-set_sum_filled : (values : List ℕ) (number width : ℕ) → set_sum (values ++ bit_parts number width) (length values) width ≡ number % 2 ^ width
-set_sum_filled values number width = set_sum-after values (bit_part number) width ∙ sum_bit_parts number width
+set_sum_filled : (values : List ℕ) (number width : ℕ)
+    → set_sum (values ++ bit_parts number width) (length values) width ≡ number % 2 ^ width
+set_sum_filled values number width = set_sum-after values (bit_part number) width
+    ∙ sum_bit_parts number width
 
 -- where the form is a number of the width, the row of a set with the number's values is 0
-pub set_row_filled : (form : Form) (width : ℕ) (values : List ℕ) → width ≤ 60 → NamesBelow (length values) form.terms
+pub set_row_filled : (form : Form) (width : ℕ) (values : List ℕ) → width ≤ 60
+    → NamesBelow (length values) form.terms
     → IsOfWidth width (form_value form values)
-    → form_value (set_row form (length values) width) (values ++ bit_parts (form_value form values) width) ≡ 0
+    → form_value (set_row form (length values) width)
+    (values ++ bit_parts (form_value form values) width) ≡ 0
 set_row_filled form width values small names below =
     let number = form_value form values in
     let whole = values ++ bit_parts number width in
     let set = set_sum_filled values number width ∙ mod-eq_of_lt below in
-    let bound : set_sum whole (length values) width < modulus = omega (arith, pow_mono {i = width} {j = 60} small) in
+    let bound : set_sum whole (length values) width < modulus =
+    omega (arith, pow_mono {i = width} {j = 60} small) in
     let same = form_value_within form values (bit_parts number width) names in
     set_row_is form (length values) width whole
-    ∙ takes_sum (sum_by (term_value whole) form.terms) (set_sum whole (length values) width) form.constant bound (sym (form_is form whole) ∙ same ∙ sym set)
+    ∙ takes_sum (sum_by (term_value whole) form.terms) (set_sum whole (length values) width)
+    form.constant bound (sym (form_is form whole) ∙ same ∙ sym set)
 
 -- what each f i is, each element is
-pub All-listed : {A : Type 0} (P : A → Type 0) (f : ℕ → A) (n : ℕ) → ((i : ℕ) → i < n → P (f i)) → All P (listed f n)
+pub All-listed : {A : Type 0} (P : A → Type 0) (f : ℕ → A) (n : ℕ) → ((i : ℕ) → i < n → P (f i))
+    → All P (listed f n)
 All-listed P f n h k d inside =
     let here : k < n = omega (arith, length_listed f n) in
     subst P (sym (at_listed f n k d here)) (h k here)
 
-pub All-joined : {A : Type 0} (P : A → Type 0) (f : ℕ → List A) (n : ℕ) → ((i : ℕ) → i < n → All P (f i)) → All P (joined f n)
+pub All-joined : {A : Type 0} (P : A → Type 0) (f : ℕ → List A) (n : ℕ)
+    → ((i : ℕ) → i < n → All P (f i)) → All P (joined f n)
 All-joined P f zero h = All-nil P
-All-joined P f (suc n) h = All-append P (joined f n) (f n) (All-joined P f n (λ i l. h i (omega arith))) (h n (omega arith))
+All-joined P f (suc n) h = All-append P (joined f n) (f n)
+    (All-joined P f n (λ i l. h i (omega arith))) (h n (omega arith))
 
 -- lists of one length, one after another
-pub length_joined : {A : Type 0} (f : ℕ → List A) (each n : ℕ) → ((i : ℕ) → length (f i) ≡ each) → length (joined f n) ≡ n * each
+pub length_joined : {A : Type 0} (f : ℕ → List A) (each n : ℕ) → ((i : ℕ) → length (f i) ≡ each)
+    → length (joined f n) ≡ n * each
 length_joined f each zero h = omega arith
 length_joined f each (suc n) h =
     length-append (joined f n) (f n) ∙ omega (arith, length_joined f each n h, h n, suc-mul n each)
 
-pub joined-same : {A : Type 0} (f g : ℕ → List A) (n : ℕ) → ((i : ℕ) → i < n → f i ≡ g i) → joined f n ≡ joined g n
+pub joined-same : {A : Type 0} (f g : ℕ → List A) (n : ℕ) → ((i : ℕ) → i < n → f i ≡ g i)
+    → joined f n ≡ joined g n
 joined-same f g zero h = refl
 joined-same f g (suc n) h = cc (joined-same f g n (λ i l. h i (omega arith)), h n (omega arith))
 
@@ -184,11 +220,13 @@ pub joined_more : {A : Type 0} (f : ℕ → List A) (n : ℕ) → joined f (n + 
 joined_more f n = ap (joined f) (add-one n)
 
 -- the row of a set names the wires of its form and those of the set
-pub set_row_names : (form : Form) (start width : ℕ) → NamesBelow start form.terms → NamesBelow (start + width) (set_row form start width).terms
+pub set_row_names : (form : Form) (start width : ℕ) → NamesBelow start form.terms
+    → NamesBelow (start + width) (set_row form start width).terms
 set_row_names form start width names =
     All-append (λ (term : Term). term.wire < start + width) form.terms (minus_set start width)
     (λ k d h. omega (arith, names k d h))
-    (All-listed (λ (term : Term). term.wire < start + width) (λ i. minus (start + i)) width (λ i h. omega arith))
+    (All-listed (λ (term : Term). term.wire < start + width) (λ i. minus (start + i)) width
+    (λ i h. omega arith))
 
 pub test_set_weights : (width : ℕ) → width ≤ 61 → All HasWeight (test_set width)
 test_set_weights width small = All-listed HasWeight Pair width (λ i h. omega arith)

@@ -37,7 +37,10 @@ minus_set start width = listed (λ i. minus (start + i)) width
 
 -- the form minus each pair of that set: 0 where the form is the sum of the pairs
 abbrev pub set_row : Form → ℕ → ℕ → Form
-set_row form start width = record { terms = form.terms ++ minus_set start width; constant = form.constant }
+set_row form start width = record {
+  terms = form.terms ++ minus_set start width;
+  constant = form.constant;
+}
 
 -- what the pairs of the set that begins at a wire come to
 abbrev pub set_sum : List ℕ → ℕ → ℕ → ℕ

@@ -7,8 +7,8 @@ use std::alloc::Global;
 use vk_plan::{Plan, Relation};
 use vk_residue::{NoMemory, Residue};
 
-/// Appends a copy of each input to a plan of nothing but 1 to 65536 inputs. After a refusal the plan
-/// is as before.
+/// Appends a copy of each input to a plan of nothing but 1 to 65536 inputs. After a refusal the
+/// plan is as before.
 pub fn add_copies(alloc: Global, inputs: u32, plan: &mut Plan) -> Result<(), NoMemory>
     requires most { inputs ≤ 65536 }
     requires plan { plan.old ≡ plan_of_inputs inputs }

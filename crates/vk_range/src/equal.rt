@@ -26,7 +26,8 @@ impl Relation for Equal {
 
     ghost filled = { λ _ _. [] };
 
-    ghost sound = { λ r plan values _ fits holds. equal_sound plan r.left r.right values fits.0 fits.1 holds };
+    ghost sound = { λ r plan values _ fits holds. equal_sound plan r.left r.right values fits.0
+        fits.1 holds };
 
     ghost complete = { λ r plan values own fits holds same.
         equal_complete plan r.left r.right values own fits.0 fits.1 holds same };
@@ -75,8 +76,9 @@ impl Relation for SumIs {
     }
 }
 
-/// A new wire of any value, equal to the named one. As a relation it says nothing of the wires before: that the
-/// copy has the value of the wire is what its row says, and it is from the row that a proof takes it.
+/// A new wire of any value, equal to the named one. As a relation it says nothing of the wires
+/// before: that the copy has the value of the wire is what its row says, and it is from the row
+/// that a proof takes it.
 #[derive(Clone, Copy, Debug)]
 pub struct Copied {
     pub wire: u32,

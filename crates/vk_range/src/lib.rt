@@ -1,5 +1,5 @@
-//! Relations between the values of wires: what may be appended to a plan, with what it shows and what
-//! its own wires are filled with.
+//! Relations between the values of wires: what may be appended to a plan, with what it shows and
+//! what its own wires are filled with.
 #![tactic(auto)]
 
 mod copies;

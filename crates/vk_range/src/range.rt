@@ -27,7 +27,8 @@ impl Relation for InRange {
 
     ghost filled = { λ r values. bit_parts (form_value r.form values) r.width };
 
-    ghost sound = { λ r plan values _ fits holds. in_range_sound plan r.form r.width values fits holds };
+    ghost sound = { λ r plan values _ fits holds. in_range_sound plan r.form r.width values fits
+        holds };
 
     ghost complete = { λ r plan values own fits holds below.
         in_range_complete plan r.form r.width values own fits holds below };
@@ -54,15 +55,19 @@ pub struct AtLeast {
 }
 
 impl Relation for AtLeast {
-    ghost fits = { λ r plan. (r.left < length plan.kinds) × (r.right < length plan.kinds) × (1 ≤ r.width) × (r.width ≤ 40) };
+    ghost fits = { λ r plan. (r.left < length plan.kinds) × (r.right < length plan.kinds)
+        × (1 ≤ r.width) × (r.width ≤ 40) };
 
     ghost wires = { λ r _. test_set r.width };
 
-    ghost rows = { λ r start. set_row (difference_form r.left r.right r.strict) start r.width ∷ [] };
+    ghost rows = { λ r start. set_row (difference_form r.left r.right r.strict) start r.width
+        ∷ [] };
 
-    ghost true_of = { λ r values. IsOfWidth r.width (form_value (difference_form r.left r.right r.strict) values) };
+    ghost true_of = { λ r values.
+        IsOfWidth r.width (form_value (difference_form r.left r.right r.strict) values) };
 
-    ghost filled = { λ r values. bit_parts (form_value (difference_form r.left r.right r.strict) values) r.width };
+    ghost filled = { λ r values.
+        bit_parts (form_value (difference_form r.left r.right r.strict) values) r.width };
 
     ghost sound = { λ r plan values _ fits holds.
         at_least_sound plan r.left r.right r.strict r.width values fits.0 fits.1 fits.2 fits.3 holds };
@@ -89,7 +94,8 @@ impl AtLeast {
     fn number(&self, values: &[Residue]) -> Residue
         requires left { self.now.left < length values.now }
         requires right { self.now.right < length values.now }
-        ensures { result ≡ form_value (difference_form self.now.left self.now.right self.now.strict) values.now }
+        ensures { result ≡ form_value (difference_form self.now.left self.now.right self.now.strict)
+            values.now }
     {
         let terms = [plus_wire(self.left), minus_wire(self.right)];
         sum_of_terms(&terms, values).add(constant_of(self.strict))

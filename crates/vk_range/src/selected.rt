@@ -11,8 +11,8 @@ use vk_plan::{Form, Plan, Relation, Term, WireKind};
 use vk_residue::{NoMemory, Residue};
 use vk_seq::Seq;
 
-/// For some listed place, its wire less the value is below 2^width, and for every other listed place
-/// 2^width - 1 less the value plus its wire is. With 1 to 63 wires, and a width of 1 to 40.
+/// For some listed place, its wire less the value is below 2^width, and for every other listed
+/// place 2^width - 1 less the value plus its wire is. With 1 to 63 wires, and a width of 1 to 40.
 #[derive(Debug, Drop)]
 pub struct SelectedIs {
     pub wires: Seq<u32>,
@@ -170,9 +170,11 @@ impl SelectedIs {
         requires some_width { 1 ≤ self.now.width }
         requires most_width { self.now.width ≤ 40 }
         requires room { IsPlan (extended plan.old (test_set self.now.width)
-            (set_row (place_form self.now start place) (length plan.old.kinds) self.now.width ∷ [])) }
+            (set_row (place_form self.now start place) (length plan.old.kinds) self.now.width
+            ∷ [])) }
         ensures added { OnOk result (plan.new ≡ extended plan.old (test_set self.now.width)
-            (set_row (place_form self.now start place) (length plan.old.kinds) self.now.width ∷ [])) }
+            (set_row (place_form self.now start place) (length plan.old.kinds) self.now.width
+            ∷ [])) }
         ensures as_before { OnErr result (plan.new ≡ plan.old) }
     {
         let form = self.form(alloc, start, place)?;
@@ -195,7 +197,11 @@ fn selector_wires(alloc: Global, count: u32) -> Result<Vec<WireKind>, NoMemory>
 /// The sum of that many wires from one on, less 1.
 fn selector_form(alloc: Global, start: u32, count: u32) -> Result<Form, NoMemory>
     requires { start + count < 4294967296 }
-    ensures { IfOk result (λ form. form ≡ record { terms = listed (λ place. plus (start + place)) count; constant = 2305843009213693950 }) }
+    ensures { IfOk result (λ form. form
+        ≡ record {
+          terms = listed (λ place. plus (start + place)) count;
+          constant = 2305843009213693950;
+        }) }
 {
     let mut terms = Vec::new(alloc);
     for place in 0..count {

@@ -55,7 +55,8 @@ pub fn one_term(
     factor: Residue,
     constant: Residue,
 ) -> Result<Form, NoMemory>
-    ensures { IfOk result (λ form. form ≡ record { terms = record { wire = wire; factor = factor } ∷ []; constant = constant }) }
+    ensures { IfOk result (λ form. form
+        ≡ record { terms = record { wire = wire; factor = factor } ∷ []; constant = constant }) }
 {
     let mut terms = Vec::new(alloc);
     terms.push(Term { wire, factor })?;
@@ -104,7 +105,8 @@ fn row_of_set(alloc: Global, form: &Form, start: u32, width: u32) -> Result<Form
     })
 }
 
-/// Appends a test set and the row that makes the form its sum. After a refusal the plan is as before.
+/// Appends a test set and the row that makes the form its sum. After a refusal the plan is as
+/// before.
 pub(crate) fn add_set(
     alloc: Global,
     plan: &mut Plan,
@@ -112,9 +114,11 @@ pub(crate) fn add_set(
     width: u32,
 ) -> Result<(), NoMemory>
     requires width { width ≤ 40 }
-    requires room { IsPlan (extended plan.old (test_set width) (set_row form.now (length plan.old.kinds) width ∷ [])) }
+    requires room { IsPlan (extended plan.old (test_set width)
+        (set_row form.now (length plan.old.kinds) width ∷ [])) }
     ensures added { OnOk result
-        (plan.new ≡ extended plan.old (test_set width) (set_row form.now (length plan.old.kinds) width ∷ [])) }
+        (plan.new ≡ extended plan.old (test_set width)
+        (set_row form.now (length plan.old.kinds) width ∷ [])) }
     ensures as_before { OnErr result (plan.new ≡ plan.old) }
 {
     let start = plan.wires();
@@ -136,7 +140,8 @@ fn part(number: Residue, i: u32) -> Residue
     }
 }
 
-/// Appends the values of a test set that come to the number. After a refusal the values are as before.
+/// Appends the values of a test set that come to the number. After a refusal the values are as
+/// before.
 pub(crate) fn push_parts(
     values: &mut Vec<Residue>,
     number: Residue,

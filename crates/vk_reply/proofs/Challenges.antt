@@ -19,10 +19,12 @@ abbrev challenge_of : List Bool → Challenge
 challenge_of bits = record { bits = bits }
 
 abbrev BitsOf : Challenge → Type 0
-BitsOf challenge = ((1 ≤ length challenge.bits) × (length challenge.bits ≤ 64)) × (challenge ≡ challenge_of challenge.bits)
+BitsOf challenge = ((1 ≤ length challenge.bits) × (length challenge.bits ≤ 64))
+    × (challenge ≡ challenge_of challenge.bits)
 
 abbrev bits_and_end : Challenge → List ℕ
-bits_and_end challenge = line (spaced (codes "bits" ∷ bits_text challenge.bits ∷ [])) ++ line (codes "end")
+bits_and_end challenge = line (spaced (codes "bits" ∷ bits_text challenge.bits ∷ []))
+    ++ line (codes "end")
 
 abbrev bits_at : Rest → Result (Challenge × Rest) ℕ
 bits_at rest =
@@ -32,14 +34,19 @@ bits_at rest =
 
 bits_whole : IsWhole BitsOf bits_and_end bits_at
 bits_whole =
-    whole_then {IsZ = λ bits challenge. challenge ≡ challenge_of bits} {text_z = λ bits challenge. line (codes "end")} (λ challenge. challenge.bits)
-    (line_part bits_line_is) (λ bits _. whole_end (challenge_of bits)) (λ bits challenge same. ap (λ c. c.bits) same)
+    whole_then {IsZ = λ bits challenge. challenge ≡ challenge_of bits}
+    {text_z = λ bits challenge. line (codes "end")} (λ challenge. challenge.bits)
+    (line_part bits_line_is) (λ bits _. whole_end (challenge_of bits))
+    (λ bits challenge same. ap (λ c. c.bits) same)
 
-challenge_whole : IsWhole (λ challenge. Unit {0} × BitsOf challenge) (λ challenge. line (codes "vickrey-challenge 1") ++ bits_and_end challenge) challenge_at
+challenge_whole : IsWhole (λ challenge. Unit {0} × BitsOf challenge)
+    (λ challenge. line (codes "vickrey-challenge 1") ++ bits_and_end challenge) challenge_at
 unfolding challenge_at
 challenge_whole =
-    whole_then {X = Unit {0}} {IsZ = λ _ challenge. BitsOf challenge} {text_z = λ _ challenge. bits_and_end challenge} (λ challenge. tt)
-    (line_part (fixed_line (codes "vickrey-challenge 1") refl (omega arith))) (λ heading _. bits_whole) (λ heading challenge is. refl)
+    whole_then {X = Unit {0}} {IsZ = λ _ challenge. BitsOf challenge}
+    {text_z = λ _ challenge. bits_and_end challenge} (λ challenge. tt)
+    (line_part (fixed_line (codes "vickrey-challenge 1") refl (omega arith)))
+    (λ heading _. bits_whole) (λ heading challenge is. refl)
 
 pub challenge_is_whole : IsWhole IsChallenge challenge_text challenge_at
 unfolding challenge_text
@@ -52,9 +59,13 @@ challenge_is_whole =
 pub challenge_ends : FindsFaults challenge_table Heading challenge_at
 unfolding challenge_at
 challenge_ends =
-    ends_then challenge_table Heading (line_follows challenge_table Heading _ (λ _. Bits) (λ text. refl) refl) (λ heading.
-    ends_then challenge_table Bits (line_follows challenge_table Bits _ (λ _. Last) (λ text. refl) refl) (λ bits.
-    ends_done challenge_table Last (challenge_of bits) (end_ends challenge_table Last Over (λ text. refl) refl (λ text. refl) refl)))
+    ends_then challenge_table Heading
+    (line_follows challenge_table Heading _ (λ _. Bits) (λ text. refl) refl) (λ heading.
+    ends_then challenge_table Bits
+    (line_follows challenge_table Bits _ (λ _. Last) (λ text. refl) refl) (λ bits.
+    ends_done challenge_table Last (challenge_of bits)
+    (end_ends challenge_table Last Over (λ text. refl) refl (λ text. refl) refl)))
 
-pub challenge_fault : (bytes : List ℕ) → fault_line challenge_table bytes ≡ result_err (whole challenge_at bytes)
+pub challenge_fault : (bytes : List ℕ)
+    → fault_line challenge_table bytes ≡ result_err (whole challenge_at bytes)
 challenge_fault bytes = fault_line_is challenge_table challenge_at challenge_ends bytes

@@ -26,7 +26,8 @@ abbrev IsCount : ℕ → Type 0
 IsCount lanes = (1 ≤ lanes) × (lanes ≤ 64)
 
 head_part : IsPart (λ lanes. (lanes ≤ 64) × (nat_le 1 lanes ≡ true))
-    (λ lanes. line (codes "vickrey-reply 1") ++ line (spaced (codes "lanes" ∷ decimal lanes ∷ []))) reply_head_at
+    (λ lanes. line (codes "vickrey-reply 1") ++ line (spaced (codes "lanes" ∷ decimal lanes ∷ [])))
+    reply_head_at
 unfolding reply_head_at
 head_part =
     part_headed (codes "vickrey-reply 1") refl (omega arith)
@@ -45,28 +46,41 @@ head_is_part =
 abbrev wires_text : List Shown → List ℕ
 wires_text shown = flat_map (λ one. line (shown_text one)) shown
 
-wires_part : (kinds : List WireKind) (bit : Bool) → IsPart (λ shown. (length shown ≡ length kinds) × AreWires kinds bit shown) wires_text (wires_at kinds bit)
-wires_part kinds bit = many_part (length kinds) (λ before. line_part (shown_line_is (slice_index_or kinds (length before) Split) bit))
+wires_part : (kinds : List WireKind) (bit : Bool)
+    → IsPart (λ shown. (length shown ≡ length kinds) × AreWires kinds bit shown) wires_text
+    (wires_at kinds bit)
+wires_part kinds bit = many_part (length kinds)
+    (λ before. line_part (shown_line_is (slice_index_or kinds (length before) Split) bit))
 
 between : (lane number : ℕ) → number ≤ lane → nat_le lane number ≡ true → lane ≡ number
 between lane number most test = let least = leb-true lane number test in omega arith
 
 lane_part : (lane : ℕ) (kinds : List WireKind) (bit : Bool) → lane < 2 ^ 64
-    → IsPart (λ shown. ((lane ≤ lane) × (nat_le lane lane ≡ true)) × ((lane ≡ lane) × ((length shown ≡ length kinds) × AreWires kinds bit shown)))
-    (λ shown. line (spaced (codes "lane" ∷ decimal lane ∷ [])) ++ wires_text shown) (reply_lane_at lane kinds bit)
+    → IsPart (λ shown. ((lane ≤ lane) × (nat_le lane lane ≡ true))
+    × ((lane ≡ lane) × ((length shown ≡ length kinds) × AreWires kinds bit shown)))
+    (λ shown. line (spaced (codes "lane" ∷ decimal lane ∷ [])) ++ wires_text shown)
+    (reply_lane_at lane kinds bit)
 unfolding reply_lane_at
 lane_part lane kinds bit fits =
-    part_then {IsZ = λ number shown. (lane ≡ number) × ((length shown ≡ length kinds) × AreWires kinds bit shown)} {text_z = λ _ shown. wires_text shown} (λ shown. lane)
+    part_then {IsZ = λ number shown. (lane ≡ number)
+    × ((length shown ≡ length kinds) × AreWires kinds bit shown)}
+    {text_z = λ _ shown. wires_text shown} (λ shown. lane)
     (line_part (number_line_is (codes "lane") lane lane refl (omega arith) fits))
-    (λ number is. part_same (wires_part kinds bit) (λ shown wires. (between lane number is.0 is.1, wires)) (λ shown wires. wires.1) (λ shown. refl))
+    (λ number is. part_same (wires_part kinds bit)
+    (λ shown wires. (between lane number is.0 is.1, wires)) (λ shown wires. wires.1)
+    (λ shown. refl))
     (λ number shown is. is.0)
 
-pub lane_is_part : (lane : ℕ) (kinds : List WireKind) (bit : Bool) → lane < 2 ^ 64 → IsPart (AreShown kinds bit) (reply_lane_text lane) (reply_lane_at lane kinds bit)
+pub lane_is_part : (lane : ℕ) (kinds : List WireKind) (bit : Bool) → lane < 2 ^ 64
+    → IsPart (AreShown kinds bit) (reply_lane_text lane) (reply_lane_at lane kinds bit)
 unfolding reply_lane_text
 lane_is_part lane kinds bit fits =
     part_same (lane_part lane kinds bit fits)
     (λ shown is. to_shown kinds bit shown is.1.1.0 is.1.1.1)
-    (λ shown is. ((omega arith, le-leb lane lane (omega arith)), (refl, (is.one_each, from_shown kinds bit shown is))))
+    (λ shown is. (
+      (omega arith, le-leb lane lane (omega arith)),
+      (refl, (is.one_each, from_shown kinds bit shown is)),
+    ))
     (λ shown. refl)
 
 -- ---- a reply and its text
@@ -75,7 +89,9 @@ abbrev IsLane : List WireKind → (ℕ → Bool) → ℕ → List Shown → Type
 IsLane kinds bit_of lane shown = AreShown kinds (bit_of lane) shown
 
 abbrev LanesOf : List WireKind → (ℕ → Bool) → ℕ → List (List Shown) → Type 0
-LanesOf kinds bit_of count lanes = ((length lanes ≡ count) × EachAfter (λ before. IsLane kinds bit_of (length before + 1)) [] lanes) × (lanes ≡ lanes)
+LanesOf kinds bit_of count lanes =
+    ((length lanes ≡ count) × EachAfter (λ before. IsLane kinds bit_of (length before + 1)) []
+    lanes) × (lanes ≡ lanes)
 
 abbrev lanes_and_end : List (List Shown) → List ℕ
 lanes_and_end lanes = numbered_text reply_lane_text 1 lanes ++ line (codes "end")
@@ -89,28 +105,38 @@ lanes_at kinds bit_of count rest =
 small_lane : (lane : ℕ) → lane ≤ 64 → lane < 2 ^ 64
 small_lane lane few = omega arith
 
-lanes_whole : (kinds : List WireKind) (bit_of : ℕ → Bool) (count : ℕ) → count ≤ 64 → IsWhole (LanesOf kinds bit_of count) lanes_and_end (lanes_at kinds bit_of count)
+lanes_whole : (kinds : List WireKind) (bit_of : ℕ → Bool) (count : ℕ) → count ≤ 64
+    → IsWhole (LanesOf kinds bit_of count) lanes_and_end (lanes_at kinds bit_of count)
 lanes_whole kinds bit_of count few =
-    whole_then {IsZ = λ read lanes. lanes ≡ read} {text_z = λ read lanes. line (codes "end")} (λ lanes. lanes)
-    (numbered_part {IsValue = IsLane kinds bit_of} {text = reply_lane_text} {read = λ lane. reply_lane_at lane kinds (bit_of lane)} 64 count few (λ lane small. lane_is_part lane kinds (bit_of lane) (small_lane lane small)))
+    whole_then {IsZ = λ read lanes. lanes ≡ read} {text_z = λ read lanes. line (codes "end")}
+    (λ lanes. lanes)
+    (numbered_part {IsValue = IsLane kinds bit_of} {text = reply_lane_text}
+    {read = λ lane. reply_lane_at lane kinds (bit_of lane)} 64 count few
+    (λ lane small. lane_is_part lane kinds (bit_of lane) (small_lane lane small)))
     (λ lanes _. whole_end lanes) (λ read lanes same. same)
 
 reply_whole : (kinds : List WireKind) (bit_of : ℕ → Bool)
-    → IsWhole (λ lanes. IsCount (length lanes) × LanesOf kinds bit_of (length lanes) lanes) (λ lanes. reply_head_text (length lanes) ++ lanes_and_end lanes) (reply_at kinds bit_of)
+    → IsWhole (λ lanes. IsCount (length lanes) × LanesOf kinds bit_of (length lanes) lanes)
+    (λ lanes. reply_head_text (length lanes) ++ lanes_and_end lanes) (reply_at kinds bit_of)
 unfolding reply_at
 reply_whole kinds bit_of =
-    whole_then {IsZ = λ count lanes. LanesOf kinds bit_of count lanes} {text_z = λ _ lanes. lanes_and_end lanes} (λ lanes. length lanes)
+    whole_then {IsZ = λ count lanes. LanesOf kinds bit_of count lanes}
+    {text_z = λ _ lanes. lanes_and_end lanes} (λ lanes. length lanes)
     head_is_part (λ count is. lanes_whole kinds bit_of count is.1) (λ count lanes is. is.0.0)
 
 -- each lane at its place
-to_lanes : (kinds : List WireKind) (bit_of : ℕ → Bool) (lanes : List (List Shown)) → EachAfter (λ before. IsLane kinds bit_of (length before + 1)) [] lanes
-    → (index : ℕ) (shown : List Shown) → slice_get lanes index ≡ Some shown → IsLane kinds bit_of (index + 1) shown
+to_lanes : (kinds : List WireKind) (bit_of : ℕ → Bool) (lanes : List (List Shown))
+    → EachAfter (λ before. IsLane kinds bit_of (length before + 1)) [] lanes
+    → (index : ℕ) (shown : List Shown) → slice_get lanes index ≡ Some shown
+    → IsLane kinds bit_of (index + 1) shown
 to_lanes kinds bit_of lanes each index shown is =
     let same : 0 + index + 1 ≡ index + 1 = omega arith in
     let L : ℕ → Type 0 = λ lane. IsLane kinds bit_of lane shown in
     subst L same (at_from_each (λ n. IsLane kinds bit_of (n + 1)) [] lanes each index shown is)
 
-from_lanes : (kinds : List WireKind) (bit_of : ℕ → Bool) (lanes : List (List Shown)) → ((index : ℕ) (shown : List Shown) → slice_get lanes index ≡ Some shown → IsLane kinds bit_of (index + 1) shown)
+from_lanes : (kinds : List WireKind) (bit_of : ℕ → Bool) (lanes : List (List Shown))
+    → ((index : ℕ) (shown : List Shown) → slice_get lanes index ≡ Some shown
+    → IsLane kinds bit_of (index + 1) shown)
     → EachAfter (λ before. IsLane kinds bit_of (length before + 1)) [] lanes
 from_lanes kinds bit_of lanes at =
     each_from_at (λ n. IsLane kinds bit_of (n + 1)) [] lanes (λ index shown is.
@@ -118,69 +144,101 @@ from_lanes kinds bit_of lanes at =
     let L : ℕ → Type 0 = λ lane. IsLane kinds bit_of lane shown in
     subst L same (at index shown is))
 
-pub reply_is_whole : (kinds : List WireKind) (bit_of : ℕ → Bool) → IsWhole (IsReply kinds bit_of) reply_text (reply_at kinds bit_of)
+pub reply_is_whole : (kinds : List WireKind) (bit_of : ℕ → Bool)
+    → IsWhole (IsReply kinds bit_of) reply_text (reply_at kinds bit_of)
 unfolding reply_text
 reply_is_whole kinds bit_of =
     whole_same (reply_whole kinds bit_of)
-    (λ lanes is. record { count = record { least = is.0.0; most = is.0.1 }; each = to_lanes kinds bit_of lanes is.1.0.1 })
-    (λ lanes is. ((is.count.least, is.count.most), ((refl, from_lanes kinds bit_of lanes is.each), refl)))
+    (λ lanes is. record {
+      count = record { least = is.0.0; most = is.0.1 };
+      each = to_lanes kinds bit_of lanes is.1.0.1;
+    })
+    (λ lanes is. (
+      (is.count.least, is.count.most),
+      ((refl, from_lanes kinds bit_of lanes is.each), refl),
+    ))
     (λ lanes. refl)
 
 -- ---- the fault line
 
-follows_same : {P X : Type 0} {table : Table P} {place : P} {read : Rest → Result (X × Rest) ℕ} {after next : X → P} → Follows table place read after → ((x : X) → after x ≡ next x) → Follows table place read next
+follows_same : {P X : Type 0} {table : Table P} {place : P} {read : Rest → Result (X × Rest) ℕ}
+    {after next : X → P} → Follows table place read after → ((x : X) → after x ≡ next x)
+    → Follows table place read next
 follows_same {table = table} follows same = record {
   ok = λ rest x more some. follows.ok rest x more some ∙ ap (λ p. fault_at table p more) (same x);
   err = λ rest number none. follows.err rest number none;
 }
 
 -- what is left of a list begins with the item there
-drop_is : {X : Type 0} (xs : List X) (i : ℕ) (d x : X) (after : List X) → drop i xs ≡ x ∷ after → (get_or xs i d ≡ x) × (drop (suc i) xs ≡ after)
+drop_is : {X : Type 0} (xs : List X) (i : ℕ) (d x : X) (after : List X) → drop i xs ≡ x ∷ after
+    → (get_or xs i d ≡ x) × (drop (suc i) xs ≡ after)
 drop_is [] zero d x after is = cc
 drop_is [] (suc i) d x after is = cc
 drop_is (y ∷ xs) zero d x after is = (cc, cc)
 drop_is (y ∷ xs) (suc i) d x after is = drop_is xs i d x after is
 
-wires_follow : (kinds : List WireKind) (bit_of : ℕ → Bool) (lane more : ℕ) (before : List Shown) (left : List WireKind) → drop (length before) kinds ≡ left
-    → Follows (reply_table kinds bit_of) (before_wires lane more left) (many_onto before (length left) (wire_at kinds (bit_of lane))) (λ _. Lane (lane + 1) more)
+wires_follow : (kinds : List WireKind) (bit_of : ℕ → Bool) (lane more : ℕ) (before : List Shown)
+    (left : List WireKind) → drop (length before) kinds ≡ left
+    → Follows (reply_table kinds bit_of) (before_wires lane more left)
+    (many_onto before (length left) (wire_at kinds (bit_of lane))) (λ _. Lane (lane + 1) more)
 unfolding many_onto
-wires_follow kinds bit_of lane more before [] is = follows_done (reply_table kinds bit_of) (λ _. Lane (lane + 1) more) before
+wires_follow kinds bit_of lane more before [] is =
+    follows_done (reply_table kinds bit_of) (λ _. Lane (lane + 1) more) before
 wires_follow kinds bit_of lane more before (kind ∷ after) is =
     let here = drop_is kinds (length before) Split kind after is in
     let table : Table ReplyPlace = reply_table kinds bit_of in
     follows_then table (Wire lane more kind after)
-    (line_follows table (Wire lane more kind after) (shown_line (slice_index_or kinds (length before) Split) (bit_of lane)) (λ _. before_wires lane more after)
-    (λ text. ap (λ k. option_map (λ _. before_wires lane more after) (shown_line k (bit_of lane) text)) (sym here.0)) refl)
+    (line_follows table (Wire lane more kind after)
+    (shown_line (slice_index_or kinds (length before) Split) (bit_of lane))
+    (λ _. before_wires lane more after)
+    (λ text. ap (λ k. option_map (λ _. before_wires lane more after)
+    (shown_line k (bit_of lane) text)) (sym here.0)) refl)
     (λ one.
-    let long : length (before ++ one ∷ []) ≡ suc (length before) = omega (arith, length-append before (one ∷ [])) in
-    wires_follow kinds bit_of lane more (before ++ one ∷ []) after (ap (λ n. drop n kinds) long ∙ here.1))
+    let long : length (before ++ one ∷ []) ≡ suc (length before) =
+    omega (arith, length-append before (one ∷ [])) in
+    wires_follow kinds bit_of lane more (before ++ one ∷ []) after
+    (ap (λ n. drop n kinds) long ∙ here.1))
 
-lane_follows : (kinds : List WireKind) (bit_of : ℕ → Bool) (lane more : ℕ) → Follows (reply_table kinds bit_of) (Lane lane (suc more)) (reply_lane_at lane kinds (bit_of lane)) (λ _. Lane (lane + 1) more)
+lane_follows : (kinds : List WireKind) (bit_of : ℕ → Bool) (lane more : ℕ)
+    → Follows (reply_table kinds bit_of) (Lane lane (suc more))
+    (reply_lane_at lane kinds (bit_of lane)) (λ _. Lane (lane + 1) more)
 unfolding reply_lane_at
 lane_follows kinds bit_of lane more =
     follows_then (reply_table kinds bit_of) (Lane lane (suc more))
-    (line_follows (reply_table kinds bit_of) (Lane lane (suc more)) (lane_line lane) (λ _. before_wires lane more kinds) (λ text. refl) refl)
+    (line_follows (reply_table kinds bit_of) (Lane lane (suc more)) (lane_line lane)
+    (λ _. before_wires lane more kinds) (λ text. refl) refl)
     (λ number. wires_follow kinds bit_of lane more [] kinds refl)
 
-lanes_follow : (kinds : List WireKind) (bit_of : ℕ → Bool) (count : ℕ) → Follows (reply_table kinds bit_of) (Lane 1 count) (reply_lanes_at kinds bit_of count) (λ lanes. Lane (length lanes + 1) zero)
+lanes_follow : (kinds : List WireKind) (bit_of : ℕ → Bool) (count : ℕ)
+    → Follows (reply_table kinds bit_of) (Lane 1 count) (reply_lanes_at kinds bit_of count)
+    (λ lanes. Lane (length lanes + 1) zero)
 lanes_follow kinds bit_of count =
-    many_follows (reply_table kinds bit_of) (λ left before. Lane (length before + 1) left) (λ before. reply_lane_at (length before + 1) kinds (bit_of (length before + 1)))
+    many_follows (reply_table kinds bit_of) (λ left before. Lane (length before + 1) left)
+    (λ before. reply_lane_at (length before + 1) kinds (bit_of (length before + 1)))
     (λ left before. follows_same (lane_follows kinds bit_of (length before + 1) left) (λ shown.
-    let next : length before + 1 + 1 ≡ length (before ++ shown ∷ []) + 1 = omega (arith, length-append before (shown ∷ [])) in ap (λ lane. Lane lane left) next))
+    let next : length before + 1 + 1 ≡ length (before ++ shown ∷ []) + 1 =
+    omega (arith, length-append before (shown ∷ [])) in ap (λ lane. Lane lane left) next))
     count []
 
-head_follows : (kinds : List WireKind) (bit_of : ℕ → Bool) → Follows (reply_table kinds bit_of) Heading reply_head_at (Lane 1)
+head_follows : (kinds : List WireKind) (bit_of : ℕ → Bool)
+    → Follows (reply_table kinds bit_of) Heading reply_head_at (Lane 1)
 unfolding reply_head_at
 head_follows kinds bit_of =
-    follows_then (reply_table kinds bit_of) Heading (line_follows (reply_table kinds bit_of) Heading _ (λ _. Count) (λ text. refl) refl)
+    follows_then (reply_table kinds bit_of) Heading
+    (line_follows (reply_table kinds bit_of) Heading _ (λ _. Count) (λ text. refl) refl)
     (λ heading. line_follows (reply_table kinds bit_of) Count _ (Lane 1) (λ text. refl) refl)
 
-pub reply_ends : (kinds : List WireKind) (bit_of : ℕ → Bool) → FindsFaults (reply_table kinds bit_of) Heading (reply_at kinds bit_of)
+pub reply_ends : (kinds : List WireKind) (bit_of : ℕ → Bool)
+    → FindsFaults (reply_table kinds bit_of) Heading (reply_at kinds bit_of)
 unfolding reply_at
 reply_ends kinds bit_of =
     ends_then (reply_table kinds bit_of) Heading (head_follows kinds bit_of) (λ count.
     ends_then (reply_table kinds bit_of) (Lane 1 count) (lanes_follow kinds bit_of count) (λ lanes.
-    ends_done (reply_table kinds bit_of) (Lane (length lanes + 1) zero) lanes (end_ends (reply_table kinds bit_of) (Lane (length lanes + 1) zero) Over (λ text. refl) refl (λ text. refl) refl)))
+    ends_done (reply_table kinds bit_of) (Lane (length lanes + 1) zero) lanes
+    (end_ends (reply_table kinds bit_of) (Lane (length lanes + 1) zero) Over (λ text. refl) refl
+    (λ text. refl) refl)))
 
-pub reply_fault : (kinds : List WireKind) (bit_of : ℕ → Bool) (bytes : List ℕ) → fault_line (reply_table kinds bit_of) bytes ≡ result_err (whole (reply_at kinds bit_of) bytes)
-reply_fault kinds bit_of bytes = fault_line_is (reply_table kinds bit_of) (reply_at kinds bit_of) (reply_ends kinds bit_of) bytes
+pub reply_fault : (kinds : List WireKind) (bit_of : ℕ → Bool) (bytes : List ℕ)
+    → fault_line (reply_table kinds bit_of) bytes ≡ result_err (whole (reply_at kinds bit_of) bytes)
+reply_fault kinds bit_of bytes =
+    fault_line_is (reply_table kinds bit_of) (reply_at kinds bit_of) (reply_ends kinds bit_of) bytes

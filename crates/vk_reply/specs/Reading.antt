@@ -1,5 +1,5 @@
--- How a challenge and a reply are read, line by line. The laws say that this is exactly their texts, and
--- stops at the fault line.
+-- How a challenge and a reply are read, line by line. The laws say that this is exactly their
+-- texts, and stops at the fault line.
 use Rattle.std.specs.Prelude.{ℕ, ◌+◌, Bool, true, false, List, length, codes, slice_index_or, Option, option_map, Result, Ok}
 use Rattle.vk_residue.specs.Steps.{◌>>=◌}
 use Rattle.vk_commit.specs.declared.place.Opening.{Opening}
@@ -34,7 +34,8 @@ abbrev pub openings_by : List ℕ → ℕ → List ℕ → ℕ → Opening × Op
 openings_by key value next_key next_value = (opening_by key value, opening_by next_key next_value)
 
 abbrev pub whole_line : List ℕ → Option Shown
-whole_line text = option_map whole_by (four_fields (codes "a") (hex_of 32) residue_of (hex_of 32) residue_of openings_by text)
+whole_line text = option_map whole_by
+    (four_fields (codes "a") (hex_of 32) residue_of (hex_of 32) residue_of openings_by text)
 
 abbrev pub spent_by : Bool × Opening → Shown
 spent_by entry = Spent entry.0 entry.1
@@ -43,7 +44,8 @@ abbrev pub entry_by : Bool → List ℕ → ℕ → Bool × Opening
 entry_by second key value = (second, opening_by key value)
 
 abbrev pub spent_line : List ℕ → Option Shown
-spent_line text = option_map spent_by (three_fields (codes "s") entry_of (hex_of 32) residue_of entry_by text)
+spent_line text = option_map spent_by
+    (three_fields (codes "s") entry_of (hex_of 32) residue_of entry_by text)
 
 -- the line of a wire of this kind for this bit
 abbrev pub shown_line : WireKind → Bool → List ℕ → Option Shown
@@ -65,7 +67,8 @@ lane_line lane text = number_line (codes "lane") lane lane text
 
 -- the line of the wire after those before
 abbrev pub wire_at : List WireKind → Bool → List Shown → Rest → Result (Shown × Rest) ℕ
-wire_at kinds bit before rest = line_by (shown_line (slice_index_or kinds (length before) Split) bit) rest
+wire_at kinds bit before rest =
+    line_by (shown_line (slice_index_or kinds (length before) Split) bit) rest
 
 -- one line for each wire
 abbrev pub wires_at : List WireKind → Bool → Rest → Result (List Shown × Rest) ℕ
@@ -78,9 +81,11 @@ reply_lane_at lane kinds bit rest =
     wires_at kinds bit number.1
 
 -- so many lanes, from lane 1 on
-abbrev pub reply_lanes_at : List WireKind → (ℕ → Bool) → ℕ → Rest → Result (List (List Shown) × Rest) ℕ
+abbrev pub reply_lanes_at : List WireKind → (ℕ → Bool) → ℕ → Rest
+    → Result (List (List Shown) × Rest) ℕ
 reply_lanes_at kinds bit_of count rest =
-    many_at count (λ before. reply_lane_at (length before + 1) kinds (bit_of (length before + 1))) rest
+    many_at count (λ before. reply_lane_at (length before + 1) kinds (bit_of (length before + 1)))
+    rest
 
 -- a reply
 unfoldable pub reply_at : List WireKind → (ℕ → Bool) → Rest → Result (List (List Shown) × Rest) ℕ

@@ -20,12 +20,16 @@ challenge_text challenge =
     ++ (line (spaced (codes "bits" ∷ bits_text challenge.bits ∷ []))
     ++ line (codes "end"))
 
--- `h`, a key, a value; `a`, the key and the value of the first entry, and those of the second; or `s`, `0` or
--- `1` for the first or the second entry, its key, its value
+-- `h`, a key, a value; `a`, the key and the value of the first entry, and those of the second; or
+-- `s`, `0` or `1` for the first or the second entry, its key, its value
 abbrev pub shown_text : Shown → List ℕ
 shown_text (Half opening) = spaced (codes "h" ∷ hex_text opening.key ∷ decimal opening.value ∷ [])
-shown_text (Whole first second) = spaced (codes "a" ∷ hex_text first.key ∷ decimal first.value ∷ hex_text second.key ∷ decimal second.value ∷ [])
-shown_text (Spent second opening) = spaced (codes "s" ∷ (bit_character second ∷ []) ∷ hex_text opening.key ∷ decimal opening.value ∷ [])
+shown_text (Whole first second) =
+    spaced (codes "a" ∷ hex_text first.key ∷ decimal first.value ∷ hex_text second.key
+    ∷ decimal second.value ∷ [])
+shown_text (Spent second opening) =
+    spaced (codes "s" ∷ (bit_character second ∷ []) ∷ hex_text opening.key ∷ decimal opening.value
+    ∷ [])
 
 -- the lines before the first lane
 unfoldable pub reply_head_text : ℕ → List ℕ

@@ -27,7 +27,8 @@ bits_line text = one_field (codes "bits") bits_of text
 
 -- `0` for the first entry, `1` for the second
 abbrev pub entry_of : List ℕ → Option Bool
-entry_of text = if bytes_eq text (codes "0") then Some false else (if bytes_eq text (codes "1") then Some true else None)
+entry_of text = if bytes_eq text (codes "0") then Some false
+    else (if bytes_eq text (codes "1") then Some true else None)
 
 abbrev pub opening_by : List ℕ → ℕ → Opening
 opening_by key value = record { key = key; value = value }

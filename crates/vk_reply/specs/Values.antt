@@ -27,9 +27,12 @@ pub record IsShown (kind : WireKind) (bit : Bool) (shown : Shown) : Type 0 where
 -- what is shown of a lane for this bit: one for each wire, each of its kind
 pub record AreShown (kinds : List WireKind) (bit : Bool) (shown : List Shown) : Type 0 where
   pub one_each : length shown ≡ length kinds
-  pub each : (wire : ℕ) (kind : WireKind) (one : Shown) → slice_get kinds wire ≡ Some kind → slice_get shown wire ≡ Some one → IsShown kind bit one
+  pub each : (wire : ℕ) (kind : WireKind) (one : Shown) → slice_get kinds wire ≡ Some kind
+      → slice_get shown wire ≡ Some one → IsShown kind bit one
 
 -- a reply: what is shown of each of up to 64 lanes, of which the first is lane 1, each for its bit
-pub record IsReply (kinds : List WireKind) (bit_of : ℕ → Bool) (lanes : List (List Shown)) : Type 0 where
-  pub count : IsLaneCount (length lanes)
-  pub each : (index : ℕ) (shown : List Shown) → slice_get lanes index ≡ Some shown → AreShown kinds (bit_of (index + 1)) shown
+pub record IsReply (kinds : List WireKind) (bit_of : ℕ → Bool) (lanes : List (List Shown)) : Type 0
+  where
+    pub count : IsLaneCount (length lanes)
+    pub each : (index : ℕ) (shown : List Shown) → slice_get lanes index ≡ Some shown
+        → AreShown kinds (bit_of (index + 1)) shown

@@ -16,10 +16,12 @@ pub fn challenges_are_read_from_their_texts_alone()
 
 /// A law: where a file is no challenge, reading stops at its fault line.
 pub fn reading_a_challenge_stops_at_the_fault_line()
-    ensures { (bytes : List ℕ) → fault_line challenge_table bytes ≡ result_err (whole challenge_at bytes) }
+    ensures { (bytes : List ℕ)
+        → fault_line challenge_table bytes ≡ result_err (whole challenge_at bytes) }
 {}
 
-/// A law: the number of a reply's lanes, 1 to 64, is read from the lines of its text, and from no other.
+/// A law: the number of a reply's lanes, 1 to 64, is read from the lines of its text, and from no
+/// other.
 pub fn reply_heads_are_read_from_their_texts_alone()
     ensures { IsPart (λ lanes. (1 ≤ lanes) × (lanes ≤ 64)) reply_head_text reply_head_at }
 {}
@@ -39,7 +41,8 @@ pub fn replies_are_read_from_their_texts_alone()
 /// A law: where a file is no reply, reading stops at its fault line.
 pub fn reading_a_reply_stops_at_the_fault_line()
     ensures { (kinds : List WireKind) (bit_of : ℕ → Bool) (bytes : List ℕ)
-        → fault_line (reply_table kinds bit_of) bytes ≡ result_err (whole (reply_at kinds bit_of) bytes) }
+        → fault_line (reply_table kinds bit_of) bytes
+        ≡ result_err (whole (reply_at kinds bit_of) bytes) }
 {}
 
 /// A law: a file has no fault line exactly where it is the text of a challenge.

@@ -20,15 +20,16 @@ use vk_plan::{Plan, WireKind};
 use vk_seq::Seq;
 use vk_wire::Shown;
 
-/// Reads a challenge's file whole. Malformed carries the number of the first line that isn't what its
-/// place demands.
+/// Reads a challenge's file whole. Malformed carries the number of the first line that isn't what
+/// its place demands.
 pub fn read_challenge<S: Shelf>(
     alloc: Global,
     shelf: &mut S,
     lines: &mut Lines,
 ) -> Result<Challenge, ReadErr>
     ensures modelled { ReadsPart challenge_at (S.held shelf.old) lines.old lines.new result }
-    ensures answers { AnswersWhole IsChallenge challenge_text challenge_table (S.held shelf.old) lines.old result }
+    ensures answers { AnswersWhole IsChallenge challenge_text challenge_table (S.held shelf.old)
+        lines.old result }
     ensures right { IfOk result IsChallenge }
     ensures file { KeepsFile lines.old lines.new }
     ensures shelf { OnlyReads S.held S.Shelf.faults ReadErr.Failed result shelf.old shelf.new }
@@ -84,8 +85,8 @@ fn read_bits<S: Shelf>(
     bits
 }
 
-/// Reads the lines of a reply before its first lane: the number of lanes, 1 to 64. Malformed carries
-/// the number of the first line that isn't what its place demands.
+/// Reads the lines of a reply before its first lane: the number of lanes, 1 to 64. Malformed
+/// carries the number of the first line that isn't what its place demands.
 #[tactic(auto, unfolding(crate::specs::Reading::reply_head_at))]
 pub fn read_reply_head<S: Shelf>(shelf: &mut S, lines: &mut Lines) -> Result<u32, ReadErr>
     ensures modelled { ReadsPart reply_head_at (S.held shelf.old) lines.old lines.new result }
@@ -98,9 +99,9 @@ pub fn read_reply_head<S: Shelf>(shelf: &mut S, lines: &mut Lines) -> Result<u32
     Ok(count as u32)
 }
 
-/// Reads the lines of one lane of a reply: its number, counted from 1, and what is shown of each wire
-/// of the plan for the bit. Malformed carries the number of the first line that isn't what its place
-/// demands, as one of another form than the wire's kind and the bit ask for.
+/// Reads the lines of one lane of a reply: its number, counted from 1, and what is shown of each
+/// wire of the plan for the bit. Malformed carries the number of the first line that isn't what its
+/// place demands, as one of another form than the wire's kind and the bit ask for.
 #[tactic(auto, unfolding(crate::specs::Reading::reply_lane_at))]
 pub fn read_reply_lane<S: Shelf>(
     alloc: Global,
@@ -110,7 +111,8 @@ pub fn read_reply_lane<S: Shelf>(
     plan: &Plan,
     bit: bool,
 ) -> Result<Seq<Shown>, ReadErr>
-    ensures modelled { ReadsPart (reply_lane_at lane plan.now.kinds bit) (S.held shelf.old) lines.old lines.new result }
+    ensures modelled { ReadsPart (reply_lane_at lane plan.now.kinds bit) (S.held shelf.old)
+        lines.old lines.new result }
     ensures right { IfOk result (AreShown plan.now.kinds bit) }
     ensures file { KeepsFile lines.old lines.new }
     ensures shelf { OnlyReads S.held S.Shelf.faults ReadErr.Failed result shelf.old shelf.new }
@@ -128,7 +130,8 @@ fn read_wires<S: Shelf>(
     plan: &Plan,
     bit: bool,
 ) -> Result<Seq<Shown>, ReadErr>
-    ensures modelled { ReadsPart (wires_at plan.now.kinds bit) (S.held shelf.old) lines.old lines.new result }
+    ensures modelled { ReadsPart (wires_at plan.now.kinds bit) (S.held shelf.old) lines.old
+        lines.new result }
     ensures right { IfOk result (AreShown plan.now.kinds bit) }
     ensures file { KeepsFile lines.old lines.new }
     ensures shelf { OnlyReads S.held S.Shelf.faults ReadErr.Failed result shelf.old shelf.new }
@@ -154,9 +157,11 @@ impl<'a> LineKind for WireLine<'a> {
 
     ghost most = { λ kind. length kind.plan.now.kinds };
 
-    ghost item_of = { λ kind wire text. shown_line (slice_index_or kind.plan.now.kinds wire Split) kind.bit text };
+    ghost item_of = { λ kind wire text. shown_line (slice_index_or kind.plan.now.kinds wire Split)
+        kind.bit text };
 
-    ghost is_item = { λ kind wire shown. IsShown (slice_index_or kind.plan.now.kinds wire Split) kind.bit shown };
+    ghost is_item = { λ kind wire shown. IsShown (slice_index_or kind.plan.now.kinds wire Split)
+        kind.bit shown };
 
     fn read(&self, number: u32, text: &[u8]) -> Option<Shown> {
         let shown = shown_of(kind_of(self.plan, number), self.bit, text);

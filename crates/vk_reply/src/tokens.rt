@@ -36,8 +36,8 @@ fn bits_field(text: &[u8]) -> Option<&[u8]>
     Some(field)
 }
 
-/// The bits that a text is, `None` where it isn't 1 to 64 of the characters `0` and `1`. Errs for want
-/// of memory alone.
+/// The bits that a text is, `None` where it isn't 1 to 64 of the characters `0` and `1`. Errs for
+/// want of memory alone.
 pub fn bits_of(alloc: Global, text: &[u8]) -> Result<Option<Seq<bool>>, ReadErr>
     ensures value { IfOk result (λ bits. bits ≡ bits_of text.now) }
     ensures memory { IfErr result (λ e. e ≡ ReadErr.NoMemory) }

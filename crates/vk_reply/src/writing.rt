@@ -26,7 +26,8 @@ pub fn challenge_text(alloc: Global, challenge: &Challenge) -> Result<Vec<u8>, N
 
 /// Appends the line of a challenge's bits.
 fn push_bits_line(out: &mut Vec<u8>, bits: &[bool]) -> Result<(), NoMemory>
-    ensures { OnOk result (out.new.items ≡ out.old.items ++ line (spaced (codes "bits" ∷ bits_text bits.now ∷ []))) }
+    ensures { OnOk result (out.new.items
+        ≡ out.old.items ++ line (spaced (codes "bits" ∷ bits_text bits.now ∷ []))) }
 {
     out.extend_from_slice(b"bits ")?;
     push_bits(out, bits)?;
@@ -58,7 +59,8 @@ pub fn reply_lane_text(alloc: Global, lane: u32, shown: &[Shown]) -> Result<Vec<
 
 /// Appends the line of each wire.
 fn push_wires(out: &mut Vec<u8>, shown: &[Shown]) -> Result<(), NoMemory>
-    ensures { OnOk result (out.new.items ≡ out.old.items ++ flat_map (λ one. line (shown_text one)) shown.now) }
+    ensures { OnOk result (out.new.items
+        ≡ out.old.items ++ flat_map (λ one. line (shown_text one)) shown.now) }
 {
     for one in shown {
         push_shown(out, one)?;

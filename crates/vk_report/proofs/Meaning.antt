@@ -27,7 +27,8 @@ use Rattle.vk_report.specs.Meaning.{auction_shape, IsReportOn}
 
 -- ---- results one after another
 
-then_ok : {A B : Type 0} (r : Result A ReportErr) (f : A → Result B ReportErr) (y : B) → (r >>= f) ≡ Ok y → (x : A) × (r ≡ Ok x) × (f x ≡ Ok y)
+then_ok : {A B : Type 0} (r : Result A ReportErr) (f : A → Result B ReportErr) (y : B)
+    → (r >>= f) ≡ Ok y → (x : A) × (r ≡ Ok x) × (f x ≡ Ok y)
 then_ok (Ok x) f y h = (x, refl, h)
 then_ok (Err fault) f y h = cc
 
@@ -44,13 +45,16 @@ in_ok : {X : Type 0} (r : Result X ℕ) (x : X) → in_board r ≡ Ok x → r �
 in_ok (Ok y) x h = ap (λ z. Ok z) (given y x h)
 in_ok (Err line) x h = cc
 
-passed_ok : {X : Type 0} (r : Result (X × Rest) ℕ) (done : Unit {0}) (after : Rest) → passed r ≡ Ok (done, after) → (x : X) × (r ≡ Ok (x, after))
-passed_ok (Ok read) done after h = (read.0, ap (λ p. Ok (read.0, p.1)) (ok_same (tt, read.1) (done, after) h))
+passed_ok : {X : Type 0} (r : Result (X × Rest) ℕ) (done : Unit {0}) (after : Rest)
+    → passed r ≡ Ok (done, after) → (x : X) × (r ≡ Ok (x, after))
+passed_ok (Ok read) done after h =
+    (read.0, ap (λ p. Ok (read.0, p.1)) (ok_same (tt, read.1) (done, after) h))
 passed_ok (Err line) done after h = cc
 
 -- ---- the parts of a board, and the board
 
-record AreParts (rest : Rest) (head : Head) (seals : List SealLines) (lanes : List LaneLines) (over : Rest) : Type 0 where
+record AreParts (rest : Rest) (head : Head) (seals : List SealLines) (lanes : List LaneLines)
+    (over : Rest) : Type 0 where
   pub after_head : Rest
   pub after_seals : Rest
   pub after_lanes : Rest
@@ -59,24 +63,40 @@ record AreParts (rest : Rest) (head : Head) (seals : List SealLines) (lanes : Li
   pub lanes_are : lanes_at auction_shape head after_seals ≡ Ok (lanes, after_lanes)
   pub end_is : end_at after_lanes ≡ Ok (tt, over)
 
-board_joined : (rest : Rest) (head : Head) (seals : List SealLines) (lanes : List LaneLines) (over : Rest) → AreParts rest head seals lanes over
+board_joined : (rest : Rest) (head : Head) (seals : List SealLines) (lanes : List LaneLines)
+    (over : Rest) → AreParts rest head seals lanes over
     → board_at auction_shape rest ≡ Ok (board_with head seals lanes, over)
 unfolding board_at
-board_joined rest head seals lanes over are = rw (are.head_is, are.seals_are, are.lanes_are, are.end_is) refl
+board_joined rest head seals lanes over are =
+    rw (are.head_is, are.seals_are, are.lanes_are, are.end_is) refl
 
-parts_of : (rest over last : Rest) (head : Head) (seals : List SealLines) (lanes : List LaneLines) (board : Board) → AreParts rest head seals lanes last
-    → ◌≡◌ {A = Result (Board × Rest) ℕ} (Ok (board_with head seals lanes, last)) (Ok (board, over)) → AreParts rest board.head board.seals board.lanes over
+parts_of : (rest over last : Rest) (head : Head) (seals : List SealLines) (lanes : List LaneLines)
+    (board : Board) → AreParts rest head seals lanes last
+    → ◌≡◌ {A = Result (Board × Rest) ℕ} (Ok (board_with head seals lanes, last)) (Ok (board, over))
+    → AreParts rest board.head board.seals board.lanes over
 parts_of rest over last head seals lanes board are same =
     let P : Board × Rest → Type 0 = λ p. AreParts rest p.0.head p.0.seals p.0.lanes p.1 in
     subst P (ok_same (board_with head seals lanes, last) (board, over) same) are
 
-board_parts : (rest : Rest) (board : Board) (over : Rest) → board_at auction_shape rest ≡ Ok (board, over) → AreParts rest board.head board.seals board.lanes over
+board_parts : (rest : Rest) (board : Board) (over : Rest)
+    → board_at auction_shape rest ≡ Ok (board, over)
+    → AreParts rest board.head board.seals board.lanes over
 unfolding board_at
 board_parts rest board over some =
-    let head = bind_ok (head_at rest) (λ head. ◌>>=◌ (seals_at head.0 head.1) (λ seals. ◌>>=◌ (lanes_at auction_shape head.0 seals.1) (λ lanes. ◌>>=◌ (end_at lanes.1) (λ last. Ok (board_with head.0 seals.0 lanes.0, last.1))))) (board, over) some in
-    let seals = bind_ok (seals_at head.0.0 head.0.1) (λ seals. ◌>>=◌ (lanes_at auction_shape head.0.0 seals.1) (λ lanes. ◌>>=◌ (end_at lanes.1) (λ last. Ok (board_with head.0.0 seals.0 lanes.0, last.1)))) (board, over) head.2 in
-    let lanes = bind_ok (lanes_at auction_shape head.0.0 seals.0.1) (λ lanes. ◌>>=◌ (end_at lanes.1) (λ last. Ok (board_with head.0.0 seals.0.0 lanes.0, last.1))) (board, over) seals.2 in
-    let last = bind_ok (end_at lanes.0.1) (λ last. Ok (board_with head.0.0 seals.0.0 lanes.0.0, last.1)) (board, over) lanes.2 in
+    let head = bind_ok (head_at rest)
+    (λ head. ◌>>=◌ (seals_at head.0 head.1)
+    (λ seals. ◌>>=◌ (lanes_at auction_shape head.0 seals.1)
+    (λ lanes. ◌>>=◌ (end_at lanes.1) (λ last. Ok (board_with head.0 seals.0 lanes.0, last.1)))))
+    (board, over) some in
+    let seals = bind_ok (seals_at head.0.0 head.0.1)
+    (λ seals. ◌>>=◌ (lanes_at auction_shape head.0.0 seals.1)
+    (λ lanes. ◌>>=◌ (end_at lanes.1)
+    (λ last. Ok (board_with head.0.0 seals.0 lanes.0, last.1)))) (board, over) head.2 in
+    let lanes = bind_ok (lanes_at auction_shape head.0.0 seals.0.1)
+    (λ lanes. ◌>>=◌ (end_at lanes.1)
+    (λ last. Ok (board_with head.0.0 seals.0.0 lanes.0, last.1))) (board, over) seals.2 in
+    let last = bind_ok (end_at lanes.0.1)
+    (λ last. Ok (board_with head.0.0 seals.0.0 lanes.0.0, last.1)) (board, over) lanes.2 in
     parts_of rest over last.0.1 head.0.0 seals.0.0 lanes.0.0 board (record {
       after_head = head.0.1;
       after_seals = seals.0.1;
@@ -89,11 +109,20 @@ board_parts rest board over some =
 
 -- ---- the report and the board
 
-report_joined : (rest : Rest) (front : Front) (lanes : List LaneLines) (over : Rest) → AreParts rest front.head front.seals lanes over
-    → price_stands front.head ≡ true → placed front.head.winner front.seals ≡ Some front.position → report_at rest ≡ Ok (report_with front)
+report_joined : (rest : Rest) (front : Front) (lanes : List LaneLines) (over : Rest)
+    → AreParts rest front.head front.seals lanes over
+    → price_stands front.head ≡ true → placed front.head.winner front.seals ≡ Some front.position
+    → report_at rest ≡ Ok (report_with front)
 unfolding report_at
 report_joined rest front lanes over are price winner =
-    let read = front_at_found rest front are.after_seals (record { middle = are.after_head; head_read = are.head_is; seals_read = are.seals_are; price = price; winner = winner }) in
+    let read = front_at_found rest front are.after_seals
+    (record {
+      middle = are.after_head;
+      head_read = are.head_is;
+      seals_read = are.seals_are;
+      price = price;
+      winner = winner;
+    }) in
     rw (read, are.lanes_are, are.end_is) refl
 
 -- a report, and the board that it is of
@@ -106,13 +135,20 @@ record IsReportOfBoard (rest : Rest) (report : Report) : Type 0 where
   pub board_is : board_at auction_shape rest ≡ Ok (board_with front.head front.seals lanes, over)
   pub report_is : report ≡ report_with front
 
-board_shown : (rest : Rest) (report : Report) → report_at rest ≡ Ok report → IsReportOfBoard rest report
+board_shown : (rest : Rest) (report : Report) → report_at rest ≡ Ok report
+    → IsReportOfBoard rest report
 unfolding report_at
 board_shown rest report some =
-    let front = then_ok (in_front (front_at rest)) (λ front. in_board (lanes_passed (report_with front.0) front.1) >>= λ lanes. in_board (end_at lanes.1) >>= λ over. Ok (report_with front.0)) report some in
-    let lanes = then_ok (in_board (lanes_passed (report_with front.0.0) front.0.1)) (λ lanes. in_board (end_at lanes.1) >>= λ over. Ok (report_with front.0.0)) report front.2 in
-    let over = then_ok (in_board (end_at lanes.0.1)) (λ over. Ok (report_with front.0.0)) report lanes.2 in
-    let read = passed_ok (lanes_at auction_shape front.0.0.head front.0.1) lanes.0.0 lanes.0.1 (in_ok (lanes_passed (report_with front.0.0) front.0.1) lanes.0 lanes.1) in
+    let front = then_ok (in_front (front_at rest))
+    (λ front. in_board (lanes_passed (report_with front.0) front.1) >>= λ lanes.
+    in_board (end_at lanes.1) >>= λ over. Ok (report_with front.0)) report some in
+    let lanes = then_ok (in_board (lanes_passed (report_with front.0.0) front.0.1))
+    (λ lanes. in_board (end_at lanes.1) >>= λ over. Ok (report_with front.0.0)) report front.2
+    in
+    let over = then_ok (in_board (end_at lanes.0.1)) (λ over. Ok (report_with front.0.0)) report
+    lanes.2 in
+    let read = passed_ok (lanes_at auction_shape front.0.0.head front.0.1) lanes.0.0 lanes.0.1
+    (in_ok (lanes_passed (report_with front.0.0) front.0.1) lanes.0 lanes.1) in
     let is = front_at_shown rest front.0.0 front.0.1 (front_ok (front_at rest) front.0 front.1) in
     record {
       front = front.0.0;
@@ -138,17 +174,23 @@ started_by : (test : Bool) (bytes : List ℕ) (rest : Rest) → nat_lt (2 ^ 30) 
     → in_start (if test then Err TooLong else Ok (record { taken = 0; left = bytes })) ≡ Ok rest
     → (length bytes ≤ 2 ^ 30) × (record { taken = 0; left = bytes } ≡ rest)
 started_by true bytes rest is some = cc
-started_by false bytes rest is some = (grind (arith, nat_tests, is), given (record { taken = 0; left = bytes }) rest some)
+started_by false bytes rest is some =
+    (grind (arith, nat_tests, is), given (record { taken = 0; left = bytes }) rest some)
 
 started_shown : (told : Option (List ℕ)) (rest : Rest) → in_start (started told) ≡ Ok rest
-    → (bytes : List ℕ) × (told ≡ Some bytes) × (length bytes ≤ 2 ^ 30) × (record { taken = 0; left = bytes } ≡ rest)
+    → (bytes : List ℕ) × (told ≡ Some bytes) × (length bytes ≤ 2 ^ 30)
+    × (record { taken = 0; left = bytes } ≡ rest)
 started_shown None rest some = cc
-started_shown (Some bytes) rest some = let is = started_by (nat_lt (2 ^ 30) (length bytes)) bytes rest refl some in (bytes, refl, is.0, is.1)
+started_shown (Some bytes) rest some = let is =
+    started_by (nat_lt (2 ^ 30) (length bytes)) bytes rest refl some in (bytes, refl, is.0, is.1)
 
-pub started_found : (bytes : List ℕ) → length bytes ≤ 2 ^ 30 → in_start (started (Some bytes)) ≡ Ok (record { taken = 0; left = bytes })
-started_found bytes short = let no : nat_lt (2 ^ 30) (length bytes) ≡ false = grind (arith, nat_tests, short) in rw no refl
+pub started_found : (bytes : List ℕ) → length bytes ≤ 2 ^ 30
+    → in_start (started (Some bytes)) ≡ Ok (record { taken = 0; left = bytes })
+started_found bytes short = let no : nat_lt (2 ^ 30) (length bytes) ≡ false =
+    grind (arith, nat_tests, short) in rw no refl
 
-pub reported : (files : Files) (name : List ℕ) (report : Report) → report_on files name ≡ Ok report → IsReportOn files name report
+pub reported : (files : Files) (name : List ℕ) (report : Report) → report_on files name ≡ Ok report
+    → IsReportOn files name report
 unfolding report_on
 reported files name report some =
     let start = then_ok (in_start (started (get files name))) report_at report some in
@@ -157,7 +199,8 @@ reported files name report some =
     let is = board_shown rest report (ap report_at held.3 ∙ start.2) in
     let board : Board = board_with is.front.head is.front.seals is.lanes in
     let whole = (board_is_whole auction_shape).shown rest board is.over is.board_is in
-    let front = front_right is.front.head is.front.seals is.front.position whole.0.head whole.0.seals is.front_is.price is.front_is.winner in
+    let front = front_right is.front.head is.front.seals is.front.position whole.0.head
+    whole.0.seals is.front_is.price is.front_is.winner in
     record {
       file = held.0;
       held = held.1;
@@ -172,7 +215,8 @@ reported files name report some =
       };
     }
 
-pub is_reported : (files : Files) (name : List ℕ) (report : Report) → IsReportOn files name report → report_on files name ≡ Ok report
+pub is_reported : (files : Files) (name : List ℕ) (report : Report) → IsReportOn files name report
+    → report_on files name ≡ Ok report
 unfolding report_on
 is_reported files name report is =
     let publishes = is.holds in
@@ -184,5 +228,6 @@ is_reported files name report is =
     let front : Front = front_with board.head board.seals winner.0 in
     ap (λ told. in_start (started told) >>= report_at) is.held
     ∙ ap (λ begins. begins >>= report_at) (started_found is.file is.short)
-    ∙ report_joined rest front board.lanes read.0 parts (price_found board.head publishes.price) winner.1
+    ∙ report_joined rest front board.lanes read.0 parts (price_found board.head publishes.price)
+    winner.1
     ∙ ap (λ made. Ok made) (sym publishes.report_is)

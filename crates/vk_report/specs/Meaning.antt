@@ -19,9 +19,13 @@ use Rattle.vk_report.specs.Reports.{IsWinnerOf, head_numbers, report_of, report_
 
 -- how many wires after the inputs, and how many rows, each lane of the auction has
 abbrev pub auction_shape : Head → Shape
-auction_shape head = record { wires = board_wire_count (head_numbers head) - head.seals; rows = board_row_count (head_numbers head) }
+auction_shape head = record {
+  wires = board_wire_count (head_numbers head) - head.seals;
+  rows = board_row_count (head_numbers head);
+}
 
--- the file is the text of a board whose price and winner may stand, and the report says what it publishes
+-- the file is the text of a board whose price and winner may stand, and the report says what it
+-- publishes
 pub record Publishes (file : List ℕ) (report : Report) : Type 0 where
   pub board : Board
   pub text : file ≡ board_text board
@@ -42,22 +46,25 @@ abbrev pub IsReportOn : Files → List ℕ → Report → Type 0
 IsReportOn files name report = HoldsOfNamed files name (λ file. Publishes file report)
 
 abbrev pub ReportedExactly : Type 0
-ReportedExactly = (files : Files) (name : List ℕ) (report : Report) → (report_on files name ≡ Ok report) ↔ IsReportOn files name report
+ReportedExactly = (files : Files) (name : List ℕ) (report : Report)
+    → (report_on files name ≡ Ok report) ↔ IsReportOn files name report
 
 -- ---- why a file isn't reported on
 
--- the file begins with what stands before the first lane of a board, and its price and its winner may stand
+-- the file begins with what stands before the first lane of a board, and its price and its winner
+-- may stand
 pub record HasSomeFront (file : List ℕ) : Type 0 where
   pub front : Front
   pub right : IsFront front
   pub more : List ℕ
   pub text : file ≡ front_text front ++ more
 
--- the file has that fault line as a board; and it doesn't begin with a head and its seals, or its price and its
--- winner may stand
+-- the file has that fault line as a board; and it doesn't begin with a head and its seals, or its
+-- price and its winner may stand
 pub record BoardFails (file : List ℕ) (line : ℕ) : Type 0 where
   pub fault : fault_line (board_table auction_shape) file ≡ Some line
-  pub place : ((head : Head) (seals : List SealLines) → ¬ Begins file head seals) ⊎ HasSomeFront file
+  pub place : ((head : Head) (seals : List SealLines) → ¬ Begins file head seals)
+      ⊎ HasSomeFront file
 
 -- the refusal holds of the file's bytes
 abbrev pub ReportFails : ReportErr → List ℕ → Type 0
@@ -73,16 +80,20 @@ ReportFails NoMemory file = ⊥
 abbrev pub FailsIn : Files → List ℕ → ReportErr → Type 0
 FailsIn files name refusal = HoldsOfNamed files name (ReportFails refusal)
 
--- the named file isn't reported on: none is held, it has more than 2^30 bytes, or the refusal holds of its bytes
+-- the named file isn't reported on: none is held, it has more than 2^30 bytes, or the refusal holds
+-- of its bytes
 abbrev pub IsUnreported : Files → List ℕ → ReportErr → Type 0
 IsUnreported files name Missing = get files name ≡ None
-IsUnreported files name TooLong = (file : List ℕ) × (get files name ≡ Some file) × (2 ^ 30 < length file)
+IsUnreported files name TooLong = (file : List ℕ) × (get files name ≡ Some file)
+    × (2 ^ 30 < length file)
 IsUnreported files name refusal = FailsIn files name refusal
 
 -- bytes are refused exactly for what holds of them
 abbrev pub RefusedExactly : Type 0
-RefusedExactly = (refusal : ReportErr) (file : List ℕ) → (report_at (record { taken = 0; left = file }) ≡ Err refusal) ↔ ReportFails refusal file
+RefusedExactly = (refusal : ReportErr) (file : List ℕ)
+    → (report_at (record { taken = 0; left = file }) ≡ Err refusal) ↔ ReportFails refusal file
 
 -- so is a named file
 abbrev pub UnreportedExactly : Type 0
-UnreportedExactly = (files : Files) (name : List ℕ) (refusal : ReportErr) → (report_on files name ≡ Err refusal) ↔ IsUnreported files name refusal
+UnreportedExactly = (files : Files) (name : List ℕ) (refusal : ReportErr)
+    → (report_on files name ≡ Err refusal) ↔ IsUnreported files name refusal

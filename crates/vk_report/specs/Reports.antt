@@ -47,10 +47,11 @@ in_front (Err (fronts.Malformed line)) = Err (Malformed line)
 in_front (Err fronts.Price) = Err Price
 in_front (Err fronts.Winner) = Err Winner
 
--- the numbers that a head publishes. What is counted doesn't ask where the winner's seal stands, so the seat stands for
--- its place
+-- the numbers that a head publishes. What is counted doesn't ask where the winner's seal stands, so
+-- the seat stands for its place
 abbrev pub head_numbers : Head → BoardNumbers
-head_numbers head = board_numbers head.version head.seals head.width head.reserve (sale_at head.winner head.price)
+head_numbers head = board_numbers head.version head.seals head.width head.reserve
+    (sale_at head.winner head.price)
 
 -- what a board with this head and these seals publishes; wires and rows are those of one lane
 abbrev pub report_of : Head → List SealLines → Report

@@ -1,4 +1,5 @@
--- The sample of a number: an auction with all its bids and seeds and with two challenges, made of the number alone.
+-- The sample of a number: an auction with all its bids and seeds and with two challenges, made of
+-- the number alone.
 use Rattle.std.specs.Prelude.{◌≡◌, ◌≢◌, ◌⊎◌, ℕ, ◌+◌, ◌^◌, ◌<◌, ◌≤◌, ◌==◌, if◌then◌else◌, Bool, not, List, [], ◌∷◌, ◌++◌, length, map, slice_index, take, codes, All, AllPairs}
 use Rattle.std.specs.Int.{w16, w32, w64, to_be_bytes, from_be_bytes}
 use Rattle.std.specs.List.{range_with_len}
@@ -12,7 +13,8 @@ use Rattle.vk_report.specs.declared.sample.Sizes.{Sizes}
 
 -- ---- what a number gives
 
--- 13 bytes: four letters, a number (below 2^64) as 8 bytes big-endian, and a byte that tells what is made of them
+-- 13 bytes: four letters, a number (below 2^64) as 8 bytes big-endian, and a byte that tells what
+-- is made of them
 unfoldable pub message_of : List ℕ → ℕ → ℕ → List ℕ
 message_of letters number byte = letters ++ to_be_bytes w64 number ++ byte ∷ []
 
@@ -52,10 +54,12 @@ seat_of seal = 100 + seal
 abbrev pub bidder_seed : Sizes → ℕ → ℕ → List ℕ
 bidder_seed sizes number seal = digest_at sizes.letters number (16 + seal)
 
--- the number of the first bytes of a digest, big-endian: of 1 where the width is 8, of 2 where it is 16, and else of 4
+-- the number of the first bytes of a digest, big-endian: of 1 where the width is 8, of 2 where it
+-- is 16, and else of 4
 abbrev pub front_number : ℕ → List ℕ → ℕ
 front_number width digest =
-    if width == 8 then slice_index digest 0 else if width == 16 then from_be_bytes w16 (take 2 digest) else from_be_bytes w32 (take 4 digest)
+    if width == 8 then slice_index digest 0 else if width == 16
+    then from_be_bytes w16 (take 2 digest) else from_be_bytes w32 (take 4 digest)
 
 unfoldable pub bid_of : Sizes → ℕ → ℕ → ℕ
 bid_of sizes number seal = front_number sizes.width (digest_at sizes.letters number (64 + seal))
@@ -86,8 +90,8 @@ case_of sizes number = record {
 abbrev pub sample_of : ℕ → SampleCase
 sample_of = case_of auction_sizes
 
--- an id and a seed; a seat, a bidder's seed and a bid for each seal, the seats from 101 on and all different;
--- and two challenges with a bit for each lane, the second with the other bit in each
+-- an id and a seed; a seat, a bidder's seed and a bid for each seal, the seats from 101 on and all
+-- different; and two challenges with a bit for each lane, the second with the other bit in each
 pub record IsCase (case : SampleCase) : Type 0 where
   pub size : IsSize case.width case.lanes
   pub id : AreBytes 16 case.auction

@@ -8,8 +8,8 @@ use std::alloc::Global;
 use vk_residue::NoMemory;
 use vk_seq::Seq;
 
-/// The first `count` bits of the 256 that a digest has, the most significant of each byte first. Errs for
-/// want of memory alone.
+/// The first `count` bits of the 256 that a digest has, the most significant of each byte first.
+/// Errs for want of memory alone.
 pub fn leading_bits(alloc: Global, digest: &[u8; 32], count: u32) -> Result<Seq<bool>, NoMemory>
     ensures { IfOk result (λ bits. bits ≡ leading_bits count digest.now) }
 {

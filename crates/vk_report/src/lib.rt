@@ -1,4 +1,5 @@
-//! What a board publishes, as a report that is made with its whole file read; and the sample of a number.
+//! What a board publishes, as a report that is made with its whole file read; and the sample of a
+//! number.
 #![tactic(auto)]
 
 mod bits;

@@ -48,8 +48,8 @@ fn rows_of(head: &Head) -> u32
     board_row_count(head.version, head.seals, head.reserve, sale)
 }
 
-/// What the head tells of the sale. The counts don't ask where the winner's seal stands, so the seat stands for its
-/// place.
+/// What the head tells of the sale. The counts don't ask where the winner's seal stands, so the
+/// seat stands for its place.
 fn sale_in(head: &Head) -> Sale
     ensures { result ≡ sale_at head.now.winner head.now.price }
 {
@@ -64,7 +64,8 @@ fn read_lanes<S: Shelf>(
     report: &Report,
 ) -> Result<(), ReadErr>
     requires { IsReport report.now }
-    ensures modelled { ReadsPart (lanes_passed report.now) (S.held shelf.old) lines.old lines.new result }
+    ensures modelled { ReadsPart (lanes_passed report.now) (S.held shelf.old) lines.old lines.new
+        result }
     ensures shelf { OnlyReads S.held S.Shelf.faults ReadErr.Failed result shelf.old shelf.new }
 {
     let wires = report.wires - report.head.seals;
@@ -97,9 +98,9 @@ fn read_board<S: Shelf>(
 
 /// Reports what the named board publishes, with the whole file read.
 ///
-/// Errs where the file is missing or longer than 2^30 bytes; with the first of its faults, in the order
-/// of the lines of its head and its seals, the price, the winner, and the lines of its lanes and its end;
-/// where the shelf fails; and for want of memory.
+/// Errs where the file is missing or longer than 2^30 bytes; with the first of its faults, in the
+/// order of the lines of its head and its seals, the price, the winner, and the lines of its lanes
+/// and its end; where the shelf fails; and for want of memory.
 #[tactic(auto, unfolding(crate::specs::Reports::report_on))]
 pub fn read_report<S: Shelf>(alloc: Global, shelf: &mut S, board: &str) -> Result<Report, ReportErr>
     ensures modelled { IfSome (S.held shelf.old) (λ files.

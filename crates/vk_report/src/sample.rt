@@ -45,7 +45,8 @@ pub struct SampleCase {
     pub second: Challenge,
 }
 
-/// The sample of that number: an auction of 20 seals with bids below 2^32, in 40 lanes. Errs for want of memory alone.
+/// The sample of that number: an auction of 20 seals with bids below 2^32, in 40 lanes. Errs for
+/// want of memory alone.
 pub fn sample_case(alloc: Global, number: u64) -> Result<SampleCase, NoMemory>
     ensures sample { IfOk result (λ sample. sample ≡ sample_of number) }
     ensures right { IfOk result IsSampleCase }
@@ -165,7 +166,8 @@ fn bid_of(sizes: &Sizes, number: u64, seal: u8) -> u64
     front_number(sizes.width, &digest)
 }
 
-/// The first byte of a digest where the width is 8, the first 2 bytes, big-endian, where it is 16, and else the first 4.
+/// The first byte of a digest where the width is 8, the first 2 bytes, big-endian, where it is 16,
+/// and else the first 4.
 fn front_number(width: u32, digest: &[u8; 32]) -> u64
     ensures { result ≡ front_number width digest.now }
 {

@@ -68,7 +68,8 @@ fn push_number(
 
 /// A word alone.
 fn push_word(alloc: Global, lines: &mut Vec<String>, word: &str) -> Result<(), NoMemory>
-    ensures { OnOk result (flat_map string_bytes lines.new.items ≡ flat_map string_bytes lines.old.items ++ line word.now) }
+    ensures { OnOk result (flat_map string_bytes lines.new.items
+        ≡ flat_map string_bytes lines.old.items ++ line word.now) }
 {
     let text = format!(in alloc; "{word}\n")?;
     lines.push(text)?;
@@ -78,7 +79,8 @@ fn push_word(alloc: Global, lines: &mut Vec<String>, word: &str) -> Result<(), N
 /// The id of the auction.
 fn push_auction(alloc: Global, lines: &mut Vec<String>, id: &[u8; 16]) -> Result<(), NoMemory>
     ensures { OnOk result (flat_map string_bytes lines.new.items
-        ≡ flat_map string_bytes lines.old.items ++ line (spaced (codes "auction" ∷ hex_text id.now ∷ []))) }
+        ≡ flat_map string_bytes lines.old.items
+        ++ line (spaced (codes "auction" ∷ hex_text id.now ∷ []))) }
 {
     let id = hex::encode(alloc, id.as_slice())?;
     let text = format!(in alloc; "auction {id}\n")?;
@@ -116,7 +118,8 @@ fn push_winner(alloc: Global, lines: &mut Vec<String>, winner: Option<u16>) -> R
 /// Appends the lines of what the head says.
 #[tactic(auto, unfolding(crate::specs::Reports::head_lines))]
 fn push_head(alloc: Global, lines: &mut Vec<String>, head: &Head) -> Result<(), NoMemory>
-    ensures { OnOk result (flat_map string_bytes lines.new.items ≡ flat_map string_bytes lines.old.items ++ head_lines head.now) }
+    ensures { OnOk result (flat_map string_bytes lines.new.items
+        ≡ flat_map string_bytes lines.old.items ++ head_lines head.now) }
 {
     push_auction(alloc, lines, &head.auction)?;
     push_number(alloc, lines, "width", u64::from(head.width))?;
@@ -131,7 +134,8 @@ fn push_head(alloc: Global, lines: &mut Vec<String>, head: &Head) -> Result<(), 
 /// Appends the line of each seat.
 fn push_seats(alloc: Global, lines: &mut Vec<String>, seats: &[u16]) -> Result<(), NoMemory>
     ensures { OnOk result (flat_map string_bytes lines.new.items
-        ≡ flat_map string_bytes lines.old.items ++ flat_map (λ seat. line (seat_text seat)) seats.now) }
+        ≡ flat_map string_bytes lines.old.items
+        ++ flat_map (λ seat. line (seat_text seat)) seats.now) }
 {
     for seat in seats {
         push_number(alloc, lines, "seat", u64::from(*seat))?;

@@ -4,8 +4,8 @@ ghost use Rattle.vk_residue.specs.Residue.{sum, product};
 use crate::residue::{Residue, folded};
 use std::marker::Model;
 
-/// How many products are added to a folded number before it is folded again: each is below 2^122, so
-/// that many stay below 2^127.
+/// How many products are added to a folded number before it is folded again: each is below 2^122,
+/// so that many stay below 2^127.
 const MOST_PRODUCTS: u32 = 32;
 
 /// A sum of products modulo 2^61 - 1, which is folded once for many of them.

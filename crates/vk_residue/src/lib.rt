@@ -1,4 +1,5 @@
-//! Numbers modulo 2^61 - 1, sums of their products, and the one value that stands for want of memory.
+//! Numbers modulo 2^61 - 1, sums of their products, and the one value that stands for want of
+//! memory.
 #![tactic(auto)]
 
 mod acc;

@@ -3,13 +3,15 @@ use Rattle.std.proofs.Common.{◌≡◌, ℕ, zero, suc, ◌<◌, List, [], ◌�
 use Rattle.vk_residue.specs.Residue.{sum}
 use Rattle.vk_row.specs.Rows.{sums}
 
-pub length-sums : (firsts seconds : List ℕ) → length firsts ≡ length seconds → length (sums firsts seconds) ≡ length firsts
+pub length-sums : (firsts seconds : List ℕ) → length firsts ≡ length seconds
+    → length (sums firsts seconds) ≡ length firsts
 length-sums [] seconds same = refl
 length-sums (u ∷ us) [] same = absurd (omega arith)
 length-sums (u ∷ us) (v ∷ vs) same = omega (arith, length-sums us vs (omega arith))
 
 -- one place of the sums
-pub get_or-sums : (firsts seconds : List ℕ) (k d : ℕ) → length firsts ≡ length seconds → k < length firsts
+pub get_or-sums : (firsts seconds : List ℕ) (k d : ℕ) → length firsts ≡ length seconds
+    → k < length firsts
     → get_or (sums firsts seconds) k d ≡ sum (slice_index firsts k) (slice_index seconds k)
 get_or-sums [] seconds k d same lt = absurd (omega arith)
 get_or-sums (u ∷ us) [] k d same lt = absurd (omega arith)

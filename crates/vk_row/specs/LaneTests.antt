@@ -22,28 +22,33 @@ at_wire wire (Ok half) = Ok half
 at_wire wire (Err fault) = Err (Wire wire fault)
 
 -- the halves so far and those of the wires that are left, or the first wire that reads nothing
-unfoldable pub halves_from : LaneCase → Bool → List ℕ → List WireKind → List WireCom → List Shown → Result (List ℕ) LaneFault
+unfoldable pub halves_from : LaneCase → Bool → List ℕ → List WireKind → List WireCom → List Shown
+    → Result (List ℕ) LaneFault
 halves_from case bit halves (kind ∷ kinds) (digests ∷ coms) (shown ∷ others) = do
   half ← at_wire (length halves) (read_of kind (place_in case (length halves)) digests shown bit)
   halves_from case bit (halves ++ half ∷ []) kinds coms others
 halves_from case bit halves _ _ _ = Ok halves
 
 -- the same, where those are all the wires after the halves
-abbrev pub halves_after : PlanValue → LaneCase → Bool → List Shown → List ℕ → Result (List ℕ) LaneFault
+abbrev pub halves_after : PlanValue → LaneCase → Bool → List Shown → List ℕ
+    → Result (List ℕ) LaneFault
 halves_after plan case bit shown halves =
     let wire = length halves in
     halves_from case bit halves (drop wire plan.kinds) (drop wire case.coms) (drop wire shown)
 
--- the digests are those of what four wires of the lane open, from that one on, as far as there are so many
+-- the digests are those of what four wires of the lane open, from that one on, as far as there are
+-- so many
 abbrev pub AreHashed : LaneCase → Bool → List Shown → ℕ → List Opened → Type 0
 AreHashed case bit shown from opened =
     (k : ℕ) → k < 4 → from + k < length shown
-    → slice_index_or opened k nothing_opened ≡ opened_by (place_in case (from + k)) (slice_index_or shown (from + k) nothing_shown) bit
+    → slice_index_or opened k nothing_opened
+    ≡ opened_by (place_in case (from + k)) (slice_index_or shown (from + k) nothing_shown) bit
 
 -- the first row from that one on that the halves don't meet
 unfoldable pub first_false_row : Bool → List ℕ → ℕ → List Form → List ℕ → Option ℕ
 first_false_row bit halves row (form ∷ forms) (number ∷ numbers) =
-    if has_side form bit halves number then first_false_row bit halves (row + 1) forms numbers else Some row
+    if has_side form bit halves number then first_false_row bit halves (row + 1) forms numbers
+    else Some row
 first_false_row bit halves row _ _ = None
 
 abbrev pub judged : List ℕ → Option ℕ → Result (List ℕ) LaneFault

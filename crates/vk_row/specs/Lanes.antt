@@ -26,8 +26,8 @@ nothing_shown = Half (record { key = []; value = 0 })
 abbrev pub nothing_opened : Opened
 nothing_opened = record { first = []; last = [] }
 
--- one seat for each input, one posted number for each row, and one pair of commitments and one shown
--- for each wire
+-- one seat for each input, one posted number for each row, and one pair of commitments and one
+-- shown for each wire
 pub record HasCounts (plan : PlanValue) (case : LaneCase) (shown : List Shown) : Type 0 where
   pub seats : length case.seats ≡ plan.inputs
   pub coms : length case.coms ≡ length plan.kinds
@@ -41,13 +41,15 @@ place_in case wire = place_of_wire case.auction case.lane case.seats wire
 -- the wire of the lane gives the half for the bit
 abbrev pub WireReads : PlanValue → LaneCase → Bool → List Shown → ℕ → ℕ → Type 0
 WireReads plan case bit shown wire half =
-    Reads (slice_index_or plan.kinds wire Split) (place_in case wire) (slice_index_or case.coms wire no_digests)
+    Reads (slice_index_or plan.kinds wire Split) (place_in case wire)
+    (slice_index_or case.coms wire no_digests)
     (slice_index_or shown wire nothing_shown) bit half
 
 -- the wire of the lane has the fault for the bit
 abbrev pub WireHasFault : PlanValue → LaneCase → Bool → List Shown → ℕ → WireFault → Type 0
 WireHasFault plan case bit shown wire fault =
-    HasFault (slice_index_or plan.kinds wire Split) (place_in case wire) (slice_index_or case.coms wire no_digests)
+    HasFault (slice_index_or plan.kinds wire Split) (place_in case wire)
+    (slice_index_or case.coms wire no_digests)
     (slice_index_or shown wire nothing_shown) bit fault
 
 -- the halves meet the row of the lane
@@ -56,12 +58,15 @@ RowHolds plan case bit halves row =
     HasSide (slice_index_or plan.rows row no_row) bit halves (slice_index case.posted row)
 
 -- each wire gives its half
-pub record AreHalves (plan : PlanValue) (case : LaneCase) (bit : Bool) (shown : List Shown) (halves : List ℕ) : Type 0 where
+pub record AreHalves (plan : PlanValue) (case : LaneCase) (bit : Bool) (shown : List Shown)
+    (halves : List ℕ) : Type 0 where
   pub one_each : length halves ≡ length plan.kinds
-  pub each : (wire : ℕ) → wire < length plan.kinds → WireReads plan case bit shown wire (slice_index halves wire)
+  pub each : (wire : ℕ) → wire < length plan.kinds
+      → WireReads plan case bit shown wire (slice_index halves wire)
 
 -- what is shown of the lane is accepted for the bit with these halves
-pub record IsAcceptedLane (plan : PlanValue) (case : LaneCase) (bit : Bool) (shown : List Shown) (halves : List ℕ) : Type 0 where
+pub record IsAcceptedLane (plan : PlanValue) (case : LaneCase) (bit : Bool) (shown : List Shown)
+    (halves : List ℕ) : Type 0 where
   pub counts : HasCounts plan case shown
   pub wires : AreHalves plan case bit shown halves
   pub rows : (row : ℕ) → row < length plan.rows → RowHolds plan case bit halves row
@@ -71,13 +76,15 @@ abbrev pub IsAccepted : PlanValue → LaneCase → Bool → List Shown → Type 
 IsAccepted plan case bit shown = (halves : List ℕ) × IsAcceptedLane plan case bit shown halves
 
 -- the wire is the first that reads nothing, and why
-pub record IsFirstWire (plan : PlanValue) (case : LaneCase) (bit : Bool) (shown : List Shown) (wire : ℕ) (fault : WireFault) : Type 0 where
+pub record IsFirstWire (plan : PlanValue) (case : LaneCase) (bit : Bool) (shown : List Shown)
+    (wire : ℕ) (fault : WireFault) : Type 0 where
   pub within : wire < length plan.kinds
   pub before : (w : ℕ) → w < wire → (half : ℕ) × WireReads plan case bit shown w half
   pub faulty : WireHasFault plan case bit shown wire fault
 
 -- each wire gives its half, and the row is the first that these don't meet
-pub record IsFirstRow (plan : PlanValue) (case : LaneCase) (bit : Bool) (shown : List Shown) (halves : List ℕ) (row : ℕ) : Type 0 where
+pub record IsFirstRow (plan : PlanValue) (case : LaneCase) (bit : Bool) (shown : List Shown)
+    (halves : List ℕ) (row : ℕ) : Type 0 where
   pub wires : AreHalves plan case bit shown halves
   pub within : row < length plan.rows
   pub before : (r : ℕ) → r < row → RowHolds plan case bit halves r
@@ -86,5 +93,6 @@ pub record IsFirstRow (plan : PlanValue) (case : LaneCase) (bit : Bool) (shown :
 -- why what is shown of the lane is refused
 abbrev pub HasLaneFault : PlanValue → LaneCase → Bool → List Shown → LaneFault → Type 0
 HasLaneFault plan case bit shown (Wire wire fault) = IsFirstWire plan case bit shown wire fault
-HasLaneFault plan case bit shown (Row row) = (halves : List ℕ) × IsFirstRow plan case bit shown halves row
+HasLaneFault plan case bit shown (Row row) = (halves : List ℕ)
+    × IsFirstRow plan case bit shown halves row
 HasLaneFault plan case bit shown NoMemory = ⊥

@@ -10,6 +10,9 @@ use Rattle.vk_row.specs.LaneTests.{checked_lane}
 -- the computed halves are those of an accepted lane, and the computed fault is the first one
 abbrev pub LaneComputes : Type 0
 LaneComputes =
-    (plan : PlanValue) (case : LaneCase) (bit : Bool) (shown : List Shown) → IsPlan plan → HasCounts plan case shown
-    → ((halves : List ℕ) → (checked_lane plan case bit shown ≡ Ok halves) ↔ IsAcceptedLane plan case bit shown halves)
-    × ((fault : LaneFault) → (checked_lane plan case bit shown ≡ Err fault) ↔ HasLaneFault plan case bit shown fault)
+    (plan : PlanValue) (case : LaneCase) (bit : Bool) (shown : List Shown) → IsPlan plan
+    → HasCounts plan case shown
+    → ((halves : List ℕ) → (checked_lane plan case bit shown ≡ Ok halves)
+    ↔ IsAcceptedLane plan case bit shown halves)
+    × ((fault : LaneFault) → (checked_lane plan case bit shown ≡ Err fault)
+    ↔ HasLaneFault plan case bit shown fault)

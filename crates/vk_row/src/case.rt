@@ -6,8 +6,8 @@ use vk_residue::{NoMemory, Residue};
 use vk_seq::Seq;
 use vk_wire::{WireCom, WireFault};
 
-/// All that is public of one lane: its auction and number, the seat of each input, the commitments to
-/// each wire, the inputs' first, and the posted number of each row.
+/// All that is public of one lane: its auction and number, the seat of each input, the commitments
+/// to each wire, the inputs' first, and the posted number of each row.
 #[derive(Debug, Drop)]
 pub struct LaneCase {
     pub auction: [u8; 16],

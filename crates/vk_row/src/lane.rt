@@ -32,7 +32,8 @@ pub fn check_lane(
     ensures halves { IfOk result
         (λ halves. checked_lane plan.now case.now bit shown.now ≡ Ok halves.items) }
     ensures fault { IfErr result
-        (λ fault. (fault ≡ OutOfMemory) ⊎ (checked_lane plan.now case.now bit shown.now ≡ Err fault)) }
+        (λ fault. (fault ≡ OutOfMemory)
+        ⊎ (checked_lane plan.now case.now bit shown.now ≡ Err fault)) }
 {
     let table = RowTable::of(alloc, plan)?;
     check_lane_with(alloc, plan, &table, case, bit, shown)
@@ -57,7 +58,8 @@ pub fn check_lane_with(
     ensures halves { IfOk result
         (λ halves. checked_lane plan.now case.now bit shown.now ≡ Ok halves.items) }
     ensures fault { IfErr result
-        (λ fault. (fault ≡ OutOfMemory) ⊎ (checked_lane plan.now case.now bit shown.now ≡ Err fault)) }
+        (λ fault. (fault ≡ OutOfMemory)
+        ⊎ (checked_lane plan.now case.now bit shown.now ≡ Err fault)) }
 {
     let halves = read_wires(alloc, plan, &ShownLane { case, bit, shown })?;
     match first_unmet_row(plan, table, case, bit, halves.as_slice()) {

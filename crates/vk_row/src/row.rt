@@ -16,8 +16,8 @@ pub fn posted(form: &Form, firsts: &[Residue]) -> Residue
 
 /// Whether the halves meet the posted number of a row. Takes no memory.
 ///
-/// For bit 0 the form without its constant on the halves is the posted number. For bit 1 the form with
-/// its constant on the halves is the negative of the posted number.
+/// For bit 0 the form without its constant on the halves is the posted number. For bit 1 the form
+/// with its constant on the halves is the negative of the posted number.
 pub fn check(form: &Form, bit: bool, halves: &[Residue], posted: Residue) -> bool
     requires { NamesBelow (length halves.now) form.now.terms }
     ensures exactly { IsTrue result ↔ HasSide form.now bit halves.now posted }

@@ -1,4 +1,5 @@
-// The halves of the wires of a lane. What four wires open is hashed side by side, and then each is read.
+// The halves of the wires of a lane. What four wires open is hashed side by side, and then each is
+// read.
 ghost use Rattle.std.specs.Prelude.{◌≡◌, ◌⊎◌, ◌+◌, ◌<◌, ◌≤◌, ◌%◌, ◌++◌, ◌^◌, ℕ, [], ◌∷◌, length, min, slice_index_or, IfOk, IfErr, OnOk, Ok, Err};
 ghost use Rattle.vk_plan.specs.Plans.{IsPlan};
 ghost use Rattle.vk_row.specs.Lanes.{HasCounts, place_in};
@@ -31,11 +32,13 @@ pub(crate) fn read_wires(
     ensures plan { IsPlan plan.now }
     ensures one_each { IfOk result (λ halves. length halves.items ≡ length plan.now.kinds) }
     ensures halves { IfOk result
-        (λ halves. halves_from lane.now.case.now lane.now.bit [] plan.now.kinds lane.now.case.now.coms lane.now.shown.now
+        (λ halves. halves_from lane.now.case.now lane.now.bit [] plan.now.kinds
+        lane.now.case.now.coms lane.now.shown.now
         ≡ Ok halves.items) }
     ensures fault { IfErr result
         (λ fault. (fault ≡ OutOfMemory)
-        ⊎ (halves_from lane.now.case.now lane.now.bit [] plan.now.kinds lane.now.case.now.coms lane.now.shown.now ≡ Err fault)) }
+        ⊎ (halves_from lane.now.case.now lane.now.bit [] plan.now.kinds lane.now.case.now.coms
+        lane.now.shown.now ≡ Err fault)) }
 {
     let wires = plan.wires();
     let mut halves = room_for(alloc, wires)?;
@@ -61,9 +64,11 @@ fn read_group(plan: &Plan, lane: &ShownLane, halves: &mut Vec<Residue>) -> Resul
         (length halves.new.items ≡ min (length halves.old.items + 4) (length plan.now.kinds)) }
     ensures read { OnOk result
         (halves_after plan.now lane.now.case.now lane.now.bit lane.now.shown.now halves.new.items
-        ≡ halves_after plan.now lane.now.case.now lane.now.bit lane.now.shown.now halves.old.items) }
+        ≡ halves_after plan.now lane.now.case.now lane.now.bit lane.now.shown.now
+        halves.old.items) }
     ensures fault { IfErr result (λ fault. (fault ≡ OutOfMemory)
-        ⊎ (halves_after plan.now lane.now.case.now lane.now.bit lane.now.shown.now halves.old.items ≡ Err fault)) }
+        ⊎ (halves_after plan.now lane.now.case.now lane.now.bit lane.now.shown.now halves.old.items
+        ≡ Err fault)) }
 {
     let wires = plan.wires();
     let from = halves.len();
@@ -97,7 +102,8 @@ fn keep(halves: &mut Vec<Residue>, half: Residue) -> Result<(), NoMemory>
     Ok(())
 }
 
-/// The digests of what four wires from that one on open. Past the last wire they are again those of it.
+/// The digests of what four wires from that one on open. Past the last wire they are again those of
+/// it.
 fn hash_group(lane: &ShownLane, from: usize) -> [Opened; 4]
     requires from { from < length lane.now.shown.now }
     requires few { length lane.now.shown.now ≤ 2 ^ 24 }

@@ -21,54 +21,73 @@ use Rattle.vk_sample.specs.Samples.{effect_by, effect_unless_dry, sample_on, mod
 use Rattle.vk_sample.specs.Texts.{dry_said, files_of, found_text, made_text, read_said, same_count, sample_names, summary_said}
 
 -- what is answered is what is said
-pub same_said : {E : Type 0} (said other : SaidValue) → ◌≡◌ {A = Result SaidValue E} (Ok said) (Ok other) → said ≡ other
+pub same_said : {E : Type 0} (said other : SaidValue)
+    → ◌≡◌ {A = Result SaidValue E} (Ok said) (Ok other) → said ≡ other
 same_said said other is = cc
 
 -- it was stopped where nothing had changed
-pub stopped_first : (effect : Option Effect) (old : Stores) (stop : OutsideErr) → IfSome effect (λ whole. Acts (Err stop) whole old old)
+pub stopped_first : (effect : Option Effect) (old : Stores) (stop : OutsideErr)
+    → IfSome effect (λ whole. Acts (Err stop) whole old old)
 stopped_first None old stop = tt
 stopped_first (Some whole) old stop = inl refl
 
 -- ---- a seed that is dry
 
-said_alone : (held : Option Files) (ledger : Option Ledger) (said dry : SaidValue) → said ≡ dry → Acts (Ok said) (says ledger dry) (stores held ledger) (stores held ledger)
+said_alone : (held : Option Files) (ledger : Option Ledger) (said dry : SaidValue) → said ≡ dry
+    → Acts (Ok said) (says ledger dry) (stores held ledger) (stores held ledger)
 said_alone None ledger said dry is = (is, refl)
 said_alone (Some files) ledger said dry is = (is, refl)
 
-pub dry_acts : {X : Type 0} (dry : Option DrySeed) (made : Result X DrySeed) (held : Option Files) (ledger : Option Ledger) (effect : X → Option Effect) (said : SaidValue) → Refuses dry made → IfSome dry (λ seed. said ≡ dry_said seed) → IsSome dry
-    → IfSome (effect_unless_dry ledger effect made) (λ whole. Acts (Ok said) whole (stores held ledger) (stores held ledger))
+pub dry_acts : {X : Type 0} (dry : Option DrySeed) (made : Result X DrySeed) (held : Option Files)
+    (ledger : Option Ledger) (effect : X → Option Effect) (said : SaidValue) → Refuses dry made
+    → IfSome dry (λ seed. said ≡ dry_said seed) → IsSome dry
+    → IfSome (effect_unless_dry ledger effect made)
+    (λ whole. Acts (Ok said) whole (stores held ledger) (stores held ledger))
 dry_acts None made held ledger effect said refused is some = cc some
 dry_acts (Some dry) made held ledger effect said refused is some =
-    subst (λ m. IfSome (effect_unless_dry ledger effect m) (λ whole. Acts (Ok said) whole (stores held ledger) (stores held ledger))) (sym refused)
+    subst (λ m. IfSome (effect_unless_dry ledger effect m)
+    (λ whole. Acts (Ok said) whole (stores held ledger) (stores held ledger))) (sym refused)
     (said_alone held ledger said (dry_said dry) is)
 
 -- ---- files that are written
 
 -- all of them, or divided behind the last
-divided_last : (texts : List (List ℕ × List ℕ)) (files : Files) → IsDivided texts files (written texts files)
+divided_last : (texts : List (List ℕ × List ℕ)) (files : Files)
+    → IsDivided texts files (written texts files)
 divided_last [] files = refl
 divided_last (text ∷ texts) files = inr (divided_last texts (insert files text.0 text.1))
 
 module _ (texts : List (List ℕ × List ℕ)) (whole : SaidValue) (ledger : Option Ledger) where
-  pub writing_stopped : (held left : Option Files) (stop : OutsideErr) → Modelled (WritesAll texts (Err stop)) held left
-      → IfSome (modelled_effect held ledger texts whole) (λ effect. Acts (Err stop) effect (stores held ledger) (stores left ledger))
+  pub writing_stopped : (held left : Option Files) (stop : OutsideErr)
+      → Modelled (WritesAll texts (Err stop)) held left
+      → IfSome (modelled_effect held ledger texts whole)
+      (λ effect. Acts (Err stop) effect (stores held ledger) (stores left ledger))
   writing_stopped None left stop told = tt
   writing_stopped (Some files) None stop told = absurd told
   writing_stopped (Some files) (Some after) stop told = inr (refl, told)
 
-  pub reading_stopped : (held left now : Option Files) (stop : OutsideErr) → Modelled (WritesAll {E = OutsideErr} texts (Ok tt)) held left → now ≡ left
-      → IfSome (modelled_effect held ledger texts whole) (λ effect. Acts (Err stop) effect (stores held ledger) (stores now ledger))
+  pub reading_stopped : (held left now : Option Files) (stop : OutsideErr)
+      → Modelled (WritesAll {E = OutsideErr} texts (Ok tt)) held left → now ≡ left
+      → IfSome (modelled_effect held ledger texts whole)
+      (λ effect. Acts (Err stop) effect (stores held ledger) (stores now ledger))
   reading_stopped None left now stop told same = tt
   reading_stopped (Some files) None now stop told same = absurd told
   reading_stopped (Some files) (Some after) now stop told same =
       let is : now ≡ Some (written texts files) = same ∙ ap Some told in
-      inr (refl, subst (Modelled (IsDivided texts) (Some files)) (sym is) (divided_last texts files))
+      inr (
+        refl,
+        subst (Modelled (IsDivided texts) (Some files)) (sym is)
+            (divided_last texts files),
+      )
 
   -- what was written is read back, and this is said of it
-  pub holding_done : (said_of_files : Files → SaidValue) → ((files : Files) → said_of_files (written texts files) ≡ whole)
-      → (held left now : Option Files) (said : SaidValue) → Modelled (WritesAll {E = OutsideErr} texts (Ok tt)) held left → now ≡ left
+  pub holding_done : (said_of_files : Files → SaidValue)
+      → ((files : Files) → said_of_files (written texts files) ≡ whole)
+      → (held left now : Option Files) (said : SaidValue)
+      → Modelled (WritesAll {E = OutsideErr} texts (Ok tt)) held left → now ≡ left
       → IfSome left (λ files. said ≡ said_of_files files)
-      → IfSome (modelled_effect held ledger texts whole) (λ effect. Acts (Ok said) effect (stores held ledger) (stores now ledger))
+      → IfSome (modelled_effect held ledger texts whole)
+      (λ effect. Acts (Ok said) effect (stores held ledger) (stores now ledger))
   holding_done said_of_files reads None left now said told same is = tt
   holding_done said_of_files reads (Some files) None now said told same is = absurd told
   holding_done said_of_files reads (Some files) (Some after) now said told same is = (
@@ -79,26 +98,41 @@ module _ (texts : List (List ℕ × List ℕ)) (whole : SaidValue) (ledger : Opt
 -- ---- the summary
 
 module _ (sample : SampleCase) (auction : Auction) (is : IsAuctionOf sample auction) (opens : SampleOpensAll sample auction) (number : ℕ) (made : List ℕ) (made_is : made ≡ made_text number (head_of auction)) where
-  summary : read_said made (Ok (Bids (opened sample auction))) ≡ summary_said number (head_of auction)
+  summary : read_said made (Ok (Bids (opened sample auction)))
+      ≡ summary_said number (head_of auction)
   unfolding head_of
   summary =
-      let of : List ℕ → ℕ → ℕ → SaidValue = λ front lanes same. record { status = 0; text = front ++ found_text lanes same } in
+      let of : List ℕ → ℕ → ℕ → SaidValue =
+      λ front lanes same. record { status = 0; text = front ++ found_text lanes same } in
       let found = opened sample auction in
-      ap (λ front. of front (length found.lanes) (same_count (length found.front.seals) found.lanes)) made_is
-      ∙ ap (λ lanes. of (made_text number (head_of auction)) lanes (same_count (length found.front.seals) found.lanes)) (opens.all_lanes ∙ sym is.lanes_are)
-      ∙ ap (of (made_text number (head_of auction)) auction.lanes) (opens.all_same ∙ sym is.seals_are)
+      ap (λ front. of front (length found.lanes)
+      (same_count (length found.front.seals) found.lanes)) made_is
+      ∙ ap (λ lanes. of (made_text number (head_of auction)) lanes
+      (same_count (length found.front.seals) found.lanes)) (opens.all_lanes ∙ sym is.lanes_are)
+      ∙ ap (of (made_text number (head_of auction)) auction.lanes)
+      (opens.all_same ∙ sym is.seals_are)
 
   -- the files that were written are read back, and open every bid
-  pub reads_back : (files : Files) → read_said made (extraction_on (written (files_of sample auction) files) sample_names.board sample_names.first.challenge sample_names.first.reply sample_names.second.challenge sample_names.second.reply) ≡ summary_said number (head_of auction)
+  pub reads_back : (files : Files)
+      → read_said made (extraction_on (written (files_of sample auction) files) sample_names.board
+      sample_names.first.challenge sample_names.first.reply sample_names.second.challenge
+      sample_names.second.reply) ≡ summary_said number (head_of auction)
   reads_back files = ap (read_said made) (opens.read files) ∙ summary
 
 -- ---- the whole
 
 -- the sample is that of the number, and this comes of its seeds
-pub sample_acts : (number : ℕ) (sample : SampleCase) (made : Result Auction DrySeed) (held now : Option Files) (ledger : Option Ledger) (answer : Result SaidValue OutsideErr) → sample ≡ sample_of number → auction_of sample ≡ made
-    → IfSome (effect_by held ledger number sample made) (λ effect. Acts answer effect (stores held ledger) (stores now ledger))
-    → IfSome (sample_on held ledger number) (λ effect. Acts answer effect (stores held ledger) (stores now ledger))
+pub sample_acts : (number : ℕ) (sample : SampleCase) (made : Result Auction DrySeed)
+    (held now : Option Files) (ledger : Option Ledger) (answer : Result SaidValue OutsideErr)
+    → sample ≡ sample_of number → auction_of sample ≡ made
+    → IfSome (effect_by held ledger number sample made)
+    (λ effect. Acts answer effect (stores held ledger) (stores now ledger))
+    → IfSome (sample_on held ledger number)
+    (λ effect. Acts answer effect (stores held ledger) (stores now ledger))
 unfolding sample_on
 sample_acts number sample made held now ledger answer is comes acts =
-    let P : SampleCase → Type 0 = λ s. IfSome (effect_by held ledger number s (auction_of s)) (λ effect. Acts answer effect (stores held ledger) (stores now ledger)) in
-    subst P is (subst (λ m. IfSome (effect_by held ledger number sample m) (λ effect. Acts answer effect (stores held ledger) (stores now ledger))) (sym comes) acts)
+    let P : SampleCase → Type 0 =
+    λ s. IfSome (effect_by held ledger number s (auction_of s))
+    (λ effect. Acts answer effect (stores held ledger) (stores now ledger)) in
+    subst P is (subst (λ m. IfSome (effect_by held ledger number sample m)
+    (λ effect. Acts answer effect (stores held ledger) (stores now ledger))) (sym comes) acts)

@@ -40,26 +40,34 @@ both : (one : Bool) (others : Bool) → (not one && others) ≡ true → (one �
 both true others is = cc
 both false others is = (refl, is)
 
-held_still : (texts : List (List ℕ × List ℕ)) (files : Files) (name bytes : List ℕ) → none_named name texts ≡ true → get files name ≡ Some bytes → get (written texts files) name ≡ Some bytes
+held_still : (texts : List (List ℕ × List ℕ)) (files : Files) (name bytes : List ℕ)
+    → none_named name texts ≡ true → get files name ≡ Some bytes
+    → get (written texts files) name ≡ Some bytes
 held_still [] files name bytes other held = held
 held_still (text ∷ texts) files name bytes other held =
     let parts = both (bytes_eq name text.0) (none_named name texts) other in
     held_still texts (insert files text.0 text.1) name bytes parts.1
-    (get_inserted files text.0 text.1 name ∙ ap (λ b. cond b (Some text.1) (get files name)) parts.0 ∙ held)
+    (get_inserted files text.0 text.1 name ∙ ap (λ b. cond b (Some text.1) (get files name)) parts.0
+    ∙ held)
 
 -- a file that is written before others of other names
-pub held_first : (texts : List (List ℕ × List ℕ)) (files : Files) (name bytes : List ℕ) → none_named name texts ≡ true → get (written ((name, bytes) ∷ texts) files) name ≡ Some bytes
-held_first texts files name bytes other = held_still texts (insert files name bytes) name bytes other (get_own files name bytes)
+pub held_first : (texts : List (List ℕ × List ℕ)) (files : Files) (name bytes : List ℕ)
+    → none_named name texts ≡ true → get (written ((name, bytes) ∷ texts) files) name ≡ Some bytes
+held_first texts files name bytes other =
+    held_still texts (insert files name bytes) name bytes other (get_own files name bytes)
 
 -- ---- counts
 
-counted_on : (test : ℕ → Bool) → ((index : ℕ) → test index ≡ true) → (so_far from count : ℕ) → fold (λ a x. a + cond (test x) 1 0) so_far (range_with_len from count) ≡ so_far + count
+counted_on : (test : ℕ → Bool) → ((index : ℕ) → test index ≡ true) → (so_far from count : ℕ)
+    → fold (λ a x. a + cond (test x) 1 0) so_far (range_with_len from count) ≡ so_far + count
 counted_on test all so_far from zero = omega arith
 counted_on test all so_far from (suc count) =
-    ap (λ b. fold (λ a x. a + cond (test x) 1 0) (so_far + cond b 1 0) (range_with_len (from + 1) count)) (all from)
+    ap (λ b. fold (λ a x. a + cond (test x) 1 0) (so_far + cond b 1 0)
+    (range_with_len (from + 1) count)) (all from)
     ∙ counted_on test all (so_far + 1) (from + 1) count ∙ omega arith
 
-pub all_counted : (test : ℕ → Bool) → ((index : ℕ) → test index ≡ true) → (from count : ℕ) → count_by test (range_with_len from count) ≡ count
+pub all_counted : (test : ℕ → Bool) → ((index : ℕ) → test index ≡ true) → (from count : ℕ)
+    → count_by test (range_with_len from count) ≡ count
 all_counted test all from count = counted_on test all 0 from count ∙ omega arith
 
 -- ---- the sample
@@ -68,15 +76,26 @@ module _ (sample : SampleCase) (case : IsSampleCase sample) (auction : Auction) 
   pub has_lines : HasLines sample auction
   has_lines =
       let sale = sale_in auction in
-      let numbers : numbers_in auction ≡ board_numbers 1 auction_sizes.seals auction_sizes.width 0 sale =
-      ap (λ version. board_numbers version (length auction.seals) auction.width auction.reserve sale) is.version_is
+      let numbers : numbers_in auction
+      ≡ board_numbers 1 auction_sizes.seals auction_sizes.width 0 sale =
+      ap (λ version. board_numbers version (length auction.seals) auction.width auction.reserve
+      sale) is.version_is
       ∙ ap (λ n. board_numbers 1 n auction.width auction.reserve sale) is.seals_are
       ∙ ap (λ w. board_numbers 1 auction_sizes.seals w auction.reserve sale) is.width_is
-      ∙ ap (λ reserve. board_numbers 1 auction_sizes.seals auction_sizes.width reserve sale) is.reserve_is in
-      let board : board_lines (numbers_in auction) auction.lanes ≡ board_lines (board_numbers 1 auction_sizes.seals auction_sizes.width 0 sale) auction_sizes.lanes =
-      ap (λ n. board_lines n auction.lanes) numbers ∙ ap (board_lines (board_numbers 1 auction_sizes.seals auction_sizes.width 0 sale)) is.lanes_are in
-      let reply : reply_lines (numbers_in auction) auction.lanes ≡ reply_lines (board_numbers 1 auction_sizes.seals auction_sizes.width 0 sale) auction_sizes.lanes =
-      ap (λ n. reply_lines n auction.lanes) numbers ∙ ap (reply_lines (board_numbers 1 auction_sizes.seals auction_sizes.width 0 sale)) is.lanes_are in
+      ∙ ap (λ reserve. board_numbers 1 auction_sizes.seals auction_sizes.width reserve sale)
+      is.reserve_is in
+      let board : board_lines (numbers_in auction) auction.lanes
+      ≡ board_lines (board_numbers 1 auction_sizes.seals auction_sizes.width 0 sale)
+      auction_sizes.lanes =
+      ap (λ n. board_lines n auction.lanes) numbers
+      ∙ ap (board_lines (board_numbers 1 auction_sizes.seals auction_sizes.width 0 sale))
+      is.lanes_are in
+      let reply : reply_lines (numbers_in auction) auction.lanes
+      ≡ reply_lines (board_numbers 1 auction_sizes.seals auction_sizes.width 0 sale)
+      auction_sizes.lanes =
+      ap (λ n. reply_lines n auction.lanes) numbers
+      ∙ ap (reply_lines (board_numbers 1 auction_sizes.seals auction_sizes.width 0 sale))
+      is.lanes_are in
       record {
         board = boards_have_lines auction is.proved ∙ board;
         first = replies_have_lines auction sample.first is.proved is.first ∙ reply;
@@ -90,35 +109,51 @@ module _ (sample : SampleCase) (case : IsSampleCase sample) (auction : Auction) 
   }
 
   -- a challenge and the reply to it, which are written before others of other names
-  abbrev attempt : (before : Files) (others : List (List ℕ × List ℕ)) (names : AttemptWords) (challenge : Challenge) → IsChallengeTo auction challenge
-      → none_named names.challenge ((names.reply, reply_of auction challenge) ∷ others) ≡ true → none_named names.reply others ≡ true
-      → HeldAttempt (written ((names.challenge, challenge_text challenge) ∷ (names.reply, reply_of auction challenge) ∷ others) before) names.challenge names.reply
+  abbrev attempt : (before : Files) (others : List (List ℕ × List ℕ)) (names : AttemptWords)
+      (challenge : Challenge) → IsChallengeTo auction challenge
+      → none_named names.challenge ((names.reply, reply_of auction challenge) ∷ others) ≡ true
+      → none_named names.reply others ≡ true
+      → HeldAttempt (written ((names.challenge, challenge_text challenge)
+      ∷ (names.reply, reply_of auction challenge) ∷ others) before) names.challenge names.reply
   attempt before others names challenge asked challenge_alone reply_alone = record {
     challenge_bytes = challenge_text challenge;
     reply_bytes = reply_of auction challenge;
     challenge_is = record {
-      is = held_first ((names.reply, reply_of auction challenge) ∷ others) before names.challenge (challenge_text challenge) challenge_alone;
+      is = held_first ((names.reply, reply_of auction challenge) ∷ others) before names.challenge
+          (challenge_text challenge) challenge_alone;
       short = challenges_are_short challenge asked.right;
     };
     reply_is = record {
-      is = held_first others (insert before names.challenge (challenge_text challenge)) names.reply (reply_of auction challenge) reply_alone;
+      is = held_first others (insert before names.challenge (challenge_text challenge)) names.reply
+          (reply_of auction challenge) reply_alone;
       short = replies_are_short auction challenge is.proved asked;
     };
   }
 
   abbrev second_attempt : List (List ℕ × List ℕ)
-  second_attempt = (sample_names.second.challenge, challenge_text sample.second) ∷ (sample_names.second.reply, reply_of auction sample.second) ∷ []
+  second_attempt = (sample_names.second.challenge, challenge_text sample.second)
+      ∷ (sample_names.second.reply, reply_of auction sample.second) ∷ []
 
   abbrev both_attempts : List (List ℕ × List ℕ)
-  both_attempts = (sample_names.first.challenge, challenge_text sample.first) ∷ (sample_names.first.reply, reply_of auction sample.first) ∷ second_attempt
+  both_attempts = (sample_names.first.challenge, challenge_text sample.first)
+      ∷ (sample_names.first.reply, reply_of auction sample.first) ∷ second_attempt
 
-  abbrev held : (files : Files) → HeldFiles (written (files_of sample auction) files) sample_names.board sample_names.first.challenge sample_names.first.reply sample_names.second.challenge sample_names.second.reply
+  abbrev held : (files : Files)
+      → HeldFiles (written (files_of sample auction) files) sample_names.board
+      sample_names.first.challenge sample_names.first.reply sample_names.second.challenge
+      sample_names.second.reply
   held files =
       let board = insert files sample_names.board (board_of auction) in
-      let first = insert (insert board sample_names.first.challenge (challenge_text sample.first)) sample_names.first.reply (reply_of auction sample.first) in
+      let first = insert (insert board sample_names.first.challenge (challenge_text sample.first))
+      sample_names.first.reply (reply_of auction sample.first) in
       record {
         board_bytes = board_of auction;
-        board_is = record { is = held_first both_attempts files sample_names.board (board_of auction) refl; short = boards_are_short auction is.proved };
+        board_is = record {
+          is =
+              held_first both_attempts files sample_names.board (board_of auction) refl;
+          short =
+              boards_are_short auction is.proved;
+        };
         first = attempt board second_attempt sample_names.first sample.first is.first refl refl;
         second = attempt first [] sample_names.second sample.second is.second refl refl;
       }
@@ -126,15 +161,21 @@ module _ (sample : SampleCase) (case : IsSampleCase sample) (auction : Auction) 
   pub opens_all : SampleOpensAll sample auction
   opens_all =
       let turned = turned_open_all auction sample.first sample.second is.first case.right.turned in
-      let gives = replies_give_bids auction sample.first sample.second is.proved is.first is.second turned.0 in
-      let count : length (opened sample auction).front.seals ≡ auction_sizes.seals = length-map auction.seals seal_lines_of ∙ is.seals_are in
+      let gives = replies_give_bids auction sample.first sample.second is.proved is.first is.second
+      turned.0 in
+      let count : length (opened sample auction).front.seals ≡ auction_sizes.seals =
+      length-map auction.seals seal_lines_of ∙ is.seals_are in
       record {
         read = λ files.
-            (files_are_extracted (written (files_of sample auction) files) sample_names.board sample_names.first.challenge sample_names.first.reply
-            sample_names.second.challenge sample_names.second.reply (Bids (opened sample auction))).1 (record { held = held files; is = sym gives });
+            (files_are_extracted (written (files_of sample auction) files) sample_names.board
+            sample_names.first.challenge sample_names.first.reply
+            sample_names.second.challenge sample_names.second.reply
+            (Bids (opened sample auction))).1 (record { held = held files; is = sym gives });
         all_lanes = turned.1 ∙ is.lanes_are;
         all_seals = count;
         all_same =
-            all_counted (λ index. has_one_bid index (opened sample auction).lanes) (bids_are_equal auction sample.first sample.second) 0 (length (opened sample auction).front.seals)
+            all_counted (λ index. has_one_bid index (opened sample auction).lanes)
+            (bids_are_equal auction sample.first sample.second) 0
+            (length (opened sample auction).front.seals)
             ∙ count;
       }

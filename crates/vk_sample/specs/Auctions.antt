@@ -1,4 +1,5 @@
--- The auction of a sample: its seals are made with the bidders' seeds, and its board with the auctioneer's.
+-- The auction of a sample: its seals are made with the bidders' seeds, and its board with the
+-- auctioneer's.
 use Rattle.std.specs.Prelude.{ℕ, zero, suc, ◌+◌, List, [], ◌∷◌, ◌++◌, length, slice_index, slice_index_or, Option, Some, None, Result, Ok, Err}
 use Rattle.vk_residue.specs.Steps.{◌>>=◌}
 use Rattle.vk_dice.specs.Stream.{word_at}
@@ -17,7 +18,8 @@ use Rattle.vk_sample.specs.declared.errors.SampleErr.TheVariants as refusal
 
 -- ---- seeds that are dry
 
--- a bidder's seed gives no residue for the lane of that number; or the auctioneer's gives no tape for a wire of a lane
+-- a bidder's seed gives no residue for the lane of that number; or the auctioneer's gives no tape
+-- for a wire of a lane
 pub data DrySeed : Type 0 where
   OfBidder : ℕ → DrySeed
   OfHouse : Dry → DrySeed
@@ -35,11 +37,14 @@ of_job job.NoMemory = refusal.NoMemory
 
 -- ---- seals, which count from 0
 
--- the secret of a seal: drawn for each lane from the words of the bidder's seed, in the stream of the seat
+-- the secret of a seal: drawn for each lane from the words of the bidder's seed, in the stream of
+-- the seat
 abbrev pub secret_at : SampleCase → ℕ → Result Secret ℕ
 secret_at sample index =
-    secret_of (slice_index sample.bids index) (slice_index sample.seats index) sample.auction sample.lanes
-    (word_at (slice_index_or sample.seeds index []) sample.auction (65536 + slice_index sample.seats index))
+    secret_of (slice_index sample.bids index) (slice_index sample.seats index) sample.auction
+    sample.lanes
+    (word_at (slice_index_or sample.seeds index []) sample.auction
+    (65536 + slice_index sample.seats index))
 
 -- a secret with its seal; or the first lane that nothing can be drawn for
 abbrev pub sealed : Result Secret ℕ → Result SealRow DrySeed
@@ -49,7 +54,8 @@ sealed (Err lane) = Err (OfBidder lane)
 -- so many seals after those that were made
 unfoldable pub rows_onto : SampleCase → List SealRow → ℕ → Result (List SealRow) DrySeed
 rows_onto sample rows zero = Ok rows
-rows_onto sample rows (suc more) = sealed (secret_at sample (length rows)) >>= λ row. rows_onto sample (rows ++ row ∷ []) more
+rows_onto sample rows (suc more) =
+    sealed (secret_at sample (length rows)) >>= λ row. rows_onto sample (rows ++ row ∷ []) more
 
 -- ---- the whole
 
@@ -71,8 +77,10 @@ unless_dry made None = Ok made
 unless_dry made (Some dry) = Err (OfHouse dry)
 
 abbrev pub auction_by : SampleCase → List SealRow → Result Auction DrySeed
-auction_by sample rows = unless_dry (auction_with sample rows) (dry_in (auction_with sample rows) sample.seed)
+auction_by sample rows = unless_dry (auction_with sample rows)
+    (dry_in (auction_with sample rows) sample.seed)
 
--- the auction of a sample, or the first seed that is dry: of the bidders in the order of their seals, then the auctioneer's
+-- the auction of a sample, or the first seed that is dry: of the bidders in the order of their
+-- seals, then the auctioneer's
 unfoldable pub auction_of : SampleCase → Result Auction DrySeed
 auction_of sample = rows_onto sample [] (length sample.seats) >>= auction_by sample

@@ -19,10 +19,11 @@ use Rattle.vk_sample.specs.Texts.{files_of, same_count, sample_names}
 
 -- a law of every number none of whose seeds is dry
 abbrev pub OfEachSample : (SampleCase → Auction → Type 0) → Type 0
-OfEachSample Law = (number : ℕ) (auction : Auction) → auction_of (sample_of number) ≡ Ok auction → Law (sample_of number) auction
+OfEachSample Law = (number : ℕ) (auction : Auction) → auction_of (sample_of number) ≡ Ok auction
+    → Law (sample_of number) auction
 
--- the auction is proved, of version 1 with no reserve, both challenges are ones to it, and its seals have the seats and
--- the bids of the sample
+-- the auction is proved, of version 1 with no reserve, both challenges are ones to it, and its
+-- seals have the seats and the bids of the sample
 pub record IsAuctionOf (sample : SampleCase) (auction : Auction) : Type 0 where
   pub proved : IsProvedAuction auction
   pub first : IsChallengeTo auction sample.first
@@ -43,18 +44,23 @@ pub record HasLines (sample : SampleCase) (auction : Auction) : Type 0 where
 
 -- the board and a reply of the auction's honest prover are accepted, for either challenge
 pub record SampleIsAccepted (sample : SampleCase) (auction : Auction) : Type 0 where
-  pub first : Accepts (board_of auction) (challenge_text sample.first) (reply_of auction sample.first)
-  pub second : Accepts (board_of auction) (challenge_text sample.second) (reply_of auction sample.second)
+  pub first : Accepts (board_of auction) (challenge_text sample.first)
+      (reply_of auction sample.first)
+  pub second : Accepts (board_of auction) (challenge_text sample.second)
+      (reply_of auction sample.second)
 
 -- what the two replies open
 abbrev pub opened : SampleCase → Auction → Extracted
 opened sample auction = sealed_bids auction sample.first sample.second
 
--- read from files that hold what was written, both replies open the bids that were sealed: in every lane, and of
--- every seal the same
+-- read from files that hold what was written, both replies open the bids that were sealed: in every
+-- lane, and of every seal the same
 pub record SampleOpensAll (sample : SampleCase) (auction : Auction) : Type 0 where
-  pub read : (files : Files) → extraction_on (written (files_of sample auction) files) sample_names.board
-      sample_names.first.challenge sample_names.first.reply sample_names.second.challenge sample_names.second.reply ≡ Ok (Bids (opened sample auction))
+  pub read : (files : Files) → extraction_on (written (files_of sample auction) files)
+      sample_names.board
+      sample_names.first.challenge sample_names.first.reply sample_names.second.challenge
+      sample_names.second.reply ≡ Ok (Bids (opened sample auction))
   pub all_lanes : length (opened sample auction).lanes ≡ auction_sizes.lanes
   pub all_seals : length (opened sample auction).front.seals ≡ auction_sizes.seals
-  pub all_same : same_count (length (opened sample auction).front.seals) (opened sample auction).lanes ≡ auction_sizes.seals
+  pub all_same : same_count (length (opened sample auction).front.seals)
+      (opened sample auction).lanes ≡ auction_sizes.seals

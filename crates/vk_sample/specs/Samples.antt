@@ -13,19 +13,25 @@ pub use Rattle.vk_report.specs.Samples.{IsSampleCase}
 pub use Rattle.vk_effect.specs.Ends.{Acts}
 
 -- over files that are modelled these are written, and this is said
-abbrev pub modelled_effect : Option Files → Option Ledger → List (List ℕ × List ℕ) → SaidValue → Option Effect
-modelled_effect files ledger texts said = option_map (λ modelled. writes_and_says ledger texts said) files
+abbrev pub modelled_effect : Option Files → Option Ledger → List (List ℕ × List ℕ) → SaidValue
+    → Option Effect
+modelled_effect files ledger texts said =
+    option_map (λ modelled. writes_and_says ledger texts said) files
 
 -- the effect of what was made. A seed that is dry is said over any files, and none is written
-abbrev pub effect_unless_dry : {X : Type 0} → Option Ledger → (X → Option Effect) → Result X DrySeed → Option Effect
+abbrev pub effect_unless_dry : {X : Type 0} → Option Ledger → (X → Option Effect) → Result X DrySeed
+    → Option Effect
 effect_unless_dry ledger effect (Ok made) = effect made
 effect_unless_dry ledger effect (Err dry) = Some (says ledger (dry_said dry))
 
 -- the files are written and the summary is said
-abbrev pub effect_by : Option Files → Option Ledger → ℕ → SampleCase → Result Auction DrySeed → Option Effect
+abbrev pub effect_by : Option Files → Option Ledger → ℕ → SampleCase → Result Auction DrySeed
+    → Option Effect
 effect_by files ledger number sample =
-    effect_unless_dry ledger (λ auction. modelled_effect files ledger (files_of sample auction) (summary_said number (head_of auction)))
+    effect_unless_dry ledger (λ auction. modelled_effect files ledger (files_of sample auction)
+    (summary_said number (head_of auction)))
 
 -- the ledger is left as it is
 unfoldable pub sample_on : Option Files → Option Ledger → ℕ → Option Effect
-sample_on files ledger number = effect_by files ledger number (sample_of number) (auction_of (sample_of number))
+sample_on files ledger number =
+    effect_by files ledger number (sample_of number) (auction_of (sample_of number))

@@ -51,27 +51,33 @@ dry_said dry = record { status = 8; text = dry_line dry }
 
 -- ---- the summary
 
--- of the auction as it was made, by the head of its board: how many lines the board and a reply have, and the sale
+-- of the auction as it was made, by the head of its board: how many lines the board and a reply
+-- have, and the sale
 abbrev pub size_line : Head → List ℕ
-size_line head = codes "seals " +++ decimal head.seals +++ codes " width " +++ decimal head.width +++ codes " lanes " +++ decimal head.lanes +++ line_feed
+size_line head = codes "seals " +++ decimal head.seals +++ codes " width " +++ decimal head.width
+    +++ codes " lanes " +++ decimal head.lanes +++ line_feed
 
 abbrev pub counts_text : ℕ → ℕ → List ℕ
-counts_text board reply = (codes "board lines " +++ decimal board +++ line_feed) ++ (codes "reply lines " +++ decimal reply +++ line_feed)
+counts_text board reply = (codes "board lines " +++ decimal board +++ line_feed)
+    ++ (codes "reply lines " +++ decimal reply +++ line_feed)
 
 abbrev pub made_text : ℕ → Head → List ℕ
 made_text number head =
     (codes "sample " +++ decimal number +++ line_feed)
     ++ (size_line head
-    ++ (counts_text (board_lines (head_numbers head) head.lanes) (reply_lines (head_numbers head) head.lanes)
+    ++ (counts_text (board_lines (head_numbers head) head.lanes)
+    (reply_lines (head_numbers head) head.lanes)
     ++ sale_line head))
 
 -- both replies are accepted
 abbrev pub accepted_text : List ℕ
-accepted_text = (codes "verify 1 accepted" +++ line_feed) ++ (codes "verify 2 accepted" +++ line_feed)
+accepted_text = (codes "verify 1 accepted" +++ line_feed)
+    ++ (codes "verify 2 accepted" +++ line_feed)
 
 -- in how many lanes bids were opened, and of how many seals they are equal in all of these
 abbrev pub opened_text : ℕ → ℕ → List ℕ
-opened_text lanes same = (codes "extract lanes " +++ decimal lanes +++ codes " same " +++ decimal same +++ line_feed) ++ (codes "end" +++ line_feed)
+opened_text lanes same = (codes "extract lanes " +++ decimal lanes +++ codes " same " +++ decimal
+    same +++ line_feed) ++ (codes "end" +++ line_feed)
 
 abbrev pub found_text : ℕ → ℕ → List ℕ
 found_text lanes same = accepted_text ++ opened_text lanes same
@@ -80,9 +86,15 @@ found_text lanes same = accepted_text ++ opened_text lanes same
 abbrev pub same_count : ℕ → List LaneBids → ℕ
 same_count seals lanes = count_by (λ index. has_one_bid index lanes) (range_with_len 0 seals)
 
--- what is said of the files as they were read back: bids are opened only where both replies are accepted. Else what `extract` says
+-- what is said of the files as they were read back: bids are opened only where both replies are
+-- accepted. Else what `extract` says
 abbrev pub opened_said : List ℕ → Extraction → SaidValue
-opened_said made (Bids found) = record { status = 0; text = made ++ found_text (length found.lanes) (same_count (length found.front.seals) found.lanes) }
+opened_said made (Bids found) =
+    record {
+      status = 0;
+      text = made
+          ++ found_text (length found.lanes) (same_count (length found.front.seals) found.lanes);
+    }
 opened_said made Same = extraction_said sample_names Same
 opened_said made (Refused second verdict) = extraction_said sample_names (Refused second verdict)
 opened_said made (Clash two) = extraction_said sample_names (Clash two)
@@ -91,6 +103,10 @@ abbrev pub read_said : List ℕ → Result Extraction VErr → SaidValue
 read_said made (Ok extraction) = opened_said made extraction
 read_said made (Err fault) = unread_said sample_names fault
 
--- the summary of files that both replies are accepted of, and that open the same bid of every seal in every lane
+-- the summary of files that both replies are accepted of, and that open the same bid of every seal
+-- in every lane
 abbrev pub summary_said : ℕ → Head → SaidValue
-summary_said number head = record { status = 0; text = made_text number head ++ found_text head.lanes head.seals }
+summary_said number head = record {
+  status = 0;
+  text = made_text number head ++ found_text head.lanes head.seals;
+}

@@ -10,9 +10,11 @@ use vk_residue::NoMemory;
 /// Why there is no auction of a sample.
 #[derive(Clone, Copy, Debug, PartialEq, Eq)]
 pub enum SampleErr {
-    /// The residue of that lane, the first such, can't be drawn from a bidder's seed. Lanes count from 1.
+    /// The residue of that lane, the first such, can't be drawn from a bidder's seed. Lanes count
+    /// from 1.
     DryBidder { lane: u32 },
-    /// The tape of that wire, the first such, can't be drawn from the auctioneer's seed. Wires count from 0.
+    /// The tape of that wire, the first such, can't be drawn from the auctioneer's seed. Wires
+    /// count from 0.
     DryHouse { lane: u32, wire: u32 },
     /// Want of memory.
     NoMemory,
@@ -52,7 +54,8 @@ impl From<JobErr> for SampleErr {
 }
 
 impl SampleErr {
-    /// What is said of a seed that is dry. Takes no memory, and errs exactly where that was wanted before.
+    /// What is said of a seed that is dry. Takes no memory, and errs exactly where that was wanted
+    /// before.
     pub fn said(self) -> Result<Said, NoMemory>
         ensures said { IfSome (dry_of self) (λ dry. result ≡ Ok (dry_said dry)) }
         ensures dry { OnOk result (IsSome (dry_of self)) }

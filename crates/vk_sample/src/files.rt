@@ -42,7 +42,8 @@ pub fn sample_names() -> ExtractNames<'static>
     }
 }
 
-/// The files that a proof behind that text of a head, two challenges and the replies to them are written to.
+/// The files that a proof behind that text of a head, two challenges and the replies to them are
+/// written to.
 #[derive(Drop)]
 pub struct ProofFiles<'a> {
     pub names: ExtractNames<'a>,
@@ -58,7 +59,8 @@ impl<'a> WrittenFiles for ProofFiles<'a> {
     ghost use Rattle.vk_words.specs.Names.{extract_seen};
     ghost use Rattle.vk_sample.specs.Written.{written_of};
 
-    ghost files = { λ f. written_of (extract_seen f.names) f.head.now f.proof.now f.first.now f.second.now };
+    ghost files = { λ f. written_of (extract_seen f.names) f.head.now f.proof.now f.first.now
+        f.second.now };
 
     fn count(&self) -> usize {
         5
@@ -95,7 +97,8 @@ impl<'a> WrittenFiles for ProofFiles<'a> {
     }
 }
 
-/// Writes the files of the sample, board and replies lane by lane. Files that stand there are replaced.
+/// Writes the files of the sample, board and replies lane by lane. Files that stand there are
+/// replaced.
 pub fn write_sample<S: Shelf>(
     alloc: Global,
     shelf: &mut S,
@@ -104,8 +107,10 @@ pub fn write_sample<S: Shelf>(
 ) -> Result<(), OutsideErr>
     requires first { length sample.now.first.bits ≡ job.now.auction.lanes }
     requires second { length sample.now.second.bits ≡ job.now.auction.lanes }
-    ensures written { Modelled (WritesAll (files_of sample.now job.now.auction) result) (S.held shelf.old) (S.held shelf.new) }
-    ensures causes { Causes OutsideErr.Failed result (S.Shelf.faults shelf.old) (S.Shelf.faults shelf.new) }
+    ensures written { Modelled (WritesAll (files_of sample.now job.now.auction) result)
+        (S.held shelf.old) (S.held shelf.new) }
+    ensures causes { Causes OutsideErr.Failed result (S.Shelf.faults shelf.old)
+        (S.Shelf.faults shelf.new) }
 {
     let head = head_text(alloc, &job.head())?;
     let proof = job.proof();

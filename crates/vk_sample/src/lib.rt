@@ -1,5 +1,5 @@
-//! `sample`: a whole auction from one number. Its seals, its board and both replies are made, written, read back, judged
-//! and extracted.
+//! `sample`: a whole auction from one number. Its seals, its board and both replies are made,
+//! written, read back, judged and extracted.
 #![tactic(auto)]
 
 mod errors;

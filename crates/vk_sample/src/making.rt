@@ -13,7 +13,8 @@ use vk_report::SampleCase;
 use vk_seal::{SealErr, make_seal};
 use vk_seq::Seq;
 
-/// The seal at that index, counted from 0, with its secret: made with the bidder's seed in the stream of the seat.
+/// The seal at that index, counted from 0, with its secret: made with the bidder's seed in the
+/// stream of the seat.
 pub fn seal_row(alloc: Global, sample: &SampleCase, index: usize) -> Result<SealRow, SampleErr>
     requires right { IsCase sample.now }
     requires within { index < length sample.now.seats }
@@ -35,7 +36,8 @@ pub fn seal_row(alloc: Global, sample: &SampleCase, index: usize) -> Result<Seal
 /// All seals, in the order of the seats.
 pub fn seal_rows(alloc: Global, sample: &SampleCase) -> Result<Seq<SealRow>, SampleErr>
     requires { IsCase sample.now }
-    ensures { Gives dry_of (λ rows. rows) result (rows_onto sample.now [] (length sample.now.seats)) }
+    ensures { Gives dry_of (λ rows. rows) result
+        (rows_onto sample.now [] (length sample.now.seats)) }
 {
     let mut rows = Seq::new(alloc);
     for index in 0..sample.seats.len() {

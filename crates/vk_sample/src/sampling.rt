@@ -25,9 +25,12 @@ fn hold<S: Shelf>(
 ) -> Result<Said, OutsideErr>
     requires right { IsSampleCase sample.now }
     requires made { auction_of sample.now ≡ Ok job.now.auction }
-    ensures acts { (ledger : Option Ledger) → IfSome (effect_by (S.held shelf.old) ledger number sample.now (Ok job.now.auction))
-        (λ effect. Acts result effect (stores (S.held shelf.old) ledger) (stores (S.held shelf.new) ledger)) }
-    ensures causes { Causes OutsideErr.Failed result (S.Shelf.faults shelf.old) (S.Shelf.faults shelf.new) }
+    ensures acts { (ledger : Option Ledger)
+        → IfSome (effect_by (S.held shelf.old) ledger number sample.now (Ok job.now.auction))
+        (λ effect. Acts result effect (stores (S.held shelf.old) ledger)
+        (stores (S.held shelf.new) ledger)) }
+    ensures causes { Causes OutsideErr.Failed result (S.Shelf.faults shelf.old)
+        (S.Shelf.faults shelf.new) }
 {
     let made = made_lines(alloc, number, &job.head())?;
     write_sample(alloc, shelf, sample, job)?;
@@ -35,12 +38,15 @@ fn hold<S: Shelf>(
     Ok(said)
 }
 
-/// Makes the auction of a number with its board and two replies, writes them, reads them back, and says what they come
-/// to. Files that stand under their names are replaced; where a seed is dry none is written.
+/// Makes the auction of a number with its board and two replies, writes them, reads them back, and
+/// says what they come to. Files that stand under their names are replaced; where a seed is dry
+/// none is written.
 pub fn sample<S: Shelf>(alloc: Global, shelf: &mut S, number: u64) -> Result<Said, OutsideErr>
     ensures acts { (ledger : Option Ledger) → IfSome (sample_on (S.held shelf.old) ledger number)
-        (λ effect. Acts result effect (stores (S.held shelf.old) ledger) (stores (S.held shelf.new) ledger)) }
-    ensures causes { Causes OutsideErr.Failed result (S.Shelf.faults shelf.old) (S.Shelf.faults shelf.new) }
+        (λ effect. Acts result effect (stores (S.held shelf.old) ledger)
+        (stores (S.held shelf.new) ledger)) }
+    ensures causes { Causes OutsideErr.Failed result (S.Shelf.faults shelf.old)
+        (S.Shelf.faults shelf.new) }
 {
     let sample = sample_case(alloc, number)?;
     match make_job(alloc, &sample) {

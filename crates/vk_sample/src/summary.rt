@@ -38,7 +38,8 @@ fn reply_lines(head: &Head) -> u32
 
 /// One line more.
 fn push(lines: &mut Vec<String>, line: String) -> Result<(), NoMemory>
-    ensures { OnOk result (flat_map string_bytes lines.new.items ≡ flat_map string_bytes lines.old.items ++ string_bytes line) }
+    ensures { OnOk result (flat_map string_bytes lines.new.items
+        ≡ flat_map string_bytes lines.old.items ++ string_bytes line) }
 {
     lines.push(line)?;
     Ok(())
@@ -46,7 +47,8 @@ fn push(lines: &mut Vec<String>, line: String) -> Result<(), NoMemory>
 
 /// Two lines more.
 pub fn push_two(lines: &mut Vec<String>, first: String, second: String) -> Result<(), NoMemory>
-    ensures { OnOk result (flat_map string_bytes lines.new.items ≡ flat_map string_bytes lines.old.items ++ (string_bytes first ++ string_bytes second)) }
+    ensures { OnOk result (flat_map string_bytes lines.new.items
+        ≡ flat_map string_bytes lines.old.items ++ (string_bytes first ++ string_bytes second)) }
 {
     push(lines, first)?;
     push(lines, second)?;
@@ -69,7 +71,8 @@ pub fn made_lines(alloc: Global, number: u64, head: &Head) -> Result<Vec<String>
 
 /// The numbers of the head.
 fn push_size(alloc: Global, lines: &mut Vec<String>, head: &Head) -> Result<(), NoMemory>
-    ensures { OnOk result (flat_map string_bytes lines.new.items ≡ flat_map string_bytes lines.old.items ++ size_line head.now) }
+    ensures { OnOk result (flat_map string_bytes lines.new.items
+        ≡ flat_map string_bytes lines.old.items ++ size_line head.now) }
 {
     let Head {
         seals,
@@ -86,7 +89,8 @@ fn push_size(alloc: Global, lines: &mut Vec<String>, head: &Head) -> Result<(), 
 fn push_counts(alloc: Global, lines: &mut Vec<String>, head: &Head) -> Result<(), NoMemory>
     requires right { IsHead head.now }
     requires first { head.now.version ≡ 1 }
-    ensures { OnOk result (flat_map string_bytes lines.new.items ≡ flat_map string_bytes lines.old.items
+    ensures { OnOk result (flat_map string_bytes lines.new.items
+        ≡ flat_map string_bytes lines.old.items
         ++ counts_text (board_lines (head_numbers head.now) head.now.lanes) (reply_lines (head_numbers head.now) head.now.lanes)) }
 {
     let board = board_lines(head);
@@ -99,7 +103,8 @@ fn push_counts(alloc: Global, lines: &mut Vec<String>, head: &Head) -> Result<()
 
 /// The sale.
 fn push_sale(alloc: Global, lines: &mut Vec<String>, head: &Head) -> Result<(), NoMemory>
-    ensures { OnOk result (flat_map string_bytes lines.new.items ≡ flat_map string_bytes lines.old.items ++ sale_line head.now) }
+    ensures { OnOk result (flat_map string_bytes lines.new.items
+        ≡ flat_map string_bytes lines.old.items ++ sale_line head.now) }
 {
     let line = sale_line(alloc, head)?;
     push(lines, line)?;
@@ -115,8 +120,8 @@ pub fn same_count(seals: usize, lanes: &[LaneBids]) -> usize
         .count()
 }
 
-/// The lines of what both replies open, behind those of what was made: in how many lanes, and of how many seals the
-/// same in all of these.
+/// The lines of what both replies open, behind those of what was made: in how many lanes, and of
+/// how many seals the same in all of these.
 pub fn found_lines(
     alloc: Global,
     made: Vec<String>,
@@ -134,7 +139,8 @@ pub fn found_lines(
 
 /// Those of bids that both replies open.
 fn bids_lines(alloc: Global, made: Vec<String>, found: &Extracted) -> Result<Vec<String>, NoMemory>
-    ensures { IfOk result (λ text. flat_map string_bytes text.items ≡ flat_map string_bytes made.items
+    ensures { IfOk result (λ text. flat_map string_bytes text.items
+        ≡ flat_map string_bytes made.items
         ++ found_text (length found.now.lanes) (same_count (length found.now.front.seals) found.now.lanes)) }
 {
     let lanes = found.lanes.as_slice();
@@ -145,7 +151,8 @@ fn bids_lines(alloc: Global, made: Vec<String>, found: &Extracted) -> Result<Vec
 
 /// That both replies are accepted.
 fn push_accepted(alloc: Global, lines: &mut Vec<String>) -> Result<(), NoMemory>
-    ensures { OnOk result (flat_map string_bytes lines.new.items ≡ flat_map string_bytes lines.old.items ++ accepted_text) }
+    ensures { OnOk result (flat_map string_bytes lines.new.items
+        ≡ flat_map string_bytes lines.old.items ++ accepted_text) }
 {
     let first = format!(in alloc; "verify 1 accepted\n")?;
     let second = format!(in alloc; "verify 2 accepted\n")?;
@@ -160,7 +167,8 @@ fn push_opened(
     same: usize,
     lines: &mut Vec<String>,
 ) -> Result<(), NoMemory>
-    ensures { OnOk result (flat_map string_bytes lines.new.items ≡ flat_map string_bytes lines.old.items ++ opened_text lanes same) }
+    ensures { OnOk result (flat_map string_bytes lines.new.items
+        ≡ flat_map string_bytes lines.old.items ++ opened_text lanes same) }
 {
     let first = format!(in alloc; "extract lanes {lanes} same {same}\n")?;
     let second = format!(in alloc; "end\n")?;
@@ -170,7 +178,8 @@ fn push_opened(
 
 /// What is said of what the replies come to as they were read back.
 pub fn opened(alloc: Global, made: Vec<String>, extraction: &Extraction) -> Result<Said, NoMemory>
-    ensures said { IfOk result (λ said. said ≡ opened_said (flat_map string_bytes made.items) extraction.now) }
+    ensures said { IfOk result
+        (λ said. said ≡ opened_said (flat_map string_bytes made.items) extraction.now) }
     ensures clash { (two : TwoOpeningsSeen) → extraction.now ≡ Extraction.Clash two
         → result ≡ Ok (record { status = 3; text = clash_text two }) }
 {

@@ -24,7 +24,8 @@ use Rattle.vk_seal.specs.Tables.{SealPlace, Heading, Auction, Seat, Bid, Count, 
 
 com_line_is : (lane : ℕ) → IsLine IsCom com_text (com_at lane)
 com_line_is lane =
-    digests_line_is (codes "x") refl (omega arith) com_by (λ digests. digests.first) (λ digests. digests.second)
+    digests_line_is (codes "x") refl (omega arith) com_by (λ digests. digests.first)
+    (λ digests. digests.second)
     (λ x. refl) (λ a b. refl) (λ a b. refl)
 
 -- a mask that is at most the greatest residue is a residue
@@ -32,10 +33,13 @@ tape_line_is : (lane : ℕ) → IsLine IsXTape tape_text (tape_at lane)
 unfolding tape_at
 tape_line_is lane =
     line_same (
-    three_line (codes "x") refl (decimal_token (modulus - 1) (omega arith)) (hex_token 32) (hex_token 32) (omega arith) tape_by
-    (λ tape. tape.mask) (λ tape. tape.first_key) (λ tape. tape.second_key) (λ x. refl) (λ a b c. refl) (λ a b c. refl) (λ a b c. refl)
+    three_line (codes "x") refl (decimal_token (modulus - 1) (omega arith)) (hex_token 32)
+    (hex_token 32) (omega arith) tape_by
+    (λ tape. tape.mask) (λ tape. tape.first_key) (λ tape. tape.second_key) (λ x. refl)
+    (λ a b c. refl) (λ a b c. refl) (λ a b c. refl)
     )
-    (λ tape is. let small = is.0 in (omega arith, is.1, is.2)) (λ tape is. let small = is.0 in (omega arith, is.1, is.2))
+    (λ tape is. let small = is.0 in (omega arith, is.1, is.2))
+    (λ tape is. let small = is.0 in (omega arith, is.1, is.2))
 
 -- ---- the first line, the id and the seat
 
@@ -57,20 +61,25 @@ abbrev id_text : List ℕ × ℕ → List ℕ
 id_text place = line (spaced (codes "auction" ∷ hex_text place.0 ∷ [])) ++ seat_line place
 
 abbrev place_at : List ℕ → Rest → Result ((List ℕ × ℕ) × Rest) ℕ
-place_at auction rest = line_by (number_line (codes "seat") 1 65535) rest >>= λ seat. Ok ((auction, seat.0), seat.1)
+place_at auction rest = line_by (number_line (codes "seat") 1 65535) rest >>= λ seat.
+    Ok ((auction, seat.0), seat.1)
 
 abbrev id_at : Rest → Result ((List ℕ × ℕ) × Rest) ℕ
 id_at rest = line_by (id_line (codes "auction")) rest >>= λ auction. place_at auction.0 auction.1
 
 seat_part : (auction : List ℕ) → IsPart (SeatOf auction) seat_line (place_at auction)
-seat_part auction = part_last (λ place. place.1) (λ seat. (auction, seat)) (λ seat. refl) (line_part (number_line_is (codes "seat") 1 65535 refl (omega arith) (omega arith)))
+seat_part auction = part_last (λ place. place.1) (λ seat. (auction, seat)) (λ seat. refl)
+    (line_part (number_line_is (codes "seat") 1 65535 refl (omega arith) (omega arith)))
 
 id_part : IsPart IdOf id_text id_at
 id_part =
-    part_then {IsZ = λ auction place. SeatOf auction place} {text_z = λ auction place. seat_line place} (λ place. place.0)
-    (line_part (id_line_is (codes "auction") refl (omega arith))) (λ auction _. seat_part auction) (λ auction place is. ap (λ p. p.0) is.1)
+    part_then {IsZ = λ auction place. SeatOf auction place}
+    {text_z = λ auction place. seat_line place} (λ place. place.0)
+    (line_part (id_line_is (codes "auction") refl (omega arith))) (λ auction _. seat_part auction)
+    (λ auction place is. ap (λ p. p.0) is.1)
 
-place_is_part : (heading : List ℕ) → is_plain heading ≡ true → length heading ≤ 255 → IsPart IsPlace (λ place. seat_text heading place.0 place.1) (seat_at heading)
+place_is_part : (heading : List ℕ) → is_plain heading ≡ true → length heading ≤ 255
+    → IsPart IsPlace (λ place. seat_text heading place.0 place.1) (seat_at heading)
 unfolding seat_at seat_text
 place_is_part heading plain short =
     part_same (part_headed heading plain short id_part)
@@ -84,25 +93,37 @@ abbrev AreLanes : {X : Type 0} → (X → Type 0) → List X → Type 0
 AreLanes IsValue lanes = (1 ≤ length lanes) × (length lanes ≤ 64) × AllByRecursion IsValue lanes
 
 abbrev CountOf : {X : Type 0} → (X → Type 0) → ℕ → List X → Type 0
-CountOf IsValue count lanes = ((length lanes ≡ count) × EachAfter (λ _. IsValue) [] lanes) × (lanes ≡ lanes)
+CountOf IsValue count lanes = ((length lanes ≡ count) × EachAfter (λ _. IsValue) [] lanes)
+    × (lanes ≡ lanes)
 
 abbrev count_text : {X : Type 0} → (X → List ℕ) → List X → List ℕ
 count_text text lanes = flat_map (λ lane. line (text lane)) lanes ++ line (codes "end")
 
-lanes_is_whole : {X : Type 0} {IsValue : X → Type 0} {text : X → List ℕ} {parse : ℕ → List ℕ → Option X} → ((lane : ℕ) → IsLine IsValue text (parse lane))
+lanes_is_whole : {X : Type 0} {IsValue : X → Type 0} {text : X → List ℕ}
+    {parse : ℕ → List ℕ → Option X} → ((lane : ℕ) → IsLine IsValue text (parse lane))
     → IsWhole (AreLanes IsValue) (lanes_text text) (lanes_at parse)
 unfolding lanes_at lanes_text
 lanes_is_whole {IsValue = IsValue} {text = text} {parse = parse} form =
     whole_same (
-    whole_then {IsZ = λ count lanes. CountOf IsValue count lanes} {text_z = λ count lanes. count_text text lanes} (λ lanes. length lanes)
+    whole_then {IsZ = λ count lanes. CountOf IsValue count lanes}
+    {text_z = λ count lanes. count_text text lanes} (λ lanes. length lanes)
     (line_part (number_line_is (codes "lanes") 1 64 refl (omega arith) (omega arith)))
     (λ count _.
-    whole_then {IsZ = λ read lanes. lanes ≡ read} {text_z = λ read lanes. line (codes "end")} (λ lanes. lanes)
-    (many_part count (λ before. line_part (form (length before)))) (λ read _. whole_end read) (λ read lanes same. same))
+    whole_then {IsZ = λ read lanes. lanes ≡ read} {text_z = λ read lanes. line (codes "end")}
+    (λ lanes. lanes)
+    (many_part count (λ before. line_part (form (length before)))) (λ read _. whole_end read)
+    (λ read lanes same. same))
     (λ count lanes is. is.0.0)
     )
-    (λ lanes is. (from_test 1 (length lanes) is.0.1, is.0.0, all_from_each IsValue [] lanes is.1.0.1))
-    (λ lanes is. ((is.1, to_test 1 (length lanes) is.0), ((refl, each_from_all IsValue [] lanes is.2), refl)))
+    (λ lanes is. (
+      from_test 1 (length lanes) is.0.1,
+      is.0.0,
+      all_from_each IsValue [] lanes is.1.0.1,
+    ))
+    (λ lanes is. (
+      (is.1, to_test 1 (length lanes) is.0),
+      ((refl, each_from_all IsValue [] lanes is.2), refl),
+    ))
     (λ lanes. refl)
 
 -- ---- a seal and a secret
@@ -114,9 +135,11 @@ pub seal_is_whole : IsWhole IsSeal seal_text seal_at
 unfolding seal_text seal_at
 seal_is_whole =
     whole_same (
-    whole_then {IsZ = λ place seal. SealOf place seal} {text_z = λ place seal. lanes_text com_text seal.lanes} (λ seal. (seal.auction, seal.seat))
+    whole_then {IsZ = λ place seal. SealOf place seal}
+    {text_z = λ place seal. lanes_text com_text seal.lanes} (λ seal. (seal.auction, seal.seat))
     (place_is_part (codes "vickrey-seal 1") refl (omega arith))
-    (λ place _. whole_last (λ seal. seal.lanes) (seal_with place) (λ lanes. refl) (lanes_is_whole com_line_is))
+    (λ place _. whole_last (λ seal. seal.lanes) (seal_with place) (λ lanes. refl)
+    (lanes_is_whole com_line_is))
     (λ place seal is. ap (λ s. (s.auction, s.seat)) is.1)
     )
     (λ seal is. record {
@@ -126,30 +149,41 @@ seal_is_whole =
       count = record { least = is.1.0.0; most = is.1.0.1 };
       coms = is.1.0.2;
     })
-    (λ seal is. ((is.id, (is.some_seat, is.last_seat)), ((is.count.least, is.count.most, is.coms), refl)))
+    (λ seal is. (
+      (is.id, (is.some_seat, is.last_seat)),
+      ((is.count.least, is.count.most, is.coms), refl),
+    ))
     (λ seal. refl)
 
 abbrev TapesOf : List ℕ × ℕ → ℕ → Secret → Type 0
-TapesOf place bid secret = AreLanes IsXTape secret.lanes × (secret ≡ secret_with place bid secret.lanes)
+TapesOf place bid secret = AreLanes IsXTape secret.lanes
+    × (secret ≡ secret_with place bid secret.lanes)
 
 abbrev BidOf : List ℕ × ℕ → Secret → Type 0
 BidOf place secret = InRange 0 (2 ^ 40 - 1) secret.bid × TapesOf place secret.bid secret
 
 abbrev bid_text : Secret → List ℕ
-bid_text secret = line (spaced (codes "bid" ∷ decimal secret.bid ∷ [])) ++ lanes_text tape_text secret.lanes
+bid_text secret = line (spaced (codes "bid" ∷ decimal secret.bid ∷ []))
+    ++ lanes_text tape_text secret.lanes
 
-bid_whole : (place : List ℕ × ℕ) → IsWhole (BidOf place) bid_text (λ rest. line_by (number_line (codes "bid") 0 (2 ^ 40 - 1)) rest >>= λ bid. lanes_at tape_at bid.1 >>= λ lanes. Ok (secret_with place bid.0 lanes.0, lanes.1))
+bid_whole : (place : List ℕ × ℕ)
+    → IsWhole (BidOf place) bid_text
+    (λ rest. line_by (number_line (codes "bid") 0 (2 ^ 40 - 1)) rest >>= λ bid.
+    lanes_at tape_at bid.1 >>= λ lanes. Ok (secret_with place bid.0 lanes.0, lanes.1))
 bid_whole place =
-    whole_then {IsZ = λ bid secret. TapesOf place bid secret} {text_z = λ bid secret. lanes_text tape_text secret.lanes} (λ secret. secret.bid)
+    whole_then {IsZ = λ bid secret. TapesOf place bid secret}
+    {text_z = λ bid secret. lanes_text tape_text secret.lanes} (λ secret. secret.bid)
     (line_part (number_line_is (codes "bid") 0 (2 ^ 40 - 1) refl (omega arith) (omega arith)))
-    (λ bid _. whole_last (λ secret. secret.lanes) (secret_with place bid) (λ lanes. refl) (lanes_is_whole tape_line_is))
+    (λ bid _. whole_last (λ secret. secret.lanes) (secret_with place bid) (λ lanes. refl)
+    (lanes_is_whole tape_line_is))
     (λ bid secret is. ap (λ s. s.bid) is.1)
 
 pub secret_is_whole : IsWhole IsSecret secret_text secret_at
 unfolding secret_text secret_at
 secret_is_whole =
     whole_same (
-    whole_then {IsZ = λ place secret. BidOf place secret} {text_z = λ place secret. bid_text secret} (λ secret. (secret.auction, secret.seat))
+    whole_then {IsZ = λ place secret. BidOf place secret} {text_z = λ place secret. bid_text secret}
+    (λ secret. (secret.auction, secret.seat))
     (place_is_part (codes "vickrey-secret 1") refl (omega arith))
     (λ place _. bid_whole place)
     (λ place secret is. ap (λ s. (s.auction, s.seat)) is.1.1)
@@ -164,37 +198,50 @@ secret_is_whole =
     })
     (λ secret is. (
       (is.id, (is.some_seat, is.last_seat)),
-      ((below_to (2 ^ 40) secret.bid is.small_bid, to_test 0 secret.bid (omega arith)), ((is.count.least, is.count.most, is.tapes), refl)),
+      (
+        (below_to (2 ^ 40) secret.bid is.small_bid, to_test 0 secret.bid (omega arith)),
+        ((is.count.least, is.count.most, is.tapes), refl),
+      ),
     ))
     (λ secret. refl)
 
 -- ---- the fault lines
 
-place_follows : {X : Type 0} (heading : List ℕ) (behind : SealPlace) (parse : List ℕ → Option X) → Follows (table_by heading behind parse) Heading (seat_at heading) (λ _. behind)
+place_follows : {X : Type 0} (heading : List ℕ) (behind : SealPlace) (parse : List ℕ → Option X)
+    → Follows (table_by heading behind parse) Heading (seat_at heading) (λ _. behind)
 unfolding seat_at
 place_follows heading behind parse =
     let table = table_by heading behind parse in
-    follows_then table Heading (line_follows table Heading (word_of heading) (λ _. Auction) (λ text. refl) refl) (λ first.
-    follows_then table Auction (line_follows table Auction (id_line (codes "auction")) (λ _. Seat) (λ text. refl) refl) (λ auction.
-    follows_then table Seat (line_follows table Seat (number_line (codes "seat") 1 65535) (λ _. behind) (λ text. refl) refl) (λ seat.
+    follows_then table Heading
+    (line_follows table Heading (word_of heading) (λ _. Auction) (λ text. refl) refl) (λ first.
+    follows_then table Auction
+    (line_follows table Auction (id_line (codes "auction")) (λ _. Seat) (λ text. refl) refl)
+    (λ auction.
+    follows_then table Seat (line_follows table Seat (number_line (codes "seat") 1 65535)
+    (λ _. behind) (λ text. refl) refl) (λ seat.
     follows_done table (λ _. behind) (auction, seat))))
 
-lanes_end : {X : Type 0} (heading : List ℕ) (behind : SealPlace) (parse : List ℕ → Option X) (read : ℕ → List ℕ → Option X) → ((lane : ℕ) (text : List ℕ) → parse text ≡ read lane text)
+lanes_end : {X : Type 0} (heading : List ℕ) (behind : SealPlace) (parse : List ℕ → Option X)
+    (read : ℕ → List ℕ → Option X) → ((lane : ℕ) (text : List ℕ) → parse text ≡ read lane text)
     → FindsFaults (table_by heading behind parse) Count (lanes_at read)
 unfolding lanes_at
 lanes_end heading behind parse read same =
     let table = table_by heading behind parse in
-    ends_then table Count (line_follows table Count (number_line (codes "lanes") 1 64) Lanes (λ text. refl) refl) (λ count.
+    ends_then table Count (line_follows table Count (number_line (codes "lanes") 1 64) Lanes
+    (λ text. refl) refl) (λ count.
     ends_then table (Lanes count)
     (many_follows table (λ left before. Lanes left) (λ before. line_by (read (length before)))
-    (λ left before. line_follows table (Lanes (suc left)) (read (length before)) (λ _. Lanes left) (λ text. ap (option_map (λ _. Lanes left)) (same (length before) text)) refl) count [])
-    (λ lanes. ends_done table (Lanes zero) lanes (end_ends table (Lanes zero) Over (λ text. refl) refl (λ text. refl) refl)))
+    (λ left before. line_follows table (Lanes (suc left)) (read (length before)) (λ _. Lanes left)
+    (λ text. ap (option_map (λ _. Lanes left)) (same (length before) text)) refl) count [])
+    (λ lanes. ends_done table (Lanes zero) lanes
+    (end_ends table (Lanes zero) Over (λ text. refl) refl (λ text. refl) refl)))
 
 pub seal_ends : FindsFaults seal_table Heading seal_at
 unfolding seal_at
 seal_ends =
     ends_then seal_table Heading (place_follows (codes "vickrey-seal 1") Count com_line)
-    (λ place. ends_made seal_table Count (seal_with place) (lanes_end (codes "vickrey-seal 1") Count com_line com_at (λ lane text. refl)))
+    (λ place. ends_made seal_table Count (seal_with place)
+    (lanes_end (codes "vickrey-seal 1") Count com_line com_at (λ lane text. refl)))
 
 pub seal_fault : (bytes : List ℕ) → fault_line seal_table bytes ≡ result_err (whole seal_at bytes)
 seal_fault bytes = fault_line_is seal_table seal_at seal_ends bytes
@@ -202,9 +249,14 @@ seal_fault bytes = fault_line_is seal_table seal_at seal_ends bytes
 pub secret_ends : FindsFaults secret_table Heading secret_at
 unfolding secret_at tape_at
 secret_ends =
-    ends_then secret_table Heading (place_follows (codes "vickrey-secret 1") Bid tape_line) (λ place.
-    ends_then secret_table Bid (line_follows secret_table Bid (number_line (codes "bid") 0 (2 ^ 40 - 1)) (λ _. Count) (λ text. refl) refl)
-    (λ bid. ends_made secret_table Count (secret_with place bid) (lanes_end (codes "vickrey-secret 1") Bid tape_line tape_at (λ lane text. refl))))
+    ends_then secret_table Heading (place_follows (codes "vickrey-secret 1") Bid tape_line)
+    (λ place.
+    ends_then secret_table Bid
+    (line_follows secret_table Bid (number_line (codes "bid") 0 (2 ^ 40 - 1)) (λ _. Count)
+    (λ text. refl) refl)
+    (λ bid. ends_made secret_table Count (secret_with place bid)
+    (lanes_end (codes "vickrey-secret 1") Bid tape_line tape_at (λ lane text. refl))))
 
-pub secret_fault : (bytes : List ℕ) → fault_line secret_table bytes ≡ result_err (whole secret_at bytes)
+pub secret_fault : (bytes : List ℕ)
+    → fault_line secret_table bytes ≡ result_err (whole secret_at bytes)
 secret_fault bytes = fault_line_is secret_table secret_at secret_ends bytes

@@ -16,7 +16,11 @@ use Rattle.vk_seal.specs.Values.{wire_tape}
 
 -- the tape of a lane with that mask: two keys are drawn
 abbrev pub tape_with : ℕ → (ℕ → ℕ) → XTape
-tape_with mask ahead = record { mask = mask; first_key = drawn_key ahead; second_key = drawn_key (later 4 ahead) }
+tape_with mask ahead = record {
+  mask = mask;
+  first_key = drawn_key ahead;
+  second_key = drawn_key (later 4 ahead);
+}
 
 -- the tape of a lane: a residue is drawn, and the keys after it; none where no residue can be drawn
 abbrev pub drawn_tape : (ℕ → ℕ) → Option XTape
@@ -26,7 +30,8 @@ drawn_tape ahead = with_residue tape_with ahead
 abbrev pub after_tape : (ℕ → ℕ) → ℕ → ℕ
 after_tape ahead = later 4 (later 4 (after_residue ahead))
 
--- the draw of a lane's tape; where no residue can be drawn, only the words looked at for it are taken
+-- the draw of a lane's tape; where no residue can be drawn, only the words looked at for it are
+-- taken
 abbrev pub tape_drawing : Drawing XTape
 tape_drawing = record { drawn = drawn_tape; after = after_tape; dry = after_residue }
 
@@ -41,7 +46,8 @@ tapes_of lanes ahead = by_lane (drawn_onto tape_drawing [] lanes ahead)
 
 -- the secret of a bid with these tapes
 abbrev pub secret_with : List ℕ → ℕ → ℕ → Result (List XTape) ℕ → Result Secret ℕ
-secret_with auction seat bid (Ok tapes) = Ok (record { auction = auction; seat = seat; bid = bid; lanes = tapes })
+secret_with auction seat bid (Ok tapes) =
+    Ok (record { auction = auction; seat = seat; bid = bid; lanes = tapes })
 secret_with auction seat bid (Err lane) = Err lane
 
 -- the secret of a bid at a seat of an auction, drawn from the words ahead for so many lanes
@@ -57,7 +63,8 @@ lane_com auction seat bid lane tape =
 -- the commitments of each lane from that number on
 abbrev pub lane_coms : List ℕ → ℕ → ℕ → ℕ → List XTape → List WireCom
 lane_coms auction seat bid lane [] = []
-lane_coms auction seat bid lane (tape ∷ tapes) = lane_com auction seat bid lane tape ∷ lane_coms auction seat bid (lane + 1) tapes
+lane_coms auction seat bid lane (tape ∷ tapes) =
+    lane_com auction seat bid lane tape ∷ lane_coms auction seat bid (lane + 1) tapes
 
 -- the seal of a secret
 abbrev pub seal_of : Secret → Seal
@@ -70,7 +77,8 @@ seal_of secret = record {
 -- the secret with these tapes, and its seal
 abbrev pub sealed_tapes : List ℕ → ℕ → ℕ → List XTape → Secret × Seal
 sealed_tapes auction seat bid tapes =
-    let secret : Secret = record { auction = auction; seat = seat; bid = bid; lanes = tapes } in (secret, seal_of secret)
+    let secret : Secret = record { auction = auction; seat = seat; bid = bid; lanes = tapes } in
+    (secret, seal_of secret)
 
 abbrev pub with_seal : Result Secret ℕ → Result (Secret × Seal) SealErr
 with_seal (Ok secret) = Ok (secret, seal_of secret)
@@ -79,11 +87,13 @@ with_seal (Err lane) = Err (DrySeed lane)
 -- what making a seal answers: a bid must be below 2^width
 abbrev pub made_seal : ℕ → ℕ → List ℕ → ℕ → ℕ → (ℕ → ℕ) → Result (Secret × Seal) SealErr
 made_seal bid seat auction width lanes ahead =
-    if nat_lt bid (2 ^ width) then with_seal (secret_of bid seat auction lanes ahead) else Err BidTooLarge
+    if nat_lt bid (2 ^ width) then with_seal (secret_of bid seat auction lanes ahead)
+    else Err BidTooLarge
 
 -- the words ahead after that: for a bid that is too large none is taken
 abbrev pub after_seal : ℕ → ℕ → ℕ → (ℕ → ℕ) → ℕ → ℕ
-after_seal bid width lanes ahead = if nat_lt bid (2 ^ width) then after_draws tape_drawing lanes ahead else ahead
+after_seal bid width lanes ahead = if nat_lt bid (2 ^ width)
+    then after_draws tape_drawing lanes ahead else ahead
 
 -- these words are left ahead, unless it is want of memory
 abbrev pub Leaves : {T : Type 0} → Result T SealErr → (ℕ → ℕ) → (ℕ → ℕ) → Type 0

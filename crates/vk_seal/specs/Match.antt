@@ -16,16 +16,19 @@ and_then (Err mismatch) next = Err mismatch
 
 -- the digest of a half, where the kept one isn't the one made from the secret
 abbrev pub half_match : ℕ → Bool → List ℕ → List ℕ → Result Unit Mismatch
-half_match lane second kept made = if bytes_eq kept made then Ok tt else Err (Digest lane second kept made)
+half_match lane second kept made = if bytes_eq kept made then Ok tt
+    else Err (Digest lane second kept made)
 
 -- the first digest of a lane that differs, of the kept commitments and those made from the secret
 abbrev pub com_match : ℕ → WireCom → WireCom → Result Unit Mismatch
-com_match lane kept made = and_then (half_match lane false kept.first made.first) (half_match lane true kept.second made.second)
+com_match lane kept made = and_then (half_match lane false kept.first made.first)
+    (half_match lane true kept.second made.second)
 
 -- lane by lane from that number on
 abbrev pub coms_match : List ℕ → ℕ → ℕ → ℕ → List XTape → List WireCom → Result Unit Mismatch
 coms_match auction seat bid lane (tape ∷ tapes) (kept ∷ coms) =
-    and_then (com_match lane kept (lane_com auction seat bid lane tape)) (coms_match auction seat bid (lane + 1) tapes coms)
+    and_then (com_match lane kept (lane_com auction seat bid lane tape))
+    (coms_match auction seat bid (lane + 1) tapes coms)
 coms_match auction seat bid lane [] coms = Ok tt
 coms_match auction seat bid lane (tape ∷ tapes) [] = Ok tt
 

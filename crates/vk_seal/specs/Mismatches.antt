@@ -12,7 +12,8 @@ half_number true = codes "1"
 -- a digest of the lane that is kept, and the one that is made of the secret
 abbrev pub digest_fields : ℕ → Bool → List ℕ → List ℕ → List ℕ
 digest_fields lane second kept made =
-    spaced (codes "lane" ∷ decimal lane ∷ codes "half" ∷ half_number second ∷ codes "kept" ∷ hex_text kept ∷ codes "made" ∷ hex_text made ∷ [])
+    spaced (codes "lane" ∷ decimal lane ∷ codes "half" ∷ half_number second ∷ codes "kept"
+    ∷ hex_text kept ∷ codes "made" ∷ hex_text made ∷ [])
 
 -- the field in which a seal isn't the secret's
 abbrev pub mismatch_fields : Mismatch → List ℕ

@@ -1,5 +1,5 @@
--- How a seal and a secret are read, line by line. The laws say that this is exactly their texts, and
--- stops at the fault line.
+-- How a seal and a secret are read, line by line. The laws say that this is exactly their texts,
+-- and stops at the fault line.
 use Rattle.std.specs.Prelude.{ℕ, ◌^◌, ◌-◌, List, length, codes, Option, Result, Ok}
 use Rattle.vk_residue.specs.Steps.{◌>>=◌}
 use Rattle.vk_lines.specs.Lines.{Rest, line_by, end_at}

@@ -14,7 +14,8 @@ com_text digests = digests_text (codes "x") digests.first digests.second
 
 -- `x`, the mask, the first key, the second key
 abbrev pub tape_text : XTape → List ℕ
-tape_text tape = spaced (codes "x" ∷ decimal tape.mask ∷ hex_text tape.first_key ∷ hex_text tape.second_key ∷ [])
+tape_text tape = spaced (codes "x" ∷ decimal tape.mask ∷ hex_text tape.first_key
+    ∷ hex_text tape.second_key ∷ [])
 
 -- the first line of a form, the id of an auction and a seat
 unfoldable pub seat_text : List ℕ → List ℕ → ℕ → List ℕ

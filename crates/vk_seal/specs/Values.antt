@@ -14,7 +14,8 @@ use Rattle.vk_seal.specs.declared.secret.Seal.{Seal}
 abbrev pub IsXTape : XTape → Type 0
 IsXTape tape = IsResidue tape.mask × AreBytes 32 tape.first_key × AreBytes 32 tape.second_key
 
--- a secret: the id of an auction, a bidder's seat, a bid below 2^40, and the tape of each of up to 64 lanes
+-- a secret: the id of an auction, a bidder's seat, a bid below 2^40, and the tape of each of up to
+-- 64 lanes
 pub record IsSecret (secret : Secret) : Type 0 where
   pub id : AreBytes 16 secret.auction
   pub some_seat : 1 ≤ secret.seat
@@ -33,4 +34,9 @@ pub record IsSeal (seal : Seal) : Type 0 where
 
 -- the tape of a wire that is split: it never swaps
 abbrev pub wire_tape : XTape → WireTape
-wire_tape tape = record { mask = tape.mask; swap = false; first_key = tape.first_key; second_key = tape.second_key }
+wire_tape tape = record {
+  mask = tape.mask;
+  swap = false;
+  first_key = tape.first_key;
+  second_key = tape.second_key;
+}

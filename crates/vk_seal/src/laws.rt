@@ -25,7 +25,8 @@ pub fn reading_a_seal_stops_at_the_fault_line()
 
 /// A law: where a file is no secret, reading stops at its fault line.
 pub fn reading_a_secret_stops_at_the_fault_line()
-    ensures { (bytes : List ℕ) → fault_line secret_table bytes ≡ result_err (whole secret_at bytes) }
+    ensures { (bytes : List ℕ)
+        → fault_line secret_table bytes ≡ result_err (whole secret_at bytes) }
 {}
 
 /// A law: a file has no fault line exactly where it is the text of a seal.

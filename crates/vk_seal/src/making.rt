@@ -38,8 +38,8 @@ impl From<AllocError> for SealErr {
 }
 
 /// Makes the secret of a bid and its seal. For each lane a residue and two keys are drawn from the
-/// words, in this order. A bid that is too large takes no word and no memory, and a residue that can't
-/// be drawn is the last that is taken. All memory is taken before the first word.
+/// words, in this order. A bid that is too large takes no word and no memory, and a residue that
+/// can't be drawn is the last that is taken. All memory is taken before the first word.
 pub fn make_seal<W: Words>(
     alloc: Global,
     bid: u64,
@@ -54,8 +54,10 @@ pub fn make_seal<W: Words>(
     requires most_width { width ≤ 40 }
     requires some_lane { 1 ≤ lanes }
     requires few_lanes { lanes ≤ 64 }
-    ensures made { IsExpected result (made_seal bid seat auction.now width lanes (W.ahead words.old)) }
-    ensures left { Leaves result (after_seal bid width lanes (W.ahead words.old)) (W.ahead words.new) }
+    ensures made { IsExpected result
+        (made_seal bid seat auction.now width lanes (W.ahead words.old)) }
+    ensures left { Leaves result (after_seal bid width lanes (W.ahead words.old))
+        (W.ahead words.new) }
     ensures too_large { 2 ^ width ≤ bid → result ≡ Err SealErr.BidTooLarge }
     ensures memory { IsErrOf result SealErr.NoMemory → W.ahead words.new ≡ W.ahead words.old }
     ensures secret { IfOk result (λ made. IsSecret made.0) }

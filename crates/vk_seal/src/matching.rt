@@ -77,7 +77,8 @@ fn match_lanes(secret: &Secret, tapes: &[XTape], coms: &[WireCom]) -> Result<(),
     requires small_bid { secret.now.bid < 2 ^ 40 }
     requires few_lanes { length tapes.now ≤ 64 }
     requires one_each { length coms.now ≡ length tapes.now }
-    ensures { result ≡ coms_match secret.now.auction secret.now.seat secret.now.bid 1 tapes.now coms.now }
+    ensures { result ≡ coms_match secret.now.auction secret.now.seat secret.now.bid 1 tapes.now
+        coms.now }
 {
     for (index, tape) in tapes.iter().enumerate() {
         let lane = index as u16 + 1;

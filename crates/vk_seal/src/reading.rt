@@ -94,7 +94,8 @@ fn read_seat<S: Shelf>(
     lines: &mut Lines,
     heading: &[u8],
 ) -> Result<([u8; 16], u16), ReadErr>
-    ensures modelled { ReadsPart (seat_at heading.now) (S.held shelf.old) lines.old lines.new result }
+    ensures modelled { ReadsPart (seat_at heading.now) (S.held shelf.old) lines.old lines.new
+        result }
     ensures id { IfOk result (λ place. AreBytes 16 place.0) }
     ensures some_seat { IfOk result (λ place. 1 ≤ place.1) }
     ensures file { KeepsFile lines.old lines.new }
@@ -115,7 +116,8 @@ fn read_lanes<S: Shelf, K: LineKind>(
     kind: &K,
 ) -> Result<Seq<K::Item>, ReadErr>
     requires { 64 ≤ K.most kind.now }
-    ensures modelled { ReadsPart (lanes_at (K.item_of kind.now)) (S.held shelf.old) lines.old lines.new result }
+    ensures modelled { ReadsPart (lanes_at (K.item_of kind.now)) (S.held shelf.old) lines.old
+        lines.new result }
     ensures some { IfOk result (λ lanes. 1 ≤ length lanes) }
     ensures few { IfOk result (λ lanes. length lanes ≤ 64) }
     ensures each { IfOk result (EachNumbered (K.is_item kind.now)) }
@@ -136,7 +138,8 @@ pub fn read_secret<S: Shelf>(
     lines: &mut Lines,
 ) -> Result<Secret, ReadErr>
     ensures modelled { ReadsPart secret_at (S.held shelf.old) lines.old lines.new result }
-    ensures answers { AnswersWhole IsSecret secret_text secret_table (S.held shelf.old) lines.old result }
+    ensures answers { AnswersWhole IsSecret secret_text secret_table (S.held shelf.old) lines.old
+        result }
     ensures right { IfOk result IsSecret }
     ensures file { KeepsFile lines.old lines.new }
     ensures shelf { OnlyReads S.held S.Shelf.faults ReadErr.Failed result shelf.old shelf.new }
@@ -168,7 +171,12 @@ fn secret_from(auction: &[u8; 16], seat: u16, bid: u64, lanes: Seq<XTape>) -> Se
     requires some_lane { 1 ≤ length lanes }
     requires few_lanes { length lanes ≤ 64 }
     requires tapes { All IsXTape lanes }
-    ensures value { result ≡ record { auction = auction.now; seat = seat; bid = bid; lanes = lanes } }
+    ensures value { result ≡ record {
+      auction = auction.now;
+      seat = seat;
+      bid = bid;
+      lanes = lanes;
+    } }
     ensures right { IsSecret result }
 {
     Secret {

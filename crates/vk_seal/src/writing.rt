@@ -32,7 +32,8 @@ fn push_seat(
     auction: &[u8; 16],
     seat: u16,
 ) -> Result<(), NoMemory>
-    ensures { OnOk result (out.new.items ≡ out.old.items ++ seat_text heading.now auction.now seat) }
+    ensures { OnOk result (out.new.items
+        ≡ out.old.items ++ seat_text heading.now auction.now seat) }
 {
     push_line(out, heading)?;
     push_hex_line(out, b"auction", auction)?;
@@ -56,7 +57,8 @@ pub fn secret_text(alloc: Global, secret: &Secret) -> Result<Vec<u8>, NoMemory>
 
 /// Appends the line of each lane of a secret.
 fn push_tapes(out: &mut Vec<u8>, tapes: &[XTape]) -> Result<(), NoMemory>
-    ensures { OnOk result (out.new.items ≡ out.old.items ++ flat_map (λ tape. line (tape_text tape)) tapes.now) }
+    ensures { OnOk result (out.new.items
+        ≡ out.old.items ++ flat_map (λ tape. line (tape_text tape)) tapes.now) }
 {
     for tape in tapes {
         push_tape_line(out, tape)?;

@@ -64,7 +64,8 @@ impl<T> Seq<T> {
         self.items.is_empty()
     }
 
-    /// Puts the value at the end. After a refusal the items are as before, and the value is handed back.
+    /// Puts the value at the end. After a refusal the items are as before, and the value is handed
+    /// back.
     pub fn push(&mut self, value: T) -> Result<(), AllocFailed<T>>
         ensures pushed { OnOk result (self.new ≡ self.old ++ value ∷ []) }
         ensures as_before { OnErr result (self.new ≡ self.old) }

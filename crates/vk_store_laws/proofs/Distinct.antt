@@ -28,16 +28,20 @@ not_false : (b : Bool) → not b ≡ true → b ≡ false
 not_false true h = absurd (let e = h in cc)
 not_false false h = refl
 
-no_null : (v w : Value) (b : Bool) → is_null v ≡ false → is_null w ≡ false → is_true (Rattle.sqlite_sql.specs.Ops.from_truth (Rattle.std.specs.Prelude.Some b)) ≡ b
+no_null : (v w : Value) (b : Bool) → is_null v ≡ false → is_null w ≡ false
+    → is_true (Rattle.sqlite_sql.specs.Ops.from_truth (Rattle.std.specs.Prelude.Some b)) ≡ b
 no_null v w true p q = refl
 no_null v w false p q = refl
 
 -- values that tie are equal, where neither is NULL
-pub equal_tied : (k : Key) (v w : Value) → k ≡ ascending Binary → is_null v ≡ false → is_null w ≡ false → value_cmp v w ≡ Equal → equal k.collation v w ≡ true
+pub equal_tied : (k : Key) (v w : Value) → k ≡ ascending Binary → is_null v ≡ false
+    → is_null w ≡ false → value_cmp v w ≡ Equal → equal k.collation v w ≡ true
 unfolding binary
-equal_tied k v w is p q tie = subst (λ (k : Key). equal k.collation v w ≡ true) (sym is) (rw (p, q, tie) refl)
+equal_tied k v w is p q tie = subst (λ (k : Key). equal k.collation v w ≡ true) (sym is)
+    (rw (p, q, tie) refl)
 
-pub differs : (v w : Value) → is_null v ≡ false → is_null w ≡ false → value_cmp v w ≡ Less → differ v w ≡ true
+pub differs : (v w : Value) → is_null v ≡ false → is_null w ≡ false → value_cmp v w ≡ Less
+    → differ v w ≡ true
 unfolding binary
 differs v w p q below = rw (p, q, below) refl
 
@@ -62,25 +66,45 @@ same_position a b = is_eq (value_cmp (column a 0) (column b 0))
 
 module _ (db : Trees) (sound : IsSound store_schema db) (table : IsTableOfRows (db 3)) (id : List ℕ) where
   pub has_position : (r : Row) → Has (db 3) r → is_null (column r 2) ≡ false
-  has_position r h = not_false _ (and_parts _ _ (and_parts _ _ (all_has _ (db 3) r ((sound.obeys.rules NotNull).1.1.0) h)).1).0
+  has_position r h = not_false _
+      (and_parts _ _ (and_parts _ _ (all_has _ (db 3) r ((sound.obeys.rules NotNull).1.1.0) h)).1).0
 
   no_clash : (r : Row) → Has (db 3) r → clashes plain (1 ∷ 2 ∷ []) (db 3) r ≡ false
-  no_clash r h = not_false _ (and_parts _ _ (all_has _ (db 3) r ((sound.obeys.rules Unique).1.1.0) h)).0
+  no_clash r h = not_false _ (and_parts _ _
+      (all_has _ (db 3) r ((sound.obeys.rules Unique).1.1.0) h)).0
 
-  apart : (a b : Row) → Has (db 3) a → Has (db 3) b → has_id id a ≡ true → has_id id b ≡ true → value_cmp (rowid a) (rowid b) ≡ Less → is_eq (value_cmp (column a 2) (column b 2)) ≡ true → ⊥
+  apart : (a b : Row) → Has (db 3) a → Has (db 3) b → has_id id a ≡ true → has_id id b ≡ true
+      → value_cmp (rowid a) (rowid b) ≡ Less → is_eq (value_cmp (column a 2) (column b 2)) ≡ true
+      → ⊥
   apart a b ha hb ia ib below tie =
-      let ids : value_cmp (column a 1) (column b 1) ≡ Equal = one_value (column a 1) (column b 1) (equal_is _ ia) (equal_is _ ib) in
-      let first : equal (Rattle.sqlite_value.specs.Keys.first_key plain).collation (column a 1) (column b 1) ≡ true = equal_tied _ _ _ first_key-plain (id_no_null _ id ia) (id_no_null _ id ib) ids in
-      let second : equal (Rattle.sqlite_value.specs.Keys.first_key plain).collation (column a 2) (column b 2) ≡ true = equal_tied _ _ _ first_key-plain (has_position a ha) (has_position b hb) (equal_is _ tie) in
-      let agrees : agree plain (1 ∷ 2 ∷ []) a (1 ∷ 2 ∷ []) b ≡ true = and_from _ _ first (and_from _ _ second refl) in
-      let rowids : differ (rowid a) (rowid b) ≡ true = differs _ _ (int_no_null _ (all_has _ (db 3) a table.1 ha)) (int_no_null _ (all_has _ (db 3) b table.1 hb)) below in
-      let clash : clashes plain (1 ∷ 2 ∷ []) (db 3) b ≡ true = some_from (λ other. agree plain (1 ∷ 2 ∷ []) other (1 ∷ 2 ∷ []) b && differ (rowid other) (rowid b)) (db 3) a ha (and_from _ _ agrees rowids) in
+      let ids : value_cmp (column a 1) (column b 1) ≡ Equal =
+      one_value (column a 1) (column b 1) (equal_is _ ia) (equal_is _ ib) in
+      let first : equal (Rattle.sqlite_value.specs.Keys.first_key plain).collation (column a 1)
+      (column b 1) ≡ true =
+      equal_tied _ _ _ first_key-plain (id_no_null _ id ia) (id_no_null _ id ib) ids in
+      let second : equal (Rattle.sqlite_value.specs.Keys.first_key plain).collation (column a 2)
+      (column b 2) ≡ true =
+      equal_tied _ _ _ first_key-plain (has_position a ha) (has_position b hb) (equal_is _ tie)
+      in
+      let agrees : agree plain (1 ∷ 2 ∷ []) a (1 ∷ 2 ∷ []) b ≡ true =
+      and_from _ _ first (and_from _ _ second refl) in
+      let rowids : differ (rowid a) (rowid b) ≡ true =
+      differs _ _ (int_no_null _ (all_has _ (db 3) a table.1 ha))
+      (int_no_null _ (all_has _ (db 3) b table.1 hb)) below in
+      let clash : clashes plain (1 ∷ 2 ∷ []) (db 3) b ≡ true =
+      some_from (λ other. agree plain (1 ∷ 2 ∷ []) other (1 ∷ 2 ∷ []) b
+      && differ (rowid other) (rowid b)) (db 3) a ha (and_from _ _ agrees rowids) in
       false≢true (sym (no_clash b hb) ∙ clash)
     where
-      one_value : (v w : Value) → value_cmp v (Blob id) ≡ Equal → value_cmp w (Blob id) ≡ Equal → value_cmp v w ≡ Equal
-      one_value v w p q = Rattle.sqlite_value.proofs.OrderLemmas.value_cmp_total.congr v (Blob id) w p ∙ Rattle.std.proofs.lemmas.Cmp.tied_back Rattle.sqlite_value.proofs.OrderLemmas.value_cmp_total w (Blob id) q
+      one_value : (v w : Value) → value_cmp v (Blob id) ≡ Equal → value_cmp w (Blob id) ≡ Equal
+          → value_cmp v w ≡ Equal
+      one_value v w p q = Rattle.sqlite_value.proofs.OrderLemmas.value_cmp_total.congr v (Blob id) w
+          p ∙ Rattle.std.proofs.lemmas.Cmp.tied_back
+          Rattle.sqlite_value.proofs.OrderLemmas.value_cmp_total w (Blob id) q
 
-  distinct_in : (rows : List Row) → IsAscending (λ a b. value_cmp (rowid a) (rowid b) ≡ Less) rows → ((r : Row) → Has rows r → Has (db 3) r × (has_id id r ≡ true)) → IsDistinct same_position (map seal_columns rows)
+  distinct_in : (rows : List Row) → IsAscending (λ a b. value_cmp (rowid a) (rowid b) ≡ Less) rows
+      → ((r : Row) → Has rows r → Has (db 3) r × (has_id id r ≡ true))
+      → IsDistinct same_position (map seal_columns rows)
   unfolding IsDistinct
   distinct_in [] up own = tt
   distinct_in (r ∷ rows) up own = (
@@ -88,8 +112,10 @@ module _ (db : Trees) (sound : IsSound store_schema db) (table : IsTableOfRows (
         let from = has_mapped seal_columns rows y h in
         let here = own r (inl refl) in
         let there = own from.0 (inr from.1) in
-        subst (λ z. same_position (seal_columns r) z ≡ false) (sym from.2) (elim (cases_Bool (is_eq (value_cmp (column r 2) (column from.0 2)))) [
-          | inl tie ↦ absurd (apart r from.0 here.0 there.0 here.1 there.1 (all_has _ rows from.0 up.0 from.1) tie)
+        subst (λ z. same_position (seal_columns r) z ≡ false) (sym from.2)
+        (elim (cases_Bool (is_eq (value_cmp (column r 2) (column from.0 2)))) [
+          | inl tie ↦ absurd (apart r from.0 here.0 there.0 here.1 there.1
+              (all_has _ rows from.0 up.0 from.1) tie)
           | inr other ↦ other
         ])),
     distinct_in rows up.1 (λ x h. own x (inr h)),
@@ -97,10 +123,13 @@ module _ (db : Trees) (sound : IsSound store_schema db) (table : IsTableOfRows (
 
   -- no two of the seals have one position
   pub positions_differ : IsDistinct same_position (map seal_columns (under id (db 3)))
-  positions_differ = distinct_in (under id (db 3)) (ascending_filter _ (has_id id) (db 3) table.0) (λ r h. has_filtered (has_id id) (db 3) r h)
+  positions_differ = distinct_in (under id (db 3)) (ascending_filter _ (has_id id) (db 3) table.0)
+      (λ r h. has_filtered (has_id id) (db 3) r h)
 
   -- each has a position
-  pub positions_are : AllByRecursion (λ shown. is_null (column shown 0) ≡ false) (map seal_columns (under id (db 3)))
+  pub positions_are : AllByRecursion (λ shown. is_null (column shown 0) ≡ false)
+      (map seal_columns (under id (db 3)))
   positions_are = all_from _ (map seal_columns (under id (db 3))) (λ y h.
       let from = has_mapped seal_columns (under id (db 3)) y h in
-      subst (λ z. is_null (column z 0) ≡ false) (sym from.2) (has_position from.0 (has_filtered (has_id id) (db 3) from.0 from.1).0))
+      subst (λ z. is_null (column z 0) ≡ false) (sym from.2)
+      (has_position from.0 (has_filtered (has_id id) (db 3) from.0 from.1).0))

@@ -65,69 +65,113 @@ text_stays None = refl
 text_stays (Some text) = refl
 
 -- a row that the test passes, where it passes no other
-pub put_alone : (p : Row → Bool) (new : Row) (rows : List Row) → p new ≡ true → filter p rows ≡ [] → is_taken rows new ≡ false → filter p (put_row new rows) ≡ new ∷ []
+pub put_alone : (p : Row → Bool) (new : Row) (rows : List Row) → p new ≡ true → filter p rows ≡ []
+    → is_taken rows new ≡ false → filter p (put_row new rows) ≡ new ∷ []
 put_alone p new rows passes none free = alone_from rows none free
   where
-    tail : (b : Bool) (r : Row) (more : List Row) → cond b (r ∷ more) more ≡ [] → (b ≡ false) × (more ≡ [])
+    tail : (b : Bool) (r : Row) (more : List Row) → cond b (r ∷ more) more ≡ []
+        → (b ≡ false) × (more ≡ [])
     tail true r more is = absurd (let e = is in cc)
     tail false r more is = (refl, is)
 
-    alone_from : (rs : List Row) → filter p rs ≡ [] → is_taken rs new ≡ false → filter p (put_row new rs) ≡ new ∷ []
+    alone_from : (rs : List Row) → filter p rs ≡ [] → is_taken rs new ≡ false
+        → filter p (put_row new rs) ≡ new ∷ []
     alone_from [] empty untaken = rw passes refl
     alone_from (r ∷ rs) empty untaken = go (value_cmp (rowid r) (rowid new)) refl (alone_from rs)
       where
         split : (p r ≡ false) × (filter p rs ≡ [])
         split = tail (p r) r (filter p rs) empty
 
-        go : (o : Ordering) → value_cmp (rowid r) (rowid new) ≡ o → (filter p rs ≡ [] → is_taken rs new ≡ false → filter p (put_row new rs) ≡ new ∷ []) → filter p (put_row new (r ∷ rs)) ≡ new ∷ []
+        go : (o : Ordering) → value_cmp (rowid r) (rowid new) ≡ o
+            → (filter p rs ≡ [] → is_taken rs new ≡ false → filter p (put_row new rs) ≡ new ∷ [])
+            → filter p (put_row new (r ∷ rs)) ≡ new ∷ []
         go Less e later =
             let more_free : is_taken rs new ≡ false = rw e at untaken in
-            subst (λ o. filter p (match_ordering o (r ∷ put_row new rs) (new ∷ rs) (new ∷ r ∷ rs)) ≡ new ∷ []) (sym e)
-            (ap (λ b. cond b (r ∷ filter p (put_row new rs)) (filter p (put_row new rs))) split.0 ∙ later split.1 more_free)
+            subst (λ o. filter p (match_ordering o (r ∷ put_row new rs) (new ∷ rs) (new ∷ r ∷ rs))
+            ≡ new ∷ []) (sym e)
+            (ap (λ b. cond b (r ∷ filter p (put_row new rs)) (filter p (put_row new rs))) split.0
+            ∙ later split.1 more_free)
         go Equal e later = absurd (let f = rw e at untaken in cc)
         go Greater e later =
-            subst (λ o. filter p (match_ordering o (r ∷ put_row new rs) (new ∷ rs) (new ∷ r ∷ rs)) ≡ new ∷ []) (sym e)
-            (ap (λ b. cond b (new ∷ filter p (r ∷ rs)) (filter p (r ∷ rs))) passes ∙ ap (λ more. new ∷ more) empty)
+            subst (λ o. filter p (match_ordering o (r ∷ put_row new rs) (new ∷ rs) (new ∷ r ∷ rs))
+            ≡ new ∷ []) (sym e)
+            (ap (λ b. cond b (new ∷ filter p (r ∷ rs)) (filter p (r ∷ rs))) passes
+            ∙ ap (λ more. new ∷ more) empty)
 
 pub none_left : (p : Row → Bool) (rows : List Row) → filter p (filter (λ r. not (p r)) rows) ≡ []
-none_left p rows = filter_none p (filter (λ r. not (p r)) rows) (all_from _ (filter (λ r. not (p r)) rows) (λ r h.
+none_left p rows = filter_none p (filter (λ r. not (p r)) rows)
+    (all_from _ (filter (λ r. not (p r)) rows) (λ r h.
     let kept = (has_filtered (λ x. not (p x)) rows r h).1 in
-    elim (cases_Bool (p r)) [ inl passes ↦ absurd (let e = rw passes at kept in cc) | inr fails ↦ fails ]))
+    elim (cases_Bool (p r)) [
+      | inl passes ↦ absurd (let e = rw passes at kept in cc)
+      | inr fails ↦
+          fails
+    ]))
 
 -- a row that takes the place of all of its id is the only one of the id
-left_alone : (id : List ℕ) (params : Row) (before after : List Row) (put : PutsRow params (filter (λ r. not (has_id id r)) before) after)
+left_alone : (id : List ℕ) (params : Row) (before after : List Row)
+    (put : PutsRow params (filter (λ r. not (has_id id r)) before) after)
     → has_id id (Int put.number ∷ params) ≡ true → under id after ≡ (Int put.number ∷ params) ∷ []
 left_alone id params before after put own =
-    ap (under id) put.rows ∙ put_alone (has_id id) (Int put.number ∷ params) (filter (λ r. not (has_id id r)) before) own (none_left (has_id id) before) put.free
+    ap (under id) put.rows ∙ put_alone (has_id id) (Int put.number ∷ params)
+    (filter (λ r. not (has_id id r)) before) own (none_left (has_id id) before) put.free
 
 -- the rows that the statement drops
 abbrev pub goes : List ℕ → ℕ → Row → Bool
-goes id standing r = list_all (holds ((Blob id ∷ Int (pos standing) ∷ []) ∷ r ∷ [])) (of_id ∷ is_behind ∷ [])
+goes id standing r = list_all (holds ((Blob id ∷ Int (pos standing) ∷ []) ∷ r ∷ []))
+    (of_id ∷ is_behind ∷ [])
 
 module _ {S : Type 0} (g : Ghosts S) (old new : Held S) (store : IsStore (state g old).now) where
   -- the row of the auction is the only one of its id, and nothing else is changed
   pub keeps_row : (auction : Auction) → Ran g keep_auction (auction_row auction) old new
-      → IsStoreStep auction.id (state g old).now (state g new).now × (map head_columns (under auction.id ((state g new).now.trees 1)) ≡ head_row auction ∷ [])
+      → IsStoreStep auction.id (state g old).now (state g new).now
+      × (map head_columns (under auction.id ((state g new).now.trees 1)) ≡ head_row auction ∷ [])
   unfolding Ran
   keeps_row auction ran =
       let id = auction.id in
       let params = auction_row auction in
       let before = (state g old).now.trees 1 in
-      let w = runs_as keep_auction params (state g old) (state g new) store_schema store.schema _ keep_auction_is.0 keep_auction_is.1 ran.0 ran.1.0 in
+      let w = runs_as keep_auction params (state g old) (state g new) store_schema store.schema _
+      keep_auction_is.0 keep_auction_is.1 ran.0 ran.1.0 in
       let text = statement_of keep_auction (understood store_schema keep_auction) in
-      let done = replaces store_schema 1 (placed auctions 1) refl (λ keys db edit. refl) (state g old) (state g new) store.schema text params ran.0
-      (has_id id) refl (λ n. rw (cast_int n, cast_int (pos auction.width), cast_int (pos auction.lanes), cast_int _, text_stays (bits_in auction.phase)) refl)
-      (λ n r. subst (λ (k : Key). ((equal k.collation (column r 1) (Blob id) && true) || false) ≡ has_id id r) (sym first_key-plain) (or_false _ ∙ (and_true _ ∙ is_id (column r 1) id)))
-      auction_terms 7 refl refl refl (rw (cast_null, cast_int (pos auction.width), cast_int (pos auction.lanes), cast_int _, text_stays (bits_in auction.phase)) refl) store.auctions w in
+      let done = replaces store_schema 1 (placed auctions 1) refl (λ keys db edit. refl)
+      (state g old) (state g new) store.schema text params ran.0
+      (has_id id) refl (λ n. rw (
+        cast_int n,
+        cast_int (pos auction.width),
+        cast_int (pos auction.lanes),
+        cast_int _,
+        text_stays (bits_in auction.phase),
+      ) refl)
+      (λ n r. subst (λ (k : Key). ((equal k.collation (column r 1) (Blob id) && true) || false)
+      ≡ has_id id r) (sym first_key-plain) (or_false _ ∙ (and_true _ ∙ is_id (column r 1) id)))
+      auction_terms 7 refl refl refl
+      (rw (
+        cast_null,
+        cast_int (pos auction.width),
+        cast_int (pos auction.lanes),
+        cast_int _,
+        text_stays (bits_in auction.phase),
+      ) refl) store.auctions w in
       let left = filter (λ r. not (has_id id r)) before in
       let put = done.1 in
       let alone = left_alone id params before _ put (own_id id) in
-      let same : (state g new).now.trees 3 ≡ (state g old).now.trees 3 = done.0.tables.1.1.0 apart_31 in
-      let terms : (state g new).now.trees 6 ≡ (state g old).now.trees 6 = done.0.tables.1.1.1.0 apart_61 in (
+      let same : (state g new).now.trees 3 ≡ (state g old).now.trees 3 =
+      done.0.tables.1.1.0 apart_31 in
+      let terms : (state g new).now.trees 6 ≡ (state g old).now.trees 6 =
+      done.0.tables.1.1.1.0 apart_61 in (
         record {
-          store = record { schema = done.0.schema; auctions = table_after_put params left _ (table_after_delete _ before store.auctions) put; terms = subst IsTableOfRows (sym terms) store.terms; seals = subst IsTableOfRows (sym same) store.seals };
+          store = record {
+            schema = done.0.schema;
+            auctions = table_after_put params left _ (table_after_delete _ before store.auctions)
+                put;
+            terms = subst IsTableOfRows (sym terms) store.terms;
+            seals =
+                subst IsTableOfRows (sym same) store.seals;
+          };
           others = record {
-            auctions = λ other apart. others_after_put other id _ left _ apart put ∙ others_after_delete other id (has_id id) before apart (λ r h. h);
+            auctions = λ other apart. others_after_put other id _ left _ apart put
+                ∙ others_after_delete other id (has_id id) before apart (λ r h. h);
             terms = λ other apart. ap (under other) terms;
             seals = λ other apart. ap (under other) same;
           };
@@ -137,29 +181,47 @@ module _ {S : Type 0} (g : Ghosts S) (old new : Held S) (store : IsStore (state 
 
   -- the row of its terms is the only one of its id, and nothing else is changed
   pub keeps_terms : (auction : Auction) → Ran g keep_terms (terms_row auction) old new
-      → IsStoreStep auction.id (state g old).now (state g new).now × (map term_columns (under auction.id ((state g new).now.trees 6)) ≡ term_row auction ∷ [])
-      × ((state g new).now.trees 1 ≡ (state g old).now.trees 1) × IsSound store_schema (state g new).now.trees
+      → IsStoreStep auction.id (state g old).now (state g new).now
+      × (map term_columns (under auction.id ((state g new).now.trees 6)) ≡ term_row auction ∷ [])
+      × ((state g new).now.trees 1 ≡ (state g old).now.trees 1)
+      × IsSound store_schema (state g new).now.trees
   unfolding Ran
   keeps_terms auction ran =
       let before = (state g old).now.trees 6 in
       let id = auction.id in
       let left = filter (λ r. not (has_id id r)) before in
       let params = terms_row auction in
-      let w = runs_as keep_terms params (state g old) (state g new) store_schema store.schema _ keep_terms_is.0 keep_terms_is.1 ran.0 ran.1.0 in
+      let w = runs_as keep_terms params (state g old) (state g new) store_schema store.schema _
+      keep_terms_is.0 keep_terms_is.1 ran.0 ran.1.0 in
       let text = statement_of keep_terms (understood store_schema keep_terms) in
-      let done = replaces store_schema 3 (placed terms 6) refl (λ keys db edit. refl) (state g old) (state g new) store.schema text params ran.0
-      (has_id id) refl (λ n. rw (cast_int n, cast_int (pos auction.version), cast_int (pos auction.reserve)) refl)
-      (λ n r. subst (λ (k : Key). ((equal k.collation (column r 1) (Blob id) && true) || false) ≡ has_id id r) (sym first_key-plain) (or_false _ ∙ (and_true _ ∙ is_id (column r 1) id)))
-      terms_terms 4 refl refl refl (rw (cast_null, cast_int (pos auction.version), cast_int (pos auction.reserve)) refl) store.terms w in
+      let done = replaces store_schema 3 (placed terms 6) refl (λ keys db edit. refl) (state g old)
+      (state g new) store.schema text params ran.0
+      (has_id id) refl (λ n. rw
+      (cast_int n, cast_int (pos auction.version), cast_int (pos auction.reserve)) refl)
+      (λ n r. subst (λ (k : Key). ((equal k.collation (column r 1) (Blob id) && true) || false)
+      ≡ has_id id r) (sym first_key-plain) (or_false _ ∙ (and_true _ ∙ is_id (column r 1) id)))
+      terms_terms 4 refl refl refl
+      (rw (cast_null, cast_int (pos auction.version), cast_int (pos auction.reserve)) refl)
+      store.terms w in
       let put = done.1 in
       let alone = left_alone id params before _ put (own_id id) in
-      let heads : (state g new).now.trees 1 ≡ (state g old).now.trees 1 = done.0.tables.1.0 apart_16 in
-      let same : (state g new).now.trees 3 ≡ (state g old).now.trees 3 = done.0.tables.1.1.0 apart_36 in (
+      let heads : (state g new).now.trees 1 ≡ (state g old).now.trees 1 = done.0.tables.1.0 apart_16
+      in
+      let same : (state g new).now.trees 3 ≡ (state g old).now.trees 3 =
+      done.0.tables.1.1.0 apart_36 in (
         record {
-          store = record { schema = done.0.schema; auctions = subst IsTableOfRows (sym heads) store.auctions; terms = table_after_put params left _ (table_after_delete _ before store.terms) put; seals = subst IsTableOfRows (sym same) store.seals };
+          store = record {
+            schema = done.0.schema;
+            auctions = subst IsTableOfRows (sym heads) store.auctions;
+            terms =
+                table_after_put params left _ (table_after_delete _ before store.terms) put;
+            seals =
+                subst IsTableOfRows (sym same) store.seals;
+          };
           others = record {
             auctions = λ other apart. ap (under other) heads;
-            terms = λ other apart. others_after_put other id _ left _ apart put ∙ others_after_delete other id (has_id id) before apart (λ r h. h);
+            terms = λ other apart. others_after_put other id _ left _ apart put
+                ∙ others_after_delete other id (has_id id) before apart (λ r h. h);
             seals = λ other apart. ap (under other) same;
           };
         },
@@ -169,21 +231,36 @@ module _ {S : Type 0} (g : Ghosts S) (old new : Held S) (store : IsStore (state 
       )
 
   -- one more seal's row, and nothing else is changed
-  pub keeps_seal : (id : List ℕ) (position : ℕ) (texts : SealTexts) → Ran g keep_seal (seal_row id position texts) old new
-      → IsStoreStep id (state g old).now (state g new).now × PutsRow (seal_row id position texts) ((state g old).now.trees 3) ((state g new).now.trees 3)
-      × ((state g new).now.trees 1 ≡ (state g old).now.trees 1) × ((state g new).now.trees 6 ≡ (state g old).now.trees 6)
+  pub keeps_seal : (id : List ℕ) (position : ℕ) (texts : SealTexts)
+      → Ran g keep_seal (seal_row id position texts) old new
+      → IsStoreStep id (state g old).now (state g new).now
+      × PutsRow (seal_row id position texts) ((state g old).now.trees 3) ((state g new).now.trees 3)
+      × ((state g new).now.trees 1 ≡ (state g old).now.trees 1)
+      × ((state g new).now.trees 6 ≡ (state g old).now.trees 6)
   unfolding Ran
   keeps_seal id position texts ran =
       let params = seal_row id position texts in
       let before = (state g old).now.trees 3 in
-      let w = runs_as keep_seal params (state g old) (state g new) store_schema store.schema _ keep_seal_is.0 keep_seal_is.1 ran.0 ran.1.0 in
+      let w = runs_as keep_seal params (state g old) (state g new) store_schema store.schema _
+      keep_seal_is.0 keep_seal_is.1 ran.0 ran.1.0 in
       let text = statement_of keep_seal (understood store_schema keep_seal) in
-      let done = inserts store_schema 2 (placed seals 3) refl (λ keys db edit. refl) (state g old) (state g new) store.schema text params ran.0
-      seal_terms 6 refl refl refl (rw (cast_null, cast_int (pos position), cast_int (pos texts.seat)) refl) w in
-      let same : (state g new).now.trees 1 ≡ (state g old).now.trees 1 = done.0.tables.1.0 apart_13 in
-      let terms : (state g new).now.trees 6 ≡ (state g old).now.trees 6 = done.0.tables.1.1.1.0 apart_63 in (
+      let done = inserts store_schema 2 (placed seals 3) refl (λ keys db edit. refl) (state g old)
+      (state g new) store.schema text params ran.0
+      seal_terms 6 refl refl refl
+      (rw (cast_null, cast_int (pos position), cast_int (pos texts.seat)) refl) w in
+      let same : (state g new).now.trees 1 ≡ (state g old).now.trees 1 = done.0.tables.1.0 apart_13
+      in
+      let terms : (state g new).now.trees 6 ≡ (state g old).now.trees 6 =
+      done.0.tables.1.1.1.0 apart_63 in (
         record {
-          store = record { schema = done.0.schema; auctions = subst IsTableOfRows (sym same) store.auctions; terms = subst IsTableOfRows (sym terms) store.terms; seals = table_after_put params before _ store.seals done.1 };
+          store = record {
+            schema = done.0.schema;
+            auctions = subst IsTableOfRows (sym same) store.auctions;
+            terms =
+                subst IsTableOfRows (sym terms) store.terms;
+            seals =
+                table_after_put params before _ store.seals done.1;
+          };
           others = record {
             auctions = λ other apart. ap (under other) same;
             terms = λ other apart. ap (under other) terms;
@@ -195,26 +272,44 @@ module _ {S : Type 0} (g : Ghosts S) (old new : Held S) (store : IsStore (state 
         terms,
       )
 
-  -- the rows of the id's seals go but for so many from the first position on, and nothing else is changed
-  pub clears_seals : (id : List ℕ) (standing : ℕ) → Ran g drop_seals (Blob id ∷ Int (pos standing) ∷ []) old new
-      → IsStoreStep id (state g old).now (state g new).now × ((state g new).now.trees 3 ≡ filter (λ r. not (goes id standing r)) ((state g old).now.trees 3))
-      × ((state g new).now.trees 1 ≡ (state g old).now.trees 1) × ((state g new).now.trees 6 ≡ (state g old).now.trees 6)
+  -- the rows of the id's seals go but for so many from the first position on, and nothing else is
+  -- changed
+  pub clears_seals : (id : List ℕ) (standing : ℕ)
+      → Ran g drop_seals (Blob id ∷ Int (pos standing) ∷ []) old new
+      → IsStoreStep id (state g old).now (state g new).now
+      × ((state g new).now.trees 3
+      ≡ filter (λ r. not (goes id standing r)) ((state g old).now.trees 3))
+      × ((state g new).now.trees 1 ≡ (state g old).now.trees 1)
+      × ((state g new).now.trees 6 ≡ (state g old).now.trees 6)
   unfolding Ran
   clears_seals id standing ran =
       let params = Blob id ∷ Int (pos standing) ∷ [] in
       let before = (state g old).now.trees 3 in
-      let w = runs_as drop_seals params (state g old) (state g new) store_schema store.schema _ drop_seals_is.0 drop_seals_is.1 ran.0 ran.1.0 in
+      let w = runs_as drop_seals params (state g old) (state g new) store_schema store.schema _
+      drop_seals_is.0 drop_seals_is.1 ran.0 ran.1.0 in
       let text = statement_of drop_seals (understood store_schema drop_seals) in
-      let done = deletes store_schema 2 (placed seals 3) refl (λ keys db edit. refl) (state g old) (state g new) store.schema text params ran.0
+      let done = deletes store_schema 2 (placed seals 3) refl (λ keys db edit. refl) (state g old)
+      (state g new) store.schema text params ran.0
       (of_id ∷ is_behind ∷ []) (λ db. refl) store.seals w in
-      let same : (state g new).now.trees 1 ≡ (state g old).now.trees 1 = done.0.tables.1.0 apart_13 in
-      let terms : (state g new).now.trees 6 ≡ (state g old).now.trees 6 = done.0.tables.1.1.1.0 apart_63 in (
+      let same : (state g new).now.trees 1 ≡ (state g old).now.trees 1 = done.0.tables.1.0 apart_13
+      in
+      let terms : (state g new).now.trees 6 ≡ (state g old).now.trees 6 =
+      done.0.tables.1.1.1.0 apart_63 in (
         record {
-          store = record { schema = done.0.schema; auctions = subst IsTableOfRows (sym same) store.auctions; terms = subst IsTableOfRows (sym terms) store.terms; seals = subst IsTableOfRows (sym done.1) (table_after_delete _ before store.seals) };
+          store = record {
+            schema = done.0.schema;
+            auctions = subst IsTableOfRows (sym same) store.auctions;
+            terms =
+                subst IsTableOfRows (sym terms) store.terms;
+            seals =
+                subst IsTableOfRows (sym done.1) (table_after_delete _ before store.seals);
+          };
           others = record {
             auctions = λ other apart. ap (under other) same;
             terms = λ other apart. ap (under other) terms;
-            seals = λ other apart. ap (under other) done.1 ∙ others_after_delete other id (goes id standing) before apart (λ r gone. sym (is_id (column r 1) id) ∙ (and_parts _ _ gone).0);
+            seals = λ other apart. ap (under other) done.1
+                ∙ others_after_delete other id (goes id standing) before apart
+                (λ r gone. sym (is_id (column r 1) id) ∙ (and_parts _ _ gone).0);
           };
         },
         done.1,
@@ -222,7 +317,8 @@ module _ {S : Type 0} (g : Ghosts S) (old new : Held S) (store : IsStore (state 
         terms,
       )
 
-pub then_step : (id : List ℕ) (a b c : Database) → IsStoreStep id a b → IsStoreStep id b c → IsStoreStep id a c
+pub then_step : (id : List ℕ) (a b c : Database) → IsStoreStep id a b → IsStoreStep id b c
+    → IsStoreStep id a c
 then_step id a b c one two = record {
   store = two.store;
   others = record {
@@ -233,34 +329,58 @@ then_step id a b c one two = record {
 }
 
 pub no_step : (id : List ℕ) (db : Database) → IsStore db → IsStoreStep id db db
-no_step id db store = record { store = store; others = record { auctions = λ other apart. refl; terms = λ other apart. refl; seals = λ other apart. refl } }
+no_step id db store = record {
+  store = store;
+  others = record {
+    auctions = λ other apart. refl;
+    terms = λ other apart. refl;
+    seals = λ other apart. refl;
+  };
+}
 
 -- a row that the test passes comes beside the others
-put_beside : (p : Row → Bool) (new : Row) (rows : List Row) → p new ≡ true → is_taken rows new ≡ false → IsPermutation (new ∷ filter p rows) (filter p (put_row new rows))
+put_beside : (p : Row → Bool) (new : Row) (rows : List Row) → p new ≡ true
+    → is_taken rows new ≡ false → IsPermutation (new ∷ filter p rows) (filter p (put_row new rows))
 put_beside p new [] passes free = IsPermutation-same _ _ (rw passes refl)
-put_beside p new (r ∷ rows) passes free = go (value_cmp (rowid r) (rowid new)) refl (put_beside p new rows passes)
+put_beside p new (r ∷ rows) passes free =
+    go (value_cmp (rowid r) (rowid new)) refl (put_beside p new rows passes)
   where
-    swapped : (b : Bool) → IsPermutation (new ∷ filter p rows) (filter p (put_row new rows)) → IsPermutation (new ∷ cond b (r ∷ filter p rows) (filter p rows)) (cond b (r ∷ filter p (put_row new rows)) (filter p (put_row new rows)))
-    swapped true more = IsPermutation-trans _ (r ∷ new ∷ filter p rows) _ (IsPermutation-middle (new ∷ []) r (filter p rows)) (IsPermutation-cons r _ _ more)
+    swapped : (b : Bool) → IsPermutation (new ∷ filter p rows) (filter p (put_row new rows))
+        → IsPermutation (new ∷ cond b (r ∷ filter p rows) (filter p rows))
+        (cond b (r ∷ filter p (put_row new rows)) (filter p (put_row new rows)))
+    swapped true more = IsPermutation-trans _ (r ∷ new ∷ filter p rows) _
+        (IsPermutation-middle (new ∷ []) r (filter p rows)) (IsPermutation-cons r _ _ more)
     swapped false more = more
 
-    go : (o : Ordering) → value_cmp (rowid r) (rowid new) ≡ o → (is_taken rows new ≡ false → IsPermutation (new ∷ filter p rows) (filter p (put_row new rows))) → IsPermutation (new ∷ filter p (r ∷ rows)) (filter p (put_row new (r ∷ rows)))
+    go : (o : Ordering) → value_cmp (rowid r) (rowid new) ≡ o
+        → (is_taken rows new ≡ false
+        → IsPermutation (new ∷ filter p rows) (filter p (put_row new rows)))
+        → IsPermutation (new ∷ filter p (r ∷ rows)) (filter p (put_row new (r ∷ rows)))
     go Less e later =
         let more_free : is_taken rows new ≡ false = rw e at free in
-        subst (λ o. IsPermutation (new ∷ filter p (r ∷ rows)) (filter p (match_ordering o (r ∷ put_row new rows) (new ∷ rows) (new ∷ r ∷ rows)))) (sym e) (swapped (p r) (later more_free))
+        subst (λ o. IsPermutation (new ∷ filter p (r ∷ rows))
+        (filter p (match_ordering o (r ∷ put_row new rows) (new ∷ rows) (new ∷ r ∷ rows))))
+        (sym e) (swapped (p r) (later more_free))
     go Equal e later = absurd (let f = rw e at free in cc)
     go Greater e later =
-        subst (λ o. IsPermutation (new ∷ filter p (r ∷ rows)) (filter p (match_ordering o (r ∷ put_row new rows) (new ∷ rows) (new ∷ r ∷ rows)))) (sym e)
-        (IsPermutation-same _ _ (sym (ap (λ b. cond b (new ∷ filter p (r ∷ rows)) (filter p (r ∷ rows))) passes)))
+        subst (λ o. IsPermutation (new ∷ filter p (r ∷ rows))
+        (filter p (match_ordering o (r ∷ put_row new rows) (new ∷ rows) (new ∷ r ∷ rows))))
+        (sym e)
+        (IsPermutation-same _ _
+        (sym (ap (λ b. cond b (new ∷ filter p (r ∷ rows)) (filter p (r ∷ rows))) passes)))
 
 -- the rows of the seals' id, as they are shown
 abbrev pub shown_seals : List ℕ → Database → List Row
 shown_seals id db = map seal_columns (under id (db.trees 3))
 
 -- the seals' rows come beside those that were there
-pub adds_seals : {S : Type 0} (g : Ghosts S) (id : List ℕ) (before : ℕ) (texts : List SealTexts) (old new : Held S) → IsStore (state g old).now → AddsSeals g id before texts old new
-    → IsStoreStep id (state g old).now (state g new).now × IsPermutation (seal_rows before texts ++ shown_seals id (state g old).now) (shown_seals id (state g new).now)
-    × ((state g new).now.trees 1 ≡ (state g old).now.trees 1) × ((state g new).now.trees 6 ≡ (state g old).now.trees 6)
+pub adds_seals : {S : Type 0} (g : Ghosts S) (id : List ℕ) (before : ℕ) (texts : List SealTexts)
+    (old new : Held S) → IsStore (state g old).now → AddsSeals g id before texts old new
+    → IsStoreStep id (state g old).now (state g new).now
+    × IsPermutation (seal_rows before texts ++ shown_seals id (state g old).now)
+    (shown_seals id (state g new).now)
+    × ((state g new).now.trees 1 ≡ (state g old).now.trees 1)
+    × ((state g new).now.trees 6 ≡ (state g old).now.trees 6)
 adds_seals g id before [] old new store same =
     let is : (state g new).now ≡ (state g old).now = ap (λ h. (state g h).now) same in (
       subst (IsStoreStep id (state g old).now) (sym is) (no_step id _ store),
@@ -275,13 +395,19 @@ adds_seals g id before (seal ∷ texts) old new store it =
     let put = first.1 in
     let row = Int put.number ∷ seal_row id (before + 1) seal in
     let now = shown_seals id (state g old).now in
-    let beside : IsPermutation (row ∷ under id ((state g old).now.trees 3)) (under id ((state g mid).now.trees 3)) =
-    subst (λ rows. IsPermutation (row ∷ under id ((state g old).now.trees 3)) (under id rows)) (sym put.rows) (put_beside (has_id id) row ((state g old).now.trees 3) (own_id id) put.free) in
-    let shown : IsPermutation (seal_columns row ∷ now) (shown_seals id (state g mid).now) = IsPermutation-map seal_columns _ _ beside in (
+    let beside : IsPermutation (row ∷ under id ((state g old).now.trees 3))
+    (under id ((state g mid).now.trees 3)) =
+    subst (λ rows. IsPermutation (row ∷ under id ((state g old).now.trees 3)) (under id rows))
+    (sym put.rows) (put_beside (has_id id) row ((state g old).now.trees 3) (own_id id) put.free)
+    in
+    let shown : IsPermutation (seal_columns row ∷ now) (shown_seals id (state g mid).now) =
+    IsPermutation-map seal_columns _ _ beside in (
       then_step id _ _ _ first.0 rest.0,
       IsPermutation-trans _ (seal_rows (before + 1) texts ++ (seal_columns row ∷ now)) _
-          (IsPermutation-sym _ _ (IsPermutation-middle (seal_rows (before + 1) texts) (seal_columns row) now))
-          (IsPermutation-trans _ (seal_rows (before + 1) texts ++ shown_seals id (state g mid).now) _ (IsPermutation-append_right (seal_rows (before + 1) texts) _ _ shown) rest.1),
+          (IsPermutation-sym _ _
+          (IsPermutation-middle (seal_rows (before + 1) texts) (seal_columns row) now))
+          (IsPermutation-trans _ (seal_rows (before + 1) texts ++ shown_seals id (state g mid).now)
+          _ (IsPermutation-append_right (seal_rows (before + 1) texts) _ _ shown) rest.1),
       rest.2 ∙ first.2,
       rest.3 ∙ first.3,
     )

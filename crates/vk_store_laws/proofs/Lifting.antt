@@ -50,7 +50,13 @@ use Rattle.vk_store_laws.proofs.Marks.{IsMarked, names, adds_terms}
 
 terms_from : Defines first_store_schema make_terms terms
 unfolding understood everything make_terms
-terms_from = record { command = refl; text = refl; plain = (refl, refl); table_is = refl; uncounted = refl }
+terms_from = record {
+  command = refl;
+  text = refl;
+  plain = (refl, refl);
+  table_is = refl;
+  uncounted = refl;
+}
 
 lifted_schema : created first_store_schema terms ≡ store_schema
 unfolding digits
@@ -63,7 +69,9 @@ number_plain = (refl, refl)
 abbrev all_ids : Query
 all_ids = plain_query 1 [] (col 1 1 ∷ [])
 
-ids_are : (command_of (understood store_schema ids_query) ≡ Select (record { lets = []; body = all_ids }) (codes "id" ∷ [])) × (reads_listing store_schema ids_query ≡ false)
+ids_are : (command_of (understood store_schema ids_query)
+    ≡ Select (record { lets = []; body = all_ids }) (codes "id" ∷ []))
+    × (reads_listing store_schema ids_query ≡ false)
 unfolding understood everything ids_query
 ids_are = (refl, refl)
 
@@ -85,25 +93,40 @@ next_plain = (refl, refl)
 -- ---- what they do
 
 -- the ids of all auctions are read
-finds_ids : (old new : State) (rows : List Row) → old.now.schema ≡ store_schema → Shown ids_query [] old new rows → IsPermutation (map (λ r. column r 1 ∷ []) (old.now.trees 1)) rows
+finds_ids : (old new : State) (rows : List Row) → old.now.schema ≡ store_schema
+    → Shown ids_query [] old new rows
+    → IsPermutation (map (λ r. column r 1 ∷ []) (old.now.trees 1)) rows
 finds_ids old new rows has shown =
-    let got = reads_as ids_query [] old new store_schema has _ ids_are.0 ids_plain ids_are.1 rows shown in
+    let got = reads_as ids_query [] old new store_schema has _ ids_are.0 ids_plain ids_are.1 rows
+    shown in
     let a : IsAnswer all_ids (overlay old.now.trees []) [] rows = got.answer Null in
-    let all : filter (λ r. list_all (holds ([] ∷ r ∷ [])) []) (old.now.trees 1) ≡ old.now.trees 1 = filter_all (λ r. list_all (holds ([] ∷ r ∷ [])) []) (old.now.trees 1) (λ r h. refl) in
-    let staged = a.grouped ∙ (matches_are Null (overlay old.now.trees []) [] 1 [] ∙ ap (map (λ r. [] ∷ r ∷ [])) all) in
-    let kept = a.distinct ∙ (ap (map (output all_ids)) staged ∙ map-map (output all_ids) (λ r. [] ∷ r ∷ []) (old.now.trees 1)) in
-    let shown_rows = ap (map (λ (o : Output). o.1)) kept ∙ map-map (λ (o : Output). o.1) (λ r. output all_ids ([] ∷ r ∷ [])) (old.now.trees 1) in
-    subst (λ all. IsPermutation all rows) shown_rows (subst (IsPermutation (map (λ (o : Output). o.1) a.kept)) (sym a.shown) (IsPermutation-map (λ (o : Output). o.1) a.kept a.ordered a.same))
+    let all : filter (λ r. list_all (holds ([] ∷ r ∷ [])) []) (old.now.trees 1) ≡ old.now.trees 1 =
+    filter_all (λ r. list_all (holds ([] ∷ r ∷ [])) []) (old.now.trees 1) (λ r h. refl) in
+    let staged = a.grouped ∙ (matches_are Null (overlay old.now.trees []) [] 1 []
+    ∙ ap (map (λ r. [] ∷ r ∷ [])) all) in
+    let kept = a.distinct ∙ (ap (map (output all_ids)) staged
+    ∙ map-map (output all_ids) (λ r. [] ∷ r ∷ []) (old.now.trees 1)) in
+    let shown_rows = ap (map (λ (o : Output). o.1)) kept
+    ∙ map-map (λ (o : Output). o.1) (λ r. output all_ids ([] ∷ r ∷ [])) (old.now.trees 1) in
+    subst (λ all. IsPermutation all rows) shown_rows
+    (subst (IsPermutation (map (λ (o : Output). o.1) a.kept)) (sym a.shown)
+    (IsPermutation-map (λ (o : Output). o.1) a.kept a.ordered a.same))
 
 module _ {S : Type 0} (g : Ghosts S) where
-  numbers : (old new : Held S) → (state g old).now.schema ≡ store_schema → Ran g next_number (Int (pos 2) ∷ []) old new → OnlyTable 0 store_schema (state g old).now (state g new).now
+  numbers : (old new : Held S) → (state g old).now.schema ≡ store_schema
+      → Ran g next_number (Int (pos 2) ∷ []) old new
+      → OnlyTable 0 store_schema (state g old).now (state g new).now
   unfolding Ran
   numbers old new has ran =
       let params = Int (pos 2) ∷ [] in
-      let w = runs_as next_number params (state g old) (state g new) store_schema has _ next_is next_plain ran.0 ran.1.0 in
-      updates store_schema 0 about refl (λ keys db edit. refl) (state g old) (state g new) has (statement_of next_number (understood store_schema next_number)) params ran.0 each_number w
+      let w = runs_as next_number params (state g old) (state g new) store_schema has _ next_is
+      next_plain ran.0 ran.1.0 in
+      updates store_schema 0 about refl (λ keys db edit. refl) (state g old) (state g new) has
+      (statement_of next_number (understood store_schema next_number)) params ran.0 each_number
+      w
 
-any_mapped : (id : List ℕ) (rows : List Row) → list_any (names id) (map (λ r. column r 1 ∷ []) rows) ≡ list_any (has_id id) rows
+any_mapped : (id : List ℕ) (rows : List Row)
+    → list_any (names id) (map (λ r. column r 1 ∷ []) rows) ≡ list_any (has_id id) rows
 any_mapped id [] = refl
 any_mapped id (r ∷ rows) = ap (λ b. has_id id r || b) (any_mapped id rows)
 
@@ -115,25 +138,37 @@ record IsLifted (old new : Database) : Type 0 where
   terms : (id : List ℕ) → IsMarked (list_any (has_id id) (old.trees 1)) id [] (new.trees 6)
 
 module _ {S : Type 0} (g : Ghosts S) where
-  tables_lifted : (old new : Held S) → IsFirstStore (state g old).now → LiftsTables g old new → IsLifted (state g old).now (state g new).now
+  tables_lifted : (old new : Held S) → IsFirstStore (state g old).now → LiftsTables g old new
+      → IsLifted (state g old).now (state g new).now
   tables_lifted old new store it =
-      let made = makes g old it.made first_store_schema make_terms terms store.schema terms_from it.make in
+      let made = makes g old it.made first_store_schema make_terms terms store.schema terms_from
+      it.make in
       let begun : IsStore (state g it.made).now = record {
         schema = made.0 ∙ lifted_schema;
         auctions = subst IsTableOfRows (sym made.2.1.0) store.auctions;
         terms = subst IsTableOfRows (sym made.1) (tt, tt);
         seals = subst IsTableOfRows (sym made.2.1.1.0) store.seals;
       } in
-      let asked : (state g it.asked).now ≡ (state g it.made).now = (shown_leaves _ _ _ (state g it.made) (state g it.asked) it.ids begun.schema ids_plain it.query).0.now_is in
+      let asked : (state g it.asked).now ≡ (state g it.made).now =
+      (shown_leaves _ _ _ (state g it.made) (state g it.asked) it.ids begun.schema ids_plain
+      it.query).0.now_is in
       let ids = finds_ids (state g it.made) (state g it.asked) it.ids begun.schema it.query in
-      let filled = adds_terms g it.ids it.asked it.filled (subst IsStore (sym asked) begun) it.fill in
+      let filled = adds_terms g it.ids it.asked it.filled (subst IsStore (sym asked) begun) it.fill
+      in
       let last = numbers g it.filled new filled.0.store.schema it.number in
-      let heads : (state g new).now.trees 1 ≡ (state g it.filled).now.trees 1 = last.tables.1.0 apart_10 in
-      let seals : (state g new).now.trees 3 ≡ (state g it.filled).now.trees 3 = last.tables.1.1.0 apart_30 in
-      let rows : (state g new).now.trees 6 ≡ (state g it.filled).now.trees 6 = last.tables.1.1.1.0 apart_60 in
-      let blank : (state g it.asked).now.trees 6 ≡ [] = ap (λ (d : Database). d.trees 6) asked ∙ made.1 in
-      let any : (id : List ℕ) → list_any (names id) it.ids ≡ list_any (has_id id) ((state g old).now.trees 1) = λ id.
-      sym (list_any-IsPermutation (names id) _ _ ids) ∙ (any_mapped id ((state g it.made).now.trees 1) ∙ ap (list_any (has_id id)) made.2.1.0) in
+      let heads : (state g new).now.trees 1 ≡ (state g it.filled).now.trees 1 =
+      last.tables.1.0 apart_10 in
+      let seals : (state g new).now.trees 3 ≡ (state g it.filled).now.trees 3 =
+      last.tables.1.1.0 apart_30 in
+      let rows : (state g new).now.trees 6 ≡ (state g it.filled).now.trees 6 =
+      last.tables.1.1.1.0 apart_60 in
+      let blank : (state g it.asked).now.trees 6 ≡ [] = ap (λ (d : Database). d.trees 6) asked
+      ∙ made.1 in
+      let any : (id : List ℕ) → list_any (names id) it.ids
+      ≡ list_any (has_id id) ((state g old).now.trees 1) = λ id.
+      sym (list_any-IsPermutation (names id) _ _ ids)
+      ∙ (any_mapped id ((state g it.made).now.trees 1) ∙ ap (list_any (has_id id)) made.2.1.0)
+      in
       record {
         store = record {
           schema = last.schema;
@@ -141,11 +176,14 @@ module _ {S : Type 0} (g : Ghosts S) where
           terms = subst IsTableOfRows (sym rows) filled.0.store.terms;
           seals = subst IsTableOfRows (sym seals) filled.0.store.seals;
         };
-        auctions = heads ∙ (filled.0.auctions ∙ (ap (λ (d : Database). d.trees 1) asked ∙ made.2.1.0));
+        auctions = heads ∙ (filled.0.auctions
+            ∙ (ap (λ (d : Database). d.trees 1) asked ∙ made.2.1.0));
         seals = seals ∙ (filled.0.seals ∙ (ap (λ (d : Database). d.trees 3) asked ∙ made.2.1.1.0));
         terms = λ id. subst (λ b. IsMarked b id [] ((state g new).now.trees 6)) (any id)
-            (subst (λ before. IsMarked (list_any (names id) it.ids) id before ((state g new).now.trees 6)) blank
-            (subst (IsMarked (list_any (names id) it.ids) id ((state g it.asked).now.trees 6)) (sym rows) (filled.1 id)));
+            (subst (λ before. IsMarked (list_any (names id) it.ids) id before
+            ((state g new).now.trees 6)) blank
+            (subst (IsMarked (list_any (names id) it.ids) id ((state g it.asked).now.trees 6))
+            (sym rows) (filled.1 id)));
       }
 
 -- ---- what they tell
@@ -157,7 +195,8 @@ none_of p (r ∷ rows) h = elim (cases_Bool (p r)) [
   | inr fails ↦ rw fails (none_of p rows (rw fails at h))
 ]
 
-some_of : (p : Row → Bool) (f : Row → Row) (rows : List Row) (row : Row) → map f (filter p rows) ≡ row ∷ [] → list_any p rows ≡ true
+some_of : (p : Row → Bool) (f : Row → Row) (rows : List Row) (row : Row)
+    → map f (filter p rows) ≡ row ∷ [] → list_any p rows ≡ true
 some_of p f [] row h = absurd (let e = h in cc)
 some_of p f (r ∷ rows) row h = elim (cases_Bool (p r)) [
   | inl passes ↦ rw passes refl
@@ -165,47 +204,73 @@ some_of p f (r ∷ rows) row h = elim (cases_Bool (p r)) [
 ]
 
 module _ (old new : Database) (it : IsLifted old new) where
-  holds_lifted : (id : List ℕ) (found : Option FirstAuction) → HoldsFirst old.trees id found → Holds new.trees id (option_map lifted found)
+  holds_lifted : (id : List ℕ) (found : Option FirstAuction) → HoldsFirst old.trees id found
+      → Holds new.trees id (option_map lifted found)
   holds_lifted id None none = record {
     head = ap (under id) it.auctions ∙ none.0;
-    terms = subst (λ b. IsMarked b id [] (new.trees 6)) (none_of (has_id id) (old.trees 1) none.0) (it.terms id);
+    terms = subst (λ b. IsMarked b id [] (new.trees 6)) (none_of (has_id id) (old.trees 1) none.0)
+        (it.terms id);
     seals = ap (under id) it.seals ∙ none.1;
   }
   holds_lifted id (Some first) (own, stands) = (
     own,
     record {
       head = ap (λ rows. map head_columns (under first.id rows)) it.auctions ∙ stands.head;
-      terms = subst (λ b. IsMarked b first.id [] (new.trees 6)) (some_of (has_id first.id) head_columns (old.trees 1) (head_row (lifted first)) stands.head) (it.terms first.id);
-      seals = subst (λ rows. IsPermutation (map seal_columns (under first.id rows)) (seal_rows 0 (map seal_texts first.seals))) (sym it.seals) stands.seals;
+      terms = subst (λ b. IsMarked b first.id [] (new.trees 6))
+          (some_of (has_id first.id) head_columns (old.trees 1) (head_row (lifted first))
+          stands.head) (it.terms first.id);
+      seals = subst (λ rows. IsPermutation (map seal_columns (under first.id rows))
+          (seal_rows 0 (map seal_texts first.seals))) (sym it.seals) stands.seals;
     },
   )
 
-  kept_under : (id : List ℕ) (found : Option FirstAuction) → IfSome found (IsFirstUnder id) → IfSome (option_map lifted found) (IsKeptUnder id)
+  kept_under : (id : List ℕ) (found : Option FirstAuction) → IfSome found (IsFirstUnder id)
+      → IfSome (option_map lifted found) (IsKeptUnder id)
   kept_under id None h = tt
   kept_under id (Some first) h = record { own = h.own; right = lifted_right first h.right }
 
-  told_lifted : (firsts : FirstLedger) → TellsFirst old.trees firsts → TablesTell new.trees (lifted_ledger firsts)
+  told_lifted : (firsts : FirstLedger) → TellsFirst old.trees firsts
+      → TablesTell new.trees (lifted_ledger firsts)
   told_lifted firsts tells = record {
-    right = λ id. subst (λ o. IfSome o (IsKeptUnder id)) (sym (get_lifted firsts id)) (kept_under id (get firsts id) (tells.right id));
-    held = λ id bytes. subst (Holds new.trees id) (sym (get_lifted firsts id)) (holds_lifted id (get firsts id) (tells.held id bytes));
+    right = λ id. subst (λ o. IfSome o (IsKeptUnder id)) (sym (get_lifted firsts id))
+        (kept_under id (get firsts id) (tells.right id));
+    held = λ id bytes. subst (Holds new.trees id) (sym (get_lifted firsts id))
+        (holds_lifted id (get firsts id) (tells.held id bytes));
   }
 
 -- a store from before is a store once it was prepared, and tells its ledger lifted
-prepared_from : {S : Type 0} (g : Ghosts S) (old new : Held S) (firsts : FirstLedger) → IsFirstStore (state g old).now → TellsFirst (state g old).now.trees firsts
-    → PreparesFrom g First old new → IsStore (state g new).now × TablesTell (state g new).now.trees (lifted_ledger firsts)
+prepared_from : {S : Type 0} (g : Ghosts S) (old new : Held S) (firsts : FirstLedger)
+    → IsFirstStore (state g old).now → TellsFirst (state g old).now.trees firsts
+    → PreparesFrom g First old new → IsStore (state g new).now
+    × TablesTell (state g new).now.trees (lifted_ledger firsts)
 prepared_from g old new firsts store tells it =
     let mid = it.0 in
-    let same : (state g mid).now ≡ (state g old).now = (shown_leaves _ _ _ (state g old) (state g mid) it.1.rows store.schema number_plain it.1.query).0.now_is in
-    let made = tables_lifted g mid new (subst IsFirstStore (sym same) store) it.2 in
-    (made.store, told_lifted (state g mid).now (state g new).now made firsts (subst (λ (d : Database). TellsFirst d.trees firsts) (sym same) tells))
+    let same : (state g mid).now ≡ (state g old).now =
+    (shown_leaves _ _ _ (state g old) (state g mid) it.1.rows store.schema number_plain
+    it.1.query).0.now_is in
+    let made = tables_lifted g mid new (subst IsFirstStore (sym same) store) it.2 in (
+      made.store,
+      told_lifted (state g mid).now (state g new).now made firsts
+          (subst (λ (d : Database). TellsFirst d.trees firsts) (sym same) tells),
+    )
 
 -- nothing else can be made of it: the tables of a new store, and those of the number 2, are others
-pub prepared_tells : {S : Type 0} (g : Ghosts S) (old : Held S) (trees : Trees) (firsts : FirstLedger) → IsFirstStore (state g old).now → TellsFirst (state g old).now.trees firsts
-    → Prepares g old trees → ((last : Database) × (trees ≡ last.trees) × IsStore last) × TablesTell trees (lifted_ledger firsts)
-prepared_tells g old trees firsts store tells (Blank, has, it) = absurd (let e : ◌≡◌ {A = ℕ} 3 0 = count_is old.schema first_store_schema 0 store.schema (ap length has.0) in omega (arith, e))
+pub prepared_tells : {S : Type 0} (g : Ghosts S) (old : Held S) (trees : Trees)
+    (firsts : FirstLedger) → IsFirstStore (state g old).now
+    → TellsFirst (state g old).now.trees firsts
+    → Prepares g old trees → ((last : Database) × (trees ≡ last.trees) × IsStore last)
+    × TablesTell trees (lifted_ledger firsts)
+prepared_tells g old trees firsts store tells (Blank, has, it) =
+    absurd (let e : ◌≡◌ {A = ℕ} 3 0 =
+    count_is old.schema first_store_schema 0 store.schema (ap length has.0) in omega (arith, e))
 prepared_tells g old trees firsts store tells (First, has, it) =
     let last = it.0 in
-    let made = prepared_from g (record old { in_transaction = true }) last firsts store tells it.1 in
-    (((state g last).now, it.2, made.0), subst (λ t. TablesTell t (lifted_ledger firsts)) (sym it.2) made.1)
-prepared_tells g old trees firsts store tells (Second, has, it) = absurd (let e : ◌≡◌ {A = ℕ} 3 4 = count_is old.schema first_store_schema 4 store.schema has.tables in omega (arith, e))
+    let made = prepared_from g (record old { in_transaction = true }) last firsts store tells it.1
+    in (
+      ((state g last).now, it.2, made.0),
+      subst (λ t. TablesTell t (lifted_ledger firsts)) (sym it.2) made.1,
+    )
+prepared_tells g old trees firsts store tells (Second, has, it) =
+    absurd (let e : ◌≡◌ {A = ℕ} 3 4 =
+    count_is old.schema first_store_schema 4 store.schema has.tables in omega (arith, e))
 prepared_tells g old trees firsts store tells (Other, has, it) = absurd it.1

@@ -49,22 +49,47 @@ pub record Defines (schema : Schema) (sql : List ℕ) (table : Table) : Type 0 w
 
 about_is : Defines no_schema make_about about
 unfolding understood everything make_about
-about_is = record { command = refl; text = refl; plain = (refl, refl); table_is = refl; uncounted = refl }
+about_is = record {
+  command = refl;
+  text = refl;
+  plain = (refl, refl);
+  table_is = refl;
+  uncounted = refl;
+}
 
 auctions_is : Defines one_schema make_auctions auctions
 unfolding understood everything make_auctions
-auctions_is = record { command = refl; text = refl; plain = (refl, refl); table_is = refl; uncounted = refl }
+auctions_is = record {
+  command = refl;
+  text = refl;
+  plain = (refl, refl);
+  table_is = refl;
+  uncounted = refl;
+}
 
 seals_is : Defines two_schema make_seals seals
 unfolding understood everything make_seals
-seals_is = record { command = refl; text = refl; plain = (refl, refl); table_is = refl; uncounted = refl }
+seals_is = record {
+  command = refl;
+  text = refl;
+  plain = (refl, refl);
+  table_is = refl;
+  uncounted = refl;
+}
 
 -- the terms came last: a store that was made before has the three tables above
 terms_is : Defines three_schema make_terms terms
 unfolding understood everything make_terms
-terms_is = record { command = refl; text = refl; plain = (refl, refl); table_is = refl; uncounted = refl }
+terms_is = record {
+  command = refl;
+  text = refl;
+  plain = (refl, refl);
+  table_is = refl;
+  uncounted = refl;
+}
 
-number_is : command_of (understood store_schema first_number) ≡ Insert 0 (Values (lit Null ∷ col 0 0 ∷ []) 2)
+number_is : command_of (understood store_schema first_number)
+    ≡ Insert 0 (Values (lit Null ∷ col 0 0 ∷ []) 2)
 unfolding understood everything first_number
 number_is = refl
 
@@ -82,46 +107,69 @@ pub apart_60 : ◌≡◌ {A = ℕ} 6 0 → ⊥
 apart_60 e = absurd (let f = e in cc)
 
 -- how many tables a schema has
-pub count_is : (schema it : Schema) (count : ℕ) → schema ≡ it → length schema.tables ≡ count → length it.tables ≡ count
+pub count_is : (schema it : Schema) (count : ℕ) → schema ≡ it → length schema.tables ≡ count
+    → length it.tables ≡ count
 count_is schema it count is counted = sym (ap (λ (s : Schema). length s.tables) is) ∙ counted
 
 module _ {S : Type 0} (g : Ghosts S) where
-  pub makes : (old new : Held S) (schema : Schema) (sql : List ℕ) (table : Table) → (state g old).now.schema ≡ schema → Defines schema sql table → Ran g sql [] old new
-      → ((state g new).now.schema ≡ created schema table) × ((state g new).now.trees (next_tree schema) ≡ []) × KeepsRows schema.tables (state g old).now.trees (state g new).now.trees
+  pub makes : (old new : Held S) (schema : Schema) (sql : List ℕ) (table : Table)
+      → (state g old).now.schema ≡ schema → Defines schema sql table → Ran g sql [] old new
+      → ((state g new).now.schema ≡ created schema table)
+      × ((state g new).now.trees (next_tree schema) ≡ [])
+      × KeepsRows schema.tables (state g old).now.trees (state g new).now.trees
   unfolding Ran
   makes old new schema sql table has is ran =
-      let w = subst (λ t. Writes (state g old) (state g new) None CreateTable t [] ran.0) is.text (runs_as sql [] (state g old) (state g new) schema has CreateTable is.command is.plain ran.0 ran.1.0) in
+      let w = subst (λ t. Writes (state g old) (state g new) None CreateTable t [] ran.0) is.text
+      (runs_as sql [] (state g old) (state g new) schema has CreateTable is.command is.plain
+      ran.0 ran.1.0) in
       let all = went w.changed in
       let first = went all.1 in
       let made = first.1 in
       let same : made.table ≡ table = same_value (sym made.defined ∙ is.table_is) in
-      let after : first.0.schema ≡ created schema table = made.is ∙ (ap (λ s. created s made.table) has ∙ ap (created schema) same) in
+      let after : first.0.schema ≡ created schema table =
+      made.is ∙ (ap (λ s. created s made.table) has ∙ ap (created schema) same) in
       let plain : lacks_sequence first.0.schema ≡ false = ap lacks_sequence after ∙ is.uncounted in
-      let now : (state g new).now ≡ first.0 = ap (λ (p : Tally × Database). p.1) (same_value all.2) ∙ same_value (rw plain at first.2) in (
+      let now : (state g new).now ≡ first.0 = ap (λ (p : Tally × Database). p.1) (same_value all.2)
+      ∙ same_value (rw plain at first.2) in (
         ap (λ (d : Database). d.schema) now ∙ after,
-        ap (λ (d : Database). d.trees (next_tree schema)) now ∙ subst (λ s. first.0.trees (next_tree s) ≡ []) has made.empty,
-        subst (λ (d : Database). KeepsRows schema.tables (state g old).now.trees d.trees) (sym now) (subst (λ s. KeepsRows s.tables (state g old).now.trees first.0.trees) has made.others),
+        ap (λ (d : Database). d.trees (next_tree schema)) now
+            ∙ subst (λ s. first.0.trees (next_tree s) ≡ []) has made.empty,
+        subst (λ (d : Database). KeepsRows schema.tables (state g old).now.trees d.trees) (sym now)
+            (subst (λ s. KeepsRows s.tables (state g old).now.trees first.0.trees) has made.others),
       )
 
   -- a new store is one, and has no row of an auction
-  pub made_is_store : (old new : Held S) → (state g old).now.schema ≡ no_schema → MakesTables g old new
-      → IsStore (state g new).now × ((state g new).now.trees 1 ≡ []) × ((state g new).now.trees 3 ≡ []) × ((state g new).now.trees 6 ≡ [])
+  pub made_is_store : (old new : Held S) → (state g old).now.schema ≡ no_schema
+      → MakesTables g old new
+      → IsStore (state g new).now × ((state g new).now.trees 1 ≡ [])
+      × ((state g new).now.trees 3 ≡ []) × ((state g new).now.trees 6 ≡ [])
   unfolding Ran
   made_is_store old new has it =
       let one = makes old it.one no_schema make_about about has about_is it.about in
-      let two = makes it.one it.two one_schema make_auctions auctions one.0 auctions_is it.auctions in
+      let two = makes it.one it.two one_schema make_auctions auctions one.0 auctions_is it.auctions
+      in
       let three = makes it.two it.three two_schema make_seals seals two.0 seals_is it.seals in
       let four = makes it.three it.four three_schema make_terms terms three.0 terms_is it.terms in
       let whole = four.0 ∙ all_made in
       let params = Int (pos 2) ∷ [] in
-      let w = runs_as first_number params (state g it.four) (state g new) store_schema whole _ number_is number_plain it.number.0 it.number.1.0 in
+      let w = runs_as first_number params (state g it.four) (state g new) store_schema whole _
+      number_is number_plain it.number.0 it.number.1.0 in
       let text = statement_of first_number (understood store_schema first_number) in
-      let done = inserts store_schema 0 about refl (λ keys db edit. refl) (state g it.four) (state g new) whole text params it.number.0
+      let done = inserts store_schema 0 about refl (λ keys db edit. refl) (state g it.four)
+      (state g new) whole text params it.number.0
       (lit Null ∷ col 0 0 ∷ []) 2 refl refl refl (rw (cast_null, cast_int (pos 2)) refl) w in
-      let heads : (state g new).now.trees 1 ≡ [] = done.0.tables.1.0 apart_10 ∙ (four.2.1.0 ∙ (three.2.1.0 ∙ two.1)) in
-      let rows : (state g new).now.trees 3 ≡ [] = done.0.tables.1.1.0 apart_30 ∙ (four.2.1.1.0 ∙ three.1) in
+      let heads : (state g new).now.trees 1 ≡ [] = done.0.tables.1.0 apart_10
+      ∙ (four.2.1.0 ∙ (three.2.1.0 ∙ two.1)) in
+      let rows : (state g new).now.trees 3 ≡ [] = done.0.tables.1.1.0 apart_30
+      ∙ (four.2.1.1.0 ∙ three.1) in
       let terms : (state g new).now.trees 6 ≡ [] = done.0.tables.1.1.1.0 apart_60 ∙ four.1 in (
-        record { schema = done.0.schema; auctions = subst IsTableOfRows (sym heads) (tt, tt); terms = subst IsTableOfRows (sym terms) (tt, tt); seals = subst IsTableOfRows (sym rows) (tt, tt) },
+        record {
+          schema = done.0.schema;
+          auctions = subst IsTableOfRows (sym heads) (tt, tt);
+          terms = subst IsTableOfRows (sym terms) (tt, tt);
+          seals =
+              subst IsTableOfRows (sym rows) (tt, tt);
+        },
         heads,
         rows,
         terms,

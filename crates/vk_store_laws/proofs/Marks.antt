@@ -41,11 +41,16 @@ use Rattle.vk_store_laws.proofs.Keeping.{apart_13, or_false, put_alone, none_lef
 -- ---- a value and a blob
 
 -- a value of another class ties with no blob
-no_blob : (v : Value) (b : List ℕ) → (class v ≡ 3 → ⊥) → is_eq (value_cmp v (Blob b)) ≡ true → v ≡ Blob b
-no_blob Null b apart h = absurd (let e = sym (ap is_eq (value_cmp-apart Null (Blob b) apart)) ∙ h in cc)
-no_blob (Int n) b apart h = absurd (let e = sym (ap is_eq (value_cmp-apart (Int n) (Blob b) apart)) ∙ h in cc)
-no_blob (Real x) b apart h = absurd (let e = sym (ap is_eq (value_cmp-apart (Real x) (Blob b) apart)) ∙ h in cc)
-no_blob (Text t) b apart h = absurd (let e = sym (ap is_eq (value_cmp-apart (Text t) (Blob b) apart)) ∙ h in cc)
+no_blob : (v : Value) (b : List ℕ) → (class v ≡ 3 → ⊥) → is_eq (value_cmp v (Blob b)) ≡ true
+    → v ≡ Blob b
+no_blob Null b apart h = absurd
+    (let e = sym (ap is_eq (value_cmp-apart Null (Blob b) apart)) ∙ h in cc)
+no_blob (Int n) b apart h = absurd
+    (let e = sym (ap is_eq (value_cmp-apart (Int n) (Blob b) apart)) ∙ h in cc)
+no_blob (Real x) b apart h = absurd
+    (let e = sym (ap is_eq (value_cmp-apart (Real x) (Blob b) apart)) ∙ h in cc)
+no_blob (Text t) b apart h = absurd
+    (let e = sym (ap is_eq (value_cmp-apart (Text t) (Blob b) apart)) ∙ h in cc)
 no_blob (Blob c) b apart h = absurd (apart refl)
 
 apart_03 : ◌≡◌ {A = ℕ} 0 3 → ⊥
@@ -60,13 +65,17 @@ blob_is Null b h = no_blob Null b apart_03 h
 blob_is (Int n) b h = no_blob (Int n) b apart_13 h
 blob_is (Real x) b h = no_blob (Real x) b apart_13 h
 blob_is (Text t) b h = no_blob (Text t) b apart_23 h
-blob_is (Blob c) b h = ap Blob ((bytes_eq-Decides c b).0 (sym (is_eq-slice_cmp c b) ∙ (ap is_eq (sym (value_cmp-Blob c b)) ∙ h)))
+blob_is (Blob c) b h = ap Blob
+    ((bytes_eq-Decides c b).0 (sym (is_eq-slice_cmp c b)
+    ∙ (ap is_eq (sym (value_cmp-Blob c b)) ∙ h)))
 
 -- a value is bound as itself, but for a float that is no number, which is no blob either
-bound_id : (v : Value) (b : List ℕ) → is_eq (value_cmp (bound_value v) (Blob b)) ≡ is_eq (value_cmp v (Blob b))
+bound_id : (v : Value) (b : List ℕ)
+    → is_eq (value_cmp (bound_value v) (Blob b)) ≡ is_eq (value_cmp v (Blob b))
 bound_id Null b = refl
 bound_id (Int n) b = refl
-bound_id (Real x) b = either (is_nan x) ∙ sym (ap is_eq (value_cmp-apart (Real x) (Blob b) apart_13))
+bound_id (Real x) b = either (is_nan x)
+    ∙ sym (ap is_eq (value_cmp-apart (Real x) (Blob b) apart_13))
   where
     either : (n : Bool) → is_eq (value_cmp (cond n Null (Real x)) (Blob b)) ≡ false
     either true = ap is_eq (value_cmp-apart Null (Blob b) apart_03)
@@ -78,7 +87,8 @@ bound_id (Blob c) b = refl
 abbrev is_of : Value → Row → Bool
 is_of w row = is_true (binary (Compare Eq Binary) (column row 1) w)
 
-tied_blob : (b : List ℕ) (w : Value) → is_true (binary (Compare Eq Binary) (Blob b) w) ≡ true → is_eq (value_cmp (Blob b) w) ≡ true
+tied_blob : (b : List ℕ) (w : Value) → is_true (binary (Compare Eq Binary) (Blob b) w) ≡ true
+    → is_eq (value_cmp (Blob b) w) ≡ true
 unfolding binary
 tied_blob b Null h = absurd (let e = h in cc)
 tied_blob b (Int n) h = sym (told _) ∙ h
@@ -87,9 +97,12 @@ tied_blob b (Text t) h = sym (told _) ∙ h
 tied_blob b (Blob c) h = sym (told _) ∙ h
 
 -- a row of a blob has no other value as its id
-own_only : (w : Value) (b : List ℕ) (row : Row) → is_of w row ≡ true → has_id b row ≡ true → is_eq (value_cmp w (Blob b)) ≡ true
+own_only : (w : Value) (b : List ℕ) (row : Row) → is_of w row ≡ true → has_id b row ≡ true
+    → is_eq (value_cmp w (Blob b)) ≡ true
 own_only w b row of own =
-    let tied : is_eq (value_cmp (Blob b) w) ≡ true = tied_blob b w (subst (λ v. is_true (binary (Compare Eq Binary) v w) ≡ true) (blob_is (column row 1) b own) of) in
+    let tied : is_eq (value_cmp (Blob b) w) ≡ true =
+    tied_blob b w (subst (λ v. is_true (binary (Compare Eq Binary) v w) ≡ true)
+    (blob_is (column row 1) b own) of) in
     ap is_eq (sym (value_cmp_total.congr (Blob b) w (Blob b) (equal_is _ tied))) ∙ own_id b
 
 -- ---- the row of the terms of an auction of then
@@ -102,13 +115,15 @@ abbrev pub IsMarked : Bool → List ℕ → List Row → List Row → Type 0
 IsMarked true id old new = map term_columns (under id new) ≡ first_row ∷ []
 IsMarked false id old new = under id new ≡ under id old
 
-then_marked : (one two : Bool) (id : List ℕ) (old mid new : List Row) → IsMarked one id old mid → IsMarked two id mid new → IsMarked (one || two) id old new
+then_marked : (one two : Bool) (id : List ℕ) (old mid new : List Row) → IsMarked one id old mid
+    → IsMarked two id mid new → IsMarked (one || two) id old new
 then_marked true true id old mid new first later = later
 then_marked true false id old mid new first later = ap (map term_columns) later ∙ first
 then_marked false true id old mid new first later = later
 then_marked false false id old mid new first later = later ∙ first
 
-mended_is : (w : Value) → mended Replace (placed terms 6) (Null ∷ w ∷ first_row) ≡ Null ∷ w ∷ first_row
+mended_is : (w : Value) → mended Replace (placed terms 6) (Null ∷ w ∷ first_row)
+    ≡ Null ∷ w ∷ first_row
 mended_is Null = refl
 mended_is (Int n) = refl
 mended_is (Real x) = refl
@@ -116,17 +131,26 @@ mended_is (Text t) = refl
 mended_is (Blob b) = refl
 
 -- a row that was put for a value in the place of those of the value
-marks : (w : Value) (old new : List Row) → PutsRow (w ∷ first_row) (filter (λ r. not (is_of w r)) old) new → (id : List ℕ) → IsMarked (is_eq (value_cmp w (Blob id))) id old new
+marks : (w : Value) (old new : List Row)
+    → PutsRow (w ∷ first_row) (filter (λ r. not (is_of w r)) old) new → (id : List ℕ)
+    → IsMarked (is_eq (value_cmp w (Blob id))) id old new
 marks w old new put id = elim (cases_Bool (is_eq (value_cmp w (Blob id)))) [
   | inl same ↦ subst (λ b. IsMarked b id old new) (sym same) (
       let row = Int put.number ∷ w ∷ first_row in
       let left = filter (λ r. not (is_of w r)) old in
       let is = blob_is w id same in
-      let gone : filter (has_id id) left ≡ [] = ap (filter (has_id id)) (filter_same _ _ (λ r. ap not (ap (λ v. is_true (binary (Compare Eq Binary) (column r 1) v)) is ∙ is_id (column r 1) id)) old) ∙ none_left (has_id id) old in
-      ap (map term_columns) (ap (under id) put.rows ∙ put_alone (has_id id) row left same gone put.free))
+      let gone : filter (has_id id) left ≡ [] =
+      ap (filter (has_id id))
+      (filter_same _ _ (λ r.
+      ap not (ap (λ v. is_true (binary (Compare Eq Binary) (column r 1) v)) is
+      ∙ is_id (column r 1) id)) old) ∙ none_left (has_id id) old in
+      ap (map term_columns) (ap (under id) put.rows
+      ∙ put_alone (has_id id) row left same gone put.free))
   | inr other ↦ subst (λ b. IsMarked b id old new) (sym other) (
-      ap (under id) put.rows ∙ (filter_put (has_id id) (Int put.number ∷ w ∷ first_row) _ other put.free
-      ∙ filter_within (has_id id) (λ r. not (is_of w r)) old (λ r h own. elim (cases_Bool (is_of w r)) [
+      ap (under id) put.rows ∙ (filter_put (has_id id) (Int put.number ∷ w ∷ first_row) _ other
+      put.free
+      ∙ filter_within (has_id id) (λ r. not (is_of w r)) old
+      (λ r h own. elim (cases_Bool (is_of w r)) [
         | inl of ↦ absurd (false≢true (sym other ∙ own_only w id r of own))
         | inr stays ↦ ap not stays
       ])))
@@ -138,25 +162,35 @@ pub record OnlyTerms (old new : Database) : Type 0 where
   pub auctions : new.trees 1 ≡ old.trees 1
   pub seals : new.trees 3 ≡ old.trees 3
 
-puts_terms : {S : Type 0} (g : Ghosts S) (old new : Held S) (w : Value) → IsStore (state g old).now → Ran g keep_terms (w ∷ first_row) old new
-    → OnlyTerms (state g old).now (state g new).now × PutsRow (w ∷ first_row) (filter (λ r. not (is_of w r)) ((state g old).now.trees 6)) ((state g new).now.trees 6)
+puts_terms : {S : Type 0} (g : Ghosts S) (old new : Held S) (w : Value) → IsStore (state g old).now
+    → Ran g keep_terms (w ∷ first_row) old new
+    → OnlyTerms (state g old).now (state g new).now
+    × PutsRow (w ∷ first_row) (filter (λ r. not (is_of w r)) ((state g old).now.trees 6))
+    ((state g new).now.trees 6)
 unfolding Ran
 puts_terms g old new w store ran =
     let params = w ∷ first_row in
     let before = (state g old).now.trees 6 in
-    let run = runs_as keep_terms params (state g old) (state g new) store_schema store.schema _ keep_terms_is.0 keep_terms_is.1 ran.0 ran.1.0 in
+    let run = runs_as keep_terms params (state g old) (state g new) store_schema store.schema _
+    keep_terms_is.0 keep_terms_is.1 ran.0 ran.1.0 in
     let text = statement_of keep_terms (understood store_schema keep_terms) in
-    let done = replaces store_schema 3 (placed terms 6) refl (λ keys db edit. refl) (state g old) (state g new) store.schema text params ran.0
+    let done = replaces store_schema 3 (placed terms 6) refl (λ keys db edit. refl) (state g old)
+    (state g new) store.schema text params ran.0
     (is_of w) refl (λ n. rw (cast_int n, cast_int (pos 1), cast_int (pos 0)) refl)
-    (λ n r. subst (λ (k : Key). ((equal k.collation (column r 1) w && true) || false) ≡ is_of w r) (sym first_key-plain) (or_false _ ∙ and_true _))
-    terms_terms 4 refl refl (mended_is w) (rw (cast_null, cast_int (pos 1), cast_int (pos 0)) refl) store.terms run in
-    let heads : (state g new).now.trees 1 ≡ (state g old).now.trees 1 = done.0.tables.1.0 apart_16 in
-    let rows : (state g new).now.trees 3 ≡ (state g old).now.trees 3 = done.0.tables.1.1.0 apart_36 in (
+    (λ n r. subst (λ (k : Key). ((equal k.collation (column r 1) w && true) || false) ≡ is_of w r)
+    (sym first_key-plain) (or_false _ ∙ and_true _))
+    terms_terms 4 refl refl (mended_is w) (rw (cast_null, cast_int (pos 1), cast_int (pos 0)) refl)
+    store.terms run in
+    let heads : (state g new).now.trees 1 ≡ (state g old).now.trees 1 = done.0.tables.1.0 apart_16
+    in
+    let rows : (state g new).now.trees 3 ≡ (state g old).now.trees 3 = done.0.tables.1.1.0 apart_36
+    in (
       record {
         store = record {
           schema = done.0.schema;
           auctions = subst IsTableOfRows (sym heads) store.auctions;
-          terms = table_after_put params (filter (λ r. not (is_of w r)) before) _ (table_after_delete _ before store.terms) done.1;
+          terms = table_after_put params (filter (λ r. not (is_of w r)) before) _
+              (table_after_delete _ before store.terms) done.1;
           seals = subst IsTableOfRows (sym rows) store.seals;
         };
         auctions = heads;
@@ -170,18 +204,30 @@ abbrev pub names : List ℕ → Row → Bool
 names id row = is_eq (value_cmp (column row 0) (Blob id))
 
 -- each id that was shown has terms of version 1, and every other id has those that it had
-pub adds_terms : {S : Type 0} (g : Ghosts S) (ids : List Row) (old new : Held S) → IsStore (state g old).now → AddsTerms g ids old new
-    → OnlyTerms (state g old).now (state g new).now × ((id : List ℕ) → IsMarked (list_any (names id) ids) id ((state g old).now.trees 6) ((state g new).now.trees 6))
+pub adds_terms : {S : Type 0} (g : Ghosts S) (ids : List Row) (old new : Held S)
+    → IsStore (state g old).now → AddsTerms g ids old new
+    → OnlyTerms (state g old).now (state g new).now
+    × ((id : List ℕ) → IsMarked (list_any (names id) ids) id ((state g old).now.trees 6)
+    ((state g new).now.trees 6))
 adds_terms g [] old new store same =
     let is : (state g new).now ≡ (state g old).now = ap (λ h. (state g h).now) same in (
-      record { store = subst IsStore (sym is) store; auctions = ap (λ (d : Database). d.trees 1) is; seals = ap (λ (d : Database). d.trees 3) is },
+      record {
+        store = subst IsStore (sym is) store;
+        auctions = ap (λ (d : Database). d.trees 1) is;
+        seals = ap (λ (d : Database). d.trees 3) is;
+      },
       λ id. ap (λ (d : Database). under id (d.trees 6)) is,
     )
 adds_terms g (row ∷ rows) old new store it =
     let mid = it.0 in
     let one = puts_terms g old mid (bound_value (column row 0)) store it.1 in
     let rest = adds_terms g rows mid new one.0.store it.2 in (
-      record { store = rest.0.store; auctions = rest.0.auctions ∙ one.0.auctions; seals = rest.0.seals ∙ one.0.seals },
+      record {
+        store = rest.0.store;
+        auctions = rest.0.auctions ∙ one.0.auctions;
+        seals = rest.0.seals ∙ one.0.seals;
+      },
       λ id. then_marked (names id row) (list_any (names id) rows) id _ _ _
-          (subst (λ b. IsMarked b id ((state g old).now.trees 6) ((state g mid).now.trees 6)) (bound_id (column row 0) id) (marks _ _ _ one.1 id)) (rest.1 id),
+          (subst (λ b. IsMarked b id ((state g old).now.trees 6) ((state g mid).now.trees 6))
+          (bound_id (column row 0) id) (marks _ _ _ one.1 id)) (rest.1 id),
     )

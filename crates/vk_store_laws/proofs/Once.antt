@@ -31,7 +31,9 @@ use Rattle.vk_store_laws.proofs.Removes.{has_permuted}
 use Rattle.vk_store_laws.proofs.Tables.{same_value}
 
 -- two values with one text are one
-one_text : {X : Type 0} {IsValue : X → Type 0} {text : X → List ℕ} {read : Rest → Result (X × Rest) ℕ} → IsWhole IsValue text read → (a b : X) → IsValue a → IsValue b → text a ≡ text b → a ≡ b
+one_text : {X : Type 0} {IsValue : X → Type 0} {text : X → List ℕ}
+    {read : Rest → Result (X × Rest) ℕ} → IsWhole IsValue text read → (a b : X) → IsValue a
+    → IsValue b → text a ≡ text b → a ≡ b
 one_text {X} {IsValue} {text} {read} whole a b is also same =
     let rest : Rest = record { taken = 0; left = text a } in
     let first = whole.found rest a is refl in
@@ -47,14 +49,23 @@ lower a b low = value_cmp-Int (pos a) (pos b) ∙ below a b low
 -- the rows of seals rise by their positions
 rows_rise : (before : ℕ) (texts : List SealTexts) → IsTable (seal_rows before texts)
 rows_rise before [] = tt
-rows_rise before (text ∷ texts) = (all_from _ (seal_rows (before + 1) texts) (λ r h. later (before + 1) (before + 1) texts r (omega arith) h), rows_rise (before + 1) texts)
+rows_rise before (text ∷ texts) = (
+  all_from _ (seal_rows (before + 1) texts)
+      (λ r h. later (before + 1) (before + 1) texts r (omega arith) h),
+  rows_rise (before + 1) texts,
+)
   where
-    later : (at before : ℕ) (texts : List SealTexts) (r : Row) → at ≤ before → Has (seal_rows before texts) r → value_cmp (Int (pos at)) (column r 0) ≡ Less
+    later : (at before : ℕ) (texts : List SealTexts) (r : Row) → at ≤ before
+        → Has (seal_rows before texts) r → value_cmp (Int (pos at)) (column r 0) ≡ Less
     later at before [] r low h = absurd h
-    later at before (text ∷ texts) r low (inl same) = subst (λ x. value_cmp (Int (pos at)) (column x 0) ≡ Less) (sym same) (lower at (before + 1) (omega (arith, low)))
-    later at before (text ∷ texts) r low (inr more) = later at (before + 1) texts r (omega (arith, low)) more
+    later at before (text ∷ texts) r low (inl same) =
+        subst (λ x. value_cmp (Int (pos at)) (column x 0) ≡ Less) (sym same)
+        (lower at (before + 1) (omega (arith, low)))
+    later at before (text ∷ texts) r low (inr more) =
+        later at (before + 1) texts r (omega (arith, low)) more
 
-never_both : (a b : Row) → value_cmp (column a 0) (column b 0) ≡ Less → value_cmp (column b 0) (column a 0) ≡ Less → ⊥
+never_both : (a b : Row) → value_cmp (column a 0) (column b 0) ≡ Less
+    → value_cmp (column b 0) (column a 0) ≡ Less → ⊥
 never_both a b p q =
     let loop = value_cmp_total.trans (column a 0) (column b 0) (column a 0) p q in
     absurd (let e = sym loop ∙ tied_itself value_cmp_total (column a 0) in cc)
@@ -63,18 +74,33 @@ not_itself : (a : Row) → value_cmp (column a 0) (column a 0) ≡ Less → ⊥
 not_itself a p = absurd (let e = sym p ∙ tied_itself value_cmp_total (column a 0) in cc)
 
 -- two tables with the same rows are one
-same_tables : (xs ys : List Row) → IsTable xs → IsTable ys → ((r : Row) → Has xs r → Has ys r) → ((r : Row) → Has ys r → Has xs r) → xs ≡ ys
+same_tables : (xs ys : List Row) → IsTable xs → IsTable ys → ((r : Row) → Has xs r → Has ys r)
+    → ((r : Row) → Has ys r → Has xs r) → xs ≡ ys
 same_tables [] [] p q a b = refl
 same_tables [] (y ∷ ys) p q a b = absurd (b y (inl refl))
 same_tables (x ∷ xs) [] p q a b = absurd (a x (inl refl))
 same_tables (x ∷ xs) (y ∷ ys) p q a b =
     let first : x ≡ y = elim (a x (inl refl)) [
       | inl same ↦ same
-      | inr behind ↦ elim (b y (inl refl)) [ inl same ↦ sym same | inr after ↦ absurd (never_both x y (all_has _ xs y p.0 after) (all_has _ ys x q.0 behind)) ]
+      | inr behind ↦ elim (b y (inl refl)) [
+        | inl same ↦ sym same
+        | inr after ↦ absurd
+            (never_both x y (all_has _ xs y p.0 after) (all_has _ ys x q.0 behind))
+      ]
     ] in
     let rest = same_tables xs ys p.1 q.1
-    (λ r h. elim (a r (inr h)) [ inl same ↦ absurd (not_itself r (subst (λ z. value_cmp (column z 0) (column r 0) ≡ Less) (first ∙ sym same) (all_has _ xs r p.0 h))) | inr more ↦ more ])
-    (λ r h. elim (b r (inr h)) [ inl same ↦ absurd (not_itself r (subst (λ z. value_cmp (column z 0) (column r 0) ≡ Less) (sym first ∙ sym same) (all_has _ ys r q.0 h))) | inr more ↦ more ]) in
+    (λ r h. elim (a r (inr h)) [
+      | inl same ↦ absurd (not_itself r
+          (subst (λ z. value_cmp (column z 0) (column r 0) ≡ Less) (first ∙ sym same)
+          (all_has _ xs r p.0 h)))
+      | inr more ↦ more
+    ])
+    (λ r h. elim (b r (inr h)) [
+      | inl same ↦ absurd (not_itself r
+          (subst (λ z. value_cmp (column z 0) (column r 0) ≡ Less) (sym first ∙ sym same)
+          (all_has _ ys r q.0 h)))
+      | inr more ↦ more
+    ]) in
     rw (first, rest) refl
 
 texts_from : (before : ℕ) (a b : List SealTexts) → seal_rows before a ≡ seal_rows before b → a ≡ b
@@ -95,28 +121,37 @@ texts_from before (x ∷ a) (y ∷ b) is =
         rw (seat, seal, secret) refl
 
 -- seals with the same texts are the same
-seals_from : (id : List ℕ) (width lanes : ℕ) (a b : List SealRow) → ((r : SealRow) → Has a r → IsSealRow id width lanes r) → ((r : SealRow) → Has b r → IsSealRow id width lanes r) → map seal_texts a ≡ map seal_texts b → a ≡ b
+seals_from : (id : List ℕ) (width lanes : ℕ) (a b : List SealRow)
+    → ((r : SealRow) → Has a r → IsSealRow id width lanes r)
+    → ((r : SealRow) → Has b r → IsSealRow id width lanes r) → map seal_texts a ≡ map seal_texts b
+    → a ≡ b
 seals_from id width lanes [] [] p q is = refl
 seals_from id width lanes [] (y ∷ b) p q is = absurd (let e = is in cc)
 seals_from id width lanes (x ∷ a) [] p q is = absurd (let e = is in cc)
 seals_from id width lanes (x ∷ a) (y ∷ b) p q is =
     let first : seal_texts x ≡ seal_texts y = cc in
-    let rest = seals_from id width lanes a b (λ r h. p r (inr h)) (λ r h. q r (inr h)) (let e = is in cc) in
-    let seal = one_text seal_is_whole x.seal y.seal (p x (inl refl)).seal (q y (inl refl)).seal (ap (λ (t : SealTexts). t.seal) first) in
-    let secret = one_text secret_is_whole x.secret y.secret (p x (inl refl)).secret (q y (inl refl)).secret (ap (λ (t : SealTexts). t.secret) first) in
+    let rest = seals_from id width lanes a b (λ r h. p r (inr h)) (λ r h. q r (inr h))
+    (let e = is in cc) in
+    let seal = one_text seal_is_whole x.seal y.seal (p x (inl refl)).seal (q y (inl refl)).seal
+    (ap (λ (t : SealTexts). t.seal) first) in
+    let secret = one_text secret_is_whole x.secret y.secret (p x (inl refl)).secret
+    (q y (inl refl)).secret (ap (λ (t : SealTexts). t.secret) first) in
     let same : x ≡ y = rw (seal, secret) refl in
     rw (same, rest) refl
 
-one_challenge : (a b : Challenge) → IsChallenge a → IsChallenge b → bits_text a.bits ≡ bits_text b.bits → a ≡ b
+one_challenge : (a b : Challenge) → IsChallenge a → IsChallenge b
+    → bits_text a.bits ≡ bits_text b.bits → a ≡ b
 one_challenge a b p q same =
     let first = bits_token.found a.bits (p.some_bit, p.few_bits) in
     let second = bits_token.found b.bits (q.some_bit, q.few_bits) in
-    let both : ◌≡◌ {A = Option (List _)} (Some a.bits) (Some b.bits) = sym first ∙ (ap Rattle.vk_reply.specs.Tokens.bits_of same ∙ second) in
+    let both : ◌≡◌ {A = Option (List _)} (Some a.bits) (Some b.bits) =
+    sym first ∙ (ap Rattle.vk_reply.specs.Tokens.bits_of same ∙ second) in
     let bits : a.bits ≡ b.bits = cc in
     rw bits refl
 
 -- the columns of a phase are those of no other
-phases : (a b : Phase) → IfSome (challenge_of a) IsChallenge → IfSome (challenge_of b) IsChallenge → phase_number a ≡ phase_number b → or_null Blob (seed_of a) ≡ or_null Blob (seed_of b)
+phases : (a b : Phase) → IfSome (challenge_of a) IsChallenge → IfSome (challenge_of b) IsChallenge
+    → phase_number a ≡ phase_number b → or_null Blob (seed_of a) ≡ or_null Blob (seed_of b)
     → or_null Text (bits_in a) ≡ or_null Text (bits_in b) → a ≡ b
 phases Taking Taking p q number seed bits = refl
 phases Taking (Proved t) p q number seed bits = absurd (let e = number in cc)
@@ -132,33 +167,62 @@ phases (Answered s c) (Answered t d) p q number seed bits =
     let challenge = one_challenge c d p q texts in
     rw (same, challenge) refl
 
-sealed : (auction : Auction) → IsAuction auction → (r : SealRow) → Has auction.seals r → IsSealRow auction.id auction.width auction.lanes r
-sealed auction right r h = all_has _ auction.seals r (Rattle.std.proofs.lemmas.List.Elements.recursion_from_All (IsSealRow auction.id auction.width auction.lanes) auction.seals right.held.rows) h
+sealed : (auction : Auction) → IsAuction auction → (r : SealRow) → Has auction.seals r
+    → IsSealRow auction.id auction.width auction.lanes r
+sealed auction right r h = all_has _ auction.seals r
+    (Rattle.std.proofs.lemmas.List.Elements.recursion_from_All
+    (IsSealRow auction.id auction.width auction.lanes) auction.seals right.held.rows) h
 
-pub stands_one : (trees : Trees) (a b : Auction) → IsAuction a → IsAuction b → a.id ≡ b.id → Stands trees a → Stands trees b → a ≡ b
+pub stands_one : (trees : Trees) (a b : Auction) → IsAuction a → IsAuction b → a.id ≡ b.id
+    → Stands trees a → Stands trees b → a ≡ b
 stands_one trees a b p q id one two =
-    let moved : Stands trees a → (map head_columns (under b.id (trees 1)) ≡ head_row a ∷ []) × IsPermutation (map seal_columns (under b.id (trees 3))) (seal_rows 0 (map seal_texts a.seals)) =
-    λ s. (subst (λ i. map head_columns (under i (trees 1)) ≡ head_row a ∷ []) id s.head, subst (λ i. IsPermutation (map seal_columns (under i (trees 3))) (seal_rows 0 (map seal_texts a.seals))) id s.seals) in
+    let moved : Stands trees a → (map head_columns (under b.id (trees 1)) ≡ head_row a ∷ [])
+    × IsPermutation (map seal_columns (under b.id (trees 3)))
+    (seal_rows 0 (map seal_texts a.seals)) =
+    λ s. (
+      subst (λ i. map head_columns (under i (trees 1)) ≡ head_row a ∷ []) id s.head,
+      subst (λ i. IsPermutation (map seal_columns (under i (trees 3)))
+          (seal_rows 0 (map seal_texts a.seals))) id s.seals,
+    ) in
     let here = moved one in
     let heads : head_row a ∷ [] ≡ head_row b ∷ [] = sym here.0 ∙ two.head in
-    let width : a.width ≡ b.width = column_at (head_row a) (head_row b) 0 heads a.width b.width refl refl in
-    let lanes : a.lanes ≡ b.lanes = column_at (head_row a) (head_row b) 1 heads a.lanes b.lanes refl refl in
-    let number : phase_number a.phase ≡ phase_number b.phase = column_at (head_row a) (head_row b) 2 heads (phase_number a.phase) (phase_number b.phase) refl refl in
+    let width : a.width ≡ b.width =
+    column_at (head_row a) (head_row b) 0 heads a.width b.width refl refl in
+    let lanes : a.lanes ≡ b.lanes =
+    column_at (head_row a) (head_row b) 1 heads a.lanes b.lanes refl refl in
+    let number : phase_number a.phase ≡ phase_number b.phase =
+    column_at (head_row a) (head_row b) 2 heads (phase_number a.phase) (phase_number b.phase)
+    refl refl in
     let seed = ap (λ rows. column (slice_index_or rows 0 []) 3) heads in
     let bits = ap (λ rows. column (slice_index_or rows 0 []) 4) heads in
     let phase = phases a.phase b.phase p.held.challenge q.held.challenge number seed bits in
-    let terms : term_row a ∷ [] ≡ term_row b ∷ [] = sym (subst (λ i. map term_columns (under i (trees 6)) ≡ term_row a ∷ []) id one.terms) ∙ two.terms in
-    let version : a.version ≡ b.version = column_at (term_row a) (term_row b) 0 terms a.version b.version refl refl in
-    let reserve : a.reserve ≡ b.reserve = column_at (term_row a) (term_row b) 1 terms a.reserve b.reserve refl refl in
-    let same : IsPermutation (seal_rows 0 (map seal_texts a.seals)) (seal_rows 0 (map seal_texts b.seals)) = IsPermutation-trans _ _ _ (IsPermutation-sym _ _ here.1) two.seals in
-    let rows = same_tables _ _ (rows_rise 0 (map seal_texts a.seals)) (rows_rise 0 (map seal_texts b.seals)) (λ r h. has_permuted _ _ r (IsPermutation-sym _ _ same) h) (λ r h. has_permuted _ _ r same h) in
+    let terms : term_row a ∷ [] ≡ term_row b ∷ [] =
+    sym (subst (λ i. map term_columns (under i (trees 6)) ≡ term_row a ∷ []) id one.terms)
+    ∙ two.terms in
+    let version : a.version ≡ b.version =
+    column_at (term_row a) (term_row b) 0 terms a.version b.version refl refl in
+    let reserve : a.reserve ≡ b.reserve =
+    column_at (term_row a) (term_row b) 1 terms a.reserve b.reserve refl refl in
+    let same : IsPermutation (seal_rows 0 (map seal_texts a.seals))
+    (seal_rows 0 (map seal_texts b.seals)) =
+    IsPermutation-trans _ _ _ (IsPermutation-sym _ _ here.1) two.seals in
+    let rows = same_tables _ _ (rows_rise 0 (map seal_texts a.seals))
+    (rows_rise 0 (map seal_texts b.seals))
+    (λ r h. has_permuted _ _ r (IsPermutation-sym _ _ same) h)
+    (λ r h. has_permuted _ _ r same h) in
     let texts = texts_from 0 (map seal_texts a.seals) (map seal_texts b.seals) rows in
     let seals = seals_from a.id a.width a.lanes a.seals b.seals (sealed a p)
-    (λ r h. subst (λ i. IsSealRow i a.width a.lanes r) (sym id) (subst (λ w. IsSealRow b.id w a.lanes r) (sym width) (subst (λ l. IsSealRow b.id b.width l r) (sym lanes) (sealed b q r h)))) texts in
+    (λ r h. subst (λ i. IsSealRow i a.width a.lanes r) (sym id)
+    (subst (λ w. IsSealRow b.id w a.lanes r) (sym width)
+    (subst (λ l. IsSealRow b.id b.width l r) (sym lanes) (sealed b q r h)))) texts in
     same_parts a b id version width lanes reserve phase seals
   where
-    column_at : (x y : Row) (at : ℕ) → x ∷ [] ≡ y ∷ [] → (m n : ℕ) → column x at ≡ Int (pos m) → column y at ≡ Int (pos n) → m ≡ n
-    column_at x y at rows m n xs ys = let e : Int (pos m) ≡ Int (pos n) = sym xs ∙ (ap (λ (rows : List Row). column (slice_index_or rows 0 []) at) rows ∙ ys) in cc
+    column_at : (x y : Row) (at : ℕ) → x ∷ [] ≡ y ∷ [] → (m n : ℕ) → column x at ≡ Int (pos m)
+        → column y at ≡ Int (pos n) → m ≡ n
+    column_at x y at rows m n xs ys = let e : Int (pos m) ≡ Int (pos n) =
+        sym xs ∙ (ap (λ (rows : List Row). column (slice_index_or rows 0 []) at) rows ∙ ys) in cc
 
-    same_parts : (a b : Auction) → a.id ≡ b.id → a.version ≡ b.version → a.width ≡ b.width → a.lanes ≡ b.lanes → a.reserve ≡ b.reserve → a.phase ≡ b.phase → a.seals ≡ b.seals → a ≡ b
-    same_parts a b id version width lanes reserve phase seals = rw (id, version, width, lanes, reserve, phase, seals) refl
+    same_parts : (a b : Auction) → a.id ≡ b.id → a.version ≡ b.version → a.width ≡ b.width
+        → a.lanes ≡ b.lanes → a.reserve ≡ b.reserve → a.phase ≡ b.phase → a.seals ≡ b.seals → a ≡ b
+    same_parts a b id version width lanes reserve phase seals =
+        rw (id, version, width, lanes, reserve, phase, seals) refl

@@ -31,7 +31,8 @@ abbrev pub IsFour : Row → Type 0
 IsFour row = row ≡ column row 0 ∷ column row 1 ∷ column row 2 ∷ column row 3 ∷ []
 
 -- fewer rows than were asked for are all of them
-pub all_taken : (n : ℕ) (order rows : List Row) → rows ≡ take n order → length rows < n → rows ≡ order
+pub all_taken : (n : ℕ) (order rows : List Row) → rows ≡ take n order → length rows < n
+    → rows ≡ order
 all_taken zero order rows is few = absurd (omega (arith, few))
 all_taken (suc n) [] rows is few = is
 all_taken (suc n) (x ∷ order) [] is few = absurd (let e = is in cc)
@@ -41,35 +42,54 @@ all_taken (suc n) (x ∷ order) (y ∷ rows) is few =
     let more = all_taken n order rows rest (omega (arith, few)) in
     rw (first, more) refl
 
-pub rows_are : (before : ℕ) (rows : List Row) (seals : List SealTexts) → AllByRecursion IsFour rows → ShowSeals before rows seals → rows ≡ seal_rows before seals
+pub rows_are : (before : ℕ) (rows : List Row) (seals : List SealTexts) → AllByRecursion IsFour rows
+    → ShowSeals before rows seals → rows ≡ seal_rows before seals
 rows_are before [] [] four shown = refl
 rows_are before [] (seal ∷ seals) four shown = absurd shown
 rows_are before (row ∷ rows) [] four shown = absurd shown
 rows_are before (row ∷ rows) (seal ∷ seals) four shown =
-    let first : row ≡ Int (pos (before + 1)) ∷ Int (pos seal.seat) ∷ Text seal.seal ∷ Text seal.secret ∷ [] =
+    let first : row ≡ Int (pos (before + 1)) ∷ Int (pos seal.seat) ∷ Text seal.seal
+    ∷ Text seal.secret ∷ [] =
     four.0 ∙ rw (shown.0.position, shown.0.seat, shown.0.seal, shown.0.secret) refl in
     rw (first, rows_are (before + 1) rows seals four.1 shown.1) refl
 
-pub count_of : (before : ℕ) (rows : List Row) (seals : List SealTexts) → ShowSeals before rows seals → length rows ≡ length seals
+pub count_of : (before : ℕ) (rows : List Row) (seals : List SealTexts) → ShowSeals before rows seals
+    → length rows ≡ length seals
 count_of before [] [] shown = refl
 count_of before [] (seal ∷ seals) shown = absurd shown
 count_of before (row ∷ rows) [] shown = absurd shown
-count_of before (row ∷ rows) (seal ∷ seals) shown = ap suc (count_of (before + 1) rows seals shown.1)
+count_of before (row ∷ rows) (seal ∷ seals) shown =
+    ap suc (count_of (before + 1) rows seals shown.1)
 
-bits_as : (challenge : Option Challenge) → or_null bits_value challenge ≡ or_null Text (option_map (λ c. bits_text c.bits) challenge)
+bits_as : (challenge : Option Challenge)
+    → or_null bits_value challenge ≡ or_null Text (option_map (λ c. bits_text c.bits) challenge)
 bits_as None = refl
 bits_as (Some challenge) = refl
 
-pub four_columns : (rows order : List Row) → IsPermutation (map seal_columns rows) order → AllByRecursion IsFour order
-four_columns rows order same = all-permutation IsFour (map seal_columns rows) order same (all_from IsFour (map seal_columns rows) (λ x h. let from = has_mapped seal_columns rows x h in subst IsFour (sym from.2) refl))
+pub four_columns : (rows order : List Row) → IsPermutation (map seal_columns rows) order
+    → AllByRecursion IsFour order
+four_columns rows order same =
+    all-permutation IsFour (map seal_columns rows) order same
+    (all_from IsFour (map seal_columns rows)
+    (λ x h. let from = has_mapped seal_columns rows x h in subst IsFour (sym from.2) refl))
 
 -- a row that shows the auction is its row
-head_is : (rows : List Row) (head : Row) (auction : Auction) → map head_columns rows ≡ head ∷ [] → ShowsAuction head auction → map head_columns rows ≡ head_row auction ∷ []
+head_is : (rows : List Row) (head : Row) (auction : Auction) → map head_columns rows ≡ head ∷ []
+    → ShowsAuction head auction → map head_columns rows ≡ head_row auction ∷ []
 head_is [] head auction is shown = absurd (let e = is in cc)
 head_is (r ∷ rows) head auction is shown =
     let first : head ≡ head_columns r = cc in
-    let shows : ShowsAuction (head_columns r) auction = subst (λ row. ShowsAuction row auction) first shown in
-    is ∙ ap (λ row. row ∷ []) (first ∙ rw (shows.width, shows.lanes, shows.phase, shows.seed, shows.bits, bits_as (challenge_of auction.phase)) refl)
+    let shows : ShowsAuction (head_columns r) auction =
+    subst (λ row. ShowsAuction row auction) first shown in
+    is ∙ ap (λ row. row ∷ []) (first
+    ∙ rw (
+      shows.width,
+      shows.lanes,
+      shows.phase,
+      shows.seed,
+      shows.bits,
+      bits_as (challenge_of auction.phase),
+    ) refl)
 
 none_mapped : (f : Row → Row) (rows : List Row) → map f rows ≡ [] → rows ≡ []
 none_mapped f [] is = refl
@@ -77,30 +97,40 @@ none_mapped f (r ∷ rows) is = absurd (let e = is in cc)
 
 none_permuted : (rows order : List Row) → IsPermutation rows order → order ≡ [] → rows ≡ []
 none_permuted [] order same is = refl
-none_permuted (r ∷ rows) order same is = absurd (let len = length_permutation (r ∷ rows) order same in let none = ap length is in omega (arith, len, none))
+none_permuted (r ∷ rows) order same is =
+    absurd (let len = length_permutation (r ∷ rows) order same in let none = ap length is in
+    omega (arith, len, none))
 
-one_permuted : (rows order : List Row) (row : Row) → IsPermutation rows order → order ≡ row ∷ [] → rows ≡ row ∷ []
-one_permuted rows order row same is = one_permutation row rows (subst (λ xs. IsPermutation xs rows) is (IsPermutation-sym rows order same))
+one_permuted : (rows order : List Row) (row : Row) → IsPermutation rows order → order ≡ row ∷ []
+    → rows ≡ row ∷ []
+one_permuted rows order row same is =
+    one_permutation row rows (subst (λ xs. IsPermutation xs rows) is
+    (IsPermutation-sym rows order same))
 
 -- a row that shows the terms is theirs
-terms_are : (rows : List Row) (row : Row) (auction : Auction) → map term_columns rows ≡ row ∷ [] → ShowsTerms row auction → map term_columns rows ≡ term_row auction ∷ []
+terms_are : (rows : List Row) (row : Row) (auction : Auction) → map term_columns rows ≡ row ∷ []
+    → ShowsTerms row auction → map term_columns rows ≡ term_row auction ∷ []
 terms_are [] row auction is shown = absurd (let e = is in cc)
 terms_are (r ∷ rows) row auction is shown =
     let first : row ≡ term_columns r = cc in
-    let shows : ShowsTerms (term_columns r) auction = subst (λ row. ShowsTerms row auction) first shown in
+    let shows : ShowsTerms (term_columns r) auction =
+    subst (λ row. ShowsTerms row auction) first shown in
     is ∙ ap (λ row. row ∷ []) (first ∙ rw (shows.version, shows.reserve) refl)
 
 module _ {S : Type 0} (g : Ghosts S) (id : List ℕ) (old : Held S) (has : (state g old).now.schema ≡ store_schema) (heads terms rows : List Row) (it : Reads g id old heads terms rows) where
   -- what the three queries found
   pub record AreFound : Type 0 where
     pub head_order : List Row
-    pub heads_in : IsPermutation (map head_columns (under id ((state g old).now.trees 1))) head_order
+    pub heads_in : IsPermutation (map head_columns (under id ((state g old).now.trees 1)))
+        head_order
     pub heads_are : heads ≡ take 2 head_order
     pub term_order : List Row
-    pub terms_in : IsPermutation (map term_columns (under id ((state g old).now.trees 6))) term_order
+    pub terms_in : IsPermutation (map term_columns (under id ((state g old).now.trees 6)))
+        term_order
     pub terms_are : terms ≡ take 2 term_order
     pub seal_order : List Row
-    pub seals_in : IsPermutation (map seal_columns (under id ((state g old).now.trees 3))) seal_order
+    pub seals_in : IsPermutation (map seal_columns (under id ((state g old).now.trees 3)))
+        seal_order
     pub seals_are : rows ≡ take 65 seal_order
 
   pub are_found : AreFound
@@ -109,28 +139,44 @@ module _ {S : Type 0} (g : Ghosts S) (id : List ℕ) (old : Held S) (has : (stat
       let one = state g it.one in
       let two = state g it.two in
       let first = finds_heads begun one id heads has it.head in
-      let left_one : one.now ≡ begun.now = (shown_leaves _ _ _ begun one heads has find_auction_is.1 it.head).0.now_is in
+      let left_one : one.now ≡ begun.now =
+      (shown_leaves _ _ _ begun one heads has find_auction_is.1 it.head).0.now_is in
       let has_one = ap (λ (d : Database). d.schema) left_one ∙ has in
       let second = finds_terms one two id terms has_one it.term in
-      let left_two : two.now ≡ begun.now = (shown_leaves _ _ _ one two terms has_one find_terms_is.1 it.term).0.now_is ∙ left_one in
-      let third = finds_seals two (state g it.last) id rows (ap (λ (d : Database). d.schema) left_two ∙ has) it.seals in
+      let left_two : two.now ≡ begun.now =
+      (shown_leaves _ _ _ one two terms has_one find_terms_is.1 it.term).0.now_is ∙ left_one in
+      let third = finds_seals two (state g it.last) id rows
+      (ap (λ (d : Database). d.schema) left_two ∙ has) it.seals in
       record {
         head_order = first.0;
         heads_in = first.1;
         heads_are = first.2;
         term_order = second.0;
-        terms_in = subst (λ (d : Database). IsPermutation (map term_columns (under id (d.trees 6))) second.0) left_one second.1;
+        terms_in = subst (λ (d : Database). IsPermutation (map term_columns (under id (d.trees 6)))
+            second.0) left_one second.1;
         terms_are = second.2;
         seal_order = third.0;
-        seals_in = subst (λ (d : Database). IsPermutation (map seal_columns (under id (d.trees 3))) third.0) left_two third.1;
+        seals_in = subst (λ (d : Database). IsPermutation (map seal_columns (under id (d.trees 3)))
+            third.0) left_two third.1;
         seals_are = third.2;
       }
 
-  pub stands_as_found : (found : Option Auction) → IfSome found (λ auction. (auction.id ≡ id) × IsAuction auction) → ShowFound heads terms rows found → AreFound → Holds (state g old).now.trees id found
+  pub stands_as_found : (found : Option Auction)
+      → IfSome found (λ auction. (auction.id ≡ id) × IsAuction auction)
+      → ShowFound heads terms rows found → AreFound → Holds (state g old).now.trees id found
   stands_as_found None right shown a = record {
-    head = none_mapped head_columns _ (none_permuted _ a.head_order a.heads_in (sym (all_taken 2 a.head_order heads a.heads_are (omega (arith, ap length shown.0))) ∙ shown.0));
-    terms = none_mapped term_columns _ (none_permuted _ a.term_order a.terms_in (sym (all_taken 2 a.term_order terms a.terms_are (omega (arith, ap length shown.1))) ∙ shown.1));
-    seals = none_mapped seal_columns _ (none_permuted _ a.seal_order a.seals_in (sym (all_taken 65 a.seal_order rows a.seals_are (omega (arith, ap length shown.2))) ∙ shown.2));
+    head = none_mapped head_columns _
+        (none_permuted _ a.head_order a.heads_in
+        (sym (all_taken 2 a.head_order heads a.heads_are (omega (arith, ap length shown.0)))
+        ∙ shown.0));
+    terms = none_mapped term_columns _
+        (none_permuted _ a.term_order a.terms_in
+        (sym (all_taken 2 a.term_order terms a.terms_are (omega (arith, ap length shown.1)))
+        ∙ shown.1));
+    seals = none_mapped seal_columns _
+        (none_permuted _ a.seal_order a.seals_in
+        (sym (all_taken 65 a.seal_order rows a.seals_are (omega (arith, ap length shown.2)))
+        ∙ shown.2));
   }
   stands_as_found (Some auction) right shown a =
       let head = shown.0 in
@@ -138,24 +184,39 @@ module _ {S : Type 0} (g : Ghosts S) (id : List ℕ) (old : Held S) (has : (stat
       let whole = shown.4 in
       let first = all_taken 2 a.head_order heads a.heads_are (omega (arith, ap length shown.2)) in
       let second = all_taken 2 a.term_order terms a.terms_are (omega (arith, ap length shown.3)) in
-      let count = count_of 0 rows (map seal_texts auction.seals) whole.seals ∙ length-map auction.seals seal_texts in
-      let third = all_taken 65 a.seal_order rows a.seals_are (omega (arith, count, right.1.held.few_seals)) in
-      let one : map head_columns (under id ((state g old).now.trees 1)) ≡ head ∷ [] = one_permuted _ a.head_order head a.heads_in (sym first ∙ shown.2) in
-      let two : map term_columns (under id ((state g old).now.trees 6)) ≡ term ∷ [] = one_permuted _ a.term_order term a.terms_in (sym second ∙ shown.3) in
+      let count = count_of 0 rows (map seal_texts auction.seals) whole.seals
+      ∙ length-map auction.seals seal_texts in
+      let third = all_taken 65 a.seal_order rows a.seals_are
+      (omega (arith, count, right.1.held.few_seals)) in
+      let one : map head_columns (under id ((state g old).now.trees 1)) ≡ head ∷ [] =
+      one_permuted _ a.head_order head a.heads_in (sym first ∙ shown.2) in
+      let two : map term_columns (under id ((state g old).now.trees 6)) ≡ term ∷ [] =
+      one_permuted _ a.term_order term a.terms_in (sym second ∙ shown.3) in
       let order : a.seal_order ≡ seal_rows 0 (map seal_texts auction.seals) =
-      rows_are 0 a.seal_order (map seal_texts auction.seals) (four_columns _ a.seal_order a.seals_in) (subst (λ xs. ShowSeals 0 xs (map seal_texts auction.seals)) third whole.seals) in (
+      rows_are 0 a.seal_order (map seal_texts auction.seals)
+      (four_columns _ a.seal_order a.seals_in)
+      (subst (λ xs. ShowSeals 0 xs (map seal_texts auction.seals)) third whole.seals) in (
         right.0,
         record {
-          head = subst (λ i. map head_columns (under i ((state g old).now.trees 1)) ≡ head_row auction ∷ []) (sym right.0) (head_is _ head auction one whole.head);
-          terms = subst (λ i. map term_columns (under i ((state g old).now.trees 6)) ≡ term_row auction ∷ []) (sym right.0) (terms_are _ term auction two whole.terms);
-          seals = subst (λ i. IsPermutation (map seal_columns (under i ((state g old).now.trees 3))) (seal_rows 0 (map seal_texts auction.seals))) (sym right.0) (subst (IsPermutation _) order a.seals_in);
+          head = subst (λ i. map head_columns (under i ((state g old).now.trees 1))
+              ≡ head_row auction ∷ []) (sym right.0) (head_is _ head auction one whole.head);
+          terms = subst (λ i. map term_columns (under i ((state g old).now.trees 6))
+              ≡ term_row auction ∷ []) (sym right.0) (terms_are _ term auction two whole.terms);
+          seals = subst (λ i. IsPermutation (map seal_columns (under i ((state g old).now.trees 3)))
+              (seal_rows 0 (map seal_texts auction.seals))) (sym right.0)
+              (subst (IsPermutation _) order a.seals_in);
         },
       )
 
-pub found_stands : {S : Type 0} (g : Ghosts S) (id : List ℕ) (old : Held S) (found : Option Auction) → (state g old).now.schema ≡ store_schema
-    → IfSome found (λ auction. (auction.id ≡ id) × IsAuction auction) → Finds g id old found → Holds (state g old).now.trees id found
-found_stands g id old found has right it = stands_as_found g id old has it.heads it.terms it.rows it.read found right it.shown (are_found g id old has it.heads it.terms it.rows it.read)
+pub found_stands : {S : Type 0} (g : Ghosts S) (id : List ℕ) (old : Held S) (found : Option Auction)
+    → (state g old).now.schema ≡ store_schema
+    → IfSome found (λ auction. (auction.id ≡ id) × IsAuction auction) → Finds g id old found
+    → Holds (state g old).now.trees id found
+found_stands g id old found has right it =
+    stands_as_found g id old has it.heads it.terms it.rows it.read found right it.shown
+    (are_found g id old has it.heads it.terms it.rows it.read)
 
-pub both_of : (id : List ℕ) (found : Option Auction) → IfSome found (λ auction. auction.id ≡ id) → IfSome found IsAuction → IfSome found (λ auction. (auction.id ≡ id) × IsAuction auction)
+pub both_of : (id : List ℕ) (found : Option Auction) → IfSome found (λ auction. auction.id ≡ id)
+    → IfSome found IsAuction → IfSome found (λ auction. (auction.id ≡ id) × IsAuction auction)
 both_of id None own right = tt
 both_of id (Some auction) own right = (own, right)

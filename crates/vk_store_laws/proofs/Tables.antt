@@ -51,7 +51,8 @@ use Rattle.vk_store_laws.proofs.Selects.{matches_are, told}
 use Rattle.vk_store_laws.proofs.Removes.{left_are, left_by_ids}
 
 -- a part that gave a value did not stop on the way
-pub went : {B E R : Type 0} {b : B} {Stops : E → Type 0} → ((stop : E) × Stops stop × (Ok b ≡ Err stop)) ⊎ R → R
+pub went : {B E R : Type 0} {b : B} {Stops : E → Type 0}
+    → ((stop : E) × Stops stop × (Ok b ≡ Err stop)) ⊎ R → R
 went (inl stopped) = absurd (let e = stopped.2 in cc)
 went (inr on) = on
 
@@ -74,7 +75,8 @@ is_free : (b : Bool) → (not b && true) ≡ true → b ≡ false
 is_free true h = absurd (let e = h in cc)
 is_free false h = refl
 
-tied_numbers : (v : Value) (n : ℤ) → is_true (binary (Compare Eq Binary) v (Int n)) ≡ true → is_eq (value_cmp v (Int n)) ≡ true
+tied_numbers : (v : Value) (n : ℤ) → is_true (binary (Compare Eq Binary) v (Int n)) ≡ true
+    → is_eq (value_cmp v (Int n)) ≡ true
 unfolding binary
 tied_numbers Null n h = absurd (let e = h in cc)
 tied_numbers (Int m) n h = sym (told _) ∙ h
@@ -86,27 +88,57 @@ and_true_left : (b : Bool) → (b && true) ≡ true → b ≡ true
 and_true_left true h = refl
 and_true_left false h = h
 
-uncounts : (b less : Bool) (A B : Type 0) → b ≡ false → MatchBool (if b then less else false) A B → B
+uncounts : (b less : Bool) (A B : Type 0) → b ≡ false → MatchBool (if b then less else false) A B
+    → B
 uncounts true less A B e h = absurd cc
 uncounts false less A B e h = h
 
 module _ (schema : Schema) (at : ℕ) (table : Table) (placed : slice_get schema.tables at ≡ Some table)
     (alone : (keys : Keys) (db : Trees) (edit : Edit) → works schema keys 0 edit.table.tree (taken_by db edit) edit.news ≡ [])
     (old new : State) (has : old.now.schema ≡ schema) (text : List ℕ) (params : Row) (count : ℕ) where
-  ran : (command : Command) (tally : Tally) → AtPlace (λ t. OnRows (record { limit = old.step_limit; keys = (mode_of old).keys; schema = schema; table = t; params = params }) (mode_of old) None command old.now.trees) (slice_get schema.tables at) (Ok (tally, new.now))
-      → OnRows (record { limit = old.step_limit; keys = (mode_of old).keys; schema = schema; table = table; params = params }) (mode_of old) None command old.now.trees (Ok (tally, new.now))
-  ran command tally h = subst (λ o. AtPlace (λ t. OnRows (record { limit = old.step_limit; keys = (mode_of old).keys; schema = schema; table = t; params = params }) (mode_of old) None command old.now.trees) o (Ok (tally, new.now))) placed h
+  ran : (command : Command) (tally : Tally)
+      → AtPlace (λ t. OnRows (record {
+        limit = old.step_limit;
+        keys = (mode_of old).keys;
+        schema = schema;
+        table = t;
+        params = params;
+      }) (mode_of old) None command old.now.trees)
+      (slice_get schema.tables at) (Ok (tally, new.now))
+      → OnRows (record {
+        limit = old.step_limit;
+        keys = (mode_of old).keys;
+        schema = schema;
+        table = table;
+        params = params;
+      }) (mode_of old) None command old.now.trees
+      (Ok (tally, new.now))
+  ran command tally h = subst (λ o.
+      AtPlace (λ t. OnRows (record {
+        limit = old.step_limit;
+        keys = (mode_of old).keys;
+        schema = schema;
+        table = t;
+        params = params;
+      }) (mode_of old) None command old.now.trees) o
+      (Ok (tally, new.now))) placed h
 
   -- the rows that the test passes are gone, and nothing else
-  pub deletes : (terms : List Term) → ((db : Trees) → overlay db [] table.tree ≡ db table.tree) → IsTableOfRows (old.now.trees table.tree)
-      → Writes old new None (Delete at (record { lets = []; body = plain_query table.tree terms (col 1 0 ∷ []) })) text params count
-      → OnlyTable table.tree schema old.now new.now × (new.now.trees table.tree ≡ filter (λ r. not (list_all (holds (params ∷ r ∷ [])) terms)) (old.now.trees table.tree))
+  pub deletes : (terms : List Term) → ((db : Trees) → overlay db [] table.tree ≡ db table.tree)
+      → IsTableOfRows (old.now.trees table.tree)
+      → Writes old new None (Delete at
+      (record { lets = []; body = plain_query table.tree terms (col 1 0 ∷ []) })) text params count
+      → OnlyTable table.tree schema old.now new.now
+      × (new.now.trees table.tree
+      ≡ filter (λ r. not (list_all (holds (params ∷ r ∷ [])) terms)) (old.now.trees table.tree))
   deletes terms seen sorted w =
       let db = old.now.trees in
       let query = plain_query table.tree terms (col 1 0 ∷ []) in
       let command = Delete at (record { lets = []; body = query }) in
       let p = λ (r : Row). list_all (holds (params ∷ r ∷ [])) terms in
-      let done = went (ran command w.tally (subst (λ s. Does old.step_limit (mode_of old) params (record old.now { schema = s }) text None command (Ok (w.tally, new.now))) has w.changed)) in
+      let done = went (ran command w.tally
+      (subst (λ s. Does old.step_limit (mode_of old) params (record old.now { schema = s }) text
+      None command (Ok (w.tally, new.now))) has w.changed)) in
       let now = ap (λ (q : Tally × Database). q.1) (same_value (went (went done.2).2).2) in
       let found = went done.1 in
       let wrote = went found.2 in
@@ -114,85 +146,139 @@ module _ (schema : Schema) (at : ℕ) (table : Table) (placed : slice_get schema
       let edit = edit_of db table (ids_of found.0) Given 0 [] in
       let applied = one_step schema _ db wrote.0 edit (alone (mode_of old).keys db edit) wrote.1 in
       let a : IsAnswer query (overlay db []) params found.0 = found.1.answer Null in
-      let staged = a.grouped ∙ (matches_are Null (overlay db []) params table.tree terms ∙ ap (λ rows. map (λ r. params ∷ r ∷ []) (filter p rows)) (seen db)) in
-      let kept = a.distinct ∙ (ap (map (output query)) staged ∙ map-map (output query) (λ r. params ∷ r ∷ []) (filter p (db table.tree))) in
+      let staged = a.grouped ∙ (matches_are Null (overlay db []) params table.tree terms
+      ∙ ap (λ rows. map (λ r. params ∷ r ∷ []) (filter p rows)) (seen db)) in
+      let kept = a.distinct ∙ (ap (map (output query)) staged
+      ∙ map-map (output query) (λ r. params ∷ r ∷ []) (filter p (db table.tree))) in
       let ids = λ (o : Output). id_in (rowid o.1) in
-      let all = ap (map ids) kept ∙ map-map ids (λ r. output query (params ∷ r ∷ [])) (filter p (db table.tree)) in
-      let listed : ids_of found.0 ≡ map ids a.ordered = ap ids_of a.shown ∙ map-map (λ r. id_in (rowid r)) (λ (o : Output). o.1) a.ordered in
-      let same : IsPermutation (map (λ r. id_in (rowid r)) (filter p (db table.tree))) (ids_of found.0) =
-      subst (λ x. IsPermutation x (ids_of found.0)) all (subst (IsPermutation (map ids a.kept)) (sym listed) (IsPermutation-map ids a.kept a.ordered a.same)) in
+      let all = ap (map ids) kept
+      ∙ map-map ids (λ r. output query (params ∷ r ∷ [])) (filter p (db table.tree)) in
+      let listed : ids_of found.0 ≡ map ids a.ordered =
+      ap ids_of a.shown ∙ map-map (λ r. id_in (rowid r)) (λ (o : Output). o.1) a.ordered in
+      let same : IsPermutation (map (λ r. id_in (rowid r)) (filter p (db table.tree)))
+      (ids_of found.0) =
+      subst (λ x. IsPermutation x (ids_of found.0)) all
+      (subst (IsPermutation (map ids a.kept)) (sym listed)
+      (IsPermutation-map ids a.kept a.ordered a.same)) in
       let left = left_are (db table.tree) sorted.0 sorted.1 p (ids_of found.0) same in
       let is : new.now.trees ≡ wrote.0 = ap (λ (d : Database). d.trees) now ∙ trees in (
-        record { schema = ap (λ (d : Database). d.schema) now; tables = subst (λ (t : Trees). AllByRecursion (λ (other : Table). other.tree ≢ table.tree → t other.tree ≡ db other.tree) schema.tables) (sym is) applied.tables },
+        record {
+          schema = ap (λ (d : Database). d.schema) now;
+          tables = subst (λ (t : Trees). AllByRecursion
+              (λ (other : Table). other.tree ≢ table.tree → t other.tree ≡ db other.tree)
+              schema.tables) (sym is) applied.tables;
+        },
         ap (λ (t : Trees). t table.tree) is ∙ (applied.rows ∙ left),
       )
 
   -- an update changes no other table
-  pub updates : (program : Program) → Writes old new None (Update at program) text params count → OnlyTable table.tree schema old.now new.now
+  pub updates : (program : Program) → Writes old new None (Update at program) text params count
+      → OnlyTable table.tree schema old.now new.now
   updates program w =
       let db = old.now.trees in
       let command = Update at program in
-      let done = went (ran command w.tally (subst (λ s. Does old.step_limit (mode_of old) params (record old.now { schema = s }) text None command (Ok (w.tally, new.now))) has w.changed)) in
+      let done = went (ran command w.tally
+      (subst (λ s. Does old.step_limit (mode_of old) params (record old.now { schema = s }) text
+      None command (Ok (w.tally, new.now))) has w.changed)) in
       let now = ap (λ (q : Tally × Database). q.1) (same_value (went (went done.2).2).2) in
       let found = went done.1 in
       let wrote = went found.2 in
       let edit = edit_of db table (ids_of found.0) Given 1 found.0 in
       let applied = one_step schema _ db wrote.0 edit (alone (mode_of old).keys db edit) wrote.1 in
-      let is : new.now.trees ≡ wrote.0 = ap (λ (d : Database). d.trees) now ∙ ap (λ (it : Written). it.trees) (same_value wrote.2) in
-      record { schema = ap (λ (d : Database). d.schema) now; tables = subst (λ (t : Trees). AllByRecursion (λ (other : Table). other.tree ≢ table.tree → t other.tree ≡ db other.tree) schema.tables) (sym is) applied.tables }
+      let is : new.now.trees ≡ wrote.0 = ap (λ (d : Database). d.trees) now
+      ∙ ap (λ (it : Written). it.trees) (same_value wrote.2) in
+      record {
+        schema = ap (λ (d : Database). d.schema) now;
+        tables = subst (λ (t : Trees). AllByRecursion
+            (λ (other : Table). other.tree ≢ table.tree → t other.tree ≡ db other.tree) schema.tables)
+            (sym is) applied.tables;
+      }
 
   -- one row is put under a rowid that was free, and nothing else is changed
-  pub inserts : (terms : List Term) (width : ℕ) → table.is_counted ≡ false → stamped table params ≡ params
-      → value_rows params width (length terms / width) terms ≡ (Null ∷ params) ∷ [] → cast_row table (Null ∷ params) ≡ Null ∷ params
+  pub inserts : (terms : List Term) (width : ℕ) → table.is_counted ≡ false
+      → stamped table params ≡ params
+      → value_rows params width (length terms / width) terms ≡ (Null ∷ params) ∷ []
+      → cast_row table (Null ∷ params) ≡ Null ∷ params
       → Writes old new None (Insert at (Values terms width)) text params count
-      → OnlyTable table.tree schema old.now new.now × PutsRow params (old.now.trees table.tree) (new.now.trees table.tree)
+      → OnlyTable table.tree schema old.now new.now
+      × PutsRow params (old.now.trees table.tree) (new.now.trees table.tree)
   inserts terms width uncounted unstamped valued casts w =
       let db = old.now.trees in
       let command = Insert at (Values terms width) in
-      let done = went (ran command w.tally (subst (λ s. Does old.step_limit (mode_of old) params (record old.now { schema = s }) text None command (Ok (w.tally, new.now))) has w.changed)) in
+      let done = went (ran command w.tally
+      (subst (λ s. Does old.step_limit (mode_of old) params (record old.now { schema = s }) text
+      None command (Ok (w.tally, new.now))) has w.changed)) in
       let now = ap (λ (q : Tally × Database). q.1) (same_value (went (went done.2).2).2) in
       let given = went done.1 in
       let counter = went given.2 in
       let written = went counter.2 in
       let counted = went written.2 in
       let plain = uncounts table.is_counted _ _ _ uncounted counted.1 in
-      let trees : done.0.trees ≡ written.0 = ap (λ (it : Written). it.trees) (same_value counted.2) ∙ same_value plain in
+      let trees : done.0.trees ≡ written.0 = ap (λ (it : Written). it.trees) (same_value counted.2)
+      ∙ same_value plain in
       let number = next_rowid (db table.tree) in
       let row = Int number ∷ params in
-      let rows : given.0 ≡ (Null ∷ params) ∷ [] = given.1.1 ∙ (ap (λ ps. value_rows ps width (length terms / width) terms) unstamped ∙ valued) in
+      let rows : given.0 ≡ (Null ∷ params) ∷ [] =
+      given.1.1 ∙ (ap (λ ps. value_rows ps width (length terms / width) terms) unstamped
+      ∙ valued) in
       let edit = edit_of db table [] Chosen 0 given.0 in
-      let written_plain = subst (λ b. Edited schema (mode_of old).keys db (edit_of db table [] (if b then Above (count_of counter.0) else Chosen) 0 given.0) (Ok written.0)) uncounted written.1 in
-      let applied = one_step schema _ db written.0 edit (alone (mode_of old).keys db edit) written_plain in
-      let news : edit.news ≡ row ∷ [] = ap (λ all. (edit_of db table [] Chosen 0 all).news) rows ∙ ap (λ r. numbered Chosen (db table.tree) (r ∷ [])) casts in
+      let written_plain = subst
+      (λ b. Edited schema (mode_of old).keys db
+      (edit_of db table [] (if b then Above (count_of counter.0) else Chosen) 0 given.0)
+      (Ok written.0)) uncounted written.1 in
+      let applied = one_step schema _ db written.0 edit (alone (mode_of old).keys db edit)
+      written_plain in
+      let news : edit.news ≡ row ∷ [] = ap (λ all. (edit_of db table [] Chosen 0 all).news) rows
+      ∙ ap (λ r. numbered Chosen (db table.tree) (r ∷ [])) casts in
       let is : new.now.trees ≡ written.0 = ap (λ (d : Database). d.trees) now ∙ trees in (
-        record { schema = ap (λ (d : Database). d.schema) now; tables = subst (λ (t : Trees). AllByRecursion (λ (other : Table). other.tree ≢ table.tree → t other.tree ≡ db other.tree) schema.tables) (sym is) applied.tables },
+        record {
+          schema = ap (λ (d : Database). d.schema) now;
+          tables = subst (λ (t : Trees). AllByRecursion
+              (λ (other : Table). other.tree ≢ table.tree → t other.tree ≡ db other.tree)
+              schema.tables) (sym is) applied.tables;
+        },
         record {
           number = number;
-          rows = ap (λ (t : Trees). t table.tree) is ∙ (applied.rows ∙ ap (λ all. edited db (record { table = table; gone = []; news = all })) news);
+          rows = ap (λ (t : Trees). t table.tree) is
+              ∙ (applied.rows ∙ ap (λ all.
+              edited db (record { table = table; gone = []; news = all })) news);
           free = is_free _ (subst (λ all. are_fresh (db table.tree) all ≡ true) news applied.fresh);
         },
       )
 
   -- the rows with the key of the new one are gone, and it is put under a rowid that was free
   module _ (key : Row → Bool) (uncounted : table.is_counted ≡ false) (recasts : (n : ℤ) → cast_row table (Int n ∷ params) ≡ Int n ∷ params)
-      (keyed : (n : ℤ) (r : Row) → list_any (shares None table (Int n ∷ params) r) schema.indexes ≡ key r) where
+      (keyed : (n : ℤ) (r : Row) → list_any (shares None table (Int n ∷ params) r) schema.indexes
+      ≡ key r) where
     task : Task
-    task = record { limit = old.step_limit; keys = (mode_of old).keys; schema = schema; table = table; params = params }
+    task = record {
+      limit = old.step_limit;
+      keys = (mode_of old).keys;
+      schema = schema;
+      table = table;
+      params = params;
+    }
 
     abbrev Others : Trees → Trees → Type 0
-    Others before after = AllByRecursion (λ (other : Table). other.tree ≢ table.tree → after other.tree ≡ before other.tree) schema.tables
+    Others before after = AllByRecursion
+        (λ (other : Table). other.tree ≢ table.tree → after other.tree ≡ before other.tree)
+        schema.tables
 
     puts : (n : ℤ) (mid : Trees) (one : Written) → Puts task (Int n ∷ params) mid (Ok one)
-        → (one.trees table.tree ≡ put_row (Int n ∷ params) (mid table.tree)) × (is_taken (mid table.tree) (Int n ∷ params) ≡ false) × Others mid one.trees
+        → (one.trees table.tree ≡ put_row (Int n ∷ params) (mid table.tree))
+        × (is_taken (mid table.tree) (Int n ∷ params) ≡ false) × Others mid one.trees
     unfolding task
     puts n mid one h =
         let w = went h in
         let row = Int n ∷ params in
         let edit = edit_of mid table [] Given 0 (row ∷ []) in
-        let applied = one_step schema (mode_of old).keys mid w.0 edit (alone (mode_of old).keys mid edit) w.1 in
+        let applied = one_step schema (mode_of old).keys mid w.0 edit
+        (alone (mode_of old).keys mid edit) w.1 in
         let news : edit.news ≡ row ∷ [] = ap (λ r. r ∷ []) (recasts n) in
         let is : one.trees ≡ w.0 = ap (λ (it : Written). it.trees) (same_value w.2) in (
-          ap (λ (t : Trees). t table.tree) is ∙ (applied.rows ∙ ap (λ all. edited mid (record { table = table; gone = []; news = all })) news),
+          ap (λ (t : Trees). t table.tree) is
+              ∙ (applied.rows ∙ ap (λ all.
+              edited mid (record { table = table; gone = []; news = all })) news),
           is_free _ (subst (λ all. are_fresh (mid table.tree) all ≡ true) news applied.fresh),
           subst (Others mid) (sym is) applied.tables,
         )
@@ -206,33 +292,54 @@ module _ (schema : Schema) (at : ℕ) (table : Table) (placed : slice_get schema
     rows : List Row
     rows = old.now.trees table.tree
 
-    no_tie : IsTableOfRows rows → (r : Row) → Has rows r → agree plain (0 ∷ []) r (0 ∷ []) row ≡ true → ⊥
+    no_tie : IsTableOfRows rows → (r : Row) → Has rows r
+        → agree plain (0 ∷ []) r (0 ∷ []) row ≡ true → ⊥
     unfolding row number rows
     no_tie sorted r h tie =
-        let same : is_eq (value_cmp (rowid r) (Int (next_rowid (old.now.trees table.tree)))) ≡ true = tied_numbers (rowid r) _ (and_true_left _ (subst (λ (k : Key). (equal k.collation (rowid r) (Int (next_rowid (old.now.trees table.tree))) && true) ≡ true) first_key-plain tie)) in
-        let taken : is_taken (old.now.trees table.tree) (Int (next_rowid (old.now.trees table.tree)) ∷ params) ≡ true = some_from (λ y. is_eq (value_cmp (rowid y) (Int (next_rowid (old.now.trees table.tree))))) (old.now.trees table.tree) r h same in
-        false≢true (sym (next_is_free Chosen (old.now.trees table.tree) params sorted.0 sorted.1) ∙ taken)
+        let same : is_eq (value_cmp (rowid r) (Int (next_rowid (old.now.trees table.tree))))
+        ≡ true = tied_numbers (rowid r) _
+        (and_true_left _ (subst
+        (λ (k : Key). (equal k.collation (rowid r) (Int (next_rowid (old.now.trees table.tree)))
+        && true) ≡ true) first_key-plain tie)) in
+        let taken : is_taken (old.now.trees table.tree)
+        (Int (next_rowid (old.now.trees table.tree)) ∷ params) ≡ true =
+        some_from (λ y. is_eq
+        (value_cmp (rowid y) (Int (next_rowid (old.now.trees table.tree)))))
+        (old.now.trees table.tree) r h same in
+        false≢true (sym (next_is_free Chosen (old.now.trees table.tree) params sorted.0 sorted.1)
+        ∙ taken)
 
-    conflicts_key : IsTableOfRows rows → (r : Row) → Has rows r → conflicts None schema.indexes table row r ≡ key r
+    conflicts_key : IsTableOfRows rows → (r : Row) → Has rows r
+        → conflicts None schema.indexes table row r ≡ key r
     unfolding row number rows
     conflicts_key sorted r h = elim (cases_Bool (agree plain (0 ∷ []) r (0 ∷ []) row)) [
       | inl tie ↦ absurd (no_tie sorted r h tie)
       | inr apart ↦ rw apart (keyed (next_rowid (old.now.trees table.tree)) r)
     ]
 
-    spares_all : (p : Row → Bool) (xs : List Row) → ((r : Row) → Has xs r → p r ≡ true → ⊥) → filter (λ r. not (p r)) xs ≡ xs
-    spares_all p xs none = filter_all (λ r. not (p r)) xs (λ r h. elim (cases_Bool (p r)) [ inl passes ↦ absurd (none r h passes) | inr fails ↦ ap not fails ])
+    spares_all : (p : Row → Bool) (xs : List Row) → ((r : Row) → Has xs r → p r ≡ true → ⊥)
+        → filter (λ r. not (p r)) xs ≡ xs
+    spares_all p xs none = filter_all (λ r. not (p r)) xs
+        (λ r h. elim (cases_Bool (p r))
+        [ inl passes ↦ absurd (none r h passes) | inr fails ↦ ap not fails ])
 
     -- the rows that conflict go first
-    clears : IsTableOfRows (old.now.trees table.tree) → (found : List Row) → AreConflicts None schema.indexes table (old.now.trees table.tree) (Int (next_rowid (old.now.trees table.tree)) ∷ params) found
-        → (one : Written) → Clears task Replace (Int (next_rowid (old.now.trees table.tree)) ∷ params) old.now.trees found (Ok one)
-        → (mid : List Row) × (mid ≡ filter (λ r. not (key r)) (old.now.trees table.tree)) × (one.trees table.tree ≡ put_row (Int (next_rowid (old.now.trees table.tree)) ∷ params) mid)
-        × (is_taken mid (Int (next_rowid (old.now.trees table.tree)) ∷ params) ≡ false) × Others old.now.trees one.trees
+    clears : IsTableOfRows (old.now.trees table.tree) → (found : List Row)
+        → AreConflicts None schema.indexes table (old.now.trees table.tree)
+        (Int (next_rowid (old.now.trees table.tree)) ∷ params) found
+        → (one : Written) → Clears task Replace
+        (Int (next_rowid (old.now.trees table.tree)) ∷ params) old.now.trees found (Ok one)
+        → (mid : List Row) × (mid ≡ filter (λ r. not (key r)) (old.now.trees table.tree))
+        × (one.trees table.tree
+        ≡ put_row (Int (next_rowid (old.now.trees table.tree)) ∷ params) mid)
+        × (is_taken mid (Int (next_rowid (old.now.trees table.tree)) ∷ params) ≡ false)
+        × Others old.now.trees one.trees
     unfolding row number rows task
     clears sorted [] all one h =
         let put = puts number old.now.trees one h in (
           old.now.trees table.tree,
-          sym (spares_all key (old.now.trees table.tree) (λ r has passes. all.complete r has (conflicts_key sorted r has ∙ passes))),
+          sym (spares_all key (old.now.trees table.tree)
+              (λ r has passes. all.complete r has (conflicts_key sorted r has ∙ passes))),
           put.0,
           put.1,
           put.2,
@@ -242,56 +349,93 @@ module _ (schema : Schema) (at : ℕ) (table : Table) (placed : slice_get schema
         let db = old.now.trees in
         let ids = ids_of (x ∷ more) in
         let edit = edit_of db table ids Given 0 [] in
-        let applied = one_step schema (mode_of old).keys db w.0 edit (alone (mode_of old).keys db edit) w.1 in
+        let applied = one_step schema (mode_of old).keys db w.0 edit
+        (alone (mode_of old).keys db edit) w.1 in
         let put = puts number w.0 one w.2 in
         let left = left_by_ids (db table.tree) sorted.0 sorted.1 key ids
         (λ id has. let from = has_mapped (λ r. id_in (rowid r)) (x ∷ more) id has in
-        let found = all.sound from.0 from.1 in
-        (found.0, found.1, sym (conflicts_key sorted found.0 found.1) ∙ found.2, from.2 ∙ ap (λ r. id_in (rowid r)) found.3))
-        (λ r has passes. mapped_has (λ r. id_in (rowid r)) (x ∷ more) (rowid r ∷ []) (all.complete r has (conflicts_key sorted r has ∙ passes))) in (
+        let found = all.sound from.0 from.1 in (
+          found.0,
+          found.1,
+          sym (conflicts_key sorted found.0 found.1) ∙ found.2,
+          from.2
+              ∙ ap (λ r. id_in (rowid r)) found.3,
+        ))
+        (λ r has passes. mapped_has (λ r. id_in (rowid r)) (x ∷ more) (rowid r ∷ [])
+        (all.complete r has (conflicts_key sorted r has ∙ passes))) in (
           w.0 table.tree,
           applied.rows ∙ left,
           put.0,
           put.1,
-          all_from _ schema.tables (λ other has apart. all_has _ schema.tables other put.2 has apart ∙ all_has _ schema.tables other applied.tables has apart),
+          all_from _ schema.tables
+              (λ other has apart. all_has _ schema.tables other put.2 has apart
+              ∙ all_has _ schema.tables other applied.tables has apart),
         )
 
-    tries : IsTableOfRows (old.now.trees table.tree) → (one : Written) → Tries task Replace [] (Int (next_rowid (old.now.trees table.tree)) ∷ params) old.now.trees (Ok one)
-        → (mid : List Row) × (mid ≡ filter (λ r. not (key r)) (old.now.trees table.tree)) × (one.trees table.tree ≡ put_row (Int (next_rowid (old.now.trees table.tree)) ∷ params) mid)
-        × (is_taken mid (Int (next_rowid (old.now.trees table.tree)) ∷ params) ≡ false) × Others old.now.trees one.trees
+    tries : IsTableOfRows (old.now.trees table.tree) → (one : Written)
+        → Tries task Replace [] (Int (next_rowid (old.now.trees table.tree)) ∷ params) old.now.trees
+        (Ok one)
+        → (mid : List Row) × (mid ≡ filter (λ r. not (key r)) (old.now.trees table.tree))
+        × (one.trees table.tree
+        ≡ put_row (Int (next_rowid (old.now.trees table.tree)) ∷ params) mid)
+        × (is_taken mid (Int (next_rowid (old.now.trees table.tree)) ∷ params) ≡ false)
+        × Others old.now.trees one.trees
     unfolding task
     tries sorted one (inl no_rowid) = absurd (let e = no_rowid.1 in cc)
     tries sorted one (inr (None, judged, went_on)) = clears sorted went_on.0 went_on.1 one went_on.2
     tries sorted one (inr (Some why, judged, stopped)) = absurd (let e = stopped in cc)
 
-    pub replaces : (terms : List Term) (width : ℕ) → stamped table params ≡ params → value_rows params width (length terms / width) terms ≡ (Null ∷ params) ∷ []
-        → mended Replace table (Null ∷ params) ≡ Null ∷ params → cast_row table (Null ∷ params) ≡ Null ∷ params → IsTableOfRows (old.now.trees table.tree)
+    pub replaces : (terms : List Term) (width : ℕ) → stamped table params ≡ params
+        → value_rows params width (length terms / width) terms ≡ (Null ∷ params) ∷ []
+        → mended Replace table (Null ∷ params) ≡ Null ∷ params
+        → cast_row table (Null ∷ params) ≡ Null ∷ params → IsTableOfRows (old.now.trees table.tree)
         → Writes old new None (InsertOr at Replace (Values terms width) []) text params count
-        → OnlyTable table.tree schema old.now new.now × PutsRow params (filter (λ r. not (key r)) (old.now.trees table.tree)) (new.now.trees table.tree)
+        → OnlyTable table.tree schema old.now new.now
+        × PutsRow params (filter (λ r. not (key r)) (old.now.trees table.tree))
+        (new.now.trees table.tree)
     unfolding task
     replaces terms width unstamped valued mends casts sorted w =
         let db = old.now.trees in
         let command = InsertOr at Replace (Values terms width) [] in
-        let done = went (ran command w.tally (subst (λ s. Does old.step_limit (mode_of old) params (record old.now { schema = s }) text None command (Ok (w.tally, new.now))) has w.changed)) in
+        let done = went (ran command w.tally
+        (subst (λ s. Does old.step_limit (mode_of old) params (record old.now { schema = s })
+        text None command (Ok (w.tally, new.now))) has w.changed)) in
         let given = went done.1 in
         let counter = went given.2 in
         let tried = went counter.2 in
         let counted = went tried.2 in
         let now = ap (λ (q : Tally × Database). q.1) (same_value (went (went done.2).2).2) in
-        let after : done.0.trees ≡ tried.0.0.trees = ap (λ (it : Written). it.trees) (same_value counted.2) ∙ same_value (uncounts table.is_counted _ _ _ uncounted counted.1) in
-        let sources : given.0 ≡ (Null ∷ params) ∷ [] = given.1.1 ∙ (ap (λ ps. value_rows ps width (length terms / width) terms) unstamped ∙ valued) in
-        let each = subst (λ all. TriesEach task Replace [] all (count_of counter.0) (record { trees = db; rows = []; last = None }) (Ok tried.0)) sources tried.1 in
+        let after : done.0.trees ≡ tried.0.0.trees =
+        ap (λ (it : Written). it.trees) (same_value counted.2)
+        ∙ same_value (uncounts table.is_counted _ _ _ uncounted counted.1) in
+        let sources : given.0 ≡ (Null ∷ params) ∷ [] =
+        given.1.1 ∙ (ap (λ ps. value_rows ps width (length terms / width) terms) unstamped
+        ∙ valued) in
+        let each = subst (λ all. TriesEach task Replace [] all (count_of counter.0)
+        (record { trees = db; rows = []; last = None }) (Ok tried.0)) sources tried.1 in
         let one = went each in
-        let trees : tried.0.0.trees ≡ one.0.trees = ap (λ (p : Written × ℤ). p.0.trees) (same_value one.2) in
-        let source : with_rowid (if table.is_counted then Above (count_of counter.0) else Chosen) (db table.tree) (cast_row table (mended Replace table (Null ∷ params))) ≡ Int (next_rowid (db table.tree)) ∷ params =
-        ap (λ b. with_rowid (if b then Above (count_of counter.0) else Chosen) (db table.tree) (cast_row table (mended Replace table (Null ∷ params)))) uncounted
-        ∙ (ap (λ r. with_rowid Chosen (db table.tree) (cast_row table r)) mends ∙ ap (with_rowid Chosen (db table.tree)) casts) in
-        let made = tries sorted one.0 (subst (λ r. Tries task Replace [] r db (Ok one.0)) source one.1) in
-        let is : new.now.trees ≡ one.0.trees = ap (λ (d : Database). d.trees) now ∙ (after ∙ trees) in (
-          record { schema = ap (λ (d : Database). d.schema) now; tables = subst (Others db) (sym is) made.4 },
+        let trees : tried.0.0.trees ≡ one.0.trees =
+        ap (λ (p : Written × ℤ). p.0.trees) (same_value one.2) in
+        let source : with_rowid (if table.is_counted then Above (count_of counter.0) else Chosen)
+        (db table.tree) (cast_row table (mended Replace table (Null ∷ params)))
+        ≡ Int (next_rowid (db table.tree)) ∷ params =
+        ap (λ b. with_rowid (if b then Above (count_of counter.0) else Chosen) (db table.tree)
+        (cast_row table (mended Replace table (Null ∷ params)))) uncounted
+        ∙ (ap (λ r. with_rowid Chosen (db table.tree) (cast_row table r)) mends
+        ∙ ap (with_rowid Chosen (db table.tree)) casts) in
+        let made = tries sorted one.0
+        (subst (λ r. Tries task Replace [] r db (Ok one.0)) source one.1) in
+        let is : new.now.trees ≡ one.0.trees = ap (λ (d : Database). d.trees) now ∙ (after ∙ trees)
+        in (
+          record {
+            schema = ap (λ (d : Database). d.schema) now;
+            tables = subst (Others db) (sym is) made.4;
+          },
           record {
             number = next_rowid (db table.tree);
-            rows = ap (λ (t : Trees). t table.tree) is ∙ (made.2 ∙ ap (put_row (Int (next_rowid (db table.tree)) ∷ params)) made.1);
-            free = subst (λ mid. is_taken mid (Int (next_rowid (db table.tree)) ∷ params) ≡ false) made.1 made.3;
+            rows = ap (λ (t : Trees). t table.tree) is
+                ∙ (made.2 ∙ ap (put_row (Int (next_rowid (db table.tree)) ∷ params)) made.1);
+            free = subst (λ mid. is_taken mid (Int (next_rowid (db table.tree)) ∷ params) ≡ false)
+                made.1 made.3;
           },
         )

@@ -24,20 +24,39 @@ of_id = op2 (Compare Eq Binary) (col 1 1) (col 0 0)
 
 -- its position isn't between 1 and the second parameter
 abbrev pub is_behind : Term
-is_behind = op1 Not (op2 And (op2 (Compare Ge Binary) (col 1 2) (lit (Int (pos 1)))) (op2 (Compare Le Binary) (col 1 2) (op1 ToNumeric (col 0 1))))
+is_behind = op1 Not (op2 And (op2 (Compare Ge Binary) (col 1 2) (lit (Int (pos 1))))
+    (op2 (Compare Le Binary) (col 1 2) (op1 ToNumeric (col 0 1))))
 
 abbrev pub plain_query : ℕ → List Term → List Term → Query
-plain_query tree filter project = record { from = inner tree end; filter = filter; group = None; project = project; distinct = false; collations = []; order = []; limit = lit (Int (negsuc 0)); offset = lit (Int (pos 0)) }
+plain_query tree filter project =
+    record {
+      from = inner tree end;
+      filter = filter;
+      group = None;
+      project = project;
+      distinct = false;
+      collations = [];
+      order = [];
+      limit = lit (Int (negsuc 0));
+      offset =
+          lit (Int (pos 0));
+    }
 
 -- at most two of the rows of the id
 abbrev pub two_query : ℕ → List Term → Query
-two_query tree project = record (plain_query tree (of_id ∷ []) project) { limit = lit (Int (pos 2)) }
+two_query tree project = record (plain_query tree (of_id ∷ []) project) {
+  limit =
+      lit (Int (pos 2));
+}
 
 abbrev pub head_query : Query
 head_query = two_query 1 (col 1 2 ∷ col 1 3 ∷ col 1 4 ∷ col 1 5 ∷ col 1 6 ∷ [])
 
 abbrev pub rows_query : Query
-rows_query = record (plain_query 3 (of_id ∷ []) (col 1 2 ∷ col 1 3 ∷ col 1 4 ∷ col 1 5 ∷ [])) { order = (col 1 2, record { collation = Binary; descending = false }) ∷ []; limit = lit (Int (pos 65)) }
+rows_query = record (plain_query 3 (of_id ∷ []) (col 1 2 ∷ col 1 3 ∷ col 1 4 ∷ col 1 5 ∷ [])) {
+  order = (col 1 2, record { collation = Binary; descending = false }) ∷ [];
+  limit = lit (Int (pos 65));
+}
 
 abbrev pub term_query : Query
 term_query = two_query 6 (col 1 2 ∷ col 1 3 ∷ [])
@@ -53,30 +72,54 @@ seal_terms = lit Null ∷ col 0 0 ∷ col 0 1 ∷ col 0 2 ∷ col 0 3 ∷ col 0 
 
 -- ---- each text is this command, and plain
 
-pub find_auction_is : ((command_of (understood store_schema auction_query) ≡ Select (record { lets = []; body = head_query }) (codes "width" ∷ codes "lanes" ∷ codes "phase" ∷ codes "seed" ∷ codes "bits" ∷ [])) × (reads_listing store_schema auction_query ≡ false)) × IsPlain (understood store_schema auction_query)
-unfolding understood everything auction_query terms_query seals_query keep_auction keep_terms drop_seals keep_seal
+pub find_auction_is : ((command_of (understood store_schema auction_query)
+    ≡ Select (record { lets = []; body = head_query })
+    (codes "width" ∷ codes "lanes" ∷ codes "phase" ∷ codes "seed" ∷ codes "bits" ∷ []))
+    × (reads_listing store_schema auction_query ≡ false))
+    × IsPlain (understood store_schema auction_query)
+unfolding understood everything auction_query terms_query seals_query keep_auction keep_terms
+    drop_seals keep_seal
 find_auction_is = ((refl, refl), (refl, refl))
 
-pub find_seals_is : ((command_of (understood store_schema seals_query) ≡ Select (record { lets = []; body = rows_query }) (codes "position" ∷ codes "seat" ∷ codes "seal" ∷ codes "secret" ∷ [])) × (reads_listing store_schema seals_query ≡ false)) × IsPlain (understood store_schema seals_query)
-unfolding understood everything auction_query terms_query seals_query keep_auction keep_terms drop_seals keep_seal
+pub find_seals_is : ((command_of (understood store_schema seals_query)
+    ≡ Select (record { lets = []; body = rows_query })
+    (codes "position" ∷ codes "seat" ∷ codes "seal" ∷ codes "secret" ∷ []))
+    × (reads_listing store_schema seals_query ≡ false))
+    × IsPlain (understood store_schema seals_query)
+unfolding understood everything auction_query terms_query seals_query keep_auction keep_terms
+    drop_seals keep_seal
 find_seals_is = ((refl, refl), (refl, refl))
 
-pub keep_auction_is : (command_of (understood store_schema keep_auction) ≡ InsertOr 1 Replace (Values auction_terms 7) []) × IsPlain (understood store_schema keep_auction)
-unfolding understood everything auction_query terms_query seals_query keep_auction keep_terms drop_seals keep_seal
+pub keep_auction_is : (command_of (understood store_schema keep_auction)
+    ≡ InsertOr 1 Replace (Values auction_terms 7) [])
+    × IsPlain (understood store_schema keep_auction)
+unfolding understood everything auction_query terms_query seals_query keep_auction keep_terms
+    drop_seals keep_seal
 keep_auction_is = (refl, (refl, refl))
 
-pub keep_seal_is : (command_of (understood store_schema keep_seal) ≡ Insert 2 (Values seal_terms 6)) × IsPlain (understood store_schema keep_seal)
-unfolding understood everything auction_query terms_query seals_query keep_auction keep_terms drop_seals keep_seal
+pub keep_seal_is : (command_of (understood store_schema keep_seal) ≡ Insert 2 (Values seal_terms 6))
+    × IsPlain (understood store_schema keep_seal)
+unfolding understood everything auction_query terms_query seals_query keep_auction keep_terms
+    drop_seals keep_seal
 keep_seal_is = (refl, (refl, refl))
 
-pub drop_seals_is : (command_of (understood store_schema drop_seals) ≡ Delete 2 (record { lets = []; body = plain_query 3 (of_id ∷ is_behind ∷ []) (col 1 0 ∷ []) })) × IsPlain (understood store_schema drop_seals)
-unfolding understood everything auction_query terms_query seals_query keep_auction keep_terms drop_seals keep_seal
+pub drop_seals_is : (command_of (understood store_schema drop_seals)
+    ≡ Delete 2 (record { lets = []; body = plain_query 3 (of_id ∷ is_behind ∷ []) (col 1 0 ∷ []) }))
+    × IsPlain (understood store_schema drop_seals)
+unfolding understood everything auction_query terms_query seals_query keep_auction keep_terms
+    drop_seals keep_seal
 drop_seals_is = (refl, (refl, refl))
 
-pub find_terms_is : ((command_of (understood store_schema terms_query) ≡ Select (record { lets = []; body = term_query }) (codes "version" ∷ codes "reserve" ∷ [])) × (reads_listing store_schema terms_query ≡ false)) × IsPlain (understood store_schema terms_query)
-unfolding understood everything auction_query terms_query seals_query keep_auction keep_terms drop_seals keep_seal
+pub find_terms_is : ((command_of (understood store_schema terms_query)
+    ≡ Select (record { lets = []; body = term_query }) (codes "version" ∷ codes "reserve" ∷ []))
+    × (reads_listing store_schema terms_query ≡ false))
+    × IsPlain (understood store_schema terms_query)
+unfolding understood everything auction_query terms_query seals_query keep_auction keep_terms
+    drop_seals keep_seal
 find_terms_is = ((refl, refl), (refl, refl))
 
-pub keep_terms_is : (command_of (understood store_schema keep_terms) ≡ InsertOr 3 Replace (Values terms_terms 4) []) × IsPlain (understood store_schema keep_terms)
-unfolding understood everything auction_query terms_query seals_query keep_auction keep_terms drop_seals keep_seal
+pub keep_terms_is : (command_of (understood store_schema keep_terms)
+    ≡ InsertOr 3 Replace (Values terms_terms 4) []) × IsPlain (understood store_schema keep_terms)
+unfolding understood everything auction_query terms_query seals_query keep_auction keep_terms
+    drop_seals keep_seal
 keep_terms_is = (refl, (refl, refl))

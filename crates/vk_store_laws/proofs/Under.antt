@@ -26,54 +26,77 @@ equal_is Equal h = refl
 equal_is Greater h = absurd (let e = h in cc)
 
 -- a row is of one id alone
-pub one_id : (v : Value) (a b : List ℕ) → is_eq (value_cmp v (Blob a)) ≡ true → is_eq (value_cmp v (Blob b)) ≡ true → a ≡ b
+pub one_id : (v : Value) (a b : List ℕ) → is_eq (value_cmp v (Blob a)) ≡ true
+    → is_eq (value_cmp v (Blob b)) ≡ true → a ≡ b
 one_id v a b p q =
-    let same : value_cmp (Blob a) (Blob b) ≡ Equal = sym (value_cmp_total.congr v (Blob a) (Blob b) (equal_is _ p)) ∙ equal_is _ q in
-    let equal : bytes_eq a b ≡ true = sym (is_eq-slice_cmp a b) ∙ (ap is_eq (sym (value_cmp-Blob a b)) ∙ ap is_eq same) in
+    let same : value_cmp (Blob a) (Blob b) ≡ Equal =
+    sym (value_cmp_total.congr v (Blob a) (Blob b) (equal_is _ p)) ∙ equal_is _ q in
+    let equal : bytes_eq a b ≡ true = sym (is_eq-slice_cmp a b)
+    ∙ (ap is_eq (sym (value_cmp-Blob a b)) ∙ ap is_eq same) in
     (bytes_eq-Decides a b).0 equal
 
 pub other_id : (other id : List ℕ) → other ≢ id → is_eq (value_cmp (Blob id) (Blob other)) ≡ false
 other_id other id apart = elim (cases_Bool (is_eq (value_cmp (Blob id) (Blob other)))) [
-  | inl same ↦ absurd (apart (sym ((bytes_eq-Decides id other).0 (sym (is_eq-slice_cmp id other) ∙ (ap is_eq (sym (value_cmp-Blob id other)) ∙ same)))))
+  | inl same ↦ absurd (apart (sym
+      ((bytes_eq-Decides id other).0
+      (sym (is_eq-slice_cmp id other) ∙ (ap is_eq (sym (value_cmp-Blob id other)) ∙ same)))))
   | inr differs ↦ differs
 ]
 
 -- a row that the test doesn't pass goes in without a trace
-pub filter_put : (p : Row → Bool) (new : Row) (rows : List Row) → p new ≡ false → is_taken rows new ≡ false → filter p (put_row new rows) ≡ filter p rows
+pub filter_put : (p : Row → Bool) (new : Row) (rows : List Row) → p new ≡ false
+    → is_taken rows new ≡ false → filter p (put_row new rows) ≡ filter p rows
 filter_put p new [] fails free = rw fails refl
-filter_put p new (r ∷ rows) fails free = go (value_cmp (rowid r) (rowid new)) refl (filter_put p new rows fails)
+filter_put p new (r ∷ rows) fails free =
+    go (value_cmp (rowid r) (rowid new)) refl (filter_put p new rows fails)
   where
-    go : (o : Ordering) → value_cmp (rowid r) (rowid new) ≡ o → (is_taken rows new ≡ false → filter p (put_row new rows) ≡ filter p rows) → filter p (put_row new (r ∷ rows)) ≡ filter p (r ∷ rows)
+    go : (o : Ordering) → value_cmp (rowid r) (rowid new) ≡ o
+        → (is_taken rows new ≡ false → filter p (put_row new rows) ≡ filter p rows)
+        → filter p (put_row new (r ∷ rows)) ≡ filter p (r ∷ rows)
     go Less e later =
         let more_free : is_taken rows new ≡ false = rw e at free in
-        subst (λ o. filter p (match_ordering o (r ∷ put_row new rows) (new ∷ rows) (new ∷ r ∷ rows)) ≡ filter p (r ∷ rows)) (sym e)
+        subst (λ o. filter p (match_ordering o (r ∷ put_row new rows) (new ∷ rows) (new ∷ r ∷ rows))
+        ≡ filter p (r ∷ rows)) (sym e)
         (ap (λ more. cond (p r) (r ∷ more) more) (later more_free))
     go Equal e later = absurd (let f = rw e at free in cc)
     go Greater e later =
-        subst (λ o. filter p (match_ordering o (r ∷ put_row new rows) (new ∷ rows) (new ∷ r ∷ rows)) ≡ filter p (r ∷ rows)) (sym e)
+        subst (λ o. filter p (match_ordering o (r ∷ put_row new rows) (new ∷ rows) (new ∷ r ∷ rows))
+        ≡ filter p (r ∷ rows)) (sym e)
         (ap (λ b. cond b (new ∷ filter p (r ∷ rows)) (filter p (r ∷ rows))) fails)
 
 -- the rows of another id stay
-pub others_after_put : (other id : List ℕ) (values : Row) (old new : List Row) → other ≢ id → PutsRow (Blob id ∷ values) old new → under other new ≡ under other old
+pub others_after_put : (other id : List ℕ) (values : Row) (old new : List Row) → other ≢ id
+    → PutsRow (Blob id ∷ values) old new → under other new ≡ under other old
 others_after_put other id values old new apart put =
-    ap (under other) put.rows ∙ filter_put (has_id other) (Int put.number ∷ Blob id ∷ values) old (other_id other id apart) put.free
+    ap (under other) put.rows ∙ filter_put (has_id other) (Int put.number ∷ Blob id ∷ values) old
+    (other_id other id apart) put.free
 
-pub table_after_put : (values : Row) (old new : List Row) → IsTableOfRows old → PutsRow values old new → IsTableOfRows new
+pub table_after_put : (values : Row) (old new : List Row) → IsTableOfRows old
+    → PutsRow values old new → IsTableOfRows new
 table_after_put values old new table put =
     let row = Int put.number ∷ values in
     subst IsTableOfRows (sym put.rows) (
       IsTable-put_row row old table.0,
-      all_from _ (put_row row old) (λ x h. elim (put_has row old x h) [ inl same ↦ ap (λ r. is_int (rowid r)) same | inr was ↦ all_has _ old x table.1 was ]),
+      all_from _ (put_row row old)
+          (λ x h. elim (put_has row old x h)
+          [ inl same ↦ ap (λ r. is_int (rowid r)) same | inr was ↦ all_has _ old x table.1 was ]),
     )
 
-pub others_after_delete : (other id : List ℕ) (goes : Row → Bool) (rows : List Row) → other ≢ id → ((r : Row) → goes r ≡ true → has_id id r ≡ true) → under other (filter (λ r. not (goes r)) rows) ≡ under other rows
-others_after_delete other id goes rows apart own = filter_within (has_id other) (λ r. not (goes r)) rows (λ r h is. elim (cases_Bool (goes r)) [
-  | inl gone ↦ absurd (apart (one_id (column r 1) other id is (own r gone)))
-  | inr stays ↦ ap not stays
-])
+pub others_after_delete : (other id : List ℕ) (goes : Row → Bool) (rows : List Row) → other ≢ id
+    → ((r : Row) → goes r ≡ true → has_id id r ≡ true)
+    → under other (filter (λ r. not (goes r)) rows) ≡ under other rows
+others_after_delete other id goes rows apart own =
+    filter_within (has_id other) (λ r. not (goes r)) rows (λ r h is. elim (cases_Bool (goes r)) [
+      | inl gone ↦ absurd (apart (one_id (column r 1) other id is (own r gone)))
+      | inr stays ↦ ap not stays
+    ])
 
-pub table_after_delete : (p : Row → Bool) (rows : List Row) → IsTableOfRows rows → IsTableOfRows (filter p rows)
-table_after_delete p rows table = (ascending_filter _ p rows table.0, all_from _ (filter p rows) (λ r h. all_has _ rows r table.1 (has_filtered p rows r h).0))
+pub table_after_delete : (p : Row → Bool) (rows : List Row) → IsTableOfRows rows
+    → IsTableOfRows (filter p rows)
+table_after_delete p rows table = (
+  ascending_filter _ p rows table.0,
+  all_from _ (filter p rows) (λ r h. all_has _ rows r table.1 (has_filtered p rows r h).0),
+)
 
 pub own_id : (id : List ℕ) → is_eq (value_cmp (Blob id) (Blob id)) ≡ true
 own_id id = ap is_eq (tied_itself value_cmp_total (Blob id))

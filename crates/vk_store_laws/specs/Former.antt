@@ -20,12 +20,14 @@ pub record IsFirstStore (db : Database) : Type 0 where
 -- an auction stands in them: the rows of its id are its own and, in some order, those of its seals
 pub record StandsFirst (trees : Trees) (first : FirstAuction) : Type 0 where
   pub head : map head_columns (under first.id (trees 1)) ≡ head_row (lifted first) ∷ []
-  pub seals : IsPermutation (map seal_columns (under first.id (trees 3))) (seal_rows 0 (map seal_texts first.seals))
+  pub seals : IsPermutation (map seal_columns (under first.id (trees 3)))
+      (seal_rows 0 (map seal_texts first.seals))
 
 -- what they hold under an id
 abbrev pub HoldsFirst : Trees → List ℕ → Option FirstAuction → Type 0
 HoldsFirst trees id found =
-    MatchOption found ((under id (trees 1) ≡ []) × (under id (trees 3) ≡ [])) (λ first. (first.id ≡ id) × StandsFirst trees first)
+    MatchOption found ((under id (trees 1) ≡ []) × (under id (trees 3) ≡ []))
+    (λ first. (first.id ≡ id) × StandsFirst trees first)
 
 -- an auction of then that stands under its own id
 pub record IsFirstUnder (id : List ℕ) (first : FirstAuction) : Type 0 where

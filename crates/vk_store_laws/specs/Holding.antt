@@ -15,7 +15,8 @@ use Rattle.vk_store_laws.specs.Rows.{IsTableOfRows, under, head_columns, term_co
 -- the columns of an auction's row behind the id
 abbrev pub head_row : Auction → Row
 head_row auction =
-    Int (pos auction.width) ∷ Int (pos auction.lanes) ∷ Int (pos (phase_number auction.phase)) ∷ or_null Blob (seed_of auction.phase) ∷ or_null Text (bits_in auction.phase) ∷ []
+    Int (pos auction.width) ∷ Int (pos auction.lanes) ∷ Int (pos (phase_number auction.phase))
+    ∷ or_null Blob (seed_of auction.phase) ∷ or_null Text (bits_in auction.phase) ∷ []
 
 -- those of its terms' row
 abbrev pub term_row : Auction → Row
@@ -23,19 +24,21 @@ term_row auction = Int (pos auction.version) ∷ Int (pos auction.reserve) ∷ [
 
 -- those of the row of a seal at a position
 abbrev pub columns_of : ℕ → SealTexts → Row
-columns_of position seal = Int (pos position) ∷ Int (pos seal.seat) ∷ Text seal.seal ∷ Text seal.secret ∷ []
+columns_of position seal = Int (pos position) ∷ Int (pos seal.seat) ∷ Text seal.seal
+    ∷ Text seal.secret ∷ []
 
 -- those of the rows of these seals, one each, at the positions behind so many
 abbrev pub seal_rows : ℕ → List SealTexts → List Row
 seal_rows before [] = []
 seal_rows before (seal ∷ seals) = columns_of (before + 1) seal ∷ seal_rows (before + 1) seals
 
--- an auction stands in the tables: the rows of its id are its own, that of its terms and, in some order,
--- those of its seals
+-- an auction stands in the tables: the rows of its id are its own, that of its terms and, in some
+-- order, those of its seals
 pub record Stands (trees : Trees) (auction : Auction) : Type 0 where
   pub head : map head_columns (under auction.id (trees 1)) ≡ head_row auction ∷ []
   pub terms : map term_columns (under auction.id (trees 6)) ≡ term_row auction ∷ []
-  pub seals : IsPermutation (map seal_columns (under auction.id (trees 3))) (seal_rows 0 (map seal_texts auction.seals))
+  pub seals : IsPermutation (map seal_columns (under auction.id (trees 3)))
+      (seal_rows 0 (map seal_texts auction.seals))
 
 -- no row is of this id
 pub record IsAbsent (trees : Trees) (id : List ℕ) : Type 0 where
@@ -45,7 +48,8 @@ pub record IsAbsent (trees : Trees) (id : List ℕ) : Type 0 where
 
 -- what the tables hold under an id
 abbrev pub Holds : Trees → List ℕ → Option Auction → Type 0
-Holds trees id found = MatchOption found (IsAbsent trees id) (λ auction. (auction.id ≡ id) × Stands trees auction)
+Holds trees id found = MatchOption found (IsAbsent trees id)
+    (λ auction. (auction.id ≡ id) × Stands trees auction)
 
 -- the tables are those of a store, and each has a rowid once
 pub record IsStore (db : Database) : Type 0 where

@@ -37,7 +37,8 @@ IsTableOfRows rows = IsTable rows × AllByRecursion (λ r. IsTrue (is_int (rowid
 -- only this table was written
 pub record OnlyTable (tree : ℕ) (it : Schema) (old new : Database) : Type 0 where
   pub schema : new.schema ≡ it
-  pub tables : AllByRecursion (λ (table : Table). table.tree ≢ tree → new.trees table.tree ≡ old.trees table.tree) it.tables
+  pub tables : AllByRecursion (λ (table : Table). table.tree ≢ tree
+      → new.trees table.tree ≡ old.trees table.tree) it.tables
 
 -- these values were put as a row, under a rowid that was free
 pub record PutsRow (values : Row) (old new : List Row) : Type 0 where

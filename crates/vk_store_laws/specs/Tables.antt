@@ -12,10 +12,24 @@ use Rattle.sqlite.specs.Kind.TheVariants.{Integer, Text, Any}
 
 -- a column that takes no NULL, and one that does; each takes values of other types too
 abbrev pub needed : List ℕ → Kind → Column
-needed name kind = record { name = name; kind = kind; is_strict = false; not_null = true; default = Null; collation = Binary }
+needed name kind = record {
+  name = name;
+  kind = kind;
+  is_strict = false;
+  not_null = true;
+  default = Null;
+  collation = Binary;
+}
 
 abbrev pub optional : List ℕ → Kind → Column
-optional name kind = record { name = name; kind = kind; is_strict = false; not_null = false; default = Null; collation = Binary }
+optional name kind = record {
+  name = name;
+  kind = kind;
+  is_strict = false;
+  not_null = false;
+  default = Null;
+  collation = Binary;
+}
 
 -- ---- the tables, each but for its tree
 
@@ -42,7 +56,9 @@ about = record bare { name = codes "about"; columns = needed (codes "version") I
 abbrev pub auctions : Table
 auctions = record bare {
   name = codes "auction";
-  columns = needed (codes "id") Any ∷ needed (codes "width") Integer ∷ needed (codes "lanes") Integer ∷ needed (codes "phase") Integer ∷ optional (codes "seed") Any ∷ optional (codes "bits") Text ∷ [];
+  columns = needed (codes "id") Any ∷ needed (codes "width") Integer
+      ∷ needed (codes "lanes") Integer ∷ needed (codes "phase") Integer
+      ∷ optional (codes "seed") Any ∷ optional (codes "bits") Text ∷ [];
   primary = 1 ∷ [];
   uniques = (1 ∷ []) ∷ [];
   orders = plain ∷ [];
@@ -51,7 +67,9 @@ auctions = record bare {
 abbrev pub seals : Table
 seals = record bare {
   name = codes "seal";
-  columns = needed (codes "id") Any ∷ needed (codes "position") Integer ∷ needed (codes "seat") Integer ∷ needed (codes "seal") Text ∷ needed (codes "secret") Text ∷ [];
+  columns = needed (codes "id") Any ∷ needed (codes "position") Integer
+      ∷ needed (codes "seat") Integer ∷ needed (codes "seal") Text ∷ needed (codes "secret") Text
+      ∷ [];
   primary = 1 ∷ 2 ∷ [];
   uniques = (1 ∷ 2 ∷ []) ∷ (1 ∷ 3 ∷ []) ∷ [];
   orders = plain ∷ plain ∷ [];
@@ -60,7 +78,8 @@ seals = record bare {
 abbrev pub terms : Table
 terms = record bare {
   name = codes "terms";
-  columns = needed (codes "id") Any ∷ needed (codes "version") Integer ∷ needed (codes "reserve") Integer ∷ [];
+  columns = needed (codes "id") Any ∷ needed (codes "version") Integer
+      ∷ needed (codes "reserve") Integer ∷ [];
   primary = 1 ∷ [];
   uniques = (1 ∷ []) ∷ [];
   orders = plain ∷ [];
@@ -72,10 +91,19 @@ placed table tree = record table { tree = tree }
 
 -- the index of the name that SQLite gives it over the key of a table
 abbrev pub index_of : List ℕ → ℕ → ℕ → List ℕ → Index
-index_of name tree table key = record { name = name; tree = tree; table = table; columns = key; order = plain; is_unique = true }
+index_of name tree table key =
+    record {
+      name = name;
+      tree = tree;
+      table = table;
+      columns = key;
+      order = plain;
+      is_unique = true;
+    }
 
 abbrev pub seal_indexes : List Index
-seal_indexes = index_of (codes "sqlite_autoindex_seal_1") 4 3 (1 ∷ 2 ∷ []) ∷ index_of (codes "sqlite_autoindex_seal_2") 5 3 (1 ∷ 3 ∷ []) ∷ []
+seal_indexes = index_of (codes "sqlite_autoindex_seal_1") 4 3 (1 ∷ 2 ∷ [])
+    ∷ index_of (codes "sqlite_autoindex_seal_2") 5 3 (1 ∷ 3 ∷ []) ∷ []
 
 abbrev pub terms_index : Index
 terms_index = index_of (codes "sqlite_autoindex_terms_1") 7 6 (1 ∷ [])
@@ -84,7 +112,8 @@ terms_index = index_of (codes "sqlite_autoindex_terms_1") 7 6 (1 ∷ [])
 abbrev pub store_schema : Schema
 store_schema = record {
   tables = about ∷ placed auctions 1 ∷ placed seals 3 ∷ placed terms 6 ∷ [];
-  indexes = index_of (codes "sqlite_autoindex_auction_1") 2 1 (1 ∷ []) ∷ (seal_indexes ++ terms_index ∷ []);
+  indexes = index_of (codes "sqlite_autoindex_auction_1") 2 1 (1 ∷ [])
+      ∷ (seal_indexes ++ terms_index ∷ []);
   views = [];
 }
 

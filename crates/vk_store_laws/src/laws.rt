@@ -32,74 +32,95 @@ pub fn what_stands_under_an_id_is_one_auction()
 
 /// A law: what a keeper finds in a store that tells a ledger is what the ledger has.
 pub fn what_is_answered_is_what_the_ledger_has<S: Alter>()
-    ensures { (old : Held S) (id : List ℕ) (found : Option Auction) (ledger : Ledger) → AreBytes 16 id
+    ensures { (old : Held S) (id : List ℕ) (found : Option Auction) (ledger : Ledger)
+        → AreBytes 16 id
         → IsStore (state S.Store old).now → TablesTell (state S.Store old).now.trees ledger
         → IfSome found (λ auction. auction.id ≡ id) → IfSome found IsAuction
         → Finds S.Store id old found → found ≡ get ledger id }
 {}
 
-/// A law: what is made of a store that tells a ledger by keeping an auction is a store that tells the
-/// ledger with the auction.
+/// A law: what is made of a store that tells a ledger by keeping an auction is a store that tells
+/// the ledger with the auction.
 pub fn what_is_kept_is_in_the_ledger<S: Alter>()
-    ensures { (old : Held S) (auction : Auction) (trees : Trees) (ledger : Ledger) → IsAuction auction
+    ensures { (old : Held S) (auction : Auction) (trees : Trees) (ledger : Ledger)
+        → IsAuction auction
         → IsStore (state S.Store old).now → TablesTell (state S.Store old).now.trees ledger
         → Keeps S.Store auction old trees
-        → ((last : Database) × (trees ≡ last.trees) × IsStore last) × TablesTell trees (insert ledger auction.id auction) }
+        → ((last : Database) × (trees ≡ last.trees) × IsStore last)
+        × TablesTell trees (insert ledger auction.id auction) }
 {}
 
-/// A law: what is made of an empty store as it is opened is a store that tells the ledger without auctions,
-/// and whatever a crash leaves of it tells that too, if what a crash could leave before did.
+/// A law: what is made of an empty store as it is opened is a store that tells the ledger without
+/// auctions, and whatever a crash leaves of it tells that too, if what a crash could leave before
+/// did.
 pub fn a_new_store_tells_no_auction<S: Alter>()
-    ensures made { (old : Held S) (new : Held S) → (state S.Store old).now.schema ≡ no_schema → MakesTables S.Store old new
+    ensures made { (old : Held S) (new : Held S) → (state S.Store old).now.schema ≡ no_schema
+        → MakesTables S.Store old new
         → IsStore (state S.Store new).now × TablesTell (state S.Store new).now.trees empty }
-    ensures crash { (old : Held S) (new : Held S) (result : Result Unit OpenErr) → (state S.Store old).now.schema ≡ no_schema
+    ensures crash { (old : Held S) (new : Held S) (result : Result Unit OpenErr)
+        → (state S.Store old).now.schema ≡ no_schema
         → ((trees : Trees) → (state S.Store old).may_leave trees → TablesTell trees empty)
-        → CommitsAtOnce (Prepares S.Store old) (state S.Store old) (state S.Store new) result → HasCleanDisk (state S.Store new)
+        → CommitsAtOnce (Prepares S.Store old) (state S.Store old) (state S.Store new) result
+        → HasCleanDisk (state S.Store new)
         → ((trees : Trees) → (state S.Store new).may_leave trees → TablesTell trees empty)
         × OnOk result (TablesTell (state S.Store new).committed.trees empty) }
 {}
 
 /// A law: tables without rows tell the ledger without auctions.
 pub fn an_empty_store_tells_no_auction()
-    ensures { (trees : Trees) → trees 1 ≡ [] → trees 3 ≡ [] → trees 6 ≡ [] → TablesTell trees empty }
+    ensures { (trees : Trees) → trees 1 ≡ [] → trees 3 ≡ [] → trees 6 ≡ []
+        → TablesTell trees empty }
 {}
 
-/// A law: keeping an auction in a store that tells a ledger, a crash at any moment leaves what tells that
-/// ledger or the one with the auction, if what a crash could leave before told it; and where the call was
-/// not refused the store tells the one with the auction.
+/// A law: keeping an auction in a store that tells a ledger, a crash at any moment leaves what
+/// tells that ledger or the one with the auction, if what a crash could leave before told it; and
+/// where the call was not refused the store tells the one with the auction.
 pub fn a_crash_leaves_the_ledger_of_before_or_after<S: Alter>()
-    ensures { (old : Held S) (new : Held S) (auction : Auction) (ledger : Ledger) (result : Result Unit OutsideErr)
-        → IsAuction auction → IsStore (state S.Store old).now → TablesTell (state S.Store old).now.trees ledger
+    ensures { (old : Held S) (new : Held S) (auction : Auction) (ledger : Ledger)
+        (result : Result Unit OutsideErr)
+        → IsAuction auction → IsStore (state S.Store old).now
+        → TablesTell (state S.Store old).now.trees ledger
         → ((trees : Trees) → (state S.Store old).may_leave trees → TablesTell trees ledger)
-        → CommitsAtOnce (Keeps S.Store auction old) (state S.Store old) (state S.Store new) result → HasCleanDisk (state S.Store new)
-        → ((trees : Trees) → (state S.Store new).may_leave trees → TablesTell trees ledger ⊎ TablesTell trees (insert ledger auction.id auction))
-        × OnOk result (TablesTell (state S.Store new).committed.trees (insert ledger auction.id auction)) }
+        → CommitsAtOnce (Keeps S.Store auction old) (state S.Store old) (state S.Store new) result
+        → HasCleanDisk (state S.Store new)
+        → ((trees : Trees) → (state S.Store new).may_leave trees → TablesTell trees ledger
+        ⊎ TablesTell trees (insert ledger auction.id auction))
+        × OnOk result (TablesTell (state S.Store new).committed.trees
+        (insert ledger auction.id auction)) }
 {}
 
-/// A law: a store with the tables of the number 1 that told a ledger is, once it was prepared, a store that
-/// tells the ledger lifted. A crash at any moment leaves what tells the one or the other, if what a crash
-/// could leave before told the first; and where the opening was not refused the store tells the second.
+/// A law: a store with the tables of the number 1 that told a ledger is, once it was prepared, a
+/// store that tells the ledger lifted. A crash at any moment leaves what tells the one or the
+/// other, if what a crash could leave before told the first; and where the opening was not refused
+/// the store tells the second.
 pub fn a_store_from_before_tells_its_ledger_lifted<S: Alter>()
     ensures lifted { (old : Held S) (trees : Trees) (firsts : FirstLedger)
-        → IsFirstStore (state S.Store old).now → TellsFirst (state S.Store old).now.trees firsts → Prepares S.Store old trees
-        → ((last : Database) × (trees ≡ last.trees) × IsStore last) × TablesTell trees (lifted_ledger firsts) }
-    ensures crash { (old : Held S) (new : Held S) (firsts : FirstLedger) (result : Result Unit OpenErr)
+        → IsFirstStore (state S.Store old).now → TellsFirst (state S.Store old).now.trees firsts
+        → Prepares S.Store old trees
+        → ((last : Database) × (trees ≡ last.trees) × IsStore last)
+        × TablesTell trees (lifted_ledger firsts) }
+    ensures crash { (old : Held S) (new : Held S) (firsts : FirstLedger)
+        (result : Result Unit OpenErr)
         → IsFirstStore (state S.Store old).now → TellsFirst (state S.Store old).now.trees firsts
         → ((trees : Trees) → (state S.Store old).may_leave trees → TellsFirst trees firsts)
-        → CommitsAtOnce (Prepares S.Store old) (state S.Store old) (state S.Store new) result → HasCleanDisk (state S.Store new)
-        → ((trees : Trees) → (state S.Store new).may_leave trees → TellsFirst trees firsts ⊎ TablesTell trees (lifted_ledger firsts))
+        → CommitsAtOnce (Prepares S.Store old) (state S.Store old) (state S.Store new) result
+        → HasCleanDisk (state S.Store new)
+        → ((trees : Trees) → (state S.Store new).may_leave trees → TellsFirst trees firsts
+        ⊎ TablesTell trees (lifted_ledger firsts))
         × OnOk result (TablesTell (state S.Store new).committed.trees (lifted_ledger firsts)) }
 {}
 
-/// A law: a store that told a ledger tells it once it was opened again, and whatever a crash leaves of it
-/// does so, if what a crash could leave before did.
+/// A law: a store that told a ledger tells it once it was opened again, and whatever a crash leaves
+/// of it does so, if what a crash could leave before did.
 pub fn a_store_that_is_opened_again_tells_its_ledger<S: Alter>()
-    ensures same { (old : Held S) (trees : Trees) → IsStore (state S.Store old).now → Prepares S.Store old trees
+    ensures same { (old : Held S) (trees : Trees) → IsStore (state S.Store old).now
+        → Prepares S.Store old trees
         → trees ≡ (state S.Store old).now.trees }
     ensures crash { (old : Held S) (new : Held S) (ledger : Ledger) (result : Result Unit OpenErr)
         → IsStore (state S.Store old).now → TablesTell (state S.Store old).now.trees ledger
         → ((trees : Trees) → (state S.Store old).may_leave trees → TablesTell trees ledger)
-        → CommitsAtOnce (Prepares S.Store old) (state S.Store old) (state S.Store new) result → HasCleanDisk (state S.Store new)
+        → CommitsAtOnce (Prepares S.Store old) (state S.Store old) (state S.Store new) result
+        → HasCleanDisk (state S.Store new)
         → ((trees : Trees) → (state S.Store new).may_leave trees → TablesTell trees ledger)
         × OnOk result (TablesTell (state S.Store new).committed.trees ledger) }
 {}

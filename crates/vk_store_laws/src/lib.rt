@@ -1,5 +1,5 @@
-//! What a store holds: laws on the statements of the SQLite keeper, whose texts are computed here. Over
-//! a disk that returned what was written, a store answers and keeps as a ledger does.
+//! What a store holds: laws on the statements of the SQLite keeper, whose texts are computed here.
+//! Over a disk that returned what was written, a store answers and keeps as a ledger does.
 #![tactic(auto)]
 
 mod laws;

@@ -26,8 +26,9 @@ pub enum Task<'a> {
     Run(&'a str),
     /// The auction is found, kept anew and found again.
     Find,
-    /// `announce WIDTH LANES`, `announce WIDTH LANES RESERVE`, `submit SEAT BID`, `prove`, `answer BITS`, `find`; or
-    /// `keep COMMAND, ..`, which keeps the auction that these make in the place of the one that is kept.
+    /// `announce WIDTH LANES`, `announce WIDTH LANES RESERVE`, `submit SEAT BID`, `prove`, `answer
+    /// BITS`, `find`; or `keep COMMAND, ..`, which keeps the auction that these make in the place
+    /// of the one that is kept.
     Command(&'a [u8]),
 }
 

@@ -1,5 +1,6 @@
-//! Replays what is done to auctions in SQLite stores in memory: closed and opened again between all commands, changed
-//! by statements, made by other programs, and stopped at each call of their files. Of each case it prints what came.
+//! Replays what is done to auctions in SQLite stores in memory: closed and opened again between all
+//! commands, changed by statements, made by other programs, and stopped at each call of their
+//! files. Of each case it prints what came.
 #![tactic(auto)]
 
 mod commands;
@@ -17,16 +18,17 @@ use vk_io::Shelf;
 enum Cases {
     /// `COMMAND | COMMAND ..`, over a store that is closed and opened again between all of them.
     Houses,
-    /// `STATEMENT; ..`, which change a store of an auction that was answered. Then it is opened and the auction found,
-    /// kept anew, and found again.
+    /// `STATEMENT; ..`, which change a store of an auction that was answered. Then it is opened and
+    /// the auction found, kept anew, and found again.
     Changes,
-    /// `NAME`, a store that SQLite itself made, of version 1 but for `second`, which is opened and used likewise. The name
-    /// says what was done to it, or how it was set; `no_keys` has a table that was made by `CREATE TABLE .. AS SELECT`,
-    /// and `added` a column more.
+    /// `NAME`, a store that SQLite itself made, of version 1 but for `second`, which is opened and
+    /// used likewise. The name says what was done to it, or how it was set; `no_keys` has a table
+    /// that was made by `CREATE TABLE .. AS SELECT`, and `added` a column more.
     Files,
-    /// `COMMANDS | STATEMENTS | COMMAND`, the last of which is stopped at each call of the log, and at each of the store
-    /// itself, of the store that the first made and the statements changed. Once it is opened again the auction is as
-    /// before it or as after it, as after it where it was done, and as after it once it was done again.
+    /// `COMMANDS | STATEMENTS | COMMAND`, the last of which is stopped at each call of the log, and
+    /// at each of the store itself, of the store that the first made and the statements changed.
+    /// Once it is opened again the auction is as before it or as after it, as after it where it was
+    /// done, and as after it once it was done again.
     Stops,
 }
 

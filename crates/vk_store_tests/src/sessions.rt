@@ -28,8 +28,8 @@ pub fn house_text(alloc: Global, case: &[u8]) -> Tried<Vec<u8>> {
     Ok(text)
 }
 
-/// So many seals are handed in, each at its place as its seat and with it as its bid, and the store is closed and opened
-/// between all of them.
+/// So many seals are handed in, each at its place as its seat and with it as its bid, and the store
+/// is closed and opened between all of them.
 fn with_seals(alloc: Global, mut image: Image, many: u64) -> Tried<Image> {
     for i in 0..many {
         let seat = i + 1;

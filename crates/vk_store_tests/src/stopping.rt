@@ -1,4 +1,5 @@
-// A command that is stopped at each call of the files, and what is found once the machine comes back.
+// A command that is stopped at each call of the files, and what is found once the machine comes
+// back.
 use crate::commands::Task;
 use crate::sessions::{changed_by, made_by, push_said};
 use crate::stores::{Image, Session};
@@ -8,7 +9,8 @@ use vk_cases::{Tried, Unreplayed};
 /// More calls than a command makes.
 const MOST_CALLS: u64 = 500;
 
-/// A command, the store that it is done over, what is answered, and what is found before it and after it.
+/// A command, the store that it is done over, what is answered, and what is found before it and
+/// after it.
 #[derive(Drop)]
 struct Step<'a> {
     command: &'a [u8],
@@ -51,8 +53,8 @@ fn step_of(alloc: Global, image: Image, command: &[u8]) -> Tried<Step<'_>> {
     })
 }
 
-/// Whether what is found is right after a stop at each call of the log, or of the store itself, until none is refused,
-/// which more than two calls are.
+/// Whether what is found is right after a stop at each call of the log, or of the store itself,
+/// until none is refused, which more than two calls are.
 fn is_right_after(alloc: Global, step: &Step, is_log: bool) -> Tried<bool> {
     for calls in 0..MOST_CALLS {
         let (of_log, of_db) = if is_log {
@@ -72,8 +74,8 @@ fn is_right_after(alloc: Global, step: &Step, is_log: bool) -> Tried<bool> {
     Ok(false)
 }
 
-/// Whether the auction is as before the command or as after it once the machine came back, as after it where it was
-/// done, and as after it once it was done again.
+/// Whether the auction is as before the command or as after it once the machine came back, as after
+/// it where it was done, and as after it once it was done again.
 fn comes_back(alloc: Global, step: &Step, session: &Session) -> Tried<bool> {
     let found = session.image.whole_session(alloc, &Task::Find)?;
     let again = session

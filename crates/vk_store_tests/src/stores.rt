@@ -1,4 +1,5 @@
-// Stores in memory: what their files hold, how they are opened and closed, and what is done to them between.
+// Stores in memory: what their files hold, how they are opened and closed, and what is done to them
+// between.
 use crate::commands::Task;
 use crate::texts::refusal_text;
 use sqlite::{Alter, Connection, FileStore, Files, Options};
@@ -64,7 +65,8 @@ fn disk(alloc: Global, bytes: &[u8], calls: u64) -> Tried<Fuse<Memory>> {
     Ok(Fuse::new(memory, calls))
 }
 
-// What follows takes a store and gives it back, so that no store of files is dropped: to prove that is dear.
+// What follows takes a store and gives it back, so that no store of files is dropped: to prove that
+// is dear.
 
 fn done_in<D: Disk + Drop>(
     alloc: Global,

@@ -62,7 +62,8 @@ pub fn found_text(alloc: Global, found: &Result<Option<Auction>, OutsideErr>) ->
     }
 }
 
-/// All of an auction but its id and what its seals were made of: of each seal its seat and the bid in it.
+/// All of an auction but its id and what its seals were made of: of each seal its seat and the bid
+/// in it.
 fn auction_text(alloc: Global, auction: &Auction) -> Tried<String> {
     let mut text = format!(in alloc;
         "version {} width {} lanes {} reserve {}",

@@ -19,8 +19,10 @@ numbers_of c = c.width ∷ c.price ∷ c.winners
 pub circuit_is_plan : (c : UniformPlan) → IsPlan (uniform_plan (inputs_of c) (numbers_of c))
 circuit_is_plan c = uniform_is_plan (inputs_of c) (numbers_of c) c.in_limits
 
-pub circuit_begins : (c : UniformPlan) (bids : List ℕ) → IsUniformClaim (inputs_of c) (numbers_of c) bids
-    → take (uniform_plan (inputs_of c) (numbers_of c)).inputs (uniform_values (inputs_of c) (numbers_of c) bids)
+pub circuit_begins : (c : UniformPlan) (bids : List ℕ)
+    → IsUniformClaim (inputs_of c) (numbers_of c) bids
+    → take (uniform_plan (inputs_of c) (numbers_of c)).inputs
+    (uniform_values (inputs_of c) (numbers_of c) bids)
     ≡ bids
 circuit_begins c bids claim =
     ap (λ n. take n (uniform_values (inputs_of c) (numbers_of c) bids))
@@ -36,8 +38,10 @@ circuit_sound c values holds =
     (sym (uniform_inputs (inputs_of c) (numbers_of c)))
     (uniform_sound (inputs_of c) (numbers_of c) c.in_limits values holds)
 
-pub circuit_complete : (c : UniformPlan) (bids : List ℕ) → IsUniformClaim (inputs_of c) (numbers_of c) bids
-    → Holds (uniform_plan (inputs_of c) (numbers_of c)) (uniform_values (inputs_of c) (numbers_of c) bids)
+pub circuit_complete : (c : UniformPlan) (bids : List ℕ)
+    → IsUniformClaim (inputs_of c) (numbers_of c) bids
+    → Holds (uniform_plan (inputs_of c) (numbers_of c))
+    (uniform_values (inputs_of c) (numbers_of c) bids)
 circuit_complete c bids claim = uniform_complete (inputs_of c) (numbers_of c) bids c.in_limits claim
 
 -- somebody loses, or nobody does
@@ -46,8 +50,10 @@ module _ (c : UniformPlan) where
   none_loses none = ap length (sym c.outside ∙ none)
 
   pub some_loses : (c.losers ≡ [] → ⊥) → length (losers_of (inputs_of c) (numbers_of c)) ≢ 0
-  some_loses some none = some (c.outside ∙ nil_from_length (losers_of (inputs_of c) (numbers_of c)) none)
+  some_loses some none = some (c.outside
+      ∙ nil_from_length (losers_of (inputs_of c) (numbers_of c)) none)
 
   -- by a test of whether nobody does
-  pub tested_loses : (nobody : Bool) → (c.losers ≡ [] → nobody ≡ true) → nobody ≡ false → length (losers_of (inputs_of c) (numbers_of c)) ≢ 0
+  pub tested_loses : (nobody : Bool) → (c.losers ≡ [] → nobody ≡ true) → nobody ≡ false
+      → length (losers_of (inputs_of c) (numbers_of c)) ≢ 0
   tested_loses nobody tests somebody = some_loses (λ none. both_ways nobody somebody (tests none))

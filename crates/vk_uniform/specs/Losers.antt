@@ -25,7 +25,8 @@ abbrev pub losers : ℕ → List ℕ → List ℕ
 losers count winners = filter (λ position. not (stands winners position)) (positions count)
 
 -- an element, by its place
-pub found : (xs : List ℕ) (x : ℕ) → Contains xs x → (k : ℕ) × (k < length xs) × (slice_index xs k ≡ x)
+pub found : (xs : List ℕ) (x : ℕ) → Contains xs x → (k : ℕ) × (k < length xs)
+    × (slice_index xs k ≡ x)
 found xs x c = (c.0, c.1, get_or_default xs c.0 0 x c.1 ∙ c.2)
 
 pub Contains-place : (xs : List ℕ) (x k : ℕ) → k < length xs → slice_index xs k ≡ x → Contains xs x
@@ -34,7 +35,8 @@ Contains-place xs x k h e = (k, h, get_or_default xs k x 0 h ∙ e)
 pub stands_decides : (xs : List ℕ) (x : ℕ) → Decides (stands xs x) (Contains xs x)
 stands_decides xs x =
     Decides-contains xs x (stands xs x)
-    (Decides-by_or (λ y. y == x) (λ y. y ≡ x) (λ ys. stands ys x) (λ y. Decides-eqb y x) refl (λ _ _. refl) xs)
+    (Decides-by_or (λ y. y == x) (λ y. y ≡ x) (λ ys. stands ys x) (λ y. Decides-eqb y x) refl
+    (λ _ _. refl) xs)
 
 -- the positions are all that there are
 pub positions_are : (count : ℕ) → All (IsPositionAmong count) (positions count)
@@ -42,7 +44,8 @@ positions_are count =
     All-listed (IsPositionAmong count) (λ place. place + 1) count
     (λ i h. record { some = omega arith; within = omega arith })
 
-pub position_listed : (count position : ℕ) → IsPositionAmong count position → Contains (positions count) position
+pub position_listed : (count position : ℕ) → IsPositionAmong count position
+    → Contains (positions count) position
 position_listed count position at =
     let long = length_listed (λ place. place + 1) count in
     Contains-place (positions count) position (position - 1) (omega (arith, at.some, at.within))
@@ -50,7 +53,8 @@ position_listed count position at =
     ∙ omega (arith, at.some))
 
 -- what passes a filter is kept
-filter_at : (p : ℕ → Bool) (xs : List ℕ) (k x : ℕ) → k < length xs → slice_index_or xs k x ≡ x → p x ≡ true
+filter_at : (p : ℕ → Bool) (xs : List ℕ) (k x : ℕ) → k < length xs → slice_index_or xs k x ≡ x
+    → p x ≡ true
     → Contains (filter p xs) x
 filter_at p [] k x h e passes = absurd (omega arith)
 filter_at p (y ∷ ys) zero x h e passes =
@@ -68,7 +72,8 @@ module _ (count : ℕ) (winners : List ℕ) where
       let test : ℕ → Bool = λ position. not (stands winners position) in
       let one = slice_index_or (losers count winners) k d in
       record {
-        is_position = All-filter test (IsPositionAmong count) (positions count) (positions_are count) k d h;
+        is_position = All-filter test (IsPositionAmong count) (positions count)
+            (positions_are count) k d h;
         loses =
             (Decides-not (stands winners one) (stands_decides winners one)).0
             (filter_passes test (positions count) k d h);
@@ -77,7 +82,8 @@ module _ (count : ℕ) (winners : List ℕ) where
   pub losers_are : All (IsPositionAmong count) (losers count winners)
   losers_are k d h = (losers_lose k d h).is_position
 
-  pub loser_listed : (position : ℕ) → IsLoser count winners position → Contains (losers count winners) position
+  pub loser_listed : (position : ℕ) → IsLoser count winners position
+      → Contains (losers count winners) position
   loser_listed position is =
       let at = position_listed count position is.is_position in
       let none =
@@ -110,14 +116,20 @@ module _ (count : ℕ) (winners : List ℕ) where
       (λ place. place + 1) 0 count count (omega arith)
 
 -- ascending positions are not more than there are
-ascends_past : (numbers : List ℕ) → IsAscending numbers → All (λ number. 1 ≤ number) numbers → (i : ℕ)
+ascends_past : (numbers : List ℕ) → IsAscending numbers → All (λ number. 1 ≤ number) numbers
+    → (i : ℕ)
     → i < length numbers
     → i + 1 ≤ slice_index numbers i
 ascends_past numbers ascending some zero h = omega (arith, some 0 0 h)
 ascends_past numbers ascending some (suc n) h =
-    omega (arith, ascends_past numbers ascending some n (omega arith), ascending n (suc n) 0 (omega arith) h)
+    omega (
+      arith,
+      ascends_past numbers ascending some n (omega arith),
+      ascending n (suc n) 0 (omega arith) h,
+    )
 
-pub few_winners : (count : ℕ) (winners : List ℕ) → All (IsPositionAmong count) winners → IsAscending winners
+pub few_winners : (count : ℕ) (winners : List ℕ) → All (IsPositionAmong count) winners
+    → IsAscending winners
     → length winners ≤ count
 few_winners count winners are ascending =
     let last = length winners - 1 in

@@ -1,5 +1,5 @@
--- Of any bids there is one outcome for each number of winners: where all win, and from it down by taking off the weakest
--- winner.
+-- Of any bids there is one outcome for each number of winners: where all win, and from it down by
+-- taking off the weakest winner.
 use Rattle.std.specs.Prelude.{ℕ, zero, suc, ◌+◌, ◌-◌, ◌<◌, ◌≤◌, ◌≡◌, ◌≢◌, ◌⊎◌, List, All, Contains, length, remove, slice_index}
 use Rattle.std.proofs.Common.{refl, sym, ap, ◌∙◌, subst, arith, inl, inr, add-one}
 use Rattle.std.proofs.lemmas.List.{ext_get_or, get_or_default}
@@ -15,10 +15,14 @@ use Rattle.vk_uniform.specs.Losers.{stands, stands_decides, found, Contains-plac
 -- all others of the first so many winners beat the one at that place
 pub record IsWeakest (bids winners : List ℕ) (count place : ℕ) : Type 0 where
   pub is_place : place < count
-  pub others : (i : ℕ) → i < count → i ≢ place → Beats bids (slice_index winners i) (slice_index winners place)
+  pub others : (i : ℕ) → i < count → i ≢ place
+      → Beats bids (slice_index winners i) (slice_index winners place)
 
 pub weakest_first : (bids winners : List ℕ) → IsWeakest bids winners 1 0
-weakest_first bids winners = record { is_place = omega arith; others = λ i h ne. absurd (omega (arith, ne)) }
+weakest_first bids winners = record {
+  is_place = omega arith;
+  others = λ i h ne. absurd (omega (arith, ne));
+}
 
 module _ (bids winners : List ℕ) (count place : ℕ) (ascending : IsAscending winners) (more : count < length winners)
     (weakest : IsWeakest bids winners count place) where
@@ -30,18 +34,21 @@ module _ (bids winners : List ℕ) (count place : ℕ) (ascending : IsAscending 
   ]
 
   -- the next bids no more, so it is the weakest
-  pub weakest_next : bid_at bids (slice_index winners count) ≤ bid_at bids (slice_index winners place)
+  pub weakest_next : bid_at bids (slice_index winners count)
+      ≤ bid_at bids (slice_index winners place)
       → IsWeakest bids winners (count + 1) count
   weakest_next low = record {
     is_place = omega arith;
     others = λ i h ne. record {
       bids_no_less = omega (arith, low, weakest_no_less i (omega (arith, ne)));
-      bids_more_behind = λ before. absurd (omega (arith, before, ascending i count 0 (omega (arith, ne)) more));
+      bids_more_behind = λ before.
+          absurd (omega (arith, before, ascending i count 0 (omega (arith, ne)) more));
     };
   }
 
   -- the next bids more
-  pub weakest_stays : bid_at bids (slice_index winners place) < bid_at bids (slice_index winners count)
+  pub weakest_stays : bid_at bids (slice_index winners place)
+      < bid_at bids (slice_index winners count)
       → IsWeakest bids winners (count + 1) place
   weakest_stays high = record {
     is_place = omega (arith, weakest.is_place);
@@ -61,14 +68,16 @@ weakest_exists bids winners (suc n) ascending h =
     let before = weakest_exists bids winners n ascending (omega arith) in
     let here : IsWeakest bids winners (suc n) before.0 =
     subst (λ m. IsWeakest bids winners m before.0) (add-one n) before.1 in
-    elim (cases_lt (bid_at bids (slice_index winners before.0)) (bid_at bids (slice_index winners (suc n)))) [
+    elim (cases_lt (bid_at bids (slice_index winners before.0))
+    (bid_at bids (slice_index winners (suc n)))) [
       | inl high ↦ (before.0, weakest_stays bids winners (suc n) before.0 ascending h here high)
       | inr low ↦ (suc n, weakest_next bids winners (suc n) before.0 ascending h here low)
     ]
 
 -- the winners without one of them
 module _ (winners : List ℕ) (place : ℕ) (inside : place < length winners) where
-  removed_from : (x : ℕ) → Contains (remove winners place) x → (i : ℕ) × (i < length winners) × (i ≢ place)
+  removed_from : (x : ℕ) → Contains (remove winners place) x → (i : ℕ) × (i < length winners)
+      × (i ≢ place)
       × (slice_index winners i ≡ x)
   removed_from x c =
       let at = found (remove winners place) x c in
@@ -88,7 +97,8 @@ module _ (winners : List ℕ) (place : ℕ) (inside : place < length winners) wh
         )
       ]
 
-  stays : (i : ℕ) → i < length winners → i ≢ place → Contains (remove winners place) (slice_index winners i)
+  stays : (i : ℕ) → i < length winners → i ≢ place
+      → Contains (remove winners place) (slice_index winners i)
   stays i h ne =
       let long = length-remove winners place inside in
       elim (cases_lt i place) [
@@ -97,7 +107,8 @@ module _ (winners : List ℕ) (place : ℕ) (inside : place < length winners) wh
             (get_or-remove_below winners place 0 i before inside)
         | inr behind ↦
             (let next : i - 1 + 1 ≡ i = omega (arith, ne) in
-            Contains-place (remove winners place) (slice_index winners i) (i - 1) (omega (arith, ne))
+            Contains-place (remove winners place) (slice_index winners i) (i - 1)
+            (omega (arith, ne))
             (get_or-remove_above winners place 0 (i - 1) (omega (arith, ne)) inside
             ∙ ap (slice_index winners) next))
       ]
@@ -124,7 +135,8 @@ module _ (winners : List ℕ) (place : ℕ) (inside : place < length winners) wh
         let at = removed_from (slice_index winners place) c in
         elim (cases_lt at.0 place) [
           | inl before ↦ absurd (omega (arith, ascending at.0 place 0 before inside, at.3))
-          | inr behind ↦ absurd (omega (arith, ascending place at.0 0 (omega (arith, behind, at.2)) at.1, at.3))
+          | inr behind ↦ absurd
+              (omega (arith, ascending place at.0 0 (omega (arith, behind, at.2)) at.1, at.3))
         ];
   }
 
@@ -134,17 +146,20 @@ module _ (bids winners : List ℕ) (price place : ℕ) (is : IsUniformOutcome bi
   rest_are : All (IsPositionAmong (length bids)) (remove winners place)
   rest_are k d h =
       let rest = remove winners place in
-      let at = removed_from winners place weakest.is_place (slice_index rest k) (Contains-get_or rest k 0 h) in
-      subst (IsPositionAmong (length bids)) (at.3 ∙ get_or_default rest k 0 d h) (is.are_positions at.0 0 at.1)
+      let at = removed_from winners place weakest.is_place (slice_index rest k)
+      (Contains-get_or rest k 0 h) in
+      subst (IsPositionAmong (length bids)) (at.3 ∙ get_or_default rest k 0 d h)
+      (is.are_positions at.0 0 at.1)
 
   weakest_pays : (loser : ℕ) → IsLoser (length bids) (remove winners place) loser
       → bid_at bids loser ≤ bid_at bids (slice_index winners place)
-  weakest_pays loser loses = elim (loser_before winners place weakest.is_place (length bids) loser loses) [
-    | inl before ↦
-        (is.winners_beat (slice_index winners place) loser
-        (Contains-get_or winners place 0 weakest.is_place) before).bids_no_less
-    | inr e ↦ (let same = ap (bid_at bids) e in omega (arith, same))
-  ]
+  weakest_pays loser loses = elim
+      (loser_before winners place weakest.is_place (length bids) loser loses) [
+        | inl before ↦
+            (is.winners_beat (slice_index winners place) loser
+            (Contains-get_or winners place 0 weakest.is_place) before).bids_no_less
+        | inr e ↦ (let same = ap (bid_at bids) e in omega (arith, same))
+      ]
 
   rest_beat : (winner loser : ℕ) → Contains (remove winners place) winner
       → IsLoser (length bids) (remove winners place) loser → Beats bids winner loser
@@ -153,22 +168,31 @@ module _ (bids winners : List ℕ) (price place : ℕ) (is : IsUniformOutcome bi
       subst (λ w. Beats bids w loser) at.3
       (elim (loser_before winners place weakest.is_place (length bids) loser loses) [
         | inl before ↦
-            is.winners_beat (slice_index winners at.0) loser (Contains-get_or winners at.0 0 at.1) before
-        | inr e ↦ subst (Beats bids (slice_index winners at.0)) (sym e) (weakest.others at.0 at.1 at.2)
+            is.winners_beat (slice_index winners at.0) loser (Contains-get_or winners at.0 0 at.1)
+            before
+        | inr e ↦ subst (Beats bids (slice_index winners at.0)) (sym e)
+            (weakest.others at.0 at.1 at.2)
       ])
 
-  pub without_weakest : IsUniformOutcome bids (remove winners place) (bid_at bids (slice_index winners place))
+  pub without_weakest : IsUniformOutcome bids (remove winners place)
+      (bid_at bids (slice_index winners place))
   without_weakest =
-      let removed = removed_loses winners place weakest.is_place (length bids) is.ascending is.are_positions in
+      let removed = removed_loses winners place weakest.is_place (length bids) is.ascending
+      is.are_positions in
       record {
         are_positions = rest_are;
         ascending =
-            all_pairs_remove (λ earlier later. earlier < later) winners place weakest.is_place is.ascending;
+            all_pairs_remove (λ earlier later. earlier < later) winners place weakest.is_place
+            is.ascending;
         winners_beat = rest_beat;
         all_win_for_0 = λ none. absurd (none (slice_index winners place) removed);
         losers_within_price = weakest_pays;
         price_is_bid =
-            λ _ _. record { holder = slice_index winners place; is_loser = removed; bids_price = refl };
+            λ _ _. record {
+              holder = slice_index winners place;
+              is_loser = removed;
+              bids_price = refl;
+            };
       }
 
 -- where all win the price is 0
@@ -196,8 +220,12 @@ all_win bids =
 fewer_winners : (bids : List ℕ) (gone : ℕ) → gone < length bids
     → (winners : List ℕ) × (price : ℕ) × IsUniformOutcome bids winners price
     × (length winners + gone ≡ length bids)
-fewer_winners bids zero h =
-    (positions (length bids), 0, all_win bids, omega (arith, length_listed (λ place. place + 1) (length bids)))
+fewer_winners bids zero h = (
+  positions (length bids),
+  0,
+  all_win bids,
+  omega (arith, length_listed (λ place. place + 1) (length bids)),
+)
 fewer_winners bids (suc n) h =
     let before = fewer_winners bids n (omega arith) in
     let winners = before.0 in
@@ -212,7 +240,8 @@ fewer_winners bids (suc n) h =
     )
 
 pub outcome_exists : (bids : List ℕ) (units : ℕ) → 1 ≤ units → units ≤ length bids
-    → (winners : List ℕ) × (price : ℕ) × IsUniformOutcome bids winners price × (length winners ≡ units)
+    → (winners : List ℕ) × (price : ℕ) × IsUniformOutcome bids winners price
+    × (length winners ≡ units)
 outcome_exists bids units some enough =
     let made = fewer_winners bids (length bids - units) (omega arith) in
     (made.0, made.1, made.2, omega (arith, made.3))
@@ -228,17 +257,22 @@ not_below numbers ascending i k le h = elim (cases_lt i k) [
       omega (arith, same))
 ]
 
--- two ascending lists: where an element of the one is below that of the other at its place, the other has an element
--- that the one hasn't
+-- two ascending lists: where an element of the one is below that of the other at its place, the
+-- other has an element that the one hasn't
 module _ (less more : List ℕ) (less_ascends : IsAscending less) (more_ascends : IsAscending more) (same : length less ≡ length more) where
-  has_other : (left k : ℕ) → k + left ≡ length less → k < length less → slice_index less k < slice_index more k
+  has_other : (left k : ℕ) → k + left ≡ length less → k < length less
+      → slice_index less k < slice_index more k
       → (x : ℕ) × Contains more x × ¬ Contains less x
   has_other zero k all h below = absurd (omega arith)
   has_other (suc n) k all h below =
       let x = slice_index more k in
       let is_in = Contains-get_or more k 0 (omega arith) in
       elim (cases_Bool (stands less x)) [
-        | inr not_listed ↦ (x, is_in, not_from_Decides (stands less x) (stands_decides less x) not_listed)
+        | inr not_listed ↦ (
+          x,
+          is_in,
+          not_from_Decides (stands less x) (stands_decides less x) not_listed,
+        )
         | inl listed ↦
             (let at = found less x ((stands_decides less x).0 listed) in
             elim (cases_lt k at.0) [
@@ -267,24 +301,31 @@ module _ (less more : List ℕ) (less_ascends : IsAscending less) (more_ascends 
       ]
 
 -- a winner of the one outcome beats whoever wins in the other alone
-beats_other : (bids winners others : List ℕ) (price other : ℕ) → IsUniformOutcome bids winners price → IsUniformOutcome bids others other
+beats_other : (bids winners others : List ℕ) (price other : ℕ) → IsUniformOutcome bids winners price
+    → IsUniformOutcome bids others other
     → (w v : ℕ) → Contains winners w → Contains others v → ¬ Contains winners v → Beats bids w v
 beats_other bids winners others price other is too w v in_winners in_others not_winners =
     is.winners_beat w v in_winners (record {
-      is_position = All-contains (IsPositionAmong (length bids)) others v too.are_positions in_others;
+      is_position = All-contains (IsPositionAmong (length bids)) others v too.are_positions
+          in_others;
       loses = not_winners;
     })
 
 module _ (bids winners others : List ℕ) (price other : ℕ) (is : IsUniformOutcome bids winners price) (too : IsUniformOutcome bids others other) where
   -- no two bidders beat each other
-  clash : (w v : ℕ) → Contains winners w → ¬ Contains others w → Contains others v → ¬ Contains winners v → ⊥
+  clash : (w v : ℕ) → Contains winners w → ¬ Contains others w → Contains others v
+      → ¬ Contains winners v → ⊥
   clash w v in_winners not_others in_others not_winners =
-      let beaten = beats_other bids winners others price other is too w v in_winners in_others not_winners in
-      let back = beats_other bids others winners other price too is v w in_others in_winners not_others in
+      let beaten = beats_other bids winners others price other is too w v in_winners in_others
+      not_winners in
+      let back = beats_other bids others winners other price too is v w in_others in_winners
+      not_others in
       elim (cases_order v w) [
         | inl e ↦ not_others (subst (Contains others) e in_others)
-        | inr (inl before) ↦ absurd (omega (arith, beaten.bids_more_behind before, back.bids_no_less))
-        | inr (inr behind) ↦ absurd (omega (arith, back.bids_more_behind behind, beaten.bids_no_less))
+        | inr (inl before) ↦ absurd
+            (omega (arith, beaten.bids_more_behind before, back.bids_no_less))
+        | inr (inr behind) ↦ absurd
+            (omega (arith, back.bids_more_behind behind, beaten.bids_no_less))
       ]
 
   not_lower : length winners ≡ length others → (k : ℕ) → k < length winners
@@ -292,14 +333,16 @@ module _ (bids winners others : List ℕ) (price other : ℕ) (is : IsUniformOut
       → slice_index winners k < slice_index others k → ⊥
   not_lower same k h before below =
       let more =
-      has_other winners others is.ascending too.ascending same (length winners - k) k (omega arith) h below in
+      has_other winners others is.ascending too.ascending same (length winners - k) k (omega arith)
+      h below in
       clash (slice_index winners k) more.0 (Contains-get_or winners k 0 h)
       (has_not winners others is.ascending too.ascending same k h before below) more.1 more.2
 
 -- two outcomes with as many winners are one
 module _ (bids winners others : List ℕ) (price other : ℕ) (is : IsUniformOutcome bids winners price) (too : IsUniformOutcome bids others other)
     (same : length winners ≡ length others) where
-  same_upto : (n : ℕ) → n ≤ length winners → (k : ℕ) → k < n → slice_index winners k ≡ slice_index others k
+  same_upto : (n : ℕ) → n ≤ length winners → (k : ℕ) → k < n
+      → slice_index winners k ≡ slice_index others k
   same_upto zero within k h = absurd (omega arith)
   same_upto (suc n) within k h =
       let before = same_upto n (omega arith) in
@@ -311,9 +354,11 @@ module _ (bids winners others : List ℕ) (price other : ℕ) (is : IsUniformOut
             (elim (cases_order (slice_index winners n) (slice_index others n)) [
               | inl e ↦ e
               | inr (inl low) ↦
-                  absurd (not_lower bids winners others price other is too same n (omega arith) before low)
+                  absurd (not_lower bids winners others price other is too same n (omega arith)
+                  before low)
               | inr (inr high) ↦
-                  absurd (not_lower bids others winners other price too is (sym same) n (omega arith)
+                  absurd (not_lower bids others winners other price too is (sym same) n
+                  (omega arith)
                   (λ j l. sym (before j l)) high)
             ]))
       ]
@@ -329,7 +374,8 @@ price_below bids winners price other is too =
     let outside = losers (length bids) winners in
     elim (cases_lt 0 (length outside)) [
       | inl some ↦
-          (let held = is.price_is_bid (slice_index outside 0) (losers_lose (length bids) winners 0 0 some) in
+          (let held = is.price_is_bid (slice_index outside 0)
+          (losers_lose (length bids) winners 0 0 some) in
           omega (arith, held.bids_price, too.losers_within_price held.holder held.is_loser))
       | inr none ↦
           (let nobody : (position : ℕ) → ¬ IsLoser (length bids) winners position =
@@ -341,7 +387,8 @@ price_below bids winners price other is too =
           omega (arith, is.all_win_for_0 nobody))
     ]
 
-pub outcome_is_one : (bids winners others : List ℕ) (price other : ℕ) → IsUniformOutcome bids winners price
+pub outcome_is_one : (bids winners others : List ℕ) (price other : ℕ)
+    → IsUniformOutcome bids winners price
     → IsUniformOutcome bids others other
     → length winners ≡ length others → (winners ≡ others) × (price ≡ other)
 outcome_is_one bids winners others price other is too same =

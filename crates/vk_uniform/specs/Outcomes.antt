@@ -1,5 +1,5 @@
--- Several equal units sold at one price: a unit each to those who bid most, at the most that another bids. Positions
--- count from 1.
+-- Several equal units sold at one price: a unit each to those who bid most, at the most that
+-- another bids. Positions count from 1.
 use Rattle.std.specs.Prelude.{ℕ, ◌-◌, ◌<◌, ◌≤◌, ◌≡◌, List, All, AllPairs, Contains, length, slice_index}
 
 -- a position among so many bids
@@ -31,13 +31,16 @@ pub record IsLosersBid (bids winners : List ℕ) (price : ℕ) : Type 0 where
   pub is_loser : IsLoser (length bids) winners holder
   pub bids_price : bid_at bids holder ≡ price
 
--- the winners, in ascending order, beat everyone else; the price is the most that a loser bids, and 0 where there is
--- none
+-- the winners, in ascending order, beat everyone else; the price is the most that a loser bids, and
+-- 0 where there is none
 pub record IsUniformOutcome (bids winners : List ℕ) (price : ℕ) : Type 0 where
   pub are_positions : All (IsPositionAmong (length bids)) winners
   pub ascending : IsAscending winners
-  pub winners_beat : (winner loser : ℕ) → Contains winners winner → IsLoser (length bids) winners loser
+  pub winners_beat : (winner loser : ℕ) → Contains winners winner
+      → IsLoser (length bids) winners loser
       → Beats bids winner loser
   pub all_win_for_0 : ((position : ℕ) → ¬ IsLoser (length bids) winners position) → price ≡ 0
-  pub losers_within_price : (loser : ℕ) → IsLoser (length bids) winners loser → bid_at bids loser ≤ price
-  pub price_is_bid : (loser : ℕ) → IsLoser (length bids) winners loser → IsLosersBid bids winners price
+  pub losers_within_price : (loser : ℕ) → IsLoser (length bids) winners loser
+      → bid_at bids loser ≤ price
+  pub price_is_bid : (loser : ℕ) → IsLoser (length bids) winners loser
+      → IsLosersBid bids winners price

@@ -1,4 +1,5 @@
--- The forms of the plan: how many there are, which wires they name, and what they come to in whole numbers.
+-- The forms of the plan: how many there are, which wires they name, and what they come to in whole
+-- numbers.
 use Rattle.std.specs.Prelude.{ℕ, ◌+◌, ◌-◌, ◌*◌, ◌%◌, ◌^◌, ◌<◌, ◌≤◌, ◌≡◌, Bool, true, false, nat_lt, List, [], ◌∷◌, ◌++◌, All, Contains, flat_map, length, map, slice_index, slice_index_or}
 use Rattle.std.proofs.Common.{refl, sym, ◌∙◌, subst, arith, length-append, suc-mul}
 use Rattle.std.proofs.lemmas.List.{length-map, get_or-map}
@@ -41,8 +42,10 @@ length_joined f each (x ∷ xs) same =
       suc-mul (length xs) each,
     )
 
-map-All : (P : Form → Type 0) (f : ℕ → Form) (xs : List ℕ) → All P (map f xs) → All (λ x. P (f x)) xs
-map-All P f xs all k d h = subst P (get_or-map f xs k d (f d) h) (all k (f d) (omega (arith, length-map xs f)))
+map-All : (P : Form → Type 0) (f : ℕ → Form) (xs : List ℕ) → All P (map f xs)
+    → All (λ x. P (f x)) xs
+map-All P f xs all k d h = subst P (get_or-map f xs k d (f d) h)
+    (all k (f d) (omega (arith, length-map xs f)))
 
 -- from each element to all
 each-All : (P : ℕ → Type 0) (xs : List ℕ) → ((x : ℕ) → Contains xs x → P x) → All P xs
@@ -50,7 +53,8 @@ each-All P xs each k d h = each (slice_index_or xs k d) (Contains-get_or xs k d 
 
 module _ (inputs : ℕ) (numbers : List ℕ) where
   pub length_forms : length (uniform_forms inputs numbers)
-      ≡ inputs + length (winners_of numbers) * length (losers_of inputs numbers) + length (losers_of inputs numbers)
+      ≡ inputs + length (winners_of numbers) * length (losers_of inputs numbers)
+      + length (losers_of inputs numbers)
   length_forms =
       let outside = losers_of inputs numbers in
       length-append (bid_forms inputs ++ win_forms inputs numbers) (price_forms inputs numbers)
@@ -58,7 +62,8 @@ module _ (inputs : ℕ) (numbers : List ℕ) where
         arith,
         length-append (bid_forms inputs) (win_forms inputs numbers),
         length_listed (bid_form inputs) inputs,
-        length_joined (λ winner. map (win_form inputs winner) outside) (length outside) (winners_of numbers)
+        length_joined (λ winner. map (win_form inputs winner) outside) (length outside)
+            (winners_of numbers)
             (λ winner. length-map outside (win_form inputs winner)),
         length-map outside (price_form inputs (price_of numbers)),
       )
@@ -84,7 +89,8 @@ module _ (inputs : ℕ) (numbers : List ℕ) where
         (All-append P (bid_forms inputs) (win_forms inputs numbers)
         (All-listed P (bid_form inputs) inputs each.of_bids)
         (All-flat_map P (λ winner. map (win_form inputs winner) outside) (winners_of numbers)
-        (each-All (λ winner. All P (map (win_form inputs winner) outside)) (winners_of numbers) wins)))
+        (each-All (λ winner. All P (map (win_form inputs winner) outside)) (winners_of numbers)
+        wins)))
         (All-map P (price_form inputs (price_of numbers)) outside
         (each-All (λ loser. P (price_form inputs (price_of numbers) loser)) outside each.of_prices))
 
@@ -92,7 +98,8 @@ module _ (inputs : ℕ) (numbers : List ℕ) where
     forms-All all =
         let outside = losers_of inputs numbers in
         let front =
-        All-front P (bid_forms inputs ++ win_forms inputs numbers) (price_forms inputs numbers) all in
+        All-front P (bid_forms inputs ++ win_forms inputs numbers) (price_forms inputs numbers) all
+        in
         let each =
         flat_map-All P (λ winner. map (win_form inputs winner) outside) (winners_of numbers)
         (All-back P (bid_forms inputs) (win_forms inputs numbers) front) in
@@ -118,17 +125,19 @@ module _ (inputs : ℕ) (numbers : List ℕ) where
 abbrev pub copied : ℕ → List ℕ → ℕ → ℕ
 copied inputs values position = slice_index values (copy_at inputs position)
 
--- of numbers of at most 40 bits: a difference is of the width exactly where the one isn't above the other, and where it
--- is below it for a difference less 1
+-- of numbers of at most 40 bits: a difference is of the width exactly where the one isn't above the
+-- other, and where it is below it for a difference less 1
 pub width_small : (width : ℕ) → width ≤ 40 → 2 ^ width ≤ 1099511627776
 width_small width most = pow_mono {i = width} {j = 40} most
 
 win_shows : (a b bound : ℕ) (strict : Bool) → a < bound → b < bound → bound ≤ 1099511627776
-    → (a + (modulus - 1) * b + less_one strict) % modulus < bound → (b ≤ a) × (strict ≡ true → b < a)
+    → (a + (modulus - 1) * b + less_one strict) % modulus < bound
+    → (b ≤ a) × (strict ≡ true → b < a)
 win_shows a b bound true ha hb small h = (omega (arith, h), λ _. omega (arith, h))
 win_shows a b bound false ha hb small h = (omega (arith, h), λ e. absurd (false≢true e))
 
-win_fits : (a b bound : ℕ) (strict : Bool) → a < bound → bound ≤ 1099511627776 → b ≤ a → (strict ≡ true → b < a)
+win_fits : (a b bound : ℕ) (strict : Bool) → a < bound → bound ≤ 1099511627776 → b ≤ a
+    → (strict ≡ true → b < a)
     → (a + (modulus - 1) * b + less_one strict) % modulus < bound
 win_fits a b bound true ha small le more = omega (arith, more refl)
 win_fits a b bound false ha small le more = omega arith
@@ -188,19 +197,24 @@ module _ (inputs : ℕ) (values : List ℕ) where
         let strict = nat_lt loser winner in
         subst (IsOfWidth width)
         (sym (difference_value (copy_at inputs winner) (copy_at inputs loser) strict values))
-        (win_fits (copied inputs values winner) (copied inputs values loser) (2 ^ width) strict of_winner
+        (win_fits (copied inputs values winner) (copied inputs values loser) (2 ^ width) strict
+        of_winner
         (width_small width most) low
         (λ test. more (ltb-true loser winner test)))
 
-    pub price_shown : (price loser : ℕ) → IsOfWidth width price → IsOfWidth width (copied inputs values loser)
+    pub price_shown : (price loser : ℕ) → IsOfWidth width price
+        → IsOfWidth width (copied inputs values loser)
         → IsOfWidth width (form_value (price_form inputs price loser) values)
         → copied inputs values loser ≤ price
     price_shown price loser of_price of_loser within =
-        price_shows (copied inputs values loser) price (2 ^ width) of_loser of_price (width_small width most)
+        price_shows (copied inputs values loser) price (2 ^ width) of_loser of_price
+        (width_small width most)
         (subst (IsOfWidth width) (price_value price loser) within)
 
-    pub price_within : (price loser : ℕ) → IsOfWidth width price → copied inputs values loser ≤ price
+    pub price_within : (price loser : ℕ) → IsOfWidth width price
+        → copied inputs values loser ≤ price
         → IsOfWidth width (form_value (price_form inputs price loser) values)
     price_within price loser of_price low =
         subst (IsOfWidth width) (sym (price_value price loser))
-        (price_fits (copied inputs values loser) price (2 ^ width) of_price (width_small width most) low)
+        (price_fits (copied inputs values loser) price (2 ^ width) of_price (width_small width most)
+        low)

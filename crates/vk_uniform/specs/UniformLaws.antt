@@ -34,7 +34,8 @@ split_numbers (width ∷ price ∷ winners) enough = refl
 
 -- the price where nobody is listed as a loser
 module _ (inputs : ℕ) (numbers : List ℕ) where
-  case_of : IsUniformInLimits inputs numbers → (losers_of inputs numbers ≡ [] → price_of numbers ≡ 0)
+  case_of : IsUniformInLimits inputs numbers
+      → (losers_of inputs numbers ≡ [] → price_of numbers ≡ 0)
       → IsUniformCase inputs numbers
   case_of limits none = record {
     limits = limits;
@@ -65,9 +66,11 @@ module _ (inputs price : ℕ) (numbers winners outside : List ℕ) (limits : IsU
   same_losers = ap (losers inputs) (sym winners_are) ∙ sym outside_are
 
   pub made_case : (outside ≡ [] → price ≡ 0) → IsUniformCase inputs numbers
-  made_case none = case_of inputs numbers limits (λ empty. sym price_is ∙ none (sym same_losers ∙ empty))
+  made_case none = case_of inputs numbers limits
+      (λ empty. sym price_is ∙ none (sym same_losers ∙ empty))
 
-  pub made_in_limits : (outside ≡ [] → price ≡ 0) → IsUniformCase inputs (width_of numbers ∷ price ∷ winners)
+  pub made_in_limits : (outside ≡ [] → price ≡ 0)
+      → IsUniformCase inputs (width_of numbers ∷ price ∷ winners)
   made_in_limits none = subst (IsUniformCase inputs) (sym made_numbers) (made_case none)
 
   pub made_free : IsUniformCase inputs numbers → outside ≡ [] → price ≡ 0
@@ -89,7 +92,8 @@ module _ (inputs : ℕ) (numbers : List ℕ) where
       (eq-eqb (length (losers_of inputs numbers)) 0 none)
 
   pub plan_many : length (losers_of inputs numbers) ≢ 0
-      → uniform_plan inputs numbers ≡ with_selection (ranged_plan inputs (uniform_ranges inputs numbers))
+      → uniform_plan inputs numbers
+      ≡ with_selection (ranged_plan inputs (uniform_ranges inputs numbers))
       (price_selection inputs numbers)
   unfolding uniform_plan
   plan_many some =
@@ -103,34 +107,40 @@ module _ (inputs : ℕ) (numbers : List ℕ) where
     unfolding uniform_values
     values_alone none =
         let before = ranged_values bids (uniform_ranges inputs numbers) in
-        ap (λ b. if b then before else before ++ selected_values (price_selection inputs numbers) before)
+        ap (λ b. if b then before
+        else before ++ selected_values (price_selection inputs numbers) before)
         (eq-eqb (length (losers_of inputs numbers)) 0 none)
 
     pub values_many : length (losers_of inputs numbers) ≢ 0
         → uniform_values inputs numbers bids
-        ≡ ranged_values bids (uniform_ranges inputs numbers) ++ selected_values (price_selection inputs numbers)
+        ≡ ranged_values bids (uniform_ranges inputs numbers)
+        ++ selected_values (price_selection inputs numbers)
         (ranged_values bids (uniform_ranges inputs numbers))
     unfolding uniform_values
     values_many some =
         let before = ranged_values bids (uniform_ranges inputs numbers) in
-        ap (λ b. if b then before else before ++ selected_values (price_selection inputs numbers) before)
+        ap (λ b. if b then before
+        else before ++ selected_values (price_selection inputs numbers) before)
         (ne_eqb (length (losers_of inputs numbers)) 0 some)
 
 pub small_product : (a b : ℕ) → a ≤ 64 → b ≤ 64 → a * b ≤ 4096
 small_product a b few small = omega (arith, mul-le-mul_right b few, mul-le-mul_left 64 small)
 
-copy_below : (inputs position : ℕ) → IsPositionAmong inputs position → copy_at inputs position < inputs + inputs
+copy_below : (inputs position : ℕ) → IsPositionAmong inputs position
+    → copy_at inputs position < inputs + inputs
 copy_below inputs position at = omega (arith, at.some, at.within)
 
 module _ (inputs : ℕ) (numbers : List ℕ) (case : IsUniformCase inputs numbers) where
-  loser_is : (loser : ℕ) → Contains (losers_of inputs numbers) loser → IsLoser inputs (winners_of numbers) loser
+  loser_is : (loser : ℕ) → Contains (losers_of inputs numbers) loser
+      → IsLoser inputs (winners_of numbers) loser
   loser_is loser loses =
       All-contains (IsLoser inputs (winners_of numbers)) (losers_of inputs numbers) loser
       (losers_lose inputs (winners_of numbers)) loses
 
   winner_is : (winner : ℕ) → Contains (winners_of numbers) winner → IsPositionAmong inputs winner
   winner_is winner wins =
-      All-contains (IsPositionAmong inputs) (winners_of numbers) winner case.limits.are_positions wins
+      All-contains (IsPositionAmong inputs) (winners_of numbers) winner case.limits.are_positions
+      wins
 
   pub some_loses_not_all : length (losers_of inputs numbers) + 1 ≤ inputs
   some_loses_not_all =
@@ -140,7 +150,8 @@ module _ (inputs : ℕ) (numbers : List ℕ) (case : IsUniformCase inputs number
   pub uniform_ranged : IsRanged inputs (uniform_ranges inputs numbers)
   uniform_ranged =
       let Named : Form → Type 0 = λ form. NamesBelow (inputs + inputs) form.terms in
-      let winning = few_winners inputs (winners_of numbers) case.limits.are_positions case.limits.ascending in
+      let winning = few_winners inputs (winners_of numbers) case.limits.are_positions
+      case.limits.ascending in
       record {
         some = case.limits.some_inputs;
         most = omega (arith, case.limits.most_inputs);
@@ -191,20 +202,23 @@ module _ (inputs : ℕ) (numbers values : List ℕ) (case : IsUniformCase inputs
     (ranged : AreRanged inputs (uniform_ranges inputs numbers) values) where
   shown : AreForms inputs numbers (λ form. IsOfWidth (width_of numbers) (form_value form values))
   shown =
-      forms-All inputs numbers (λ form. IsOfWidth (width_of numbers) (form_value form values)) ranged.of_width
+      forms-All inputs numbers (λ form. IsOfWidth (width_of numbers) (form_value form values))
+      ranged.of_width
 
   place_small : (place : ℕ) → place < inputs
       → IsOfWidth (width_of numbers) (slice_index values (inputs + place))
   place_small place h =
       subst (IsOfWidth (width_of numbers))
-      (bid_value inputs values place (ranged.residues (inputs + place) 0 (omega (arith, ranged.enough))))
+      (bid_value inputs values place
+      (ranged.residues (inputs + place) 0 (omega (arith, ranged.enough))))
       (shown.of_bids place h)
 
   copy_small : (position : ℕ) → IsPositionAmong inputs position
       → IsOfWidth (width_of numbers) (copied inputs values position)
   copy_small position at = place_small (position - 1) (omega (arith, at.some, at.within))
 
-  bid_shown : (position : ℕ) → IsPositionAmong inputs position → bid_at (take inputs values) position
+  bid_shown : (position : ℕ) → IsPositionAmong inputs position
+      → bid_at (take inputs values) position
       ≡ copied inputs values position
   bid_shown position at =
       let inside : position - 1 < inputs = omega (arith, at.some, at.within) in
@@ -216,9 +230,11 @@ module _ (inputs : ℕ) (numbers values : List ℕ) (case : IsUniformCase inputs
   beats_shown winner loser wins loses =
       let first = winner_is inputs numbers case winner wins in
       let second = loses.is_position in
-      let form = shown.of_wins winner loser wins (loser_listed inputs (winners_of numbers) loser loses) in
+      let form = shown.of_wins winner loser wins
+      (loser_listed inputs (winners_of numbers) loser loses) in
       let found =
-      win_shown inputs values (width_of numbers) case.limits.wide.most winner loser (copy_small winner first)
+      win_shown inputs values (width_of numbers) case.limits.wide.most winner loser
+      (copy_small winner first)
       (copy_small loser second) form in
       let here = bid_shown winner first in
       let there = bid_shown loser second in
@@ -270,14 +286,21 @@ module _ (inputs : ℕ) (numbers values : List ℕ) (case : IsUniformCase inputs
         one_each = long;
         within_width = λ k d h.
             let inside : k < inputs = omega (arith, long) in
-            rw (get_or_default bids k d 0 h, get_or-take inputs values k 0 inside, ranged.copied k inside)
+            rw (
+              get_or_default bids k d 0 h,
+              get_or-take inputs values k 0 inside,
+              ranged.copied k inside,
+            )
             (place_small k inside);
         outcome = record {
-          are_positions = subst (λ n. All (IsPositionAmong n) winners) (sym long) case.limits.are_positions;
+          are_positions = subst (λ n. All (IsPositionAmong n) winners) (sym long)
+              case.limits.are_positions;
           ascending = case.limits.ascending;
-          winners_beat = λ winner loser wins loses. beats_shown winner loser wins (there loser loses);
+          winners_beat = λ winner loser wins loses. beats_shown winner loser wins
+              (there loser loses);
           all_win_for_0 =
-              λ nobody. case.all_win_for_0 (λ position loses. nobody position (back position loses));
+              λ nobody. case.all_win_for_0
+              (λ position loses. nobody position (back position loses));
           losers_within_price = λ loser loses.
               omega (
                 arith,
@@ -307,14 +330,17 @@ module _ (inputs : ℕ) (numbers : List ℕ) (case : IsUniformCase inputs number
       let wires = ranged_wires inputs ranges in
       let losing = length-map (losers_of inputs numbers) (copy_at inputs) in
       let few = some_loses_not_all inputs numbers case in
-      let winning = few_winners inputs (winners_of numbers) case.limits.are_positions case.limits.ascending in
+      let winning = few_winners inputs (winners_of numbers) case.limits.are_positions
+      case.limits.ascending in
       let pairs =
       small_product (length (winners_of numbers)) (length (losers_of inputs numbers))
-      (omega (arith, winning, case.limits.most_inputs)) (omega (arith, few, case.limits.most_inputs)) in
+      (omega (arith, winning, case.limits.most_inputs))
+      (omega (arith, few, case.limits.most_inputs)) in
       let forms : length ranges.forms ≤ 8192 =
       omega (arith, length_forms inputs numbers, few, case.limits.most_inputs, pairs) in
       let sets =
-      small_product (length relation.wires) (width_of numbers) (omega (arith, few, case.limits.most_inputs))
+      small_product (length relation.wires) (width_of numbers)
+      (omega (arith, few, case.limits.most_inputs))
       (omega (arith, case.limits.wide.most)) in
       selected_room (ranged_plan inputs ranges) relation (ranged_is_plan inputs ranges is)
       (selection_fits inputs numbers case (length (ranged_plan inputs ranges).kinds)
@@ -335,7 +361,8 @@ module _ (inputs : ℕ) (numbers : List ℕ) (case : IsUniformCase inputs number
       elim (eqb_tells (length (losers_of inputs numbers)) 0) [
         | inl none ↦
             subst IsPlan (sym (plan_alone inputs numbers none.1))
-            (ranged_is_plan inputs (uniform_ranges inputs numbers) (uniform_ranged inputs numbers case))
+            (ranged_is_plan inputs (uniform_ranges inputs numbers)
+            (uniform_ranged inputs numbers case))
         | inr some ↦ subst IsPlan (sym (plan_many inputs numbers some.1)) (selection_room some.1)
       ]
 
@@ -359,7 +386,8 @@ module _ (inputs : ℕ) (numbers : List ℕ) (case : IsUniformCase inputs number
             let wires = ranged_wires inputs ranges in
             let enough : inputs ≤ start = omega (arith, wires) in
             let before =
-            Holds-before plan (selected_wires relation) (selected_rows relation start) values own holds' in
+            Holds-before plan (selected_wires relation) (selected_rows relation start) values own
+            holds' in
             let selected =
             selected_sound relation plan values own
             (selection_fits inputs numbers case start (omega (arith, wires)) some.1) holds' in
@@ -371,7 +399,8 @@ module _ (inputs : ℕ) (numbers : List ℕ) (case : IsUniformCase inputs number
 -- what the claim says of values that begin with the bids and their copies
 module _ (inputs : ℕ) (numbers bids values : List ℕ) (case : IsUniformCase inputs numbers) (claim : IsUniformClaim inputs numbers bids)
     (begins : BeginsWith bids values) where
-  copy_here : (place : ℕ) → place < inputs → slice_index values (inputs + place) ≡ slice_index bids place
+  copy_here : (place : ℕ) → place < inputs
+      → slice_index values (inputs + place) ≡ slice_index bids place
   copy_here place h =
       subst (λ n. slice_index values (n + place) ≡ slice_index bids place) claim.one_each
       (begins.copied place (omega (arith, claim.one_each)))
@@ -412,14 +441,16 @@ module _ (inputs : ℕ) (numbers bids values : List ℕ) (case : IsUniformCase i
       (omega (arith, beaten.bids_no_less, here, there))
       (λ before. omega (arith, beaten.bids_more_behind before, here, there))
 
-  forms_fit : AreForms inputs numbers (λ form. IsOfWidth (width_of numbers) (form_value form values))
+  forms_fit : AreForms inputs numbers
+      (λ form. IsOfWidth (width_of numbers) (form_value form values))
   forms_fit = record {
     of_bids = λ place h.
         let small = place_below place h in
         subst (IsOfWidth (width_of numbers))
         (sym (bid_value inputs values place
         (omega (arith, small, width_small (width_of numbers) case.limits.wide.most)))) small;
-    of_wins = λ winner loser wins loses. wins_fit winner loser wins (loser_is inputs numbers case loser loses);
+    of_wins = λ winner loser wins loses. wins_fit winner loser wins
+        (loser_is inputs numbers case loser loses);
     of_prices = λ loser loses.
         price_within inputs values (width_of numbers) case.limits.wide.most
         (price_of numbers) loser case.limits.within_width
@@ -436,10 +467,12 @@ module _ (inputs : ℕ) (numbers bids values : List ℕ) (case : IsUniformCase i
       let small = width_small (width_of numbers) case.limits.wide.most in
       let first = losers_lose inputs winners 0 0 (omega (arith, some)) in
       let held =
-      claim.outcome.price_is_bid (slice_index outside 0) (loser_here (slice_index outside 0) first) in
+      claim.outcome.price_is_bid (slice_index outside 0) (loser_here (slice_index outside 0) first)
+      in
       let holder = subst (λ n. IsLoser n winners held.holder) claim.one_each held.is_loser in
       let at = found outside held.holder (loser_listed inputs winners held.holder holder) in
-      let read : (place : ℕ) → place < length outside → slice_index (map (copy_at inputs) outside) place
+      let read : (place : ℕ) → place < length outside
+      → slice_index (map (copy_at inputs) outside) place
       ≡ copy_at inputs (slice_index outside place) =
       λ place h. get_or-map (copy_at inputs) outside place 0 0 h in
       let long = length-map outside (copy_at inputs) in
@@ -457,8 +490,10 @@ module _ (inputs : ℕ) (numbers bids values : List ℕ) (case : IsUniformCase i
               let inside : place < length outside = omega arith in
               let loses = losers_lose inputs winners place 0 inside in
               subst (λ wire. sum (slice_index values wire)
-              (difference (2 ^ width_of numbers - 1) price) < 2 ^ width_of numbers) (sym (read place inside))
-              (unselected_fits (copied inputs values (slice_index outside place)) price (2 ^ width_of numbers)
+              (difference (2 ^ width_of numbers - 1) price) < 2 ^ width_of numbers)
+              (sym (read place inside))
+              (unselected_fits (copied inputs values (slice_index outside place)) price
+              (2 ^ width_of numbers)
               (within_price (slice_index outside place) loses) case.limits.within_width small);
         },
       )
@@ -469,13 +504,15 @@ module _ (inputs : ℕ) (numbers bids : List ℕ) (case : IsUniformCase inputs n
     ranged =
         subst (λ n. IsRanged n (uniform_ranges inputs numbers)) (sym claim.one_each)
         (uniform_ranged inputs numbers case);
-    of_width = All-forms inputs numbers (λ form. IsOfWidth (width_of numbers) (form_value form (bids ++ bids)))
+    of_width = All-forms inputs numbers
+        (λ form. IsOfWidth (width_of numbers) (form_value form (bids ++ bids)))
         (forms_fit inputs numbers bids (bids ++ bids) case claim (begins_alone bids));
   }
 
   pub begins_ranged : BeginsWith bids (ranged_values bids (uniform_ranges inputs numbers))
   begins_ranged =
-      begins_longer bids (bids ++ bids) (ranges_values (uniform_ranges inputs numbers) (bids ++ bids))
+      begins_longer bids (bids ++ bids)
+      (ranges_values (uniform_ranges inputs numbers) (bids ++ bids))
       (begins_alone bids)
 
   pub ranged_holds : Holds (ranged_plan inputs (uniform_ranges inputs numbers))
@@ -483,7 +520,11 @@ module _ (inputs : ℕ) (numbers bids : List ℕ) (case : IsUniformCase inputs n
   ranged_holds =
       let ranges = uniform_ranges inputs numbers in
       let residues : All IsResidue bids =
-      λ k d h. omega (arith, claim.within_width k d h, width_small (width_of numbers) case.limits.wide.most) in
+      λ k d h. omega (
+        arith,
+        claim.within_width k d h,
+        width_small (width_of numbers) case.limits.wide.most,
+      ) in
       subst (λ n. Holds (ranged_plan n ranges) (ranged_values bids ranges)) claim.one_each
       (ranged_complete bids ranges uniform_filled residues)
 
@@ -494,9 +535,11 @@ module _ (inputs : ℕ) (numbers bids : List ℕ) (case : IsUniformCase inputs n
       let plan = ranged_plan inputs ranges in
       let before = ranged_values bids ranges in
       elim (eqb_tells (length (losers_of inputs numbers)) 0) [
-        | inl none ↦ rw (plan_alone inputs numbers none.1, values_alone inputs numbers bids none.1) ranged_holds
+        | inl none ↦ rw (plan_alone inputs numbers none.1, values_alone inputs numbers bids none.1)
+            ranged_holds
         | inr some ↦
-            (let chosen = may_be_selected inputs numbers bids before case claim begins_ranged some.1 in
+            (let chosen = may_be_selected inputs numbers bids before case claim begins_ranged some.1
+            in
             let fits =
             selection_fits inputs numbers case (length plan.kinds)
             (omega (arith, ranged_wires inputs ranges)) some.1 in

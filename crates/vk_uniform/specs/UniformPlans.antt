@@ -1,5 +1,6 @@
--- The plan that shows a sale of equal units at one price, and the values that hold for it. Wires, rows and places count
--- from 0, positions from 1. The numbers that are published are the width, the price, and the winners' positions.
+-- The plan that shows a sale of equal units at one price, and the values that hold for it. Wires,
+-- rows and places count from 0, positions from 1. The numbers that are published are the width, the
+-- price, and the winners' positions.
 use Rattle.std.specs.Prelude.{ℕ, ◌+◌, ◌-◌, ◌*◌, ◌^◌, ◌<◌, ◌≤◌, ◌≡◌, ◌==◌, if◌then◌else◌, nat_lt, List, [], ◌∷◌, ◌++◌, All, drop, flat_map, length, map, slice_index}
 use Rattle.vk_residue.specs.Limits.{IsWidth}
 use Rattle.vk_plan.specs.declared.form.Form.{Form}
@@ -40,7 +41,8 @@ pub record IsUniformInLimits (inputs : ℕ) (numbers : List ℕ) : Type 0 where
 -- and the price is 0 where all win
 pub record IsUniformCase (inputs : ℕ) (numbers : List ℕ) : Type 0 where
   pub limits : IsUniformInLimits inputs numbers
-  pub all_win_for_0 : ((position : ℕ) → ¬ IsLoser inputs (winners_of numbers) position) → price_of numbers ≡ 0
+  pub all_win_for_0 : ((position : ℕ) → ¬ IsLoser inputs (winners_of numbers) position)
+      → price_of numbers ≡ 0
 
 -- what the plan shows of the bids
 pub record IsUniformClaim (inputs : ℕ) (numbers bids : List ℕ) : Type 0 where
@@ -63,7 +65,8 @@ win_form inputs winner loser =
 
 -- the price less a loser's Y
 abbrev pub price_form : ℕ → ℕ → ℕ → Form
-price_form inputs price loser = record { terms = minus (copy_at inputs loser) ∷ []; constant = price }
+price_form inputs price loser =
+    record { terms = minus (copy_at inputs loser) ∷ []; constant = price }
 
 -- the copies; each winner's Y less each loser's, winner by winner; and the price less each loser's
 abbrev pub bid_forms : ℕ → List Form
@@ -71,14 +74,16 @@ bid_forms inputs = listed (bid_form inputs) inputs
 
 abbrev pub win_forms : ℕ → List ℕ → List Form
 win_forms inputs numbers =
-    flat_map (λ winner. map (win_form inputs winner) (losers_of inputs numbers)) (winners_of numbers)
+    flat_map (λ winner. map (win_form inputs winner) (losers_of inputs numbers))
+    (winners_of numbers)
 
 abbrev pub price_forms : ℕ → List ℕ → List Form
 price_forms inputs numbers = map (price_form inputs (price_of numbers)) (losers_of inputs numbers)
 
 -- what is of the width, in order
 abbrev pub uniform_forms : ℕ → List ℕ → List Form
-uniform_forms inputs numbers = bid_forms inputs ++ win_forms inputs numbers ++ price_forms inputs numbers
+uniform_forms inputs numbers =
+    bid_forms inputs ++ win_forms inputs numbers ++ price_forms inputs numbers
 
 abbrev pub uniform_ranges : ℕ → List ℕ → Ranges
 uniform_ranges inputs numbers = ranges_of (uniform_forms inputs numbers) (width_of numbers)
@@ -97,16 +102,17 @@ abbrev pub with_selection : PlanValue → SelectedIs → PlanValue
 with_selection plan relation =
     extended plan (selected_wires relation) (selected_rows relation (length plan.kinds))
 
--- The rows, in order: each bid is its copy; each form is of the width; and, where somebody loses, one selector is 1, and
--- what it selects is at least the price.
+-- The rows, in order: each bid is its copy; each form is of the width; and, where somebody loses,
+-- one selector is 1, and what it selects is at least the price.
 unfoldable pub uniform_plan : ℕ → List ℕ → PlanValue
 uniform_plan inputs numbers =
     let plan = ranged_plan inputs (uniform_ranges inputs numbers) in
     if length (losers_of inputs numbers) == 0 then plan else with_selection plan
     (price_selection inputs numbers)
 
--- the bids, their copies, and the values of the sets: each pair has its weight where that bit of its set's form is set;
--- and where somebody loses, the selector of the first loser who holds the price is 1
+-- the bids, their copies, and the values of the sets: each pair has its weight where that bit of
+-- its set's form is set; and where somebody loses, the selector of the first loser who holds the
+-- price is 1
 unfoldable pub uniform_values : ℕ → List ℕ → List ℕ → List ℕ
 uniform_values inputs numbers bids =
     let before = ranged_values bids (uniform_ranges inputs numbers) in

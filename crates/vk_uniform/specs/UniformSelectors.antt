@@ -35,7 +35,8 @@ selectors_start inputs numbers =
 -- the selector of the loser at that place is 1, and the other selectors are 0
 abbrev pub SelectsLoser : ℕ → List ℕ → List ℕ → ℕ → Type 0
 SelectsLoser inputs numbers values place =
-    (k : ℕ) → k < length (losers_of inputs numbers) → slice_index values (selectors_start inputs numbers + k)
+    (k : ℕ) → k < length (losers_of inputs numbers)
+    → slice_index values (selectors_start inputs numbers + k)
     ≡ (if k == place then 1 else 0)
 
 module _ (inputs : ℕ) (numbers bids values : List ℕ) (case : IsUniformCase inputs numbers) (claim : IsUniformClaim inputs numbers bids)
@@ -50,14 +51,16 @@ module _ (inputs : ℕ) (numbers bids values : List ℕ) (case : IsUniformCase i
   low : (place : ℕ) → place < length (losers_of inputs numbers)
       → copied inputs values (slice_index (losers_of inputs numbers) place) ≤ price_of numbers
   low place h =
-      within_price inputs numbers bids values case claim begins (slice_index (losers_of inputs numbers) place)
+      within_price inputs numbers bids values case claim begins
+      (slice_index (losers_of inputs numbers) place)
       (losers_lose inputs (winners_of numbers) place 0 h)
 
   copied_bid : (place : ℕ) → place < length (losers_of inputs numbers)
       → copied inputs values (slice_index (losers_of inputs numbers) place)
       ≡ bid_at bids (slice_index (losers_of inputs numbers) place)
   copied_bid place h =
-      bid_here inputs numbers bids values case claim begins (slice_index (losers_of inputs numbers) place)
+      bid_here inputs numbers bids values case claim begins
+      (slice_index (losers_of inputs numbers) place)
       (losers_lose inputs (winners_of numbers) place 0 h).is_position
 
   -- a place serves exactly where its bid is the price
@@ -76,7 +79,8 @@ module _ (inputs : ℕ) (numbers bids values : List ℕ) (case : IsUniformCase i
       let read = copy_read k inside in
       elim (eqb_tells k place) [
         | inl e ↦
-            (let here = ap (λ p. copied inputs values (slice_index outside p)) e.1 ∙ copied_bid place h
+            (let here = ap (λ p. copied inputs values (slice_index outside p)) e.1
+            ∙ copied_bid place h
             ∙ holds in
             subst (λ b. nat_lt (place_number relation values k b) bound ≡ true) (sym e.0)
             (lt-ltb (place_number relation values k true) bound
@@ -111,7 +115,8 @@ module _ (inputs : ℕ) (numbers bids values : List ℕ) (case : IsUniformCase i
       ≡ first_place (price_selection inputs numbers) values
   holder_is_first place first =
       let long = length-map (losers_of inputs numbers) (copy_at inputs) in
-      first_place_found (price_selection inputs numbers) values place (omega (arith, first.is_place))
+      first_place_found (price_selection inputs numbers) values place
+      (omega (arith, first.is_place))
       (λ k before. serves_no_other k (omega (arith, first.is_place)) (first.none_before k before))
       (λ _. serves_holder place first.is_place first.holds)
 
@@ -132,7 +137,8 @@ filled_selector inputs place numbers bids case claim first k h =
     omega (arith, holds.one_each, ranged_wires inputs ranges, forms) in
     let long = length-map outside (copy_at inputs) in
     let chosen = selectors (length relation.wires) (first_place relation before) in
-    let rest = joined (place_parts relation before (first_place relation before)) (length relation.wires) in
+    let rest = joined (place_parts relation before (first_place relation before))
+    (length relation.wires) in
     let whole = before ++ (chosen ++ rest) in
     let inside : k < length relation.wires = omega arith in
     ap (λ values. slice_index values (selectors_start inputs numbers + k))

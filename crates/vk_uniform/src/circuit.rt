@@ -34,12 +34,15 @@ impl Circuit for UniformPlan {
         self.inputs
     }
 
-    /// For n bids of width t, k winners and m losers it has `2n + m + t(n + km + 2m)` wires and `2n + km + 2m` rows,
-    /// and one row more where somebody loses.
+    /// For n bids of width t, k winners and m losers it has `2n + m + t(n + km + 2m)` wires and `2n
+    /// + km + 2m` rows, and one row more where somebody loses.
     fn plan(&self, alloc: Global) -> Result<Plan, NoMemory>
-        ensures plan { IfOk result (λ plan. plan ≡ uniform_plan (inputs_of self.now) (numbers_of self.now)) }
-        ensures wires { IfOk result (λ plan. length plan.kinds ≡ wire_count (inputs_of self.now) (numbers_of self.now)) }
-        ensures rows { IfOk result (λ plan. length plan.rows ≡ row_count (inputs_of self.now) (numbers_of self.now)) }
+        ensures plan { IfOk result
+            (λ plan. plan ≡ uniform_plan (inputs_of self.now) (numbers_of self.now)) }
+        ensures wires { IfOk result
+            (λ plan. length plan.kinds ≡ wire_count (inputs_of self.now) (numbers_of self.now)) }
+        ensures rows { IfOk result
+            (λ plan. length plan.rows ≡ row_count (inputs_of self.now) (numbers_of self.now)) }
     {
         let ranges = self.ranges(alloc)?;
         let mut plan = ranged_plan(alloc, self.inputs, &ranges)?;
@@ -57,7 +60,8 @@ impl Circuit for UniformPlan {
         ensures filled { IfOk result (λ values.
             values.items ≡ uniform_values (inputs_of self.now) (numbers_of self.now) inputs.now) }
         ensures selector { IfOk result (λ values.
-            (place : ℕ) → IsFirstLoserAtPrice (inputs_of self.now) (numbers_of self.now) inputs.now place
+            (place : ℕ) → IsFirstLoserAtPrice (inputs_of self.now) (numbers_of self.now) inputs.now
+            place
             → SelectsLoser (inputs_of self.now) (numbers_of self.now) values.items place) }
     {
         let ranges = self.ranges(alloc)?;
@@ -72,10 +76,11 @@ impl Circuit for UniformPlan {
 }
 
 impl UniformPlan {
-    /// That the bids are of the width, that each winner's is above the losers', and that none of these is above the
-    /// price.
+    /// That the bids are of the width, that each winner's is above the losers', and that none of
+    /// these is above the price.
     fn ranges(&self, alloc: Global) -> Result<Ranges, NoMemory>
-        ensures { IfOk result (λ ranges. ranges ≡ uniform_ranges (inputs_of self.now) (numbers_of self.now)) }
+        ensures { IfOk result (λ ranges. ranges
+            ≡ uniform_ranges (inputs_of self.now) (numbers_of self.now)) }
     {
         let losers = self.losers.as_slice();
         let mut forms = Vec::new(alloc);
@@ -96,7 +101,8 @@ impl UniformPlan {
 
     /// One of the losers' copies is the price.
     fn price_selection(&self, alloc: Global) -> Result<SelectedIs, NoMemory>
-        ensures { IfOk result (λ selection. selection ≡ price_selection (inputs_of self.now) (numbers_of self.now)) }
+        ensures { IfOk result (λ selection. selection
+            ≡ price_selection (inputs_of self.now) (numbers_of self.now)) }
     {
         let wires = copies_at(alloc, self.inputs, self.losers.as_slice())?;
         Ok(SelectedIs {

@@ -53,7 +53,8 @@ fn push_wins_of(
     requires few { inputs ≤ 64 }
     requires winner { IsPositionAmong inputs winner }
     requires losers { All (IsPositionAmong inputs) losers.now }
-    ensures { OnOk result (forms.new.items ≡ forms.old.items ++ map (win_form inputs winner) losers.now) }
+    ensures { OnOk result (forms.new.items
+        ≡ forms.old.items ++ map (win_form inputs winner) losers.now) }
 {
     for &loser in losers {
         let strict = loser < winner;
@@ -80,7 +81,8 @@ pub(crate) fn push_wins(
     requires winners { All (IsPositionAmong inputs) winners.now }
     requires losers { All (IsPositionAmong inputs) losers.now }
     ensures { OnOk result
-        (forms.new.items ≡ forms.old.items ++ flat_map (λ winner. map (win_form inputs winner) losers.now) winners.now) }
+        (forms.new.items ≡ forms.old.items
+        ++ flat_map (λ winner. map (win_form inputs winner) losers.now) winners.now) }
 {
     for &winner in winners {
         push_wins_of(alloc, inputs, winner, losers, forms)?;
@@ -98,7 +100,8 @@ pub(crate) fn push_prices(
 ) -> Result<(), NoMemory>
     requires few { inputs ≤ 64 }
     requires losers { All (IsPositionAmong inputs) losers.now }
-    ensures { OnOk result (forms.new.items ≡ forms.old.items ++ map (price_form inputs price) losers.now) }
+    ensures { OnOk result (forms.new.items
+        ≡ forms.old.items ++ map (price_form inputs price) losers.now) }
 {
     for &loser in losers {
         let form = one_term(alloc, copy_at(inputs, loser), Residue::ONE.neg(), price)?;

@@ -1,4 +1,5 @@
-//! Several equal units sold at one price: who wins, what they pay, and the plan that shows it of hidden bids.
+//! Several equal units sold at one price: who wins, what they pay, and the plan that shows it of
+//! hidden bids.
 #![tactic(auto)]
 
 mod circuit;

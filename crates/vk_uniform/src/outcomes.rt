@@ -16,15 +16,17 @@ pub struct UniformOutcome {
     pub price: u64,
 }
 
-/// The outcome of at most 64 bids for so many units, 1 to the number of bids: the winners are the first of those who
-/// bid most, and pay the greatest of the rest.
+/// The outcome of at most 64 bids for so many units, 1 to the number of bids: the winners are the
+/// first of those who bid most, and pay the greatest of the rest.
 pub fn uniform(alloc: Global, bids: &[u64], units: u32) -> Result<UniformOutcome, NoMemory>
     requires some { 1 ≤ units }
     requires enough { units ≤ length bids.now }
     requires most { length bids.now ≤ 64 }
-    ensures outcome { IfOk result (λ outcome. IsUniformOutcome bids.now outcome.winners outcome.price) }
+    ensures outcome { IfOk result
+        (λ outcome. IsUniformOutcome bids.now outcome.winners outcome.price) }
     ensures units { IfOk result (λ outcome. length outcome.winners ≡ units) }
-    ensures no_other { IfOk result (λ outcome. (winners : List ℕ) (price : ℕ) → IsUniformOutcome bids.now winners price
+    ensures no_other { IfOk result
+        (λ outcome. (winners : List ℕ) (price : ℕ) → IsUniformOutcome bids.now winners price
         → length winners ≡ units → (winners ≡ outcome.winners) × (price ≡ outcome.price)) }
 {
     let mut winners = positions(alloc, bids.len())?;
@@ -87,10 +89,14 @@ fn weakest(bids: &[u64], winners: &[u32]) -> usize
     place
 }
 
-/// Of any bids: for each number of units up to theirs there is one outcome with that many winners, and no other.
+/// Of any bids: for each number of units up to theirs there is one outcome with that many winners,
+/// and no other.
 pub fn one_outcome_for_each_number()
     ensures outcome { (bids : List ℕ) (units : ℕ) → 1 ≤ units → units ≤ length bids
-        → (winners : List ℕ) × (price : ℕ) × IsUniformOutcome bids winners price × (length winners ≡ units) }
-    ensures no_other { (bids winners others : List ℕ) (price other : ℕ) → IsUniformOutcome bids winners price
-        → IsUniformOutcome bids others other → length winners ≡ length others → (winners ≡ others) × (price ≡ other) }
+        → (winners : List ℕ) × (price : ℕ) × IsUniformOutcome bids winners price
+        × (length winners ≡ units) }
+    ensures no_other { (bids winners others : List ℕ) (price other : ℕ)
+        → IsUniformOutcome bids winners price
+        → IsUniformOutcome bids others other → length winners ≡ length others → (winners ≡ others)
+        × (price ≡ other) }
 {}

@@ -8,7 +8,8 @@ use std::alloc::Global;
 use vk_residue::{NoMemory, Residue};
 use vk_seq::Seq;
 
-/// The plan that shows, of hidden bids, that published positions win a unit each at one published price.
+/// The plan that shows, of hidden bids, that published positions win a unit each at one published
+/// price.
 #[derive(Debug, Drop)]
 pub struct UniformPlan {
     pub(crate) inputs: u32,
@@ -24,9 +25,10 @@ impl UniformPlan {
     ghost use Rattle.std.specs.Prelude.{◌↔◌, IsSome, IfSome, IfOk};
     ghost use Rattle.vk_uniform.specs.Circuits.{inputs_of, numbers_of};
 
-    /// For so many bids and these numbers: the width of the bids, the price, and the winners' positions in ascending
-    /// order. None where there aren't 1 to 64 bids, or a number is missing or not within its limits: the width is 1 to
-    /// 40, the price below 2^width and 0 where all win, and each position, of one at least, is one of the bids'.
+    /// For so many bids and these numbers: the width of the bids, the price, and the winners'
+    /// positions in ascending order. None where there aren't 1 to 64 bids, or a number is missing
+    /// or not within its limits: the width is 1 to 40, the price below 2^width and 0 where all win,
+    /// and each position, of one at least, is one of the bids'.
     pub fn from_numbers(
         alloc: Global,
         inputs: u32,

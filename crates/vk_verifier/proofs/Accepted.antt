@@ -16,7 +16,8 @@ use Rattle.vk_verifier.proofs.Passed.{Passed, lanes_pass, passed, file_over, fil
 -- ---- from the tests to what is accepted
 
 all_accepted : {s : StatementValue} {front file challenge reply : List ℕ} {rest : Rest}
-    (p : Passed s front file challenge reply rest) → p.count ≡ s.lanes → EndsRead p.rests.0 p.rests.1
+    (p : Passed s front file challenge reply rest) → p.count ≡ s.lanes
+    → EndsRead p.rests.0 p.rests.1
     → AcceptsBehind s front file challenge reply
 all_accepted {s = s} p all ends =
     let pass = lanes_pass p in
@@ -30,7 +31,10 @@ all_accepted {s = s} p all ends =
       reply_is = (
         text,
         record {
-          count = record { least = omega (arith, p.is.count.least, all, pass.shown_to); most = omega (arith, p.is.count.most, all, pass.shown_to) };
+          count = record {
+            least = omega (arith, p.is.count.least, all, pass.shown_to);
+            most = omega (arith, p.is.count.most, all, pass.shown_to);
+          };
           each = pass.shown;
         },
       );
@@ -53,7 +57,8 @@ all_read {s = s} {rest = rest} is at files =
       count = length bits.bits;
       within = omega (arith, files.begun.one_bit_each);
       rests = files.rests;
-      read = lanes_shown s (bit_of bits) [] [] bits.bits rest files.begun.count_rest files.rests refl (bits_are bits)
+      read = lanes_shown s (bit_of bits) [] [] bits.bits rest files.begun.count_rest files.rests
+          refl (bits_are bits)
           files.lanes_pass;
     }) files.begun.one_bit_each files.ends
 
@@ -65,7 +70,8 @@ module _ {s : StatementValue} {front file challenge reply : List ℕ} (is : IsSt
   unfolding reply_text
   reply_whole =
       let lanes : List ℕ = numbered_text reply_lane_text 1 accepts.reply in
-      accepts.reply_is.0 ∙ ap (λ n. reply_head_text n ++ (lanes ++ line (codes "end"))) accepts.one_reply_each
+      accepts.reply_is.0 ∙ ap (λ n. reply_head_text n ++ (lanes ++ line (codes "end")))
+      accepts.one_reply_each
       ∙ sym (append_assoc (reply_head_text s.lanes) lanes (line (codes "end")))
 
   abbrev all_pass : LanesPass s front file challenge reply s.lanes
@@ -97,11 +103,18 @@ module _ {s : StatementValue} {front file challenge reply : List ℕ} (is : IsSt
   accepted_ends =
       let board = file_end accepted_read accepts.file_is.0 in
       let end = reply_end accepted_read refl accepts.reply_is.0 in
-      record { board_over = (tt, board.0); reply_over = (tt, end.0); board_read = board.1; reply_read = end.1 }
+      record {
+        board_over = (tt, board.0);
+        reply_over = (tt, end.0);
+        board_read = board.1;
+        reply_read = end.1;
+      }
 
-pub accepted_behind : (s : StatementValue) → IsStatement s → (front file challenge reply : List ℕ) (rest : Rest)
+pub accepted_behind : (s : StatementValue) → IsStatement s
+    → (front file challenge reply : List ℕ) (rest : Rest)
     → file ≡ front ++ rest.left
-    → (behind_judged s rest (from_start challenge) (from_start reply) ≡ Ok tt) ↔ AcceptsBehind s front file challenge reply
+    → (behind_judged s rest (from_start challenge) (from_start reply) ≡ Ok tt)
+    ↔ AcceptsBehind s front file challenge reply
 accepted_behind s is front file challenge reply rest at = (
   λ ok. all_read is at (judged_shown s rest (from_start challenge) (from_start reply) tt ok),
   λ accepts.

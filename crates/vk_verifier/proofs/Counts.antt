@@ -21,7 +21,8 @@ each_has : (lanes index : ℕ) (before seals : List SealLines) → index < lanes
     → EachAfter (IsSealAfter lanes) before seals → All (λ seal. index < length seal.coms) seals
 each_has lanes index before [] within each = All-nil (λ seal. index < length seal.coms)
 each_has lanes index before (seal ∷ seals) within each =
-    All-cons (λ seal. index < length seal.coms) seal seals (omega (arith, within, each.0.right.count))
+    All-cons (λ seal. index < length seal.coms) seal seals
+    (omega (arith, within, each.0.right.count))
     (each_has lanes index (before ++ seal ∷ []) seals within each.1)
 
 -- each seal has a lane of that number
@@ -29,18 +30,22 @@ pub seals_have : (s : StatementValue) (index : ℕ) → IsStatement s → index 
     → All (λ seal. index < length seal.coms) s.seals
 seals_have s index is within = each_has s.lanes index [] s.seals within is.seals
 
-inputs_within : (plan : PlanValue) (inputs : ℕ) → IsPlan plan → plan.inputs ≡ inputs → inputs ≤ length plan.kinds
+inputs_within : (plan : PlanValue) (inputs : ℕ) → IsPlan plan → plan.inputs ≡ inputs
+    → inputs ≤ length plan.kinds
 inputs_within plan zero is same = omega arith
 inputs_within plan (suc inputs) is same = slice_get_within plan.kinds inputs Split
     (is.inputs_are_split inputs (omega (arith, same)))
 
 -- a case that was read has the counts that its check asks for
 pub fits : (s : StatementValue) (number : ℕ) (lines : LaneLines) (case : LaneCase)
-    → IsStatement s → IsLaneLines (later_wires s.plan) (length s.plan.rows) lines → case ≡ case_of s number lines
+    → IsStatement s → IsLaneLines (later_wires s.plan) (length s.plan.rows) lines
+    → case ≡ case_of s number lines
     → Fits s.plan case
 fits s number lines case is right case_is =
-    let within : s.plan.inputs ≤ length s.plan.kinds = inputs_within s.plan s.plan.inputs is.plan refl in
-    let seal_coms : length (input_coms (number - 1) s.seals) ≡ length s.seals = length-map s.seals _ in
+    let within : s.plan.inputs ≤ length s.plan.kinds =
+    inputs_within s.plan s.plan.inputs is.plan refl in
+    let seal_coms : length (input_coms (number - 1) s.seals) ≡ length s.seals = length-map s.seals _
+    in
     λ shown one_each. subst (λ (k : LaneCase). HasCounts s.plan k shown) (sym case_is) (record {
       seats = length-map s.seals (λ seal. seal.seat) ∙ sym is.inputs;
       coms = omega (
@@ -56,7 +61,10 @@ fits s number lines case is right case_is =
     })
 
 -- a lane that was read has the counts that its check asks for
-pub has_counts : (s : StatementValue) (number : ℕ) (bit : Bool) (lines : LaneLines) (shown : List Shown)
-    → IsStatement s → IsLaneLines (later_wires s.plan) (length s.plan.rows) lines → AreShown s.plan.kinds bit shown
+pub has_counts : (s : StatementValue) (number : ℕ) (bit : Bool) (lines : LaneLines)
+    (shown : List Shown)
+    → IsStatement s → IsLaneLines (later_wires s.plan) (length s.plan.rows) lines
+    → AreShown s.plan.kinds bit shown
     → HasCounts s.plan (case_of s number lines) shown
-has_counts s number bit lines shown is right are = fits s number lines (case_of s number lines) is right refl shown are.one_each
+has_counts s number bit lines shown is right are =
+    fits s number lines (case_of s number lines) is right refl shown are.one_each

@@ -36,16 +36,20 @@ use Rattle.vk_verifier.proofs.Reasons.{err_same, fault_holds}
 
 -- ---- a lane
 
-abbrev shown_then : StatementValue → ℕ → Bool → LaneLines × Rest → List Shown × Rest → Result (Rest × Rest) Fault
-shown_then s number bit lines shown = lane_fault number (checked_lane s.plan (case_of s number lines.0) bit shown.0)
+abbrev shown_then : StatementValue → ℕ → Bool → LaneLines × Rest → List Shown × Rest
+    → Result (Rest × Rest) Fault
+shown_then s number bit lines shown =
+    lane_fault number (checked_lane s.plan (case_of s number lines.0) bit shown.0)
     >>= λ done. Ok (lines.1, shown.1)
 
 abbrev lines_then : StatementValue → ℕ → Bool → Rest → LaneLines × Rest → Result (Rest × Rest) Fault
-lines_then s number bit reply lines = in_part part.Reply (reply_lane_at number s.plan.kinds bit reply)
+lines_then s number bit reply lines =
+    in_part part.Reply (reply_lane_at number s.plan.kinds bit reply)
     >>= shown_then s number bit lines
 
 module _ (s : StatementValue) (number : ℕ) (bit : Bool) (board reply : Rest) where
-  no_lines_there : (line : ℕ) → lane_at number (later_wires s.plan) (length s.plan.rows) board ≡ Err line
+  no_lines_there : (line : ℕ) → lane_at number (later_wires s.plan) (length s.plan.rows) board
+      ≡ Err line
       → lane_judged s number bit board reply ≡ Err (Malformed part.Board line)
   unfolding lane_judged
   no_lines_there line stop = ap (λ r. in_part part.Board r >>= lines_then s number bit reply) stop
@@ -60,16 +64,19 @@ module _ (s : StatementValue) (number : ℕ) (bit : Bool) (board reply : Rest) w
       (lines_then s number bit reply) (lines, next) found
       ∙ ap (λ r. in_part part.Reply r >>= shown_then s number bit (lines, next)) stop
 
-  fault_there : (lines : LaneLines) (shown : List Shown) (next after : Rest) (lane : LaneFault) (fault : Fault)
+  fault_there : (lines : LaneLines) (shown : List Shown) (next after : Rest) (lane : LaneFault)
+      (fault : Fault)
       → lane_at number (later_wires s.plan) (length s.plan.rows) board ≡ Ok (lines, next)
       → reply_lane_at number s.plan.kinds bit reply ≡ Ok (shown, after)
-      → checked_lane s.plan (case_of s number lines) bit shown ≡ Err lane → lane_fault number (Err lane) ≡ Err fault
+      → checked_lane s.plan (case_of s number lines) bit shown ≡ Err lane
+      → lane_fault number (Err lane) ≡ Err fault
       → lane_judged s number bit board reply ≡ Err fault
   unfolding lane_judged
   fault_there lines shown next after lane fault found shown_found stop is =
       read_found part.Board (lane_at number (later_wires s.plan) (length s.plan.rows) board)
       (lines_then s number bit reply) (lines, next) found
-      ∙ (read_found part.Reply (reply_lane_at number s.plan.kinds bit reply) (shown_then s number bit (lines, next))
+      ∙ (read_found part.Reply (reply_lane_at number s.plan.kinds bit reply)
+      (shown_then s number bit (lines, next))
       (shown, after) shown_found
       ∙ (ap (λ c. lane_fault number c >>= λ done. Ok (next, after)) stop
       ∙ ap (λ r. r >>= λ (done : Unit {0}). Ok (next, after)) is))
@@ -85,40 +92,49 @@ module _ {s : StatementValue} {front file challenge reply : List ℕ} {rest : Re
   no_next_lines : (r : Result (LaneLines × Rest) ℕ) → lines_next p ≡ r → p.count < s.lanes
       → ((lines : LaneLines) → ¬ FileGoesOn s front file p.read.lines lines)
       → (line : ℕ) × (whole ≡ Err (Malformed part.Board line))
-  no_next_lines (Ok lines) is more none = absurd (none lines.0 (file_goes_on p lines.0 lines.1 more is))
+  no_next_lines (Ok lines) is more none =
+      absurd (none lines.0 (file_goes_on p lines.0 lines.1 more is))
   no_next_lines (Err line) is more none = (
     line,
     lane_refused p (Malformed part.Board line) more
         (no_lines_there s (p.count + 1) (next_bit p) p.rests.0 p.rests.1 line is),
   )
 
-  no_next_shown : (r : Result (List Shown × Rest) ℕ) → shown_next p ≡ r → p.count < s.lanes → (lines : LaneLines)
+  no_next_shown : (r : Result (List Shown × Rest) ℕ) → shown_next p ≡ r → p.count < s.lanes
+      → (lines : LaneLines)
       → FileGoesOn s front file p.read.lines lines
       → ((shown : List Shown) → ¬ ReplyGoesOn s reply p.begun.bits p.read.shown shown)
       → (line : ℕ) × (whole ≡ Err (Malformed part.Reply line))
-  no_next_shown (Ok shown) is more lines goes_on none = absurd (none shown.0 (reply_goes_on p shown.0 shown.1 more is))
+  no_next_shown (Ok shown) is more lines goes_on none =
+      absurd (none shown.0 (reply_goes_on p shown.0 shown.1 more is))
   no_next_shown (Err line) is more lines goes_on none =
       let found = file_found p lines more goes_on in (
         line,
         lane_refused p (Malformed part.Reply line) more
-            (no_shown_there s (p.count + 1) (next_bit p) p.rests.0 p.rests.1 lines found.0 line found.1 is),
+            (no_shown_there s (p.count + 1) (next_bit p) p.rests.0 p.rests.1 lines found.0 line
+            found.1 is),
       )
 
-  next_fails : (lane : LaneFault) (fault : Fault) (lines : LaneLines) (shown : List Shown) → p.count < s.lanes
-      → FileGoesOn s front file p.read.lines lines → ReplyGoesOn s reply p.begun.bits p.read.shown shown
+  next_fails : (lane : LaneFault) (fault : Fault) (lines : LaneLines) (shown : List Shown)
+      → p.count < s.lanes
+      → FileGoesOn s front file p.read.lines lines
+      → ReplyGoesOn s reply p.begun.bits p.read.shown shown
       → HasLaneFault s.plan (case_of s (p.count + 1) lines) (next_bit p) shown lane
       → lane_fault (p.count + 1) (Err lane) ≡ Err fault → whole ≡ Err fault
   next_fails lane fault lines shown more goes_on reply_goes has_fault is =
       let found = file_found p lines more goes_on in
       let there = reply_found p shown more reply_goes in
       let counts = next_counts p lines shown found.0 there.0 more found.1 there.1 in
-      lane_refused p fault more (fault_there s (p.count + 1) (next_bit p) p.rests.0 p.rests.1 lines shown found.0
+      lane_refused p fault more
+      (fault_there s (p.count + 1) (next_bit p) p.rests.0 p.rests.1 lines shown found.0
       there.0 lane fault found.1 there.1
-      (faulty_err s.plan (case_of s (p.count + 1) lines) (next_bit p) shown lane p.is.plan counts has_fault) is)
+      (faulty_err s.plan (case_of s (p.count + 1) lines) (next_bit p) shown lane p.is.plan counts
+      has_fault) is)
 
   -- the file doesn't end there, or the reply doesn't
   no_file_end : (r : Result (Unit {0} × Rest) ℕ) → end_at p.rests.0 ≡ r → p.count ≡ s.lanes
-      → ¬ (file ≡ file_text front p.read.lines) → (line : ℕ) × (whole ≡ Err (Malformed part.Board line))
+      → ¬ (file ≡ file_text front p.read.lines)
+      → (line : ℕ) × (whole ≡ Err (Malformed part.Board line))
   unfolding ends_judged
   no_file_end (Ok over) is all none = absurd (none (file_over p over is))
   no_file_end (Err line) is all none = (
@@ -167,19 +183,23 @@ module _ (s : StatementValue) (is : IsStatement s) (front file challenge reply :
 
   challenge_is : (bits : Challenge) → IsOfChallenge challenge bits
       → (after : Rest) × (challenge_at (from_start challenge) ≡ Ok (bits, after))
-  challenge_is bits right = challenge_is_whole.found (from_start challenge) bits right.right right.text
+  challenge_is bits right = challenge_is_whole.found (from_start challenge) bits right.right
+      right.text
 
-  lane_given : (lane : ℕ) (reason : LaneFault) (fault : Fault) → LaneFails s front file challenge reply lane reason
+  lane_given : (lane : ℕ) (reason : LaneFault) (fault : Fault)
+      → LaneFails s front file challenge reply lane reason
       → lane_fault lane (Err reason) ≡ Err fault → all_judged ≡ Err fault
   lane_given lane reason fault fails same =
       let pass = fails.before in
-      let H : ℕ → Type 0 = λ n. HasLaneFault s.plan (case_of s n fails.next) (bit_of pass.challenge n) fails.shown reason in
+      let H : ℕ → Type 0 = λ n. HasLaneFault s.plan (case_of s n fails.next)
+      (bit_of pass.challenge n) fails.shown reason in
       let V : ℕ → Type 0 = λ n. lane_fault n (Err reason) ≡ Err fault in
       next_fails (passed is rest at pass) reason fault fails.next fails.shown
       (omega (arith, fails.is_next, fails.within)) fails.in_file fails.in_reply
       (subst H fails.is_next fails.has_fault) (subst V fails.is_next same)
 
-  file_stopped : FileStops s front file challenge reply → (line : ℕ) × (all_judged ≡ Err (Malformed part.Board line))
+  file_stopped : FileStops s front file challenge reply
+      → (line : ℕ) × (all_judged ≡ Err (Malformed part.Board line))
   file_stopped stops =
       let p = passed is rest at stops.before in
       elim (less_or_all stops.lanes s.lanes stops.before.within) [
@@ -194,7 +214,8 @@ module _ (s : StatementValue) (is : IsStatement s) (front file challenge reply :
       let found = file_stopped stops in
       let there = holds (Malformed part.Board found.0) found.1 in
       found.1 ∙ ap (λ l. Err (Malformed part.Board l))
-      (err_same {X = List LaneLines × Rest} found.0 line (sym (tells found.0 there.0) ∙ tells line fault))
+      (err_same {X = List LaneLines × Rest} found.0 line
+      (sym (tells found.0 there.0) ∙ tells line fault))
 
   challenge_given : (line : ℕ) → Holds (Malformed part.Challenge line)
       → all_judged ≡ Err (Malformed part.Challenge line)
@@ -205,7 +226,8 @@ module _ (s : StatementValue) (is : IsStatement s) (front file challenge reply :
 
   -- the numbers of lanes
   counted_by : (bits : Challenge) (replies : ℕ) (same : Bool) → counts s.lanes bits replies ≡ same
-      → ¬ ((length bits.bits ≡ s.lanes) × (replies ≡ s.lanes)) → counted s.lanes bits replies ≡ Err Lanes
+      → ¬ ((length bits.bits ≡ s.lanes) × (replies ≡ s.lanes))
+      → counted s.lanes bits replies ≡ Err Lanes
   counted_by bits replies false test differ = ap (λ (t : Bool). if t then Ok tt else Err Lanes) test
   counted_by bits replies true test differ =
       let both = and_parts (length bits.bits == s.lanes) (replies == s.lanes) test in
@@ -216,27 +238,36 @@ module _ (s : StatementValue) (is : IsStatement s) (front file challenge reply :
   lanes_given fails =
       let bits = challenge_is fails.challenge fails.is_challenge in
       let has = fails.has_count in
-      let count = replies.head_is_part.found (from_start reply) fails.replies has.begins.0 (has.count.least, has.count.most) has.begins.1 in
+      let count = replies.head_is_part.found (from_start reply) fails.replies has.begins.0
+      (has.count.least, has.count.most) has.begins.1 in
       let after : Rest = record { taken = count.0; left = has.begins.0 } in
-      read_found part.Challenge (challenge_at (from_start challenge)) (bits_then s rest (from_start reply))
+      read_found part.Challenge (challenge_at (from_start challenge))
+      (bits_then s rest (from_start reply))
       (fails.challenge, bits.0) bits.1
-      ∙ (read_found part.Reply (reply_head_at (from_start reply)) (reply_then s rest (fails.challenge, bits.0))
+      ∙ (read_found part.Reply (reply_head_at (from_start reply))
+      (reply_then s rest (fails.challenge, bits.0))
       (fails.replies, after) count.1
-      ∙ ap (λ r. r >>= λ (same : Unit {0}). lanes_then s rest (fails.challenge, bits.0) (fails.replies, after))
-      (counted_by fails.challenge fails.replies (counts s.lanes fails.challenge fails.replies) refl fails.differ))
+      ∙ ap (λ r. r >>= λ (same : Unit {0}). lanes_then s rest (fails.challenge, bits.0)
+      (fails.replies, after))
+      (counted_by fails.challenge fails.replies (counts s.lanes fails.challenge fails.replies) refl
+      fails.differ))
 
   -- ---- the reply
 
-  reply_stopped : ReplyStops s front file challenge reply → (line : ℕ) × (all_judged ≡ Err (Malformed part.Reply line))
+  reply_stopped : ReplyStops s front file challenge reply
+      → (line : ℕ) × (all_judged ≡ Err (Malformed part.Reply line))
   reply_stopped stops =
       let p = passed is rest at stops.before in
       elim (less_or_all stops.lanes s.lanes stops.before.within) [
-        | inl less ↦ let there = stops.lane less in no_next_shown p (shown_next p) refl less there.0.0 there.0.1 there.1
-        | inr all ↦ let there = stops.over all in no_reply_end p (end_at p.rests.1) refl all there.0 there.1
+        | inl less ↦ let there = stops.lane less in
+            no_next_shown p (shown_next p) refl less there.0.0 there.0.1 there.1
+        | inr all ↦ let there = stops.over all in
+            no_reply_end p (end_at p.rests.1) refl all there.0 there.1
       ]
 
   count_read : (r : Result (ℕ × Rest) ℕ) → reply_head_at (from_start reply) ≡ r
-      → ((lanes : ℕ) → ¬ HasCount reply lanes) → (line : ℕ) × (reply_head_at (from_start reply) ≡ Err line)
+      → ((lanes : ℕ) → ¬ HasCount reply lanes)
+      → (line : ℕ) × (reply_head_at (from_start reply) ≡ Err line)
   count_read (Ok count) read none = absurd (none count.0 (has_count reply count.0 count.1 read))
   count_read (Err line) read none = (line, read)
 
@@ -248,9 +279,11 @@ module _ (s : StatementValue) (is : IsStatement s) (front file challenge reply :
         let bits = challenge_is fails.challenge fails.is_challenge in
         let stop = count_read (reply_head_at (from_start reply)) refl none in (
           stop.0,
-          read_found part.Challenge (challenge_at (from_start challenge)) (bits_then s rest (from_start reply))
+          read_found part.Challenge (challenge_at (from_start challenge))
+              (bits_then s rest (from_start reply))
               (fails.challenge, bits.0) bits.1
-              ∙ ap (λ r. in_part part.Reply r >>= reply_then s rest (fails.challenge, bits.0)) stop.1,
+              ∙ ap (λ r. in_part part.Reply r >>= reply_then s rest (fails.challenge, bits.0))
+              stop.1,
         )
     | inr stops ↦ reply_stopped stops
   ]
@@ -261,11 +294,14 @@ module _ (s : StatementValue) (is : IsStatement s) (front file challenge reply :
       let bits = challenge_is fails.challenge fails.is_challenge in
       let other_bits = challenge_is there.challenge there.is_challenge in
       let same : fails.challenge ≡ there.challenge = ap (λ p. p.0)
-      (value_same (fails.challenge, bits.0) (there.challenge, other_bits.0) (sym bits.1 ∙ other_bits.1)) in
+      (value_same (fails.challenge, bits.0) (there.challenge, other_bits.0)
+      (sym bits.1 ∙ other_bits.1)) in
       same_Some line other (sym fails.fault
-      ∙ (ap (λ (c : Challenge). fault_line (reply_table s.plan.kinds (bit_of c)) reply) same ∙ there.fault))
+      ∙ (ap (λ (c : Challenge). fault_line (reply_table s.plan.kinds (bit_of c)) reply) same
+      ∙ there.fault))
 
-  reply_given : (line : ℕ) → ReplyFails s front file challenge reply line → all_judged ≡ Err (Malformed part.Reply line)
+  reply_given : (line : ℕ) → ReplyFails s front file challenge reply line
+      → all_judged ≡ Err (Malformed part.Reply line)
   reply_given line fails =
       let found = reply_fault_there line fails in
       found.1 ∙ ap (λ l. Err (Malformed part.Reply l))
@@ -278,7 +314,8 @@ module _ (s : StatementValue) (is : IsStatement s) (front file challenge reply :
   fault_given (Malformed part.SecondChallenge line) says = absurd says
   fault_given (Malformed part.SecondReply line) says = absurd says
   fault_given Lanes says = lanes_given says
-  fault_given (Wire lane wire fault) says = lane_given lane (faults.Wire wire fault) (Wire lane wire fault) says refl
+  fault_given (Wire lane wire fault) says =
+      lane_given lane (faults.Wire wire fault) (Wire lane wire fault) says refl
   fault_given (Row lane row) says = lane_given lane (faults.Row row) (Row lane row) says refl
 
 pub behind_is_exact : BehindIsExact
@@ -287,6 +324,7 @@ behind_is_exact s is front file challenge reply rest at =
       accepted_behind s is front file challenge reply rest at,
       λ fault. (
         λ stop. fault_holds s is front file challenge reply rest at Line (λ line is. is) fault stop,
-        λ says. fault_given s is front file challenge reply rest at Line (λ line is. is) (λ line is. is) fault says,
+        λ says. fault_given s is front file challenge reply rest at Line (λ line is. is)
+            (λ line is. is) fault says,
       ),
     )

@@ -11,8 +11,10 @@ use Rattle.vk_vickrey.specs.ReservePlans.{IsReserveCase, IsSoldCase, IsSaleCase}
 use Rattle.vk_vickrey.specs.BoardPlans.{IsBoardCase, IsFirstCase}
 use Rattle.vk_verifier.specs.Verdicts.{numbers_in}
 
-sold_case : (head : Head) (seals : List SealLines) (seat position : ℕ) → AreSeals head seals → SoldPriceStands head
-    → HasPlace seals seat position → IsSoldCase head.seals head.width head.reserve position head.price
+sold_case : (head : Head) (seals : List SealLines) (seat position : ℕ) → AreSeals head seals
+    → SoldPriceStands head
+    → HasPlace seals seat position
+    → IsSoldCase head.seals head.width head.reserve position head.price
 sold_case head seals seat position are price place = record {
   some_position = place.some;
   within_seals = omega (arith, place.within, are.count);
@@ -21,27 +23,33 @@ sold_case head seals seat position are price place = record {
   alone = price.alone;
 }
 
-sale_case : (head : Head) (seals : List SealLines) (winner position : Option ℕ) → AreSeals head seals
+sale_case : (head : Head) (seals : List SealLines) (winner position : Option ℕ)
+    → AreSeals head seals
     → PriceStandsFor head winner → IsPlaced seals winner position
     → IsSaleCase head.seals head.width head.reserve (sale_at position head.price)
-sale_case head seals (Some seat) (Some position) are price place = sold_case head seals seat position are price place
+sale_case head seals (Some seat) (Some position) are price place =
+    sold_case head seals seat position are price place
 sale_case head seals (Some seat) None are price place = absurd place
 sale_case head seals None (Some position) are price place = absurd place
 sale_case head seals None None are price place = omega (arith, price.some_reserve)
 
 reserve_case : (front : Front) → IsFront front
-    → IsReserveCase front.head.seals front.head.width front.head.reserve (sale_at front.position front.head.price)
+    → IsReserveCase front.head.seals front.head.width front.head.reserve
+    (sale_at front.position front.head.price)
 reserve_case front is = record {
   some_seals = is.head.some_seal;
   most_seals = is.head.few_seals;
   wide = is.head.size.width;
   reserve_within_width = is.price.reserve_within_width;
-  sale_case = sale_case front.head front.seals front.head.winner front.position is.seals is.price.price is.winner;
+  sale_case = sale_case front.head front.seals front.head.winner front.position is.seals
+      is.price.price is.winner;
 }
 
 -- version 1 has the reserve 0, and a winner
-first_case : (head : Head) (seals : List SealLines) (winner position : Option ℕ) → IsHead head → AreSeals head seals
-    → IsWinner head.version winner → PriceStandsFor head winner → IsPlaced seals winner position → head.version ≡ 1
+first_case : (head : Head) (seals : List SealLines) (winner position : Option ℕ) → IsHead head
+    → AreSeals head seals
+    → IsWinner head.version winner → PriceStandsFor head winner → IsPlaced seals winner position
+    → head.version ≡ 1
     → IsFirstCase head.seals head.width head.reserve (sale_at position head.price)
 first_case head seals (Some seat) (Some position) right are is_winner price place one =
     let none : head.reserve ≡ 0 = right.reserve.unnamed (omega (arith, one)) in
@@ -59,13 +67,18 @@ first_case head seals (Some seat) (Some position) right are is_winner price plac
     )
 first_case head seals (Some seat) None right are is_winner price place one = absurd place
 first_case head seals None (Some position) right are is_winner price place one = absurd place
-first_case head seals None None right are is_winner price place one = absurd (omega (arith, one, is_winner))
+first_case head seals None None right are is_winner price place one =
+    absurd (omega (arith, one, is_winner))
 
 pub front_case : (front : Front) → IsFront front → IsBoardCase (numbers_in front)
 front_case front is = elim (cases_eq front.head.version 1) [
   | inl one ↦ inl (
     one,
-    first_case front.head front.seals front.head.winner front.position is.head is.seals is.head.winner is.price.price is.winner one,
+    first_case front.head front.seals front.head.winner front.position is.head is.seals
+        is.head.winner is.price.price is.winner one,
   )
-  | inr not_one ↦ inr (omega (arith, not_one, is.head.version.least, is.head.version.most), reserve_case front is)
+  | inr not_one ↦ inr (
+    omega (arith, not_one, is.head.version.least, is.head.version.most),
+    reserve_case front is,
+  )
 ]

@@ -29,7 +29,8 @@ three_parts : (lines : Result (LaneLines × Rest) Fault) (shown : Result (List S
     (case : LaneLines → LaneCase) (check : LaneCase → List Shown → Result (Unit {0}) Fault)
     → ◌≡◌ {A = Result (Rest × Rest) Fault}
     (lines >>= λ x. shown >>= λ y. check (case x.0) y.0 >>= λ _. pair x.1 y.1)
-    ((lines >>= λ x. pair (case x.0) x.1) >>= λ c. (shown >>= λ y. check c.0 y.0 >>= λ _. pair y.0 y.1) >>= λ s. pair c.1 s.1)
+    ((lines >>= λ x. pair (case x.0) x.1) >>= λ c.
+    (shown >>= λ y. check c.0 y.0 >>= λ _. pair y.0 y.1) >>= λ s. pair c.1 s.1)
 three_parts (Err fault) shown case check = refl
 three_parts (Ok x) (Err fault) case check = refl
 three_parts (Ok x) (Ok y) case check = last_part (check (case x.0) y.0) y.0 x.1 y.1
@@ -37,10 +38,13 @@ three_parts (Ok x) (Ok y) case check = last_part (check (case x.0) y.0) y.0 x.1 
 -- a lane is read, and then what is shown of it is read and checked
 pub lane_parts : (s : StatementValue) (number : ℕ) (bit : Bool) (board reply : Rest)
     → lane_judged s number bit board reply
-    ≡ (case_at s number board >>= λ c. reply_judged s.plan c.0 number bit reply >>= λ shown. Ok (c.1, shown.1))
+    ≡ (case_at s number board >>= λ c. reply_judged s.plan c.0 number bit reply >>= λ shown.
+    Ok (c.1, shown.1))
 unfolding lane_judged case_at reply_judged
 lane_parts s number bit board reply =
-    three_parts (in_part part.Board (lane_at number (later_wires s.plan) (length s.plan.rows) board)) (in_part part.Reply (reply_lane_at number s.plan.kinds bit reply))
+    three_parts (in_part part.Board
+    (lane_at number (later_wires s.plan) (length s.plan.rows) board))
+    (in_part part.Reply (reply_lane_at number s.plan.kinds bit reply))
     (case_of s number) (λ case shown. lane_fault number (checked_lane s.plan case bit shown))
 
 -- the tests before the first lane, bracketed otherwise
@@ -49,21 +53,31 @@ counted_parts : {X Y : Type 0} (same : Result (Unit {0}) Fault) (x : X) (f : X �
 counted_parts (Ok tt) x f = refl
 counted_parts (Err fault) x f = refl
 
-attempt_parts : (lanes : ℕ) (challenge reply : Rest) (rest : List Bool → Rest → Result (Unit {0}) Fault)
-    → (in_part part.Challenge (challenge_at challenge) >>= λ bits. in_part part.Reply (reply_head_at reply) >>= λ replies. counted lanes bits.0 replies.0 >>= λ _. rest bits.0.bits replies.1)
+attempt_parts : (lanes : ℕ) (challenge reply : Rest)
+    (rest : List Bool → Rest → Result (Unit {0}) Fault)
+    → (in_part part.Challenge (challenge_at challenge) >>= λ bits.
+    in_part part.Reply (reply_head_at reply) >>= λ replies. counted lanes bits.0 replies.0 >>= λ _.
+    rest bits.0.bits replies.1)
     ≡ (attempt_at lanes challenge reply >>= λ a. rest a.0 a.1)
 unfolding attempt_at
-attempt_parts lanes challenge reply rest = by_two (in_part part.Challenge (challenge_at challenge)) (in_part part.Reply (reply_head_at reply))
+attempt_parts lanes challenge reply rest =
+    by_two (in_part part.Challenge (challenge_at challenge))
+    (in_part part.Reply (reply_head_at reply))
   where
     by_two : (c : Result (Challenge × Rest) Fault) (r : Result (ℕ × Rest) Fault)
-        → (c >>= λ bits. r >>= λ replies. counted lanes bits.0 replies.0 >>= λ _. rest bits.0.bits replies.1)
-        ≡ ((c >>= λ bits. r >>= λ replies. counted lanes bits.0 replies.0 >>= λ _. pair bits.0.bits replies.1) >>= λ a. rest a.0 a.1)
+        → (c >>= λ bits. r >>= λ replies. counted lanes bits.0 replies.0 >>= λ _.
+        rest bits.0.bits replies.1)
+        ≡ ((c >>= λ bits. r >>= λ replies. counted lanes bits.0 replies.0 >>= λ _.
+        pair bits.0.bits replies.1) >>= λ a. rest a.0 a.1)
     by_two (Err fault) r = refl
     by_two (Ok bits) (Err fault) = refl
-    by_two (Ok bits) (Ok replies) = counted_parts (counted lanes bits.0 replies.0) (bits.0.bits, replies.1) (λ a. rest a.0 a.1)
+    by_two (Ok bits) (Ok replies) =
+        counted_parts (counted lanes bits.0 replies.0) (bits.0.bits, replies.1) (λ a. rest a.0 a.1)
 
 -- all tests behind a front
 pub behind_parts : (s : StatementValue) (board challenge reply : Rest)
     → behind_judged s board challenge reply ≡ behind_in_parts s board challenge reply
 unfolding behind_judged behind_in_parts rest_judged
-behind_parts s board challenge reply = attempt_parts s.lanes challenge reply (λ bits rest. lanes_judged s 1 bits board rest >>= λ rests. ends_judged rests.0 rests.1)
+behind_parts s board challenge reply =
+    attempt_parts s.lanes challenge reply
+    (λ bits rest. lanes_judged s 1 bits board rest >>= λ rests. ends_judged rests.0 rests.1)

@@ -16,10 +16,12 @@ use Rattle.vk_verifier.specs.Acceptance.{head_numbers, shape_of}
 use Rattle.vk_verifier.proofs.Fronts.{front_case}
 
 is_plan : (front : Front) → IsFront front → IsPlan (plan_of front)
-is_plan front is = of_plans (λ n. IsPlan (board_plan n)) board_is_plan (numbers_in front) (front_case front is)
+is_plan front is = of_plans (λ n. IsPlan (board_plan n)) board_is_plan (numbers_in front)
+    (front_case front is)
 
 inputs_are : (front : Front) → IsFront front → (plan_of front).inputs ≡ front.head.seals
-inputs_are front is = of_plans (λ n. (board_plan n).inputs ≡ n.seals) board_inputs (numbers_in front) (front_case front is)
+inputs_are front is = of_plans (λ n. (board_plan n).inputs ≡ n.seals) board_inputs
+    (numbers_in front) (front_case front is)
 
 -- what the lanes of a board are to show
 pub statement_right : (front : Front) → IsFront front → IsStatement (statement_of front)
@@ -32,7 +34,8 @@ statement_right front is = record {
 }
 
 -- a count that is the same at each place is told by the seat
-by_seat : (count : Sale → ℕ) (price : ℕ) (seals : List SealLines) (winner position : Option ℕ) → IsPlaced seals winner position
+by_seat : (count : Sale → ℕ) (price : ℕ) (seals : List SealLines) (winner position : Option ℕ)
+    → IsPlaced seals winner position
     → ((place other : ℕ) → count (Sold place price) ≡ count (Sold other price))
     → count (sale_at position price) ≡ count (sale_at winner price)
 by_seat count price seals (Some seat) (Some position) placed same = same position seat
@@ -40,20 +43,27 @@ by_seat count price seals (Some seat) None placed same = absurd placed
 by_seat count price seals None (Some position) placed same = absurd placed
 by_seat count price seals None None placed same = refl
 
-all_wires : (front : Front) → IsFront front → length (plan_of front).kinds ≡ board_wire_count (head_numbers front.head)
+all_wires : (front : Front) → IsFront front
+    → length (plan_of front).kinds ≡ board_wire_count (head_numbers front.head)
 all_wires front is =
-    of_plans (λ n. length (board_plan n).kinds ≡ board_wire_count n) board_wires (numbers_in front) (front_case front is)
-    ∙ by_seat (λ sale. board_wire_count (board_numbers front.head.version front.head.seals front.head.width front.head.reserve sale))
+    of_plans (λ n. length (board_plan n).kinds ≡ board_wire_count n) board_wires (numbers_in front)
+    (front_case front is)
+    ∙ by_seat (λ sale. board_wire_count
+    (board_numbers front.head.version front.head.seals front.head.width front.head.reserve sale))
     front.head.price front.seals front.head.winner front.position is.winner (λ place other. refl)
 
 -- the shape of its lanes
-pub wires_are : (front : Front) → IsFront front → later_wires (plan_of front) ≡ (shape_of front.head).wires
+pub wires_are : (front : Front) → IsFront front
+    → later_wires (plan_of front) ≡ (shape_of front.head).wires
 wires_are front is =
     ap (λ n. n - (plan_of front).inputs) (all_wires front is)
     ∙ ap (λ n. board_wire_count (head_numbers front.head) - n) (inputs_are front is)
 
-pub rows_are : (front : Front) → IsFront front → length (plan_of front).rows ≡ (shape_of front.head).rows
+pub rows_are : (front : Front) → IsFront front
+    → length (plan_of front).rows ≡ (shape_of front.head).rows
 rows_are front is =
-    of_plans (λ n. length (board_plan n).rows ≡ board_row_count n) board_rows (numbers_in front) (front_case front is)
-    ∙ by_seat (λ sale. board_row_count (board_numbers front.head.version front.head.seals front.head.width front.head.reserve sale))
+    of_plans (λ n. length (board_plan n).rows ≡ board_row_count n) board_rows (numbers_in front)
+    (front_case front is)
+    ∙ by_seat (λ sale. board_row_count
+    (board_numbers front.head.version front.head.seals front.head.width front.head.reserve sale))
     front.head.price front.seals front.head.winner front.position is.winner (λ place other. refl)

@@ -11,7 +11,8 @@ pub bind_ok : {A B E : Type 0} (r : Result A E) (f : A → Result B E) (y : B) �
 bind_ok (Ok x) f y h = (x, refl, h)
 bind_ok (Err e) f y h = cc
 
-pub bind_found : {A B E : Type 0} (r : Result A E) (f : A → Result B E) (x : A) → r ≡ Ok x → (r >>= f) ≡ f x
+pub bind_found : {A B E : Type 0} (r : Result A E) (f : A → Result B E) (x : A) → r ≡ Ok x
+    → (r >>= f) ≡ f x
 bind_found r f x found = ap (λ q. q >>= f) found
 
 pub value_same : {A E : Type 0} (x y : A) → ◌≡◌ {A = Result A E} (Ok x) (Ok y) → x ≡ y
@@ -21,7 +22,8 @@ value_same x y same = cc
 pub bind_never : {A B E : Type 0} (r : Result A E) (f : A → Result B E) (fault : E) → r ≢ Err fault
     → ((x : A) → f x ≢ Err fault) → (r >>= f) ≢ Err fault
 bind_never (Ok x) f fault first later e = later x e
-bind_never (Err other) f fault first later e = let same : other ≡ fault = cc in first (ap (λ z. Err z) same)
+bind_never (Err other) f fault first later e = let same : other ≡ fault = cc in
+    first (ap (λ z. Err z) same)
 
 part_ok : {X : Type 0} (file : Part) (r : Result X ℕ) (x : X) → in_part file r ≡ Ok x → r ≡ Ok x
 part_ok file (Ok y) x h = ap (λ z. Ok z) (value_same y x h)
@@ -34,13 +36,15 @@ read_ok file r f y h =
     let step = bind_ok (in_part file r) f y h in
     (step.0, part_ok file r step.0 step.1, step.2)
 
-pub read_found : {X Y : Type 0} (file : Part) (r : Result X ℕ) (f : X → Result Y Fault) (x : X) → r ≡ Ok x
+pub read_found : {X Y : Type 0} (file : Part) (r : Result X ℕ) (f : X → Result Y Fault) (x : X)
+    → r ≡ Ok x
     → (in_part file r >>= f) ≡ f x
 read_found file r f x found = ap (λ q. in_part file q >>= f) found
 
 -- ---- where a test fails
 
-pub bind_err : {A B E : Type 0} (r : Result A E) (f : A → Result B E) (fault : E) → (r >>= f) ≡ Err fault
+pub bind_err : {A B E : Type 0} (r : Result A E) (f : A → Result B E) (fault : E)
+    → (r >>= f) ≡ Err fault
     → (r ≡ Err fault) ⊎ ((x : A) × (r ≡ Ok x) × (f x ≡ Err fault))
 bind_err (Ok x) f fault h = inr (x, refl, h)
 bind_err (Err other) f fault h = let same : other ≡ fault = cc in inl (ap (λ z. Err z) same)
@@ -56,7 +60,8 @@ part_err : {X : Type 0} (file : Part) (r : Result X ℕ) (fault : Fault) → in_
 part_err file (Ok x) fault h = cc
 part_err file (Err line) fault h = record { line = line; stop = refl; is = cc }
 
-pub read_err : {X Y : Type 0} (file : Part) (r : Result X ℕ) (f : X → Result Y Fault) (fault : Fault)
+pub read_err : {X Y : Type 0} (file : Part) (r : Result X ℕ) (f : X → Result Y Fault)
+    (fault : Fault)
     → (in_part file r >>= f) ≡ Err fault
     → Unread file r fault ⊎ ((x : X) × (r ≡ Ok x) × (f x ≡ Err fault))
 read_err file r f fault h = elim (bind_err (in_part file r) f fault h) [

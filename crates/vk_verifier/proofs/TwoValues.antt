@@ -48,29 +48,52 @@ case_found : (s : StatementValue) (number : ℕ) (board : Rest) (lines : LaneLin
     → case_at s number board ≡ Ok (case_of s number lines, next)
 unfolding case_at
 case_found s number board lines next read =
-    read_found part.Board (lane_at number (later_wires s.plan) (length s.plan.rows) board) (λ lines. Ok (case_of s number lines.0, lines.1)) (lines, next) read
+    read_found part.Board (lane_at number (later_wires s.plan) (length s.plan.rows) board)
+    (λ lines. Ok (case_of s number lines.0, lines.1)) (lines, next) read
 
-reply_found : (plan : PlanValue) (case : LaneCase) (number : ℕ) (bit : Bool) (reply : Rest) (shown : List Shown)
+reply_found : (plan : PlanValue) (case : LaneCase) (number : ℕ) (bit : Bool) (reply : Rest)
+    (shown : List Shown)
     (next : Rest) (halves : List ℕ)
-    → reply_lane_at number plan.kinds bit reply ≡ Ok (shown, next) → checked_lane plan case bit shown ≡ Ok halves
+    → reply_lane_at number plan.kinds bit reply ≡ Ok (shown, next)
+    → checked_lane plan case bit shown ≡ Ok halves
     → reply_judged plan case number bit reply ≡ Ok (shown, next)
 unfolding reply_judged
 reply_found plan case number bit reply shown next halves read checked =
-    read_found part.Reply (reply_lane_at number plan.kinds bit reply) (λ shown. lane_fault number (checked_lane plan case bit shown.0) >>= λ done. Ok (shown.0, shown.1)) (shown, next) read
+    read_found part.Reply (reply_lane_at number plan.kinds bit reply)
+    (λ shown. lane_fault number (checked_lane plan case bit shown.0) >>= λ done.
+    Ok (shown.0, shown.1)) (shown, next) read
     ∙ ap (λ c. lane_fault number c >>= λ done. Ok (shown, next)) checked
 
-lane_given : (s : StatementValue) (number : ℕ) (first_bit second_bit : Bool) (later : List Bool) (rests : Rests)
+lane_given : (s : StatementValue) (number : ℕ) (first_bit second_bit : Bool) (later : List Bool)
+    (rests : Rests)
     (case : LaneCase × Rest) (first second : List Shown × Rest)
-    → case_at s number rests.board ≡ Ok case → reply_judged s.plan case.0 number first_bit rests.first ≡ Ok first
+    → case_at s number rests.board ≡ Ok case
+    → reply_judged s.plan case.0 number first_bit rests.first ≡ Ok first
     → reply_judged s.plan case.0 number second_bit rests.second ≡ Ok second
     → two_lane_at s number first_bit second_bit later rests
-    ≡ Ok (record { case = case.0; first_bit = first_bit; first = first.0; second_bit = second_bit; second = second.0 }, record { board = case.1; first = first.1; second = second.1 })
+    ≡ Ok (
+      record {
+        case = case.0;
+        first_bit = first_bit;
+        first = first.0;
+        second_bit = second_bit;
+        second = second.0;
+      },
+      record { board = case.1; first = first.1; second = second.1 },
+    )
 unfolding two_lane_at
 lane_given s number first_bit second_bit later rests case first second case_is first_is second_is =
     ap (λ r. of_first r >>= both_shown s number first_bit second_bit later rests) case_is
     ∙ (ap (λ r. of_first r >>= second_shown s number first_bit second_bit later rests case) first_is
-    ∙ ap (λ r. of_second (rest_judged s (number + 1) later case.1 first.1) r >>= λ (t : List Shown × Rest). Ok (
-      record { case = case.0; first_bit = first_bit; first = first.0; second_bit = second_bit; second = t.0 },
+    ∙ ap (λ r. of_second (rest_judged s (number + 1) later case.1 first.1) r >>=
+    λ (t : List Shown × Rest). Ok (
+      record {
+        case = case.0;
+        first_bit = first_bit;
+        first = first.0;
+        second_bit = second_bit;
+        second = t.0;
+      },
       record { board = case.1; first = first.1; second = t.1 },
     )) second_is)
 
@@ -93,7 +116,8 @@ module _ (s : StatementValue) (first_of second_of : ℕ → Bool) (lines : List 
     second : (index : ℕ) → index < total → IsChecked s second_of lines others index
 
   -- so many lanes after these are read, of the board and of both replies
-  record AreRead (before : List LaneLines) (earlier last : List (List Shown)) (count : ℕ) (rests ends : Rests) : Type 0 where
+  record AreRead (before : List LaneLines) (earlier last : List (List Shown)) (count : ℕ)
+      (rests ends : Rests) : Type 0 where
     first_same : length earlier ≡ length before
     second_same : length last ≡ length before
     board : many_onto before count (next_lines s) rests.board ≡ Ok (lines, ends.board)
@@ -103,37 +127,52 @@ module _ (s : StatementValue) (first_of second_of : ℕ → Bool) (lines : List 
   -- after so many lanes these are given, and that is found
   record AreGiven (before count : ℕ) (finding : Finding Fault) (ahead : Ahead Fault) : Type 0 where
     one_each : length ahead.lanes ≡ count
-    each : (index : ℕ) (lane : TwoLane) → slice_get ahead.lanes index ≡ Some lane → lane ≡ lane_with (before + index + 1) (before + index)
+    each : (index : ℕ) (lane : TwoLane) → slice_get ahead.lanes index ≡ Some lane
+        → lane ≡ lane_with (before + index + 1) (before + index)
     found : ahead.finding ≡ finding
 
   -- what the next lane gives, and what is read after it
-  record NextRead (before : List LaneLines) (earlier last : List (List Shown)) (count : ℕ) (later : List Bool) (rests ends : Rests) : Type 0 where
+  record NextRead (before : List LaneLines) (earlier last : List (List Shown)) (count : ℕ)
+      (later : List Bool) (rests ends : Rests) : Type 0 where
     line : LaneLines
     show : List Shown
     other : List Shown
     next : Rests
-    given : two_lane_at s (length before + 1) (first_of (length before + 1)) (second_of (length before + 1)) later rests ≡ Ok (lane_with (length before + 1) (length before), next)
-    after : AreRead (before ++ line ∷ []) (earlier ++ show ∷ []) (last ++ other ∷ []) count next ends
+    given : two_lane_at s (length before + 1) (first_of (length before + 1))
+        (second_of (length before + 1)) later rests
+        ≡ Ok (lane_with (length before + 1) (length before), next)
+    after : AreRead (before ++ line ∷ []) (earlier ++ show ∷ []) (last ++ other ∷ []) count next
+        ends
 
   more : {X Y : Type 0} (xs : List X) (ys : List Y) (x : X) (y : Y) → length xs ≡ length ys
       → length (xs ++ x ∷ []) ≡ length (ys ++ y ∷ [])
-  more xs ys x y same = length-append xs (x ∷ []) ∙ ap (λ n. n + 1) same ∙ sym (length-append ys (y ∷ []))
+  more xs ys x y same = length-append xs (x ∷ []) ∙ ap (λ n. n + 1) same
+      ∙ sym (length-append ys (y ∷ []))
 
-  next_read : (total : ℕ) (before : List LaneLines) (earlier last : List (List Shown)) (count : ℕ) (later : List Bool)
+  next_read : (total : ℕ) (before : List LaneLines) (earlier last : List (List Shown)) (count : ℕ)
+      (later : List Bool)
       (rests ends : Rests)
-      → AreChecked total → length before < total → AreRead before earlier last (suc count) rests ends
+      → AreChecked total → length before < total
+      → AreRead before earlier last (suc count) rests ends
       → NextRead before earlier last count later rests ends
   next_read total before earlier last count later rests ends checked within are =
       let index : ℕ = length before in
       let number : ℕ = length before + 1 in
       let line = many_first (next_lines s) before count rests.board lines ends.board are.board in
-      let show = many_first (next_shown s first_of) earlier count rests.first shown ends.first are.first in
-      let other = many_first (next_shown s second_of) last count rests.second others ends.second are.second in
-      let line_at : slice_index_or lines index no_lines ≡ line.0 = many_keeps (next_lines s) before line.0 count line.1 lines ends.board no_lines line.3 in
+      let show = many_first (next_shown s first_of) earlier count rests.first shown ends.first
+      are.first in
+      let other = many_first (next_shown s second_of) last count rests.second others ends.second
+      are.second in
+      let line_at : slice_index_or lines index no_lines ≡ line.0 =
+      many_keeps (next_lines s) before line.0 count line.1 lines ends.board no_lines line.3 in
       let show_at : slice_index_or shown index [] ≡ show.0 =
-      ap (λ i. slice_index_or shown i []) (sym are.first_same) ∙ many_keeps (next_shown s first_of) earlier show.0 count show.1 shown ends.first [] show.3 in
+      ap (λ i. slice_index_or shown i []) (sym are.first_same)
+      ∙ many_keeps (next_shown s first_of) earlier show.0 count show.1 shown ends.first []
+      show.3 in
       let other_at : slice_index_or others index [] ≡ other.0 =
-      ap (λ i. slice_index_or others i []) (sym are.second_same) ∙ many_keeps (next_shown s second_of) last other.0 count other.1 others ends.second [] other.3 in
+      ap (λ i. slice_index_or others i []) (sym are.second_same)
+      ∙ many_keeps (next_shown s second_of) last other.0 count other.1 others ends.second []
+      other.3 in
       let first = checked.first index within in
       let second = checked.second index within in
       let case : LaneCase = case_of s number (slice_index_or lines index no_lines) in
@@ -142,12 +181,19 @@ module _ (s : StatementValue) (first_of second_of : ℕ → Bool) (lines : List 
         show = show.0;
         other = other.0;
         next = record { board = line.1; first = show.1; second = other.1 };
-        given = lane_given s number (first_of number) (second_of number) later rests (case, line.1) (slice_index_or shown index [], show.1) (slice_index_or others index [], other.1)
-            (case_found s number rests.board (slice_index_or lines index no_lines) line.1 (line.2 ∙ ap (λ l. Ok (l, line.1)) (sym line_at)))
-            (reply_found s.plan case number (first_of number) rests.first (slice_index_or shown index []) show.1 first.0
-            (ap (λ n. reply_lane_at (n + 1) s.plan.kinds (first_of (n + 1)) rests.first) (sym are.first_same) ∙ show.2 ∙ ap (λ s. Ok (s, show.1)) (sym show_at)) first.1)
-            (reply_found s.plan case number (second_of number) rests.second (slice_index_or others index []) other.1 second.0
-            (ap (λ n. reply_lane_at (n + 1) s.plan.kinds (second_of (n + 1)) rests.second) (sym are.second_same) ∙ other.2 ∙ ap (λ s. Ok (s, other.1)) (sym other_at)) second.1);
+        given = lane_given s number (first_of number) (second_of number) later rests (case, line.1)
+            (slice_index_or shown index [], show.1) (slice_index_or others index [], other.1)
+            (case_found s number rests.board (slice_index_or lines index no_lines) line.1
+            (line.2 ∙ ap (λ l. Ok (l, line.1)) (sym line_at)))
+            (reply_found s.plan case number (first_of number) rests.first
+            (slice_index_or shown index []) show.1 first.0
+            (ap (λ n. reply_lane_at (n + 1) s.plan.kinds (first_of (n + 1)) rests.first)
+            (sym are.first_same) ∙ show.2 ∙ ap (λ s. Ok (s, show.1)) (sym show_at)) first.1)
+            (reply_found s.plan case number (second_of number) rests.second
+            (slice_index_or others index []) other.1 second.0
+            (ap (λ n. reply_lane_at (n + 1) s.plan.kinds (second_of (n + 1)) rests.second)
+            (sym are.second_same) ∙ other.2 ∙ ap (λ s. Ok (s, other.1)) (sym other_at))
+            second.1);
         after = record {
           first_same = more earlier before show.0 line.0 are.first_same;
           second_same = more last before other.0 line.0 are.second_same;
@@ -158,8 +204,10 @@ module _ (s : StatementValue) (first_of second_of : ℕ → Bool) (lines : List 
       }
 
   each_next : (before : ℕ) (ahead : Ahead Fault)
-      → ((index : ℕ) (lane : TwoLane) → slice_get ahead.lanes index ≡ Some lane → lane ≡ lane_with (before + 1 + index + 1) (before + 1 + index))
-      → (index : ℕ) (lane : TwoLane) → slice_get (lane_with (before + 1) before ∷ ahead.lanes) index ≡ Some lane
+      → ((index : ℕ) (lane : TwoLane) → slice_get ahead.lanes index ≡ Some lane
+      → lane ≡ lane_with (before + 1 + index + 1) (before + 1 + index))
+      → (index : ℕ) (lane : TwoLane) → slice_get (lane_with (before + 1) before ∷ ahead.lanes) index
+      ≡ Some lane
       → lane ≡ lane_with (before + index + 1) (before + index)
   each_next before ahead later zero lane is =
       let here : before ≡ before + zero = omega arith in
@@ -178,79 +226,112 @@ module _ (s : StatementValue) (first_of second_of : ℕ → Bool) (lines : List 
     found = later.found;
   }
 
-  rests_same : (rests ends : Rests) → rests.board ≡ ends.board → rests.first ≡ ends.first → rests.second ≡ ends.second
+  rests_same : (rests ends : Rests) → rests.board ≡ ends.board → rests.first ≡ ends.first
+      → rests.second ≡ ends.second
       → rests ≡ ends
   rests_same rests ends board first second =
       let R : Rest → Rest → Rest → Rests = λ b f s. record { board = b; first = f; second = s } in
-      ap (λ b. R b rests.first rests.second) board ∙ (ap (λ f. R ends.board f rests.second) first ∙ ap (λ s. R ends.board ends.first s) second)
+      ap (λ b. R b rests.first rests.second) board
+      ∙ (ap (λ f. R ends.board f rests.second) first
+      ∙ ap (λ s. R ends.board ends.first s) second)
 
-  bit_is : (bit_of : ℕ → Bool) (before : ℕ) (bit : Bool) (bits : List Bool) → AreBits bit_of before (bit ∷ bits)
+  bit_is : (bit_of : ℕ → Bool) (before : ℕ) (bit : Bool) (bits : List Bool)
+      → AreBits bit_of before (bit ∷ bits)
       → bit ≡ bit_of (before + 1)
   bit_is bit_of before bit bits are =
       let here : before + zero + 1 ≡ before + 1 = omega arith in
       sym (are zero (omega arith)) ∙ ap bit_of here
 
-  bits_after : (bit_of : ℕ → Bool) (before : ℕ) (bit : Bool) (bits : List Bool) → AreBits bit_of before (bit ∷ bits)
+  bits_after : (bit_of : ℕ → Bool) (before : ℕ) (bit : Bool) (bits : List Bool)
+      → AreBits bit_of before (bit ∷ bits)
       → AreBits bit_of (before + 1) bits
   bits_after bit_of before bit bits are = λ index within.
       let here : before + 1 + index + 1 ≡ before + suc index + 1 = omega arith in
       ap bit_of here ∙ are (suc index) (omega (arith, within))
 
-  given_from : (finding : Finding Fault) (total : ℕ) (before : List LaneLines) (earlier last : List (List Shown))
+  given_from : (finding : Finding Fault) (total : ℕ) (before : List LaneLines)
+      (earlier last : List (List Shown))
       (bits second_bits : List Bool) (rests ends : Rests)
       → AreChecked total → length before + length bits ≡ total → length second_bits ≡ length bits
       → AreBits first_of (length before) bits → AreBits second_of (length before) second_bits
       → ends_found finding ends ≡ finding → AreRead before earlier last (length bits) rests ends
-      → AreGiven (length before) (length bits) finding (ahead_from s finding (length before + 1) bits second_bits rests)
+      → AreGiven (length before) (length bits) finding
+      (ahead_from s finding (length before + 1) bits second_bits rests)
   unfolding ahead_from
-  given_from finding total before earlier last [] [] rests ends checked count same first second over are =
+  given_from finding total before earlier last [] [] rests ends checked count same first second over
+      are =
       let board = many_last (next_lines s) before rests.board lines ends.board are.board in
       let one = many_last (next_shown s first_of) earlier rests.first shown ends.first are.first in
-      let other = many_last (next_shown s second_of) last rests.second others ends.second are.second in
+      let other = many_last (next_shown s second_of) last rests.second others ends.second are.second
+      in
       record {
         one_each = refl;
         each = λ index lane is. cc;
         found = ap (ends_found finding) (rests_same rests ends board one other) ∙ over;
       }
-  given_from finding total before earlier last [] (other ∷ second_bits) rests ends checked count same first second over are = cc
-  given_from finding total before earlier last (bit ∷ bits) [] rests ends checked count same first second over are = cc
-  given_from finding total before earlier last (bit ∷ bits) (other ∷ second_bits) rests ends checked count same first second over are =
+  given_from finding total before earlier last [] (other ∷ second_bits) rests ends checked count
+      same first second over are = cc
+  given_from finding total before earlier last (bit ∷ bits) [] rests ends checked count same first
+      second over are = cc
+  given_from finding total before earlier last (bit ∷ bits) (other ∷ second_bits) rests ends checked
+      count same first second over are =
       let number : ℕ = length before + 1 in
       let within : length before < total = omega (arith, count) in
-      let step = next_read total before earlier last (length bits) bits rests ends checked within are in
-      let long : length (before ++ step.line ∷ []) ≡ length before + 1 = length-append before (step.line ∷ []) in
-      let L : ℕ → Type 0 = λ n. AreGiven n (length bits) finding (ahead_from s finding (n + 1) bits second_bits step.next) in
+      let step = next_read total before earlier last (length bits) bits rests ends checked within
+      are in
+      let long : length (before ++ step.line ∷ []) ≡ length before + 1 =
+      length-append before (step.line ∷ []) in
+      let L : ℕ → Type 0 = λ n. AreGiven n (length bits) finding
+      (ahead_from s finding (n + 1) bits second_bits step.next) in
       let B : ℕ → Type 0 = λ n. AreBits first_of n bits in
       let C : ℕ → Type 0 = λ n. AreBits second_of n second_bits in
-      let later = given_from finding total (before ++ step.line ∷ []) (earlier ++ step.show ∷ []) (last ++ step.other ∷ []) bits second_bits step.next ends checked
-      (omega (arith, count, long)) (omega (arith, same)) (subst B (sym long) (bits_after first_of (length before) bit bits first)) (subst C (sym long) (bits_after second_of (length before) other second_bits second))
+      let later = given_from finding total (before ++ step.line ∷ []) (earlier ++ step.show ∷ [])
+      (last ++ step.other ∷ []) bits second_bits step.next ends checked
+      (omega (arith, count, long)) (omega (arith, same))
+      (subst B (sym long) (bits_after first_of (length before) bit bits first))
+      (subst C (sym long) (bits_after second_of (length before) other second_bits second))
       over step.after in
-      let next : Rests → Ahead Fault = λ rests. ahead_from s finding (number + 1) bits second_bits rests in
-      let is : ahead_from s finding number (bit ∷ bits) (other ∷ second_bits) rests ≡ with_lane (lane_with number (length before)) (next step.next) =
-      ap (λ b. ahead_after (two_lane_at s number b other bits rests) next) (bit_is first_of (length before) bit bits first)
-      ∙ (ap (λ o. ahead_after (two_lane_at s number (first_of number) o bits rests) next) (bit_is second_of (length before) other second_bits second)
+      let next : Rests → Ahead Fault =
+      λ rests. ahead_from s finding (number + 1) bits second_bits rests in
+      let is : ahead_from s finding number (bit ∷ bits) (other ∷ second_bits) rests
+      ≡ with_lane (lane_with number (length before)) (next step.next) =
+      ap (λ b. ahead_after (two_lane_at s number b other bits rests) next)
+      (bit_is first_of (length before) bit bits first)
+      ∙ (ap (λ o. ahead_after (two_lane_at s number (first_of number) o bits rests) next)
+      (bit_is second_of (length before) other second_bits second)
       ∙ ap (λ r. ahead_after r next) step.given) in
       let G : Ahead Fault → Type 0 = λ a. AreGiven (length before) (suc (length bits)) finding a in
-      subst G (sym is) (given_next (length before) (length bits) finding (next step.next) (subst L long later))
+      subst G (sym is) (given_next (length before) (length bits) finding (next step.next)
+      (subst L long later))
 
 -- ---- before the first lane, and the ends
 
-attempt_found : (lanes : ℕ) (challenge reply : Rest) (bits : Challenge) (challenge_rest reply_rest : Rest)
-    → challenge_at challenge ≡ Ok (bits, challenge_rest) → reply_head_at reply ≡ Ok (lanes, reply_rest)
+attempt_found : (lanes : ℕ) (challenge reply : Rest) (bits : Challenge)
+    (challenge_rest reply_rest : Rest)
+    → challenge_at challenge ≡ Ok (bits, challenge_rest)
+    → reply_head_at reply ≡ Ok (lanes, reply_rest)
     → length bits.bits ≡ lanes
     → attempt_at lanes challenge reply ≡ Ok (bits.bits, reply_rest)
 unfolding attempt_at
-attempt_found lanes challenge reply bits challenge_rest reply_rest challenge_read reply_read one_each =
-    read_found part.Challenge (challenge_at challenge) (λ bits. in_part part.Reply (reply_head_at reply) >>= λ replies. counted lanes bits.0 replies.0 >>= λ same. Ok (bits.0.bits, replies.1))
+attempt_found lanes challenge reply bits challenge_rest reply_rest challenge_read reply_read
+    one_each =
+    read_found part.Challenge (challenge_at challenge)
+    (λ bits. in_part part.Reply (reply_head_at reply) >>= λ replies. counted lanes bits.0
+    replies.0 >>= λ same. Ok (bits.0.bits, replies.1))
     (bits, challenge_rest) challenge_read
-    ∙ (read_found part.Reply (reply_head_at reply) (λ replies. counted lanes bits replies.0 >>= λ same. Ok (bits.bits, replies.1)) (lanes, reply_rest) reply_read
-    ∙ ap (λ q. q >>= λ (same : Unit {0}). Ok (bits.bits, reply_rest)) (counted_found lanes bits lanes one_each refl))
+    ∙ (read_found part.Reply (reply_head_at reply)
+    (λ replies. counted lanes bits replies.0 >>= λ same. Ok (bits.bits, replies.1))
+    (lanes, reply_rest) reply_read
+    ∙ ap (λ q. q >>= λ (same : Unit {0}). Ok (bits.bits, reply_rest))
+    (counted_found lanes bits lanes one_each refl))
 
-ends_are_over : (finding : Finding Fault) (ends : Rests) (over : Unit {0} × Rest) → EndsRead ends.board ends.first
+ends_are_over : (finding : Finding Fault) (ends : Rests) (over : Unit {0} × Rest)
+    → EndsRead ends.board ends.first
     → end_at ends.second ≡ Ok over → ends_found finding ends ≡ finding
 unfolding ends_found
 ends_are_over finding ends over first second =
-    ap (λ j. found_by finding j (in_part part.Reply (end_at ends.second))) (files.ends_found ends.board ends.first first)
+    ap (λ j. found_by finding j (in_part part.Reply (end_at ends.second)))
+    (files.ends_found ends.board ends.first first)
     ∙ ap (λ r. found_by finding (Ok tt) (in_part part.Reply r)) second
 
 -- ---- behind a front
@@ -264,27 +345,42 @@ module _ (s : StatementValue) (is : IsStatement s) (front file first_challenge f
   second_read = accepted_read is rest at second
 
   -- the lines of the file are read once
-  one_file : ◌≡◌ {A = List LaneLines × Rest} (second.lines, second_read.rests.0) (first.lines, first_read.rests.0)
-  one_file = value_same (second.lines, second_read.rests.0) (first.lines, first_read.rests.0) (sym second_read.read.board_read ∙ first_read.read.board_read)
+  one_file : ◌≡◌ {A = List LaneLines × Rest} (second.lines, second_read.rests.0)
+      (first.lines, first_read.rests.0)
+  one_file = value_same (second.lines, second_read.rests.0) (first.lines, first_read.rests.0)
+      (sym second_read.read.board_read ∙ first_read.read.board_read)
 
   one_lines : second.lines ≡ first.lines
   one_lines = ap (λ p. p.0) one_file
 
   abbrev begun : Rests
-  begun = record { board = rest; first = first_read.begun.count_rest; second = second_read.begun.count_rest }
+  begun = record {
+    board = rest;
+    first = first_read.begun.count_rest;
+    second = second_read.begun.count_rest;
+  }
 
   abbrev ended : Rests
-  ended = record { board = first_read.rests.0; first = first_read.rests.1; second = second_read.rests.1 }
+  ended = record {
+    board = first_read.rests.0;
+    first = first_read.rests.1;
+    second = second_read.rests.1;
+  }
 
-  base_found : base_behind s rest (from_start first_challenge) (from_start first_reply) (from_start second_challenge) (from_start second_reply) ≡ Ok (base_with first second, begun)
+  base_found : base_behind s rest (from_start first_challenge) (from_start first_reply)
+      (from_start second_challenge) (from_start second_reply) ≡ Ok (base_with first second, begun)
   unfolding base_behind
   base_found =
-      let one = attempt_found s.lanes (from_start first_challenge) (from_start first_reply) first.challenge first_read.begun.challenge_rest begun.first
+      let one = attempt_found s.lanes (from_start first_challenge) (from_start first_reply)
+      first.challenge first_read.begun.challenge_rest begun.first
       first_read.begun.challenge_read first_read.begun.count_read first.one_bit_each in
-      let other = attempt_found s.lanes (from_start second_challenge) (from_start second_reply) second.challenge second_read.begun.challenge_rest begun.second
+      let other = attempt_found s.lanes (from_start second_challenge) (from_start second_reply)
+      second.challenge second_read.begun.challenge_rest begun.second
       second_read.begun.challenge_read second_read.begun.count_read second.one_bit_each in
-      ap (λ r. of_first r >>= second_begun s rest (from_start second_challenge) (from_start second_reply)) one
-      ∙ ap (λ r. of_second (rest_judged s 1 first.challenge.bits rest begun.first) r >>= λ (t : List Bool × Rest). Ok (
+      ap (λ r. of_first r >>= second_begun s rest (from_start second_challenge)
+      (from_start second_reply)) one
+      ∙ ap (λ r. of_second (rest_judged s 1 first.challenge.bits rest begun.first) r >>=
+      λ (t : List Bool × Rest). Ok (
         record { statement = s; first_bits = first.challenge.bits; second_bits = t.0 },
         record { board = rest; first = begun.first; second = t.1 },
       )) other
@@ -292,49 +388,68 @@ module _ (s : StatementValue) (is : IsStatement s) (front file first_challenge f
   abbrev found : Finding Fault
   found = accepted_of first.challenge.bits second.challenge.bits
 
-  checked : AreChecked s (bit_of first.challenge) (bit_of second.challenge) first.lines first.reply second.reply (length first.challenge.bits)
+  checked : AreChecked s (bit_of first.challenge) (bit_of second.challenge) first.lines first.reply
+      second.reply (length first.challenge.bits)
   checked = record {
-    first = λ index within. first_read.read.checked index (omega arith) (omega (arith, within, first.one_bit_each));
+    first = λ index within. first_read.read.checked index (omega arith)
+        (omega (arith, within, first.one_bit_each));
     second = λ index within.
-        let L : List LaneLines → Type 0 = λ lines. IsChecked s (bit_of second.challenge) lines second.reply index in
-        subst L one_lines (second_read.read.checked index (omega arith) (omega (arith, within, first.one_bit_each)));
+        let L : List LaneLines
+        → Type 0 = λ lines. IsChecked s (bit_of second.challenge) lines second.reply index in
+        subst L one_lines (second_read.read.checked index (omega arith)
+        (omega (arith, within, first.one_bit_each)));
   }
 
-  lanes_given : AreGiven s (bit_of first.challenge) (bit_of second.challenge) first.lines first.reply second.reply 0 (length first.challenge.bits) found
+  lanes_given : AreGiven s (bit_of first.challenge) (bit_of second.challenge) first.lines
+      first.reply second.reply 0 (length first.challenge.bits) found
       (ahead_from s found 1 first.challenge.bits second.challenge.bits begun)
   lanes_given =
       let ends = accepted_ends is rest at second in
-      given_from s (bit_of first.challenge) (bit_of second.challenge) first.lines first.reply second.reply found (length first.challenge.bits) [] [] []
+      given_from s (bit_of first.challenge) (bit_of second.challenge) first.lines first.reply
+      second.reply found (length first.challenge.bits) [] [] []
       first.challenge.bits second.challenge.bits begun ended
-      checked (omega arith) (second.one_bit_each ∙ sym first.one_bit_each) (bits_are first.challenge) (bits_are second.challenge)
+      checked (omega arith) (second.one_bit_each ∙ sym first.one_bit_each)
+      (bits_are first.challenge) (bits_are second.challenge)
       (ends_are_over found ended ends.reply_over (accepted_ends is rest at first) ends.reply_read)
       (record {
         first_same = refl;
         second_same = refl;
-        board = ap (λ n. many_onto [] n (next_lines s) rest) first.one_bit_each ∙ first_read.read.board_read;
-        first = ap (λ n. many_onto [] n (next_shown s (bit_of first.challenge)) begun.first) first.one_bit_each ∙ first_read.read.reply_read;
-        second = ap (λ n. many_onto [] n (next_shown s (bit_of second.challenge)) begun.second) first.one_bit_each ∙ second_read.read.reply_read;
+        board = ap (λ n. many_onto [] n (next_lines s) rest) first.one_bit_each
+            ∙ first_read.read.board_read;
+        first = ap (λ n. many_onto [] n (next_shown s (bit_of first.challenge)) begun.first)
+            first.one_bit_each ∙ first_read.read.reply_read;
+        second = ap (λ n. many_onto [] n (next_shown s (bit_of second.challenge)) begun.second)
+            first.one_bit_each ∙ second_read.read.reply_read;
       })
 
-  behind_given : GivesBehind first second (ahead_behind s rest (from_start first_challenge) (from_start first_reply) (from_start second_challenge) (from_start second_reply))
+  behind_given : GivesBehind first second
+      (ahead_behind s rest (from_start first_challenge) (from_start first_reply)
+      (from_start second_challenge) (from_start second_reply))
   behind_given =
       let G : Ahead Fault → Type 0 = λ a. GivesBehind first second a in
-      let lane : ℕ → ℕ → TwoLane = lane_with s (bit_of first.challenge) (bit_of second.challenge) first.lines first.reply second.reply in
+      let lane : ℕ → ℕ → TwoLane =
+      lane_with s (bit_of first.challenge) (bit_of second.challenge) first.lines first.reply
+      second.reply in
       subst G (sym (ap ahead_by base_found)) (record {
         one_each = lanes_given.one_each ∙ first.one_bit_each;
         each = λ index one is.
             let number : 0 + index + 1 ≡ index + 1 = omega arith in
             let at : 0 + index ≡ index + 1 - 1 = omega arith in
-            lanes_given.each index one is ∙ ap (λ n. lane n (0 + index)) number ∙ ap (λ i. lane (index + 1) i) at;
+            lanes_given.each index one is ∙ ap (λ n. lane n (0 + index)) number
+            ∙ ap (λ i. lane (index + 1) i) at;
         finding = lanes_given.found;
       })
 
 pub accepted_behind_give : AcceptedBehindGive
-accepted_behind_give s is front file first_challenge first_reply second_challenge second_reply rest at first second = (
-  one_lines s is front file first_challenge first_reply second_challenge second_reply rest at first second,
-  ap base_in (base_found s is front file first_challenge first_reply second_challenge second_reply rest at first second),
-  behind_given s is front file first_challenge first_reply second_challenge second_reply rest at first second,
-)
+accepted_behind_give s is front file first_challenge first_reply second_challenge second_reply rest
+    at first second = (
+      one_lines s is front file first_challenge first_reply second_challenge second_reply rest at first
+          second,
+      ap base_in (base_found s is front file first_challenge first_reply second_challenge second_reply
+          rest at first second),
+      behind_given s is front file first_challenge first_reply second_challenge second_reply rest at
+          first second,
+    )
 
 both_passed : (accepted : Finding Fault) (first second : Result (Unit {0}) Fault)
     → BothAreAccepted (two_result accepted first second) → (first ≡ Ok tt) × (second ≡ Ok tt)
@@ -343,12 +458,14 @@ both_passed accepted (Ok tt) (Err fault) are = absurd are
 both_passed accepted (Err fault) second are = absurd are
 
 pub only_accepted_behind : OnlyAcceptedBehind
-only_accepted_behind s is front file first_challenge first_reply second_challenge second_reply rest at accepted =
+only_accepted_behind s is front file first_challenge first_reply second_challenge second_reply rest
+    at accepted =
     let c : Rest = from_start first_challenge in
     let r : Rest = from_start first_reply in
     let d : Rest = from_start second_challenge in
     let t : Rest = from_start second_reply in
-    let both = both_passed (accepted_of (bits_read (challenge_at c)) (bits_read (challenge_at d))) (behind_judged s rest c r) (behind_judged s rest d t)
+    let both = both_passed (accepted_of (bits_read (challenge_at c)) (bits_read (challenge_at d)))
+    (behind_judged s rest c r) (behind_judged s rest d t)
     (subst BothAreAccepted (finds_by_judging s rest c r d t) accepted) in (
       (accepted_behind s is front file first_challenge first_reply rest at).0 both.0,
       (accepted_behind s is front file second_challenge second_reply rest at).0 both.1,
@@ -366,73 +483,100 @@ front_found : {board challenge reply : List ℕ} (accepted : Accepts board chall
     → FrontRead board accepted.front
 front_found {board = board} accepted =
     let lanes : List ℕ = lanes_text 1 accepted.behind.lines ++ line (codes "end") in
-    let found = fronts_read.found (from_start board) accepted.front lanes accepted.right accepted.behind.file_is.0 in
-    record { after = record { taken = found.0; left = lanes }; text = accepted.behind.file_is.0; read = ap in_front found.1 }
+    let found = fronts_read.found (from_start board) accepted.front lanes accepted.right
+    accepted.behind.file_is.0 in
+    record {
+      after = record { taken = found.0; left = lanes };
+      text = accepted.behind.file_is.0;
+      read = ap in_front found.1;
+    }
 
-front_one : {board : List ℕ} {front other : Front} → FrontRead board front → FrontRead board other → other ≡ front
-front_one {front = front} {other = other} one two = ap (λ p. p.0) (value_same (other, two.after) (front, one.after) (sym two.read ∙ one.read))
+front_one : {board : List ℕ} {front other : Front} → FrontRead board front → FrontRead board other
+    → other ≡ front
+front_one {front = front} {other = other} one two =
+    ap (λ p. p.0) (value_same (other, two.after) (front, one.after) (sym two.read ∙ one.read))
 
 -- what two replies to one board give
 record AreGivenValues {board first_challenge first_reply second_challenge second_reply : List ℕ}
-    (first : Accepts board first_challenge first_reply) (second : Accepts board second_challenge second_reply) : Type 0 where
+    (first : Accepts board first_challenge first_reply)
+    (second : Accepts board second_challenge second_reply) : Type 0 where
   one : AreOfOneBoard first second
-  begun : begun_in board first_challenge first_reply second_challenge second_reply ≡ Some (board_with first second)
-  given : GivesValues first second (ahead_in board first_challenge first_reply second_challenge second_reply)
+  begun : begun_in board first_challenge first_reply second_challenge second_reply
+      ≡ Some (board_with first second)
+  given : GivesValues first second
+      (ahead_in board first_challenge first_reply second_challenge second_reply)
 
 module _ (board first_challenge first_reply second_challenge second_reply : List ℕ) (first : Accepts board first_challenge first_reply) where
   -- where both are accepted behind one front
   given_behind : (right : IsFront first.front)
-      (behind : AcceptsBehind (statement_of first.front) (front_text first.front) board second_challenge second_reply)
+      (behind : AcceptsBehind (statement_of first.front) (front_text first.front) board
+      second_challenge second_reply)
       → AreGivenValues first (record { front = first.front; right = right; behind = behind })
   given_behind right behind =
       let c : Rest = from_start first_challenge in
       let r : Rest = from_start first_reply in
       let d : Rest = from_start second_challenge in
       let t : Rest = from_start second_reply in
-      let second : Accepts board second_challenge second_reply = record { front = first.front; right = right; behind = behind } in
+      let second : Accepts board second_challenge second_reply =
+      record { front = first.front; right = right; behind = behind } in
       let begins = front_found first in
-      let give = accepted_behind_give (statement_of first.front) (statement_right first.front first.right) (front_text first.front) board first_challenge first_reply second_challenge second_reply
+      let give = accepted_behind_give (statement_of first.front)
+      (statement_right first.front first.right) (front_text first.front) board first_challenge
+      first_reply second_challenge second_reply
       begins.after begins.text first.behind behind in
       let G : Ahead BoardVerdict → Type 0 = λ a. GivesValues first second a in
       record {
         one = record { one_front = refl; one_lines = give.0 };
-        begun = ap (λ f. base_past f c r d t) begins.read ∙ ap (option_map (with_front first.front)) give.1;
+        begun = ap (λ f. base_past f c r d t) begins.read
+            ∙ ap (option_map (with_front first.front)) give.1;
         given = subst G (sym (ap (λ f. ahead_past f c r d t) begins.read)) (record {
           one_each = give.2.one_each;
           each = give.2.each;
-          finding = ap as_two give.2.finding ∙ accepted_is (same_bits first.behind.challenge.bits behind.challenge.bits);
+          finding = ap as_two give.2.finding
+              ∙ accepted_is (same_bits first.behind.challenge.bits behind.challenge.bits);
         });
       }
 
-  given_values : (second : Accepts board second_challenge second_reply) → AreGivenValues first second
+  given_values : (second : Accepts board second_challenge second_reply)
+      → AreGivenValues first second
   given_values second =
-      let F : Front → Type 0 = λ f. (right : IsFront f) (behind : AcceptsBehind (statement_of f) (front_text f) board second_challenge second_reply)
+      let F : Front → Type 0 =
+      λ f. (right : IsFront f)
+      (behind : AcceptsBehind (statement_of f) (front_text f) board second_challenge
+      second_reply)
       → AreGivenValues first (record { front = f; right = right; behind = behind }) in
-      subst F (sym (front_one (front_found first) (front_found second))) given_behind second.right second.behind
+      subst F (sym (front_one (front_found first) (front_found second))) given_behind second.right
+      second.behind
 
 pub accepted_give : AcceptedGive
 accepted_give board first_challenge first_reply second_challenge second_reply first second =
-    let all = given_values board first_challenge first_reply second_challenge second_reply first second in (all.one, all.begun, all.given)
+    let all = given_values board first_challenge first_reply second_challenge second_reply first
+    second in (all.one, all.begun, all.given)
 
 -- ---- and no others
 
-fault_accepted : (finding : Finding Fault) → BothAreAccepted (as_two finding) → BothAreAccepted finding
+fault_accepted : (finding : Finding Fault) → BothAreAccepted (as_two finding)
+    → BothAreAccepted finding
 fault_accepted (Refused second fault) accepted = absurd accepted
 fault_accepted Same accepted = accepted
 fault_accepted Ready accepted = accepted
 
 pub only_accepted_give : OnlyAcceptedGive
-only_accepted_give board first_challenge first_reply second_challenge second_reply = by_front (front_at (from_start board)) refl
+only_accepted_give board first_challenge first_reply second_challenge second_reply =
+    by_front (front_at (from_start board)) refl
   where
     by_front : (read : Result (Front × Rest) FrontFault) → front_at (from_start board) ≡ read
-        → BothAreAccepted (ahead_past (in_front read) (from_start first_challenge) (from_start first_reply) (from_start second_challenge) (from_start second_reply)).finding
+        → BothAreAccepted (ahead_past (in_front read) (from_start first_challenge)
+        (from_start first_reply) (from_start second_challenge) (from_start second_reply)).finding
         → Accepts board first_challenge first_reply × Accepts board second_challenge second_reply
     by_front (Err fault) is accepted = absurd accepted
     by_front (Ok front) is accepted =
         let s : StatementValue = statement_of front.0 in
         let shown = fronts_read.shown (from_start board) front.0 front.1 is in
-        let ahead = ahead_behind s front.1 (from_start first_challenge) (from_start first_reply) (from_start second_challenge) (from_start second_reply) in
-        let both = only_accepted_behind s (statement_right front.0 shown.0) (front_text front.0) board first_challenge first_reply second_challenge second_reply front.1 shown.1
+        let ahead = ahead_behind s front.1 (from_start first_challenge) (from_start first_reply)
+        (from_start second_challenge) (from_start second_reply) in
+        let both = only_accepted_behind s (statement_right front.0 shown.0) (front_text front.0)
+        board first_challenge first_reply second_challenge second_reply front.1 shown.1
         (fault_accepted ahead.finding accepted) in (
           record { front = front.0; right = shown.0; behind = both.0 },
           record { front = front.0; right = shown.0; behind = both.1 },

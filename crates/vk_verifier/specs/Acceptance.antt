@@ -33,17 +33,20 @@ abbrev pub AreLanes : StatementValue → List LaneLines → Type 0
 AreLanes s lines = AllByRecursion (IsLaneLines (later_wires s.plan) (length s.plan.rows)) lines
 
 -- what is shown of the lane, counted from 1, is accepted for its bit
-abbrev pub LaneIsAccepted : StatementValue → List LaneLines → Challenge → List (List Shown) → ℕ → Type 0
+abbrev pub LaneIsAccepted : StatementValue → List LaneLines → Challenge → List (List Shown) → ℕ
+    → Type 0
 LaneIsAccepted s lines challenge reply lane =
-    IsAccepted s.plan (case_of s lane (slice_index_or lines (lane - 1) no_lines)) (bit_of challenge lane) (slice_index_or reply (lane - 1) [])
+    IsAccepted s.plan (case_of s lane (slice_index_or lines (lane - 1) no_lines))
+    (bit_of challenge lane) (slice_index_or reply (lane - 1) [])
 
 -- a file with this text of its front, these lanes, and the end
 abbrev pub file_text : List ℕ → List LaneLines → List ℕ
 file_text front lines = front ++ (lanes_text 1 lines ++ line (codes "end"))
 
--- behind a front with this text: the files are the texts of lanes, of a challenge and of a reply, as many as the
--- statement says, and in each lane what is shown is accepted for its bit
-pub record AcceptsBehind (s : StatementValue) (front : List ℕ) (file challenge_file reply_file : List ℕ) : Type 0 where
+-- behind a front with this text: the files are the texts of lanes, of a challenge and of a reply,
+-- as many as the statement says, and in each lane what is shown is accepted for its bit
+pub record AcceptsBehind (s : StatementValue) (front : List ℕ)
+    (file challenge_file reply_file : List ℕ) : Type 0 where
   pub lines : List LaneLines
   pub challenge : Challenge
   pub reply : List (List Shown)
@@ -57,20 +60,28 @@ pub record AcceptsBehind (s : StatementValue) (front : List ℕ) (file challenge
 
 -- ---- boards
 
--- what the counts are told by. They are the same wherever the winner's seal stands, so the seat stands for its place
+-- what the counts are told by. They are the same wherever the winner's seal stands, so the seat
+-- stands for its place
 abbrev pub head_numbers : Head → BoardNumbers
-head_numbers head = board_numbers head.version head.seals head.width head.reserve (sale_at head.winner head.price)
+head_numbers head = board_numbers head.version head.seals head.width head.reserve
+    (sale_at head.winner head.price)
 
 -- how many wires after the inputs, and how many rows, a lane of the auction has
 abbrev pub shape_of : Head → Shape
-shape_of head = record { wires = board_wire_count (head_numbers head) - head.seals; rows = board_row_count (head_numbers head) }
+shape_of head = record {
+  wires = board_wire_count (head_numbers head) - head.seals;
+  rows = board_row_count (head_numbers head);
+}
 
--- the board has a front whose price and winner may stand, and behind it the reply is accepted for the challenge
+-- the board has a front whose price and winner may stand, and behind it the reply is accepted for
+-- the challenge
 pub record Accepts (board_file challenge_file reply_file : List ℕ) : Type 0 where
   pub front : Front
   pub right : IsFront front
-  pub behind : AcceptsBehind (statement_of front) (front_text front) board_file challenge_file reply_file
+  pub behind : AcceptsBehind (statement_of front) (front_text front) board_file challenge_file
+      reply_file
 
 -- the verdict is that there is no fault exactly where a reply is accepted
 abbrev pub AcceptedExactly : Type 0
-AcceptedExactly = (board challenge reply : List ℕ) → (verdict_of board challenge reply ≡ Accepted) ↔ Accepts board challenge reply
+AcceptedExactly = (board challenge reply : List ℕ) → (verdict_of board challenge reply ≡ Accepted)
+    ↔ Accepts board challenge reply

@@ -1,5 +1,5 @@
--- One answer as another. What was refused is refused again, and want of memory and a failure are handed on as
--- they are: none of these takes memory.
+-- One answer as another. What was refused is refused again, and want of memory and a failure are
+-- handed on as they are: none of these takes memory.
 use Rattle.std.specs.Prelude.{ℕ, ◌+◌, true, false, Option, Some, None, Result, Ok, Err}
 use Rattle.vk_lines.specs.Lines.{LinesValue}
 use Rattle.vk_lines.specs.declared.errors.ReadErr.{ReadErr}
@@ -84,16 +84,20 @@ second_halt fault (Err Failed) = Failed
 second_halt fault (Err NoMemory) = NoMemory
 
 -- what was judged of the second reply, and, where there is a fault of it, of the first
-abbrev pub second_answer : {X : Type 0} → Result Unit (Halt Fault) → Result X (Halt Fault) → Result X (Halt (Finding Fault))
+abbrev pub second_answer : {X : Type 0} → Result Unit (Halt Fault) → Result X (Halt Fault)
+    → Result X (Halt (Finding Fault))
 second_answer first (Ok x) = Ok x
 second_answer first (Err (Refused fault)) = Err (second_halt fault first)
 second_answer first (Err Failed) = Err Failed
 second_answer first (Err NoMemory) = Err NoMemory
 
--- what was judged of the ends: of the file with the first reply, and, where there is no fault, of the second
-abbrev pub ends_halt : Finding Fault → Result Unit (Halt Fault) → Result Unit (Halt Fault) → Halt (Finding Fault)
+-- what was judged of the ends: of the file with the first reply, and, where there is no fault, of
+-- the second
+abbrev pub ends_halt : Finding Fault → Result Unit (Halt Fault) → Result Unit (Halt Fault)
+    → Halt (Finding Fault)
 ends_halt accepted (Ok done) (Ok over) = Refused accepted
-ends_halt accepted (Ok done) (Err (Refused fault)) = Refused (finding.Refused true (second_fault fault))
+ends_halt accepted (Ok done) (Err (Refused fault)) =
+    Refused (finding.Refused true (second_fault fault))
 ends_halt accepted (Ok done) (Err Failed) = Failed
 ends_halt accepted (Ok done) (Err NoMemory) = NoMemory
 ends_halt accepted (Err (Refused fault)) second = Refused (finding.Refused false fault)
@@ -102,15 +106,19 @@ ends_halt accepted (Err NoMemory) second = NoMemory
 
 -- before the first lane, where there is no fault before it
 abbrev pub start_answer : Result Base (Halt (Finding Fault)) → TwoReaders → Result Stage OutsideErr
-start_answer (Ok base) readers = Ok (Running (record { base = base; readers = readers; given = 0; finding = None }))
+start_answer (Ok base) readers =
+    Ok (Running (record { base = base; readers = readers; given = 0; finding = None }))
 start_answer (Err (Refused finding)) readers = Ok (Before finding)
 start_answer (Err Failed) readers = Err line.Failed
 start_answer (Err NoMemory) readers = Err line.NoMemory
 
 -- after a step from so many lanes
-abbrev pub step_answer : Base → TwoReaders → ℕ → Result TwoLane (Halt (Finding Fault)) → Result (Course × Option TwoLane) OutsideErr
-step_answer base readers given (Ok lane) = Ok (record { base = base; readers = readers; given = given + 1; finding = None }, Some lane)
-step_answer base readers given (Err (Refused finding)) = Ok (record { base = base; readers = readers; given = given; finding = Some finding }, None)
+abbrev pub step_answer : Base → TwoReaders → ℕ → Result TwoLane (Halt (Finding Fault))
+    → Result (Course × Option TwoLane) OutsideErr
+step_answer base readers given (Ok lane) =
+    Ok (record { base = base; readers = readers; given = given + 1; finding = None }, Some lane)
+step_answer base readers given (Err (Refused finding)) =
+    Ok (record { base = base; readers = readers; given = given; finding = Some finding }, None)
 step_answer base readers given (Err Failed) = Err line.Failed
 step_answer base readers given (Err NoMemory) = Err line.NoMemory
 

@@ -1,5 +1,5 @@
--- What is judged behind a front, for any statement: the challenge, the reply's head, the lanes and the ends, up to the
--- first test that fails.
+-- What is judged behind a front, for any statement: the challenge, the reply's head, the lanes and
+-- the ends, up to the first test that fails.
 use Rattle.std.specs.Prelude.{◌≡◌, ℕ, ◌+◌, ◌-◌, ◌==◌, ◌&&◌, Bool, if◌then◌else◌, List, [], ◌∷◌, ◌++◌, length, map, slice_index_or, Result, Ok, Err}
 use Rattle.vk_residue.specs.Steps.{◌>>=◌}
 use Rattle.vk_lines.specs.Lines.{Rest, end_at}
@@ -23,8 +23,8 @@ use Rattle.vk_verifier.specs.declared.halt.Halt.{Halt}
 use Rattle.vk_verifier.specs.declared.halt.Halt.TheVariants.{Refused, Failed, NoMemory}
 use Rattle.vk_verifier.specs.Statement.{StatementValue}
 
--- what judging answers is what the definition gives: a value, or why it is refused. After a failure of the outside
--- or want of memory nothing is said
+-- what judging answers is what the definition gives: a value, or why it is refused. After a failure
+-- of the outside or want of memory nothing is said
 abbrev pub Judges : {T X V : Type 0} → (T → X) → Result T (Halt V) → Result X V → Type 0
 Judges value (Ok x) expected = expected ≡ Ok (value x)
 Judges value (Err (Refused refusal)) expected = expected ≡ Err refusal
@@ -68,7 +68,8 @@ lane_fault number (Err (lane.Wire wire fault)) = Err (Wire number wire fault)
 lane_fault number (Err (lane.Row row)) = Err (Row number row)
 lane_fault number (Err lane.NoMemory) = Ok tt
 
--- the lane of that number, for its bit: its lines in the file, its lines in the reply, its wires, its rows
+-- the lane of that number, for its bit: its lines in the file, its lines in the reply, its wires,
+-- its rows
 unfoldable pub lane_judged : StatementValue → ℕ → Bool → Rest → Rest → Result (Rest × Rest) Fault
 lane_judged s number bit board reply = do
   lines ← in_part part.Board (lane_at number (later_wires s.plan) (length s.plan.rows) board)
@@ -77,16 +78,19 @@ lane_judged s number bit board reply = do
   Ok (lines.1, shown.1)
 
 -- one lane for each bit, the first of them with that number
-unfoldable pub lanes_judged : StatementValue → ℕ → List Bool → Rest → Rest → Result (Rest × Rest) Fault
+unfoldable pub lanes_judged : StatementValue → ℕ → List Bool → Rest → Rest
+    → Result (Rest × Rest) Fault
 lanes_judged s number [] board reply = Ok (board, reply)
 lanes_judged s number (bit ∷ bits) board reply =
-    lane_judged s number bit board reply >>= λ rests. lanes_judged s (number + 1) bits rests.0 rests.1
+    lane_judged s number bit board reply >>= λ rests. lanes_judged s (number + 1) bits rests.0
+    rests.1
 
 -- ---- all that stands behind the front
 
 -- the challenge's bits and the reply's lanes are as many as the statement's lanes
 abbrev pub counted : ℕ → Challenge → ℕ → Result Unit Fault
-counted lanes challenge replies = if length challenge.bits == lanes && replies == lanes then Ok tt else Err Lanes
+counted lanes challenge replies = if length challenge.bits == lanes && replies == lanes then Ok tt
+    else Err Lanes
 
 -- the end of the file, then the end of the reply
 unfoldable pub ends_judged : Rest → Rest → Result Unit Fault

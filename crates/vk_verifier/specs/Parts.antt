@@ -1,4 +1,5 @@
--- The parts of what is judged behind a front, each by itself, so that two replies can be judged side by side.
+-- The parts of what is judged behind a front, each by itself, so that two replies can be judged
+-- side by side.
 use Rattle.std.specs.Prelude.{◌≡◌, ℕ, ◌+◌, ◌≤◌, Bool, List, length, drop, Result, Ok}
 use Rattle.vk_residue.specs.Steps.{◌>>=◌}
 use Rattle.vk_lines.specs.Lines.{Rest}
@@ -24,13 +25,15 @@ case_at s number board = do
   Ok (case_of s number lines.0, lines.1)
 
 -- what a reply shows of the lane for the bit, where it is accepted
-unfoldable pub reply_judged : PlanValue → LaneCase → ℕ → Bool → Rest → Result (List Shown × Rest) Fault
+unfoldable pub reply_judged : PlanValue → LaneCase → ℕ → Bool → Rest
+    → Result (List Shown × Rest) Fault
 reply_judged plan case number bit reply = do
   shown ← in_part part.Reply (reply_lane_at number plan.kinds bit reply)
   done ← lane_fault number (checked_lane plan case bit shown.0)
   Ok (shown.0, shown.1)
 
--- the bits of a challenge, one for each of so many lanes, and the reply to it from its first lane on
+-- the bits of a challenge, one for each of so many lanes, and the reply to it from its first lane
+-- on
 unfoldable pub attempt_at : ℕ → Rest → Rest → Result (List Bool × Rest) Fault
 attempt_at lanes challenge reply = do
   bits ← in_part part.Challenge (challenge_at challenge)

@@ -56,7 +56,8 @@ same_bits (bit ∷ bits) (other ∷ others) = same_bit bit other && same_bits bi
 abbrev pub accepted_of : {V : Type 0} → List Bool → List Bool → Finding V
 accepted_of first second = if same_bits first second then Same else Ready
 
--- what judging each reply to its end comes to: a fault of the first, else one of the second, else this
+-- what judging each reply to its end comes to: a fault of the first, else one of the second, else
+-- this
 abbrev pub two_result : Finding Fault → Result Unit Fault → Result Unit Fault → Finding Fault
 two_result accepted (Ok done) (Ok over) = accepted
 two_result accepted (Ok done) (Err second) = Refused true (second_fault second)
@@ -105,44 +106,60 @@ over finding = record { lanes = []; finding = finding }
 abbrev pub with_lane : {V : Type 0} → TwoLane → Ahead V → Ahead V
 with_lane lane ahead = record { lanes = lane ∷ ahead.lanes; finding = ahead.finding }
 
--- what the second reply shows of the lane of that number, after what the first does; the later bits are the
--- first challenge's
-abbrev pub second_shown : StatementValue → ℕ → Bool → Bool → List Bool → Rests → LaneCase × Rest → List Shown × Rest → Result (TwoLane × Rests) (Finding Fault)
+-- what the second reply shows of the lane of that number, after what the first does; the later bits
+-- are the first challenge's
+abbrev pub second_shown : StatementValue → ℕ → Bool → Bool → List Bool → Rests → LaneCase × Rest
+    → List Shown × Rest → Result (TwoLane × Rests) (Finding Fault)
 second_shown s number first_bit second_bit later rests case first = do
-  second ← of_second (rest_judged s (number + 1) later case.1 first.1) (reply_judged s.plan case.0 number second_bit rests.second)
+  second ← of_second (rest_judged s (number + 1) later case.1 first.1)
+      (reply_judged s.plan case.0 number second_bit rests.second)
   Ok (
-    record { case = case.0; first_bit = first_bit; first = first.0; second_bit = second_bit; second = second.0 },
+    record {
+      case = case.0;
+      first_bit = first_bit;
+      first = first.0;
+      second_bit = second_bit;
+      second = second.0;
+    },
     record { board = case.1; first = first.1; second = second.1 },
   )
 
 -- what both replies show of the lane
-abbrev pub both_shown : StatementValue → ℕ → Bool → Bool → List Bool → Rests → LaneCase × Rest → Result (TwoLane × Rests) (Finding Fault)
+abbrev pub both_shown : StatementValue → ℕ → Bool → Bool → List Bool → Rests → LaneCase × Rest
+    → Result (TwoLane × Rests) (Finding Fault)
 both_shown s number first_bit second_bit later rests case =
-    of_first (reply_judged s.plan case.0 number first_bit rests.first) >>= second_shown s number first_bit second_bit later rests case
+    of_first (reply_judged s.plan case.0 number first_bit rests.first) >>= second_shown s number
+    first_bit second_bit later rests case
 
 -- the lane in the file, and what both replies show of it
-unfoldable pub two_lane_at : StatementValue → ℕ → Bool → Bool → List Bool → Rests → Result (TwoLane × Rests) (Finding Fault)
+unfoldable pub two_lane_at : StatementValue → ℕ → Bool → Bool → List Bool → Rests
+    → Result (TwoLane × Rests) (Finding Fault)
 two_lane_at s number first_bit second_bit later rests =
     of_first (case_at s number rests.board) >>= both_shown s number first_bit second_bit later rests
 
 -- what is found where every lane was given
 unfoldable pub ends_found : Finding Fault → Rests → Finding Fault
-ends_found accepted rests = found_by accepted (ends_judged rests.board rests.first) (in_part part.Reply (end_at rests.second))
+ends_found accepted rests = found_by accepted (ends_judged rests.board rests.first)
+    (in_part part.Reply (end_at rests.second))
 
-abbrev pub ahead_after : Result (TwoLane × Rests) (Finding Fault) → (Rests → Ahead Fault) → Ahead Fault
+abbrev pub ahead_after : Result (TwoLane × Rests) (Finding Fault) → (Rests → Ahead Fault)
+    → Ahead Fault
 ahead_after (Ok given) next = with_lane given.0 (next given.1)
 ahead_after (Err finding) next = over finding
 
 -- one lane for each bit, the first of them with that number, and then the ends
-unfoldable pub ahead_from : StatementValue → Finding Fault → ℕ → List Bool → List Bool → Rests → Ahead Fault
+unfoldable pub ahead_from : StatementValue → Finding Fault → ℕ → List Bool → List Bool → Rests
+    → Ahead Fault
 ahead_from s accepted number (first_bit ∷ first) (second_bit ∷ second) rests =
-    ahead_after (two_lane_at s number first_bit second_bit first rests) (λ next. ahead_from s accepted (number + 1) first second next)
+    ahead_after (two_lane_at s number first_bit second_bit first rests)
+    (λ next. ahead_from s accepted (number + 1) first second next)
 ahead_from s accepted number _ _ rests = over (ends_found accepted rests)
 
 -- ---- both attempts, and what is ahead of them
 
 -- the second attempt, after the first
-abbrev pub second_begun : StatementValue → Rest → Rest → Rest → List Bool × Rest → Result (Base × Rests) (Finding Fault)
+abbrev pub second_begun : StatementValue → Rest → Rest → Rest → List Bool × Rest
+    → Result (Base × Rests) (Finding Fault)
 second_begun s board challenge reply first = do
   second ← of_second (rest_judged s 1 first.0 board first.1) (attempt_at s.lanes challenge reply)
   Ok (
@@ -151,20 +168,24 @@ second_begun s board challenge reply first = do
   )
 
 -- what is read before the first lane: both challenges, and the heads of both replies
-unfoldable pub base_behind : StatementValue → Rest → Rest → Rest → Rest → Rest → Result (Base × Rests) (Finding Fault)
+unfoldable pub base_behind : StatementValue → Rest → Rest → Rest → Rest → Rest
+    → Result (Base × Rests) (Finding Fault)
 base_behind s board first_challenge first_reply second_challenge second_reply =
-    of_first (attempt_at s.lanes first_challenge first_reply) >>= second_begun s board second_challenge second_reply
+    of_first (attempt_at s.lanes first_challenge first_reply) >>= second_begun s board
+    second_challenge second_reply
 
 -- what is ahead after so many lanes
 abbrev pub ahead_on : Base → ℕ → Rests → Ahead Fault
 ahead_on base given rests =
-    ahead_from base.statement (accepted_of base.first_bits base.second_bits) (given + 1) (drop given base.first_bits) (drop given base.second_bits) rests
+    ahead_from base.statement (accepted_of base.first_bits base.second_bits) (given + 1)
+    (drop given base.first_bits) (drop given base.second_bits) rests
 
 abbrev pub ahead_by : Result (Base × Rests) (Finding Fault) → Ahead Fault
 ahead_by (Ok start) = ahead_on start.0 0 start.1
 ahead_by (Err finding) = over finding
 
--- what is given and found behind a front, of a challenge and the reply to it, and another challenge and reply
+-- what is given and found behind a front, of a challenge and the reply to it, and another challenge
+-- and reply
 abbrev pub ahead_behind : StatementValue → Rest → Rest → Rest → Rest → Rest → Ahead Fault
 ahead_behind s board first_challenge first_reply second_challenge second_reply =
     ahead_by (base_behind s board first_challenge first_reply second_challenge second_reply)
@@ -209,15 +230,21 @@ is_refused (Err halt.NoMemory) = false
 
 -- the file and both replies for the readers
 abbrev pub rests_of : TwoReaders → Files → Rests
-rests_of readers files = record { board = rest_of readers.pair.board files; first = rest_of readers.pair.reply files; second = rest_of readers.second files }
+rests_of readers files = record {
+  board = rest_of readers.pair.board files;
+  first = rest_of readers.pair.reply files;
+  second = rest_of readers.second files;
+}
 
 -- what five files come to for the readers of them
 abbrev pub of_two : {X : Type 0} → (Rest → Rest → Rest → Rest → Rest → X) → TwoAttempts → Files → X
 of_two whole two files =
-    whole (rest_of two.readers.pair.board files) (rest_of two.first_challenge files) (rest_of two.readers.pair.reply files)
+    whole (rest_of two.readers.pair.board files) (rest_of two.first_challenge files)
+    (rest_of two.readers.pair.reply files)
     (rest_of two.second_challenge files) (rest_of two.readers.second files)
 
--- what was read before the first lane: a statement, and each challenge has a bit for each of its lanes
+-- what was read before the first lane: a statement, and each challenge has a bit for each of its
+-- lanes
 pub record IsBase (base : Base) : Type 0 where
   pub statement : IsStatement base.statement
   pub first : length base.first_bits ≡ base.statement.lanes
@@ -253,12 +280,14 @@ ahead_unless None ahead = ahead
 -- what is still to be given and found of the files
 abbrev pub ahead_of : Stage → Files → Ahead Fault
 ahead_of (Before finding) files = over finding
-ahead_of (Running course) files = ahead_unless course.finding (ahead_on course.base course.given (rests_of course.readers files))
+ahead_of (Running course) files =
+    ahead_unless course.finding (ahead_on course.base course.given (rests_of course.readers files))
 
 -- a lane is given, and then what is ahead of the new stage; or what is found
 abbrev pub GoesOn : Ahead Fault → Option TwoLane → Stage → Files → Type 0
 GoesOn before (Some lane) stage files = before ≡ with_lane lane (ahead_of stage files)
-GoesOn before None stage files = (finding : Finding Fault) × (finding_of stage ≡ Some finding) × (before ≡ over finding)
+GoesOn before None stage files = (finding : Finding Fault) × (finding_of stage ≡ Some finding)
+    × (before ≡ over finding)
 
 -- every lane was given, where both replies are accepted
 abbrev pub IsRight : Base → ℕ → Finding Fault → Type 0

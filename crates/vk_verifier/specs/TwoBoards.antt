@@ -44,12 +44,13 @@ is_accepted Lanes = false
 is_accepted (Wire lane wire fault) = false
 is_accepted (Row lane row) = false
 
--- what two verdicts come to: the first reply's where that isn't accepted, else the second's, else whether
--- the challenges differ
+-- what two verdicts come to: the first reply's where that isn't accepted, else the second's, else
+-- whether the challenges differ
 abbrev pub two_verdict : BoardVerdict → BoardVerdict → List Bool → List Bool → Finding BoardVerdict
 two_verdict first second first_bits second_bits =
     if is_accepted first
-    then (if is_accepted second then accepted_of first_bits second_bits else finding.Refused true (as_second second))
+    then (if is_accepted second then accepted_of first_bits second_bits
+    else finding.Refused true (as_second second))
     else finding.Refused false first
 
 -- what is found behind the front, as it is told of a board
@@ -70,30 +71,42 @@ pub record BoardBase : Type 0 where
   pub second_bits : List Bool
 
 abbrev pub with_front : Front → Base → BoardBase
-with_front front base = record { front = front; first_bits = base.first_bits; second_bits = base.second_bits }
+with_front front base = record {
+  front = front;
+  first_bits = base.first_bits;
+  second_bits = base.second_bits;
+}
 
 -- what is given and found after that was read of the front
-abbrev pub ahead_past : Result (Front × Rest) BoardVerdict → Rest → Rest → Rest → Rest → Ahead BoardVerdict
+abbrev pub ahead_past : Result (Front × Rest) BoardVerdict → Rest → Rest → Rest → Rest
+    → Ahead BoardVerdict
 ahead_past (Ok front) first_challenge first_reply second_challenge second_reply =
-    as_ahead (ahead_behind (statement_of front.0) front.1 first_challenge first_reply second_challenge second_reply)
-ahead_past (Err verdict) first_challenge first_reply second_challenge second_reply = over (finding.Refused false verdict)
+    as_ahead (ahead_behind (statement_of front.0) front.1 first_challenge first_reply
+    second_challenge second_reply)
+ahead_past (Err verdict) first_challenge first_reply second_challenge second_reply =
+    over (finding.Refused false verdict)
 
--- what is given and found of a board, a challenge and the reply to it, and another challenge and reply
+-- what is given and found of a board, a challenge and the reply to it, and another challenge and
+-- reply
 abbrev pub ahead_at : Rest → Rest → Rest → Rest → Rest → Ahead BoardVerdict
 ahead_at board = ahead_past (front_judged board)
 
 -- what was read before the first lane, where there was no fault before it
-abbrev pub base_past : Result (Front × Rest) BoardVerdict → Rest → Rest → Rest → Rest → Option BoardBase
+abbrev pub base_past : Result (Front × Rest) BoardVerdict → Rest → Rest → Rest → Rest
+    → Option BoardBase
 base_past (Ok front) first_challenge first_reply second_challenge second_reply =
-    option_map (with_front front.0) (base_in (base_behind (statement_of front.0) front.1 first_challenge first_reply second_challenge second_reply))
+    option_map (with_front front.0)
+    (base_in (base_behind (statement_of front.0) front.1 first_challenge first_reply
+    second_challenge second_reply))
 base_past (Err verdict) first_challenge first_reply second_challenge second_reply = None
 
 abbrev pub base_at : Rest → Rest → Rest → Rest → Rest → Option BoardBase
 base_at board = base_past (front_judged board)
 
--- what five named files come to from their first lines on; or the first of them, in this order, that is missing or
--- too long
-abbrev pub of_files : {X : Type 0} → (Rest → Rest → Rest → Rest → Rest → X) → Files → List ℕ → List ℕ → List ℕ → List ℕ → List ℕ → Result X VErr
+-- what five named files come to from their first lines on; or the first of them, in this order,
+-- that is missing or too long
+abbrev pub of_files : {X : Type 0} → (Rest → Rest → Rest → Rest → Rest → X) → Files → List ℕ
+    → List ℕ → List ℕ → List ℕ → List ℕ → Result X VErr
 of_files whole files board first_challenge first_reply second_challenge second_reply = do
   board ← begun_file part.Board (get files board)
   first_challenge ← begun_file part.Challenge (get files first_challenge)
@@ -103,17 +116,21 @@ of_files whole files board first_challenge first_reply second_challenge second_r
   Ok (whole board first_challenge first_reply second_challenge second_reply)
 
 abbrev pub five_rests : Rest → Rest → Rest → Rest → Rest → Rest × Rest × Rest × Rest × Rest
-five_rests board first_challenge first_reply second_challenge second_reply = (board, first_challenge, first_reply, second_challenge, second_reply)
+five_rests board first_challenge first_reply second_challenge second_reply =
+    (board, first_challenge, first_reply, second_challenge, second_reply)
 
 abbrev pub named_rests : Files → TwoReplies → Result (Rest × Rest × Rest × Rest × Rest) VErr
-named_rests files names = of_files five_rests files names.board.now names.challenge1.now names.reply1.now names.challenge2.now names.reply2.now
+named_rests files names = of_files five_rests files names.board.now names.challenge1.now
+    names.reply1.now names.challenge2.now names.reply2.now
 
 -- what is given and found of the named files
-unfoldable pub two_on : Files → List ℕ → List ℕ → List ℕ → List ℕ → List ℕ → Result (Ahead BoardVerdict) VErr
+unfoldable pub two_on : Files → List ℕ → List ℕ → List ℕ → List ℕ → List ℕ
+    → Result (Ahead BoardVerdict) VErr
 two_on = of_files ahead_at
 
 -- what was read of them before the first lane
-unfoldable pub base_on : Files → List ℕ → List ℕ → List ℕ → List ℕ → List ℕ → Result (Option BoardBase) VErr
+unfoldable pub base_on : Files → List ℕ → List ℕ → List ℕ → List ℕ → List ℕ
+    → Result (Option BoardBase) VErr
 base_on = of_files base_at
 
 -- ---- how far two replies to a board were read
@@ -130,7 +147,8 @@ board_finding (Behind course) = option_map as_two (finding_of course.lanes)
 -- what was read before the first lane, where there was no fault so far
 abbrev pub board_base : BoardStage → Option BoardBase
 board_base (Refused verdict) = None
-board_base (Behind course) = option_map (λ base. with_front (front_by course base.statement) base) (base_of course.lanes)
+board_base (Behind course) = option_map (λ base. with_front (front_by course base.statement) base)
+    (base_of course.lanes)
 
 -- how many lanes were given
 abbrev pub board_given : BoardStage → ℕ
@@ -157,7 +175,8 @@ IsBoardStage (Behind course) = IsBoardCourse course
 -- a lane is given, and then what is ahead of the new stage; or what is found
 abbrev pub BoardGoesOn : Ahead BoardVerdict → Option TwoLane → BoardStage → Files → Type 0
 BoardGoesOn before (Some lane) stage files = before ≡ with_lane lane (board_ahead stage files)
-BoardGoesOn before None stage files = (found : Finding BoardVerdict) × (board_finding stage ≡ Some found) × (before ≡ over found)
+BoardGoesOn before None stage files = (found : Finding BoardVerdict)
+    × (board_finding stage ≡ Some found) × (before ≡ over found)
 
 -- no lane is given any more
 abbrev pub IsBoardOver : BoardStage → Type 0

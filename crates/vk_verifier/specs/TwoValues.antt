@@ -1,4 +1,5 @@
--- What two accepted replies give, in the words of the values whose texts the files are: behind a front, and of a board.
+-- What two accepted replies give, in the words of the values whose texts the files are: behind a
+-- front, and of a board.
 use Rattle.std.specs.Prelude.{◌≡◌, ℕ, ◌+◌, ◌-◌, Bool, List, [], ◌++◌, length, slice_get, slice_index_or, Option, Some}
 use Rattle.vk_lines.specs.Lines.{Rest}
 use Rattle.vk_wire.specs.declared.wire.Shown.{Shown}
@@ -19,21 +20,30 @@ use Rattle.vk_verifier.specs.TwoLaw.{ahead_in}
 
 module _ {s : StatementValue} {front file : List ℕ} where
   -- all that is public of the lane of that number, from 1
-  abbrev pub case_behind : {challenge reply : List ℕ} → AcceptsBehind s front file challenge reply → ℕ → LaneCase
-  case_behind accepted number = case_of s number (slice_index_or accepted.lines (number - 1) no_lines)
+  abbrev pub case_behind : {challenge reply : List ℕ} → AcceptsBehind s front file challenge reply
+      → ℕ → LaneCase
+  case_behind accepted number =
+      case_of s number (slice_index_or accepted.lines (number - 1) no_lines)
 
   -- what the reply shows of it
-  abbrev pub shown_behind : {challenge reply : List ℕ} → AcceptsBehind s front file challenge reply → ℕ → List Shown
+  abbrev pub shown_behind : {challenge reply : List ℕ} → AcceptsBehind s front file challenge reply
+      → ℕ → List Shown
   shown_behind accepted number = slice_index_or accepted.reply (number - 1) []
 
   -- the statement, and the bits of both challenges
   abbrev pub base_with : {first_challenge first_reply second_challenge second_reply : List ℕ}
-      → AcceptsBehind s front file first_challenge first_reply → AcceptsBehind s front file second_challenge second_reply → Base
-  base_with first second = record { statement = s; first_bits = first.challenge.bits; second_bits = second.challenge.bits }
+      → AcceptsBehind s front file first_challenge first_reply
+      → AcceptsBehind s front file second_challenge second_reply → Base
+  base_with first second = record {
+    statement = s;
+    first_bits = first.challenge.bits;
+    second_bits = second.challenge.bits;
+  }
 
   -- the lane of that number, with what each reply shows of it for its challenge's bit
   abbrev pub two_lane_behind : {first_challenge first_reply second_challenge second_reply : List ℕ}
-      → AcceptsBehind s front file first_challenge first_reply → AcceptsBehind s front file second_challenge second_reply → ℕ → TwoLane
+      → AcceptsBehind s front file first_challenge first_reply
+      → AcceptsBehind s front file second_challenge second_reply → ℕ → TwoLane
   two_lane_behind first second number = record {
     case = case_behind first number;
     first_bit = bit_of first.challenge number;
@@ -43,26 +53,40 @@ module _ {s : StatementValue} {front file : List ℕ} where
   }
 
   -- what is given: the lanes 1, 2, .. of the file, and what is found by the challenges
-  pub record GivesBehind {V : Type 0} {first_challenge first_reply second_challenge second_reply : List ℕ}
-      (first : AcceptsBehind s front file first_challenge first_reply) (second : AcceptsBehind s front file second_challenge second_reply) (ahead : Ahead V) : Type 0 where
+  pub record GivesBehind {V : Type 0} {first_challenge first_reply second_challenge
+      second_reply : List ℕ}
+      (first : AcceptsBehind s front file first_challenge first_reply)
+      (second : AcceptsBehind s front file second_challenge second_reply)
+      (ahead : Ahead V) : Type 0 where
     pub one_each : length ahead.lanes ≡ s.lanes
-    pub each : (index : ℕ) (lane : TwoLane) → slice_get ahead.lanes index ≡ Some lane → lane ≡ two_lane_behind first second (index + 1)
+    pub each : (index : ℕ) (lane : TwoLane) → slice_get ahead.lanes index ≡ Some lane
+        → lane ≡ two_lane_behind first second (index + 1)
     pub finding : ahead.finding ≡ accepted_of first.challenge.bits second.challenge.bits
 
--- of every statement and every front, where the lines of the file are read on behind it: what two accepted replies
--- give is what stands in their files
+-- of every statement and every front, where the lines of the file are read on behind it: what two
+-- accepted replies give is what stands in their files
 abbrev pub AcceptedBehindGive : Type 0
-AcceptedBehindGive = (s : StatementValue) → IsStatement s → (front file first_challenge first_reply second_challenge second_reply : List ℕ) (rest : Rest) → file ≡ front ++ rest.left
-    → (first : AcceptsBehind s front file first_challenge first_reply) (second : AcceptsBehind s front file second_challenge second_reply)
+AcceptedBehindGive = (s : StatementValue) → IsStatement s
+    → (front file first_challenge first_reply second_challenge second_reply : List ℕ) (rest : Rest)
+    → file ≡ front ++ rest.left
+    → (first : AcceptsBehind s front file first_challenge first_reply)
+    (second : AcceptsBehind s front file second_challenge second_reply)
     → (second.lines ≡ first.lines)
-    × (base_in (base_behind s rest (from_start first_challenge) (from_start first_reply) (from_start second_challenge) (from_start second_reply)) ≡ Some (base_with first second))
-    × GivesBehind first second (ahead_behind s rest (from_start first_challenge) (from_start first_reply) (from_start second_challenge) (from_start second_reply))
+    × (base_in (base_behind s rest (from_start first_challenge) (from_start first_reply)
+    (from_start second_challenge) (from_start second_reply)) ≡ Some (base_with first second))
+    × GivesBehind first second
+    (ahead_behind s rest (from_start first_challenge) (from_start first_reply)
+    (from_start second_challenge) (from_start second_reply))
 
 -- two replies are found to be accepted only where they are
 abbrev pub OnlyAcceptedBehind : Type 0
-OnlyAcceptedBehind = (s : StatementValue) → IsStatement s → (front file first_challenge first_reply second_challenge second_reply : List ℕ) (rest : Rest) → file ≡ front ++ rest.left
-    → BothAreAccepted (ahead_behind s rest (from_start first_challenge) (from_start first_reply) (from_start second_challenge) (from_start second_reply)).finding
-    → AcceptsBehind s front file first_challenge first_reply × AcceptsBehind s front file second_challenge second_reply
+OnlyAcceptedBehind = (s : StatementValue) → IsStatement s
+    → (front file first_challenge first_reply second_challenge second_reply : List ℕ) (rest : Rest)
+    → file ≡ front ++ rest.left
+    → BothAreAccepted (ahead_behind s rest (from_start first_challenge) (from_start first_reply)
+    (from_start second_challenge) (from_start second_reply)).finding
+    → AcceptsBehind s front file first_challenge first_reply
+    × AcceptsBehind s front file second_challenge second_reply
 
 -- ---- boards
 
@@ -75,27 +99,35 @@ abbrev pub case_in : {board challenge reply : List ℕ} → Accepts board challe
 case_in accepted number = case_behind accepted.behind number
 
 -- what the reply shows of it
-abbrev pub shown_in : {board challenge reply : List ℕ} → Accepts board challenge reply → ℕ → List Shown
+abbrev pub shown_in : {board challenge reply : List ℕ} → Accepts board challenge reply → ℕ
+    → List Shown
 shown_in accepted number = shown_behind accepted.behind number
 
 -- the bits of the challenge
 abbrev pub bits_of : {board challenge reply : List ℕ} → Accepts board challenge reply → List Bool
 bits_of accepted = accepted.behind.challenge.bits
 
--- what is read before the first lane of the bytes of a board, a challenge and the reply to it, and another
--- challenge and reply
+-- what is read before the first lane of the bytes of a board, a challenge and the reply to it, and
+-- another challenge and reply
 abbrev pub begun_in : List ℕ → List ℕ → List ℕ → List ℕ → List ℕ → Option BoardBase
 begun_in board first_challenge first_reply second_challenge second_reply =
-    base_at (from_start board) (from_start first_challenge) (from_start first_reply) (from_start second_challenge) (from_start second_reply)
+    base_at (from_start board) (from_start first_challenge) (from_start first_reply)
+    (from_start second_challenge) (from_start second_reply)
 
 -- the board's front, and the bits of both challenges
 abbrev pub board_with : {board first_challenge first_reply second_challenge second_reply : List ℕ}
-    → Accepts board first_challenge first_reply → Accepts board second_challenge second_reply → BoardBase
-board_with first second = record { front = first.front; first_bits = bits_of first; second_bits = bits_of second }
+    → Accepts board first_challenge first_reply → Accepts board second_challenge second_reply
+    → BoardBase
+board_with first second = record {
+  front = first.front;
+  first_bits = bits_of first;
+  second_bits = bits_of second;
+}
 
 -- the lane of that number, with what each reply shows of it for its challenge's bit
 abbrev pub two_lane_in : {board first_challenge first_reply second_challenge second_reply : List ℕ}
-    → Accepts board first_challenge first_reply → Accepts board second_challenge second_reply → ℕ → TwoLane
+    → Accepts board first_challenge first_reply → Accepts board second_challenge second_reply → ℕ
+    → TwoLane
 two_lane_in first second number = record {
   case = case_in first number;
   first_bit = bit_of first.behind.challenge number;
@@ -106,27 +138,35 @@ two_lane_in first second number = record {
 
 -- both were accepted on one board
 pub record AreOfOneBoard {board first_challenge first_reply second_challenge second_reply : List ℕ}
-    (first : Accepts board first_challenge first_reply) (second : Accepts board second_challenge second_reply) : Type 0 where
+    (first : Accepts board first_challenge first_reply)
+    (second : Accepts board second_challenge second_reply) : Type 0 where
   pub one_front : second.front ≡ first.front
   pub one_lines : second.behind.lines ≡ first.behind.lines
 
 -- what is given: the lanes 1, 2, .. of the board, and what is found by the challenges
 pub record GivesValues {board first_challenge first_reply second_challenge second_reply : List ℕ}
-    (first : Accepts board first_challenge first_reply) (second : Accepts board second_challenge second_reply) (ahead : Ahead BoardVerdict) : Type 0 where
-  pub one_each : length ahead.lanes ≡ first.front.head.lanes
-  pub each : (index : ℕ) (lane : TwoLane) → slice_get ahead.lanes index ≡ Some lane → lane ≡ two_lane_in first second (index + 1)
-  pub finding : ahead.finding ≡ accepted_of (bits_of first) (bits_of second)
+    (first : Accepts board first_challenge first_reply)
+    (second : Accepts board second_challenge second_reply) (ahead : Ahead BoardVerdict) : Type 0
+  where
+    pub one_each : length ahead.lanes ≡ first.front.head.lanes
+    pub each : (index : ℕ) (lane : TwoLane) → slice_get ahead.lanes index ≡ Some lane
+        → lane ≡ two_lane_in first second (index + 1)
+    pub finding : ahead.finding ≡ accepted_of (bits_of first) (bits_of second)
 
 -- what two accepted replies give is what stands in their files
 abbrev pub AcceptedGive : Type 0
 AcceptedGive = (board first_challenge first_reply second_challenge second_reply : List ℕ)
-    (first : Accepts board first_challenge first_reply) (second : Accepts board second_challenge second_reply)
+    (first : Accepts board first_challenge first_reply)
+    (second : Accepts board second_challenge second_reply)
     → AreOfOneBoard first second
-    × (begun_in board first_challenge first_reply second_challenge second_reply ≡ Some (board_with first second))
-    × GivesValues first second (ahead_in board first_challenge first_reply second_challenge second_reply)
+    × (begun_in board first_challenge first_reply second_challenge second_reply
+    ≡ Some (board_with first second))
+    × GivesValues first second
+    (ahead_in board first_challenge first_reply second_challenge second_reply)
 
 -- two replies are found to be accepted only where they are
 abbrev pub OnlyAcceptedGive : Type 0
 OnlyAcceptedGive = (board first_challenge first_reply second_challenge second_reply : List ℕ)
-    → BothAreAccepted (ahead_in board first_challenge first_reply second_challenge second_reply).finding
+    → BothAreAccepted (ahead_in board first_challenge first_reply second_challenge
+    second_reply).finding
     → Accepts board first_challenge first_reply × Accepts board second_challenge second_reply

@@ -41,7 +41,8 @@ front_judged rest = in_front (front_at rest)
 -- what the board publishes of its auction
 abbrev pub numbers_in : Front → BoardNumbers
 numbers_in front =
-    board_numbers front.head.version front.head.seals front.head.width front.head.reserve (sale_at front.position front.head.price)
+    board_numbers front.head.version front.head.seals front.head.width front.head.reserve
+    (sale_at front.position front.head.price)
 
 -- the circuit of the board
 abbrev pub plan_of : Front → PlanValue
@@ -49,7 +50,12 @@ plan_of front = board_plan (numbers_in front)
 
 -- what its lanes are to show
 abbrev pub statement_of : Front → StatementValue
-statement_of front = record { auction = front.head.auction; lanes = front.head.lanes; seals = front.seals; plan = plan_of front }
+statement_of front = record {
+  auction = front.head.auction;
+  lanes = front.head.lanes;
+  seals = front.seals;
+  plan = plan_of front;
+}
 
 -- ---- whole files
 
@@ -81,7 +87,8 @@ from_start bytes = record { taken = 0; left = bytes }
 
 -- the verdict on the bytes of a board, a challenge and a reply
 abbrev pub verdict_of : List ℕ → List ℕ → List ℕ → BoardVerdict
-verdict_of board challenge reply = verdict_by (judged (from_start board) (from_start challenge) (from_start reply))
+verdict_of board challenge reply =
+    verdict_by (judged (from_start board) (from_start challenge) (from_start reply))
 
 -- ---- files on a shelf
 
@@ -95,11 +102,13 @@ unread_file verr.NoMemory = None
 -- a file from its first line on, where it is held and has at most 2^30 bytes
 abbrev pub begun_file : Part → Option (List ℕ) → Result Rest VErr
 begun_file file None = Err (verr.Missing file)
-begun_file file (Some bytes) = if nat_lt (2 ^ 30) (length bytes) then Err (verr.TooLong file) else Ok (from_start bytes)
+begun_file file (Some bytes) = if nat_lt (2 ^ 30) (length bytes) then Err (verr.TooLong file)
+    else Ok (from_start bytes)
 
--- what three named files come to from their first lines on; or the first of them, in this order, that is missing or
--- too long
-abbrev pub of_attempt : {X : Type 0} → (Rest → Rest → Rest → X) → Files → List ℕ → List ℕ → List ℕ → Result X VErr
+-- what three named files come to from their first lines on; or the first of them, in this order,
+-- that is missing or too long
+abbrev pub of_attempt : {X : Type 0} → (Rest → Rest → Rest → X) → Files → List ℕ → List ℕ → List ℕ
+    → Result X VErr
 of_attempt whole files file challenge reply = do
   file ← begun_file part.Board (get files file)
   challenge ← begun_file part.Challenge (get files challenge)
@@ -108,7 +117,9 @@ of_attempt whole files file challenge reply = do
 
 -- what they come to for the readers of them
 abbrev pub of_begun : {X : Type 0} → (Rest → Rest → Rest → X) → Attempt → Files → X
-of_begun whole attempt files = whole (rest_of attempt.pair.board files) (rest_of attempt.challenge files) (rest_of attempt.pair.reply files)
+of_begun whole attempt files =
+    whole (rest_of attempt.pair.board files) (rest_of attempt.challenge files)
+    (rest_of attempt.pair.reply files)
 
 abbrev pub three_rests : Rest → Rest → Rest → Rest × Rest × Rest
 three_rests file challenge reply = (file, challenge, reply)

@@ -17,10 +17,12 @@ pub enum Part {
     SecondReply,
 }
 
-/// The first fault behind a front: of a challenge, of the reply to it, and of the lanes and ends of both files.
+/// The first fault behind a front: of a challenge, of the reply to it, and of the lanes and ends of
+/// both files.
 #[derive(Clone, Copy, Debug, PartialEq, Eq)]
 pub enum Fault {
-    /// The file is not of its form. The line, counted from 1, is the first that isn't what its place demands.
+    /// The file is not of its form. The line, counted from 1, is the first that isn't what its
+    /// place demands.
     Malformed {
         part: Part,
         line: u64,
@@ -33,8 +35,8 @@ pub enum Fault {
         wire: u32,
         fault: WireFault,
     },
-    /// In the lane, counted from 1, every wire reads its half, and the row, counted from 0, is the first
-    /// that these don't meet.
+    /// In the lane, counted from 1, every wire reads its half, and the row, counted from 0, is the
+    /// first that these don't meet.
     Row {
         lane: u32,
         row: u32,
@@ -45,7 +47,8 @@ pub enum Fault {
 #[derive(Clone, Copy, Debug, PartialEq, Eq)]
 pub enum BoardVerdict {
     Accepted,
-    /// The file is not of its form. The line, counted from 1, is the first that isn't what its place demands.
+    /// The file is not of its form. The line, counted from 1, is the first that isn't what its
+    /// place demands.
     Malformed {
         part: Part,
         line: u64,
@@ -62,8 +65,8 @@ pub enum BoardVerdict {
         wire: u32,
         fault: WireFault,
     },
-    /// In the lane, counted from 1, every wire reads its half, and the row, counted from 0, is the first
-    /// that these don't meet.
+    /// In the lane, counted from 1, every wire reads its half, and the row, counted from 0, is the
+    /// first that these don't meet.
     Row {
         lane: u32,
         row: u32,

@@ -29,9 +29,12 @@ use vk_vickrey::{BoardPlan, Sale};
 pub fn in_front<X>(read: Result<X, FrontErr>) -> Result<X, Halt<BoardVerdict>>
     ensures exact { result ≡ front_answer read }
     ensures judged { (rest : Rest) (expected : Result (X × Rest) FrontFault)
-        → Gives fault_of (λ x. (x, rest)) read expected → Judges (λ x. (x, rest)) result (in_front expected) }
+        → Gives fault_of (λ x. (x, rest)) read expected
+        → Judges (λ x. (x, rest)) result (in_front expected) }
     ensures value { IfOk result (λ x. read ≡ Ok x) }
-    ensures causes { (before : ℕ) (after : ℕ) → Causes (FrontErr.Unread ReadErr.Failed) read before after → Causes Halt.Failed result before after }
+    ensures causes { (before : ℕ) (after : ℕ)
+        → Causes (FrontErr.Unread ReadErr.Failed) read before after
+        → Causes Halt.Failed result before after }
 {
     match read {
         Ok(value) => Ok(value),
@@ -51,8 +54,10 @@ pub fn in_front<X>(read: Result<X, FrontErr>) -> Result<X, Halt<BoardVerdict>>
 /// What was judged behind the front. A fault is the verdict.
 fn in_board<X>(judged: Result<X, Halt<Fault>>) -> Result<X, Halt<BoardVerdict>>
     ensures exact { result ≡ board_answer judged }
-    ensures judged { (expected : Result X Fault) → Judges (λ x. x) judged expected → Judges (λ x. x) result (in_board expected) }
-    ensures causes { (before : ℕ) (after : ℕ) → Causes Halt.Failed judged before after → Causes Halt.Failed result before after }
+    ensures judged { (expected : Result X Fault) → Judges (λ x. x) judged expected
+        → Judges (λ x. x) result (in_board expected) }
+    ensures causes { (before : ℕ) (after : ℕ) → Causes Halt.Failed judged before after
+        → Causes Halt.Failed result before after }
 {
     match judged {
         Ok(value) => Ok(value),
@@ -115,7 +120,8 @@ fn judge<S: Shelf>(
     shelf: &mut S,
     attempt: &mut Attempt,
 ) -> Result<(), Halt<BoardVerdict>>
-    ensures modelled { IfSome (S.held shelf.old) (λ files. Judges (λ done. done) result (of_begun judged attempt.old files)) }
+    ensures modelled { IfSome (S.held shelf.old)
+        (λ files. Judges (λ done. done) result (of_begun judged attempt.old files)) }
     ensures shelf { OnlyReads S.held S.Shelf.faults Halt.Failed result shelf.old shelf.new }
 {
     let front = in_front(read_front(alloc, shelf, &mut attempt.pair.board))?;
@@ -129,7 +135,8 @@ fn verdict_in(judged: Result<(), Halt<BoardVerdict>>) -> Result<BoardVerdict, VE
     ensures exact { result ≡ verdict_answer judged }
     ensures modelled { (expected : Result Unit BoardVerdict) → Judges (λ done. done) judged expected
         → Gives unread_file (λ verdict. verdict) result (Ok (verdict_by expected)) }
-    ensures causes { (before : ℕ) (after : ℕ) → Causes Halt.Failed judged before after → Causes VErr.Failed result before after }
+    ensures causes { (before : ℕ) (after : ℕ) → Causes Halt.Failed judged before after
+        → Causes VErr.Failed result before after }
 {
     match judged {
         Ok(()) => Ok(BoardVerdict::Accepted),
@@ -139,12 +146,13 @@ fn verdict_in(judged: Result<(), Halt<BoardVerdict>>) -> Result<BoardVerdict, VE
     }
 }
 
-/// The verdict on the named files: the first fault in the order of the head and the seals of the board,
-/// the price, the winner, the challenge, the head of the reply, the numbers of lanes, then lane by lane the
-/// lines of the board, those of the reply, the wires and the rows, and then the ends of both files.
+/// The verdict on the named files: the first fault in the order of the head and the seals of the
+/// board, the price, the winner, the challenge, the head of the reply, the numbers of lanes, then
+/// lane by lane the lines of the board, those of the reply, the wires and the rows, and then the
+/// ends of both files.
 ///
-/// Errs where a file is missing or longer than 2^30 bytes, and names the first that is; where the shelf
-/// fails; and for want of memory.
+/// Errs where a file is missing or longer than 2^30 bytes, and names the first that is; where the
+/// shelf fails; and for want of memory.
 #[tactic(auto, using(crate::proofs::Attempts::verdict_begun))]
 pub fn verdict<S: Shelf>(
     alloc: Global,
@@ -154,7 +162,8 @@ pub fn verdict<S: Shelf>(
     reply: &str,
 ) -> Result<BoardVerdict, VErr>
     ensures modelled { IfSome (S.held shelf.old) (λ files.
-        Gives unread_file (λ verdict. verdict) result (verdict_on files board.now challenge.now reply.now)) }
+        Gives unread_file (λ verdict. verdict) result
+        (verdict_on files board.now challenge.now reply.now)) }
     ensures shelf { OnlyReads S.held S.Shelf.faults VErr.Failed result shelf.old shelf.new }
 {
     let names = OneReply {

@@ -33,9 +33,11 @@ impl<V> From<NoMemory> for Halt<V> {
 pub fn in_part<X>(part: Part, read: Result<X, ReadErr>) -> Result<X, Halt<Fault>>
     ensures exact { result ≡ read_answer part read }
     ensures judged { (rest : Rest) (expected : Result (X × Rest) ℕ)
-        → GivesReading (λ x. x) read rest expected → Judges (λ x. (x, rest)) result (in_part part expected) }
+        → GivesReading (λ x. x) read rest expected
+        → Judges (λ x. (x, rest)) result (in_part part expected) }
     ensures value { IfOk result (λ x. read ≡ Ok x) }
-    ensures causes { (before : ℕ) (after : ℕ) → Causes ReadErr.Failed read before after → Causes Halt.Failed result before after }
+    ensures causes { (before : ℕ) (after : ℕ) → Causes ReadErr.Failed read before after
+        → Causes Halt.Failed result before after }
 {
     match read {
         Ok(value) => Ok(value),
@@ -49,10 +51,13 @@ pub fn in_part<X>(part: Part, read: Result<X, ReadErr>) -> Result<X, Halt<Fault>
 pub fn known<X, V>(judged: Result<X, Halt<V>>) -> Result<Result<X, V>, OutsideErr>
     ensures exact { result ≡ known_answer judged }
     ensures read { (rest : Rest) (expected : Result (X × Rest) V)
-        → Judges (λ x. (x, rest)) judged expected → IfOk result (λ known. expected ≡ and_rest known rest) }
-    ensures judged { (expected : Result X V) → Judges (λ x. x) judged expected → IfOk result (λ known. expected ≡ known) }
+        → Judges (λ x. (x, rest)) judged expected
+        → IfOk result (λ known. expected ≡ and_rest known rest) }
+    ensures judged { (expected : Result X V) → Judges (λ x. x) judged expected
+        → IfOk result (λ known. expected ≡ known) }
     ensures value { IfOk result (λ known. IfOk known (λ x. judged ≡ Ok x)) }
-    ensures causes { (before : ℕ) (after : ℕ) → Causes Halt.Failed judged before after → Causes OutsideErr.Failed result before after }
+    ensures causes { (before : ℕ) (after : ℕ) → Causes Halt.Failed judged before after
+        → Causes OutsideErr.Failed result before after }
 {
     match judged {
         Ok(value) => Ok(Ok(value)),

@@ -9,7 +9,7 @@ ghost use Rattle.vk_verifier.specs.Verdicts.{of_begun};
 use crate::answers::{Fault, Part};
 use crate::halt::{Halt, in_part};
 use crate::lane::judge_lane;
-use crate::stage::{Attempt, LanesLeft, FileAndReply};
+use crate::stage::{Attempt, FileAndReply, LanesLeft};
 use crate::statement::Statement;
 use std::alloc::Global;
 use vk_io::Shelf;
@@ -52,7 +52,8 @@ pub fn read_attempt<S: Shelf>(
     Ok(bits)
 }
 
-/// Judges each lane that is left for its bit of the challenge, and then the ends of the file and the reply.
+/// Judges each lane that is left for its bit of the challenge, and then the ends of the file and
+/// the reply.
 pub fn judge_rest<S: Shelf>(
     alloc: Global,
     shelf: &mut S,
@@ -107,7 +108,8 @@ pub fn judge_behind<S: Shelf>(
 #[tactic(auto, unfolding(crate::specs::Behind::ends_judged))]
 pub fn read_ends<S: Shelf>(shelf: &mut S, pair: &mut FileAndReply) -> Result<(), Halt<Fault>>
     ensures modelled { IfSome (S.held shelf.old) (λ files.
-        Judges (λ done. done) result (ends_judged (rest_of pair.old.board files) (rest_of pair.old.reply files))) }
+        Judges (λ done. done) result
+        (ends_judged (rest_of pair.old.board files) (rest_of pair.old.reply files))) }
     ensures shelf { OnlyReads S.held S.Shelf.faults Halt.Failed result shelf.old shelf.new }
 {
     in_part(Part::Board, pair.board.read_end(shelf))?;

@@ -74,7 +74,8 @@ pub fn read_case<S: Shelf>(
     requires first { 1 ≤ lane }
     requires last { lane ≤ statement.now.lanes }
     ensures modelled { IfSome (S.held shelf.old) (λ files.
-        Judges (λ case. (case, rest_of board.new files)) result (case_at statement.now lane (rest_of board.old files))) }
+        Judges (λ case. (case, rest_of board.new files)) result
+        (case_at statement.now lane (rest_of board.old files))) }
     ensures right { IfOk result (IsLaneCase statement.now lane) }
     ensures fits { IfOk result (Fits statement.now.plan) }
     ensures shelf { OnlyReads S.held S.Shelf.faults Halt.Failed result shelf.old shelf.new }
@@ -99,7 +100,8 @@ fn check(
     shown: &[Shown],
 ) -> Result<(), Halt<Fault>>
     requires { HasCounts statement.now.plan case.now shown.now }
-    ensures judged { Judges (λ done. done) result (lane_fault lane (checked_lane statement.now.plan case.now bit shown.now)) }
+    ensures judged { Judges (λ done. done) result
+        (lane_fault lane (checked_lane statement.now.plan case.now bit shown.now)) }
     ensures accepted { OnOk result (IsAccepted statement.now.plan case.now bit shown.now) }
     ensures inside { IsErrOf result Halt.Failed → ⊥ }
 {
@@ -128,7 +130,8 @@ pub fn read_checked<S: Shelf>(
 ) -> Result<Seq<Shown>, Halt<Fault>>
     requires { Fits statement.now.plan case.now }
     ensures modelled { IfSome (S.held shelf.old) (λ files.
-        Judges (λ shown. (shown, rest_of reply.new files)) result (reply_judged statement.now.plan case.now lane bit (rest_of reply.old files))) }
+        Judges (λ shown. (shown, rest_of reply.new files)) result
+        (reply_judged statement.now.plan case.now lane bit (rest_of reply.old files))) }
     ensures accepted { IfOk result (IsAccepted statement.now.plan case.now bit) }
     ensures shelf { OnlyReads S.held S.Shelf.faults Halt.Failed result shelf.old shelf.new }
 {
@@ -155,7 +158,8 @@ pub fn judge_lane<S: Shelf>(
     requires last { lane ≤ statement.now.lanes }
     ensures modelled { IfSome (S.held shelf.old) (λ files.
         Judges (λ _. (rest_of pair.new.board files, rest_of pair.new.reply files)) result
-        (lane_judged statement.now lane bit (rest_of pair.old.board files) (rest_of pair.old.reply files))) }
+        (lane_judged statement.now lane bit (rest_of pair.old.board files)
+        (rest_of pair.old.reply files))) }
     ensures shelf { OnlyReads S.held S.Shelf.faults Halt.Failed result shelf.old shelf.new }
 {
     let case = read_case(alloc, shelf, statement, lane, &mut pair.board)?;

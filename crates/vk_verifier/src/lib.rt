@@ -1,5 +1,5 @@
-//! The verdict on files whose lanes are sealed: of any statement, behind a front, and of a board, a challenge and the
-//! reply to it.
+//! The verdict on files whose lanes are sealed: of any statement, behind a front, and of a board, a
+//! challenge and the reply to it.
 #![tactic(auto)]
 
 mod answers;
@@ -27,7 +27,7 @@ pub use laws::{
 };
 pub use named::{OneReply, TwoReplies, begin_attempt, begin_two};
 pub use stage::{
-    Attempt, Base, Finding, FileAndReply, Stage, TwoAttempts, TwoLane, TwoReaders, TwoVerdict,
+    Attempt, Base, FileAndReply, Finding, Stage, TwoAttempts, TwoLane, TwoReaders, TwoVerdict,
 };
 pub use statement::Statement;
 pub use two::LaneChecker;

@@ -38,8 +38,10 @@ pub struct TwoReplies<'a> {
 fn begun_file(part: Part, started: Result<Lines, StartErr>) -> Result<Lines, VErr>
     ensures exact { result ≡ begun_answer part started }
     ensures modelled { (files : Files) (name : List ℕ) → Starts files name started
-        → Gives unread_file (λ lines. rest_of lines files) result (begun_file part (map.get files name)) }
-    ensures causes { (before : ℕ) (after : ℕ) → Causes StartErr.Failed started before after → Causes VErr.Failed result before after }
+        → Gives unread_file (λ lines. rest_of lines files) result
+        (begun_file part (map.get files name)) }
+    ensures causes { (before : ℕ) (after : ℕ) → Causes StartErr.Failed started before after
+        → Causes VErr.Failed result before after }
 {
     match started {
         Ok(lines) => Ok(lines),
@@ -53,7 +55,8 @@ fn begun_file(part: Part, started: Result<Lines, StartErr>) -> Result<Lines, VEr
 /// Begins to read the named file.
 fn begin<S: Shelf>(alloc: Global, shelf: &mut S, name: &str, part: Part) -> Result<Lines, VErr>
     ensures modelled { IfSome (S.held shelf.old) (λ files.
-        Gives unread_file (λ lines. rest_of lines files) result (begun_file part (map.get files name.now))) }
+        Gives unread_file (λ lines. rest_of lines files) result
+        (begun_file part (map.get files name.now))) }
     ensures shelf { OnlyReads S.held S.Shelf.faults VErr.Failed result shelf.old shelf.new }
 {
     let started = Lines::start(alloc, shelf, name);
@@ -61,15 +64,17 @@ fn begin<S: Shelf>(alloc: Global, shelf: &mut S, name: &str, part: Part) -> Resu
     lines
 }
 
-/// Begins to read a file, a challenge and the reply to it. Errs where one is missing or longer than 2^30 bytes, and
-/// names the first that is; where the shelf fails; and for want of memory.
+/// Begins to read a file, a challenge and the reply to it. Errs where one is missing or longer than
+/// 2^30 bytes, and names the first that is; where the shelf fails; and for want of memory.
 pub fn begin_attempt<S: Shelf>(
     alloc: Global,
     shelf: &mut S,
     names: &OneReply<'_>,
 ) -> Result<Attempt, VErr>
-    ensures modelled { IfSome (S.held shelf.old) (λ files. Gives unread_file (λ attempt. of_begun three_rests attempt files) result
-        (of_attempt three_rests files names.now.file.now names.now.challenge.now names.now.reply.now)) }
+    ensures modelled { IfSome (S.held shelf.old)
+        (λ files. Gives unread_file (λ attempt. of_begun three_rests attempt files) result
+        (of_attempt three_rests files names.now.file.now names.now.challenge.now
+        names.now.reply.now)) }
     ensures shelf { OnlyReads S.held S.Shelf.faults VErr.Failed result shelf.old shelf.new }
 {
     let board = begin(alloc, shelf, names.file, Part::Board)?;
@@ -79,14 +84,16 @@ pub fn begin_attempt<S: Shelf>(
     Ok(Attempt { challenge, pair })
 }
 
-/// Begins to read a file, a challenge and the reply to it, and another challenge and the reply to that. Errs as for one
-/// challenge.
+/// Begins to read a file, a challenge and the reply to it, and another challenge and the reply to
+/// that. Errs as for one challenge.
 pub fn begin_two<S: Shelf>(
     alloc: Global,
     shelf: &mut S,
     names: &TwoReplies<'_>,
 ) -> Result<TwoAttempts, VErr>
-    ensures modelled { IfSome (S.held shelf.old) (λ files. Gives unread_file (λ two. of_two five_rests two files) result (named_rests files names.now)) }
+    ensures modelled { IfSome (S.held shelf.old)
+        (λ files. Gives unread_file (λ two. of_two five_rests two files) result
+        (named_rests files names.now)) }
     ensures shelf { OnlyReads S.held S.Shelf.faults VErr.Failed result shelf.old shelf.new }
 {
     let board = begin(alloc, shelf, names.board, Part::Board)?;

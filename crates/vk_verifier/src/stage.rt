@@ -19,8 +19,8 @@ pub struct TwoLane {
 /// What two replies come to.
 #[derive(Clone, Copy, Debug, PartialEq, Eq)]
 pub enum Finding<V> {
-    /// Why the first reply is refused, where it is, else why the second is. What is said of the second names the
-    /// second challenge or the second reply in place of a first one.
+    /// Why the first reply is refused, where it is, else why the second is. What is said of the
+    /// second names the second challenge or the second reply in place of a first one.
     Refused { second: bool, verdict: V },
     /// Both replies are accepted, and the challenges' bits are the same.
     Same,
@@ -38,7 +38,8 @@ pub struct FileAndReply {
     pub reply: Lines,
 }
 
-/// The lanes that are left to judge: of which statement, after how many, and the challenge's bits of all its lanes.
+/// The lanes that are left to judge: of which statement, after how many, and the challenge's bits
+/// of all its lanes.
 #[derive(Drop)]
 pub struct LanesLeft<'a> {
     pub statement: &'a Statement,
@@ -53,7 +54,8 @@ pub struct Attempt {
     pub pair: FileAndReply,
 }
 
-/// What was read before the first lane: the statement of the front, and the bits of both challenges.
+/// What was read before the first lane: the statement of the front, and the bits of both
+/// challenges.
 #[derive(Drop)]
 pub struct Base {
     pub statement: Statement,
@@ -68,8 +70,8 @@ pub struct TwoReaders {
     pub second: Lines,
 }
 
-/// A file, a challenge and the reply to it, and another challenge and the reply to that, each from where it is to be
-/// read on.
+/// A file, a challenge and the reply to it, and another challenge and the reply to that, each from
+/// where it is to be read on.
 #[derive(Drop)]
 pub struct TwoAttempts {
     pub first_challenge: Lines,

@@ -9,8 +9,8 @@ use vk_plan::{Plan, RowTable};
 use vk_residue::NoMemory;
 use vk_seq::Seq;
 
-/// What is to be shown lane by lane: of which auction, in how many lanes, of which seals, by which circuit. Its rows
-/// are also a table, which is made once for all lanes.
+/// What is to be shown lane by lane: of which auction, in how many lanes, of which seals, by which
+/// circuit. Its rows are also a table, which is made once for all lanes.
 #[derive(Debug, Drop)]
 pub struct Statement {
     auction: [u8; 16],
@@ -26,9 +26,16 @@ impl Model for Statement {
 
     ghost Value = { StatementValue };
 
-    ghost view = { λ s. record { auction = s.auction; lanes = s.lanes; seals = s.seals; plan = s.plan } };
+    ghost view = { λ s. record {
+      auction = s.auction;
+      lanes = s.lanes;
+      seals = s.seals;
+      plan = s.plan;
+    } };
 
-    ghost invariant = { λ s. IsStatement (record { auction = s.auction; lanes = s.lanes; seals = s.seals; plan = s.plan }) × (s.table ≡ s.plan.rows) };
+    ghost invariant = { λ s. IsStatement
+        (record { auction = s.auction; lanes = s.lanes; seals = s.seals; plan = s.plan })
+        × (s.table ≡ s.plan.rows) };
 }
 
 impl Statement {
@@ -40,8 +47,10 @@ impl Statement {
         seals: Seq<SealLines>,
         plan: Plan,
     ) -> Result<Statement, NoMemory>
-        requires { IsStatement (record { auction = auction; lanes = lanes; seals = seals; plan = plan }) }
-        ensures { IfOk result (λ statement. statement ≡ record { auction = auction; lanes = lanes; seals = seals; plan = plan }) }
+        requires { IsStatement
+            (record { auction = auction; lanes = lanes; seals = seals; plan = plan }) }
+        ensures { IfOk result (λ statement. statement
+            ≡ record { auction = auction; lanes = lanes; seals = seals; plan = plan }) }
     {
         let table = RowTable::of(alloc, &plan)?;
         Ok(Statement {

@@ -50,11 +50,17 @@ impl LaneChecker {
         statement: Statement,
         two: TwoAttempts,
     ) -> Result<LaneChecker, OutsideErr>
-        ensures modelled { IfSome (S.held shelf.old) (λ files. IfOk result (λ checker. ahead_of checker files ≡ of_two (ahead_behind statement) two files)) }
-        ensures base { IfSome (S.held shelf.old) (λ files. IfOk result (λ checker. base_of checker ≡ base_in (of_two (base_behind statement) two files))) }
-        ensures statement { IfOk result (λ checker. IfSome (base_of checker) (λ base. base.statement ≡ statement)) }
+        ensures modelled { IfSome (S.held shelf.old)
+            (λ files. IfOk result
+            (λ checker. ahead_of checker files ≡ of_two (ahead_behind statement) two files)) }
+        ensures base { IfSome (S.held shelf.old)
+            (λ files. IfOk result
+            (λ checker. base_of checker ≡ base_in (of_two (base_behind statement) two files))) }
+        ensures statement { IfOk result
+            (λ checker. IfSome (base_of checker) (λ base. base.statement ≡ statement)) }
         ensures none_given { IfOk result (λ checker. given_of checker ≡ 0) }
-        ensures shelf { OnlyReads S.held S.Shelf.faults OutsideErr.Failed result shelf.old shelf.new }
+        ensures shelf { OnlyReads S.held S.Shelf.faults OutsideErr.Failed result shelf.old
+            shelf.new }
     {
         let TwoAttempts {
             mut first_challenge,
@@ -81,11 +87,14 @@ impl LaneChecker {
         alloc: Global,
         shelf: &mut S,
     ) -> Result<(LaneChecker, Option<TwoLane>), OutsideErr>
-        ensures modelled { IfSome (S.held shelf.old) (λ files. IfOk result (λ next. GoesOn (ahead_of self files) next.1 next.0 files)) }
+        ensures modelled { IfSome (S.held shelf.old)
+            (λ files. IfOk result (λ next. GoesOn (ahead_of self files) next.1 next.0 files)) }
         ensures lane { IfOk result (λ next. IfSome next.1 (IsNextLane self next.0)) }
-        ensures none { IfOk result (λ next. next.1 ≡ None → IsOver next.0 × (given_of next.0 ≡ given_of self)) }
+        ensures none { IfOk result
+            (λ next. next.1 ≡ None → IsOver next.0 × (given_of next.0 ≡ given_of self)) }
         ensures base { IfOk result (λ next. base_of next.0 ≡ base_of self) }
-        ensures shelf { OnlyReads S.held S.Shelf.faults OutsideErr.Failed result shelf.old shelf.new }
+        ensures shelf { OnlyReads S.held S.Shelf.faults OutsideErr.Failed result shelf.old
+            shelf.new }
     {
         let LaneChecker { stage } = self;
         match stage {
@@ -111,7 +120,8 @@ impl LaneChecker {
     pub fn finding(&self) -> Finding<Fault>
         requires { IsOver self.now }
         ensures value { finding_of self.now ≡ Some result }
-        ensures all { BothAreAccepted result → IsSomeAnd (base_of self.now) (λ base. given_of self.now ≡ base.statement.lanes) }
+        ensures all { BothAreAccepted result
+            → IsSomeAnd (base_of self.now) (λ base. given_of self.now ≡ base.statement.lanes) }
     {
         match &self.stage {
             Stage::Before(finding) => *finding,
@@ -157,12 +167,16 @@ fn checker_on(base: Result<Base, TwoHalt>, readers: TwoReaders) -> Result<LaneCh
     requires refuses { IfErr base Refuses }
     ensures exact { result ≡ start_answer base readers }
     ensures modelled { (files : Files) (expected : Result (Base × Rests) (Finding Fault))
-        → Judges (λ g. (g, rests_of readers files)) base expected → IfOk result (λ checker. ahead_of checker files ≡ ahead_by expected) }
+        → Judges (λ g. (g, rests_of readers files)) base expected
+        → IfOk result (λ checker. ahead_of checker files ≡ ahead_by expected) }
     ensures base { (files : Files) (expected : Result (Base × Rests) (Finding Fault))
-        → Judges (λ g. (g, rests_of readers files)) base expected → IfOk result (λ checker. base_of checker ≡ base_in expected) }
-    ensures statement { IfOk result (λ checker. IfSome (base_of checker) (λ started. base ≡ Ok started)) }
+        → Judges (λ g. (g, rests_of readers files)) base expected
+        → IfOk result (λ checker. base_of checker ≡ base_in expected) }
+    ensures statement { IfOk result
+        (λ checker. IfSome (base_of checker) (λ started. base ≡ Ok started)) }
     ensures none_given { IfOk result (λ checker. given_of checker ≡ 0) }
-    ensures causes { (before : ℕ) (after : ℕ) → Causes Halt.Failed base before after → Causes OutsideErr.Failed result before after }
+    ensures causes { (before : ℕ) (after : ℕ) → Causes Halt.Failed base before after
+        → Causes OutsideErr.Failed result before after }
 {
     match base {
         Ok(base) => Ok(LaneChecker {
@@ -188,10 +202,14 @@ fn next_on_course<S: Shelf>(
     course: Course,
 ) -> Result<(Course, Option<TwoLane>), OutsideErr>
     requires { IsCourse course }
-    ensures modelled { IfSome (S.held shelf.old) (λ files. IfOk result (λ next. GoesOn (ahead_of (Running course) files) next.1 (Running next.0) files)) }
+    ensures modelled { IfSome (S.held shelf.old)
+        (λ files. IfOk result (λ next. GoesOn (ahead_of (Running course) files) next.1
+        (Running next.0) files)) }
     ensures right { IfOk result (λ next. IsCourse next.0) }
-    ensures lane { IfOk result (λ next. IfSome next.1 (IsNextLane (Running course) (Running next.0))) }
-    ensures none { IfOk result (λ next. next.1 ≡ None → IsSome next.0.finding × (next.0.given ≡ course.given)) }
+    ensures lane { IfOk result
+        (λ next. IfSome next.1 (IsNextLane (Running course) (Running next.0))) }
+    ensures none { IfOk result
+        (λ next. next.1 ≡ None → IsSome next.0.finding × (next.0.given ≡ course.given)) }
     ensures base { IfOk result (λ next. next.0.base ≡ course.base) }
     ensures shelf { OnlyReads S.held S.Shelf.faults OutsideErr.Failed result shelf.old shelf.new }
 {
@@ -228,14 +246,17 @@ fn after_step(
     requires more { OnOk step (given < base.statement.lanes) }
     requires all { IfErr step (λ halt. Refuses halt ⊎ (given ≡ base.statement.lanes)) }
     ensures exact { result ≡ step_answer base readers given step }
-    ensures modelled { (files : Files) (before : Ahead Fault) → GivesLane before step (ahead_on base (given + 1) (rests_of readers files))
+    ensures modelled { (files : Files) (before : Ahead Fault)
+        → GivesLane before step (ahead_on base (given + 1) (rests_of readers files))
         → IfOk result (λ next. GoesOn before next.1 (Running next.0) files) }
     ensures right { IfOk result (λ next. IsCourse next.0) }
     ensures lane { IfOk result (λ next. IfSome next.1 (IsTwoLane base.statement next.0.given)) }
     ensures count { IfOk result (λ next. IfSome next.1 (λ lane. next.0.given ≡ given + 1)) }
-    ensures none { IfOk result (λ next. next.1 ≡ None → IsSome next.0.finding × (next.0.given ≡ given)) }
+    ensures none { IfOk result
+        (λ next. next.1 ≡ None → IsSome next.0.finding × (next.0.given ≡ given)) }
     ensures base { IfOk result (λ next. next.0.base ≡ base) }
-    ensures causes { (before : ℕ) (after : ℕ) → Causes Halt.Failed step before after → Causes OutsideErr.Failed result before after }
+    ensures causes { (before : ℕ) (after : ℕ) → Causes Halt.Failed step before after
+        → Causes OutsideErr.Failed result before after }
 {
     match step {
         Ok(lane) => {

@@ -74,9 +74,11 @@ impl TwoChecker {
         challenge2: &str,
         reply2: &str,
     ) -> Result<TwoChecker, VErr>
-        ensures modelled { IfSome (S.held shelf.old) (λ files. Gives unread_file (λ checker. board_ahead checker files) result
+        ensures modelled { IfSome (S.held shelf.old)
+            (λ files. Gives unread_file (λ checker. board_ahead checker files) result
             (two_on files board.now challenge1.now reply1.now challenge2.now reply2.now)) }
-        ensures base { IfSome (S.held shelf.old) (λ files. Gives unread_file (λ checker. board_base checker) result
+        ensures base { IfSome (S.held shelf.old)
+            (λ files. Gives unread_file (λ checker. board_base checker) result
             (base_on files board.now challenge1.now reply1.now challenge2.now reply2.now)) }
         ensures none_given { IfOk result (λ checker. board_given checker ≡ 0) }
         ensures shelf { OnlyReads S.held S.Shelf.faults VErr.Failed result shelf.old shelf.new }
@@ -101,11 +103,15 @@ impl TwoChecker {
         alloc: Global,
         shelf: &mut S,
     ) -> Result<(TwoChecker, Option<TwoLane>), OutsideErr>
-        ensures modelled { IfSome (S.held shelf.old) (λ files. IfOk result (λ next. BoardGoesOn (board_ahead self files) next.1 next.0 files)) }
+        ensures modelled { IfSome (S.held shelf.old)
+            (λ files. IfOk result
+            (λ next. BoardGoesOn (board_ahead self files) next.1 next.0 files)) }
         ensures lane { IfOk result (λ next. IfSome next.1 (IsNextOfBoard self next.0)) }
-        ensures none { IfOk result (λ next. next.1 ≡ None → IsBoardOver next.0 × (board_given next.0 ≡ board_given self)) }
+        ensures none { IfOk result
+            (λ next. next.1 ≡ None → IsBoardOver next.0 × (board_given next.0 ≡ board_given self)) }
         ensures base { IfOk result (λ next. board_base next.0 ≡ board_base self) }
-        ensures shelf { OnlyReads S.held S.Shelf.faults OutsideErr.Failed result shelf.old shelf.new }
+        ensures shelf { OnlyReads S.held S.Shelf.faults OutsideErr.Failed result shelf.old
+            shelf.new }
     {
         let TwoChecker { stage } = self;
         match stage {
@@ -131,7 +137,9 @@ impl TwoChecker {
     pub fn finding(&self) -> TwoVerdict
         requires { IsBoardOver self.now }
         ensures value { board_finding self.now ≡ Some result }
-        ensures all { BothAreAccepted result → IsSomeAnd (board_base self.now) (λ base. board_given self.now ≡ base.front.head.lanes) }
+        ensures all { BothAreAccepted result
+            → IsSomeAnd (board_base self.now)
+            (λ base. board_given self.now ≡ base.front.head.lanes) }
     {
         match &self.stage {
             BoardStage::Refused(verdict) => Finding::Refused {
@@ -184,8 +192,10 @@ fn begin_checker<S: Shelf>(
     shelf: &mut S,
     two: TwoAttempts,
 ) -> Result<TwoChecker, OutsideErr>
-    ensures modelled { IfSome (S.held shelf.old) (λ files. IfOk result (λ checker. board_ahead checker files ≡ of_two ahead_at two files)) }
-    ensures base { IfSome (S.held shelf.old) (λ files. IfOk result (λ checker. board_base checker ≡ of_two base_at two files)) }
+    ensures modelled { IfSome (S.held shelf.old)
+        (λ files. IfOk result (λ checker. board_ahead checker files ≡ of_two ahead_at two files)) }
+    ensures base { IfSome (S.held shelf.old)
+        (λ files. IfOk result (λ checker. board_base checker ≡ of_two base_at two files)) }
     ensures none_given { IfOk result (λ checker. board_given checker ≡ 0) }
     ensures shelf { OnlyReads S.held S.Shelf.faults OutsideErr.Failed result shelf.old shelf.new }
 {
@@ -210,8 +220,12 @@ fn begin_behind<S: Shelf>(
     two: TwoAttempts,
 ) -> Result<TwoChecker, OutsideErr>
     requires { IsFront front }
-    ensures modelled { IfSome (S.held shelf.old) (λ files. IfOk result (λ checker. board_ahead checker files ≡ of_two (λ board. ahead_past (Ok (front, board))) two files)) }
-    ensures base { IfSome (S.held shelf.old) (λ files. IfOk result (λ checker. board_base checker ≡ of_two (λ board. base_past (Ok (front, board))) two files)) }
+    ensures modelled { IfSome (S.held shelf.old)
+        (λ files. IfOk result (λ checker. board_ahead checker files
+        ≡ of_two (λ board. ahead_past (Ok (front, board))) two files)) }
+    ensures base { IfSome (S.held shelf.old)
+        (λ files. IfOk result (λ checker. board_base checker
+        ≡ of_two (λ board. base_past (Ok (front, board))) two files)) }
     ensures none_given { IfOk result (λ checker. board_given checker ≡ 0) }
     ensures shelf { OnlyReads S.held S.Shelf.faults OutsideErr.Failed result shelf.old shelf.new }
 {
@@ -236,10 +250,14 @@ fn next_in<S: Shelf>(
     course: BoardCourse,
 ) -> Result<(BoardCourse, Option<TwoLane>), OutsideErr>
     requires { IsBoardCourse course }
-    ensures modelled { IfSome (S.held shelf.old) (λ files. IfOk result (λ next. BoardGoesOn (board_ahead (Behind course) files) next.1 (Behind next.0) files)) }
+    ensures modelled { IfSome (S.held shelf.old)
+        (λ files. IfOk result (λ next. BoardGoesOn (board_ahead (Behind course) files) next.1
+        (Behind next.0) files)) }
     ensures right { IfOk result (λ next. IsBoardCourse next.0) }
     ensures lane { IfOk result (λ next. IfSome next.1 (IsNextLane course.lanes next.0.lanes)) }
-    ensures none { IfOk result (λ next. next.1 ≡ None → IsOver next.0.lanes × (given_of next.0.lanes ≡ given_of course.lanes)) }
+    ensures none { IfOk result
+        (λ next. next.1 ≡ None → IsOver next.0.lanes
+        × (given_of next.0.lanes ≡ given_of course.lanes)) }
     ensures base { IfOk result (λ next. board_base (Behind next.0) ≡ board_base (Behind course)) }
     ensures shelf { OnlyReads S.held S.Shelf.faults OutsideErr.Failed result shelf.old shelf.new }
 {

@@ -42,10 +42,12 @@ fn second_fault(fault: Fault) -> Fault
 pub fn of_first<X>(judged: Result<X, Halt<Fault>>) -> Result<X, TwoHalt>
     ensures exact { result ≡ first_answer judged }
     ensures found { (rest : Rest) (expected : Result (X × Rest) Fault)
-        → Judges (λ x. (x, rest)) judged expected → Judges (λ x. (x, rest)) result (of_first expected) }
+        → Judges (λ x. (x, rest)) judged expected
+        → Judges (λ x. (x, rest)) result (of_first expected) }
     ensures value { IfOk result (λ x. judged ≡ Ok x) }
     ensures refuses { IfErr result Refuses }
-    ensures causes { (before : ℕ) (after : ℕ) → Causes Halt.Failed judged before after → Causes Halt.Failed result before after }
+    ensures causes { (before : ℕ) (after : ℕ) → Causes Halt.Failed judged before after
+        → Causes Halt.Failed result before after }
 {
     match judged {
         Ok(value) => Ok(value),
@@ -66,11 +68,13 @@ pub fn of_second<X>(
 ) -> Result<X, TwoHalt>
     ensures exact { result ≡ second_answer first judged }
     ensures found { (rest : Rest) (expected : Result (X × Rest) Fault) (other : Result Unit Fault)
-        → Judges (λ x. (x, rest)) judged expected → (IsTrue (is_refused judged) → Judges (λ done. done) first other)
+        → Judges (λ x. (x, rest)) judged expected
+        → (IsTrue (is_refused judged) → Judges (λ done. done) first other)
         → Judges (λ x. (x, rest)) result (of_second other expected) }
     ensures value { IfOk result (λ x. judged ≡ Ok x) }
     ensures refuses { IfErr result Refuses }
-    ensures causes { (before : ℕ) (between : ℕ) (after : ℕ) → Causes Halt.Failed judged before between → Causes Halt.Failed first between after
+    ensures causes { (before : ℕ) (between : ℕ) (after : ℕ)
+        → Causes Halt.Failed judged before between → Causes Halt.Failed first between after
         → (IsFalse (is_refused judged) → IsOk first) → Causes Halt.Failed result before after }
 {
     match judged {
@@ -87,7 +91,8 @@ fn second_told(fault: Fault, first: Result<(), Halt<Fault>>) -> TwoHalt
     ensures found { (other : Result Unit Fault) → Judges (λ done. done) first other
         → IsFound result (second_told fault other) }
     ensures refuses { Refuses result }
-    ensures causes { (before : ℕ) (after : ℕ) → Causes Halt.Failed first before after → Causes {T = Unit {0}} Halt.Failed (Err result) before after }
+    ensures causes { (before : ℕ) (after : ℕ) → Causes Halt.Failed first before after
+        → Causes {T = Unit {0}} Halt.Failed (Err result) before after }
 {
     match first {
         Ok(()) => Halt::Refused(Finding::Refused {
@@ -117,11 +122,15 @@ pub fn found_by(
     second: Result<(), Halt<Fault>>,
 ) -> TwoHalt
     ensures exact { result ≡ ends_halt accepted first second }
-    ensures found { (rest : Rest) (first_expected : Result Unit Fault) (second_expected : Result (Unit × Rest) Fault)
-        → Judges (λ done. done) first first_expected → (IsOk first → Judges (λ done. (done, rest)) second second_expected)
+    ensures found { (rest : Rest) (first_expected : Result Unit Fault)
+        (second_expected : Result (Unit × Rest) Fault)
+        → Judges (λ done. done) first first_expected
+        → (IsOk first → Judges (λ done. (done, rest)) second second_expected)
         → IsFound result (found_by accepted first_expected second_expected) }
-    ensures causes { (before : ℕ) (between : ℕ) (after : ℕ) → Causes Halt.Failed first before between → Causes Halt.Failed second between after
-        → (IsErr first → IsOk second) → Causes {T = Unit {0}} Halt.Failed (Err result) before after }
+    ensures causes { (before : ℕ) (between : ℕ) (after : ℕ)
+        → Causes Halt.Failed first before between → Causes Halt.Failed second between after
+        → (IsErr first → IsOk second)
+        → Causes {T = Unit {0}} Halt.Failed (Err result) before after }
 {
     match (first, second) {
         (Ok(()), Ok(())) => Halt::Refused(accepted),

@@ -11,7 +11,7 @@ use crate::answers::{Fault, Part};
 use crate::halt::{Halt, in_part};
 use crate::judging::{judge_rest, read_attempt, read_ends};
 use crate::lane::{read_case, read_checked};
-use crate::stage::{Base, LanesLeft, FileAndReply, TwoLane, TwoReaders};
+use crate::stage::{Base, FileAndReply, LanesLeft, TwoLane, TwoReaders};
 use crate::statement::Statement;
 use crate::two_halt::{TwoHalt, accepted_of, found_by, is_refused, of_first, of_second};
 use std::alloc::Global;
@@ -30,7 +30,8 @@ pub fn judge_on<S: Shelf>(
     pair: &mut FileAndReply,
 ) -> Result<(), Halt<Fault>>
     requires { AreLeft left }
-    ensures modelled { IfSome (S.held shelf.old) (λ files. IsTrue asked → Judges (λ done. done) result
+    ensures modelled { IfSome (S.held shelf.old)
+        (λ files. IsTrue asked → Judges (λ done. done) result
         (rest_left left.entry (rest_of pair.old.board files) (rest_of pair.old.reply files))) }
     ensures kept { IsFalse asked → pair.new ≡ pair.old }
     ensures idle { IsFalse asked → IsOk result }
@@ -57,9 +58,12 @@ fn read_second<S: Shelf>(
     requires base { IsBase base.now }
     requires fits { Fits base.now.statement.plan case.now }
     requires within { lane ≤ base.now.statement.lanes }
-    ensures modelled { IfSome (S.held shelf.old) (λ files. Judges (λ shown. (shown, rest_of readers.new.second files)) result
-        (of_second (rest_judged base.now.statement (lane + 1) (drop lane base.now.first_bits) (rest_of readers.old.pair.board files) (rest_of readers.old.pair.reply files))
-        (reply_judged base.now.statement.plan case.now lane bit (rest_of readers.old.second files)))) }
+    ensures modelled { IfSome (S.held shelf.old)
+        (λ files. Judges (λ shown. (shown, rest_of readers.new.second files)) result
+        (of_second (rest_judged base.now.statement (lane + 1) (drop lane base.now.first_bits)
+        (rest_of readers.old.pair.board files) (rest_of readers.old.pair.reply files))
+        (reply_judged base.now.statement.plan case.now lane bit
+        (rest_of readers.old.second files)))) }
     ensures pair { OnOk result (readers.new.pair ≡ readers.old.pair) }
     ensures accepted { IfOk result (IsAccepted base.now.statement.plan case.now bit) }
     ensures refuses { IfErr result Refuses }
@@ -99,8 +103,10 @@ fn read_two<S: Shelf>(
     requires base { IsBase base.now }
     requires first { 1 ≤ lane }
     requires last { lane ≤ base.now.statement.lanes }
-    ensures modelled { IfSome (S.held shelf.old) (λ files. Judges (λ two. (two, rests_of readers.new files)) result
-        (two_lane_at base.now.statement lane first_bit second_bit (drop lane base.now.first_bits) (rests_of readers.old files))) }
+    ensures modelled { IfSome (S.held shelf.old)
+        (λ files. Judges (λ two. (two, rests_of readers.new files)) result
+        (two_lane_at base.now.statement lane first_bit second_bit (drop lane base.now.first_bits)
+        (rests_of readers.old files))) }
     ensures right { IfOk result (IsTwoLane base.now.statement lane) }
     ensures refuses { IfErr result Refuses }
     ensures shelf { OnlyReads S.held S.Shelf.faults Halt.Failed result shelf.old shelf.new }
@@ -133,7 +139,8 @@ fn read_second_end<S: Shelf>(
     second: &mut Lines,
 ) -> Result<(), Halt<Fault>>
     ensures modelled { IfSome (S.held shelf.old) (λ files. IsTrue standing
-        → Judges (λ done. (done, rest_of second.new files)) result (in_part Part.Reply (end_at (rest_of second.old files)))) }
+        → Judges (λ done. (done, rest_of second.new files)) result
+        (in_part Part.Reply (end_at (rest_of second.old files)))) }
     ensures idle { IsFalse standing → IsOk result }
     ensures shelf { OnlyReads S.held S.Shelf.faults Halt.Failed result shelf.old shelf.new }
 {
@@ -149,7 +156,8 @@ fn read_second_end<S: Shelf>(
 fn read_finding<S: Shelf>(shelf: &mut S, base: &Base, readers: &mut TwoReaders) -> TwoHalt
     ensures modelled { IfSome (S.held shelf.old) (λ files.
         IsFound result (ends_found (accepted_of base.now.first_bits base.now.second_bits) (rests_of readers.old files))) }
-    ensures shelf { OnlyReads {T = Unit {0}} S.held S.Shelf.faults Halt.Failed (Err result) shelf.old shelf.new }
+    ensures shelf { OnlyReads {T = Unit {0}} S.held S.Shelf.faults Halt.Failed (Err result)
+        shelf.old shelf.new }
 {
     let accepted = accepted_of(base.first_bits.as_slice(), base.second_bits.as_slice());
     let first = read_ends(shelf, &mut readers.pair);
@@ -204,9 +212,12 @@ fn begin_second<S: Shelf>(
     readers: &mut TwoReaders,
 ) -> Result<Seq<bool>, TwoHalt>
     requires { length first_bits.now ≡ statement.now.lanes }
-    ensures modelled { IfSome (S.held shelf.old) (λ files. Judges (λ bits. (bits, rest_of readers.new.second files)) result
-        (of_second (rest_judged statement.now 1 first_bits.now (rest_of readers.old.pair.board files) (rest_of readers.old.pair.reply files))
-        (attempt_at statement.now.lanes (rest_of challenge.old files) (rest_of readers.old.second files)))) }
+    ensures modelled { IfSome (S.held shelf.old)
+        (λ files. Judges (λ bits. (bits, rest_of readers.new.second files)) result
+        (of_second (rest_judged statement.now 1 first_bits.now
+        (rest_of readers.old.pair.board files) (rest_of readers.old.pair.reply files))
+        (attempt_at statement.now.lanes (rest_of challenge.old files)
+        (rest_of readers.old.second files)))) }
     ensures pair { OnOk result (readers.new.pair ≡ readers.old.pair) }
     ensures bits { IfOk result (λ bits. length bits ≡ statement.now.lanes) }
     ensures refuses { IfErr result Refuses }
@@ -236,8 +247,11 @@ pub fn begin_lanes<S: Shelf>(
     second: &mut Lines,
     readers: &mut TwoReaders,
 ) -> Result<Base, TwoHalt>
-    ensures modelled { IfSome (S.held shelf.old) (λ files. Judges (λ base. (base, rests_of readers.new files)) result
-        (base_behind statement (rest_of readers.old.pair.board files) (rest_of first.old files) (rest_of readers.old.pair.reply files) (rest_of second.old files) (rest_of readers.old.second files))) }
+    ensures modelled { IfSome (S.held shelf.old)
+        (λ files. Judges (λ base. (base, rests_of readers.new files)) result
+        (base_behind statement (rest_of readers.old.pair.board files) (rest_of first.old files)
+        (rest_of readers.old.pair.reply files) (rest_of second.old files)
+        (rest_of readers.old.second files))) }
     ensures right { IfOk result IsBase }
     ensures statement { IfOk result (λ base. base.statement ≡ statement) }
     ensures refuses { IfErr result Refuses }

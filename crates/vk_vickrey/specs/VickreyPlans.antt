@@ -36,25 +36,33 @@ bid_form seals j = record { terms = plus (seals + j) ∷ []; constant = 0 }
 
 -- the winner's Y less another's, and less 1 where the other stands before the winner
 abbrev pub win_form : ℕ → ℕ → ℕ → Form
-win_form seals winner k = difference_form (seals + winner) (seals + other winner k) (nat_lt k winner)
+win_form seals winner k = difference_form (seals + winner) (seals + other winner k)
+    (nat_lt k winner)
 
 -- the price less another's Y
 abbrev pub price_form : ℕ → ℕ → ℕ → ℕ → Form
-price_form seals winner price k = record { terms = minus (seals + other winner k) ∷ []; constant = price }
+price_form seals winner price k =
+    record { terms = minus (seals + other winner k) ∷ []; constant = price }
 
--- what is of the width, in order: each copy, the winner's less each other's, and the price less each other's
+-- what is of the width, in order: each copy, the winner's less each other's, and the price less
+-- each other's
 abbrev pub vickrey_forms : ℕ → ℕ → ℕ → List Form
 vickrey_forms seals winner price =
-    listed (bid_form seals) seals ++ listed (win_form seals winner) (seals - 1) ++ listed (price_form seals winner price) (seals - 1)
+    listed (bid_form seals) seals ++ listed (win_form seals winner) (seals - 1)
+    ++ listed (price_form seals winner price) (seals - 1)
 
 -- one of the others' Y is the price
 abbrev pub price_selection : ℕ → ℕ → ℕ → ℕ → SelectedIs
 price_selection seals width winner price =
-    record { wires = listed (λ k. seals + other winner k) (seals - 1); value = price; width = width }
+    record {
+      wires = listed (λ k. seals + other winner k) (seals - 1);
+      value = price;
+      width = width;
+    }
 
 -- The rows, in order: each bid is its copy; each copy is of the width; so is the winner's less each
--- other's, less 1 for those who stand before; so is the price less each other's; and, where there are
--- others, one selector is 1, and what it selects is at least the price.
+-- other's, less 1 for those who stand before; so is the price less each other's; and, where there
+-- are others, one selector is 1, and what it selects is at least the price.
 unfoldable pub vickrey_plan : ℕ → ℕ → ℕ → ℕ → PlanValue
 vickrey_plan seals width position price =
     let winner = position - 1 in
@@ -74,7 +82,8 @@ vickrey_plan seals width position price =
           ++ series_rows (bid_form seals) bids width seals
           ++ series_rows (win_form seals winner) wins width others
           ++ series_rows (price_form seals winner price) prices width others
-          ++ (if seals == 1 then [] else selected_rows (price_selection seals width winner price) selectors);
+          ++ (if seals == 1 then []
+          else selected_rows (price_selection seals width winner price) selectors);
     }
 
 -- how many wires it has, and how many rows
@@ -84,23 +93,29 @@ wire_count seals width = 2 * seals + (seals - 1) + width * (4 * seals - 3)
 abbrev pub row_count : ℕ → ℕ
 row_count seals = if seals == 1 then 2 else 5 * seals - 2
 
--- values with those of the next sets behind them: each pair has its weight where that bit of its set's form is set
+-- values with those of the next sets behind them: each pair has its weight where that bit of its
+-- set's form is set
 abbrev pub after_bids : ℕ → ℕ → List ℕ → List ℕ
 after_bids seals width values = values ++ series_values values (bid_form seals) width seals
 
 abbrev pub after_wins : ℕ → ℕ → ℕ → List ℕ → List ℕ
-after_wins seals width winner values = values ++ series_values values (win_form seals winner) width (seals - 1)
+after_wins seals width winner values =
+    values ++ series_values values (win_form seals winner) width (seals - 1)
 
 abbrev pub after_prices : ℕ → ℕ → ℕ → ℕ → List ℕ → List ℕ
-after_prices seals width winner price values = values ++ series_values values (price_form seals winner price) width (seals - 1)
+after_prices seals width winner price values =
+    values ++ series_values values (price_form seals winner price) width (seals - 1)
 
 -- and where there are others, the selector of the first of them that holds the price is 1
 abbrev pub after_selection : ℕ → ℕ → ℕ → ℕ → List ℕ → List ℕ
 after_selection seals width winner price values =
-    if seals == 1 then values else values ++ selected_values (price_selection seals width winner price) values
+    if seals == 1 then values else values
+    ++ selected_values (price_selection seals width winner price) values
 
 -- the bids, their copies, and the values of the sets in the order of the plan
 unfoldable pub honest_values : ℕ → ℕ → ℕ → ℕ → List ℕ → List ℕ
 honest_values seals width position price bids =
     let winner = position - 1 in
-    after_selection seals width winner price (after_prices seals width winner price (after_wins seals width winner (after_bids seals width (bids ++ bids))))
+    after_selection seals width winner price
+    (after_prices seals width winner price
+    (after_wins seals width winner (after_bids seals width (bids ++ bids))))

@@ -21,7 +21,8 @@ pub record IsFirstHolder (bids : List ℕ) (winner price place : ℕ) : Type 0 w
 
 -- of the selectors that begin at a wire, that of the place is 1 and the others are 0
 abbrev pub SelectsAt : List ℕ → ℕ → ℕ → ℕ → Type 0
-SelectsAt values start count place = (k : ℕ) → k < count → slice_index values (start + k) ≡ (if k == place then 1 else 0)
+SelectsAt values start count place = (k : ℕ) → k < count
+    → slice_index values (start + k) ≡ (if k == place then 1 else 0)
 
 -- the wire of the first selector
 abbrev pub selectors_start : ℕ → ℕ → ℕ
@@ -32,25 +33,36 @@ not_true true h = absurd (h refl)
 not_true false h = refl
 
 -- the copy of another's bid, where the selection reads it
-copy_read : (seals width position price place : ℕ) (bids values : List ℕ) → IsVickreyCase seals width position price → IsVickreyClaim seals width position price bids
+copy_read : (seals width position price place : ℕ) (bids values : List ℕ)
+    → IsVickreyCase seals width position price → IsVickreyClaim seals width position price bids
     → BeginsWith bids values → place < seals - 1
-    → slice_index values (slice_index (price_selection seals width (position - 1) price).wires place) ≡ slice_index bids (other (position - 1) place)
+    → slice_index values (slice_index (price_selection seals width (position - 1) price).wires
+    place) ≡ slice_index bids (other (position - 1) place)
 copy_read seals width position price place bids values case claim begins h =
     let winner = position - 1 in
     ap (slice_index values) (at_listed (λ k. seals + other winner k) (seals - 1) place 0 h)
     ∙ bid_of seals width position price bids values case claim begins (other winner place)
     (other_within seals winner place (omega (arith, case.some_position, case.within_seals)) h)
 
-other_within_price : (seals width position price place : ℕ) (bids values : List ℕ) → IsVickreyCase seals width position price → IsVickreyClaim seals width position price bids
-    → BeginsWith bids values → place < seals - 1 → slice_index bids (other (position - 1) place) ≤ price
+other_within_price : (seals width position price place : ℕ) (bids values : List ℕ)
+    → IsVickreyCase seals width position price → IsVickreyClaim seals width position price bids
+    → BeginsWith bids values → place < seals - 1
+    → slice_index bids (other (position - 1) place) ≤ price
 other_within_price seals width position price place bids values case claim begins h =
     let winner = position - 1 in
-    let inside = other_within seals winner place (omega (arith, case.some_position, case.within_seals)) h in
-    omega (arith, within_price seals width position price bids values case claim begins place h, bid_of seals width position price bids values case claim begins (other winner place) inside)
+    let inside = other_within seals winner place
+    (omega (arith, case.some_position, case.within_seals)) h in
+    omega (
+      arith,
+      within_price seals width position price bids values case claim begins place h,
+      bid_of seals width position price bids values case claim begins (other winner place) inside,
+    )
 
 -- a place serves exactly where its bid is the price
-serves_holder : (seals width position price place : ℕ) (bids values : List ℕ) → IsVickreyCase seals width position price → IsVickreyClaim seals width position price bids
-    → BeginsWith bids values → place < seals - 1 → slice_index bids (other (position - 1) place) ≡ price
+serves_holder : (seals width position price place : ℕ) (bids values : List ℕ)
+    → IsVickreyCase seals width position price → IsVickreyClaim seals width position price bids
+    → BeginsWith bids values → place < seals - 1
+    → slice_index bids (other (position - 1) place) ≡ price
     → serves (price_selection seals width (position - 1) price) values place ≡ true
 serves_holder seals width position price place bids values case claim begins h holds =
     let relation = price_selection seals width (position - 1) price in
@@ -63,15 +75,21 @@ serves_holder seals width position price place bids values case claim begins h h
       | inl e ↦ subst (λ b. nat_lt (place_number relation values k b) (2 ^ width) ≡ true) (sym e.0)
           (lt-ltb (place_number relation values k true) (2 ^ width)
           (subst (λ b. difference b price < 2 ^ width) (sym read)
-          (equal_fits (slice_index bids (other (position - 1) k)) price (2 ^ width) (ap (λ p. slice_index bids (other (position - 1) p)) e.1 ∙ holds) case.within_width small)))
+          (equal_fits (slice_index bids (other (position - 1) k)) price (2 ^ width)
+          (ap (λ p. slice_index bids (other (position - 1) p)) e.1 ∙ holds) case.within_width
+          small)))
       | inr e ↦ subst (λ b. nat_lt (place_number relation values k b) (2 ^ width) ≡ true) (sym e.0)
           (lt-ltb (place_number relation values k false) (2 ^ width)
           (subst (λ b. sum b (difference (2 ^ width - 1) price) < 2 ^ width) (sym read)
-          (below_fits (slice_index bids (other (position - 1) k)) price (2 ^ width) (other_within_price seals width position price k bids values case claim begins inside) case.within_width small)))
+          (below_fits (slice_index bids (other (position - 1) k)) price (2 ^ width)
+          (other_within_price seals width position price k bids values case claim begins inside)
+          case.within_width small)))
     ])
 
-serves_no_other : (seals width position price place : ℕ) (bids values : List ℕ) → IsVickreyCase seals width position price → IsVickreyClaim seals width position price bids
-    → BeginsWith bids values → place < seals - 1 → slice_index bids (other (position - 1) place) ≢ price
+serves_no_other : (seals width position price place : ℕ) (bids values : List ℕ)
+    → IsVickreyCase seals width position price → IsVickreyClaim seals width position price bids
+    → BeginsWith bids values → place < seals - 1
+    → slice_index bids (other (position - 1) place) ≢ price
     → serves (price_selection seals width (position - 1) price) values place ≡ false
 serves_no_other seals width position price place bids values case claim begins h other_bid =
     let relation = price_selection seals width (position - 1) price in
@@ -80,38 +98,48 @@ serves_no_other seals width position price place bids values case claim begins h
     let here = (selected_from relation values place (omega arith) test).here in
     let read = copy_read seals width position price place bids values case claim begins h in
     other_bid (reaches_means (slice_index bids (other (position - 1) place)) price (2 ^ width)
-    (other_within_price seals width position price place bids values case claim begins h) case.within_width (width_small width case.wide.most)
+    (other_within_price seals width position price place bids values case claim begins h)
+    case.within_width (width_small width case.wide.most)
     (subst (λ b. difference b price < 2 ^ width) read here)))
 
-holder_is_first : (seals width position price place : ℕ) (bids values : List ℕ) → IsVickreyCase seals width position price → IsVickreyClaim seals width position price bids
+holder_is_first : (seals width position price place : ℕ) (bids values : List ℕ)
+    → IsVickreyCase seals width position price → IsVickreyClaim seals width position price bids
     → BeginsWith bids values → place < seals - 1 → IsFirstHolder bids (position - 1) price place
     → place ≡ first_place (price_selection seals width (position - 1) price) values
 holder_is_first seals width position price place bids values case claim begins h first =
     let long = length_listed (λ k. seals + other (position - 1) k) (seals - 1) in
     first_place_found (price_selection seals width (position - 1) price) values place (omega arith)
-    (λ k before. serves_no_other seals width position price k bids values case claim begins (omega arith) (first.none_before k before))
-    (λ _. serves_holder seals width position price place bids values case claim begins h first.holds)
+    (λ k before. serves_no_other seals width position price k bids values case claim begins
+    (omega arith) (first.none_before k before))
+    (λ _. serves_holder seals width position price place bids values case claim begins h
+    first.holds)
 
-pub honest_selector : (seals width position price place : ℕ) (bids : List ℕ) → IsVickreyCase seals width position price → IsVickreyClaim seals width position price bids
+pub honest_selector : (seals width position price place : ℕ) (bids : List ℕ)
+    → IsVickreyCase seals width position price → IsVickreyClaim seals width position price bids
     → place < seals - 1 → IsFirstHolder bids (position - 1) price place
-    → SelectsAt (honest_values seals width position price bids) (selectors_start seals width) (seals - 1) place
+    → SelectsAt (honest_values seals width position price bids) (selectors_start seals width)
+    (seals - 1) place
 unfolding honest_values
 honest_selector seals width position price place bids case claim h first k l =
     let winner = position - 1 in
     let relation = price_selection seals width winner price in
-    let v3 = after_prices seals width winner price (after_wins seals width winner (after_bids seals width (bids ++ bids))) in
+    let v3 = after_prices seals width winner price
+    (after_wins seals width winner (after_bids seals width (bids ++ bids))) in
     let holds = before_selection seals width position price bids case claim in
     let begins = begins_prices seals width winner price bids in
     let same = holder_is_first seals width position price place bids v3 case claim begins h first in
-    let start : length v3 ≡ selectors_start seals width = holds.one_each ∙ length_prices seals width winner price in
+    let start : length v3 ≡ selectors_start seals width =
+    holds.one_each ∙ length_prices seals width winner price in
     let long = length_listed (λ p. seals + other winner p) (seals - 1) in
     let chosen = selectors (length relation.wires) (first_place relation v3) in
     let rest = joined (place_parts relation v3 (first_place relation v3)) (length relation.wires) in
     let whole = v3 ++ (chosen ++ rest) in
     let inside : k < length relation.wires = omega arith in
-    ap (λ b. slice_index (if b then v3 else whole) (selectors_start seals width + k)) (ne_eqb seals 1 (omega arith))
+    ap (λ b. slice_index (if b then v3 else whole) (selectors_start seals width + k))
+    (ne_eqb seals 1 (omega arith))
     ∙ (ap (λ n. slice_index whole (n + k)) (sym start)
     ∙ (get_or-append-add v3 (chosen ++ rest) k 0
-    ∙ (get_or_append_left chosen rest 0 k (omega (arith, length_listed (selector (first_place relation v3)) (length relation.wires)))
+    ∙ (get_or_append_left chosen rest 0 k
+    (omega (arith, length_listed (selector (first_place relation v3)) (length relation.wires)))
     ∙ (at_listed (selector (first_place relation v3)) (length relation.wires) k 0 inside
     ∙ ap (λ p. selector p k) (sym same)))))

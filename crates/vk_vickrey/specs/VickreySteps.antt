@@ -26,17 +26,20 @@ products : (count width : ℕ) → count ≤ 64 → width ≤ 40 → count * wid
 products count width few small = omega (arith, mul-le-mul_right width few, mul-le-mul_left 64 small)
 
 -- how many rows there are before the selection
-rows_before : (seals width winner price : ℕ) → length (with_prices seals width winner price).rows ≡ seals + seals + (seals - 1) + (seals - 1)
+rows_before : (seals width winner price : ℕ)
+    → length (with_prices seals width winner price).rows ≡ seals + seals + (seals - 1) + (seals - 1)
 rows_before seals width winner price =
     ap (λ (p : PlanValue). length p.rows) (prices_ranged seals width winner price)
-    ∙ ranged_rows seals (ranges_of (vickrey_forms seals winner price) width) ∙ omega (arith, length_forms seals winner price)
+    ∙ ranged_rows seals (ranges_of (vickrey_forms seals winner price) width)
+    ∙ omega (arith, length_forms seals winner price)
 
 module _ (seals width position price : ℕ) (case : IsVickreyCase seals width position price) where
   pub is_winner : position - 1 < seals
   is_winner = omega (arith, case.some_position, case.within_seals)
 
 -- the values begin with the bids
-pub honest_begins : (seals width position price : ℕ) (bids : List ℕ) → length bids ≡ seals → take seals (honest_values seals width position price bids) ≡ bids
+pub honest_begins : (seals width position price : ℕ) (bids : List ℕ) → length bids ≡ seals
+    → take seals (honest_values seals width position price bids) ≡ bids
 unfolding honest_values
 honest_begins seals width position price bids same =
     let winner = position - 1 in
@@ -53,22 +56,32 @@ honest_begins seals width position price bids same =
     let l1 : seals ≤ length v1 = omega (arith, length-append v0 s1) in
     let l2 : seals ≤ length v2 = omega (arith, length-append v1 s2) in
     let l3 : seals ≤ length v3 = omega (arith, length-append v2 s3) in
-    let e3 : take seals v3 ≡ bids = take-append-le seals v2 s3 l2 ∙ (take-append-le seals v1 s2 l1 ∙ (take-append-le seals v0 s1 l0 ∙ e0)) in
+    let e3 : take seals v3 ≡ bids = take-append-le seals v2 s3 l2
+    ∙ (take-append-le seals v1 s2 l1 ∙ (take-append-le seals v0 s1 l0 ∙ e0)) in
     elim (eqb_tells seals 1) [
-      | inl one ↦ ap (λ b. take seals (if b then v3 else v3 ++ selected_values relation v3)) one.0 ∙ e3
-      | inr many ↦ ap (λ b. take seals (if b then v3 else v3 ++ selected_values relation v3)) many.0 ∙ (take-append-le seals v3 (selected_values relation v3) l3 ∙ e3)
+      | inl one ↦ ap (λ b. take seals (if b then v3 else v3 ++ selected_values relation v3)) one.0
+          ∙ e3
+      | inr many ↦ ap (λ b. take seals (if b then v3 else v3 ++ selected_values relation v3)) many.0
+          ∙ (take-append-le seals v3 (selected_values relation v3) l3 ∙ e3)
     ]
 
 -- the two laws, at the plan's own number of inputs
-pub circuit_begins : (seals width position price : ℕ) (bids : List ℕ) → IsVickreyClaim seals width position price bids
-    → take (vickrey_plan seals width position price).inputs (honest_values seals width position price bids) ≡ bids
+pub circuit_begins : (seals width position price : ℕ) (bids : List ℕ)
+    → IsVickreyClaim seals width position price bids
+    → take (vickrey_plan seals width position price).inputs
+    (honest_values seals width position price bids) ≡ bids
 unfolding vickrey_plan
-circuit_begins seals width position price bids claim = honest_begins seals width position price bids claim.one_each
+circuit_begins seals width position price bids claim =
+    honest_begins seals width position price bids claim.one_each
 
-pub circuit_sound : (seals width position price : ℕ) (values : List ℕ) → IsVickreyCase seals width position price
-    → Holds (vickrey_plan seals width position price) values → IsVickreyClaim seals width position price (take (vickrey_plan seals width position price).inputs values)
+pub circuit_sound : (seals width position price : ℕ) (values : List ℕ)
+    → IsVickreyCase seals width position price
+    → Holds (vickrey_plan seals width position price) values
+    → IsVickreyClaim seals width position price
+    (take (vickrey_plan seals width position price).inputs values)
 unfolding vickrey_plan
-circuit_sound seals width position price values case holds = vickrey_sound seals width position price values case holds
+circuit_sound seals width position price values case holds =
+    vickrey_sound seals width position price values case holds
 
 module _ (seals width position price : ℕ) (case : IsVickreyCase seals width position price) where
   -- the selection
@@ -76,15 +89,21 @@ module _ (seals width position price : ℕ) (case : IsVickreyCase seals width po
   prices_plan =
       let winner = position - 1 in
       subst IsPlan (sym (prices_ranged seals width winner price))
-      (ranged_is_plan seals (ranges_of (vickrey_forms seals winner price) width) (vickrey_ranged seals width position price case))
+      (ranged_is_plan seals (ranges_of (vickrey_forms seals winner price) width)
+      (vickrey_ranged seals width position price case))
 
-  pub selection_fits : seals ≢ 1 → IsSelection (price_selection seals width (position - 1) price) (length (with_prices seals width (position - 1) price).kinds)
+  pub selection_fits : seals ≢ 1
+      → IsSelection (price_selection seals width (position - 1) price)
+      (length (with_prices seals width (position - 1) price).kinds)
   selection_fits many =
-      selection seals width (position - 1) price (omega (arith, case.some_seals, many)) case.most_seals (is_winner seals width position price case) case.wide.least case.wide.most
+      selection seals width (position - 1) price (omega (arith, case.some_seals, many))
+      case.most_seals (is_winner seals width position price case) case.wide.least case.wide.most
 
   pub selection_room : seals ≢ 1
-      → IsPlan (extended (with_prices seals width (position - 1) price) (selected_wires (price_selection seals width (position - 1) price))
-      (selected_rows (price_selection seals width (position - 1) price) (length (with_prices seals width (position - 1) price).kinds)))
+      → IsPlan (extended (with_prices seals width (position - 1) price)
+      (selected_wires (price_selection seals width (position - 1) price))
+      (selected_rows (price_selection seals width (position - 1) price)
+      (length (with_prices seals width (position - 1) price).kinds)))
   selection_room many =
       let relation = price_selection seals width (position - 1) price in
       let wires = length_prices seals width (position - 1) price in
@@ -92,28 +111,38 @@ module _ (seals width position price : ℕ) (case : IsVickreyCase seals width po
       let fewer = products (seals - 1) width (omega (arith, case.most_seals)) case.wide.most in
       let long = length_listed (λ k. seals + other (position - 1) k) (seals - 1) in
       let few : length relation.wires ≤ 64 = omega (arith, case.most_seals) in
-      selected_room (with_prices seals width (position - 1) price) relation prices_plan (selection_fits many)
-      (omega (arith, products (length relation.wires) width few case.wide.most, case.most_seals)) (omega (arith, rows_before seals width (position - 1) price, case.most_seals))
+      selected_room (with_prices seals width (position - 1) price) relation prices_plan
+      (selection_fits many)
+      (omega (arith, products (length relation.wires) width few case.wide.most, case.most_seals))
+      (omega (arith, rows_before seals width (position - 1) price, case.most_seals))
 
   -- the values before the selection, and at the end
   pub honest_alone : (bids before : List ℕ) → seals ≡ 1
-      → before ≡ after_prices seals width (position - 1) price (after_wins seals width (position - 1) (after_bids seals width (bids ++ bids)))
+      → before ≡ after_prices seals width (position - 1) price
+      (after_wins seals width (position - 1) (after_bids seals width (bids ++ bids)))
       → before ≡ honest_values seals width position price bids
   unfolding honest_values
   honest_alone bids before one same =
-      sym (ap (λ b. if b then before else before ++ selected_values (price_selection seals width (position - 1) price) before) (eq-eqb seals 1 one))
+      sym (ap (λ b. if b then before
+      else before ++ selected_values (price_selection seals width (position - 1) price) before)
+      (eq-eqb seals 1 one))
       ∙ ap (after_selection seals width (position - 1) price) same
 
   pub honest_many : (bids before after : List ℕ) → seals ≢ 1
-      → before ≡ after_prices seals width (position - 1) price (after_wins seals width (position - 1) (after_bids seals width (bids ++ bids)))
-      → after ≡ before ++ selected_values (price_selection seals width (position - 1) price) before → after ≡ honest_values seals width position price bids
+      → before ≡ after_prices seals width (position - 1) price
+      (after_wins seals width (position - 1) (after_bids seals width (bids ++ bids)))
+      → after ≡ before ++ selected_values (price_selection seals width (position - 1) price) before
+      → after ≡ honest_values seals width position price bids
   unfolding honest_values
   honest_many bids before after many same filled =
-      filled ∙ (sym (ap (λ b. if b then before else before ++ selected_values (price_selection seals width (position - 1) price) before) (ne_eqb seals 1 many))
+      filled ∙ (sym (ap (λ b. if b then before
+      else before ++ selected_values (price_selection seals width (position - 1) price) before)
+      (ne_eqb seals 1 many))
       ∙ ap (after_selection seals width (position - 1) price) same)
 
   pub selection_over : (values : List ℕ) → seals ≢ 1 → seals + seals ≤ length values
-      → (plan : PlanValue) × (IsSelection (price_selection seals width (position - 1) price) (length plan.kinds) × (length plan.kinds ≡ length values))
+      → (plan : PlanValue) × (IsSelection (price_selection seals width (position - 1) price)
+      (length plan.kinds) × (length plan.kinds ≡ length values))
   selection_over values many enough =
       let same = length-replicate (length values) Split in
       let w = is_winner seals width position price case in
@@ -121,7 +150,8 @@ module _ (seals width position price : ℕ) (case : IsVickreyCase seals width po
         plan_of_inputs (length values),
         (
           record {
-            names = All-listed (λ wire. wire < length (replicate (length values) Split)) (λ k. seals + other (position - 1) k) (seals - 1)
+            names = All-listed (λ wire. wire < length (replicate (length values) Split))
+                (λ k. seals + other (position - 1) k) (seals - 1)
                 (λ k h. omega (arith, other_within seals (position - 1) k w h));
             one = omega (arith, case.some_seals, many);
             most = omega (arith, case.most_seals);
@@ -132,73 +162,98 @@ module _ (seals width position price : ℕ) (case : IsVickreyCase seals width po
       )
 
 -- a price of at most 40 bits is a residue
-pub price_is_residue : (made : Option ℕ) (width price : ℕ) → width ≤ 40 → price < 2 ^ width → (IsNone made → modulus ≤ price) → IfSome made (λ r. r ≡ price)
+pub price_is_residue : (made : Option ℕ) (width price : ℕ) → width ≤ 40 → price < 2 ^ width
+    → (IsNone made → modulus ≤ price) → IfSome made (λ r. r ≡ price)
     → unwrap_or made 0 ≡ price
-price_is_residue None width price most small refused value = absurd (omega (arith, refused refl, pow_mono {i = width} {j = 40} most))
+price_is_residue None width price most small refused value =
+    absurd (omega (arith, refused refl, pow_mono {i = width} {j = 40} most))
 price_is_residue (Some r) width price most small refused value = value
 
 -- how many wires and rows the plan has
-selected_count : (relation : SelectedIs) → length (selected_wires relation) ≡ length relation.wires + length relation.wires * relation.width
+selected_count : (relation : SelectedIs)
+    → length (selected_wires relation)
+    ≡ length relation.wires + length relation.wires * relation.width
 selected_count relation = length_kinds relation (length relation.wires)
 
 four_sets : (k width : ℕ) → width * (4 * k + 1) ≡ 4 * (k * width) + width
 four_sets k width = omega arith
 
 prices_count : (seals width winner price : ℕ) → 1 ≤ seals
-    → length (with_prices seals width winner price).kinds + (seals - 1) * width ≡ 2 * seals + width * (4 * seals - 3)
+    → length (with_prices seals width winner price).kinds + (seals - 1) * width
+    ≡ 2 * seals + width * (4 * seals - 3)
 prices_count seals width winner price some =
     let one_more : seals ≡ suc (seals - 1) = omega arith in
-    let all : seals * width ≡ (seals - 1) * width + width = ap (λ n. n * width) one_more ∙ suc-mul (seals - 1) width in
+    let all : seals * width ≡ (seals - 1) * width + width = ap (λ n. n * width) one_more
+    ∙ suc-mul (seals - 1) width in
     let sets : 4 * seals - 3 ≡ 4 * (seals - 1) + 1 = omega arith in
-    let product : width * (4 * seals - 3) ≡ 4 * ((seals - 1) * width) + width = ap (λ n. width * n) sets ∙ four_sets (seals - 1) width in
+    let product : width * (4 * seals - 3) ≡ 4 * ((seals - 1) * width) + width =
+    ap (λ n. width * n) sets ∙ four_sets (seals - 1) width in
     omega (arith, length_prices seals width winner price)
 
-pub wires_alone : (seals width position price : ℕ) → seals ≡ 1 → length (vickrey_plan seals width position price).kinds ≡ wire_count seals width
+pub wires_alone : (seals width position price : ℕ) → seals ≡ 1
+    → length (vickrey_plan seals width position price).kinds ≡ wire_count seals width
 wires_alone seals width position price one =
-    let here : (seals - 1) * width ≡ 0 = (let e : seals - 1 ≡ 0 = omega arith in ap (λ n. n * width) e ∙ omega arith) in
-    ap (λ p. length p.kinds) (plan_alone seals width position price (eq-eqb seals 1 one)) ∙ omega (arith, prices_count seals width (position - 1) price (omega arith))
+    let here : (seals - 1) * width ≡ 0 =
+    (let e : seals - 1 ≡ 0 = omega arith in ap (λ n. n * width) e ∙ omega arith) in
+    ap (λ p. length p.kinds) (plan_alone seals width position price (eq-eqb seals 1 one))
+    ∙ omega (arith, prices_count seals width (position - 1) price (omega arith))
 
-pub wires_many : (seals width position price : ℕ) → 1 ≤ seals → seals ≢ 1 → length (vickrey_plan seals width position price).kinds ≡ wire_count seals width
+pub wires_many : (seals width position price : ℕ) → 1 ≤ seals → seals ≢ 1
+    → length (vickrey_plan seals width position price).kinds ≡ wire_count seals width
 wires_many seals width position price some many =
     let relation = price_selection seals width (position - 1) price in
     let plan = with_prices seals width (position - 1) price in
     let long = length_listed (λ k. seals + other (position - 1) k) (seals - 1) in
     let sets = ap (λ n. n * width) long in
     ap (λ p. length p.kinds) (plan_many seals width position price (ne_eqb seals 1 many))
-    ∙ (length-append plan.kinds (selected_wires relation) ∙ omega (arith, selected_count relation, prices_count seals width (position - 1) price some))
+    ∙ (length-append plan.kinds (selected_wires relation)
+    ∙ omega (arith, selected_count relation, prices_count seals width (position - 1) price some))
 
-pub rows_alone : (seals width position price : ℕ) → seals ≡ 1 → length (vickrey_plan seals width position price).rows ≡ row_count seals
+pub rows_alone : (seals width position price : ℕ) → seals ≡ 1
+    → length (vickrey_plan seals width position price).rows ≡ row_count seals
 rows_alone seals width position price one =
     ap (λ p. length p.rows) (plan_alone seals width position price (eq-eqb seals 1 one))
-    ∙ (rows_before seals width (position - 1) price ∙ (omega arith ∙ sym (ap (λ b. if b then 2 else 5 * seals - 2) (eq-eqb seals 1 one))))
+    ∙ (rows_before seals width (position - 1) price
+    ∙ (omega arith ∙ sym (ap (λ b. if b then 2 else 5 * seals - 2) (eq-eqb seals 1 one))))
 
-pub rows_many : (seals width position price : ℕ) → 1 ≤ seals → seals ≢ 1 → length (vickrey_plan seals width position price).rows ≡ row_count seals
+pub rows_many : (seals width position price : ℕ) → 1 ≤ seals → seals ≢ 1
+    → length (vickrey_plan seals width position price).rows ≡ row_count seals
 rows_many seals width position price some many =
     let relation = price_selection seals width (position - 1) price in
     let plan = with_prices seals width (position - 1) price in
     let start = length plan.kinds in
     let long = length_listed (λ k. seals + other (position - 1) k) (seals - 1) in
     let sum : length (plan.rows ++ selected_rows relation start) ≡ 5 * seals - 2 =
-    length-append plan.rows (selected_rows relation start) ∙ omega (arith, rows_before seals width (position - 1) price, length_listed (place_row relation start) (length relation.wires)) in
+    length-append plan.rows (selected_rows relation start)
+    ∙ omega (
+      arith,
+      rows_before seals width (position - 1) price,
+      length_listed (place_row relation start) (length relation.wires),
+    ) in
     ap (λ p. length p.rows) (plan_many seals width position price (ne_eqb seals 1 many))
     ∙ (sum ∙ sym (ap (λ b. if b then 2 else 5 * seals - 2) (ne_eqb seals 1 many)))
 
 -- the plan is one, with so many wires and rows
-pub vickrey_is_plan : (seals width position price : ℕ) → IsVickreyCase seals width position price → IsPlan (vickrey_plan seals width position price)
+pub vickrey_is_plan : (seals width position price : ℕ) → IsVickreyCase seals width position price
+    → IsPlan (vickrey_plan seals width position price)
 vickrey_is_plan seals width position price case =
     elim (eqb_tells seals 1) [
-      | inl one ↦ subst IsPlan (sym (plan_alone seals width position price one.0)) (prices_plan seals width position price case)
-      | inr many ↦ subst IsPlan (sym (plan_many seals width position price many.0)) (selection_room seals width position price case many.1)
+      | inl one ↦ subst IsPlan (sym (plan_alone seals width position price one.0))
+          (prices_plan seals width position price case)
+      | inr many ↦ subst IsPlan (sym (plan_many seals width position price many.0))
+          (selection_room seals width position price case many.1)
     ]
 
-pub vickrey_wires : (seals width position price : ℕ) → 1 ≤ seals → length (vickrey_plan seals width position price).kinds ≡ wire_count seals width
+pub vickrey_wires : (seals width position price : ℕ) → 1 ≤ seals
+    → length (vickrey_plan seals width position price).kinds ≡ wire_count seals width
 vickrey_wires seals width position price some =
     elim (eqb_tells seals 1) [
       | inl one ↦ wires_alone seals width position price one.1
       | inr many ↦ wires_many seals width position price some many.1
     ]
 
-pub vickrey_rows : (seals width position price : ℕ) → 1 ≤ seals → length (vickrey_plan seals width position price).rows ≡ row_count seals
+pub vickrey_rows : (seals width position price : ℕ) → 1 ≤ seals
+    → length (vickrey_plan seals width position price).rows ≡ row_count seals
 vickrey_rows seals width position price some =
     elim (eqb_tells seals 1) [
       | inl one ↦ rows_alone seals width position price one.1

@@ -20,11 +20,13 @@ pub enum BoardPlan {
 }
 
 impl BoardPlan {
-    /// None where a number is not within its limits, or the version is neither 1 nor 2, or a board of version 1
-    /// would have a reserve other than 0 or stay unsold. Takes no memory.
+    /// None where a number is not within its limits, or the version is neither 1 nor 2, or a board
+    /// of version 1 would have a reserve other than 0 or stay unsold. Takes no memory.
     pub fn of(version: u32, seals: u32, width: u32, reserve: u64, sale: Sale) -> Option<BoardPlan>
-        ensures admitted { IsSome result ↔ IsBoardCase (board_numbers version seals width reserve sale) }
-        ensures numbers { IfSome result (λ plan. numbers_of plan ≡ board_numbers version seals width reserve sale) }
+        ensures admitted { IsSome result
+            ↔ IsBoardCase (board_numbers version seals width reserve sale) }
+        ensures numbers { IfSome result
+            (λ plan. numbers_of plan ≡ board_numbers version seals width reserve sale) }
     {
         if version == 1 {
             return BoardPlan::first(seals, width, reserve, sale);
@@ -41,7 +43,8 @@ impl BoardPlan {
     /// The plan of a board of version 1. None where these numbers are not within their limits.
     fn first(seals: u32, width: u32, reserve: u64, sale: Sale) -> Option<BoardPlan>
         ensures admitted { IsSome result ↔ IsBoardCase (board_numbers 1 seals width reserve sale) }
-        ensures numbers { IfSome result (λ plan. numbers_of plan ≡ board_numbers 1 seals width reserve sale) }
+        ensures numbers { IfSome result
+            (λ plan. numbers_of plan ≡ board_numbers 1 seals width reserve sale) }
     {
         match sale {
             Sale::Sold { position, price } => {
@@ -85,8 +88,10 @@ impl Circuit for BoardPlan {
 
     fn plan(&self, alloc: Global) -> Result<Plan, NoMemory>
         ensures plan { IfOk result (λ plan. plan ≡ board_plan (numbers_of self.now)) }
-        ensures wires { IfOk result (λ plan. length plan.kinds ≡ board_wire_count (numbers_of self.now)) }
-        ensures rows { IfOk result (λ plan. length plan.rows ≡ board_row_count (numbers_of self.now)) }
+        ensures wires { IfOk result
+            (λ plan. length plan.kinds ≡ board_wire_count (numbers_of self.now)) }
+        ensures rows { IfOk result
+            (λ plan. length plan.rows ≡ board_row_count (numbers_of self.now)) }
     {
         match self {
             BoardPlan::One(plan) => plan.plan(alloc),
@@ -96,7 +101,8 @@ impl Circuit for BoardPlan {
 
     fn fill(&self, alloc: Global, inputs: &[Residue]) -> Result<Vec<Residue>, NoMemory>
         requires { BoardClaim (numbers_of self.now) inputs.now }
-        ensures { IfOk result (λ values. values.items ≡ board_values (numbers_of self.now) inputs.now) }
+        ensures { IfOk result (λ values. values.items
+            ≡ board_values (numbers_of self.now) inputs.now) }
     {
         match self {
             BoardPlan::One(plan) => plan.fill(alloc, inputs),

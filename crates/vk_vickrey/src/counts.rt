@@ -87,7 +87,8 @@ pub fn board_wire_count(version: u32, seals: u32, width: u32, reserve: u64, sale
 pub fn board_row_count(version: u32, seals: u32, reserve: u64, sale: Sale) -> u32
     requires some_seals { 1 ≤ seals }
     requires most_seals { seals ≤ 64 }
-    ensures count { (width : ℕ) → result ≡ board_row_count (board_numbers version seals width reserve sale) }
+    ensures count { (width : ℕ)
+        → result ≡ board_row_count (board_numbers version seals width reserve sale) }
     ensures few { result ≤ 318 }
 {
     if version == 1 {

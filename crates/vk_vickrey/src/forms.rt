@@ -39,7 +39,8 @@ pub(crate) fn push_bids(alloc: Global, seals: u32, forms: &mut Vec<Form>) -> Res
 fn push_wins(alloc: Global, seals: u32, winner: u32, forms: &mut Vec<Form>) -> Result<(), NoMemory>
     requires few { seals ≤ 64 }
     requires winner { winner < seals }
-    ensures { OnOk result (forms.new.items ≡ forms.old.items ++ listed (win_form seals winner) (seals - 1)) }
+    ensures { OnOk result (forms.new.items
+        ≡ forms.old.items ++ listed (win_form seals winner) (seals - 1)) }
 {
     for k in 0..seals - 1 {
         let strict = k < winner;
@@ -59,7 +60,8 @@ fn push_prices(
 ) -> Result<(), NoMemory>
     requires few { seals ≤ 64 }
     requires winner { winner < seals }
-    ensures { OnOk result (forms.new.items ≡ forms.old.items ++ listed (price_form seals winner price) (seals - 1)) }
+    ensures { OnOk result (forms.new.items
+        ≡ forms.old.items ++ listed (price_form seals winner price) (seals - 1)) }
 {
     for k in 0..seals - 1 {
         let minus = Residue::ONE.neg();
@@ -69,8 +71,8 @@ fn push_prices(
     Ok(())
 }
 
-/// That the bids are of the width, that the winner's is above the others, and that none of the others is above
-/// the price.
+/// That the bids are of the width, that the winner's is above the others, and that none of the
+/// others is above the price.
 pub(crate) fn vickrey_forms(
     alloc: Global,
     seals: u32,
@@ -101,7 +103,8 @@ pub(crate) fn of_width(forms: Vec<Form>, width: u32) -> Ranges
 /// That the bids are of the width, and that none is above the limit.
 pub(crate) fn unsold_forms(alloc: Global, seals: u32, limit: Residue) -> Result<Vec<Form>, NoMemory>
     requires few { seals ≤ 64 }
-    ensures { IfOk result (λ forms. forms.items ≡ listed (bid_form seals) seals ++ listed (below_form seals limit) seals) }
+    ensures { IfOk result (λ forms. forms.items
+        ≡ listed (bid_form seals) seals ++ listed (below_form seals limit) seals) }
 {
     let mut forms = Vec::new(alloc);
     push_bids(alloc, seals, &mut forms)?;
@@ -112,7 +115,8 @@ pub(crate) fn unsold_forms(alloc: Global, seals: u32, limit: Residue) -> Result<
     Ok(forms)
 }
 
-/// What is shown of a winner, with the reserve in the place of the price, and that the winner's bid reaches it.
+/// What is shown of a winner, with the reserve in the place of the price, and that the winner's bid
+/// reaches it.
 pub(crate) fn reserve_forms(
     alloc: Global,
     seals: u32,
@@ -121,7 +125,8 @@ pub(crate) fn reserve_forms(
 ) -> Result<Vec<Form>, NoMemory>
     requires few { seals ≤ 64 }
     requires winner { winner < seals }
-    ensures { IfOk result (λ forms. forms.items ≡ vickrey_forms seals winner reserve ++ reach_form seals winner reserve ∷ []) }
+    ensures { IfOk result (λ forms. forms.items
+        ≡ vickrey_forms seals winner reserve ++ reach_form seals winner reserve ∷ []) }
 {
     let mut forms = vickrey_forms(alloc, seals, winner, reserve)?;
     let reach = one_term(alloc, seals + winner, Residue::ONE, reserve.neg())?;

@@ -1,4 +1,5 @@
-//! The second-price auction: its outcome and its sale under a reserve, and the plans that show these of hidden bids.
+//! The second-price auction: its outcome and its sale under a reserve, and the plans that show
+//! these of hidden bids.
 #![tactic(auto)]
 
 mod board_plan;

@@ -10,8 +10,8 @@ pub struct VickreyOutcome {
     pub price: u64,
 }
 
-/// The outcome of 1 to 64 bids: the first position of the greatest bid, at the greatest of the rest.
-/// Takes no memory.
+/// The outcome of 1 to 64 bids: the first position of the greatest bid, at the greatest of the
+/// rest. Takes no memory.
 pub fn outcome(bids: &[u64]) -> VickreyOutcome
     requires some { 1 ≤ length bids.now }
     requires most { length bids.now ≤ 64 }

@@ -33,9 +33,11 @@ pub struct VickreyPlan {
 impl VickreyPlan {
     /// None where a number is not within its limits. Takes no memory.
     pub fn new(seals: u32, width: u32, outcome: VickreyOutcome) -> Option<VickreyPlan>
-        ensures admitted { IsSome result ↔ IsVickreyCase seals width outcome.position outcome.price }
+        ensures admitted { IsSome result
+            ↔ IsVickreyCase seals width outcome.position outcome.price }
         ensures numbers { IfSome result (λ plan.
-            (plan.seals ≡ seals) × (plan.width ≡ width) × (plan.position ≡ outcome.position) × (plan.price ≡ outcome.price)) }
+            (plan.seals ≡ seals) × (plan.width ≡ width) × (plan.position ≡ outcome.position)
+            × (plan.price ≡ outcome.price)) }
     {
         if seals == 0 || seals > 64 || width == 0 || width > 40 {
             return None;
@@ -66,23 +68,29 @@ impl Circuit for VickreyPlan {
 
     ghost begins = { λ c bids claim. circuit_begins c.seals c.width c.position c.price bids claim };
 
-    ghost sound = { λ c values holds. circuit_sound c.seals c.width c.position c.price values c.in_limits holds };
+    ghost sound = { λ c values holds. circuit_sound c.seals c.width c.position c.price values
+        c.in_limits holds };
 
-    ghost complete = { λ c bids claim. vickrey_complete c.seals c.width c.position c.price bids c.in_limits claim };
+    ghost complete = { λ c bids claim. vickrey_complete c.seals c.width c.position c.price bids
+        c.in_limits claim };
 
     #[tactic(auto, unfolding(crate::specs::VickreyPlans::vickrey_plan))]
     fn inputs(&self) -> u32
-        ensures inputs { result ≡ (vickrey_plan self.now.seals self.now.width self.now.position self.now.price).inputs }
+        ensures inputs { result
+            ≡ (vickrey_plan self.now.seals self.now.width self.now.position self.now.price).inputs }
         ensures seals { result ≡ self.now.seals }
     {
         self.seals
     }
 
-    /// For n bids of width t it has `2n + (n - 1) + t(4n - 3)` wires and `5n - 2` rows, or 2 rows for one bid.
+    /// For n bids of width t it has `2n + (n - 1) + t(4n - 3)` wires and `5n - 2` rows, or 2 rows
+    /// for one bid.
     fn plan(&self, alloc: Global) -> Result<Plan, NoMemory>
         ensures plan { IfOk result
-            (λ plan. plan ≡ vickrey_plan self.now.seals self.now.width self.now.position self.now.price) }
-        ensures wires { IfOk result (λ plan. length plan.kinds ≡ wire_count self.now.seals self.now.width) }
+            (λ plan. plan ≡ vickrey_plan self.now.seals self.now.width self.now.position
+            self.now.price) }
+        ensures wires { IfOk result
+            (λ plan. length plan.kinds ≡ wire_count self.now.seals self.now.width) }
         ensures rows { IfOk result (λ plan. length plan.rows ≡ row_count self.now.seals) }
     {
         let mut plan = self.plan_before_selection(alloc)?;
@@ -94,14 +102,19 @@ impl Circuit for VickreyPlan {
         Ok(plan)
     }
 
-    /// The selector of the first other place that holds the price is 1, and the other selectors are 0.
+    /// The selector of the first other place that holds the price is 1, and the other selectors are
+    /// 0.
     fn fill(&self, alloc: Global, inputs: &[Residue]) -> Result<Vec<Residue>, NoMemory>
-        requires { IsVickreyClaim self.now.seals self.now.width self.now.position self.now.price inputs.now }
+        requires { IsVickreyClaim self.now.seals self.now.width self.now.position self.now.price
+            inputs.now }
         ensures filled { IfOk result (λ values.
-            values.items ≡ honest_values self.now.seals self.now.width self.now.position self.now.price inputs.now) }
+            values.items ≡ honest_values self.now.seals self.now.width self.now.position
+            self.now.price inputs.now) }
         ensures selector { IfOk result (λ values.
-            (place : ℕ) → place < self.now.seals - 1 → IsFirstHolder inputs.now (self.now.position - 1) self.now.price place
-            → SelectsAt values.items (selectors_start self.now.seals self.now.width) (self.now.seals - 1) place) }
+            (place : ℕ) → place < self.now.seals - 1
+            → IsFirstHolder inputs.now (self.now.position - 1) self.now.price place
+            → SelectsAt values.items (selectors_start self.now.seals self.now.width)
+            (self.now.seals - 1) place) }
     {
         let mut values = self.values_before_selection(alloc, inputs)?;
         if self.seals == 1 {
@@ -128,11 +141,12 @@ impl VickreyPlan {
         residue_of(self.price, self.width)
     }
 
-    /// That the bids are of the width, that the winner's is above the others, and that none of the others is above
-    /// the price.
+    /// That the bids are of the width, that the winner's is above the others, and that none of the
+    /// others is above the price.
     fn ranges(&self, alloc: Global) -> Result<Ranges, NoMemory>
         ensures { IfOk result (λ relation.
-            relation ≡ ranges_of (vickrey_forms self.now.seals (self.now.position - 1) self.now.price) self.now.width) }
+            relation ≡ ranges_of (vickrey_forms self.now.seals (self.now.position - 1)
+            self.now.price) self.now.width) }
     {
         let forms = vickrey_forms(alloc, self.seals, self.winner(), self.price_residue())?;
         Ok(of_width(forms, self.width))
@@ -141,7 +155,8 @@ impl VickreyPlan {
     /// One of the others' copies is the price.
     fn price_selection(&self, alloc: Global) -> Result<SelectedIs, NoMemory>
         ensures { IfOk result (λ relation.
-            relation ≡ price_selection self.now.seals self.now.width (self.now.position - 1) self.now.price) }
+            relation ≡ price_selection self.now.seals self.now.width (self.now.position - 1)
+            self.now.price) }
     {
         let mut wires = Vec::new(alloc);
         for k in 0..self.seals - 1 {
@@ -157,7 +172,8 @@ impl VickreyPlan {
     /// The bids, their copies, and the sets of the bids, the wins and the prices.
     fn plan_before_selection(&self, alloc: Global) -> Result<Plan, NoMemory>
         ensures { IfOk result (λ plan.
-            plan ≡ with_prices self.now.seals self.now.width (self.now.position - 1) self.now.price) }
+            plan ≡ with_prices self.now.seals self.now.width (self.now.position - 1)
+            self.now.price) }
     {
         let relation = self.ranges(alloc)?;
         let plan = ranged_plan(alloc, self.seals, &relation)?;
@@ -170,9 +186,11 @@ impl VickreyPlan {
         alloc: Global,
         bids: &[Residue],
     ) -> Result<Vec<Residue>, NoMemory>
-        requires { IsVickreyClaim self.now.seals self.now.width self.now.position self.now.price bids.now }
+        requires { IsVickreyClaim self.now.seals self.now.width self.now.position self.now.price
+            bids.now }
         ensures { IfOk result (λ values.
-            values.items ≡ values_before self.now.seals self.now.width (self.now.position - 1) self.now.price bids.now) }
+            values.items ≡ values_before self.now.seals self.now.width (self.now.position - 1)
+            self.now.price bids.now) }
     {
         let relation = self.ranges(alloc)?;
         let values = ranged_values(alloc, bids, &relation)?;

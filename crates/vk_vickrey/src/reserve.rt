@@ -13,8 +13,9 @@ pub struct ReservePlan {
     pub width: u32,
     /// What the winner has to bid at least, below 2^width.
     pub reserve: u64,
-    /// Nothing stays unsold where the reserve is 0. The winner's place is one of the bids; the price is below
-    /// 2^width and the reserve at least, and it is the reserve where there is one bid.
+    /// Nothing stays unsold where the reserve is 0. The winner's place is one of the bids; the
+    /// price is below 2^width and the reserve at least, and it is the reserve where there is one
+    /// bid.
     pub sale: Sale,
     pub ghost in_limits: { IsReserveCase seals width reserve sale } by { IsReserveCase-prop seals width reserve sale },
 }
@@ -24,7 +25,8 @@ impl ReservePlan {
     pub fn new(seals: u32, width: u32, reserve: u64, sale: Sale) -> Option<ReservePlan>
         ensures admitted { IsSome result ↔ IsReserveCase seals width reserve sale }
         ensures numbers { IfSome result (λ plan.
-            (plan.seals ≡ seals) × (plan.width ≡ width) × (plan.reserve ≡ reserve) × (plan.sale ≡ sale)) }
+            (plan.seals ≡ seals) × (plan.width ≡ width) × (plan.reserve ≡ reserve)
+            × (plan.sale ≡ sale)) }
     {
         if seals == 0 || seals > 64 || width == 0 || width > 40 {
             return None;

@@ -29,19 +29,25 @@ impl Circuit for ReservePlan {
 
     #[tactic(auto, using(crate::specs::ReserveLaws::reserve_inputs))]
     fn inputs(&self) -> u32
-        ensures inputs { result ≡ (reserve_plan self.now.seals self.now.width self.now.reserve self.now.sale).inputs }
+        ensures inputs { result
+            ≡ (reserve_plan self.now.seals self.now.width self.now.reserve self.now.sale).inputs }
         ensures seals { result ≡ self.now.seals }
     {
         self.seals
     }
 
-    /// For n bids of width t: unsold `2n + 2nt` wires and `3n` rows, sold at the reserve `2n + t(3n - 1)` wires and
-    /// `4n - 1` rows, and above it as many as without one.
+    /// For n bids of width t: unsold `2n + 2nt` wires and `3n` rows, sold at the reserve `2n + t(3n
+    /// - 1)` wires and `4n - 1` rows, and above it as many as without one.
     fn plan(&self, alloc: Global) -> Result<Plan, NoMemory>
         ensures plan { IfOk result
-            (λ plan. plan ≡ reserve_plan self.now.seals self.now.width self.now.reserve self.now.sale) }
-        ensures wires { IfOk result (λ plan. length plan.kinds ≡ sale_wire_count self.now.seals self.now.width self.now.reserve self.now.sale) }
-        ensures rows { IfOk result (λ plan. length plan.rows ≡ sale_row_count self.now.seals self.now.reserve self.now.sale) }
+            (λ plan. plan ≡ reserve_plan self.now.seals self.now.width self.now.reserve
+            self.now.sale) }
+        ensures wires { IfOk result
+            (λ plan. length plan.kinds
+            ≡ sale_wire_count self.now.seals self.now.width self.now.reserve self.now.sale) }
+        ensures rows { IfOk result
+            (λ plan. length plan.rows
+            ≡ sale_row_count self.now.seals self.now.reserve self.now.sale) }
     {
         if let Some(vickrey) = self.above_reserve() {
             let plan = vickrey.plan(alloc)?;
@@ -53,9 +59,11 @@ impl Circuit for ReservePlan {
     }
 
     fn fill(&self, alloc: Global, inputs: &[Residue]) -> Result<Vec<Residue>, NoMemory>
-        requires { IsBoardClaim self.now.seals self.now.width self.now.reserve self.now.sale inputs.now }
+        requires { IsBoardClaim self.now.seals self.now.width self.now.reserve self.now.sale
+            inputs.now }
         ensures { IfOk result (λ values.
-            values.items ≡ reserve_values self.now.seals self.now.width self.now.reserve self.now.sale inputs.now) }
+            values.items ≡ reserve_values self.now.seals self.now.width self.now.reserve
+            self.now.sale inputs.now) }
     {
         if let Some(vickrey) = self.above_reserve() {
             let values = vickrey.fill(alloc, inputs)?;
@@ -70,7 +78,8 @@ impl Circuit for ReservePlan {
 impl ReservePlan {
     /// Where the price is above the reserve, the plan without a reserve.
     fn above_reserve(&self) -> Option<VickreyPlan>
-        ensures above { IfSome result (λ plan. (plan.seals ≡ self.now.seals) × (plan.width ≡ self.now.width)
+        ensures above { IfSome result
+            (λ plan. (plan.seals ≡ self.now.seals) × (plan.width ≡ self.now.width)
             × (self.now.sale ≡ SoldTo plan.position plan.price) × (self.now.reserve < plan.price)) }
         ensures within { IsNone result → IsWithinReserve self.now.reserve self.now.sale }
     {

@@ -16,7 +16,8 @@ pub enum Sale {
 }
 
 impl Sale {
-    /// What a position, counted from 1, and a price tell; where there is no position nothing is sold.
+    /// What a position, counted from 1, and a price tell; where there is no position nothing is
+    /// sold.
     pub fn at(position: Option<u32>, price: u64) -> Sale
         ensures { result ≡ sale_at position price }
     {
@@ -27,8 +28,8 @@ impl Sale {
     }
 }
 
-/// The sale of 1 to 64 bids: the winner pays the reserve, or the price without one where that is more.
-/// Takes no memory.
+/// The sale of 1 to 64 bids: the winner pays the reserve, or the price without one where that is
+/// more. Takes no memory.
 pub fn sale_of(bids: &[u64], reserve: u64) -> Sale
     requires some { 1 ≤ length bids.now }
     requires most { length bids.now ≤ 64 }
@@ -45,10 +46,13 @@ pub fn sale_of(bids: &[u64], reserve: u64) -> Sale
     }
 }
 
-/// Of any bids: without a reserve they are sold at their outcome and at nothing else. With any reserve, where there
-/// is a bid there is a sale, and no bids have two.
+/// Of any bids: without a reserve they are sold at their outcome and at nothing else. With any
+/// reserve, where there is a bid there is a sale, and no bids have two.
 pub fn sales_extend_outcomes()
-    ensures outcome { (bids : List ℕ) (winner price : ℕ) → IsVickreyOutcome bids winner price ↔ IsSale bids 0 (SoldTo winner price) }
-    ensures sale { (bids : List ℕ) (reserve : ℕ) → 1 ≤ length bids → (sale : SaleValue) × IsSale bids reserve sale }
-    ensures no_other { (bids : List ℕ) (reserve : ℕ) (sale other : SaleValue) → IsSale bids reserve sale → IsSale bids reserve other → sale ≡ other }
+    ensures outcome { (bids : List ℕ) (winner price : ℕ) → IsVickreyOutcome bids winner price
+        ↔ IsSale bids 0 (SoldTo winner price) }
+    ensures sale { (bids : List ℕ) (reserve : ℕ) → 1 ≤ length bids → (sale : SaleValue)
+        × IsSale bids reserve sale }
+    ensures no_other { (bids : List ℕ) (reserve : ℕ) (sale other : SaleValue)
+        → IsSale bids reserve sale → IsSale bids reserve other → sale ≡ other }
 {}

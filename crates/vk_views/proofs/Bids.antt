@@ -7,10 +7,13 @@ use Rattle.vk_views.specs.Bids.{OfOneOutcome, BothHold}
 use Rattle.vk_views.specs.Laws.{WhereBothHold}
 
 pub both_hold : OfOneOutcome BothHold
-both_hold n bids others is claim claim_others = (board_values_hold n is bids claim, board_values_hold n is others claim_others)
+both_hold n bids others is claim claim_others =
+    (board_values_hold n is bids claim, board_values_hold n is others claim_others)
 
 -- what holds of any values that hold for one plan holds of theirs
-pub of_one_outcome : (Law : PlanValue → List ℕ → List ℕ → Type 0) → WhereBothHold Law → OfOneOutcome Law
+pub of_one_outcome : (Law : PlanValue → List ℕ → List ℕ → Type 0) → WhereBothHold Law
+    → OfOneOutcome Law
 of_one_outcome Law law n bids others is claim claim_others =
     let held = both_hold n bids others is claim claim_others in
-    law (board_plan n) (board_values n bids) (board_values n others) (board_plan_is n is) held.0 held.1
+    law (board_plan n) (board_values n bids) (board_values n others) (board_plan_is n is) held.0
+    held.1

@@ -12,8 +12,8 @@ abbrev pub is_turned : WireKind → ℕ → ℕ → Bool
 is_turned Split value other = false
 is_turned (Pair i) value other = not (value == other)
 
--- The tape of one wire: for bit 0 it stays. For bit 1 its mask is moved by the other value less the value, its swap is
--- turned where the entries are exchanged, and its keys stay.
+-- The tape of one wire: for bit 0 it stays. For bit 1 its mask is moved by the other value less the
+-- value, its swap is turned where the entries are exchanged, and its keys stay.
 abbrev pub moved_wire : WireKind → ℕ → ℕ → Bool → WireTape → WireTape
 moved_wire kind value other false tape = tape
 moved_wire kind value other true tape = record {
@@ -26,8 +26,10 @@ moved_wire kind value other true tape = record {
 -- the tape of a lane, wire by wire
 abbrev pub moved_tape : List WireKind → List ℕ → List ℕ → Bool → List WireTape → List WireTape
 moved_tape kinds values others bit tape =
-    each_wire (λ wire kind value own. moved_wire kind value (slice_index others wire) bit own) 0 kinds values tape
+    each_wire (λ wire kind value own. moved_wire kind value (slice_index others wire) bit own) 0
+    kinds values tape
 
 -- the tapes of all lanes of a challenge
-abbrev pub moved_tapes : List WireKind → List ℕ → List ℕ → List Bool → List (List WireTape) → List (List WireTape)
+abbrev pub moved_tapes : List WireKind → List ℕ → List ℕ → List Bool → List (List WireTape)
+    → List (List WireTape)
 moved_tapes kinds values others bits tapes = zip2 (moved_tape kinds values others) bits tapes

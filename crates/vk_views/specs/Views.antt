@@ -8,7 +8,11 @@ use Rattle.vk_views.specs.declared.views.LaneView.{LaneView}
 
 -- what an honest prover shows of each wire for the bit, and what it posts for each row
 abbrev pub view_of : PlanValue → List ℕ → List WireTape → Bool → LaneView
-view_of plan values tape bit = record { shown = honest_reply plan.kinds values tape bit; posted = honest_posted plan.rows tape }
+view_of plan values tape bit =
+    record {
+      shown = honest_reply plan.kinds values tape bit;
+      posted = honest_posted plan.rows tape;
+    }
 
 -- the view of each lane of a challenge, by its tape and its bit
 abbrev pub views_of : PlanValue → List ℕ → List (List WireTape) → List Bool → List LaneView

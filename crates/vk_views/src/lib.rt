@@ -1,5 +1,5 @@
-//! What is opened of a lane tells no more than the outcome: for any other bids of that outcome as many
-//! tapes give the same view.
+//! What is opened of a lane tells no more than the outcome: for any other bids of that outcome as
+//! many tapes give the same view.
 #![tactic(auto)]
 
 mod laws;

@@ -17,8 +17,8 @@ use vk_wire::WireTape;
 
 /// The tape by which the other values give the view for the bit that the values give by this one.
 ///
-/// For bit 0 it is the tape itself. For bit 1 each mask is moved by the other value less the value, the
-/// swap of a pair is turned exactly where its two values differ, and the keys stay.
+/// For bit 0 it is the tape itself. For bit 1 each mask is moved by the other value less the value,
+/// the swap of a pair is turned exactly where its two values differ, and the keys stay.
 ///
 /// Both lists of values are those of all wires, and hold for the plan.
 pub fn moved(
@@ -33,12 +33,14 @@ pub fn moved(
     requires others { Holds plan.now others.now }
     requires one_each { length tape.now.wires ≡ length plan.now.kinds }
     ensures moved { IfOk result
-        (λ moved. moved.wires ≡ moved_tape plan.now.kinds values.now others.now bit tape.now.wires) }
+        (λ moved. moved.wires ≡ moved_tape plan.now.kinds values.now others.now bit
+        tape.now.wires) }
     ensures tape { IfOk result (λ moved. IsTapeOf plan.now moved.wires) }
     ensures view { IfOk result (λ moved. view_of plan.now others.now moved.wires bit
         ≡ view_of plan.now values.now tape.now.wires bit) }
     ensures back { IfOk result
-        (λ moved. moved_tape plan.now.kinds others.now values.now bit moved.wires ≡ tape.now.wires) }
+        (λ moved. moved_tape plan.now.kinds others.now values.now bit moved.wires
+        ≡ tape.now.wires) }
 {
     let mut wires = Seq::new(alloc);
     for wire in 0..plan.wires() {

@@ -11,22 +11,22 @@ use vk_residue::{NoMemory, Residue};
 use vk_seq::Seq;
 use vk_wire::Shown;
 
-/// What is seen of a lane beside digests: what is shown of each wire for a challenge bit, and what is
-/// posted for each row.
+/// What is seen of a lane beside digests: what is shown of each wire for a challenge bit, and what
+/// is posted for each row.
 #[derive(Debug, Drop)]
 pub struct LaneView {
     pub shown: Seq<Shown>,
     pub posted: Seq<Residue>,
 }
 
-/// The id of the auction and the number of the lane of which the posted numbers are taken: they are the
-/// same in all.
+/// The id of the auction and the number of the lane of which the posted numbers are taken: they are
+/// the same in all.
 const ANY_AUCTION: [u8; 16] = [0; 16];
 
 const ANY_LANE: u16 = 1;
 
-/// The view of a lane of an honest prover: what `answer_lane` shows, and the numbers that `make_lane`
-/// posts. The values are those of all wires, and hold for the plan.
+/// The view of a lane of an honest prover: what `answer_lane` shows, and the numbers that
+/// `make_lane` posts. The values are those of all wires, and hold for the plan.
 pub fn view(
     alloc: Global,
     plan: &Plan,

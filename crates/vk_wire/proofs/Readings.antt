@@ -16,15 +16,19 @@ use Rattle.vk_wire.specs.Reads.{Reads, HasFault, IsSet, OpensEntry, entry_read, 
 
 -- one opening
 pub entry_half : (place : Place) (digests : WireCom) (second : Bool) (opening : Opening) (h : ℕ)
-    → (entry_read place digests second opening ≡ Ok h) ↔ (OpensEntry place digests second opening × (opening.value ≡ h))
+    → (entry_read place digests second opening ≡ Ok h)
+    ↔ (OpensEntry place digests second opening × (opening.value ≡ h))
 entry_half place digests second opening h = grind (arith, common_steps, opens_decides)
 
-pub entry_fault : (place : Place) (digests : WireCom) (second : Bool) (opening : Opening) (f : WireFault)
-    → (entry_read place digests second opening ≡ Err f) ↔ ((f ≡ Digest second) × ¬ OpensEntry place digests second opening)
+pub entry_fault : (place : Place) (digests : WireCom) (second : Bool) (opening : Opening)
+    (f : WireFault)
+    → (entry_read place digests second opening ≡ Err f)
+    ↔ ((f ≡ Digest second) × ¬ OpensEntry place digests second opening)
 entry_fault place digests second opening f = grind (arith, common_steps, opens_decides)
 
 -- two entries of a pair
-pub set_half : (i first second h : ℕ) → i < 61 → (set_read i first second ≡ Ok h) ↔ IsSet i first second h
+pub set_half : (i first second h : ℕ) → i < 61 → (set_read i first second ≡ Ok h)
+    ↔ IsSet i first second h
 set_half i first second h weight = search rules
 
 pub set_fault : (i first second : ℕ) (f : WireFault) → i < 61
@@ -33,13 +37,16 @@ set_fault i first second f weight = search rules
 
 -- a pair that is opened whole
 whole_half : (i : ℕ) (place : Place) (digests : WireCom) (first second : Opening) (h : ℕ) → i < 61
-    → (whole_read i place digests first second ≡ Ok h) ↔ Reads (Pair i) place digests (Whole first second) false h
+    → (whole_read i place digests first second ≡ Ok h)
+    ↔ Reads (Pair i) place digests (Whole first second) false h
 whole_half i place digests first second h weight =
     let set = set_half i first.value second.value h weight in
     grind (arith, common_steps, opens_decides)
 
-whole_fault : (i : ℕ) (place : Place) (digests : WireCom) (first second : Opening) (f : WireFault) → i < 61
-    → (whole_read i place digests first second ≡ Err f) ↔ HasFault (Pair i) place digests (Whole first second) false f
+whole_fault : (i : ℕ) (place : Place) (digests : WireCom) (first second : Opening) (f : WireFault)
+    → i < 61
+    → (whole_read i place digests first second ≡ Err f)
+    ↔ HasFault (Pair i) place digests (Whole first second) false f
 whole_fault i place digests first second Form weight =
     let set = set_fault i first.value second.value Form weight in
     grind (arith, common_steps, opens_decides)
@@ -58,36 +65,53 @@ no_half : (h : ℕ) → (let r : Result ℕ WireFault = Err Form in r ≡ Ok h) 
 no_half h = (λ e. absurd (cc), λ e. absurd e)
 
 -- each half is computed as it is read
-pub half_is_computed : (kind : WireKind) (place : Place) (digests : WireCom) (shown : Shown) (bit : Bool) (h : ℕ) → HasWeight kind
+pub half_is_computed : (kind : WireKind) (place : Place) (digests : WireCom) (shown : Shown)
+    (bit : Bool) (h : ℕ) → HasWeight kind
     → (read_of kind place digests shown bit ≡ Ok h) ↔ Reads kind place digests shown bit h
-half_is_computed Split place digests (Half opening) bit h weight = entry_half place digests bit opening h
+half_is_computed Split place digests (Half opening) bit h weight =
+    entry_half place digests bit opening h
 half_is_computed Split place digests (Whole first second) bit h weight = no_half h
 half_is_computed Split place digests (Spent second opening) bit h weight = no_half h
 half_is_computed (Pair i) place digests (Half opening) bit h weight = no_half h
-half_is_computed (Pair i) place digests (Whole first second) false h weight = whole_half i place digests first second h weight
+half_is_computed (Pair i) place digests (Whole first second) false h weight =
+    whole_half i place digests first second h weight
 half_is_computed (Pair i) place digests (Whole first second) true h weight = no_half h
 half_is_computed (Pair i) place digests (Spent second opening) false h weight = no_half h
-half_is_computed (Pair i) place digests (Spent second opening) true h weight = entry_half place digests second opening h
+half_is_computed (Pair i) place digests (Spent second opening) true h weight =
+    entry_half place digests second opening h
 
 -- the faults of a split value
 split_fault : (place : Place) (digests : WireCom) (opening : Opening) (bit : Bool) (f : WireFault)
-    → (entry_read place digests bit opening ≡ Err f) ↔ HasFault Split place digests (Half opening) bit f
-split_fault place digests opening bit Form = let e = entry_fault place digests bit opening Form in grind (arith, common_steps)
-split_fault place digests opening bit (Digest second) = let e = entry_fault place digests bit opening (Digest second) in grind (arith, common_steps)
-split_fault place digests opening bit NotASet = let e = entry_fault place digests bit opening NotASet in grind (arith, common_steps)
+    → (entry_read place digests bit opening ≡ Err f)
+    ↔ HasFault Split place digests (Half opening) bit f
+split_fault place digests opening bit Form = let e = entry_fault place digests bit opening Form in
+    grind (arith, common_steps)
+split_fault place digests opening bit (Digest second) = let e =
+    entry_fault place digests bit opening (Digest second) in grind (arith, common_steps)
+split_fault place digests opening bit NotASet = let e =
+    entry_fault place digests bit opening NotASet in grind (arith, common_steps)
 
 -- the faults of a spent entry
-spent_fault : (i : ℕ) (place : Place) (digests : WireCom) (spent : Bool) (opening : Opening) (f : WireFault)
-    → (entry_read place digests spent opening ≡ Err f) ↔ HasFault (Pair i) place digests (Spent spent opening) true f
-spent_fault i place digests spent opening Form = let e = entry_fault place digests spent opening Form in grind (arith, common_steps)
-spent_fault i place digests spent opening (Digest second) = let e = entry_fault place digests spent opening (Digest second) in grind (arith, common_steps)
-spent_fault i place digests spent opening NotASet = let e = entry_fault place digests spent opening NotASet in grind (arith, common_steps)
+spent_fault : (i : ℕ) (place : Place) (digests : WireCom) (spent : Bool) (opening : Opening)
+    (f : WireFault)
+    → (entry_read place digests spent opening ≡ Err f)
+    ↔ HasFault (Pair i) place digests (Spent spent opening) true f
+spent_fault i place digests spent opening Form = let e =
+    entry_fault place digests spent opening Form in grind (arith, common_steps)
+spent_fault i place digests spent opening (Digest second) = let e =
+    entry_fault place digests spent opening (Digest second) in grind (arith, common_steps)
+spent_fault i place digests spent opening NotASet = let e =
+    entry_fault place digests spent opening NotASet in grind (arith, common_steps)
 
 -- each fault is computed as it is defined
-pub fault_is_computed : (kind : WireKind) (place : Place) (digests : WireCom) (shown : Shown) (bit : Bool) (f : WireFault) → HasWeight kind
+pub fault_is_computed : (kind : WireKind) (place : Place) (digests : WireCom) (shown : Shown)
+    (bit : Bool) (f : WireFault) → HasWeight kind
     → (read_of kind place digests shown bit ≡ Err f) ↔ HasFault kind place digests shown bit f
-fault_is_computed Split place digests (Half opening) bit f weight = split_fault place digests opening bit f
-fault_is_computed (Pair i) place digests (Whole first second) false f weight = whole_fault i place digests first second f weight
-fault_is_computed (Pair i) place digests (Spent second opening) true f weight = spent_fault i place digests second opening f
+fault_is_computed Split place digests (Half opening) bit f weight =
+    split_fault place digests opening bit f
+fault_is_computed (Pair i) place digests (Whole first second) false f weight =
+    whole_fault i place digests first second f weight
+fault_is_computed (Pair i) place digests (Spent second opening) true f weight =
+    spent_fault i place digests second opening f
 fault_is_computed kind place digests shown bit Form weight = (λ _. refl, λ _. refl)
 fault_is_computed kind place digests shown bit f weight = (λ e. absurd (cc), λ e. absurd e)

@@ -16,23 +16,29 @@ use Rattle.vk_wire.specs.Values.{IsCom, IsTape}
 abbrev pub AtMostOneHalf : Type 0
 AtMostOneHalf =
     (kind : WireKind) (place : Place) (digests : WireCom) (shown : Shown) (bit : Bool) (g h : ℕ)
-    → HasWeight kind → Reads kind place digests shown bit g → Reads kind place digests shown bit h → g ≡ h
+    → HasWeight kind → Reads kind place digests shown bit g → Reads kind place digests shown bit h
+    → g ≡ h
 
 -- the computed reading is the half that is read, or the fault
 abbrev pub ReadingComputes : Type 0
 ReadingComputes =
-    (kind : WireKind) (place : Place) (digests : WireCom) (shown : Shown) (bit : Bool) → HasWeight kind
-    → ((h : ℕ) → (read_of kind place digests shown bit ≡ Ok h) ↔ Reads kind place digests shown bit h)
-    × ((f : WireFault) → (read_of kind place digests shown bit ≡ Err f) ↔ HasFault kind place digests shown bit f)
+    (kind : WireKind) (place : Place) (digests : WireCom) (shown : Shown) (bit : Bool)
+    → HasWeight kind
+    → ((h : ℕ) → (read_of kind place digests shown bit ≡ Ok h)
+    ↔ Reads kind place digests shown bit h)
+    × ((f : WireFault) → (read_of kind place digests shown bit ≡ Err f)
+    ↔ HasFault kind place digests shown bit f)
 
 -- an honest wire reads the half that the bit names
 abbrev pub MadeWiresRead : Type 0
 MadeWiresRead =
     (kind : WireKind) (place : Place) (value : ℕ) (tape : WireTape) (bit : Bool)
     → HasWeight kind → MayHave kind value → IsResidue value → IsTape tape
-    → Reads kind place (made_com kind place value tape) (shown_wire kind value tape bit) bit (half_of value tape bit)
+    → Reads kind place (made_com kind place value tape) (shown_wire kind value tape bit) bit
+    (half_of value tape bit)
 
 -- what an honest wire commits to are two digests
 abbrev pub MadeComsAre : Type 0
 MadeComsAre =
-    (kind : WireKind) (place : Place) (value : ℕ) (tape : WireTape) → IsCom (made_com kind place value tape)
+    (kind : WireKind) (place : Place) (value : ℕ) (tape : WireTape)
+    → IsCom (made_com kind place value tape)

@@ -15,18 +15,21 @@ use Rattle.vk_wire.specs.Places.{next_place}
 -- the number that the first commitment holds
 abbrev pub first_entry : WireKind → ℕ → WireTape → ℕ
 first_entry Split value tape = tape.mask
-first_entry (Pair i) value tape = if tape.swap then difference (2 ^ i) tape.mask else negative tape.mask
+first_entry (Pair i) value tape = if tape.swap then difference (2 ^ i) tape.mask
+    else negative tape.mask
 
 -- the number that the second commitment holds
 abbrev pub second_entry : WireKind → ℕ → WireTape → ℕ
 second_entry Split value tape = difference value tape.mask
-second_entry (Pair i) value tape = if tape.swap then negative tape.mask else difference (2 ^ i) tape.mask
+second_entry (Pair i) value tape = if tape.swap then negative tape.mask
+    else difference (2 ^ i) tape.mask
 
 abbrev pub first_opening : WireKind → ℕ → WireTape → Opening
 first_opening kind value tape = record { key = tape.first_key; value = first_entry kind value tape }
 
 abbrev pub second_opening : WireKind → ℕ → WireTape → Opening
-second_opening kind value tape = record { key = tape.second_key; value = second_entry kind value tape }
+second_opening kind value tape =
+    record { key = tape.second_key; value = second_entry kind value tape }
 
 -- the commitments to both entries
 abbrev pub made_com : WireKind → Place → ℕ → WireTape → WireCom
@@ -43,7 +46,8 @@ spends_second kind value tape = second_entry kind value tape == difference value
 abbrev pub shown_wire : WireKind → ℕ → WireTape → Bool → Shown
 shown_wire Split value tape false = Half (first_opening Split value tape)
 shown_wire Split value tape true = Half (second_opening Split value tape)
-shown_wire (Pair i) value tape false = Whole (first_opening (Pair i) value tape) (second_opening (Pair i) value tape)
+shown_wire (Pair i) value tape false =
+    Whole (first_opening (Pair i) value tape) (second_opening (Pair i) value tape)
 shown_wire (Pair i) value tape true =
     if spends_second (Pair i) value tape
     then Spent true (second_opening (Pair i) value tape)

@@ -1,5 +1,5 @@
--- What a shown wire opens, and the digests that this makes. Of a wire that opens one entry, that entry is both the first
--- and the last.
+-- What a shown wire opens, and the digests that this makes. Of a wire that opens one entry, that
+-- entry is both the first and the last.
 use Rattle.std.specs.Prelude.{ℕ, Bool, true, false, List}
 use Rattle.vk_commit.specs.Commitment.{digest_of}
 use Rattle.vk_commit.specs.declared.place.Place.{Place}

@@ -5,7 +5,12 @@ use Rattle.vk_commit.specs.declared.place.Place.{Place}
 -- the first commitment of a wire: an input's at its seat with slot 0, any other's at seat 0
 abbrev pub place_of_wire : List ℕ → ℕ → List ℕ → ℕ → Place
 place_of_wire auction lane seats wire =
-    let at_seat : Place = record { auction = auction; seat = slice_index seats wire; lane = lane; slot = 0 } in
+    let at_seat : Place = record {
+      auction = auction;
+      seat = slice_index seats wire;
+      lane = lane;
+      slot = 0;
+    } in
     let at_no_seat : Place = record { auction = auction; seat = 0; lane = lane; slot = 2 * wire } in
     if nat_lt wire (length seats) then at_seat else at_no_seat
 

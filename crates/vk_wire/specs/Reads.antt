@@ -20,18 +20,22 @@ entry_digest digests true = digests.second
 
 -- the opening opens the wire's first or second digest
 abbrev pub OpensEntry : Place → WireCom → Bool → Opening → Type 0
-OpensEntry place digests second opening = Opens (entry_place place second) (entry_digest digests second) opening
+OpensEntry place digests second opening =
+    Opens (entry_place place second) (entry_digest digests second) opening
 
 -- the entries of a pair of weight 2^i with the mask h: -h and 2^i - h, in either order
 abbrev pub IsSet : ℕ → ℕ → ℕ → ℕ → Type 0
 IsSet i first second h =
-    IsResidue h × (((first ≡ negative h) × (second ≡ difference (2 ^ i) h)) ⊎ ((first ≡ difference (2 ^ i) h) × (second ≡ negative h)))
+    IsResidue h × (((first ≡ negative h) × (second ≡ difference (2 ^ i) h))
+    ⊎ ((first ≡ difference (2 ^ i) h) × (second ≡ negative h)))
 
 -- the shown wire gives the half h for the bit
 abbrev pub Reads : WireKind → Place → WireCom → Shown → Bool → ℕ → Type 0
-Reads Split place digests (Half opening) bit h = OpensEntry place digests bit opening × (opening.value ≡ h)
+Reads Split place digests (Half opening) bit h = OpensEntry place digests bit opening
+    × (opening.value ≡ h)
 Reads (Pair i) place digests (Whole first second) false h =
-    OpensEntry place digests false first × OpensEntry place digests true second × IsSet i first.value second.value h
+    OpensEntry place digests false first × OpensEntry place digests true second
+    × IsSet i first.value second.value h
 Reads (Pair i) place digests (Spent second opening) true h =
     OpensEntry place digests second opening × (opening.value ≡ h)
 Reads _ _ _ _ _ _ = ⊥
@@ -43,15 +47,19 @@ has_form (Pair _) (Whole _ _) false = true
 has_form (Pair _) (Spent _ _) true = true
 has_form _ _ _ = false
 
--- the shown wire has the fault, and none that comes before it in the order form, first digest, second digest, set
+-- the shown wire has the fault, and none that comes before it in the order form, first digest,
+-- second digest, set
 abbrev pub HasFault : WireKind → Place → WireCom → Shown → Bool → WireFault → Type 0
 HasFault kind place digests shown bit Form = has_form kind shown bit ≡ false
-HasFault Split place digests (Half opening) bit (Digest second) = (second ≡ bit) × ¬ OpensEntry place digests bit opening
-HasFault (Pair i) place digests (Whole first second) false (Digest false) = ¬ OpensEntry place digests false first
+HasFault Split place digests (Half opening) bit (Digest second) = (second ≡ bit)
+    × ¬ OpensEntry place digests bit opening
+HasFault (Pair i) place digests (Whole first second) false (Digest false) =
+    ¬ OpensEntry place digests false first
 HasFault (Pair i) place digests (Whole first second) false (Digest true) =
     OpensEntry place digests false first × ¬ OpensEntry place digests true second
 HasFault (Pair i) place digests (Whole first second) false NotASet =
-    OpensEntry place digests false first × OpensEntry place digests true second × ((h : ℕ) → ¬ IsSet i first.value second.value h)
+    OpensEntry place digests false first × OpensEntry place digests true second
+    × ((h : ℕ) → ¬ IsSet i first.value second.value h)
 HasFault (Pair i) place digests (Spent spent opening) true (Digest second) =
     (second ≡ spent) × ¬ OpensEntry place digests spent opening
 HasFault _ _ _ _ _ _ = ⊥
@@ -59,7 +67,8 @@ HasFault _ _ _ _ _ _ = ⊥
 -- the value of an opening that opens the wire's first or second digest
 abbrev pub entry_read : Place → WireCom → Bool → Opening → Result ℕ WireFault
 entry_read place digests second opening =
-    if opens_test (entry_place place second) (entry_digest digests second) opening then Ok opening.value else Err (Digest second)
+    if opens_test (entry_place place second) (entry_digest digests second) opening
+    then Ok opening.value else Err (Digest second)
 
 -- the two entries are -h and 2^i - h, in this order
 abbrev pub is_set : ℕ → ℕ → ℕ → ℕ → Bool
@@ -76,7 +85,8 @@ set_read i first second =
 abbrev pub whole_read : ℕ → Place → WireCom → Opening → Opening → Result ℕ WireFault
 whole_read i place digests first second =
     if opens_test place digests.first first
-    then (if opens_test (entry_place place true) digests.second second then set_read i first.value second.value else Err (Digest true))
+    then (if opens_test (entry_place place true) digests.second second
+    then set_read i first.value second.value else Err (Digest true))
     else Err (Digest false)
 
 -- the half, or the first fault, as definitions compute it

@@ -17,7 +17,8 @@ pub record IsTape (tape : WireTape) : Type 0 where
   pub first_key : AreBytes 32 tape.first_key
   pub second_key : AreBytes 32 tape.second_key
 
--- a wire with a value that its kind may have, whose second commitment has the slot after an even one
+-- a wire with a value that its kind may have, whose second commitment has the slot after an even
+-- one
 pub record CanBeMade (wire : HonestWire) : Type 0 where
   pub weight : HasWeight wire.kind
   pub value : MayHave wire.kind wire.value

@@ -17,8 +17,8 @@ pub enum Which {
     Last,
 }
 
-/// The digests of what the wire opens for the bit, at its places. The second commitment stands at the
-/// slot after `place`.
+/// The digests of what the wire opens for the bit, at its places. The second commitment stands at
+/// the slot after `place`.
 #[tactic(auto, unfolding(crate::specs::Opened::opened_by))]
 pub fn hash_opened(place: &Place, shown: &Shown, bit: bool) -> Opened
     requires { place.now.slot % 2 ≡ 0 }
@@ -66,7 +66,8 @@ pub fn hash_four(places: &[Place; 4], shown: &[Shown; 4], bit: bool) -> [Opened;
 fn hash_each(places: &[Place; 4], shown: &[Shown; 4], bit: bool, which: Which) -> [[u8; 32]; 4]
     requires { All (λ place. place.slot % 2 ≡ 0) places.now }
     ensures { result
-        ≡ zip2 (λ place shown. entry_made place (opened_entry shown bit which)) places.now shown.now }
+        ≡ zip2 (λ place shown. entry_made place (opened_entry shown bit which)) places.now
+        shown.now }
 {
     let (place0, opening0) = opened_entry(&places[0], &shown[0], bit, which);
     let (place1, opening1) = opened_entry(&places[1], &shown[1], bit, which);
@@ -87,9 +88,11 @@ fn hash_lasts(
 ) -> [[u8; 32]; 4]
     requires slots { All (λ place. place.slot % 2 ≡ 0) places.now }
     requires firsts { firsts.now
-        ≡ zip2 (λ place shown. entry_made place (opened_entry shown bit First)) places.now shown.now }
+        ≡ zip2 (λ place shown. entry_made place (opened_entry shown bit First)) places.now
+        shown.now }
     ensures { result
-        ≡ zip2 (λ place shown. entry_made place (opened_entry shown bit Last)) places.now shown.now }
+        ≡ zip2 (λ place shown. entry_made place (opened_entry shown bit Last)) places.now
+        shown.now }
 {
     if !any_opens_two(shown) {
         return *firsts;

@@ -6,7 +6,8 @@ pub fn at_most_one_half_is_read()
     ensures { AtMostOneHalf }
 {}
 
-/// What an honest wire commits to and shows reads the mask for bit 0, and for bit 1 the value less the mask.
+/// What an honest wire commits to and shows reads the mask for bit 0, and for bit 1 the value less
+/// the mask.
 pub fn made_wires_read_their_halves()
     ensures { MadeWiresRead }
 {}

@@ -1,4 +1,5 @@
-//! One wire of a lane: what is committed to, what is shown for a challenge bit, and what that reads.
+//! One wire of a lane: what is committed to, what is shown for a challenge bit, and what that
+//! reads.
 #![tactic(auto)]
 
 mod hashing;

@@ -58,8 +58,8 @@ pub fn make_two(first: &HonestWire, second: &HonestWire) -> (WireCom, WireCom)
     )
 }
 
-/// What is shown of the wire for the bit: of a split value the half that the bit names, of a pair both
-/// entries for bit 0, and for bit 1 the entry that is the value less the mask.
+/// What is shown of the wire for the bit: of a split value the half that the bit names, of a pair
+/// both entries for bit 0, and for bit 1 the entry that is the value less the mask.
 pub fn show(kind: WireKind, value: Residue, tape: &WireTape, bit: bool) -> Shown
     requires weight { HasWeight kind }
     requires value { MayHave kind value }

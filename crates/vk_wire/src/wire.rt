@@ -44,8 +44,8 @@ pub struct WireTape {
     pub second_key: [u8; 32],
 }
 
-/// A wire that an honest prover makes: its kind, the place of its first commitment, its value, and the
-/// secret choices behind it.
+/// A wire that an honest prover makes: its kind, the place of its first commitment, its value, and
+/// the secret choices behind it.
 #[derive(Clone, Copy, Debug)]
 pub struct HonestWire {
     pub kind: WireKind,

@@ -37,12 +37,14 @@ pub one_more :
     (text before : List ℕ) (rows : List CommandRow) (i : ℕ) (d : CommandRow)
     → i < length rows
     → text ++ listed before (map row_seen (drop i rows)) ≡ all_listed
-    → ((text ++ before) ++ (slice_index_or rows i d).name.now) ++ listed (codes "|") (map row_seen (drop (i + 1) rows)) ≡ all_listed
+    → ((text ++ before) ++ (slice_index_or rows i d).name.now)
+    ++ listed (codes "|") (map row_seen (drop (i + 1) rows)) ≡ all_listed
 one_more text before rows i d within is =
     let e = at_drop_more (λ left. listed before (map row_seen left)) rows i d within in
     let name = (slice_index_or rows i d).name.now in
     let rest = listed (codes "|") (map row_seen (drop (i + 1) rows)) in
-    append_assoc (text ++ before) name rest ∙ append_assoc text before (name ++ rest) ∙ ap (λ t. text ++ t) (sym e) ∙ is
+    append_assoc (text ++ before) name rest ∙ append_assoc text before (name ++ rest)
+    ∙ ap (λ t. text ++ t) (sym e) ∙ is
 
 -- what stands before the first of the rows that are left fits
 pub before_fits :
@@ -51,9 +53,11 @@ pub before_fits :
     → text ++ listed before rows ≡ all_listed
     → length text + length before ≤ 400
 before_fits text before [] some is = absurd (omega arith)
-before_fits text before (row ∷ rows) some is = omega (arith, simp length-append at (ap length is), length-all_listed)
+before_fits text before (row ∷ rows) some is =
+    omega (arith, simp length-append at (ap length is), length-all_listed)
 
-pub some_left : (rows : List CommandRow) (i : ℕ) → i < length rows → 0 < length (map row_seen (drop i rows))
+pub some_left : (rows : List CommandRow) (i : ℕ) → i < length rows
+    → 0 < length (map row_seen (drop i rows))
 some_left rows i within = simp (length-map, length-drop) (omega arith)
 
 -- and so does its name

@@ -18,7 +18,9 @@ first & others = (first, others)
 pub each_is_found : All (λ row. row_of row.name ≡ Some row) commands
 unfolding commands row_of
 each_is_found =
-    All-from_recursion (λ row. row_of row.name ≡ Some row) commands (refl & refl & refl & refl & refl & refl & refl & refl & refl & refl & refl & refl & refl & refl & refl & refl & refl & refl & tt)
+    All-from_recursion (λ row. row_of row.name ≡ Some row) commands
+    (refl & refl & refl & refl & refl & refl & refl & refl & refl & refl & refl & refl & refl
+    & refl & refl & refl & refl & refl & tt)
 
 -- whether a row has that name
 abbrev has_name : List ℕ → CommandRow → Bool
@@ -27,16 +29,20 @@ has_name word row = bytes_eq row.name.now word
 -- what is found of the rows that are seen is what is seen of the row that is found
 find_seen :
     (word : List ℕ) (rows : List CommandRow)
-    → option_map row_seen (find (has_name word) rows) ≡ find (λ row. bytes_eq row.name word) (map row_seen rows)
+    → option_map row_seen (find (has_name word) rows)
+    ≡ find (λ row. bytes_eq row.name word) (map row_seen rows)
 find_seen word [] = refl
 find_seen word (row ∷ rows) =
     let seen = find (λ r. bytes_eq r.name word) (map row_seen rows) in
-    elim (bytes_eq row.name.now word) as (λ b. option_map row_seen (cond b (Some row) (find (has_name word) rows)) ≡ cond b (Some (row_seen row)) seen) [
+    elim (bytes_eq row.name.now word) as
+    (λ b. option_map row_seen (cond b (Some row) (find (has_name word) rows))
+    ≡ cond b (Some (row_seen row)) seen) [
       | true ↦ refl
       | false ↦ find_seen word rows
     ]
 
-seen_of : (found : Option (Bor CommandRow)) → option_map (λ row. row_seen row.now) found ≡ option_map row_seen (option_copied found)
+seen_of : (found : Option (Bor CommandRow))
+    → option_map (λ row. row_seen row.now) found ≡ option_map row_seen (option_copied found)
 seen_of None = refl
 seen_of (Some row) = refl
 
@@ -50,7 +56,8 @@ unfolding row_of
 found_row word rows found is table = rw (seen_of found, is, find_seen word rows, table) refl
 
 -- what holds of each element holds of the one that is found
-pub IfSome-find : {X : Type 0} (P : X → Type 0) (test : X → Bool) (xs : List X) → AllByRecursion P xs → IfSome (find test xs) P
+pub IfSome-find : {X : Type 0} (P : X → Type 0) (test : X → Bool) (xs : List X)
+    → AllByRecursion P xs → IfSome (find test xs) P
 IfSome-find P test [] each = tt
 IfSome-find P test (x ∷ xs) each =
     elim (test x) as (λ b. IfSome (cond b (Some x) (find test xs)) P) [

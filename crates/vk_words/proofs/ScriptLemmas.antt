@@ -5,7 +5,8 @@ use Rattle.std.proofs.lemmas.Str.{IsUtf8-from_is_utf8, is_utf8-from_IsUtf8}
 use Rattle.vk_lines.specs.Tokens.{fields_of}
 use Rattle.vk_words.specs.Scripts.{line_words}
 
-pub line_words-text : (line text : List ℕ) → text ≡ line → IsUtf8 line → (words : List (List ℕ)) → words ≡ fields_of text → Some words ≡ line_words line
+pub line_words-text : (line text : List ℕ) → text ≡ line → IsUtf8 line → (words : List (List ℕ))
+    → words ≡ fields_of text → Some words ≡ line_words line
 line_words-text line text same right words are = rw (is_utf8-from_IsUtf8 line right, are, same) refl
 
 not_utf8 : (line : List ℕ) (test : Bool) → is_utf8 line ≡ test → ¬ (IsUtf8 line) → test ≡ false

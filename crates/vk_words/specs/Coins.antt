@@ -12,7 +12,8 @@ use Rattle.vk_words.specs.declared.table.Verb.TheVariants as verbs
 use Rattle.vk_words.specs.Names.{name_at, nth_word}
 use Rattle.vk_words.specs.Orders.{id_at, if_other, seed_at}
 
--- what `coin-part` is to draw: the id of an auction, an auditor, the lanes and the seed, and the name of its file
+-- what `coin-part` is to draw: the id of an auction, an auditor, the lanes and the seed, and the
+-- name of its file
 pub record PartWords : Type 0 where
   pub auction : List ℕ
   pub auditor : ℕ
@@ -32,7 +33,13 @@ pub data CoinWords : Type 0 where
   Board : ChallengeWords → CoinWords
 
 abbrev pub part_seen : PartOrder → PartWords
-part_seen order = record { auction = order.auction; auditor = order.auditor; lanes = order.lanes; seed = order.seed; share = order.share.now }
+part_seen order = record {
+  auction = order.auction;
+  auditor = order.auditor;
+  lanes = order.lanes;
+  seed = order.seed;
+  share = order.share.now;
+}
 
 abbrev pub challenge_seen : ChallengeNames → ChallengeWords
 challenge_seen names = record { from = names.from.now; challenge = names.challenge.now }
@@ -64,7 +71,13 @@ part_in words =
     number_token 1 64 (nth_word words 3) >>? λ lanes.
     seed_at words 4 >>? λ seed.
     name_at words 5 >>? λ share.
-    Some (record { auction = auction; auditor = auditor; lanes = lanes; seed = seed; share = share })
+    Some (record {
+      auction = auction;
+      auditor = auditor;
+      lanes = lanes;
+      seed = seed;
+      share = share;
+    })
 
 -- a file's name and CHALLENGE behind the first word, where the two files have different names
 unfoldable pub challenge_in : List (List ℕ) → Option ChallengeWords

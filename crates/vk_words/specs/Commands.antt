@@ -52,7 +52,8 @@ IsCommand command = Unit {0}
 
 -- KIND NUMBER behind the first word
 abbrev pub claim_sample_in : List (List ℕ) → Option CommandWords
-claim_sample_in words = kind_named (nth_word words 1) >>? λ kind. option_map (ClaimSample kind) (decimal_of (2 ^ 64 - 1) (nth_word words 2))
+claim_sample_in words = kind_named (nth_word words 1) >>? λ kind. option_map (ClaimSample kind)
+    (decimal_of (2 ^ 64 - 1) (nth_word words 2))
 
 -- the command of that first word, by the words behind it
 abbrev pub command_by : Verb → List (List ℕ) → Option CommandWords
@@ -75,7 +76,8 @@ command_by verb words = option_map House (house_by verb words)
 abbrev pub may_have : Row → ℕ → Bool
 may_have row count = nat_le row.words count && nat_le count row.most
 
--- the command that words are, if they are one: the first names it, and they are as many as it may have
+-- the command that words are, if they are one: the first names it, and they are as many as it may
+-- have
 unfoldable pub command_words : List (List ℕ) → Option CommandWords
 command_words words =
     row_of (nth_word words 0) >>? λ row.

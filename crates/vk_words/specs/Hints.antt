@@ -48,20 +48,25 @@ is_of_kind Auditor words place = is_some (number_token 1 16 (nth_word words plac
 is_of_kind Width words place = is_some (number_token 1 40 (nth_word words place))
 is_of_kind Lanes words place = is_some (number_token 1 64 (nth_word words place))
 is_of_kind Number words place = is_some (decimal_of (2 ^ 64 - 1) (nth_word words place))
-is_of_kind Reserve words place = nat_le (length words) place || is_some (decimal_of (most_reserve words) (nth_word words place))
+is_of_kind Reserve words place =
+    nat_le (length words) place || is_some (decimal_of (most_reserve words) (nth_word words place))
 is_of_kind Name words place = is_name (nth_word words place)
-is_of_kind OtherName words place = is_name (nth_word words place) && not (bytes_eq (nth_word words (place - 1)) (nth_word words place))
+is_of_kind OtherName words place =
+    is_name (nth_word words place)
+    && not (bytes_eq (nth_word words (place - 1)) (nth_word words place))
 is_of_kind Kind words place = is_some (kind_named (nth_word words place))
 
 -- the first word, from that place on, that isn't of the kind which stands for it
 unfoldable pub first_unfit : List WordKind → List (List ℕ) → ℕ → Option Hint
 first_unfit [] words place = None
-first_unfit (kind ∷ kinds) words place = if is_of_kind kind words place then first_unfit kinds words (place + 1) else Some (Word place kind)
+first_unfit (kind ∷ kinds) words place = if is_of_kind kind words place
+    then first_unfit kinds words (place + 1) else Some (Word place kind)
 
 -- why words whose first names that command are none, if they are
 abbrev pub hint_on : List (List ℕ) → Row → Option Hint
 hint_on words row =
-    if may_have row (length words) then first_unfit (kinds_of row.verb) words 1 else Some (Count row.words row.most (length words))
+    if may_have row (length words) then first_unfit (kinds_of row.verb) words 1
+    else Some (Count row.words row.most (length words))
 
 -- why words are no command, by the row that their first names: none where they are one
 abbrev pub hint_by : List (List ℕ) → Option Row → Option Hint
@@ -95,11 +100,13 @@ many_text fewest most =
 
 abbrev pub count_text : (fewest most given : ℕ) → List ℕ
 count_text fewest most given =
-    ((many_text fewest most ++ codes " words behind its name, and ") ++ decimal given) ++ codes " are given; see `man vickrey`\n"
+    ((many_text fewest most ++ codes " words behind its name, and ") ++ decimal given)
+    ++ codes " are given; see `man vickrey`\n"
 
 -- the line of a hint. The word that names the command isn't counted
 abbrev pub hint_text : Hint → List ℕ
 hint_text Command = codes "vickrey: the first word names no command; see `man vickrey`\n"
 hint_text (Count fewest most given) = count_text (fewest - 1) (most - 1) (given - 1)
 hint_text (Word place kind) =
-    (((codes "vickrey: word " ++ decimal place) ++ codes " behind the command's name has to be ") ++ kind_text kind) ++ codes "; see `man vickrey`\n"
+    (((codes "vickrey: word " ++ decimal place) ++ codes " behind the command's name has to be ")
+    ++ kind_text kind) ++ codes "; see `man vickrey`\n"

@@ -48,7 +48,11 @@ abbrev pub verify_seen : VerifyNames → VerifyWords
 verify_seen names = record { board = names.board.now; attempt = attempt_seen names.attempt }
 
 abbrev pub extract_seen : ExtractNames → ExtractWords
-extract_seen names = record { board = names.board.now; first = attempt_seen names.first; second = attempt_seen names.second }
+extract_seen names = record {
+  board = names.board.now;
+  first = attempt_seen names.first;
+  second = attempt_seen names.second;
+}
 
 abbrev pub confront_seen : ConfrontNames → ConfrontWords
 confront_seen names = record { replies = extract_seen names.replies; secret = names.secret.now }

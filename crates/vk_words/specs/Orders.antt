@@ -11,7 +11,8 @@ use Rattle.vk_words.specs.declared.table.Verb.{Verb}
 use Rattle.vk_words.specs.declared.table.Verb.TheVariants as verbs
 use Rattle.vk_words.specs.Names.{attempt_at, name_at, nth_word}
 
--- what `seal` is to make: the id of an auction, a seat, a bid, the width, the lanes and the seed, and the names of its files
+-- what `seal` is to make: the id of an auction, a seat, a bid, the width, the lanes and the seed,
+-- and the names of its files
 pub record SealWords : Type 0 where
   pub auction : List ℕ
   pub seat : ℕ
@@ -33,7 +34,16 @@ pub data HouseWords : Type 0 where
 
 abbrev pub seal_seen : SealOrder → SealWords
 seal_seen order =
-    record { auction = order.auction; seat = order.seat; bid = order.bid; width = order.width; lanes = order.lanes; seed = order.seed; secret = order.secret.now; seal = order.seal.now }
+    record {
+      auction = order.auction;
+      seat = order.seat;
+      bid = order.bid;
+      width = order.width;
+      lanes = order.lanes;
+      seed = order.seed;
+      secret = order.secret.now;
+      seal = order.seal.now;
+    }
 
 abbrev pub house_seen : HouseOrder → HouseWords
 house_seen (orders.Announce id width lanes) = Announce id width lanes
@@ -53,7 +63,8 @@ pub record IsSealOrder (order : SealWords) : Type 0 where
 -- what the house asks of the numbers of a command
 abbrev pub IsHouseOrder : HouseOrder → Type 0
 IsHouseOrder (orders.Announce id width lanes) = IsSize width lanes
-IsHouseOrder (orders.AnnounceReserve id width lanes reserve) = IsSize width lanes × (reserve < 2 ^ width)
+IsHouseOrder (orders.AnnounceReserve id width lanes reserve) = IsSize width lanes
+    × (reserve < 2 ^ width)
 IsHouseOrder order = Unit {0}
 
 -- ---- where they stand
@@ -70,7 +81,8 @@ seed_at words place = hex_of 32 (nth_word words place)
 abbrev pub if_other : {X : Type 0} → List ℕ → List ℕ → X → Option X
 if_other name other given = if bytes_eq name other then None else Some given
 
--- ID SEAT BID WIDTH LANES SEED SECRET SEAL behind the first word, where the two files have different names
+-- ID SEAT BID WIDTH LANES SEED SECRET SEAL behind the first word, where the two files have
+-- different names
 unfoldable pub seal_in : List (List ℕ) → Option SealWords
 seal_in words =
     id_at words 1 >>? λ auction.
@@ -81,7 +93,16 @@ seal_in words =
     seed_at words 6 >>? λ seed.
     name_at words 7 >>? λ secret.
     name_at words 8 >>? λ seal.
-    if_other secret seal (record { auction = auction; seat = seat; bid = bid; width = width; lanes = lanes; seed = seed; secret = secret; seal = seal })
+    if_other secret seal (record {
+      auction = auction;
+      seat = seat;
+      bid = bid;
+      width = width;
+      lanes = lanes;
+      seed = seed;
+      secret = secret;
+      seal = seal;
+    })
 
 -- behind ID, WIDTH and LANES: RESERVE, below 2^WIDTH, where there is a word more; else nothing
 abbrev pub announced_on : (id : List ℕ) (width lanes : ℕ) → List (List ℕ) → Option HouseWords
@@ -90,13 +111,19 @@ announced_on id width lanes words =
     then option_map (AnnounceReserve id width lanes) (decimal_of (2 ^ width - 1) (nth_word words 4))
     else Some (Announce id width lanes)
 
--- behind ID: WIDTH LANES, and RESERVE where there is one; SEAL SECRET; SEED BOARD; CHALLENGE REPLY, where the two files
--- have different names; nothing
+-- behind ID: WIDTH LANES, and RESERVE where there is one; SEAL SECRET; SEED BOARD; CHALLENGE REPLY,
+-- where the two files have different names; nothing
 abbrev pub house_on : List ℕ → Verb → List (List ℕ) → Option HouseWords
-house_on id verbs.Announce words = number_token 1 40 (nth_word words 2) >>? λ width. number_token 1 64 (nth_word words 3) >>? λ lanes. announced_on id width lanes words
-house_on id verbs.Submit words = name_at words 2 >>? λ seal. name_at words 3 >>? λ secret. Some (Submit id seal secret)
-house_on id verbs.Prove words = seed_at words 2 >>? λ seed. name_at words 3 >>? λ board. Some (Prove id seed board)
-house_on id verbs.Answer words = attempt_at words 2 >>? λ attempt. if_other attempt.challenge attempt.reply (Answer id attempt.challenge attempt.reply)
+house_on id verbs.Announce words =
+    number_token 1 40 (nth_word words 2) >>? λ width. number_token 1 64 (nth_word words 3) >>?
+    λ lanes. announced_on id width lanes words
+house_on id verbs.Submit words =
+    name_at words 2 >>? λ seal. name_at words 3 >>? λ secret. Some (Submit id seal secret)
+house_on id verbs.Prove words =
+    seed_at words 2 >>? λ seed. name_at words 3 >>? λ board. Some (Prove id seed board)
+house_on id verbs.Answer words =
+    attempt_at words 2 >>? λ attempt. if_other attempt.challenge attempt.reply
+    (Answer id attempt.challenge attempt.reply)
 house_on id verbs.Show words = Some (Show id)
 house_on id verb words = None
 

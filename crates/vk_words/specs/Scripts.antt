@@ -15,7 +15,8 @@ written_name_of order = None
 
 -- it writes no file of that name
 abbrev pub leaves_name : List ℕ → HouseWords → Bool
-leaves_name name order = not (option_map_or (λ written. bytes_eq written name) (written_name_of order) false)
+leaves_name name order = not (option_map_or (λ written. bytes_eq written name)
+    (written_name_of order) false)
 
 -- the command that words are in the script of that name, which no command writes
 unfoldable pub script_words : List ℕ → List (List ℕ) → Option HouseWords

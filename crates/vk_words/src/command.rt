@@ -67,7 +67,8 @@ fn command_by(verb: Verb, words: &[String]) -> Option<Command<'_>>
     Some(command)
 }
 
-/// The command that the words are: the first names it, and they are as many as it may have, each of its form.
+/// The command that the words are: the first names it, and they are as many as it may have, each of
+/// its form.
 #[tactic(auto, unfolding(crate::specs::Commands::command_words))]
 pub fn command_of(words: &[String]) -> Option<Command<'_>>
     ensures value { option_map command_seen result ≡ command_words (map string_bytes words.now) }
@@ -81,8 +82,8 @@ pub fn command_of(words: &[String]) -> Option<Command<'_>>
     command
 }
 
-/// Whether words may ask the keeper of the house: whether their first is that of a command which does.
-/// What it is false of asks no keeper.
+/// Whether words may ask the keeper of the house: whether their first is that of a command which
+/// does. What it is false of asks no keeper.
 #[tactic(auto, using(crate::proofs::Asking::asks_none))]
 pub fn may_ask_house(words: &[String]) -> bool
     ensures first { result ≡ first_asks (map string_bytes words.now) }

@@ -19,7 +19,8 @@ pub enum Hint {
         most: usize,
         given: usize,
     },
-    /// The word at that place, counted from 0, isn't of that kind. It is the first that isn't what it has to be.
+    /// The word at that place, counted from 0, isn't of that kind. It is the first that isn't what
+    /// it has to be.
     Word {
         place: usize,
         kind: WordKind,

@@ -59,7 +59,8 @@ pub fn kinds_of(verb: Verb) -> &'static [WordKind]
     }
 }
 
-/// The greatest reserve under the width that stands in the third word. 0 where no width stands there.
+/// The greatest reserve under the width that stands in the third word. 0 where no width stands
+/// there.
 fn most_reserve(words: &[String]) -> u64
     ensures { result ≡ most_reserve (map string_bytes words.now) }
 {

@@ -55,7 +55,8 @@ pub enum HouseOrder<'a> {
         seed: [u8; 32],
         board: &'a str,
     },
-    /// The name of the challenge's file, and that of the file that the reply is written to, another one.
+    /// The name of the challenge's file, and that of the file that the reply is written to, another
+    /// one.
     Answer {
         id: [u8; 16],
         challenge: &'a str,
@@ -114,7 +115,8 @@ pub fn seal_order(words: &[String]) -> Option<SealOrder<'_>>
 /// The order of an `announce`, which has a reserve where there is a word more.
 fn announced(id: [u8; 16], width: u32, lanes: u32, words: &[String]) -> Option<HouseOrder<'_>>
     requires { IsSize width lanes }
-    ensures value { option_map house_seen result ≡ announced_on id width lanes (map string_bytes words.now) }
+    ensures value { option_map house_seen result
+        ≡ announced_on id width lanes (map string_bytes words.now) }
     ensures limits { IfSome result IsHouseOrder }
 {
     if words.len() <= 4 {

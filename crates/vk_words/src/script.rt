@@ -24,7 +24,8 @@ pub fn written_name<'a>(order: &HouseOrder<'a>) -> Option<&'a str>
 /// The command that the words of a line are in the script of that name, which no line writes.
 #[tactic(auto, unfolding(crate::specs::Scripts::script_words))]
 pub fn script_order<'a>(words: &'a [String], script: &str) -> Option<HouseOrder<'a>>
-    ensures value { option_map house_seen result ≡ script_words script.now (map string_bytes words.now) }
+    ensures value { option_map house_seen result
+        ≡ script_words script.now (map string_bytes words.now) }
     ensures limits { IfSome result IsHouseOrder }
 {
     let order = house_order_of(words)?;
@@ -34,10 +35,11 @@ pub fn script_order<'a>(words: &'a [String], script: &str) -> Option<HouseOrder<
     }
 }
 
-/// The words of a line: its pieces between single spaces, some of which may be empty. `None` where the
-/// line isn't UTF-8. Errs for want of memory alone.
+/// The words of a line: its pieces between single spaces, some of which may be empty. `None` where
+/// the line isn't UTF-8. Errs for want of memory alone.
 pub fn words_of_line(alloc: Global, line: &[u8]) -> Result<Option<Vec<String>>, NoMemory>
-    ensures { IfOk result (λ words. option_map (λ found. map string_bytes found.items) words ≡ line_words line.now) }
+    ensures { IfOk result (λ words. option_map (λ found. map string_bytes found.items) words
+        ≡ line_words line.now) }
 {
     match str::from_utf8(line) {
         Ok(text) => {

@@ -1,4 +1,5 @@
-//! The table of the commands: which word names each, how many words it may have, and whether it asks the house.
+//! The table of the commands: which word names each, how many words it may have, and whether it
+//! asks the house.
 
 ghost use Rattle.std.specs.Prelude.{◌≡◌, map, option_map};
 ghost use Rattle.std.specs.Option.{option_copied};

@@ -20,7 +20,8 @@ fn words_of(alloc: Global, words: &[&str]) -> Result<Vec<String>, AllocError> {
     Ok(all)
 }
 
-/// The status and the text of an `extract` whose shelf and sink fail at these calls, from 1; 0 for none.
+/// The status and the text of an `extract` whose shelf and sink fail at these calls, from 1; 0 for
+/// none.
 fn stopped(alloc: Global, shelf_call: u64, sink_call: u64) -> Result<(u8, MemSink), Fail> {
     let words = words_of(
         alloc,

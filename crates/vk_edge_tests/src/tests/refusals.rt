@@ -80,8 +80,8 @@ fn hard_link(rt: &HostRuntime, folder: &Folder, path: &str) -> Result<(), Fail> 
     Ok(())
 }
 
-/// Names of the folder to which to write is a fault, files that hold their own names after that, and names where
-/// nothing is then.
+/// Names of the folder to which to write is a fault, files that hold their own names after that,
+/// and names where nothing is then.
 #[derive(Drop)]
 struct Refused<'a> {
     names: &'a [&'a str],

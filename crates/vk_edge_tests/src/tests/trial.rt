@@ -4,8 +4,8 @@ use std::test::Fail;
 use vk_files::FileShelf;
 use vk_io::Shelf;
 
-/// What is tried over the files of the system, in a folder of its own. It borrows folder and shelf, so that no error
-/// drops them: what an error drops takes seconds to prove.
+/// What is tried over the files of the system, in a folder of its own. It borrows folder and shelf,
+/// so that no error drops them: what an error drops takes seconds to prove.
 pub trait Trial {
     fn on<A: Abort, S: Shelf>(
         &self,

@@ -1,4 +1,5 @@
-// Bids and openings written out by hand. Extractions and confrontations are replayed by the program `conformance`.
+// Bids and openings written out by hand. Extractions and confrontations are replayed by the program
+// `conformance`.
 use std::alloc::Global;
 use std::test::Fail;
 use vk_bids::{Extracted, LaneBids, OpenedBid, extraction_lines, openings_line};

@@ -1,5 +1,5 @@
-// The smallest board, read part by part and written back, heads with a reserve, and the winner of three seals. Boards
-// that are refused are replayed by the program `conformance`.
+// The smallest board, read part by part and written back, heads with a reserve, and the winner of
+// three seals. Boards that are refused are replayed by the program `conformance`.
 use super::files::board;
 use std::alloc::Global;
 use std::process::Abort;
@@ -51,7 +51,8 @@ fn the_smallest_board_is_read_and_written_back(rt: HostRuntime) -> Result<(), Fa
     try_smallest(&rt, rt.alloc(), &head, seals.as_slice(), &lane)
 }
 
-// What is tried below is borrowed: nothing is dropped where an assertion ends it, and so it is proved fast.
+// What is tried below is borrowed: nothing is dropped where an assertion ends it, and so it is
+// proved fast.
 
 fn try_smallest(
     rt: &impl Abort,

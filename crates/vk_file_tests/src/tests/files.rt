@@ -1,4 +1,5 @@
-// Files that several of these tests take. Another program wrote the smallest board and the replies to both bits.
+// Files that several of these tests take. Another program wrote the smallest board and the replies
+// to both bits.
 use std::alloc::Global;
 use vk_io::{MemShelf, OutsideErr, Shelf};
 
@@ -36,8 +37,8 @@ fn put(shelf: &mut MemShelf, name: &str, pieces: &[&[u8]]) -> Result<(), Outside
     Ok(())
 }
 
-/// The smallest board, both challenges and the reply to each; and what is refused: a reply with a byte after its
-/// end, and one that opens another value.
+/// The smallest board, both challenges and the reply to each; and what is refused: a reply with a
+/// byte after its end, and one that opens another value.
 pub fn shelf_of_files(alloc: Global) -> Result<MemShelf, OutsideErr> {
     let mut shelf = MemShelf::new(alloc);
     put(&mut shelf, "board", &[board()])?;

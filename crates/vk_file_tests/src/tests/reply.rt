@@ -1,5 +1,5 @@
-// A challenge, and what is shown of a lane with two split wires and a pair, as another implementation writes them.
-// Spoiled ones are replayed by the program `conformance`.
+// A challenge, and what is shown of a lane with two split wires and a pair, as another
+// implementation writes them. Spoiled ones are replayed by the program `conformance`.
 ghost use Rattle.std.specs.Prelude.{◌≡◌, ◌∷◌, [], IfOk};
 ghost use Rattle.vk_plan.specs.declared.wire.WireKind.TheVariants.{Pair, Split};
 

@@ -1,5 +1,5 @@
-// Boards that are missing or fail, and samples. Reports, and boards that are refused, are replayed by the program
-// `conformance`.
+// Boards that are missing or fail, and samples. Reports, and boards that are refused, are replayed
+// by the program `conformance`.
 use super::files::board;
 use std::alloc::Global;
 use std::process::Abort;
@@ -17,7 +17,8 @@ fn a_missing_board_and_a_failure_are_told_apart(rt: HostRuntime) -> Result<(), F
     try_missing(&rt, alloc, &mut shelf)
 }
 
-// What is tried is borrowed: nothing is dropped where an assertion ends it, and so it is proved fast.
+// What is tried is borrowed: nothing is dropped where an assertion ends it, and so it is proved
+// fast.
 
 fn try_missing(rt: &impl Abort, alloc: Global, shelf: &mut MemShelf) -> Result<(), Fail> {
     let refused = read_report(alloc, shelf, "other").err();

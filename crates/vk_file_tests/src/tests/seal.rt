@@ -1,4 +1,5 @@
-// Files that another implementation made. Those that it refuses are replayed by the program `conformance`.
+// Files that another implementation made. Those that it refuses are replayed by the program
+// `conformance`.
 ghost use Rattle.std.specs.Prelude.{IfOk};
 ghost use Rattle.vk_seal.specs.Values.{IsSeal, IsSecret};
 
@@ -47,7 +48,8 @@ fn a_seal_is_made_and_written_as_elsewhere(rt: HostRuntime) -> Result<(), Fail> 
     try_texts(&rt, rt.alloc(), &secret, &seal)
 }
 
-// What is tried is borrowed: nothing is dropped where an assertion ends it, and so it is proved fast.
+// What is tried is borrowed: nothing is dropped where an assertion ends it, and so it is proved
+// fast.
 
 fn try_texts(rt: &impl Abort, alloc: Global, secret: &Secret, seal: &Seal) -> Result<(), Fail> {
     assert!(rt; secret_text(alloc, secret)?.as_slice() == SECRET);

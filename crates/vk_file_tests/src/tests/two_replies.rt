@@ -46,7 +46,8 @@ fn finding(checker: TwoChecker) -> TwoVerdict
     checker.finding()
 }
 
-/// Of two replies to a board of one lane, each to its challenge: how many lanes are given, and what is found then.
+/// Of two replies to a board of one lane, each to its challenge: how many lanes are given, and what
+/// is found then.
 fn found(
     alloc: Global,
     shelf: &mut MemShelf,

@@ -30,8 +30,8 @@ struct Lane {
     one: Seq<Shown>,
 }
 
-/// The files `file`, the challenges `01` and `10`, and `to 01` and `to 10`, the replies to them; and `other`, a reply
-/// to the first by a prover who drew other keys.
+/// The files `file`, the challenges `01` and `10`, and `to 01` and `to 10`, the replies to them;
+/// and `other`, a reply to the first by a prover who drew other keys.
 pub fn shelf_of_files(alloc: Global) -> Result<MemShelf, Fail> {
     let mut shelf = MemShelf::new(alloc);
     put_files(alloc, &mut shelf)?;

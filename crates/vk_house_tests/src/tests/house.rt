@@ -160,7 +160,8 @@ fn with_seals<K: Keeper + Drop>(alloc: Global, house: &mut House<'_, K>) -> Resu
     Ok(third)
 }
 
-// What is tried borrows the house: nothing is dropped where an assertion ends it, and so it is proved fast.
+// What is tried borrows the house: nothing is dropped where an assertion ends it, and so it is
+// proved fast.
 
 const NO_BITS: Bits = (None, None);
 
@@ -305,7 +306,8 @@ fn try_many<K: Keeper + Drop>(
 #[test]
 fn a_challenge_that_is_not_kept_is_not_answered(rt: HostRuntime) -> Result<(), Fail> {
     let mut keeper = MemKeeper::new(rt.alloc());
-    // The second call of `answer`, after two calls each of `announce`, three of `submit` and `prove`.
+    // The second call of `answer`, after two calls each of `announce`, three of `submit` and
+    // `prove`.
     keeper.fail_at(12)?;
     try_unkept(&rt, rt.alloc(), &mut House::over(&mut keeper))
 }

@@ -1,5 +1,5 @@
-// An auction of three seals, whose files an independent implementation made. The files themselves are replayed by the
-// program `conformance`; of the lines of one lane SHA-256 is compared.
+// An auction of three seals, whose files an independent implementation made. The files themselves
+// are replayed by the program `conformance`; of the lines of one lane SHA-256 is compared.
 ghost use Rattle.std.specs.Prelude.{◌≡◌, length, IfOk, IsSome};
 ghost use Rattle.vk_keeper.specs.Auctions.{IsAuction, challenge_of, seed_of};
 ghost use Rattle.vk_reply.specs.Values.{IsChallenge};

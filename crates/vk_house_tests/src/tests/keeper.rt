@@ -28,7 +28,15 @@ fn opened(alloc: Global, id: &[u8; 16], width: u32) -> Auction
     requires some_width { 1 ≤ width }
     requires last_width { width ≤ 40 }
     ensures right { IsAuction result }
-    ensures made { result ≡ record { id = id.now; version = 1; width = width; lanes = 2; reserve = 0; phase = Phase.Taking; seals = [] } }
+    ensures made { result ≡ record {
+      id = id.now;
+      version = 1;
+      width = width;
+      lanes = 2;
+      reserve = 0;
+      phase = Phase.Taking;
+      seals = [];
+    } }
 {
     Auction {
         id: *id,
@@ -52,7 +60,8 @@ fn an_auction_is_kept_under_its_id(rt: HostRuntime) -> Result<(), Fail> {
     try_widths(&rt, rt.alloc(), &mut MemKeeper::new(rt.alloc()))
 }
 
-// What is tried borrows the keeper: nothing is dropped where an assertion ends it, and so it is proved fast.
+// What is tried borrows the keeper: nothing is dropped where an assertion ends it, and so it is
+// proved fast.
 
 fn try_widths<K: Keeper>(rt: &impl Abort, alloc: Global, keeper: &mut K) -> Result<(), Fail> {
     assert!(rt; width_of(keeper, &ONE)? == None);

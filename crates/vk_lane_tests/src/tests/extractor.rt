@@ -97,7 +97,8 @@ fn a_lane_made_elsewhere_gives_its_bid(rt: HostRuntime) -> Result<(), Fail> {
     try_elsewhere(&rt, rt.alloc(), &plan, &case)
 }
 
-// What is tried is borrowed: nothing is dropped where an assertion ends it, and so it is proved fast.
+// What is tried is borrowed: nothing is dropped where an assertion ends it, and so it is proved
+// fast.
 
 fn try_elsewhere(rt: &impl Abort, alloc: Global, plan: &Plan, case: &LaneCase) -> Result<(), Fail> {
     let zero = [half(0x11, 3)?, half(0x33, 10)?];

@@ -1,5 +1,6 @@
-// What several of these tests make: residues, openings and bids as inputs; the halves of accepted lanes; and the
-// commitments of a bid of 5 by seat 7 and of a copy of it, as an independent implementation made them.
+// What several of these tests make: residues, openings and bids as inputs; the halves of accepted
+// lanes; and the commitments of a bid of 5 by seat 7 and of a copy of it, as an independent
+// implementation made them.
 ghost use Rattle.std.specs.Prelude.{◌≡◌, ◌<◌, ◌≤◌, ◌^◌, All, IfOk, IfSome, IsTrue, length};
 ghost use Rattle.vk_row.specs.Lanes.{HasCounts};
 
@@ -57,7 +58,8 @@ pub fn half(key: u8, number: u64) -> Result<Shown, Fail> {
 pub fn inputs_of(alloc: Global, bids: &[u64], width: u32) -> Result<Option<Vec<Residue>>, NoMemory>
     requires { width ≤ 40 }
     ensures same { IfOk result (λ made. IfSome made (λ inputs. inputs.items ≡ bids.now)) }
-    ensures within { IfOk result (λ made. IfSome made (λ inputs. All (λ bid. bid < 2 ^ width) bids.now)) }
+    ensures within { IfOk result
+        (λ made. IfSome made (λ inputs. All (λ bid. bid < 2 ^ width) bids.now)) }
 {
     let mut inputs = Vec::new(alloc);
     for bid in bids {

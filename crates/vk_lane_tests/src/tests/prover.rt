@@ -130,7 +130,8 @@ fn a_lane_of_a_bit_is_published_and_answered(rt: HostRuntime) -> Result<(), Fail
     both_replies_are_accepted(&rt, rt.alloc(), &lane.plan, &case)
 }
 
-// What is tried is borrowed: nothing is dropped where an assertion ends it, and so it is proved fast.
+// What is tried is borrowed: nothing is dropped where an assertion ends it, and so it is proved
+// fast.
 
 fn lines_are_published(rt: &impl Abort, lines: &LaneLines) -> Result<(), Fail> {
     let posted = [residue(2305843009213693944)?, residue(6)?];

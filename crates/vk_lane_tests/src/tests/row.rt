@@ -80,7 +80,8 @@ fn replies_to_a_lane_made_elsewhere_are_checked(rt: HostRuntime) -> Result<(), F
     the_first_wire_that_reads_nothing_is_named(&rt, rt.alloc(), &plan, &wrong)
 }
 
-// What is tried borrows the plan and the lane: nothing is dropped where an assertion ends it, and so it is proved fast.
+// What is tried borrows the plan and the lane: nothing is dropped where an assertion ends it, and
+// so it is proved fast.
 
 fn both_replies_are_accepted(
     rt: &impl Abort,

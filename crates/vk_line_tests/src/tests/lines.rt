@@ -83,7 +83,8 @@ fn lines_are_taken_to_the_end(rt: HostRuntime) -> Result<(), Fail> {
     try_lines(&rt, &mut shelf, &mut lines)
 }
 
-// What is tried borrows shelf and lines: nothing is dropped where an assertion ends it, and so it is proved fast.
+// What is tried borrows shelf and lines: nothing is dropped where an assertion ends it, and so it
+// is proved fast.
 
 fn try_lines<S: Shelf>(rt: &impl Abort, shelf: &mut S, lines: &mut Lines) -> Result<(), Fail> {
     assert!(rt; lines.next_line(shelf)? == Step::Text);

@@ -1,5 +1,5 @@
-// The masks and the faults of a pair of weight 8, and where inputs stand. Wires from outside are replayed by the
-// program `vectors`.
+// The masks and the faults of a pair of weight 8, and where inputs stand. Wires from outside are
+// replayed by the program `vectors`.
 use super::numbers::{opening, residue};
 use std::test::Fail;
 use vk_commit::{Place, commit};

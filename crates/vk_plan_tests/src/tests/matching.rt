@@ -22,7 +22,8 @@ fn numbers_of(alloc: Global, width: u32, matching: &[u32]) -> Result<Vec<u64>, N
     Ok(numbers)
 }
 
-/// The values of all wires for the matching that is proposed. None where a rank is not of the width.
+/// The values of all wires for the matching that is proposed. None where a rank is not of the
+/// width.
 fn filled(
     alloc: Global,
     ranks: &[u64],

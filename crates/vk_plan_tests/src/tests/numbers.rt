@@ -28,7 +28,8 @@ pub fn are(values: &[Residue], numbers: &[u64]) -> bool {
 pub fn inputs_of(alloc: Global, bids: &[u64], width: u32) -> Result<Option<Vec<Residue>>, NoMemory>
     requires { width ≤ 40 }
     ensures same { IfOk result (λ made. IfSome made (λ inputs. inputs.items ≡ bids.now)) }
-    ensures within { IfOk result (λ made. IfSome made (λ inputs. All (λ bid. bid < 2 ^ width) bids.now)) }
+    ensures within { IfOk result
+        (λ made. IfSome made (λ inputs. All (λ bid. bid < 2 ^ width) bids.now)) }
 {
     let mut inputs = Vec::new(alloc);
     for bid in bids {
@@ -52,7 +53,8 @@ pub fn rows_are_zero(plan: &Plan, values: &[Residue]) -> bool
     true
 }
 
-/// How many wires and rows the plan has, where the values are one for each wire and each row is 0 on them.
+/// How many wires and rows the plan has, where the values are one for each wire and each row is 0
+/// on them.
 pub fn counts_where_zero(plan: &Plan, values: &[Residue]) -> Result<(u32, u32), Fail> {
     if values.len() != plan.wires() as usize {
         return Err("not one value for each wire".into());

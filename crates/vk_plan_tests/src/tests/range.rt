@@ -39,7 +39,8 @@ fn three_wires(alloc: Global) -> Result<Seq<u32>, NoMemory>
     Ok(Seq::from_vec(wires))
 }
 
-/// The number, and behind it the values of the pairs of its range. None where it is not of the width.
+/// The number, and behind it the values of the pairs of its range. None where it is not of the
+/// width.
 fn range_values(alloc: Global, width: u32, number: u64) -> Result<Option<Vec<Residue>>, NoMemory>
     requires some { 1 ≤ width }
     requires most { width ≤ 40 }
@@ -80,8 +81,8 @@ fn a_range_is_filled_at_its_ends(rt: HostRuntime) -> Result<(), Fail> {
     Ok(())
 }
 
-/// Three numbers, and behind them the selectors against a value at width 4 and their sets. None where
-/// no place may be selected.
+/// Three numbers, and behind them the selectors against a value at width 4 and their sets. None
+/// where no place may be selected.
 fn selection_of(
     alloc: Global,
     numbers: [u64; 3],
@@ -173,7 +174,8 @@ fn five_values(alloc: Global, numbers: [u64; 5]) -> Result<Vec<Residue>, NoMemor
     Ok(values)
 }
 
-/// Five inputs, of which the second and the last are equal, and their values. None where they are not.
+/// Five inputs, of which the second and the last are equal, and their values. None where they are
+/// not.
 fn equal_inputs(alloc: Global, numbers: [u64; 5]) -> Result<Option<(Plan, Vec<Residue>)>, NoMemory>
     ensures holds { IfOk result (λ found. IfSome found (λ made. Holds made.0 made.1.items)) }
 {
@@ -196,8 +198,8 @@ fn copied_input(alloc: Global, numbers: [u64; 5]) -> Result<(Plan, Vec<Residue>)
     Ok((plan, values))
 }
 
-/// Five inputs, of which one is selected against a value at width 8, and the values of all wires. None
-/// where no place may be selected.
+/// Five inputs, of which one is selected against a value at width 8, and the values of all wires.
+/// None where no place may be selected.
 fn selected_input(
     alloc: Global,
     numbers: [u64; 5],
@@ -249,7 +251,8 @@ fn are_of_width(ranges: &Ranges, values: &[Residue]) -> bool
     true
 }
 
-/// Five inputs with these ranges, and the values of all wires. None where a form is not of the width.
+/// Five inputs with these ranges, and the values of all wires. None where a form is not of the
+/// width.
 fn ranged_inputs(alloc: Global, numbers: [u64; 5]) -> Result<Option<(Plan, Vec<Residue>)>, NoMemory>
     ensures holds { IfOk result (λ found. IfSome found (λ made. Holds made.0 made.1.items)) }
 {

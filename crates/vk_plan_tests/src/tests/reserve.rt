@@ -1,4 +1,5 @@
-// Sales of three bids of 32 bits, under three reserves and without one, each shown by the plan of its board.
+// Sales of three bids of 32 bits, under three reserves and without one, each shown by the plan of
+// its board.
 ghost use Rattle.std.specs.Prelude.{◌≤◌, length};
 
 use super::numbers::{counts_where_zero, inputs_of};

@@ -84,8 +84,8 @@ fn honest_values_are_bids_bits_and_a_selector(rt: HostRuntime) -> Result<(), Fai
     Ok(())
 }
 
-/// How many wires and rows the plan of the bids has, where the honest values are one for each wire and
-/// each row is 0 on them.
+/// How many wires and rows the plan of the bids has, where the honest values are one for each wire
+/// and each row is 0 on them.
 fn filled_counts(alloc: Global, bids: &[u64], width: u32) -> Result<(u32, u32), Fail>
     requires some { 1 ≤ length bids.now }
     requires most { length bids.now ≤ 64 }

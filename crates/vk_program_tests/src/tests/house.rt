@@ -60,7 +60,8 @@ fn the_house_is_kept_in_its_file(rt: HostRuntime) -> Result<(), Fail> {
     Ok(())
 }
 
-/// Words that are no command, a script that is missing, and a command whose files are missing make no store.
+/// Words that are no command, a script that is missing, and a command whose files are missing make
+/// no store.
 fn nothing_is_made(stop: &impl Abort, rt: &HostRuntime) -> Result<(), Fail> {
     let table: [(&[&str], u8); 3] = [
         (&["announce", ID, "4"], 2),
@@ -74,8 +75,8 @@ fn nothing_is_made(stop: &impl Abort, rt: &HostRuntime) -> Result<(), Fail> {
     Ok(())
 }
 
-/// An empty file that others may read becomes no store, nor does a link make one elsewhere; once it is its owner's
-/// alone it does.
+/// An empty file that others may read becomes no store, nor does a link make one elsewhere; once it
+/// is its owner's alone it does.
 fn others_may_read_no_store(stop: &impl Abort, rt: &HostRuntime) -> Result<(), Fail> {
     let announce = ["announce", ID, "4", "2"];
     symlink(rt, "elsewhere", "house.sqlite")?;
@@ -114,8 +115,8 @@ fn proved(stop: &impl Abort, rt: &HostRuntime) -> Result<(), Fail> {
     Ok(())
 }
 
-/// Neither a command line nor a script writes into the store, and what it keeps stays: the answer that was
-/// to be written there is kept, and another challenge is refused.
+/// Neither a command line nor a script writes into the store, and what it keeps stays: the answer
+/// that was to be written there is kept, and another challenge is refused.
 fn nothing_is_written_into_the_store(stop: &impl Abort, rt: &HostRuntime) -> Result<(), Fail> {
     symlink(rt, "house.sqlite-wal", "link")?;
     fs::create_dir(rt, "there")?;

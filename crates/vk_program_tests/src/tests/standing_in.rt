@@ -12,7 +12,8 @@ use vk_keeper::MemKeeper;
 use vk_keeper_sql::OpenErr;
 use vk_program::{HousePlace, Settle, Unopened, end, program};
 
-/// A house in memory, which counts how often it is opened, may be refused then, and may fail as it is closed.
+/// A house in memory, which counts how often it is opened, may be refused then, and may fail as it
+/// is closed.
 #[derive(Drop)]
 struct MemHouse<'a> {
     alloc: Global,
@@ -121,7 +122,8 @@ impl Settle for Vain {
     }
 }
 
-/// What stands in: what becomes of the house, whether settling fails, how often the house was opened, and what was said.
+/// What stands in: what becomes of the house, whether settling fails, how often the house was
+/// opened, and what was said.
 #[derive(Drop)]
 struct Outside {
     alloc: Global,
@@ -167,7 +169,8 @@ impl Outside {
     }
 }
 
-/// Tries one command after another, each with its status and with how often the house was opened then.
+/// Tries one command after another, each with its status and with how often the house was opened
+/// then.
 fn try_each(stop: &impl Abort, outside: &Outside, table: &[(&[&str], u8, u32)]) {
     for (words, status, opened) in table {
         assert!(stop; outside.status_of(words) == ExitCode::from(*status));
@@ -263,8 +266,9 @@ fn what_is_said_of_a_status(rt: HostRuntime) -> Result<(), Fail> {
     Ok(())
 }
 
-/// What a person can mend, on standard error: too few words, no command, a word that isn't what it has to be, two names that
-/// are one, a reserve that isn't below 2^4; and the file that a fault is of.
+/// What a person can mend, on standard error: too few words, no command, a word that isn't what it
+/// has to be, two names that are one, a reserve that isn't below 2^4; and the file that a fault is
+/// of.
 const ADVISED: &str =
     "vickrey: this command has 3 or 4 words behind its name, and 2 are given; see `man vickrey`
 vickrey: the first word names no command; see `man vickrey`

@@ -18,7 +18,8 @@ fn a_shelf_in_memory_holds_what_is_put(rt: HostRuntime) -> Result<(), Fail> {
     try_held(&rt, &mut shelf)
 }
 
-// What is tried borrows the shelf: nothing is dropped where an assertion ends it, and so it is proved fast.
+// What is tried borrows the shelf: nothing is dropped where an assertion ends it, and so it is
+// proved fast.
 
 fn try_held(rt: &impl Abort, shelf: &mut MemShelf) -> Result<(), Fail> {
     assert!(rt; shelf.length("b")? == Some(3));
@@ -120,7 +121,10 @@ struct Poem;
 impl WrittenFiles for Poem {
     ghost use Rattle.std.specs.Prelude.{[], ◌∷◌, codes};
 
-    ghost files = { λ _. record { name = codes "poem"; pieces = codes "one " ∷ codes "two " ∷ codes "three" ∷ [] } ∷ [] };
+    ghost files = { λ _. record {
+      name = codes "poem";
+      pieces = codes "one " ∷ codes "two " ∷ codes "three" ∷ [];
+    } ∷ [] };
 
     fn count(&self) -> usize {
         1

@@ -12,6 +12,7 @@ returns c =
     let claim : IsMatchingClaim (length ranks) (c.args.width ∷ matching) ranks = record {
       one_each = refl;
       within_width = c.requires.within;
-      stable = subst (λ size. IsStable size ranks matching) (sym c.in_ok-matching.ensures.permutation.one_each) c.in_ok-matching.ensures.stable;
+      stable = subst (λ size. IsStable size ranks matching)
+          (sym c.in_ok-matching.ensures.permutation.one_each) c.in_ok-matching.ensures.stable;
     } in
     subst (λ numbers. IsMatchingClaim (length ranks) numbers ranks) (sym are) claim

@@ -17,21 +17,28 @@ returns-in_err-said-clause-ends g c =
     let new = stores (g.S.Shelf.held c.act.new.shelf) (g.K.Keeper.ledger c.act.new.keeper) in
     let taken = g.W.Sink.taken c.args.out.now in
     rw p.1
-    (if_some_map (λ effect. Acts (Err p.0) effect old new) (λ effect. Ends (Err p.0) effect (outside old taken) (outside new taken)) (λ effect. stopped_acting effect old new taken p.0)
-    (command_effect old.files old.ledger (option_map command_seen c.args.command)) c.in_err-said.ensures.acts)
+    (if_some_map (λ effect. Acts (Err p.0) effect old new)
+    (λ effect. Ends (Err p.0) effect (outside old taken) (outside new taken))
+    (λ effect. stopped_acting effect old new taken p.0)
+    (command_effect old.files old.ledger (option_map command_seen c.args.command))
+    c.in_err-said.ensures.acts)
 
 pub returns-in_err-print-clause-ends : goal.returns-in_err-print-clause-ends
 returns-in_err-print-clause-ends g c =
-    let p = err_from_is_err_and c.from_residual-in_err-print.result c.from_residual-in_err-print.ensures.1 in
+    let p = err_from_is_err_and c.from_residual-in_err-print.result
+    c.from_residual-in_err-print.ensures.1 in
     let old = stores (g.S.Shelf.held c.args.shelf.now) (g.K.Keeper.ledger c.args.keeper.now) in
     let new = stores (g.S.Shelf.held c.act.new.shelf) (g.K.Keeper.ledger c.act.new.keeper) in
     let taken = g.W.Sink.taken c.args.out.now in
     let now = g.W.Sink.taken c.print.new.out in
     let said = c.in_ok-said.said in
     rw p.1
-    (if_some_map (λ effect. Acts (Ok said) effect old new) (λ effect. Ends (Err p.0) effect (outside old taken) (outside new now))
-    (λ effect acts. stopped_printing effect old new taken now said said.text p.0 p.0 refl acts c.in_err-print.ensures.printed)
-    (command_effect old.files old.ledger (option_map command_seen c.args.command)) c.in_ok-said.ensures.acts)
+    (if_some_map (λ effect. Acts (Ok said) effect old new)
+    (λ effect. Ends (Err p.0) effect (outside old taken) (outside new now))
+    (λ effect acts. stopped_printing effect old new taken now said said.text p.0 p.0 refl acts
+    c.in_err-print.ensures.printed)
+    (command_effect old.files old.ledger (option_map command_seen c.args.command))
+    c.in_ok-said.ensures.acts)
 
 pub returns-clause-ends : goal.returns-clause-ends
 returns-clause-ends g c =
@@ -40,9 +47,12 @@ returns-clause-ends g c =
     let taken = g.W.Sink.taken c.args.out.now in
     let now = g.W.Sink.taken c.print.new.out in
     let said = c.in_ok-said.said in
-    if_some_map (λ effect. Acts (Ok said) effect old new) (λ effect. Ends (Ok c.status.result) effect (outside old taken) (outside new now))
-    (λ effect acts. done_at_end OutsideErr effect old new taken now said said.text c.status.result refl c.status.ensures.value acts c.in_ok-print.ensures.printed)
-    (command_effect old.files old.ledger (option_map command_seen c.args.command)) c.in_ok-said.ensures.acts
+    if_some_map (λ effect. Acts (Ok said) effect old new)
+    (λ effect. Ends (Ok c.status.result) effect (outside old taken) (outside new now))
+    (λ effect acts. done_at_end OutsideErr effect old new taken now said said.text c.status.result
+    refl c.status.ensures.value acts c.in_ok-print.ensures.printed)
+    (command_effect old.files old.ledger (option_map command_seen c.args.command))
+    c.in_ok-said.ensures.acts
 
 pub returns-in_err-said-clause-free : goal.returns-in_err-said-clause-free
 returns-in_err-said-clause-free g c =
@@ -50,20 +60,25 @@ returns-in_err-said-clause-free g c =
     let old = stores (g.S.Shelf.held c.args.shelf.now) (g.K.Keeper.ledger c.args.keeper.now) in
     let new = stores (g.S.Shelf.held c.act.new.shelf) (g.K.Keeper.ledger c.act.new.keeper) in
     let taken = g.W.Sink.taken c.args.out.now in
-    rw p.1 (acting_freely old new taken taken (option_map command_seen c.args.command) p.0 c.in_err-said.field-0.0 c.in_err-said.ensures.free)
+    rw p.1 (acting_freely old new taken taken (option_map command_seen c.args.command) p.0
+    c.in_err-said.field-0.0 c.in_err-said.ensures.free)
 
 pub returns-in_err-print-clause-free : goal.returns-in_err-print-clause-free
 returns-in_err-print-clause-free g c =
-    let p = err_from_is_err_and c.from_residual-in_err-print.result c.from_residual-in_err-print.ensures.1 in
+    let p = err_from_is_err_and c.from_residual-in_err-print.result
+    c.from_residual-in_err-print.ensures.1 in
     let old = stores (g.S.Shelf.held c.args.shelf.now) (g.K.Keeper.ledger c.args.keeper.now) in
     let new = stores (g.S.Shelf.held c.act.new.shelf) (g.K.Keeper.ledger c.act.new.keeper) in
     rw p.1
-    (printing_freely old new (g.W.Sink.taken c.args.out.now) (g.W.Sink.taken c.print.new.out) (option_map command_seen c.args.command) c.in_ok-said.said p.0 p.0 c.in_ok-said.ensures.free
+    (printing_freely old new (g.W.Sink.taken c.args.out.now) (g.W.Sink.taken c.print.new.out)
+    (option_map command_seen c.args.command) c.in_ok-said.said p.0 p.0 c.in_ok-said.ensures.free
     c.in_err-print.ensures.printed)
 
 pub returns-clause-free : goal.returns-clause-free
 returns-clause-free g c =
     let old = stores (g.S.Shelf.held c.args.shelf.now) (g.K.Keeper.ledger c.args.keeper.now) in
     let new = stores (g.S.Shelf.held c.act.new.shelf) (g.K.Keeper.ledger c.act.new.keeper) in
-    ended_freely old new (g.W.Sink.taken c.args.out.now) (g.W.Sink.taken c.print.new.out) (option_map command_seen c.args.command) c.in_ok-said.said c.status.result c.status.ensures.value c.in_ok-said.ensures.free
+    ended_freely old new (g.W.Sink.taken c.args.out.now) (g.W.Sink.taken c.print.new.out)
+    (option_map command_seen c.args.command) c.in_ok-said.said c.status.result
+    c.status.ensures.value c.in_ok-said.ensures.free
     c.in_ok-print.ensures.printed

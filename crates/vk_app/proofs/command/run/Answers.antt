@@ -11,31 +11,47 @@ use Rattle.vk_app.proofs.command.run.Goals.{In-Ok}
 use Rattle.vk_app.proofs.command.run.Goals as goal
 
 -- what follows from how the work ended
-by_end : {P : Option Files → Option Ledger → List (List ℕ) → ℕ → Option (List ℕ) → Outside → Type 0} (g : Over) (c : In-Ok g)
-    → ((held : Option Files) (ledger : Option Ledger) (words : List (List ℕ)) (status : ℕ) (old : Option (List ℕ)) (new : Outside)
-    → IfSome (work_on held ledger words) (λ work. DoesWork status work (outside (stores held ledger) old) new) → P held ledger words status old new)
-    → P (g.S.Shelf.held c.args.shelf.now) (g.K.Keeper.ledger c.args.keeper.now) (map string_bytes c.args.words.now) c.in-Ok.status (g.W.Sink.taken c.args.out.now)
-    (outside (stores (g.S.Shelf.held c.perform.new.shelf) (g.K.Keeper.ledger c.perform.new.keeper)) (g.W.Sink.taken c.perform.new.out))
+by_end : {P : Option Files → Option Ledger → List (List ℕ) → ℕ → Option (List ℕ) → Outside → Type 0}
+    (g : Over) (c : In-Ok g)
+    → ((held : Option Files) (ledger : Option Ledger) (words : List (List ℕ)) (status : ℕ)
+    (old : Option (List ℕ)) (new : Outside)
+    → IfSome (work_on held ledger words)
+    (λ work. DoesWork status work (outside (stores held ledger) old) new)
+    → P held ledger words status old new)
+    → P (g.S.Shelf.held c.args.shelf.now) (g.K.Keeper.ledger c.args.keeper.now)
+    (map string_bytes c.args.words.now) c.in-Ok.status (g.W.Sink.taken c.args.out.now)
+    (outside (stores (g.S.Shelf.held c.perform.new.shelf) (g.K.Keeper.ledger c.perform.new.keeper))
+    (g.W.Sink.taken c.perform.new.out))
 by_end g c follows = follows _ _ _ _ _ _ c.in-Ok.ensures.ends
 
 -- and freely, where the work isn't one alone
-by_free_end : {P : Option Files → Option Ledger → List (List ℕ) → ℕ → Option (List ℕ) → Outside → Type 0} (g : Over) (c : In-Ok g)
-    → ((held : Option Files) (ledger : Option Ledger) (words : List (List ℕ)) (status : ℕ) (old : Option (List ℕ)) (new : Outside) → AlsoFree held ledger words status old new (Ok status) held ledger → P held ledger words status old new)
-    → P (g.S.Shelf.held c.args.shelf.now) (g.K.Keeper.ledger c.args.keeper.now) (map string_bytes c.args.words.now) c.in-Ok.status (g.W.Sink.taken c.args.out.now)
-    (outside (stores (g.S.Shelf.held c.perform.new.shelf) (g.K.Keeper.ledger c.perform.new.keeper)) (g.W.Sink.taken c.perform.new.out))
+by_free_end : {P : Option Files → Option Ledger → List (List ℕ) → ℕ → Option (List ℕ) → Outside
+    → Type 0} (g : Over) (c : In-Ok g)
+    → ((held : Option Files) (ledger : Option Ledger) (words : List (List ℕ)) (status : ℕ)
+    (old : Option (List ℕ)) (new : Outside)
+    → AlsoFree held ledger words status old new (Ok status) held ledger
+    → P held ledger words status old new)
+    → P (g.S.Shelf.held c.args.shelf.now) (g.K.Keeper.ledger c.args.keeper.now)
+    (map string_bytes c.args.words.now) c.in-Ok.status (g.W.Sink.taken c.args.out.now)
+    (outside (stores (g.S.Shelf.held c.perform.new.shelf) (g.K.Keeper.ledger c.perform.new.keeper))
+    (g.W.Sink.taken c.perform.new.out))
 by_free_end g c follows = follows _ _ _ _ _ _ (c.in-Ok.ensures.ends, c.in-Ok.ensures.free)
 
 pub returns-in-Ok-clause-headline : goal.returns-in-Ok-clause-headline
-returns-in-Ok-clause-headline g c = by_end g (goal.at.returns-in-Ok-clause-headline g c).In-Ok told_headline
+returns-in-Ok-clause-headline g c =
+    by_end g (goal.at.returns-in-Ok-clause-headline g c).In-Ok told_headline
 
 pub returns-in-Ok-clause-audits : goal.returns-in-Ok-clause-audits
-returns-in-Ok-clause-audits g c = by_end g (goal.at.returns-in-Ok-clause-audits g c).In-Ok told_audits
+returns-in-Ok-clause-audits g c =
+    by_end g (goal.at.returns-in-Ok-clause-audits g c).In-Ok told_audits
 
 pub returns-in-Ok-clause-claim_headline : goal.returns-in-Ok-clause-claim_headline
-returns-in-Ok-clause-claim_headline g c = by_end g (goal.at.returns-in-Ok-clause-claim_headline g c).In-Ok told_claim_headline
+returns-in-Ok-clause-claim_headline g c =
+    by_end g (goal.at.returns-in-Ok-clause-claim_headline g c).In-Ok told_claim_headline
 
 pub returns-in-Ok-clause-claims : goal.returns-in-Ok-clause-claims
-returns-in-Ok-clause-claims g c = by_end g (goal.at.returns-in-Ok-clause-claims g c).In-Ok told_claims
+returns-in-Ok-clause-claims g c =
+    by_end g (goal.at.returns-in-Ok-clause-claims g c).In-Ok told_claims
 
 pub returns-in-Ok-clause-seals : goal.returns-in-Ok-clause-seals
 returns-in-Ok-clause-seals g c = by_end g (goal.at.returns-in-Ok-clause-seals g c).In-Ok told_seal
@@ -44,35 +60,56 @@ pub returns-in-Ok-clause-coins : goal.returns-in-Ok-clause-coins
 returns-in-Ok-clause-coins g c = by_end g (goal.at.returns-in-Ok-clause-coins g c).In-Ok told_coin
 
 pub returns-in-Ok-clause-house : goal.returns-in-Ok-clause-house
-returns-in-Ok-clause-house g c = by_free_end g (goal.at.returns-in-Ok-clause-house g c).In-Ok told_house
+returns-in-Ok-clause-house g c =
+    by_free_end g (goal.at.returns-in-Ok-clause-house g c).In-Ok told_house
 
 pub returns-in-Ok-clause-ceremony : goal.returns-in-Ok-clause-ceremony
-returns-in-Ok-clause-ceremony g c = by_end g (goal.at.returns-in-Ok-clause-ceremony g c).In-Ok told_ceremony
+returns-in-Ok-clause-ceremony g c =
+    by_end g (goal.at.returns-in-Ok-clause-ceremony g c).In-Ok told_ceremony
 
 pub returns-in-Ok-clause-usage : goal.returns-in-Ok-clause-usage
-returns-in-Ok-clause-usage g c = by_free_end g (goal.at.returns-in-Ok-clause-usage g c).In-Ok told_usage
+returns-in-Ok-clause-usage g c =
+    by_free_end g (goal.at.returns-in-Ok-clause-usage g c).In-Ok told_usage
 
 pub returns-in-Err-Failed-clause-house : goal.returns-in-Err-Failed-clause-house
 returns-in-Err-Failed-clause-house g c =
-    unended_house (g.S.Shelf.held c.args.shelf.now) (g.K.Keeper.ledger c.args.keeper.now) (map string_bytes c.args.words.now) _ (g.W.Sink.taken c.args.out.now)
-    (outside (stores (g.S.Shelf.held c.perform.new.shelf) (g.K.Keeper.ledger c.perform.new.keeper)) (g.W.Sink.taken c.perform.new.out)) c.in-Err-Failed.field-0 (inl refl) (c.in-Err-Failed.ensures.ends, c.in-Err-Failed.ensures.free)
+    unended_house (g.S.Shelf.held c.args.shelf.now) (g.K.Keeper.ledger c.args.keeper.now)
+    (map string_bytes c.args.words.now) _ (g.W.Sink.taken c.args.out.now)
+    (outside (stores (g.S.Shelf.held c.perform.new.shelf) (g.K.Keeper.ledger c.perform.new.keeper))
+    (g.W.Sink.taken c.perform.new.out)) c.in-Err-Failed.field-0 (inl refl)
+    (c.in-Err-Failed.ensures.ends, c.in-Err-Failed.ensures.free)
 
 pub returns-in-Err-NoMemory-clause-house : goal.returns-in-Err-NoMemory-clause-house
 returns-in-Err-NoMemory-clause-house g c =
-    unended_house (g.S.Shelf.held c.args.shelf.now) (g.K.Keeper.ledger c.args.keeper.now) (map string_bytes c.args.words.now) _ (g.W.Sink.taken c.args.out.now)
-    (outside (stores (g.S.Shelf.held c.perform.new.shelf) (g.K.Keeper.ledger c.perform.new.keeper)) (g.W.Sink.taken c.perform.new.out)) c.in-Err-NoMemory.field-0 (inr refl) (c.in-Err-NoMemory.ensures.ends, c.in-Err-NoMemory.ensures.free)
+    unended_house (g.S.Shelf.held c.args.shelf.now) (g.K.Keeper.ledger c.args.keeper.now)
+    (map string_bytes c.args.words.now) _ (g.W.Sink.taken c.args.out.now)
+    (outside (stores (g.S.Shelf.held c.perform.new.shelf) (g.K.Keeper.ledger c.perform.new.keeper))
+    (g.W.Sink.taken c.perform.new.out)) c.in-Err-NoMemory.field-0 (inr refl)
+    (c.in-Err-NoMemory.ensures.ends, c.in-Err-NoMemory.ensures.free)
 
 pub returns-in-Ok-clause-matching : goal.returns-in-Ok-clause-matching
 returns-in-Ok-clause-matching g c =
-    sampled_done (map string_bytes c.args.words.now) c.in-Ok.status (outside (stores (g.S.Shelf.held c.args.shelf.now) (g.K.Keeper.ledger c.args.keeper.now)) (g.W.Sink.taken c.args.out.now))
-    (outside (stores (g.S.Shelf.held c.perform.new.shelf) (g.K.Keeper.ledger c.perform.new.keeper)) (g.W.Sink.taken c.perform.new.out)) c.in-Ok.ensures.free c.in-Ok.ensures.end.0 c.in-Ok.ensures.end.1
+    sampled_done (map string_bytes c.args.words.now) c.in-Ok.status
+    (outside (stores (g.S.Shelf.held c.args.shelf.now) (g.K.Keeper.ledger c.args.keeper.now))
+    (g.W.Sink.taken c.args.out.now))
+    (outside (stores (g.S.Shelf.held c.perform.new.shelf) (g.K.Keeper.ledger c.perform.new.keeper))
+    (g.W.Sink.taken c.perform.new.out)) c.in-Ok.ensures.free c.in-Ok.ensures.end.0
+    c.in-Ok.ensures.end.1
 
 pub returns-in-Err-Failed-clause-matching : goal.returns-in-Err-Failed-clause-matching
 returns-in-Err-Failed-clause-matching g c =
-    sampled_stopped (map string_bytes c.args.words.now) 6 (outside (stores (g.S.Shelf.held c.args.shelf.now) (g.K.Keeper.ledger c.args.keeper.now)) (g.W.Sink.taken c.args.out.now))
-    (outside (stores (g.S.Shelf.held c.perform.new.shelf) (g.K.Keeper.ledger c.perform.new.keeper)) (g.W.Sink.taken c.perform.new.out)) c.in-Err-Failed.field-0 c.in-Err-Failed.ensures.free (inl refl)
+    sampled_stopped (map string_bytes c.args.words.now) 6
+    (outside (stores (g.S.Shelf.held c.args.shelf.now) (g.K.Keeper.ledger c.args.keeper.now))
+    (g.W.Sink.taken c.args.out.now))
+    (outside (stores (g.S.Shelf.held c.perform.new.shelf) (g.K.Keeper.ledger c.perform.new.keeper))
+    (g.W.Sink.taken c.perform.new.out)) c.in-Err-Failed.field-0 c.in-Err-Failed.ensures.free
+    (inl refl)
 
 pub returns-in-Err-NoMemory-clause-matching : goal.returns-in-Err-NoMemory-clause-matching
 returns-in-Err-NoMemory-clause-matching g c =
-    sampled_stopped (map string_bytes c.args.words.now) 9 (outside (stores (g.S.Shelf.held c.args.shelf.now) (g.K.Keeper.ledger c.args.keeper.now)) (g.W.Sink.taken c.args.out.now))
-    (outside (stores (g.S.Shelf.held c.perform.new.shelf) (g.K.Keeper.ledger c.perform.new.keeper)) (g.W.Sink.taken c.perform.new.out)) c.in-Err-NoMemory.field-0 c.in-Err-NoMemory.ensures.free (inr refl)
+    sampled_stopped (map string_bytes c.args.words.now) 9
+    (outside (stores (g.S.Shelf.held c.args.shelf.now) (g.K.Keeper.ledger c.args.keeper.now))
+    (g.W.Sink.taken c.args.out.now))
+    (outside (stores (g.S.Shelf.held c.perform.new.shelf) (g.K.Keeper.ledger c.perform.new.keeper))
+    (g.W.Sink.taken c.perform.new.out)) c.in-Err-NoMemory.field-0 c.in-Err-NoMemory.ensures.free
+    (inr refl)

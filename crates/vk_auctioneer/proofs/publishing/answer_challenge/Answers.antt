@@ -9,14 +9,20 @@ use Rattle.vk_auctioneer.proofs.publishing.answer_challenge.Goals as goal
 pub returns-clause-acts : goal.returns-clause-acts
 returns-clause-acts g c =
     let challenge = c.args.challenge.now in
-    asked_acts (reply_file c.args.reply.now challenge) (Answer c.args.id.now challenge) (as_reply work_of c.answer-answer.result) _ _ _ _ c.answered-said.result (λ _. refl) (search rules)
+    asked_acts (reply_file c.args.reply.now challenge) (Answer c.args.id.now challenge)
+    (as_reply work_of c.answer-answer.result) _ _ _ _ c.answered-said.result (λ _. refl)
+    (search rules)
     (c.answered-said.ensures.said c.args.id.now) c.answered-said.ensures.written
 
 pub returns-clause-once : goal.returns-clause-once
 returns-clause-once g c =
-    calls_keep (Answer c.args.id.now c.args.challenge.now) (as_reply work_of c.answer-answer.result) _ _ (search rules)
+    calls_keep (Answer c.args.id.now c.args.challenge.now) (as_reply work_of c.answer-answer.result)
+    _ _ (search rules)
 
 pub returns-clause-files : goal.returns-clause-files
 returns-clause-files g c = λ name.
-    reply_left c.args.id.now name c.args.reply.now c.args.challenge.now c.answer-answer.result c.answered-said.result (g.S.Shelf.held c.args.shelf.now) (g.S.Shelf.held c.answered-said.new.shelf)
-    (c.answered-said.ensures.said c.args.id.now) c.answered-said.ensures.written c.answer-answer.ensures.id c.answer-answer.ensures.answered c.answered-said.ensures.proved
+    reply_left c.args.id.now name c.args.reply.now c.args.challenge.now c.answer-answer.result
+    c.answered-said.result (g.S.Shelf.held c.args.shelf.now)
+    (g.S.Shelf.held c.answered-said.new.shelf)
+    (c.answered-said.ensures.said c.args.id.now) c.answered-said.ensures.written
+    c.answer-answer.ensures.id c.answer-answer.ensures.answered c.answered-said.ensures.proved

@@ -9,9 +9,12 @@ use Rattle.vk_auctioneer.proofs.standing.announce.Goals as goal
 pub returns-clause-acts : goal.returns-clause-acts
 returns-clause-acts g c = λ files.
     let said = c.announced-said.result in
-    asked_acts no_file (Announce c.args.id.now c.args.width c.args.lanes) (as_reply (λ _. Done) c.announce-answer.result) files files _ _ said (λ _. refl) (search rules)
+    asked_acts no_file (Announce c.args.id.now c.args.width c.args.lanes)
+    (as_reply (λ _. Done) c.announce-answer.result) files files _ _ said (λ _. refl)
+    (search rules)
     (c.announced-said.ensures.said c.args.width c.args.lanes) (leaves_same said files)
 
 pub returns-clause-once : goal.returns-clause-once
 returns-clause-once g c =
-    calls_keep (Announce c.args.id.now c.args.width c.args.lanes) (as_reply (λ _. Done) c.announce-answer.result) _ _ (search rules)
+    calls_keep (Announce c.args.id.now c.args.width c.args.lanes)
+    (as_reply (λ _. Done) c.announce-answer.result) _ _ (search rules)

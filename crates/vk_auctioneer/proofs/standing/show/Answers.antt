@@ -6,4 +6,5 @@ use Rattle.vk_auctioneer.proofs.Asking.{calls_keep}
 use Rattle.vk_auctioneer.proofs.standing.show.Goals as goal
 
 pub returns-clause-once : goal.returns-clause-once
-returns-clause-once g c = calls_keep (Show c.args.id.now) (as_reply Stands c.show-answer.result) _ _ (search rules)
+returns-clause-once g c = calls_keep (Show c.args.id.now) (as_reply Stands c.show-answer.result) _ _
+    (search rules)

@@ -10,10 +10,12 @@ pub returns-clause-acts : goal.returns-clause-acts
 returns-clause-acts g c = λ files.
     let row = c.args.row in
     let said = c.handed_in-said.result in
-    asked_acts no_file (Submit c.args.id.now row.seal row.secret) (as_reply Position c.submit-answer.result) files files _ _ said (λ _. refl) (search rules)
+    asked_acts no_file (Submit c.args.id.now row.seal row.secret)
+    (as_reply Position c.submit-answer.result) files files _ _ said (λ _. refl) (search rules)
     (c.handed_in-said.ensures.said c.args.id.now row.seal row.secret refl) (leaves_same said files)
 
 pub returns-clause-once : goal.returns-clause-once
 returns-clause-once g c =
     let row = c.args.row in
-    calls_keep (Submit c.args.id.now row.seal row.secret) (as_reply Position c.submit-answer.result) _ _ (search rules)
+    calls_keep (Submit c.args.id.now row.seal row.secret) (as_reply Position c.submit-answer.result)
+    _ _ (search rules)

@@ -14,17 +14,25 @@ returns-in_err-checker-clause-modelled g c =
     let names = c.args.names.now in
     let replies = names.replies in
     IfSome_then (g.S.Shelf.held c.args.shelf.now) c.in_err-checker.ensures.modelled
-    (λ files gives. refused_first (λ checker. extraction_of (board_base checker) (board_ahead checker files)) files replies.board.now replies.challenge1.now replies.reply1.now replies.challenge2.now replies.reply2.now
-    names.secret.now c.in_err-checker.field-0.0 c.from_residual.result c.from_residual.ensures.1 gives)
+    (λ files gives. refused_first
+    (λ checker. extraction_of (board_base checker) (board_ahead checker files)) files
+    replies.board.now replies.challenge1.now replies.reply1.now replies.challenge2.now
+    replies.reply2.now
+    names.secret.now c.in_err-checker.field-0.0 c.from_residual.result c.from_residual.ensures.1
+    gives)
 
 pub returns-in_err-lines-clause-modelled : goal.returns-in_err-lines-clause-modelled
 returns-in_err-lines-clause-modelled g c =
     let names = c.args.names.now in
     let replies = names.replies in
     let start = c.in_ok-checker.checker in
-    both_held (g.S.Shelf.held c.args.shelf.now) (g.S.Shelf.held c.begin.new.shelf) c.in_ok-checker.ensures.shelf.held
-    (λ files given begun. refused_second (λ lines. rest_of lines files) files replies.board.now replies.challenge1.now replies.reply1.now replies.challenge2.now replies.reply2.now names.secret.now
-    (extraction_of (board_base start) (board_ahead start files)) c.in_err-lines.field-0.0 c.from_residual-in_err-lines.result c.from_residual-in_err-lines.ensures.1 given begun)
+    both_held (g.S.Shelf.held c.args.shelf.now) (g.S.Shelf.held c.begin.new.shelf)
+    c.in_ok-checker.ensures.shelf.held
+    (λ files given begun. refused_second (λ lines. rest_of lines files) files replies.board.now
+    replies.challenge1.now replies.reply1.now replies.challenge2.now replies.reply2.now
+    names.secret.now
+    (extraction_of (board_base start) (board_ahead start files)) c.in_err-lines.field-0.0
+    c.from_residual-in_err-lines.result c.from_residual-in_err-lines.ensures.1 given begun)
     c.in_ok-checker.ensures.modelled c.in_err-lines.ensures.modelled
 
 pub returns-clause-modelled : goal.returns-clause-modelled
@@ -36,10 +44,17 @@ returns-clause-modelled g c =
     let extraction = c.in_ok-extraction.extraction in
     let on_secret = c.in_ok-lines.ensures.shelf.held ∙ c.in_ok-checker.ensures.shelf.held in
     let given : IfSome held (λ files. extraction_named files replies ≡ Ok extraction) =
-    both_held held (g.S.Shelf.held c.begin_secret.new.shelf) on_secret (λ files given is. given ∙ ap (λ e. Ok e) is) c.in_ok-checker.ensures.modelled c.in_ok-extraction.ensures.modelled in
-    let both : IfSome held (λ files. (extraction_named files replies ≡ Ok extraction) × (secret_begun (get files names.secret.now) ≡ Ok (rest_of lines files))) =
-    both_held held (g.S.Shelf.held c.begin.new.shelf) c.in_ok-checker.ensures.shelf.held (λ files is begun. (is, begun)) given c.in_ok-lines.ensures.modelled in
-    both_held held (g.S.Shelf.held c.extract_rest.new.shelf) (c.in_ok-extraction.ensures.shelf.held ∙ on_secret)
-    (λ files are reads. confronted files replies.board.now replies.challenge1.now replies.reply1.now replies.challenge2.now replies.reply2.now names.secret.now extraction (rest_of lines files)
-    c.in_ok-secret.secret c.confronted-confrontation.result are.0 are.1 reads c.confronted-confrontation.ensures)
+    both_held held (g.S.Shelf.held c.begin_secret.new.shelf) on_secret
+    (λ files given is. given ∙ ap (λ e. Ok e) is) c.in_ok-checker.ensures.modelled
+    c.in_ok-extraction.ensures.modelled in
+    let both : IfSome held (λ files. (extraction_named files replies ≡ Ok extraction)
+    × (secret_begun (get files names.secret.now) ≡ Ok (rest_of lines files))) =
+    both_held held (g.S.Shelf.held c.begin.new.shelf) c.in_ok-checker.ensures.shelf.held
+    (λ files is begun. (is, begun)) given c.in_ok-lines.ensures.modelled in
+    both_held held (g.S.Shelf.held c.extract_rest.new.shelf)
+    (c.in_ok-extraction.ensures.shelf.held ∙ on_secret)
+    (λ files are reads. confronted files replies.board.now replies.challenge1.now replies.reply1.now
+    replies.challenge2.now replies.reply2.now names.secret.now extraction (rest_of lines files)
+    c.in_ok-secret.secret c.confronted-confrontation.result are.0 are.1 reads
+    c.confronted-confrontation.ensures)
     both c.in_ok-secret.ensures.modelled

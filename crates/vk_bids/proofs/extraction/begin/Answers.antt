@@ -7,6 +7,8 @@ pub returns-clause-modelled : goal.returns-clause-modelled
 returns-clause-modelled g c =
     let names = c.args.names.now in
     both_told (g.S.Shelf.held c.args.shelf.now)
-    (λ files ahead base. begun (λ checker. board_base checker) (λ checker. board_ahead checker files) files names.board.now names.challenge1.now names.reply1.now names.challenge2.now names.reply2.now
+    (λ files ahead base. begun (λ checker. board_base checker)
+    (λ checker. board_ahead checker files) files names.board.now names.challenge1.now
+    names.reply1.now names.challenge2.now names.reply2.now
     c.start-checker.result ahead base)
     c.start-checker.ensures.modelled c.start-checker.ensures.base

@@ -12,7 +12,8 @@ pub with_front-extraction-requires-clause-front : goal.with_front-extraction-req
 with_front-extraction-requires-clause-front g c =
     let course = c.args.course in
     let front : StatementValue → Front = λ s. front_with course.head s.seals course.position in
-    of_front front (base_of course.lanes) c.in_ok-found.found c.requires.right.front c.in_ok-found.ensures.statement
+    of_front front (base_of course.lanes) c.in_ok-found.found c.requires.right.front
+    c.in_ok-found.ensures.statement
 
 pub returns-clause-modelled : goal.returns-clause-modelled
 returns-clause-modelled g c =

@@ -7,6 +7,7 @@ returns-clause-modelled g c =
     let start = c.args.checker in
     let end = c.in_ok-checker.checker in
     both_told (g.S.Shelf.held c.args.shelf.now)
-    (λ files comes _. concluded (base_of start) (base_of end) (ahead_of start files) (finding_of end) c.in_ok-checker.gathered c.concluded-found.result
+    (λ files comes _. concluded (base_of start) (base_of end) (ahead_of start files)
+    (finding_of end) c.in_ok-checker.gathered c.concluded-found.result
     c.in_ok-checker.ensures.base comes c.concluded-found.ensures.value)
     c.in_ok-checker.ensures.modelled c.in_ok-checker.ensures.modelled

@@ -9,7 +9,9 @@ use Rattle.vk_bids.proofs.lane_extraction.gather.Given as goal
 abbrev pub invariant-lanes : goal.invariant-lanes
 invariant-lanes g l = record {
   opens : IfSome (base_of l.checker) (λ base. IfOk l.gathered (All (LaneOpens base.statement)));
-  modelled : IfSome (g.S.Shelf.held l.fn.shelf) (λ files. Leads (base_of l.fn.checker) (ahead_of l.fn.checker files) (given_of l.checker) l.gathered (ahead_of l.checker files));
+  modelled : IfSome (g.S.Shelf.held l.fn.shelf)
+      (λ files. Leads (base_of l.fn.checker) (ahead_of l.fn.checker files) (given_of l.checker)
+      l.gathered (ahead_of l.checker files));
   base : base_of l.checker ≡ base_of l.fn.checker;
   held : g.S.Shelf.held l.shelf ≡ g.S.Shelf.held l.fn.shelf;
   kept : g.S.Shelf.faults l.shelf ≡ g.S.Shelf.faults l.fn.shelf;

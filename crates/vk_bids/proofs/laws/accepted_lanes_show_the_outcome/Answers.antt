@@ -7,7 +7,9 @@ use Rattle.vk_bids.proofs.laws.accepted_lanes_show_the_outcome.Goals as goal
 
 pub returns : goal.returns
 returns c front is number lines zero one both =
-    let opens = lanes_open (statement_of front) (statement_right front is) number lines zero one both in (
-      λ none. opens_shows front number (opened_bids (seats_of front.seals) zero one) is (opens.0 none),
+    let opens = lanes_open (statement_of front) (statement_right front is) number lines zero one
+    both in (
+      λ none. opens_shows front number (opened_bids (seats_of front.seals) zero one) is
+          (opens.0 none),
       opens.1,
     )

@@ -6,4 +6,5 @@ use Rattle.vk_bids.proofs.printing.add_lanes.Given as goal
 -- the lines so far, and those that follow, are all
 abbrev pub invariant-loop-lane : goal.invariant-loop-lane
 invariant-loop-lane l =
-    flat_map string_bytes l.lines.items ++ flat_map lane_bids_text (drop l.lane-index l.lanes) ≡ flat_map string_bytes l.fn.lines.items ++ flat_map lane_bids_text l.lanes
+    flat_map string_bytes l.lines.items ++ flat_map lane_bids_text (drop l.lane-index l.lanes)
+    ≡ flat_map string_bytes l.fn.lines.items ++ flat_map lane_bids_text l.lanes

@@ -6,5 +6,6 @@ use Rattle.vk_bids.proofs.printing.lane_bids_lines.Given as goal
 -- the lines so far, and those that follow, are all
 abbrev pub invariant-loop-bid : goal.invariant-loop-bid
 invariant-loop-bid l =
-    flat_map string_bytes l.lines.items ++ flat_map (bid_line l.lane.number) (drop l.bid-index l.lane.bids)
+    flat_map string_bytes l.lines.items
+    ++ flat_map (bid_line l.lane.number) (drop l.bid-index l.lane.bids)
     ≡ flat_map (bid_line l.lane.number) l.lane.bids

@@ -10,26 +10,39 @@ use Rattle.vk_board.proofs.reading.read_seal_lines.Goals as goal
 
 pub returns-in_err-seal-clause-modelled : goal.returns-in_err-seal-clause-modelled
 returns-in_err-seal-clause-modelled g c =
-    many_stop (g.S.Shelf.held c.args.shelf.now) (g.S.Shelf.held c.loop-index.shelf) (seal_at c.args.lanes)
+    many_stop (g.S.Shelf.held c.args.shelf.now) (g.S.Shelf.held c.loop-index.shelf)
+    (seal_at c.args.lanes)
     (λ files. many_at c.args.count (seal_at c.args.lanes) (rest_of c.args.lines.now files))
-    c.loop-index.seals c.in_err-seal.field-0.0 _ (c.args.count - c.loop-index.index) (λ files. rest_of c.loop-index.lines files) (λ files. rest_of c.read_seal.new.lines files)
-    c.loop-index.invariant.held (omega arith) (search rules) c.loop-index.invariant.modelled c.in_err-seal.ensures.modelled
+    c.loop-index.seals c.in_err-seal.field-0.0 _ (c.args.count - c.loop-index.index)
+    (λ files. rest_of c.loop-index.lines files) (λ files. rest_of c.read_seal.new.lines files)
+    c.loop-index.invariant.held (omega arith) (search rules) c.loop-index.invariant.modelled
+    c.in_err-seal.ensures.modelled
 
 pub loop-index-preserved : goal.loop-index-preserved
 loop-index-preserved g c = record {
-  modelled = many_turn (g.S.Shelf.held c.args.shelf.now) (g.S.Shelf.held c.loop-index.shelf) (seal_at c.args.lanes)
+  modelled = many_turn (g.S.Shelf.held c.args.shelf.now) (g.S.Shelf.held c.loop-index.shelf)
+      (seal_at c.args.lanes)
       (λ files. many_at c.args.count (seal_at c.args.lanes) (rest_of c.args.lines.now files))
-      c.loop-index.seals _ c.in_ok-seal.seal (c.args.count - c.loop-index.index) (c.args.count - (c.loop-index.index + 1)) (λ files. rest_of c.loop-index.lines files) (λ files. rest_of c.read_seal.new.lines files)
-      c.loop-index.invariant.held (omega arith) c.in_ok-push.ensures.pushed c.loop-index.invariant.modelled c.in_ok-seal.ensures.modelled;
+      c.loop-index.seals _ c.in_ok-seal.seal (c.args.count - c.loop-index.index)
+      (c.args.count - (c.loop-index.index + 1)) (λ files. rest_of c.loop-index.lines files)
+      (λ files. rest_of c.read_seal.new.lines files)
+      c.loop-index.invariant.held (omega arith) c.in_ok-push.ensures.pushed
+      c.loop-index.invariant.modelled c.in_ok-seal.ensures.modelled;
   count = grind (arith, common_steps, length-append);
-  right = rw c.in_ok-push.ensures.pushed (each_push (IsSealAfter c.args.lanes) [] c.loop-index.seals c.in_ok-seal.seal c.loop-index.invariant.right c.in_ok-seal.ensures.right);
+  right = rw c.in_ok-push.ensures.pushed
+      (each_push (IsSealAfter c.args.lanes) [] c.loop-index.seals c.in_ok-seal.seal
+      c.loop-index.invariant.right c.in_ok-seal.ensures.right);
   held = c.in_ok-seal.ensures.shelf.held ∙ c.loop-index.invariant.held;
   kept = c.in_ok-seal.ensures.shelf.causes ∙ c.loop-index.invariant.kept;
-  file = record { name = c.in_ok-seal.ensures.file.name ∙ c.loop-index.invariant.file.name; size = c.in_ok-seal.ensures.file.size ∙ c.loop-index.invariant.file.size };
+  file = record {
+    name = c.in_ok-seal.ensures.file.name ∙ c.loop-index.invariant.file.name;
+    size = c.in_ok-seal.ensures.file.size ∙ c.loop-index.invariant.file.size;
+  };
 }
 
 pub returns-clause-modelled : goal.returns-clause-modelled
 returns-clause-modelled g c =
     many_done (g.S.Shelf.held c.args.shelf.now) (seal_at c.args.lanes)
     (λ files. many_at c.args.count (seal_at c.args.lanes) (rest_of c.args.lines.now files))
-    c.loop-index.seals (c.args.count - c.loop-index.index) (λ files. rest_of c.loop-index.lines files) (omega arith) c.loop-index.invariant.modelled
+    c.loop-index.seals (c.args.count - c.loop-index.index)
+    (λ files. rest_of c.loop-index.lines files) (omega arith) c.loop-index.invariant.modelled

@@ -9,7 +9,8 @@ use Rattle.vk_board.proofs.reading.read_seal_lines.Given as goal
 abbrev pub invariant-loop-index : goal.invariant-loop-index
 invariant-loop-index g l = record {
   modelled : IfSome (g.S.Shelf.held l.fn.shelf) (λ files.
-      many_onto l.seals (l.count - l.index) (seal_at l.lanes) (rest_of l.lines files) ≡ many_onto [] l.count (seal_at l.lanes) (rest_of l.fn.lines files));
+      many_onto l.seals (l.count - l.index) (seal_at l.lanes) (rest_of l.lines files)
+      ≡ many_onto [] l.count (seal_at l.lanes) (rest_of l.fn.lines files));
   count : length l.seals ≡ l.index;
   right : EachAfter (IsSealAfter l.lanes) [] l.seals;
   held : g.S.Shelf.held l.shelf ≡ g.S.Shelf.held l.fn.shelf;

@@ -5,4 +5,6 @@ use Rattle.vk_board.proofs.writing.push_posted.Given as goal
 
 -- the lines so far are those of the numbers so far
 abbrev pub invariant-loop-number : goal.invariant-loop-number
-invariant-loop-number l = l.out.items ≡ l.fn.out.items ++ flat_map (λ number. line (posted_text number)) (take l.number-index l.posted)
+invariant-loop-number l = l.out.items
+    ≡ l.fn.out.items ++ flat_map (λ number. line (posted_text number))
+    (take l.number-index l.posted)

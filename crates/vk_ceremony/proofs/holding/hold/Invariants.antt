@@ -10,11 +10,17 @@ use Rattle.vk_ceremony.proofs.holding.hold.Given as goal
 -- what is left of the script gives what is left of the ceremony
 abbrev pub invariant-lines : goal.invariant-lines
 invariant-lines g l = record {
-  modelled : IfSome (left_of l.fn.script false l.fn.lines (stores (g.S.Shelf.held l.fn.shelf) (g.K.Keeper.ledger l.fn.keeper)))
-      (λ whole. Leads whole (outside (stores (g.S.Shelf.held l.fn.shelf) (g.K.Keeper.ledger l.fn.keeper)) (g.W.Sink.taken l.fn.out))
-      (left_of l.fn.script l.refused l.lines (stores (g.S.Shelf.held l.shelf) (g.K.Keeper.ledger l.keeper)))
-      (outside (stores (g.S.Shelf.held l.shelf) (g.K.Keeper.ledger l.keeper)) (g.W.Sink.taken l.out)));
-  files : Modelled (Continues l.fn.script false l.fn.lines l.refused l.lines) (g.S.Shelf.held l.fn.shelf) (g.S.Shelf.held l.shelf);
+  modelled : IfSome (left_of l.fn.script false l.fn.lines
+      (stores (g.S.Shelf.held l.fn.shelf) (g.K.Keeper.ledger l.fn.keeper)))
+      (λ whole. Leads whole (outside
+      (stores (g.S.Shelf.held l.fn.shelf) (g.K.Keeper.ledger l.fn.keeper))
+      (g.W.Sink.taken l.fn.out))
+      (left_of l.fn.script l.refused l.lines
+      (stores (g.S.Shelf.held l.shelf) (g.K.Keeper.ledger l.keeper)))
+      (outside (stores (g.S.Shelf.held l.shelf) (g.K.Keeper.ledger l.keeper))
+      (g.W.Sink.taken l.out)));
+  files : Modelled (Continues l.fn.script false l.fn.lines l.refused l.lines)
+      (g.S.Shelf.held l.fn.shelf) (g.S.Shelf.held l.shelf);
   named : l.lines.name ≡ l.fn.script;
   once : Modelled KeepsAnswers (g.K.Keeper.ledger l.fn.keeper) (g.K.Keeper.ledger l.keeper);
   shelf : g.S.Shelf.faults l.shelf ≡ g.S.Shelf.faults l.fn.shelf;

@@ -2,4 +2,8 @@ use Rattle.vk_ceremony.proofs.Performing.{ceremony_performs, ceremony_performs_a
 use Rattle.vk_ceremony.proofs.laws.a_ceremony_is_done_command_by_command.Goals as goal
 
 pub returns : goal.returns
-returns c = record { some = ceremony_performs; all = ceremony_performs_all; single = command_performs }
+returns c = record {
+  some = ceremony_performs;
+  all = ceremony_performs_all;
+  single = command_performs;
+}

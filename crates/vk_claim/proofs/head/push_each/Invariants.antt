@@ -4,4 +4,6 @@ use Rattle.vk_claim.proofs.head.push_each.Given as goal
 
 abbrev pub invariant-loop-number : goal.invariant-loop-number
 invariant-loop-number l =
-    l.out.items ≡ l.fn.out.items ++ flat_map (λ number. line (spaced (codes "n" ∷ decimal number ∷ []))) (take l.number-index l.fn.numbers)
+    l.out.items ≡ l.fn.out.items
+    ++ flat_map (λ number. line (spaced (codes "n" ∷ decimal number ∷ [])))
+    (take l.number-index l.fn.numbers)

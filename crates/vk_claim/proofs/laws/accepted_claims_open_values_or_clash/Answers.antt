@@ -6,10 +6,12 @@ returns-clause-one g c circuits = of_one_claim (g.Q.Circuits.admitted circuits)
 
 pub returns-clause-given : goal.returns-clause-given
 returns-clause-given g c circuits file challenge reply other second two =
-    claims_open (g.Q.Circuits.admitted circuits) (g.Q.Circuits.claim circuits) (g.met.Q.Circuits.is_plan circuits) (g.met.Q.Circuits.sound circuits) two
+    claims_open (g.Q.Circuits.admitted circuits) (g.Q.Circuits.claim circuits)
+    (g.met.Q.Circuits.is_plan circuits) (g.met.Q.Circuits.sound circuits) two
 
 pub returns-clause-only : goal.returns-clause-only
-returns-clause-only g c circuits = only_claims_open (g.Q.Circuits.admitted circuits) (g.met.Q.Circuits.is_plan circuits)
+returns-clause-only g c circuits =
+    only_claims_open (g.Q.Circuits.admitted circuits) (g.met.Q.Circuits.is_plan circuits)
 
 pub returns-clause-files : goal.returns-clause-files
 returns-clause-files g c circuits = claim_files_are_extracted (g.Q.Circuits.admitted circuits)

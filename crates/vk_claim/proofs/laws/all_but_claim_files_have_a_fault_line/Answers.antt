@@ -6,6 +6,7 @@ use Rattle.vk_claim.proofs.laws.all_but_claim_files_have_a_fault_line.Goals as g
 
 pub returns : goal.returns
 returns c = record {
-  texts = λ shape. faults_all_but_texts (claim_table shape) (claim_file_whole shape) (file_ends shape);
+  texts = λ shape. faults_all_but_texts (claim_table shape) (claim_file_whole shape)
+      (file_ends shape);
   stops = claim_fault;
 }

@@ -5,4 +5,5 @@ use Rattle.vk_claim.proofs.printing.push_values.Given as goal
 
 abbrev pub invariant-loop-value : goal.invariant-loop-value
 invariant-loop-value l =
-    flat_map string_bytes l.lines.items ≡ flat_map string_bytes l.fn.lines.items ++ flat_map (value_line l.fn.lane.number) (take l.value-index l.fn.lane.bids)
+    flat_map string_bytes l.lines.items ≡ flat_map string_bytes l.fn.lines.items
+    ++ flat_map (value_line l.fn.lane.number) (take l.value-index l.fn.lane.bids)

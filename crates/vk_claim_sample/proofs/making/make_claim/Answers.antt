@@ -12,26 +12,45 @@ unfolding proof_by
 returns-in_err-rows c =
     let refused = c.in_err-rows.field-0.0 in
     let is : c.from_residual.result ≡ Err refused = search rules in
-    rw is (bind_refuses (dry_of refused) (rows_onto c.args.case.now [] (length c.args.case.now.seats)) (proof_unless_dry c.args.kind c.args.case.now c.args.numbers.now) c.in_err-rows.ensures)
+    rw is (bind_refuses (dry_of refused)
+    (rows_onto c.args.case.now [] (length c.args.case.now.seats))
+    (proof_unless_dry c.args.kind c.args.case.now c.args.numbers.now) c.in_err-rows.ensures)
 
 pub overflow_sub-wires : goal.overflow_sub-wires
-overflow_sub-wires c = omega (arith, c.wires.ensures.value, c.inputs.ensures.value, inputs_within c.in_ok-filled.filled.plan c.wires.ensures.plan)
+overflow_sub-wires c = omega (
+  arith,
+  c.wires.ensures.value,
+  c.inputs.ensures.value,
+  inputs_within c.in_ok-filled.filled.plan c.wires.ensures.plan,
+)
 
 pub check_tapes-requires : goal.check_tapes-requires
 check_tapes-requires c =
-    let all = all_rows c.args.case.now c.requires.right.right c.in_ok-rows.rows c.in_ok-rows.ensures in
-    omega (arith, ap length c.as_slice.ensures, all.count, c.requires.right.right.few_seals, c.wires.ensures.value, c.wires.ensures.plan.wires)
+    let all = all_rows c.args.case.now c.requires.right.right c.in_ok-rows.rows c.in_ok-rows.ensures
+    in
+    omega (
+      arith,
+      ap length c.as_slice.ensures,
+      all.count,
+      c.requires.right.right.few_seals,
+      c.wires.ensures.value,
+      c.wires.ensures.plan.wires,
+    )
 
 pub returns-in_err-check_tapes : goal.returns-in_err-check_tapes
 returns-in_err-check_tapes c =
     let refused = c.in_err-check_tapes.field-0.0 in
     let is : c.from_residual-in_err-check_tapes.result ≡ Err (of_job refused) = search rules in
     rw is
-    (tapes_refuse c.args.kind c.args.case.now c.args.numbers.now c.in_ok-rows.rows c.in_ok-rows.ensures c.in_ok-filled.filled.plan c.in_ok-filled.ensures.plan
-    (c.wires.result - c.inputs.result) (rw (c.wires.ensures.value, c.inputs.ensures.value) refl) refused (rw (c.as_slice.ensures) at c.in_err-check_tapes.ensures))
+    (tapes_refuse c.args.kind c.args.case.now c.args.numbers.now c.in_ok-rows.rows
+    c.in_ok-rows.ensures c.in_ok-filled.filled.plan c.in_ok-filled.ensures.plan
+    (c.wires.result - c.inputs.result) (rw (c.wires.ensures.value, c.inputs.ensures.value) refl)
+    refused (rw (c.as_slice.ensures) at c.in_err-check_tapes.ensures))
 
 pub returns : goal.returns
 returns c =
-    tapes_pass c.args.kind c.args.case.now c.args.numbers.now c.in_ok-rows.rows c.in_ok-rows.ensures c.in_ok-filled.filled.plan c.in_ok-filled.ensures.plan
-    (c.wires.result - c.inputs.result) (rw (c.wires.ensures.value, c.inputs.ensures.value) refl) c.in_ok-filled.filled.values c.in_ok-filled.ensures.values
+    tapes_pass c.args.kind c.args.case.now c.args.numbers.now c.in_ok-rows.rows c.in_ok-rows.ensures
+    c.in_ok-filled.filled.plan c.in_ok-filled.ensures.plan
+    (c.wires.result - c.inputs.result) (rw (c.wires.ensures.value, c.inputs.ensures.value) refl)
+    c.in_ok-filled.filled.values c.in_ok-filled.ensures.values
     (rw (c.as_slice.ensures) at c.in_ok-check_tapes.ensures)

@@ -7,6 +7,7 @@ pub returns : goal.returns
 returns c = record {
   matching = c.in_ok-matching.matching.items;
   permutation = c.in_ok-matching.ensures.permutation;
-  stable = subst (λ ranks. IsStable couples ranks c.in_ok-matching.matching.items) c.as_slice.ensures c.in_ok-matching.ensures.stable;
+  stable = subst (λ ranks. IsStable couples ranks c.in_ok-matching.matching.items)
+      c.as_slice.ensures c.in_ok-matching.ensures.stable;
   numbers_are = c.in_ok-numbers.ensures ∙ rw (c.from.ensures, c.as_slice-2.ensures.value) refl;
 }

@@ -17,19 +17,25 @@ returns-in_err-lines-clause-acts g c =
 
 pub returns-in_err-write_claim-clause-acts : goal.returns-in_err-write_claim-clause-acts
 returns-in_err-write_claim-clause-acts g c =
-    let p = err_from_is_err_and c.from_residual-in_err-write_claim.result c.from_residual-in_err-write_claim.ensures.1 in
+    let p = err_from_is_err_and c.from_residual-in_err-write_claim.result
+    c.from_residual-in_err-write_claim.ensures.1 in
     let proof = proof_in c.args.case.now c.args.made.now in
     rw p.1
-    (λ ledger. writing_stopped (files_of c.args.kind c.args.case.now c.args.numbers.now proof) (summary_said c.args.kind c.args.number proof) ledger
-    (g.S.Shelf.held c.args.shelf.now) (g.S.Shelf.held c.write_claim.new.shelf) p.0 c.in_err-write_claim.ensures.written)
+    (λ ledger. writing_stopped (files_of c.args.kind c.args.case.now c.args.numbers.now proof)
+    (summary_said c.args.kind c.args.number proof) ledger
+    (g.S.Shelf.held c.args.shelf.now) (g.S.Shelf.held c.write_claim.new.shelf) p.0
+    c.in_err-write_claim.ensures.written)
 
 pub returns-in_err-said-clause-acts : goal.returns-in_err-said-clause-acts
 returns-in_err-said-clause-acts g c =
     let proof = proof_in c.args.case.now c.args.made.now in
-    let p = err_from_is_err_and c.from_residual-in_err-said.result c.from_residual-in_err-said.ensures.1 in
+    let p = err_from_is_err_and c.from_residual-in_err-said.result
+    c.from_residual-in_err-said.ensures.1 in
     rw p.1
-    (λ ledger. reading_stopped (files_of c.args.kind c.args.case.now c.args.numbers.now proof) (summary_said c.args.kind c.args.number proof) ledger
-    (g.S.Shelf.held c.args.shelf.now) (g.S.Shelf.held c.write_claim.new.shelf) (g.S.Shelf.held c.read_back.new.shelf) p.0
+    (λ ledger. reading_stopped (files_of c.args.kind c.args.case.now c.args.numbers.now proof)
+    (summary_said c.args.kind c.args.number proof) ledger
+    (g.S.Shelf.held c.args.shelf.now) (g.S.Shelf.held c.write_claim.new.shelf)
+    (g.S.Shelf.held c.read_back.new.shelf) p.0
     c.in_ok-write_claim.ensures.written c.in_err-said.ensures.shelf.held)
 
 pub returns-clause-acts : goal.returns-clause-acts
@@ -38,15 +44,19 @@ returns-clause-acts g c = λ ledger.
     let numbers = c.args.numbers.now in
     let proof = proof_in case c.args.made.now in
     let text = flat_map string_bytes c.in_ok-lines.lines.items in
-    holding_done (files_of c.args.kind case numbers proof) (summary_said c.args.kind c.args.number proof) ledger
+    holding_done (files_of c.args.kind case numbers proof)
+    (summary_said c.args.kind c.args.number proof) ledger
     (λ files. read_said text (claim_read files))
-    (reads_back c.args.kind case c.requires.right numbers c.requires.published proof c.requires.made c.args.number text c.in_ok-lines.ensures)
-    (g.S.Shelf.held c.args.shelf.now) (g.S.Shelf.held c.write_claim.new.shelf) (g.S.Shelf.held c.read_back.new.shelf) c.in_ok-said.said
+    (reads_back c.args.kind case c.requires.right numbers c.requires.published proof c.requires.made
+    c.args.number text c.in_ok-lines.ensures)
+    (g.S.Shelf.held c.args.shelf.now) (g.S.Shelf.held c.write_claim.new.shelf)
+    (g.S.Shelf.held c.read_back.new.shelf) c.in_ok-said.said
     c.in_ok-write_claim.ensures.written c.in_ok-said.ensures.shelf.held c.in_ok-said.ensures.said
 
 pub write_claim-requires-clause-right : goal.write_claim-requires-clause-right
 write_claim-requires-clause-right g c =
     let case = c.args.case.now in
     let numbers = c.args.numbers.now in
-    is_honest c.args.kind case c.requires.right.right numbers (is_shown c.args.kind case c.requires.right numbers c.requires.published)
+    is_honest c.args.kind case c.requires.right.right numbers
+    (is_shown c.args.kind case c.requires.right numbers c.requires.published)
     (proof_in case c.args.made.now) c.requires.made

@@ -7,4 +7,5 @@ use Rattle.vk_claims.proofs.circuits.plan_of_units.Goals as goal
 pub returns : goal.returns
 returns c =
     let of = c.in_ok-circuit.ensures in
-    c.in_ok-plan.ensures ∙ part_is inputs_of numbers_of Uniform c.args.inputs c.args.numbers.now c.in_ok-circuit.circuit of.admitted of.numbers
+    c.in_ok-plan.ensures ∙ part_is inputs_of numbers_of Uniform c.args.inputs c.args.numbers.now
+    c.in_ok-circuit.circuit of.admitted of.numbers

@@ -4,4 +4,11 @@ use Rattle.vk_claims.proofs.laws.statuses_of_claims_mean_what_the_files_are.Goal
 
 pub returns : goal.returns
 returns c =
-    record { verified = verifies_claims_exactly; extracted = extracts_claims_exactly; same = tells_same_claims_exactly; verdict_told = tells_claim_verdicts; extraction_told = tells_claim_extractions }
+    record {
+      verified = verifies_claims_exactly;
+      extracted = extracts_claims_exactly;
+      same = tells_same_claims_exactly;
+      verdict_told = tells_claim_verdicts;
+      extraction_told =
+          tells_claim_extractions;
+    }

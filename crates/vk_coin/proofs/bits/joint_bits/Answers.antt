@@ -7,4 +7,6 @@ pub loop-place-preserved : goal.loop-place-preserved
 loop-place-preserved g c =
     c.in_ok-push.ensures.items
     ∙ ap₂ (λ bits bit. bits ++ bit ∷ []) c.loop-place.invariant c.joint_bit.ensures
-    ∙ sym (map-range_with_len_more (λ place. xor_of (bits_at place (c.args.first.now ∷ map g.B.HasBits.bits_of c.args.others.now))) 0 c.loop-place.place c.loop-place.place (zero-add c.loop-place.place))
+    ∙ sym (map-range_with_len_more
+    (λ place. xor_of (bits_at place (c.args.first.now ∷ map g.B.HasBits.bits_of c.args.others.now)))
+    0 c.loop-place.place c.loop-place.place (zero-add c.loop-place.place))

@@ -8,7 +8,11 @@ loop-at-preserved g c = record {
   held = c.in_ok-count.ensures.shelf.held ∙ c.loop-at.invariant.held;
   kept = c.in_ok-count.ensures.shelf.causes ∙ c.loop-at.invariant.kept;
   wants = c.in_ok-count.ensures.wants ∙ c.loop-at.invariant.wants;
-  modelled = hashed_more (g.S.Shelf.held c.args.shelf.now) (g.S.Shelf.held c.loop-at.shelf) c.args.name.now (take c.min-room.result c.loop-at.piece) c.read_at.new.into (drop c.min-room.result c.loop-at.piece) c.loop-at.hasher c.update.new.self c.loop-at.at c.in_ok-count.count c.loop-at.invariant.held c.loop-at.invariant.modelled c.in_ok-count.ensures.count c.in_ok-count.ensures.bytes c.update.ensures;
+  modelled = hashed_more (g.S.Shelf.held c.args.shelf.now) (g.S.Shelf.held c.loop-at.shelf)
+      c.args.name.now (take c.min-room.result c.loop-at.piece) c.read_at.new.into
+      (drop c.min-room.result c.loop-at.piece) c.loop-at.hasher c.update.new.self c.loop-at.at
+      c.in_ok-count.count c.loop-at.invariant.held c.loop-at.invariant.modelled
+      c.in_ok-count.ensures.count c.in_ok-count.ensures.bytes c.update.ensures;
   within = grind (arith, common_steps);
   room = grind (arith, common_steps);
 }

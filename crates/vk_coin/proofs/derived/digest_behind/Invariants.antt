@@ -11,7 +11,8 @@ invariant-loop-at g l =
       held : g.S.Shelf.held l.shelf ≡ g.S.Shelf.held l.fn.shelf;
       kept : g.S.Shelf.faults l.shelf ≡ g.S.Shelf.faults l.fn.shelf;
       wants : g.S.Shelf.wants l.shelf ≡ g.S.Shelf.wants l.fn.shelf;
-      modelled : IfSome (g.S.Shelf.held l.fn.shelf) (λ files. Holds256 l.hasher (derived_message (take l.at (bytes_of files l.name))));
+      modelled : IfSome (g.S.Shelf.held l.fn.shelf)
+          (λ files. Holds256 l.hasher (derived_message (take l.at (bytes_of files l.name))));
       within : l.at ≤ l.size;
       room : length l.piece ≡ 4096;
     }

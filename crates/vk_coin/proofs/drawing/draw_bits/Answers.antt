@@ -14,9 +14,12 @@ loop-lane-preserved g c =
     record {
       drawn =
           pushed
-          ∙ ap₂ (λ bits bit. bits ++ bit ∷ []) l.invariant.drawn (c.draw_bit.ensures.drawn ∙ ap drawn_bit l.invariant.after)
-          ∙ sym (map-range_with_len_more (λ lane. drawn_bit (later lane ahead)) 0 l.lane l.lane (zero-add l.lane));
+          ∙ ap₂ (λ bits bit. bits ++ bit ∷ []) l.invariant.drawn
+          (c.draw_bit.ensures.drawn ∙ ap drawn_bit l.invariant.after)
+          ∙ sym (map-range_with_len_more (λ lane. drawn_bit (later lane ahead)) 0 l.lane l.lane
+          (zero-add l.lane));
       count = grind (arith, common_steps, length-append);
       room = omega (arith, l.invariant.room, c.push.ensures.capacity);
-      after = c.draw_bit.ensures.after ∙ ap (later 1) l.invariant.after ∙ later-later l.lane 1 ahead;
+      after = c.draw_bit.ensures.after ∙ ap (later 1) l.invariant.after
+          ∙ later-later l.lane 1 ahead;
     }

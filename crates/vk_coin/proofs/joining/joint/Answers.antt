@@ -7,5 +7,6 @@ use Rattle.vk_coin.proofs.joining.joint.Goals as goal
 
 pub returns-clause-right : goal.returns-clause-right
 returns-clause-right c =
-    let same : ◌≡◌ {A = Challenge} (record { bits = c.from_vec.result }) (joint_challenge c.args.coin.now) = search rules in
+    let same : ◌≡◌ {A = Challenge} (record { bits = c.from_vec.result })
+    (joint_challenge c.args.coin.now) = search rules in
     subst IsChallenge (sym same) (joint_is_challenge c.args.coin.now c.requires)

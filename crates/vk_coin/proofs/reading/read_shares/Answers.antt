@@ -8,7 +8,9 @@ use Rattle.vk_coin.proofs.reading.read_shares.Goals as goal
 
 pub loop-index-init : goal.loop-index-init
 loop-index-init g c = record {
-  modelled = numbered_begin (g.S.Shelf.held c.args.shelf.now) (λ n. shown_at c.args.auction.now c.args.bits (n + 1)) c.new-shares.result _ _ (λ files. rest_of c.args.lines.now files) c.new-shares.ensures (omega arith);
+  modelled = numbered_begin (g.S.Shelf.held c.args.shelf.now)
+      (λ n. shown_at c.args.auction.now c.args.bits (n + 1)) c.new-shares.result _ _
+      (λ files. rest_of c.args.lines.now files) c.new-shares.ensures (omega arith);
   count = ap length c.new-shares.ensures;
   right = rw c.new-shares.ensures tt;
   held = refl;
@@ -19,32 +21,52 @@ loop-index-init g c = record {
 pub returns-in_err-share-clause-modelled : goal.returns-in_err-share-clause-modelled
 returns-in_err-share-clause-modelled g c =
     let l = c.loop-index in
-    numbered_stop (g.S.Shelf.held c.args.shelf.now) (g.S.Shelf.held l.shelf) (λ n. shown_at c.args.auction.now c.args.bits (n + 1))
-    (λ files. shares_at c.args.auction.now c.args.bits c.args.auditors (rest_of c.args.lines.now files))
-    l.shares c.in_err-share.field-0.0 _ c.len.result (c.args.auditors - l.index) (λ files. rest_of l.lines files) (λ files. rest_of c.read_shown.new.lines files)
-    l.invariant.held (sym c.len.ensures) (omega arith) (search rules) l.invariant.modelled c.in_err-share.ensures.modelled
+    numbered_stop (g.S.Shelf.held c.args.shelf.now) (g.S.Shelf.held l.shelf)
+    (λ n. shown_at c.args.auction.now c.args.bits (n + 1))
+    (λ files. shares_at c.args.auction.now c.args.bits c.args.auditors
+    (rest_of c.args.lines.now files))
+    l.shares c.in_err-share.field-0.0 _ c.len.result (c.args.auditors - l.index)
+    (λ files. rest_of l.lines files) (λ files. rest_of c.read_shown.new.lines files)
+    l.invariant.held (sym c.len.ensures) (omega arith) (search rules) l.invariant.modelled
+    c.in_err-share.ensures.modelled
 
 pub loop-index-preserved : goal.loop-index-preserved
 loop-index-preserved g c =
     let l = c.loop-index in
     let file = c.in_ok-share.ensures.file in
-    let P : ℕ → Type 0 = λ n. IsShareOf c.args.auction.now c.args.bits (n + 1) c.in_ok-share.share in
+    let P : ℕ → Type 0 = λ n. IsShareOf c.args.auction.now c.args.bits (n + 1) c.in_ok-share.share
+    in
     record {
-      modelled = numbered_turn (g.S.Shelf.held c.args.shelf.now) (g.S.Shelf.held l.shelf) (λ n. shown_at c.args.auction.now c.args.bits (n + 1))
-          (λ files. shares_at c.args.auction.now c.args.bits c.args.auditors (rest_of c.args.lines.now files))
-          l.shares _ c.in_ok-share.share c.len.result (c.args.auditors - l.index) (c.args.auditors - (l.index + 1)) (λ files. rest_of l.lines files) (λ files. rest_of c.read_shown.new.lines files)
-          l.invariant.held (sym c.len.ensures) (omega arith) c.in_ok-push.ensures.pushed l.invariant.modelled c.in_ok-share.ensures.modelled;
-      count = one_longer l.shares _ c.in_ok-share.share l.index l.invariant.count c.in_ok-push.ensures.pushed;
-      right = rw c.in_ok-push.ensures.pushed (each_push (λ before. IsShareOf c.args.auction.now c.args.bits (length before + 1)) [] l.shares c.in_ok-share.share l.invariant.right
+      modelled = numbered_turn (g.S.Shelf.held c.args.shelf.now) (g.S.Shelf.held l.shelf)
+          (λ n. shown_at c.args.auction.now c.args.bits (n + 1))
+          (λ files. shares_at c.args.auction.now c.args.bits c.args.auditors
+          (rest_of c.args.lines.now files))
+          l.shares _ c.in_ok-share.share c.len.result (c.args.auditors - l.index)
+          (c.args.auditors - (l.index + 1)) (λ files. rest_of l.lines files)
+          (λ files. rest_of c.read_shown.new.lines files)
+          l.invariant.held (sym c.len.ensures) (omega arith) c.in_ok-push.ensures.pushed
+          l.invariant.modelled c.in_ok-share.ensures.modelled;
+      count = one_longer l.shares _ c.in_ok-share.share l.index l.invariant.count
+          c.in_ok-push.ensures.pushed;
+      right = rw c.in_ok-push.ensures.pushed
+          (each_push (λ before. IsShareOf c.args.auction.now c.args.bits (length before + 1)) []
+          l.shares c.in_ok-share.share l.invariant.right
           (subst P c.len.ensures c.in_ok-share.ensures.right));
       held = c.in_ok-share.ensures.shelf.held ∙ l.invariant.held;
       kept = c.in_ok-share.ensures.shelf.causes ∙ l.invariant.kept;
-      file = record { name = file.name ∙ l.invariant.file.name; size = file.size ∙ l.invariant.file.size };
+      file = record {
+        name = file.name ∙ l.invariant.file.name;
+        size = file.size
+            ∙ l.invariant.file.size;
+      };
     }
 
 pub returns-clause-modelled : goal.returns-clause-modelled
 returns-clause-modelled g c =
     let l = c.loop-index in
-    many_done (g.S.Shelf.held c.args.shelf.now) (λ before. shown_at c.args.auction.now c.args.bits (length before + 1))
-    (λ files. shares_at c.args.auction.now c.args.bits c.args.auditors (rest_of c.args.lines.now files))
-    l.shares (c.args.auditors - l.index) (λ files. rest_of l.lines files) (omega arith) l.invariant.modelled
+    many_done (g.S.Shelf.held c.args.shelf.now)
+    (λ before. shown_at c.args.auction.now c.args.bits (length before + 1))
+    (λ files. shares_at c.args.auction.now c.args.bits c.args.auditors
+    (rest_of c.args.lines.now files))
+    l.shares (c.args.auditors - l.index) (λ files. rest_of l.lines files) (omega arith)
+    l.invariant.modelled

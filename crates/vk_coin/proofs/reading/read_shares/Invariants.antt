@@ -9,8 +9,10 @@ use Rattle.vk_coin.proofs.reading.read_shares.Given as goal
 abbrev pub invariant-loop-index : goal.invariant-loop-index
 invariant-loop-index g l = record {
   modelled : IfSome (g.S.Shelf.held l.fn.shelf) (λ files.
-      many_onto l.shares (l.auditors - l.index) (λ before. shown_at l.auction l.bits (length before + 1)) (rest_of l.lines files)
-      ≡ many_onto [] l.auditors (λ before. shown_at l.auction l.bits (length before + 1)) (rest_of l.fn.lines files));
+      many_onto l.shares (l.auditors - l.index)
+      (λ before. shown_at l.auction l.bits (length before + 1)) (rest_of l.lines files)
+      ≡ many_onto [] l.auditors (λ before. shown_at l.auction l.bits (length before + 1))
+      (rest_of l.fn.lines files));
   count : length l.shares ≡ l.index;
   right : EachAfter (λ before. IsShareOf l.auction l.bits (length before + 1)) [] l.shares;
   held : g.S.Shelf.held l.shelf ≡ g.S.Shelf.held l.fn.shelf;

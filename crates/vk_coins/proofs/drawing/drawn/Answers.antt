@@ -10,4 +10,5 @@ returns-clause-share c =
     let order = c.args.order.now in
     c.in_ok-share.ensures.drawn
     ∙ (ap (drawn_share order.auction order.auditor order.lanes) c.of-words.ensures
-    ∙ ap (λ auditor. drawn_share order.auction order.auditor order.lanes (word_at order.seed order.auction (auditor_stream auditor))) c.from-stream.ensures)
+    ∙ ap (λ auditor. drawn_share order.auction order.auditor order.lanes
+    (word_at order.seed order.auction (auditor_stream auditor))) c.from-stream.ensures)

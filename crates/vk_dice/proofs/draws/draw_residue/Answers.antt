@@ -11,10 +11,13 @@ loop-tried-preserved g c =
     let n = 4 - c.loop-tried.tried in
     let m = 4 - (c.loop-tried.tried + 1) in
     let one : n ≡ suc m = omega arith in
-    let none : drawn_by (now 0) ≡ None = sym (c.in_default.ensures ∙ ap drawn_by c.next-word.ensures.word) in
+    let none : drawn_by (now 0) ≡ None =
+    sym (c.in_default.ensures ∙ ap drawn_by c.next-word.ensures.word) in
     record {
-      drawn = c.loop-tried.invariant.drawn ∙ within_others n m now new one none c.next-word.ensures.after;
-      after = c.loop-tried.invariant.after ∙ looked_others n m now new one none c.next-word.ensures.after;
+      drawn = c.loop-tried.invariant.drawn
+          ∙ within_others n m now new one none c.next-word.ensures.after;
+      after = c.loop-tried.invariant.after
+          ∙ looked_others n m now new one none c.next-word.ensures.after;
     }
 
 pub returns-clause-after : goal.returns-clause-after

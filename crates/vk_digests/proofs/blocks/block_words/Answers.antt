@@ -19,6 +19,7 @@ load-preserved c =
           let words = lane j c.load.words in
           let word = slice_index c.words_at.result j in
           let sixteen : length words ≡ 16 = rw length-map c.load.invariant.size in
-          ap (take (i + 1)) (lane_set j i c.load.words c.words_at.result) ∙ take_more_set words i word (omega arith)
+          ap (take (i + 1)) (lane_set j i c.load.words c.words_at.result)
+          ∙ take_more_set words i word (omega arith)
           ∙ rw (add-one, c.load.invariant.loaded j lt, c.words_at.ensures j lt) refl;
     }

@@ -6,5 +6,6 @@ use Rattle.vk_digests.proofs.blocks.block_words.Given as goal
 abbrev pub invariant-load : goal.invariant-load
 invariant-load l = record {
   size : length l.words ≡ 16;
-  loaded : (j : ℕ) → j < 4 → take l.i (lane j l.words) ≡ first_words (slice_index_or l.blocks j []) l.i;
+  loaded : (j : ℕ) → j < 4 → take l.i (lane j l.words)
+      ≡ first_words (slice_index_or l.blocks j []) l.i;
 }

@@ -7,5 +7,6 @@ pub returns-clause-block : goal.returns-clause-block
 returns-clause-block c =
     let end = drop 64 c.args.message.now in
     let copied : c.copy_from_slice.new.self ≡ end =
-    c.copy_from_slice.ensures.after ∙ take_all 4 end (omega (arith, length-drop 64 c.args.message.now)) in
+    c.copy_from_slice.ensures.after
+    ∙ take_all 4 end (omega (arith, length-drop 64 c.args.message.now)) in
     rw copied (sym (last_block_is c.args.message.now (omega arith)))

@@ -13,6 +13,7 @@ words-init c = record { size = refl; written = refl }
 pub words-preserved : goal.words-preserved
 words-preserved c = record {
   size = search (rules, overwrites);
-  written = digest_more c.words.out (lane c.args.j c.args.hash.now) _ c.words.i _ c.words.invariant.written (omega arith)
+  written = digest_more c.words.out (lane c.args.j c.args.hash.now) _ c.words.i _
+      c.words.invariant.written (omega arith)
       (c.copy_from_slice.ensures.after ∙ rw lane_at c.to_be_bytes.ensures);
 }

@@ -6,7 +6,8 @@ use Rattle.vk_digests.proofs.hashing.digests.Goals as goal
 
 -- four values are those of the four items
 mapped_four : (f : List ℕ → List ℕ) (items : List (List ℕ)) → length items ≡ 4 → (a b c d : List ℕ)
-    → a ≡ f (slice_index_or items 0 []) → b ≡ f (slice_index_or items 1 []) → c ≡ f (slice_index_or items 2 []) → d ≡ f (slice_index_or items 3 [])
+    → a ≡ f (slice_index_or items 0 []) → b ≡ f (slice_index_or items 1 [])
+    → c ≡ f (slice_index_or items 2 []) → d ≡ f (slice_index_or items 3 [])
     → a ∷ b ∷ c ∷ d ∷ [] ≡ map f items
 mapped_four f (w ∷ x ∷ y ∷ z ∷ []) four a b c d at_a at_b at_c at_d = rw (at_a, at_b, at_c, at_d)
 mapped_four f [] four a b c d at_a at_b at_c at_d = absurd (omega arith)
@@ -18,11 +19,14 @@ mapped_four f (w ∷ x ∷ y ∷ z ∷ v ∷ rest) four a b c d at_a at_b at_c a
 pub returns : goal.returns
 returns c =
     let messages = c.args.messages.now in
-    let hashed : (j : ℕ) → j < 4 → Hash (slice_index_or messages j []) (lane j c.compress-hash.result) =
+    let hashed : (j : ℕ) → j < 4
+    → Hash (slice_index_or messages j []) (lane j c.compress-hash.result) =
     λ j lt.
     let first = c.compress-first.ensures j lt _ (c.block_words.ensures j lt) in
     let last = c.compress-hash.ensures j lt _ (c.block_words-2.ensures j lt) in
-    last ∙ ap₂ compress (first ∙ ap₂ compress (c.initial_hash.ensures j lt) (c.first_blocks.ensures j lt)) (c.last_blocks.ensures.blocks j lt) in
+    last ∙ ap₂ compress (first
+    ∙ ap₂ compress (c.initial_hash.ensures j lt) (c.first_blocks.ensures j lt))
+    (c.last_blocks.ensures.blocks j lt) in
     let sizes = c.last_blocks.ensures.sizes in
     mapped_four sha256 messages c.told-messages _ _ _ _
     (c.digest.ensures ∙ digest_of_hash _ _ (sizes 0 (omega arith)) (hashed 0 (omega arith)))

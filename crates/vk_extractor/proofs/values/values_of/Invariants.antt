@@ -6,5 +6,6 @@ use Rattle.vk_extractor.proofs.values.values_of.Given as goal
 
 abbrev pub invariant-loop-wire : goal.invariant-loop-wire
 invariant-loop-wire l =
-    (case : LaneCase) (firsts seconds : List ℕ) → IsAcceptedLane l.plan case false l.zero firsts → IsAcceptedLane l.plan case true l.one seconds
+    (case : LaneCase) (firsts seconds : List ℕ) → IsAcceptedLane l.plan case false l.zero firsts
+    → IsAcceptedLane l.plan case true l.one seconds
     → l.values.items ≡ take l.wire (sums firsts seconds)

@@ -7,4 +7,6 @@ use Rattle.vk_files.proofs.named_ids.note.Goals as goal
 pub returns : goal.returns
 returns c =
     let P : List NamedId → Type 0 = λ opened. is_named opened c.args.id c.args.name.now ≡ true in
-    subst P (sym c.in_ok-push.ensures.items) (named_last c.args.opened.now.items (record { id = c.args.id; name = c.in_ok-name.name }) c.args.name.now c.in_ok-name.ensures.ok)
+    subst P (sym c.in_ok-push.ensures.items)
+    (named_last c.args.opened.now.items (record { id = c.args.id; name = c.in_ok-name.name })
+    c.args.name.now c.in_ok-name.ensures.ok)

@@ -7,7 +7,8 @@ abbrev pub invariant-loop-filled : goal.invariant-loop-filled
 invariant-loop-filled g l =
     record {
       within : l.filled ≤ length l.into;
-      bytes : Consumes (g.R.Read.remaining l.fn.reader) (g.R.Read.remaining l.reader) (take l.filled l.into);
+      bytes : Consumes (g.R.Read.remaining l.fn.reader) (g.R.Read.remaining l.reader)
+          (take l.filled l.into);
     }
 
 abbrev pub decreases-loop-filled : goal.decreases-loop-filled

@@ -7,7 +7,8 @@ abbrev pub invariant-loop-written : goal.invariant-loop-written
 invariant-loop-written g l =
     record {
       within : l.written ≤ length l.piece;
-      bytes : Appends (g.W.Write.contents l.fn.writer) (g.W.Write.contents l.writer) (take l.written l.piece);
+      bytes : Appends (g.W.Write.contents l.fn.writer) (g.W.Write.contents l.writer)
+          (take l.written l.piece);
     }
 
 abbrev pub decreases-loop-written : goal.decreases-loop-written

@@ -2,4 +2,10 @@ use Rattle.vk_house.proofs.Once.{call_keeps, run_keeps, keeps_same, keeps_on, an
 use Rattle.vk_house.proofs.laws.an_auction_is_answered_once.Goals as goal
 
 pub returns : goal.returns
-returns c = record { call = call_keeps; run = run_keeps; same = keeps_same; further = keeps_on; once = answered_once }
+returns c = record {
+  call = call_keeps;
+  run = run_keeps;
+  same = keeps_same;
+  further = keeps_on;
+  once = answered_once;
+}

@@ -9,11 +9,15 @@ pub returns-clause-decided : goal.returns-clause-decided
 returns-clause-decided c = λ id.
     subst (Decides step_of c.work_in-decision.result)
     (answer_step c.in_ok-auction.auction c.args.found c.in_ok-phase.phase id c.args.challenge.now
-    (search rules) c.in_ok-check_proved.ensures c.in_ok-check_length.ensures (sym c.in_ok-kept.ensures ∙ c.in_default.is) c.in_ok-phase.ensures)
+    (search rules) c.in_ok-check_proved.ensures c.in_ok-check_length.ensures
+    (sym c.in_ok-kept.ensures ∙ c.in_default.is) c.in_ok-phase.ensures)
     c.work_in-decision.ensures.decided
 
 pub returns-clause-answered : goal.returns-clause-answered
 returns-clause-answered c =
     let one = answered_one c.in_ok-auction.auction c.in_ok-phase.phase c.args.challenge.now
-    c.in_ok-check_proved.ensures (sym c.in_ok-kept.ensures ∙ c.in_default.is) c.in_ok-phase.ensures in
-    IfOk-weaker c.work_in-decision.result _ _ (λ decision is. ap (λ auction. challenge_of auction.phase) is ∙ one) c.work_in-decision.ensures.job
+    c.in_ok-check_proved.ensures (sym c.in_ok-kept.ensures ∙ c.in_default.is) c.in_ok-phase.ensures
+    in
+    IfOk-weaker c.work_in-decision.result _ _
+    (λ decision is. ap (λ auction. challenge_of auction.phase) is ∙ one)
+    c.work_in-decision.ensures.job

@@ -7,10 +7,12 @@ pub returns-clause-decided : goal.returns-clause-decided
 returns-clause-decided c = λ id.
     subst (Decides step_of c.work_in-decision.result)
     (prove_step c.in_ok-auction.auction c.args.found c.proved_phase-phase.result id c.args.seed.now
-    (search rules) c.in_ok-check_seals.ensures c.in_ok-check_seed.ensures c.proved_phase-phase.ensures)
+    (search rules) c.in_ok-check_seals.ensures c.in_ok-check_seed.ensures
+    c.proved_phase-phase.ensures)
     c.work_in-decision.ensures.decided
 
 pub returns-clause-memory : goal.returns-clause-memory
 returns-clause-memory c = λ is.
     prove_not_dry c.in_ok-auction.auction c.args.found c.proved_phase-phase.result c.args.seed.now
-    (search rules) c.in_ok-check_seed.ensures c.proved_phase-phase.ensures (c.work_in-decision.ensures.memory is)
+    (search rules) c.in_ok-check_seed.ensures c.proved_phase-phase.ensures
+    (c.work_in-decision.ensures.memory is)

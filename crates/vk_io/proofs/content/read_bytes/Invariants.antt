@@ -6,7 +6,8 @@ use Rattle.vk_io.proofs.content.read_bytes.Given as goal
 abbrev pub invariant-loop-at : goal.invariant-loop-at
 invariant-loop-at g l =
     record {
-      modelled : IfSome (g.S.Shelf.held l.fn.shelf) (λ files. l.bytes.items ≡ take l.at (bytes_of files l.name));
+      modelled : IfSome (g.S.Shelf.held l.fn.shelf)
+          (λ files. l.bytes.items ≡ take l.at (bytes_of files l.name));
       taken : length l.bytes.items ≡ l.at;
       within : l.at ≤ l.size;
       room : length l.piece ≡ 4096;

@@ -6,6 +6,7 @@ use Rattle.vk_io.proofs.named.write_over.Goals as goal
 
 pub returns-in_ok-push-in-None-clause-written : goal.returns-in_ok-push-in-None-clause-written
 returns-in_ok-push-in-None-clause-written c =
-    let absent = ap (λ fs. get (files_in fs) c.args.name.now) (sym c.deref.ensures.value) ∙ c.in-None.ensures.absent in
+    let absent = ap (λ fs. get (files_in fs) c.args.name.now) (sym c.deref.ensures.value)
+    ∙ c.in-None.ensures.absent in
     ap files_in c.in_ok-push-in-None.ensures.items
     ∙ push_file c.args.files.now.items _ c.args.name.now absent c.in_ok-name-in-None.ensures.ok

@@ -10,7 +10,8 @@ abbrev pub invariant-loop-index : goal.invariant-loop-index
 invariant-loop-index g l =
     let file : WrittenFile = slice_index_or (g.F.WrittenFiles.files l.files) l.file no_file in
     record {
-      begun : Modelled (Writes {E = OutsideErr} file.name (concat (take l.index file.pieces)) (Ok tt)) (g.S.Shelf.held l.fn.shelf) (g.S.Shelf.held l.shelf);
+      begun : Modelled (Writes {E = OutsideErr} file.name (concat (take l.index file.pieces))
+          (Ok tt)) (g.S.Shelf.held l.fn.shelf) (g.S.Shelf.held l.shelf);
       kept : g.S.Shelf.faults l.shelf ≡ g.S.Shelf.faults l.fn.shelf;
       wants : g.S.Shelf.wants l.shelf ≡ g.S.Shelf.wants l.fn.shelf;
     }

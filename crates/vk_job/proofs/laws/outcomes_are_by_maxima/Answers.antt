@@ -9,4 +9,5 @@ returns-clause-outcome c = outcome_is_vickrey
 
 pub returns-clause-no_other : goal.returns-clause-no_other
 returns-clause-no_other c bids winner price is =
-    outcome_is_one bids winner price (outcome_of bids).position (outcome_of bids).price is (outcome_is_vickrey bids (omega (arith, is.is_position.some, is.is_position.within)))
+    outcome_is_one bids winner price (outcome_of bids).position (outcome_of bids).price is
+    (outcome_is_vickrey bids (omega (arith, is.is_position.some, is.is_position.within)))

@@ -19,4 +19,5 @@ pub returns-clause-tapes : goal.returns-clause-tapes
 returns-clause-tapes c proof right lane some last = lane_tape_is proof lane right some last
 
 pub returns-clause-auction_tapes : goal.returns-clause-auction_tapes
-returns-clause-auction_tapes c auction proved lane some last = lane_tape_is (proof_of auction) lane (proof_is auction proved) some last
+returns-clause-auction_tapes c auction proved lane some last =
+    lane_tape_is (proof_of auction) lane (proof_is auction proved) some last

@@ -29,10 +29,13 @@ pub returns-clause-replies : goal.returns-clause-replies
 returns-clause-replies c proof is challenge right count = reply_is proof challenge is right count
 
 pub returns-clause-auction_lanes : goal.returns-clause-auction_lanes
-returns-clause-auction_lanes c auction proved = lanes_are (proof_of auction) (proof_is auction proved)
+returns-clause-auction_lanes c auction proved =
+    lanes_are (proof_of auction) (proof_is auction proved)
 
 pub returns-clause-auction_shown : goal.returns-clause-auction_shown
-returns-clause-auction_shown c auction proved bit lane some last = shown_is (proof_of auction) lane bit (proof_is auction proved) some last
+returns-clause-auction_shown c auction proved bit lane some last =
+    shown_is (proof_of auction) lane bit (proof_is auction proved) some last
 
 pub returns-clause-auction_replies : goal.returns-clause-auction_replies
-returns-clause-auction_replies c auction proved challenge right count = reply_is (proof_of auction) challenge (proof_is auction proved) right count
+returns-clause-auction_replies c auction proved challenge right count =
+    reply_is (proof_of auction) challenge (proof_is auction proved) right count

@@ -15,6 +15,8 @@ loop-index-preserved c =
       so_far =
           take_more_set c.loop-index.bids index bid (omega (arith, c.loop-index.invariant.room))
           ∙ ap (λ front. front ++ bid ∷ []) c.loop-index.invariant.so_far
-          ∙ ap (λ last. take index all ++ last ∷ []) (sym (get_or-map (λ row. row.secret.bid) rows index row 0 (omega arith)))
-          ∙ sym (ap (λ n. take n all) (add-one index) ∙ take-suc all index 0 (omega (arith, length-map rows (λ row. row.secret.bid))));
+          ∙ ap (λ last. take index all ++ last ∷ [])
+          (sym (get_or-map (λ row. row.secret.bid) rows index row 0 (omega arith)))
+          ∙ sym (ap (λ n. take n all) (add-one index)
+          ∙ take-suc all index 0 (omega (arith, length-map rows (λ row. row.secret.bid))));
     }

@@ -9,4 +9,5 @@ returns c =
     let auction = c.args.auction.now in
     let bids : take (length c.as_slice-rows.result.now) c.bids_of-bids.result ≡ bids_of auction =
     c.bids_of-bids.ensures ∙ ap (map (λ row. row.secret.bid)) c.as_slice-rows.ensures in
-    sale_same (bids_of auction) auction.reserve c.sale_of-sale.result (omega (arith, length_bids auction)) (rw bids at c.sale_of-sale.ensures.sale)
+    sale_same (bids_of auction) auction.reserve c.sale_of-sale.result
+    (omega (arith, length_bids auction)) (rw bids at c.sale_of-sale.ensures.sale)

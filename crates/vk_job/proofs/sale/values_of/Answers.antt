@@ -6,4 +6,9 @@ inputs_of-requires c = rw c.as_slice.ensures (bids_are_residues c.args.auction.n
 
 pub fill-requires : goal.fill-requires
 fill-requires c =
-    rw (c.circuit_of.ensures, c.as_slice-2.ensures.value, c.in_ok-inputs.ensures, c.as_slice.ensures) (claim_is c.args.auction.now c.requires.right c.requires.sealed)
+    rw (
+      c.circuit_of.ensures,
+      c.as_slice-2.ensures.value,
+      c.in_ok-inputs.ensures,
+      c.as_slice.ensures,
+    ) (claim_is c.args.auction.now c.requires.right c.requires.sealed)

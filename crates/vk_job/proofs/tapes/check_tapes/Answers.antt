@@ -7,23 +7,48 @@ use Rattle.vk_job.proofs.tapes.check_tapes.Goals as goal
 
 pub returns-in_err-check_tape : goal.returns-in_err-check_tape
 returns-in_err-check_tape c =
-    let source : TapeSource = record { id = c.args.id.now; rows = c.args.rows.now; lanes = c.args.lanes; seed = c.args.seed.now; further = c.args.further } in
+    let source : TapeSource = record {
+      id = c.args.id.now;
+      rows = c.args.rows.now;
+      lanes = c.args.lanes;
+      seed = c.args.seed.now;
+      further = c.args.further;
+    } in
     let lane = c.loop-before.before + 1 in
-    let dry = lane_refusal source lane (length c.args.rows.now) (words_ahead c.words_of.result) refl c.words_of.ensures in
+    let dry = lane_refusal source lane (length c.args.rows.now) (words_ahead c.words_of.result) refl
+    c.words_of.ensures in
     let refused : c.from_residual.result ≡ Err c.in_err-check_tape.field-0.0 = search rules in
     refused
     ∙ sym (dry_stop source lane (c.args.lanes - c.loop-before.before) (first_dry_in source)
-    c.in_err-check_tape.field-0.0 (omega arith) (sym dry ∙ sym c.in_err-check_tape.ensures) c.loop-before.invariant)
+    c.in_err-check_tape.field-0.0 (omega arith) (sym dry ∙ sym c.in_err-check_tape.ensures)
+    c.loop-before.invariant)
 
 pub loop-before-preserved : goal.loop-before-preserved
 loop-before-preserved c =
-    let source : TapeSource = record { id = c.args.id.now; rows = c.args.rows.now; lanes = c.args.lanes; seed = c.args.seed.now; further = c.args.further } in
+    let source : TapeSource = record {
+      id = c.args.id.now;
+      rows = c.args.rows.now;
+      lanes = c.args.lanes;
+      seed = c.args.seed.now;
+      further = c.args.further;
+    } in
     let lane = c.loop-before.before + 1 in
-    let dry = lane_refusal source lane (length c.args.rows.now) (words_ahead c.words_of.result) refl c.words_of.ensures in
-    dry_turn source lane (c.args.lanes - c.loop-before.before) (c.args.lanes - (c.loop-before.before + 1))
-    (first_dry_in source) (omega arith) (sym dry ∙ sym c.in_ok-check_tape.ensures) c.loop-before.invariant
+    let dry = lane_refusal source lane (length c.args.rows.now) (words_ahead c.words_of.result) refl
+    c.words_of.ensures in
+    dry_turn source lane (c.args.lanes - c.loop-before.before)
+    (c.args.lanes - (c.loop-before.before + 1))
+    (first_dry_in source) (omega arith) (sym dry ∙ sym c.in_ok-check_tape.ensures)
+    c.loop-before.invariant
 
 pub returns : goal.returns
 returns c =
-    let source : TapeSource = record { id = c.args.id.now; rows = c.args.rows.now; lanes = c.args.lanes; seed = c.args.seed.now; further = c.args.further } in
-    ap dry_refusal (sym (dry_done source (c.loop-before.before + 1) (c.args.lanes - c.loop-before.before) (first_dry_in source) (omega arith) c.loop-before.invariant))
+    let source : TapeSource = record {
+      id = c.args.id.now;
+      rows = c.args.rows.now;
+      lanes = c.args.lanes;
+      seed = c.args.seed.now;
+      further = c.args.further;
+    } in
+    ap dry_refusal (sym (dry_done source (c.loop-before.before + 1)
+    (c.args.lanes - c.loop-before.before) (first_dry_in source) (omega arith)
+    c.loop-before.invariant))

@@ -18,9 +18,11 @@ returns-in-Some-clause-kept c =
 pub returns-in_ok-push-in-None-clause-put : goal.returns-in_ok-push-in-None-clause-put
 returns-in_ok-push-in-None-clause-put c =
     ap ledger_in c.in_ok-push-in-None.ensures.items
-    ∙ push_auction c.args.auctions.now.items c.args.auction (rw c.deref.ensures.value at c.in-None.ensures.absent)
+    ∙ push_auction c.args.auctions.now.items c.args.auction
+    (rw c.deref.ensures.value at c.in-None.ensures.absent)
 
 pub returns-in_ok-push-in-None-clause-kept : goal.returns-in_ok-push-in-None-clause-kept
 returns-in_ok-push-in-None-clause-kept c =
     subst AreKept (sym c.in_ok-push-in-None.ensures.items)
-    (kept_push c.args.auctions.now.items c.args.auction c.requires.kept c.requires.right (rw c.deref.ensures.value at c.in-None.ensures.others))
+    (kept_push c.args.auctions.now.items c.args.auction c.requires.kept c.requires.right
+    (rw c.deref.ensures.value at c.in-None.ensures.others))

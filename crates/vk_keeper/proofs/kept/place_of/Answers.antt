@@ -8,15 +8,21 @@ use Rattle.vk_keeper.proofs.kept.place_of.Goals as goal
 pub returns-then-eq-clause-found : goal.returns-then-eq-clause-found
 returns-then-eq-clause-found c = λ d.
     c.loop-i.invariant.rest
-    ∙ get-next c.args.auctions.now c.loop-i.i c.index-auctions-i.result c.args.id.now true (omega arith) c.index-auctions-i.is (sym c.if-eq.true ∙ c.eq.ensures)
+    ∙ get-next c.args.auctions.now c.loop-i.i c.index-auctions-i.result c.args.id.now true
+    (omega arith) c.index-auctions-i.is (sym c.if-eq.true ∙ c.eq.ensures)
     ∙ ap Some (get_or_read c.args.auctions.now c.loop-i.i _ (omega arith) c.index-auctions-i.is d)
 
 pub loop-i-preserved : goal.loop-i-preserved
 loop-i-preserved c = record {
-  rest = c.loop-i.invariant.rest ∙ get-next c.args.auctions.now c.loop-i.i c.index-auctions-i.result c.args.id.now false (omega arith) c.index-auctions-i.is (sym c.if-eq.false ∙ c.eq.ensures);
-  before = λ k d h. below_more (λ j. (get_or c.args.auctions.now j d).id ≢ c.args.id.now) c.loop-i.i (λ j l. c.loop-i.invariant.before j d l)
+  rest = c.loop-i.invariant.rest
+      ∙ get-next c.args.auctions.now c.loop-i.i c.index-auctions-i.result c.args.id.now false
+      (omega arith) c.index-auctions-i.is (sym c.if-eq.false ∙ c.eq.ensures);
+  before = λ k d h. below_more (λ j. (get_or c.args.auctions.now j d).id ≢ c.args.id.now) c.loop-i.i
+      (λ j l. c.loop-i.invariant.before j d l)
       (λ same. true≢false (sym ((bytes_eq-Decides c.args.id.now c.index-auctions-i.result.id).1
-      (sym same ∙ ap (λ a. a.id) (sym (get_or_read c.args.auctions.now c.loop-i.i _ (omega arith) c.index-auctions-i.is d))))
+      (sym same ∙ ap (λ a. a.id)
+      (sym (get_or_read c.args.auctions.now c.loop-i.i _ (omega arith) c.index-auctions-i.is
+      d))))
       ∙ sym c.eq.ensures ∙ c.if-eq.false)) k h;
 }
 

@@ -8,6 +8,7 @@ use Rattle.vk_keeper.proofs.kept.place_of.Given as goal
 abbrev pub invariant-loop-i : goal.invariant-loop-i
 invariant-loop-i l =
     record {
-      rest : finite.get (ledger_in l.auctions) l.id ≡ finite.get (ledger_in (drop l.i l.auctions)) l.id;
+      rest : finite.get (ledger_in l.auctions) l.id
+          ≡ finite.get (ledger_in (drop l.i l.auctions)) l.id;
       before : (k : ℕ) (d : Auction) → k < l.i → (get_or l.auctions k d).id ≢ l.id;
     }

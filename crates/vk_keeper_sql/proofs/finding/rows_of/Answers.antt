@@ -8,9 +8,12 @@ pub returns-clause-read : goal.returns-clause-read
 unfolding auction_query terms_query seals_query
 returns-clause-read g c clean =
     let late : HasCleanDisk (state g.S.Store c.drop-transaction-2.new.self.0) = search rules in
-    let last : HasCleanDisk (state g.S.Store c.rows_under-3.new.transaction.conn.now) = omega (arith, c.drop-transaction-2.ensures.survives.clean) in
-    let two : HasCleanDisk (state g.S.Store c.rows_under-2.new.transaction.conn.now) = omega (arith, c.rows_under-3.ensures.crash.clean) in
-    let one : HasCleanDisk (state g.S.Store c.rows_under.new.transaction.conn.now) = omega (arith, c.rows_under-2.ensures.crash.clean) in
+    let last : HasCleanDisk (state g.S.Store c.rows_under-3.new.transaction.conn.now) =
+    omega (arith, c.drop-transaction-2.ensures.survives.clean) in
+    let two : HasCleanDisk (state g.S.Store c.rows_under-2.new.transaction.conn.now) =
+    omega (arith, c.rows_under-3.ensures.crash.clean) in
+    let one : HasCleanDisk (state g.S.Store c.rows_under.new.transaction.conn.now) =
+    omega (arith, c.rows_under-2.ensures.crash.clean) in
     record {
       one = c.rows_under.new.transaction.conn.now;
       head = rw c.transaction-transaction.ensures.begun at (c.in_ok-heads.ensures.rows one);

@@ -15,9 +15,13 @@ returns-in_err-write_rows g c =
     let Makes = Keeps g.S.Store c.args.auction.now old in
     let mid = store c.write_rows.new.transaction.conn.now in
     let inside = rw c.transaction-transaction.ensures.begun at c.write_rows.ensures.crash in
-    let whole = rolled_back_at_once g.S.Store old mid (store last) inside Makes c.from_residual.result c.from_residual.ensures.0 c.drop-transaction.ensures.survives in
+    let whole = rolled_back_at_once g.S.Store old mid (store last) inside Makes
+    c.from_residual.result c.from_residual.ensures.0 c.drop-transaction.ensures.survives in
     let same : last ≡ c.connection-1.given.0 = search rules in
-    record { crash = subst (λ h. CommitsAtOnce Makes (store old) (store h) c.from_residual.result) same whole }
+    record {
+      crash = subst (λ h. CommitsAtOnce Makes (store old) (store h) c.from_residual.result)
+          same whole;
+    }
 
 pub returns-in-Err : goal.returns-in-Err
 returns-in-Err g c =
@@ -28,8 +32,14 @@ returns-in-Err g c =
     let last = c.commit.new.self.0 in
     let refused = Err c.refused_statement.result in
     let inside = rw c.transaction-transaction.ensures.begun at c.write_rows.ensures.crash in
-    let made : HasCleanDisk mid → Makes mid.now.trees = λ clean. (c.write_rows.new.transaction.conn.now, rw c.transaction-transaction.ensures.begun at (c.in_ok-write_rows.ensures.wrote clean), refl) in
-    let whole = committed_at_once g.S.Store old mid (store last) inside Makes refused made c.commit.ensures.survives (λ clean. tt) in
+    let made : HasCleanDisk mid → Makes mid.now.trees =
+    λ clean. (
+      c.write_rows.new.transaction.conn.now,
+      rw c.transaction-transaction.ensures.begun at (c.in_ok-write_rows.ensures.wrote clean),
+      refl,
+    ) in
+    let whole = committed_at_once g.S.Store old mid (store last) inside Makes refused made
+    c.commit.ensures.survives (λ clean. tt) in
     let same : last ≡ c.connection-2-1.given.0 = search rules in
     record { crash = subst (λ h. CommitsAtOnce Makes (store old) (store h) refused) same whole }
 
@@ -41,7 +51,14 @@ returns-in-Ok g c =
     let Makes = Keeps g.S.Store c.args.auction.now old in
     let mid = store c.write_rows.new.transaction.conn.now in
     let inside = rw c.transaction-transaction.ensures.begun at c.write_rows.ensures.crash in
-    let made : HasCleanDisk mid → Makes mid.now.trees = λ clean. (c.write_rows.new.transaction.conn.now, rw c.transaction-transaction.ensures.begun at (c.in_ok-write_rows.ensures.wrote clean), refl) in
-    let whole = committed_at_once g.S.Store old mid (store last) inside Makes (Ok tt) made c.commit.ensures.survives (λ clean. ap (λ (d : Database). d.trees) (c.in-Ok.ensures.ok clean).1.committed_is) in
+    let made : HasCleanDisk mid → Makes mid.now.trees =
+    λ clean. (
+      c.write_rows.new.transaction.conn.now,
+      rw c.transaction-transaction.ensures.begun at (c.in_ok-write_rows.ensures.wrote clean),
+      refl,
+    ) in
+    let whole = committed_at_once g.S.Store old mid (store last) inside Makes (Ok tt) made
+    c.commit.ensures.survives
+    (λ clean. ap (λ (d : Database). d.trees) (c.in-Ok.ensures.ok clean).1.committed_is) in
     let same : last ≡ c.connection-2-1.given.0 = search rules in
     record { crash = subst (λ h. CommitsAtOnce Makes (store old) (store h) (Ok tt)) same whole }

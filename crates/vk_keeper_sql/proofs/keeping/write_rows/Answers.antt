@@ -7,9 +7,12 @@ use Rattle.vk_keeper_sql.proofs.keeping.write_rows.Goals as goal
 
 pub returns-clause-wrote : goal.returns-clause-wrote
 returns-clause-wrote g c clean =
-    let two : HasCleanDisk (state g.S.Store c.write_terms.new.transaction.conn.now) = omega (arith, c.write_seals.ensures.crash.clean) in
-    let one : HasCleanDisk (state g.S.Store c.write_auction.new.transaction.conn.now) = omega (arith, c.write_terms.ensures.crash.clean) in
-    let seals : c.as_slice.result.now ≡ map seal_texts c.args.auction.now.seals = c.as_slice.ensures ∙ ap (λ (t : Texts). t.seals) c.requires.texts in
+    let two : HasCleanDisk (state g.S.Store c.write_terms.new.transaction.conn.now) =
+    omega (arith, c.write_seals.ensures.crash.clean) in
+    let one : HasCleanDisk (state g.S.Store c.write_auction.new.transaction.conn.now) =
+    omega (arith, c.write_terms.ensures.crash.clean) in
+    let seals : c.as_slice.result.now ≡ map seal_texts c.args.auction.now.seals =
+    c.as_slice.ensures ∙ ap (λ (t : Texts). t.seals) c.requires.texts in
     record {
       one = c.write_auction.new.transaction.conn.now;
       two = c.write_terms.new.transaction.conn.now;

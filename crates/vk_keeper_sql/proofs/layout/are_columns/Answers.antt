@@ -5,5 +5,8 @@ use Rattle.vk_keeper_sql.proofs.layout.are_columns.Goals as goal
 
 pub loop-i-preserved : goal.loop-i-preserved
 loop-i-preserved c =
-    let within : c.loop-i.i < length c.args.wanted.now = omega (arith, c.if-columns-wanted.false, c.loop-i-test.true) in
-    alike_next shape_of _ c.args.columns.now c.args.wanted.now c.loop-i.i c.index-columns-i.result _ c.loop-i-test.true within c.index-columns-i.is c.loop-i.invariant (c.if-not-is_column.ensures refl)
+    let within : c.loop-i.i < length c.args.wanted.now =
+    omega (arith, c.if-columns-wanted.false, c.loop-i-test.true) in
+    alike_next shape_of _ c.args.columns.now c.args.wanted.now c.loop-i.i c.index-columns-i.result _
+    c.loop-i-test.true within c.index-columns-i.is c.loop-i.invariant
+    (c.if-not-is_column.ensures refl)

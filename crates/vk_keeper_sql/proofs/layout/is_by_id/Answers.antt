@@ -5,4 +5,5 @@ use Rattle.vk_keeper_sql.proofs.layout.is_by_id.Goals as goal
 pub returns-in-len1 : goal.returns-in-len1
 returns-in-len1 c = λ yes.
     let id : c.id-item.result ≡ 1 ∷ [] = sym c.as_slice-in-len1.ensures ∙ c.are.ensures yes in
-    sym c.as_slice.ensures ∙ only c.as_slice.result.now c.id-item.result c.in-len1.len_at_least c.in-len1.len_below c.id-item.is ∙ ap (λ key. key ∷ []) id
+    sym c.as_slice.ensures ∙ only c.as_slice.result.now c.id-item.result c.in-len1.len_at_least
+    c.in-len1.len_below c.id-item.is ∙ ap (λ key. key ∷ []) id

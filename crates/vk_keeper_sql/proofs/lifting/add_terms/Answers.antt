@@ -11,10 +11,15 @@ loop-row-preserved g c =
     let mid = c.loop-row.transaction.conn.now in
     let last = c.add_first_terms.new.transaction.conn.now in
     record {
-      same_reference = c.add_first_terms.ensures.same_reference ∙ c.loop-row.invariant.same_reference;
+      same_reference = c.add_first_terms.ensures.same_reference
+          ∙ c.loop-row.invariant.same_reference;
       added = λ clean.
-          let was : HasCleanDisk (state g.S.Store mid) = omega (arith, c.add_first_terms.ensures.crash.clean) in
-          terms_next g.S.Store c.args.ids.now c.loop-row.row-index c.row-item.result first mid last c.loop-row-test.true c.row-item.is
+          let was : HasCleanDisk (state g.S.Store mid) =
+          omega (arith, c.add_first_terms.ensures.crash.clean) in
+          terms_next g.S.Store c.args.ids.now c.loop-row.row-index c.row-item.result first mid last
+          c.loop-row-test.true c.row-item.is
           (c.loop-row.invariant.added was) (c.in_ok-add_first_terms.ensures.ran clean);
-      crash = survives_then (state g.S.Store first) (state g.S.Store mid) (state g.S.Store last) _ _ _ (λ _ db no. no) (λ _ db no. no) c.loop-row.invariant.crash c.add_first_terms.ensures.crash;
+      crash = survives_then (state g.S.Store first) (state g.S.Store mid) (state g.S.Store last) _ _
+          _ (λ _ db no. no) (λ _ db no. no) c.loop-row.invariant.crash
+          c.add_first_terms.ensures.crash;
     }

@@ -9,6 +9,9 @@ use Rattle.vk_keeper_sql.proofs.lifting.add_terms.Given as goal
 abbrev pub invariant-loop-row : goal.invariant-loop-row
 invariant-loop-row g l = record {
   same_reference : l.transaction.conn.ghost_name ≡ l.fn.transaction.conn.ghost_name;
-  added : HasCleanDisk (state g.S.Store l.transaction.conn.now) → AddsTerms g.S.Store (take l.row-index l.ids) l.fn.transaction.conn.now l.transaction.conn.now;
-  crash : CommitsNothing (state g.S.Store l.fn.transaction.conn.now) (state g.S.Store l.transaction.conn.now);
+  added : HasCleanDisk (state g.S.Store l.transaction.conn.now)
+      → AddsTerms g.S.Store (take l.row-index l.ids) l.fn.transaction.conn.now
+      l.transaction.conn.now;
+  crash : CommitsNothing (state g.S.Store l.fn.transaction.conn.now)
+      (state g.S.Store l.transaction.conn.now);
 }

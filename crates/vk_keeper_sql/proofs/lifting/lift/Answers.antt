@@ -7,9 +7,12 @@ use Rattle.vk_keeper_sql.proofs.lifting.lift.Goals as goal
 pub returns-clause-lifted : goal.returns-clause-lifted
 unfolding make_terms next_number ids_query
 returns-clause-lifted g c clean =
-    let filled : HasCleanDisk (state g.S.Store c.add_terms.new.transaction.conn.now) = omega (arith, c.run-2.ensures.crash.clean) in
-    let asked : HasCleanDisk (state g.S.Store c.ask.new.transaction.conn.now) = omega (arith, c.add_terms.ensures.crash.clean) in
-    let made : HasCleanDisk (state g.S.Store c.run.new.transaction.conn.now) = omega (arith, c.ask.ensures.crash.clean) in
+    let filled : HasCleanDisk (state g.S.Store c.add_terms.new.transaction.conn.now) =
+    omega (arith, c.run-2.ensures.crash.clean) in
+    let asked : HasCleanDisk (state g.S.Store c.ask.new.transaction.conn.now) =
+    omega (arith, c.add_terms.ensures.crash.clean) in
+    let made : HasCleanDisk (state g.S.Store c.run.new.transaction.conn.now) =
+    omega (arith, c.ask.ensures.crash.clean) in
     record {
       made = c.run.new.transaction.conn.now;
       asked = c.ask.new.transaction.conn.now;

@@ -11,6 +11,7 @@ loop-row-preserved c =
     record {
       right = c.join.ensures.right;
       same = search rules;
-      shown = rw joined (show_read c.args.rows.now before.seals c.loop-row.row-index c.row-item.result kept c.loop-row-test.true c.row-item.is c.loop-row.invariant.shown
+      shown = rw joined (show_read c.args.rows.now before.seals c.loop-row.row-index
+          c.row-item.result kept c.loop-row-test.true c.row-item.is c.loop-row.invariant.shown
           (rw c.len-position.ensures at c.in_ok-row.ensures.shown));
     }

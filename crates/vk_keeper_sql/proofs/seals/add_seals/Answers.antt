@@ -15,7 +15,9 @@ loop-i-preserved g c =
       same_reference = c.add_seal.ensures.same_reference ∙ c.loop-i.invariant.same_reference;
       added = λ clean.
           let was : HasCleanDisk (store mid) = omega (arith, c.add_seal.ensures.crash.clean) in
-          add_next g.S.Store c.args.id.now c.args.before c.args.seals.now c.loop-i.i c.index-seals-i.result first mid last c.loop-i-test.true c.index-seals-i.is
+          add_next g.S.Store c.args.id.now c.args.before c.args.seals.now c.loop-i.i
+          c.index-seals-i.result first mid last c.loop-i-test.true c.index-seals-i.is
           (c.loop-i.invariant.added was) (c.in_ok-add_seal.ensures.ran clean);
-      crash = survives_then (store first) (store mid) (store last) _ _ _ (λ _ db no. no) (λ _ db no. no) c.loop-i.invariant.crash c.add_seal.ensures.crash;
+      crash = survives_then (store first) (store mid) (store last) _ _ _ (λ _ db no. no)
+          (λ _ db no. no) c.loop-i.invariant.crash c.add_seal.ensures.crash;
     }

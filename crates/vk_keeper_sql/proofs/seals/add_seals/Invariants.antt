@@ -9,6 +9,9 @@ use Rattle.vk_keeper_sql.proofs.seals.add_seals.Given as goal
 abbrev pub invariant-loop-i : goal.invariant-loop-i
 invariant-loop-i g l = record {
   same_reference : l.transaction.conn.ghost_name ≡ l.fn.transaction.conn.ghost_name;
-  added : HasCleanDisk (state g.S.Store l.transaction.conn.now) → AddsSeals g.S.Store l.id l.before (take l.i l.seals) l.fn.transaction.conn.now l.transaction.conn.now;
-  crash : CommitsNothing (state g.S.Store l.fn.transaction.conn.now) (state g.S.Store l.transaction.conn.now);
+  added : HasCleanDisk (state g.S.Store l.transaction.conn.now)
+      → AddsSeals g.S.Store l.id l.before (take l.i l.seals) l.fn.transaction.conn.now
+      l.transaction.conn.now;
+  crash : CommitsNothing (state g.S.Store l.fn.transaction.conn.now)
+      (state g.S.Store l.transaction.conn.now);
 }

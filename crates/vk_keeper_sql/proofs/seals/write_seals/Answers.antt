@@ -7,8 +7,10 @@ use Rattle.vk_keeper_sql.proofs.seals.write_seals.Goals as goal
 pub returns-clause-wrote : goal.returns-clause-wrote
 unfolding seals_query
 returns-clause-wrote g c clean =
-    let asked : HasCleanDisk (state g.S.Store c.rows_under.new.transaction.conn.now) = omega (arith, c.clear_seals.ensures.crash.clean, c.add_seals.ensures.crash.clean) in
-    let cleared : HasCleanDisk (state g.S.Store c.clear_seals.new.transaction.conn.now) = omega (arith, c.add_seals.ensures.crash.clean) in
+    let asked : HasCleanDisk (state g.S.Store c.rows_under.new.transaction.conn.now) =
+    omega (arith, c.clear_seals.ensures.crash.clean, c.add_seals.ensures.crash.clean) in
+    let cleared : HasCleanDisk (state g.S.Store c.clear_seals.new.transaction.conn.now) =
+    omega (arith, c.add_seals.ensures.crash.clean) in
     record {
       asked = c.rows_under.new.transaction.conn.now;
       cleared = c.clear_seals.new.transaction.conn.now;

@@ -8,5 +8,8 @@ is_inside false never = absurd (never refl)
 
 pub returns-in-Ok-clause-ran : goal.returns-in-Ok-clause-ran
 unfolding Ran
-returns-in-Ok-clause-ran g c clean =
-    (c.in-Ok.field-0, c.in-Ok.ensures.runs clean (is_inside _ (λ outside. let refused = (c.in-Ok.ensures.ended outside).0 in cc)))
+returns-in-Ok-clause-ran g c clean = (
+  c.in-Ok.field-0,
+  c.in-Ok.ensures.runs clean
+      (is_inside _ (λ outside. let refused = (c.in-Ok.ensures.ended outside).0 in cc)),
+)

@@ -14,9 +14,13 @@ returns-in_err-prepare_within g c =
     let mid = state g.S.Store c.prepare_within.new.transaction.conn.now in
     let last = c.drop-transaction.new.self.0 in
     let inside = rw c.transaction-transaction.ensures.begun at c.prepare_within.ensures.crash in
-    let whole = rolled_back_at_once g.S.Store old mid (state g.S.Store last) inside Makes c.from_residual.result c.from_residual.ensures.0 c.drop-transaction.ensures.survives in
+    let whole = rolled_back_at_once g.S.Store old mid (state g.S.Store last) inside Makes
+    c.from_residual.result c.from_residual.ensures.0 c.drop-transaction.ensures.survives in
     let same : last ≡ c.connection-1.given.0 = search rules in
-    record { crash = subst (λ h. CommitsAtOnce Makes (state g.S.Store old) (state g.S.Store h) c.from_residual.result) same whole }
+    record {
+      crash = subst (λ h. CommitsAtOnce Makes (state g.S.Store old) (state g.S.Store h)
+          c.from_residual.result) same whole;
+    }
 
 pub returns-in-Err : goal.returns-in-Err
 returns-in-Err g c =
@@ -26,10 +30,24 @@ returns-in-Err g c =
     let last = c.commit.new.self.0 in
     let refused = Err c.from.result in
     let inside = rw c.transaction-transaction.ensures.begun at c.prepare_within.ensures.crash in
-    let made : HasCleanDisk mid → Makes mid.now.trees = λ clean. (c.args.layout, c.requires.layout, (c.prepare_within.new.transaction.conn.now, rw c.transaction-transaction.ensures.begun at (c.in_ok-prepare_within.ensures.prepared clean), refl)) in
-    let whole = committed_at_once g.S.Store old mid (state g.S.Store last) inside Makes refused made c.commit.ensures.survives (λ clean. tt) in
+    let made : HasCleanDisk mid → Makes mid.now.trees =
+    λ clean. (
+      c.args.layout,
+      c.requires.layout,
+      (
+        c.prepare_within.new.transaction.conn.now,
+        rw c.transaction-transaction.ensures.begun at
+            (c.in_ok-prepare_within.ensures.prepared clean),
+        refl,
+      ),
+    ) in
+    let whole = committed_at_once g.S.Store old mid (state g.S.Store last) inside Makes refused made
+    c.commit.ensures.survives (λ clean. tt) in
     let same : last ≡ c.connection-2-1.given.0 = search rules in
-    record { crash = subst (λ h. CommitsAtOnce Makes (state g.S.Store old) (state g.S.Store h) refused) same whole }
+    record {
+      crash = subst (λ h. CommitsAtOnce Makes (state g.S.Store old) (state g.S.Store h)
+          refused) same whole;
+    }
 
 pub returns-in-Ok : goal.returns-in-Ok
 returns-in-Ok g c =
@@ -38,7 +56,22 @@ returns-in-Ok g c =
     let Makes = Prepares g.S.Store old in
     let mid = state g.S.Store c.prepare_within.new.transaction.conn.now in
     let inside = rw c.transaction-transaction.ensures.begun at c.prepare_within.ensures.crash in
-    let made : HasCleanDisk mid → Makes mid.now.trees = λ clean. (c.args.layout, c.requires.layout, (c.prepare_within.new.transaction.conn.now, rw c.transaction-transaction.ensures.begun at (c.in_ok-prepare_within.ensures.prepared clean), refl)) in
-    let whole = committed_at_once g.S.Store old mid (state g.S.Store last) inside Makes (Ok tt) made c.commit.ensures.survives (λ clean. ap (λ (d : Database). d.trees) (c.in-Ok.ensures.ok clean).1.committed_is) in
+    let made : HasCleanDisk mid → Makes mid.now.trees =
+    λ clean. (
+      c.args.layout,
+      c.requires.layout,
+      (
+        c.prepare_within.new.transaction.conn.now,
+        rw c.transaction-transaction.ensures.begun at
+            (c.in_ok-prepare_within.ensures.prepared clean),
+        refl,
+      ),
+    ) in
+    let whole = committed_at_once g.S.Store old mid (state g.S.Store last) inside Makes (Ok tt) made
+    c.commit.ensures.survives
+    (λ clean. ap (λ (d : Database). d.trees) (c.in-Ok.ensures.ok clean).1.committed_is) in
     let same : last ≡ c.connection-2-1.given.0 = search rules in
-    record { crash = subst (λ h. CommitsAtOnce Makes (state g.S.Store old) (state g.S.Store h) (Ok tt)) same whole }
+    record {
+      crash = subst (λ h. CommitsAtOnce Makes (state g.S.Store old) (state g.S.Store h)
+          (Ok tt)) same whole;
+    }

@@ -12,18 +12,24 @@ past : {X : Type 0} (xs : List X) (i : ℕ) → IsNone (slice_get xs i) ↔ (len
 past [] i = (λ _. omega arith, λ _. refl)
 past (x ∷ xs) zero = (λ none. absurd (true≢false none), λ short. absurd (omega arith))
 past (x ∷ xs) (suc i) =
-    let before = past xs i in (λ none. omega (arith, before.0 none), λ short. before.1 (omega arith))
+    let before = past xs i in (
+      λ none. omega (arith, before.0 none),
+      λ short. before.1 (omega arith),
+    )
 
-shown : {A X : Type 0} (show : A → X) (result : Option A) (o : Option X) (P : Type 0) → option_map show result ≡ o → IsNone o ↔ P → IsNone result ↔ P
+shown : {A X : Type 0} (show : A → X) (result : Option A) (o : Option X) (P : Type 0)
+    → option_map show result ≡ o → IsNone o ↔ P → IsNone result ↔ P
 shown show None o P same none = subst (λ p. IsNone p ↔ P) (sym same) none
 shown show (Some a) o P same none = subst (λ p. IsNone p ↔ P) (sym same) none
 
 pub returns-clause-bytes : goal.returns-clause-bytes
 returns-clause-bytes c =
     nth_from_yields_List c.nth.result c.nth.new.self c.args.index c.nth.ensures.ran
-    (YieldsList-from_slice_split _ _ c.args.text.now c.split.ensures.rest c.split.ensures.done c.split.ensures.closure (λ x r q k. search (rules, tests)))
+    (YieldsList-from_slice_split _ _ c.args.text.now c.split.ensures.rest c.split.ensures.done
+    c.split.ensures.closure (λ x r q k. search (rules, tests)))
 
 pub returns-clause-none : goal.returns-clause-none
 returns-clause-none c =
-    shown (λ x. x.now) c.nth.result (slice_get (fields_of c.args.text.now) c.args.index) (length (fields_of c.args.text.now) ≤ c.args.index)
+    shown (λ x. x.now) c.nth.result (slice_get (fields_of c.args.text.now) c.args.index)
+    (length (fields_of c.args.text.now) ≤ c.args.index)
     (returns-clause-bytes c) (past (fields_of c.args.text.now) c.args.index)

@@ -6,4 +6,5 @@ use Rattle.vk_lines.proofs.digests.push_digests_lines.Given as goal
 abbrev pub invariant-loop-item : goal.invariant-loop-item
 invariant-loop-item g l =
     l.out.items ≡ l.fn.out.items
-    ++ flat_map (λ item. line (digests_text l.word (g.C.TwoDigests.first_of item) (g.C.TwoDigests.second_of item))) (take l.item-index l.items)
+    ++ flat_map (λ item. line (digests_text l.word (g.C.TwoDigests.first_of item)
+    (g.C.TwoDigests.second_of item))) (take l.item-index l.items)

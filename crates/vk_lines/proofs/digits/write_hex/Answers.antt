@@ -7,8 +7,10 @@ use Rattle.vk_lines.proofs.digits.write_hex.Goals as goal
 pub loop-index-preserved : goal.loop-index-preserved
 loop-index-preserved c = record {
   room = length-set _ _ _ ∙ length-set _ _ _ ∙ c.loop-index.invariant.room;
-  digits = encode_step lower_digits c.args.bytes.now c.loop-index.text c.loop-index.index _ _ c.loop-index-test.true
-      (omega (arith, c.loop-index.invariant.room, c.loop-index-test.true)) c.hex_digit.ensures c.hex_digit-in-loop-index.ensures c.loop-index.invariant.digits;
+  digits = encode_step lower_digits c.args.bytes.now c.loop-index.text c.loop-index.index _ _
+      c.loop-index-test.true
+      (omega (arith, c.loop-index.invariant.room, c.loop-index-test.true)) c.hex_digit.ensures
+      c.hex_digit-in-loop-index.ensures c.loop-index.invariant.digits;
 }
 
 pub returns : goal.returns

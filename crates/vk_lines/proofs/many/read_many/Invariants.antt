@@ -8,8 +8,10 @@ use Rattle.vk_lines.proofs.many.read_many.Given as goal
 abbrev pub invariant-loop-number : goal.invariant-loop-number
 invariant-loop-number g l = record {
   modelled : IfSome (g.S.Shelf.held l.fn.shelf) (λ files.
-      many_onto l.items.items (l.count - l.number) (λ before. line_by (g.K.LineKind.item_of l.kind (length before))) (rest_of l.lines files)
-      ≡ many_onto [] l.count (λ before. line_by (g.K.LineKind.item_of l.kind (length before))) (rest_of l.fn.lines files));
+      many_onto l.items.items (l.count - l.number)
+      (λ before. line_by (g.K.LineKind.item_of l.kind (length before))) (rest_of l.lines files)
+      ≡ many_onto [] l.count (λ before. line_by (g.K.LineKind.item_of l.kind (length before)))
+      (rest_of l.fn.lines files));
   count : length l.items.items ≡ l.number;
   each : EachNumbered (g.K.LineKind.is_item l.kind) l.items.items;
   file : KeepsFile l.fn.lines l.lines;

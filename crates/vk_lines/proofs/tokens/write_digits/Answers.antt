@@ -14,7 +14,8 @@ loop-rest-init c = record {
 
 pub overflow_sub-start : goal.overflow_sub-start
 overflow_sub-start c =
-    let long = length-decimal_step c.loop-rest.rest c.loop-rest-test.true (omega arith) in omega arith
+    let long = length-decimal_step c.loop-rest.rest c.loop-rest-test.true (omega arith) in
+    omega arith
 
 pub loop-rest-preserved : goal.loop-rest-preserved
 loop-rest-preserved c =
@@ -26,7 +27,8 @@ loop-rest-preserved c =
       within = omega arith;
       less = omega arith;
       written = rw (drop-set l.digits (l.start - 1) (48 + l.rest % 10) (omega arith), next)
-          (rw (decimal_step l.rest c.loop-rest-test.true (omega arith), append_assoc) at l.invariant.written);
+          (rw (decimal_step l.rest c.loop-rest-test.true (omega arith), append_assoc) at
+          l.invariant.written);
     }
 
 pub overflow_sub-start-2 : goal.overflow_sub-start-2

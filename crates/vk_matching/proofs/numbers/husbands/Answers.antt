@@ -6,4 +6,5 @@ pub returns-clause-husbands : goal.returns-clause-husbands
 returns-clause-husbands c =
     let wives = c.args.wives.now in
     let all : c.loop-place.place ≡ length wives = omega arith in
-    entered_are wives c.loop-place.husbands.items (subst (AreEntered wives c.loop-place.husbands.items) all c.loop-place.invariant)
+    entered_are wives c.loop-place.husbands.items
+    (subst (AreEntered wives c.loop-place.husbands.items) all c.loop-place.invariant)

@@ -5,12 +5,15 @@ use Rattle.vk_prover.proofs.honest.answer_lane.Goals as goal
 
 pub loop-wire-preserved : goal.loop-wire-preserved
 loop-wire-preserved c =
-    each_wire_turn (shown_of c.args.bit) c.args.plan.now.kinds c.args.values.now c.args.tape.now.wires c.loop-wire.wire c.loop-wire.shown c.push.new.self c.show_wire.result
+    each_wire_turn (shown_of c.args.bit) c.args.plan.now.kinds c.args.values.now
+    c.args.tape.now.wires c.loop-wire.wire c.loop-wire.shown c.push.new.self c.show_wire.result
     (honest_reply c.args.plan.now.kinds c.args.values.now c.args.tape.now.wires c.args.bit)
-    (omega arith) c.requires.holds.one_each c.requires.one_each c.in_ok-push.ensures.pushed c.show_wire.ensures c.loop-wire.invariant
+    (omega arith) c.requires.holds.one_each c.requires.one_each c.in_ok-push.ensures.pushed
+    c.show_wire.ensures c.loop-wire.invariant
 
 pub returns : goal.returns
 returns c =
-    each_wire_done (shown_of c.args.bit) c.args.plan.now.kinds c.args.values.now c.args.tape.now.wires c.loop-wire.wire c.loop-wire.shown
+    each_wire_done (shown_of c.args.bit) c.args.plan.now.kinds c.args.values.now
+    c.args.tape.now.wires c.loop-wire.wire c.loop-wire.shown
     (honest_reply c.args.plan.now.kinds c.args.values.now c.args.tape.now.wires c.args.bit)
     (omega arith) c.loop-wire.invariant

@@ -11,10 +11,14 @@ loop-two-preserved c =
     let made = com_of c.args.wires.now.auction.now c.args.wires.now.lane [] in
     let w = c.inputs-inputs.result + 2 * c.loop-two.two in
     let few : plan.inputs ≤ length plan.kinds = inputs_within plan c.inputs-inputs.ensures.plan in
-    let one = each_wire_turn made plan.kinds values c.args.wires.now.tape.now.wires w c.loop-two.coms c.push.new.self c.make_two.result.0 _
-    (omega arith) c.requires.holds.one_each c.requires.one_each c.in_ok-push.ensures.pushed (c.make_two.ensures.first ∙ c.honest_wire-first.ensures.coms) c.loop-two.invariant in
-    let two = each_wire_turn made plan.kinds values c.args.wires.now.tape.now.wires (w + 1) c.push.new.self c.push-in-loop-two.new.self c.make_two.result.1 _
-    (omega arith) c.requires.holds.one_each c.requires.one_each c.in_ok-push-2.ensures.pushed (c.make_two.ensures.second ∙ c.honest_wire-second.ensures.coms) one in
+    let one = each_wire_turn made plan.kinds values c.args.wires.now.tape.now.wires w
+    c.loop-two.coms c.push.new.self c.make_two.result.0 _
+    (omega arith) c.requires.holds.one_each c.requires.one_each c.in_ok-push.ensures.pushed
+    (c.make_two.ensures.first ∙ c.honest_wire-first.ensures.coms) c.loop-two.invariant in
+    let two = each_wire_turn made plan.kinds values c.args.wires.now.tape.now.wires (w + 1)
+    c.push.new.self c.push-in-loop-two.new.self c.make_two.result.1 _
+    (omega arith) c.requires.holds.one_each c.requires.one_each c.in_ok-push-2.ensures.pushed
+    (c.make_two.ensures.second ∙ c.honest_wire-second.ensures.coms) one in
     let next : w + 1 + 1 ≡ c.inputs-inputs.result + 2 * (c.loop-two.two + 1) = omega arith in
     rw next at two
 
@@ -28,9 +32,13 @@ returns c =
     elim c.if-count-eq1.branch [
       | then-count-eq1+in_ok-push-3 b ↦
           let at : b.wires-then-count-eq1.result - 1 ≡ w = omega arith in
-          let last = each_wire_turn made plan.kinds values c.args.wires.now.tape.now.wires w c.loop-two.coms b.push-then-count-eq1.new.self b.make.result _
-          (omega arith) c.requires.holds.one_each c.requires.one_each b.in_ok-push-3.ensures.pushed (b.make.ensures ∙ rw at at b.honest_wire-last.ensures.coms) c.loop-two.invariant in
-          b.coms-is ∙ each_wire_done made plan.kinds values c.args.wires.now.tape.now.wires (w + 1) b.push-then-count-eq1.new.self _ (omega arith) last
+          let last = each_wire_turn made plan.kinds values c.args.wires.now.tape.now.wires w
+          c.loop-two.coms b.push-then-count-eq1.new.self b.make.result _
+          (omega arith) c.requires.holds.one_each c.requires.one_each b.in_ok-push-3.ensures.pushed
+          (b.make.ensures ∙ rw at at b.honest_wire-last.ensures.coms) c.loop-two.invariant in
+          b.coms-is ∙ each_wire_done made plan.kinds values c.args.wires.now.tape.now.wires (w + 1)
+          b.push-then-count-eq1.new.self _ (omega arith) last
       | else-count-eq1 b ↦
-          b.coms-is ∙ each_wire_done made plan.kinds values c.args.wires.now.tape.now.wires w c.loop-two.coms _ (omega arith) c.loop-two.invariant
+          b.coms-is ∙ each_wire_done made plan.kinds values c.args.wires.now.tape.now.wires w
+          c.loop-two.coms _ (omega arith) c.loop-two.invariant
     ]

@@ -5,4 +5,5 @@ use Rattle.vk_range.proofs.selected.selector_wires.Goals as goal
 
 pub loop-place-preserved : goal.loop-place-preserved
 loop-place-preserved c =
-    listed_push (λ _. Pair 0) [] c.loop-place.kinds.items c.push.new.self.items (Pair 0) c.loop-place._place c.in_ok-push.ensures.items c.loop-place.invariant refl
+    listed_push (λ _. Pair 0) [] c.loop-place.kinds.items c.push.new.self.items (Pair 0)
+    c.loop-place._place c.in_ok-push.ensures.items c.loop-place.invariant refl

@@ -8,7 +8,8 @@ use Rattle.vk_report.proofs.reading.read_lanes.Given as goal
 -- what is left gives the rest of the lanes
 abbrev pub invariant-loop-index : goal.invariant-loop-index
 invariant-loop-index g l = record {
-  passed : HasPassed (g.S.Shelf.held l.fn.shelf) (shape_of l.report) l.index (l.report.head.lanes - l.index) (λ files. rest_of l.lines files)
+  passed : HasPassed (g.S.Shelf.held l.fn.shelf) (shape_of l.report) l.index
+      (l.report.head.lanes - l.index) (λ files. rest_of l.lines files)
       (λ files. lanes_at (λ _. shape_of l.report) l.report.head (rest_of l.fn.lines files));
   held : g.S.Shelf.held l.shelf ≡ g.S.Shelf.held l.fn.shelf;
   kept : g.S.Shelf.faults l.shelf ≡ g.S.Shelf.faults l.fn.shelf;

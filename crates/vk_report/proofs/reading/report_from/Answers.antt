@@ -7,8 +7,12 @@ pub returns-clause-right : goal.returns-clause-right
 returns-clause-right c = record {
   head = c.requires.head;
   price = c.requires.price;
-  winner = rw c.in_ok-seats.ensures (rw c.as_slice.ensures (winner_is c.args.front.now.seals c.args.front.now.head.winner c.args.front.now.position c.requires.winner));
-  seats = ap length c.in_ok-seats.ensures ∙ rw c.as_slice.ensures (length-map c.args.front.now.seals (λ seal. seal.seat) ∙ c.requires.seals.count);
+  winner = rw c.in_ok-seats.ensures
+      (rw c.as_slice.ensures (winner_is c.args.front.now.seals c.args.front.now.head.winner
+      c.args.front.now.position c.requires.winner));
+  seats = ap length c.in_ok-seats.ensures
+      ∙ rw c.as_slice.ensures (length-map c.args.front.now.seals (λ seal. seal.seat)
+      ∙ c.requires.seals.count);
   wires = c.wires_of.ensures;
   rows = c.rows_of.ensures;
 }

@@ -10,6 +10,9 @@ returns c =
     let wires = line (spaced (codes "wires" ∷ decimal c.args.wires ∷ [])) in
     let rows = line (spaced (codes "rows" ∷ decimal c.args.rows ∷ [])) in
     let commitments = line (spaced (codes "commitments" ∷ decimal c.args.commitments ∷ [])) in
-    c.in_ok-push_number-3.ensures ∙ ap (λ (text : List ℕ). text ++ commitments) ((rw c.from-2.ensures at c.in_ok-push_number-2.ensures)
+    c.in_ok-push_number-3.ensures
+    ∙ ap (λ (text : List ℕ). text ++ commitments)
+    ((rw c.from-2.ensures at c.in_ok-push_number-2.ensures)
     ∙ ap (λ (text : List ℕ). text ++ rows) (rw c.from.ensures at c.in_ok-push_number.ensures))
-    ∙ append_assoc (before ++ wires) rows commitments ∙ append_assoc before wires (rows ++ commitments)
+    ∙ append_assoc (before ++ wires) rows commitments
+    ∙ append_assoc before wires (rows ++ commitments)

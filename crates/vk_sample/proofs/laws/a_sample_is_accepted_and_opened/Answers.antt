@@ -5,7 +5,11 @@ use Rattle.vk_sample.proofs.Opened.{are_accepted, opens_all}
 use Rattle.vk_sample.proofs.laws.a_sample_is_accepted_and_opened.Goals as goal
 
 pub returns-clause-accepted : goal.returns-clause-accepted
-returns-clause-accepted c number auction made = are_accepted (sample_of number) (sample_is_case number) auction (auction_is (sample_of number) (sample_is_case number) auction made)
+returns-clause-accepted c number auction made =
+    are_accepted (sample_of number) (sample_is_case number) auction
+    (auction_is (sample_of number) (sample_is_case number) auction made)
 
 pub returns-clause-opened : goal.returns-clause-opened
-returns-clause-opened c number auction made = opens_all (sample_of number) (sample_is_case number) auction (auction_is (sample_of number) (sample_is_case number) auction made)
+returns-clause-opened c number auction made =
+    opens_all (sample_of number) (sample_is_case number) auction
+    (auction_is (sample_of number) (sample_is_case number) auction made)

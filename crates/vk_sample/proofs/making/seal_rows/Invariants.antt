@@ -6,5 +6,6 @@ use Rattle.vk_sample.proofs.making.seal_rows.Given as goal
 abbrev pub invariant-loop-index : goal.invariant-loop-index
 invariant-loop-index l = record {
   count : length l.rows ≡ l.index;
-  made : rows_onto l.sample l.rows (length l.sample.seats - l.index) ≡ rows_onto l.sample [] (length l.sample.seats);
+  made : rows_onto l.sample l.rows (length l.sample.seats - l.index)
+      ≡ rows_onto l.sample [] (length l.sample.seats);
 }

@@ -13,17 +13,23 @@ use Rattle.vk_sample.proofs.sampling.hold.Goals as goal
 
 pub returns-in_err-write_sample-clause-acts : goal.returns-in_err-write_sample-clause-acts
 returns-in_err-write_sample-clause-acts g c =
-    let p = err_from_is_err_and c.from_residual-in_err-write_sample.result c.from_residual-in_err-write_sample.ensures.1 in
+    let p = err_from_is_err_and c.from_residual-in_err-write_sample.result
+    c.from_residual-in_err-write_sample.ensures.1 in
     rw p.1
-    (λ ledger. writing_stopped (files_of c.args.sample.now c.args.job.now.auction) (summary_said c.args.number (head_of c.args.job.now.auction)) ledger
-    (g.S.Shelf.held c.args.shelf.now) (g.S.Shelf.held c.write_sample.new.shelf) p.0 c.in_err-write_sample.ensures.written)
+    (λ ledger. writing_stopped (files_of c.args.sample.now c.args.job.now.auction)
+    (summary_said c.args.number (head_of c.args.job.now.auction)) ledger
+    (g.S.Shelf.held c.args.shelf.now) (g.S.Shelf.held c.write_sample.new.shelf) p.0
+    c.in_err-write_sample.ensures.written)
 
 pub returns-in_err-said-clause-acts : goal.returns-in_err-said-clause-acts
 returns-in_err-said-clause-acts g c =
-    let p = err_from_is_err_and c.from_residual-in_err-said.result c.from_residual-in_err-said.ensures.1 in
+    let p = err_from_is_err_and c.from_residual-in_err-said.result
+    c.from_residual-in_err-said.ensures.1 in
     rw p.1
-    (λ ledger. reading_stopped (files_of c.args.sample.now c.args.job.now.auction) (summary_said c.args.number (head_of c.args.job.now.auction)) ledger
-    (g.S.Shelf.held c.args.shelf.now) (g.S.Shelf.held c.write_sample.new.shelf) (g.S.Shelf.held c.read_back.new.shelf) p.0
+    (λ ledger. reading_stopped (files_of c.args.sample.now c.args.job.now.auction)
+    (summary_said c.args.number (head_of c.args.job.now.auction)) ledger
+    (g.S.Shelf.held c.args.shelf.now) (g.S.Shelf.held c.write_sample.new.shelf)
+    (g.S.Shelf.held c.read_back.new.shelf) p.0
     c.in_ok-write_sample.ensures.written c.in_err-said.ensures.shelf.held)
 
 pub returns-clause-acts : goal.returns-clause-acts
@@ -33,22 +39,31 @@ returns-clause-acts g c = λ ledger.
     let made = flat_map string_bytes c.in_ok-made.made.items in
     let is = auction_is sample c.requires.right auction c.requires.made in
     holding_done (files_of sample auction) (summary_said c.args.number (head_of auction)) ledger
-    (λ files. read_said made (extraction_on files sample_names.board sample_names.first.challenge sample_names.first.reply sample_names.second.challenge sample_names.second.reply))
-    (reads_back sample auction is (opens_all sample c.requires.right auction is) c.args.number made (c.in_ok-made.ensures ∙ ap (made_text c.args.number) c.head.ensures.value))
-    (g.S.Shelf.held c.args.shelf.now) (g.S.Shelf.held c.write_sample.new.shelf) (g.S.Shelf.held c.read_back.new.shelf) c.in_ok-said.said
+    (λ files. read_said made (extraction_on files sample_names.board sample_names.first.challenge
+    sample_names.first.reply sample_names.second.challenge sample_names.second.reply))
+    (reads_back sample auction is (opens_all sample c.requires.right auction is) c.args.number made
+    (c.in_ok-made.ensures ∙ ap (made_text c.args.number) c.head.ensures.value))
+    (g.S.Shelf.held c.args.shelf.now) (g.S.Shelf.held c.write_sample.new.shelf)
+    (g.S.Shelf.held c.read_back.new.shelf) c.in_ok-said.said
     c.in_ok-write_sample.ensures.written c.in_ok-said.ensures.shelf.held c.in_ok-said.ensures.said
 
 -- the sample's board is one of version 1
 pub made_lines-requires-clause-first : goal.made_lines-requires-clause-first
 unfolding head_of
 made_lines-requires-clause-first g c =
-    ap (λ (head : Head). head.version) c.head.ensures.value ∙ (auction_is c.args.sample.now c.requires.right c.args.job.now.auction c.requires.made).version_is
+    ap (λ (head : Head). head.version) c.head.ensures.value
+    ∙ (auction_is c.args.sample.now c.requires.right c.args.job.now.auction
+    c.requires.made).version_is
 
 pub write_sample-requires-clause-first : goal.write_sample-requires-clause-first
-write_sample-requires-clause-first g c = (auction_is c.args.sample.now c.requires.right c.args.job.now.auction c.requires.made).first.one_bit_each
+write_sample-requires-clause-first g c =
+    (auction_is c.args.sample.now c.requires.right c.args.job.now.auction
+    c.requires.made).first.one_bit_each
 
 pub write_sample-requires-clause-second : goal.write_sample-requires-clause-second
-write_sample-requires-clause-second g c = (auction_is c.args.sample.now c.requires.right c.args.job.now.auction c.requires.made).second.one_bit_each
+write_sample-requires-clause-second g c =
+    (auction_is c.args.sample.now c.requires.right c.args.job.now.auction
+    c.requires.made).second.one_bit_each
 
 pub returns-in_err-made-clause-acts : goal.returns-in_err-made-clause-acts
 returns-in_err-made-clause-acts g c =

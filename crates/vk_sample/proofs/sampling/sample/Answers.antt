@@ -12,23 +12,33 @@ use Rattle.vk_sample.proofs.sampling.sample.Goals as goal
 pub returns-in_err-sample-clause-acts : goal.returns-in_err-sample-clause-acts
 returns-in_err-sample-clause-acts g c =
     let p = err_from_is_err_and c.from_residual.result c.from_residual.ensures.1 in
-    rw p.1 (λ ledger. stopped_first (sample_on (g.S.Shelf.held c.args.shelf.now) ledger c.args.number) (stores (g.S.Shelf.held c.args.shelf.now) ledger) p.0)
+    rw p.1 (λ ledger. stopped_first
+    (sample_on (g.S.Shelf.held c.args.shelf.now) ledger c.args.number)
+    (stores (g.S.Shelf.held c.args.shelf.now) ledger) p.0)
 
 pub returns-in-Ok-clause-acts : goal.returns-in-Ok-clause-acts
 returns-in-Ok-clause-acts g c = λ ledger.
-    sample_acts c.args.number c.in_ok-sample.sample (Ok c.in-Ok.job.auction) (g.S.Shelf.held c.args.shelf.now) (g.S.Shelf.held c.hold-said.new.shelf) ledger c.hold-said.result
+    sample_acts c.args.number c.in_ok-sample.sample (Ok c.in-Ok.job.auction)
+    (g.S.Shelf.held c.args.shelf.now) (g.S.Shelf.held c.hold-said.new.shelf) ledger
+    c.hold-said.result
     c.in_ok-sample.ensures.sample c.in-Ok.ensures (c.hold-said.ensures.acts ledger)
 
 pub returns-clause-acts : goal.returns-clause-acts
 returns-clause-acts g c = λ ledger.
     let held = g.S.Shelf.held c.args.shelf.now in
     let sample = c.in_ok-sample.sample in
-    sample_acts c.args.number sample (auction_of sample) held held ledger (Ok c.in_ok-said-in-Err.said) c.in_ok-sample.ensures.sample refl
+    sample_acts c.args.number sample (auction_of sample) held held ledger
+    (Ok c.in_ok-said-in-Err.said) c.in_ok-sample.ensures.sample refl
     (dry_acts (dry_of c.in-Err.dry) (auction_of sample) held ledger
-    (λ auction. modelled_effect held ledger (files_of sample auction) (summary_said c.args.number (head_of auction))) c.in_ok-said-in-Err.said c.in-Err.ensures
-    (if_some_map _ _ (λ dry. same_said c.in_ok-said-in-Err.said (dry_said dry)) (dry_of c.in-Err.dry) c.in_ok-said-in-Err.ensures.said) c.in_ok-said-in-Err.ensures.dry)
+    (λ auction. modelled_effect held ledger (files_of sample auction)
+    (summary_said c.args.number (head_of auction))) c.in_ok-said-in-Err.said c.in-Err.ensures
+    (if_some_map _ _ (λ dry. same_said c.in_ok-said-in-Err.said (dry_said dry))
+    (dry_of c.in-Err.dry) c.in_ok-said-in-Err.ensures.said) c.in_ok-said-in-Err.ensures.dry)
 
 pub returns-in_err-said-in-Err-clause-acts : goal.returns-in_err-said-in-Err-clause-acts
 returns-in_err-said-in-Err-clause-acts g c =
-    let p = err_from_is_err_and c.from_residual-in_err-said-in-Err.result c.from_residual-in_err-said-in-Err.ensures.1 in
-    rw p.1 (λ ledger. stopped_first (sample_on (g.S.Shelf.held c.args.shelf.now) ledger c.args.number) (stores (g.S.Shelf.held c.args.shelf.now) ledger) p.0)
+    let p = err_from_is_err_and c.from_residual-in_err-said-in-Err.result
+    c.from_residual-in_err-said-in-Err.ensures.1 in
+    rw p.1 (λ ledger. stopped_first
+    (sample_on (g.S.Shelf.held c.args.shelf.now) ledger c.args.number)
+    (stores (g.S.Shelf.held c.args.shelf.now) ledger) p.0)

@@ -3,5 +3,7 @@ use Rattle.vk_sample.proofs.summary.push_two.Goals as goal
 
 pub returns : goal.returns
 returns c =
-    c.in_ok-push-2.ensures ∙ ap (λ (text : List ℕ). text ++ string_bytes c.args.second) c.in_ok-push.ensures
-    ∙ append_assoc (flat_map string_bytes c.args.lines.now.items) (string_bytes c.args.first) (string_bytes c.args.second)
+    c.in_ok-push-2.ensures ∙ ap (λ (text : List ℕ). text ++ string_bytes c.args.second)
+    c.in_ok-push.ensures
+    ∙ append_assoc (flat_map string_bytes c.args.lines.now.items) (string_bytes c.args.first)
+    (string_bytes c.args.second)

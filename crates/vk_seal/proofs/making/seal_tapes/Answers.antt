@@ -19,17 +19,31 @@ returns-clause-secret c = record {
 
 pub returns-clause-seal : goal.returns-clause-seal
 returns-clause-seal c =
-    let coms : c.commit_lanes-lanes.result ≡ lane_coms c.args.auction.now c.args.seat c.args.bid 1 c.args.tapes = c.commit_lanes-lanes.ensures.coms ∙ ap (lane_coms c.args.auction.now c.args.seat c.args.bid 1) c.as_slice.ensures in
-    let count : length c.commit_lanes-lanes.result ≡ length c.args.tapes = ap length coms ∙ length-lane_coms c.args.auction.now c.args.seat c.args.bid 1 c.args.tapes in
+    let coms : c.commit_lanes-lanes.result
+    ≡ lane_coms c.args.auction.now c.args.seat c.args.bid 1 c.args.tapes =
+    c.commit_lanes-lanes.ensures.coms
+    ∙ ap (lane_coms c.args.auction.now c.args.seat c.args.bid 1) c.as_slice.ensures in
+    let count : length c.commit_lanes-lanes.result ≡ length c.args.tapes =
+    ap length coms ∙ length-lane_coms c.args.auction.now c.args.seat c.args.bid 1 c.args.tapes
+    in
     record {
       id = (c.told-auction, λ k. omega (arith, c.fits-auction k));
       some_seat = c.requires.some_seat;
       last_seat = omega arith;
       count = record { least = omega arith; most = omega arith };
-      coms = recursion_from_All IsCom c.commit_lanes-lanes.result c.commit_lanes-lanes.ensures.digests;
+      coms = recursion_from_All IsCom c.commit_lanes-lanes.result
+          c.commit_lanes-lanes.ensures.digests;
     }
 
 pub returns-clause-matched : goal.returns-clause-matched
 returns-clause-matched c =
-    let coms : c.commit_lanes-lanes.result ≡ lane_coms c.args.auction.now c.args.seat c.args.bid 1 c.args.tapes = c.commit_lanes-lanes.ensures.coms ∙ ap (lane_coms c.args.auction.now c.args.seat c.args.bid 1) c.as_slice.ensures in
-    rw coms (made_matches (record { auction = c.args.auction.now; seat = c.args.seat; bid = c.args.bid; lanes = c.args.tapes }))
+    let coms : c.commit_lanes-lanes.result
+    ≡ lane_coms c.args.auction.now c.args.seat c.args.bid 1 c.args.tapes =
+    c.commit_lanes-lanes.ensures.coms
+    ∙ ap (lane_coms c.args.auction.now c.args.seat c.args.bid 1) c.as_slice.ensures in
+    rw coms (made_matches (record {
+      auction = c.args.auction.now;
+      seat = c.args.seat;
+      bid = c.args.bid;
+      lanes = c.args.tapes;
+    }))

@@ -11,8 +11,12 @@ use Rattle.vk_store_laws.proofs.laws.a_crash_leaves_the_ledger_of_before_or_afte
 
 pub returns : goal.returns
 returns g c old new auction ledger result right store tells before once clean =
-    at_once (Keeps g.S.Store auction old) (λ trees. TablesTell trees ledger) (λ trees. TablesTell trees (insert ledger auction.id auction)) (state g.S.Store old) (state g.S.Store new) result
+    at_once (Keeps g.S.Store auction old) (λ trees. TablesTell trees ledger)
+    (λ trees. TablesTell trees (insert ledger auction.id auction)) (state g.S.Store old)
+    (state g.S.Store new) result
     (λ trees keeps.
     let made = kept_stands g.S.Store auction old trees store right.held.few_seals keeps in
-    kept_is_told (state g.S.Store old).now.trees trees ledger auction right tells (subst (KeepsOthers auction.id (state g.S.Store old).now.trees) (sym made.1) made.2.others) made.3)
+    kept_is_told (state g.S.Store old).now.trees trees ledger auction right tells
+    (subst (KeepsOthers auction.id (state g.S.Store old).now.trees) (sym made.1) made.2.others)
+    made.3)
     before once clean

@@ -14,6 +14,7 @@ returns g c = record {
       let store = made_is_store g.S.Store old new blank made in
       (store.0, nothing_is_told (state g.S.Store new).now.trees store.1 store.2 store.3);
   crash = λ old new result blank.
-      at_once_alike (Prepares g.S.Store old) (λ trees. TablesTell trees empty) (state g.S.Store old) (state g.S.Store new) result
+      at_once_alike (Prepares g.S.Store old) (λ trees. TablesTell trees empty) (state g.S.Store old)
+      (state g.S.Store new) result
       (λ trees. prepared_new g.S.Store old trees blank);
 }

@@ -11,6 +11,9 @@ pub returns : goal.returns
 returns g c = record {
   lifted = prepared_tells g.S.Store;
   crash = λ old new firsts result store tells before once clean.
-      at_once (Prepares g.S.Store old) (λ trees. TellsFirst trees firsts) (λ trees. TablesTell trees (lifted_ledger firsts)) (state g.S.Store old) (state g.S.Store new) result
-      (λ trees made. (prepared_tells g.S.Store old trees firsts store tells made).1) before once clean;
+      at_once (Prepares g.S.Store old) (λ trees. TellsFirst trees firsts)
+      (λ trees. TablesTell trees (lifted_ledger firsts)) (state g.S.Store old)
+      (state g.S.Store new) result
+      (λ trees made. (prepared_tells g.S.Store old trees firsts store tells made).1) before once
+      clean;
 }

@@ -10,6 +10,8 @@ pub returns : goal.returns
 returns g c = record {
   same = prepared_stays g.S.Store;
   crash = λ old new ledger result store tells.
-      at_once_alike (Prepares g.S.Store old) (λ trees. TablesTell trees ledger) (state g.S.Store old) (state g.S.Store new) result
-      (λ trees made. subst (λ t. TablesTell t ledger) (sym (prepared_stays g.S.Store old trees store made)) tells);
+      at_once_alike (Prepares g.S.Store old) (λ trees. TablesTell trees ledger)
+      (state g.S.Store old) (state g.S.Store new) result
+      (λ trees made. subst (λ t. TablesTell t ledger)
+      (sym (prepared_stays g.S.Store old trees store made)) tells);
 }

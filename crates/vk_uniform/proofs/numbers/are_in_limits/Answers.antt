@@ -14,9 +14,11 @@ returns-then-are_positions c =
         enough = omega arith;
         wide = record { least = omega arith; most = omega arith };
         within_width =
-            subst (λ n. price_of numbers < n) (c.get.ensures.value ∙ c.pow2.ensures) c.if-numbers-get.false;
+            subst (λ n. price_of numbers < n) (c.get.ensures.value ∙ c.pow2.ensures)
+            c.if-numbers-get.false;
         are_positions =
-            subst (All (IsPositionAmong c.args.inputs)) rest (c.are_positions.ensures.0 c.if-are_positions.true);
+            subst (All (IsPositionAmong c.args.inputs)) rest
+            (c.are_positions.ensures.0 c.if-are_positions.true);
         ascending = subst IsAscending rest (c.ascend.ensures.0 ascend);
       },
       λ limits. c.ascend.ensures.1 (subst IsAscending (sym rest) limits.ascending),

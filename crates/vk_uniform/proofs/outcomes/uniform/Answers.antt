@@ -8,7 +8,8 @@ use Rattle.vk_uniform.proofs.outcomes.uniform.Goals as goal
 pub loop-taken-init : goal.loop-taken-init
 loop-taken-init c =
     let bids = c.args.bids.now in
-    rw c.in_ok-winners.ensures (all_win bids, omega (arith, length_listed (λ place. place + 1) (length bids)))
+    rw c.in_ok-winners.ensures
+    (all_win bids, omega (arith, length_listed (λ place. place + 1) (length bids)))
 
 pub loop-taken-preserved : goal.loop-taken-preserved
 loop-taken-preserved c =
@@ -20,12 +21,14 @@ loop-taken-preserved c =
     let read : removed.result ≡ slice_index winners place =
     removed.ensures.value ∙ get_or_default winners place removed.result 0 weakest.is_place in
     rw (removed.ensures.items, read) (
-      without_weakest c.args.bids.now winners c.loop-taken.price place c.loop-taken.invariant.0 weakest,
+      without_weakest c.args.bids.now winners c.loop-taken.price place c.loop-taken.invariant.0
+          weakest,
       omega (arith, c.loop-taken.invariant.1, length-remove winners place weakest.is_place),
     )
 
 pub returns-clause-no_other : goal.returns-clause-no_other
 returns-clause-no_other c = λ winners price is same.
     rw c.from_vec.ensures
-    (outcome_is_one c.args.bids.now winners c.loop-taken.winners.items price c.loop-taken.price is c.loop-taken.invariant.0
+    (outcome_is_one c.args.bids.now winners c.loop-taken.winners.items price c.loop-taken.price is
+    c.loop-taken.invariant.0
     (omega (arith, same, c.loop-taken.invariant.1, c.loop-taken-test.false)))

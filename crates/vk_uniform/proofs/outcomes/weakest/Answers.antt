@@ -11,13 +11,15 @@ loop-i-preserved c =
     elim c.if-bid-least.branch [
       | then-bid-least w ↦
           rw (w.place-is, w.least-is) (
-            weakest_next bids winners at.i at.place c.requires.ascending c.loop-i-test.true at.invariant.0
+            weakest_next bids winners at.i at.place c.requires.ascending c.loop-i-test.true
+                at.invariant.0
                 (omega (arith, at.invariant.1, w.if-bid-least.true)),
             refl,
           )
       | else-bid-least w ↦
           rw (w.place-is, w.least-is) (
-            weakest_stays bids winners at.i at.place c.requires.ascending c.loop-i-test.true at.invariant.0
+            weakest_stays bids winners at.i at.place c.requires.ascending c.loop-i-test.true
+                at.invariant.0
                 (omega (arith, at.invariant.1, w.if-bid-least.false)),
             at.invariant.1,
           )

@@ -6,6 +6,8 @@ use Rattle.vk_verifier.proofs.two.next_on_course.Goals as goal
 
 pub returns-clause-modelled : goal.returns-clause-modelled
 returns-clause-modelled g c =
-    went_on (g.S.Shelf.held c.args.shelf.now) c.args.course c.next_step-step.result (λ files. rests_of c.next_step-step.new.readers files)
+    went_on (g.S.Shelf.held c.args.shelf.now) c.args.course c.next_step-step.result
+    (λ files. rests_of c.next_step-step.new.readers files)
     (λ files before. GoesOn before c.in_ok-next.next.1 (Running c.in_ok-next.next.0) files)
-    (sym c.is_some.ensures ∙ c.if-is_some.false) c.in_ok-next.ensures.modelled c.next_step-step.ensures.modelled
+    (sym c.is_some.ensures ∙ c.if-is_some.false) c.in_ok-next.ensures.modelled
+    c.next_step-step.ensures.modelled

@@ -4,5 +4,7 @@ use Rattle.vk_vickrey.proofs.forms.push_wins.Goals as goal
 
 pub loop-k-preserved : goal.loop-k-preserved
 loop-k-preserved c =
-    listed_push (win_form c.args.seals c.args.winner) c.args.forms.now.items c.loop-k.forms.items c.push.new.self.items c.in_ok-form.form c.loop-k.k
-    c.in_ok-push.ensures.items c.loop-k.invariant (rw (c.other_copy.ensures) at c.in_ok-form.ensures)
+    listed_push (win_form c.args.seals c.args.winner) c.args.forms.now.items c.loop-k.forms.items
+    c.push.new.self.items c.in_ok-form.form c.loop-k.k
+    c.in_ok-push.ensures.items c.loop-k.invariant
+    (rw (c.other_copy.ensures) at c.in_ok-form.ensures)

@@ -3,7 +3,8 @@ use Rattle.vk_vickrey.specs.OutcomeLaws.{sale_exists}
 use Rattle.vk_vickrey.proofs.sales.sales_extend_outcomes.Goals as goal
 
 pub returns-clause-outcome : goal.returns-clause-outcome
-returns-clause-outcome c = λ bids winner price. (outcome_is_sale bids winner price, sale_is_outcome bids winner price)
+returns-clause-outcome c = λ bids winner price.
+    (outcome_is_sale bids winner price, sale_is_outcome bids winner price)
 
 pub returns-clause-sale : goal.returns-clause-sale
 returns-clause-sale c = sale_exists

@@ -12,7 +12,10 @@ returns c =
     let nothing : Shown = Half (record { key = []; value = 0 }) in
     let places = c.args.places.now in
     let shown = c.args.shown.now in
-    let whole = zip2_four (λ place s. opened_by place s c.args.bit) nothing nothing nothing nothing places shown c.told-places c.type_inv.shown in
-    let firsts = zip2_four (λ place s. entry_made place (opened_entry s c.args.bit First)) nothing nothing nothing nothing places shown c.told-places c.type_inv.shown in
-    let lasts = zip2_four (λ place s. entry_made place (opened_entry s c.args.bit Last)) nothing nothing nothing nothing places shown c.told-places c.type_inv.shown in
+    let whole = zip2_four (λ place s. opened_by place s c.args.bit) nothing nothing nothing nothing
+    places shown c.told-places c.type_inv.shown in
+    let firsts = zip2_four (λ place s. entry_made place (opened_entry s c.args.bit First)) nothing
+    nothing nothing nothing places shown c.told-places c.type_inv.shown in
+    let lasts = zip2_four (λ place s. entry_made place (opened_entry s c.args.bit Last)) nothing
+    nothing nothing nothing places shown c.told-places c.type_inv.shown in
     rw (whole, c.hash_each-firsts.ensures ∙ firsts, c.hash_lasts-lasts.ensures ∙ lasts)

@@ -6,6 +6,7 @@ use Rattle.vk_words.proofs.hints.first_unfit.Given as goal
 abbrev pub invariant-loop-kind : goal.invariant-loop-kind
 invariant-loop-kind l =
     record {
-      rest : first_unfit (drop l.kind-index l.kinds) (map string_bytes l.words) l.place ≡ first_unfit l.kinds (map string_bytes l.words) l.fn.place;
+      rest : first_unfit (drop l.kind-index l.kinds) (map string_bytes l.words) l.place
+          ≡ first_unfit l.kinds (map string_bytes l.words) l.fn.place;
       place : l.place ≡ l.fn.place + l.kind-index;
     }

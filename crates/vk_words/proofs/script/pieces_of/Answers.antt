@@ -6,4 +6,5 @@ use Rattle.vk_words.proofs.script.pieces_of.Goals as goal
 pub returns : goal.returns
 returns c =
     c.loop-piece.invariant
-    ∙ (YieldsList-end (YieldsList-from_str_split 32 c.args.text.now (lit< tt) (cc) (cc) (cc)) c.loop-piece.yielded _ c.loop-piece.yielded_by _ _ c.in-None.is c.next.ensures.steps).0
+    ∙ (YieldsList-end (YieldsList-from_str_split 32 c.args.text.now (lit< tt) (cc) (cc) (cc))
+    c.loop-piece.yielded _ c.loop-piece.yielded_by _ _ c.in-None.is c.next.ensures.steps).0

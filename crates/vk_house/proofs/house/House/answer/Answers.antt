@@ -7,4 +7,7 @@ returns-clause-id g c = c.in_ok-answering.ensures.on.id c.args.id.now c.in_ok-fo
 
 pub returns-clause-call : goal.returns-clause-call
 returns-clause-call g c =
-    work_made (Answer c.args.id.now c.args.challenge.now) _ c.in_ok-answering.answering _ _ _ c.in_ok-found.ensures.answer c.in_ok-found.ensures.kept (c.in_ok-answering.ensures.decided c.args.id.now) c.in_ok-found.ensures.id c.in_ok-answering.ensures.on c.in_ok-keep.ensures.put
+    work_made (Answer c.args.id.now c.args.challenge.now) _ c.in_ok-answering.answering _ _ _
+    c.in_ok-found.ensures.answer c.in_ok-found.ensures.kept
+    (c.in_ok-answering.ensures.decided c.args.id.now) c.in_ok-found.ensures.id
+    c.in_ok-answering.ensures.on c.in_ok-keep.ensures.put

@@ -7,4 +7,7 @@ returns-clause-id g c = c.in_ok-proving.ensures.on.id c.args.id.now c.in_ok-foun
 
 pub returns-clause-call : goal.returns-clause-call
 returns-clause-call g c =
-    work_made (Prove c.args.id.now c.args.seed.now) _ c.in_ok-proving.proving _ _ _ c.in_ok-found.ensures.answer c.in_ok-found.ensures.kept (c.in_ok-proving.ensures.decided c.args.id.now) c.in_ok-found.ensures.id c.in_ok-proving.ensures.on c.in_ok-keep.ensures.put
+    work_made (Prove c.args.id.now c.args.seed.now) _ c.in_ok-proving.proving _ _ _
+    c.in_ok-found.ensures.answer c.in_ok-found.ensures.kept
+    (c.in_ok-proving.ensures.decided c.args.id.now) c.in_ok-found.ensures.id
+    c.in_ok-proving.ensures.on c.in_ok-keep.ensures.put

@@ -7,7 +7,8 @@ use Rattle.vk_house.proofs.house.House.submit.Goals as goal
 pub returns-clause-call : goal.returns-clause-call
 returns-clause-call g c =
     let joined = c.in_ok-joined.joined in
-    step_made (Submit c.args.id.now c.args.seal c.args.secret) c.in_ok-found.found (Some joined.auction) (Position joined.position) _ _ _
+    step_made (Submit c.args.id.now c.args.seal c.args.secret) c.in_ok-found.found
+    (Some joined.auction) (Position joined.position) _ _ _
     c.in_ok-found.ensures.answer c.in_ok-found.ensures.kept
     (c.in_ok-joined.ensures.decided c.args.id.now)
     (c.in_ok-joined.ensures.id c.args.id.now c.in_ok-found.ensures.id)

@@ -5,5 +5,7 @@ use Rattle.vk_house_tests.proofs.tests.keeper.answered.Goals as goal
 
 pub returns : goal.returns
 returns c =
-    in_phase c.in_ok-auction.auction (Answered c.args.seed.now c.in_ok-challenge.challenge) c.in_ok-auction.ensures.right (omega (arith, c.in_ok-auction.ensures.seals)) (search rules)
-    c.in_ok-challenge.ensures.challenge (omega (arith, c.in_ok-challenge.ensures.bits, c.in_ok-auction.ensures.lanes))
+    in_phase c.in_ok-auction.auction (Answered c.args.seed.now c.in_ok-challenge.challenge)
+    c.in_ok-auction.ensures.right (omega (arith, c.in_ok-auction.ensures.seals)) (search rules)
+    c.in_ok-challenge.ensures.challenge
+    (omega (arith, c.in_ok-challenge.ensures.bits, c.in_ok-auction.ensures.lanes))

@@ -8,4 +8,10 @@ unfolding head_of
 returns-clause-right c =
     let auction = c.self.inside.auction in
     let proved = c.self.invariant.proved in
-    rw (c.len.ensures, c.winner.ensures, c.price_in.ensures, ← c.self.view_is, c.self.invariant.sale_is) (head_is auction proved.right (has_seal auction proved))
+    rw (
+      c.len.ensures,
+      c.winner.ensures,
+      c.price_in.ensures,
+      ← c.self.view_is,
+      c.self.invariant.sale_is,
+    ) (head_is auction proved.right (has_seal auction proved))

@@ -17,4 +17,5 @@ pub returns : goal.returns
 returns c =
     let seals = c.seals-seals.ensures.value in
     let lanes = c.lanes-lanes.ensures.value in
-    c.in_ok-piece-4.ensures ∙ sym (file_end_is c.args.head.now c.args.self.now c.args.index (omega arith) c.requires)
+    c.in_ok-piece-4.ensures ∙ sym
+    (file_end_is c.args.head.now c.args.self.now c.args.index (omega arith) c.requires)

@@ -7,4 +7,5 @@ unreachable-requires c =
     let source = source_of c.args.self.now in
     let dry = rw c.in-Err-DrySeed.field-0-is at c.in-Err-DrySeed.ensures.drawn in
     no_tape_where_dry source c.args.lane c.in-Err-DrySeed.field-0-0
-    (tapes_of_none source c.drawn.ensures.proof.none_dry c.args.lane c.requires.some c.requires.last) dry
+    (tapes_of_none source c.drawn.ensures.proof.none_dry c.args.lane c.requires.some
+    c.requires.last) dry

@@ -12,7 +12,8 @@ use Rattle.vk_matching.proofs.circuit.MatchingPlanCircuit.fill.Goals as goal
 pub ranged_values-requires : goal.ranged_values-requires
 ranged_values-requires c =
     let s = c.args.self.now in
-    rw c.in_ok-ranges.ensures (matching_filled (inputs_of s) (numbers_of s) s.in_limits c.args.inputs.now c.requires)
+    rw c.in_ok-ranges.ensures (matching_filled (inputs_of s) (numbers_of s) s.in_limits
+    c.args.inputs.now c.requires)
 
 pub fill-requires-clause-fits : goal.fill-requires-clause-fits
 fill-requires-clause-fits c =
@@ -50,7 +51,8 @@ loop-pair-preserved c =
     let before = ranged_values ranks (rank_ranges (inputs_of s) (numbers_of s)) in
     let own : ℕ → List ℕ = λ k. either_values (either_at (inputs_of s) (numbers_of s) k) before in
     let inside : pair < pair_count (size_of (numbers_of s)) = omega arith in
-    block_pushed before own now c.fill.new.values.items (either_values relation now) pair c.loop-pair.invariant
+    block_pushed before own now c.fill.new.values.items (either_values relation now) pair
+    c.loop-pair.invariant
     (rw c.either.ensures at c.in_ok-fill.ensures.filled)
     (ap (either_values relation) c.loop-pair.invariant
     ∙ values_within relation before (joined own pair)
@@ -62,4 +64,5 @@ returns c =
     let before = ranged_values c.args.inputs.now (rank_ranges (inputs_of s) (numbers_of s)) in
     let own : ℕ → List ℕ = λ k. either_values (either_at (inputs_of s) (numbers_of s) k) before in
     let all : c.loop-pair.pair ≡ pair_count (size_of (numbers_of s)) = omega arith in
-    c.loop-pair.invariant ∙ ap (λ n. before ++ joined own n) all ∙ sym (values_whole (inputs_of s) (numbers_of s) c.args.inputs.now)
+    c.loop-pair.invariant ∙ ap (λ n. before ++ joined own n) all
+    ∙ sym (values_whole (inputs_of s) (numbers_of s) c.args.inputs.now)

@@ -19,7 +19,8 @@ loop-pair-init c =
     let s = c.args.self.now in
     let ranges = rank_ranges (inputs_of s) (numbers_of s) in
     c.in_ok-plan.ensures ∙ ap (ranged_plan s.inputs) c.in_ok-ranges.ensures
-    ∙ sym (blocks_none (either_wires s.width) (pair_rows (inputs_of s) (numbers_of s)) (ranged_plan (inputs_of s) ranges))
+    ∙ sym (blocks_none (either_wires s.width) (pair_rows (inputs_of s) (numbers_of s))
+    (ranged_plan (inputs_of s) ranges))
 
 pub add-requires-clause-fits : goal.add-requires-clause-fits
 add-requires-clause-fits c =
@@ -27,8 +28,10 @@ add-requires-clause-fits c =
     let pair = c.loop-pair.pair in
     let inside : pair < pair_count (size_of (numbers_of s)) = omega arith in
     let long =
-    ap (λ (p : PlanValue). length p.kinds) c.loop-pair.invariant ∙ pairs_long (inputs_of s) (numbers_of s) s.in_limits pair in
-    rw c.either.ensures (at_fits (inputs_of s) (numbers_of s) s.in_limits pair (length c.loop-pair.plan.kinds) inside (omega arith))
+    ap (λ (p : PlanValue). length p.kinds) c.loop-pair.invariant
+    ∙ pairs_long (inputs_of s) (numbers_of s) s.in_limits pair in
+    rw c.either.ensures (at_fits (inputs_of s) (numbers_of s) s.in_limits pair
+    (length c.loop-pair.plan.kinds) inside (omega arith))
 
 pub add-requires-clause-room : goal.add-requires-clause-room
 add-requires-clause-room c =
@@ -36,21 +39,26 @@ add-requires-clause-room c =
     let pair = c.loop-pair.pair in
     let ranges = rank_ranges (inputs_of s) (numbers_of s) in
     rw c.either.ensures
-    (block_room (either_wires s.width) (pair_rows (inputs_of s) (numbers_of s)) (ranged_plan (inputs_of s) ranges) c.loop-pair.plan pair
-    c.loop-pair.invariant (pairs_is_plan (inputs_of s) (numbers_of s) s.in_limits (pair + 1) (omega arith)))
+    (block_room (either_wires s.width) (pair_rows (inputs_of s) (numbers_of s))
+    (ranged_plan (inputs_of s) ranges) c.loop-pair.plan pair
+    c.loop-pair.invariant (pairs_is_plan (inputs_of s) (numbers_of s) s.in_limits (pair + 1)
+    (omega arith)))
 
 pub loop-pair-preserved : goal.loop-pair-preserved
 loop-pair-preserved c =
     let s = c.args.self.now in
     let ranges = rank_ranges (inputs_of s) (numbers_of s) in
-    block_added (either_wires s.width) (pair_rows (inputs_of s) (numbers_of s)) (ranged_plan (inputs_of s) ranges) c.loop-pair.plan c.add.new.plan
+    block_added (either_wires s.width) (pair_rows (inputs_of s) (numbers_of s))
+    (ranged_plan (inputs_of s) ranges) c.loop-pair.plan c.add.new.plan
     c.loop-pair.pair c.loop-pair.invariant (rw c.either.ensures at c.in_ok-add.ensures.added)
 
-whole : (c : After-drop-ranges-2) → c.loop-pair.plan ≡ matching_plan (inputs_of c.args.self.now) (numbers_of c.args.self.now)
+whole : (c : After-drop-ranges-2)
+    → c.loop-pair.plan ≡ matching_plan (inputs_of c.args.self.now) (numbers_of c.args.self.now)
 whole c =
     let s = c.args.self.now in
     let all : c.loop-pair.pair ≡ pair_count (size_of (numbers_of s)) = omega arith in
-    c.loop-pair.invariant ∙ ap (pairs_plan (inputs_of s) (numbers_of s)) all ∙ sym (plan_whole (inputs_of s) (numbers_of s))
+    c.loop-pair.invariant ∙ ap (pairs_plan (inputs_of s) (numbers_of s)) all
+    ∙ sym (plan_whole (inputs_of s) (numbers_of s))
 
 pub returns-clause-plan : goal.returns-clause-plan
 returns-clause-plan c = whole c
@@ -58,9 +66,11 @@ returns-clause-plan c = whole c
 pub returns-clause-wires : goal.returns-clause-wires
 returns-clause-wires c =
     let s = c.args.self.now in
-    ap (λ (p : PlanValue). length p.kinds) (whole c) ∙ matching_wires (inputs_of s) (numbers_of s) s.in_limits
+    ap (λ (p : PlanValue). length p.kinds) (whole c)
+    ∙ matching_wires (inputs_of s) (numbers_of s) s.in_limits
 
 pub returns-clause-rows : goal.returns-clause-rows
 returns-clause-rows c =
     let s = c.args.self.now in
-    ap (λ (p : PlanValue). length p.rows) (whole c) ∙ matching_rows (inputs_of s) (numbers_of s) s.in_limits
+    ap (λ (p : PlanValue). length p.rows) (whole c)
+    ∙ matching_rows (inputs_of s) (numbers_of s) s.in_limits

@@ -3,7 +3,8 @@ use Rattle.vk_matching.proofs.Courted.{has_choice, is_best, after_staying, after
 use Rattle.vk_matching.proofs.courting.Courtship.ask.Goals as goal
 
 pub unwrap-woman-requires : goal.unwrap-woman-requires
-unwrap-woman-requires c = subst IsSome (sym (has_choice c.requires.courting c.choice.ensures).1) refl
+unwrap-woman-requires c = subst IsSome (sym (has_choice c.requires.courting c.choice.ensures).1)
+    refl
 
 pub returns-then-holds_as_good-clause-courting : goal.returns-then-holds_as_good-clause-courting
 returns-then-holds_as_good-clause-courting c =

@@ -5,11 +5,15 @@ use Rattle.vk_plan.proofs.flat.Flat.push.Goals as goal
 pub returns-clause-flat : goal.returns-clause-flat
 returns-clause-flat c =
     let added = c.in_ok-push_terms.ensures in
-    (row_pushed c.args.self.now c.push_terms.new.self c.args.row.now c.as_slice.result.now c.len.result _ _ c.requires c.as_slice.ensures
-    added.wires added.factors added.ends added.constants (search rules) c.in_ok-push.ensures.items c.in_ok-push-2.ensures.items).0
+    (row_pushed c.args.self.now c.push_terms.new.self c.args.row.now c.as_slice.result.now
+    c.len.result _ _ c.requires c.as_slice.ensures
+    added.wires added.factors added.ends added.constants (search rules) c.in_ok-push.ensures.items
+    c.in_ok-push-2.ensures.items).0
 
 pub returns-clause-rows : goal.returns-clause-rows
 returns-clause-rows c =
     let added = c.in_ok-push_terms.ensures in
-    (row_pushed c.args.self.now c.push_terms.new.self c.args.row.now c.as_slice.result.now c.len.result _ _ c.requires c.as_slice.ensures
-    added.wires added.factors added.ends added.constants (search rules) c.in_ok-push.ensures.items c.in_ok-push-2.ensures.items).1
+    (row_pushed c.args.self.now c.push_terms.new.self c.args.row.now c.as_slice.result.now
+    c.len.result _ _ c.requires c.as_slice.ensures
+    added.wires added.factors added.ends added.constants (search rules) c.in_ok-push.ensures.items
+    c.in_ok-push-2.ensures.items).1

@@ -11,5 +11,8 @@ loop-row-preserved c =
     let here = c.row.result.now in (
       c.in_ok-push.ensures.flat,
       c.in_ok-push.ensures.rows ∙ ap (λ before. before ++ here ∷ []) c.loop-row.invariant.1
-          ∙ sym (take_more rows row here (omega (arith, c.loop-row-test.true, c.rows-row-end.ensures.value)) ∙ ap (λ form. take row rows ++ form ∷ []) (get_or_from_slice_get rows row here here c.row.ensures.value)),
+          ∙ sym (take_more rows row here
+          (omega (arith, c.loop-row-test.true, c.rows-row-end.ensures.value))
+          ∙ ap (λ form. take row rows ++ form ∷ [])
+          (get_or_from_slice_get rows row here here c.row.ensures.value)),
     )

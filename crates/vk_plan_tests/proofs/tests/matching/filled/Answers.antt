@@ -4,11 +4,14 @@ use Rattle.vk_matching.specs.MatchingPlans.{IsMatchingClaim}
 use Rattle.vk_plan_tests.proofs.tests.matching.filled.Goals as goal
 
 -- what is shown of a matching that no pair blocks
-claim_of : (size inputs width : ℕ) (matching numbers ranks items : List ℕ) → numbers ≡ width ∷ matching → inputs ≡ length ranks
-    → items ≡ ranks → All (λ rank. rank < 2 ^ width) ranks → IsPermutation size matching → IsStable size ranks matching
+claim_of : (size inputs width : ℕ) (matching numbers ranks items : List ℕ)
+    → numbers ≡ width ∷ matching → inputs ≡ length ranks
+    → items ≡ ranks → All (λ rank. rank < 2 ^ width) ranks → IsPermutation size matching
+    → IsStable size ranks matching
     → IsMatchingClaim inputs numbers items
 claim_of size inputs width matching numbers ranks items same all is within permutation stable =
-    subst (λ ns. IsMatchingClaim inputs ns items) (sym same) (subst (IsMatchingClaim inputs (width ∷ matching)) (sym is) (record {
+    subst (λ ns. IsMatchingClaim inputs ns items) (sym same)
+    (subst (IsMatchingClaim inputs (width ∷ matching)) (sym is) (record {
       one_each = sym all;
       within_width = within;
       stable = subst (λ n. IsStable n ranks matching) (sym permutation.one_each) stable;
@@ -20,7 +23,10 @@ fill-requires c =
     let same = rw c.in-Some.is at c.in_ok-inputs.ensures.same in
     let within = rw c.in-Some.is at c.in_ok-inputs.ensures.within in
     let circuit = c.in-Some-plan.circuit in
-    claim_of c.args.size circuit.inputs c.args.width c.in_ok-matching.matching.items (circuit.width ∷ circuit.wives) c.args.ranks.now
+    claim_of c.args.size circuit.inputs c.args.width c.in_ok-matching.matching.items
+    (circuit.width ∷ circuit.wives) c.args.ranks.now
     c.as_slice-3.result.now
-    (made.1 ∙ c.as_slice-2.ensures.value ∙ c.in_ok-numbers.ensures ∙ ap (λ matching. c.args.width ∷ matching) c.as_slice.ensures.value)
-    made.0 (c.as_slice-3.ensures.value ∙ same) within c.in_ok-matching.ensures.permutation c.in_ok-matching.ensures.stable
+    (made.1 ∙ c.as_slice-2.ensures.value ∙ c.in_ok-numbers.ensures
+    ∙ ap (λ matching. c.args.width ∷ matching) c.as_slice.ensures.value)
+    made.0 (c.as_slice-3.ensures.value ∙ same) within c.in_ok-matching.ensures.permutation
+    c.in_ok-matching.ensures.stable

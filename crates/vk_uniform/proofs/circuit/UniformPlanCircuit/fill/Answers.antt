@@ -21,13 +21,15 @@ fill-requires-clause-fits c =
     let s = c.args.self.now in
     let ranges = uniform_ranges (inputs_of s) (numbers_of s) in
     let some =
-    some_loses s (λ none. both_ways c.is_empty.result c.if-is_empty.false (c.is_empty.ensures.1 none)) in
+    some_loses s (λ none. both_ways c.is_empty.result c.if-is_empty.false
+    (c.is_empty.ensures.1 none)) in
     rw (c.in_ok-selection.ensures, c.in_ok-values.ensures, c.in_ok-ranges.ensures) (
       ranged_plan s.inputs ranges,
       (
         selection_fits (inputs_of s) (numbers_of s) s.in_limits _
             (omega (arith, ranged_wires s.inputs ranges)) some,
-        sym (ranged_holds (inputs_of s) (numbers_of s) c.args.inputs.now s.in_limits c.requires).one_each,
+        sym (ranged_holds (inputs_of s) (numbers_of s) c.args.inputs.now s.in_limits
+            c.requires).one_each,
       ),
     )
 
@@ -36,7 +38,8 @@ fill-requires-clause-true_of c =
     let s = c.args.self.now in
     let bids = c.args.inputs.now in
     let some =
-    some_loses s (λ none. both_ways c.is_empty.result c.if-is_empty.false (c.is_empty.ensures.1 none)) in
+    some_loses s (λ none. both_ways c.is_empty.result c.if-is_empty.false
+    (c.is_empty.ensures.1 none)) in
     rw (c.in_ok-selection.ensures, c.in_ok-values.ensures, c.in_ok-ranges.ensures)
     (may_be_selected (inputs_of s) (numbers_of s) bids
     (ranged_values bids (uniform_ranges (inputs_of s) (numbers_of s))) s.in_limits c.requires
@@ -55,7 +58,8 @@ many : (c : After-drop-ranges-2) → c.fill.new.values.items
 many c =
     let s = c.args.self.now in
     let some =
-    some_loses s (λ none. both_ways c.is_empty.result c.if-is_empty.false (c.is_empty.ensures.1 none)) in
+    some_loses s (λ none. both_ways c.is_empty.result c.if-is_empty.false
+    (c.is_empty.ensures.1 none)) in
     let before = ranged_values c.args.inputs.now (uniform_ranges (inputs_of s) (numbers_of s)) in
     let filled : c.fill.new.values.items ≡ before ++ selected_values
     (price_selection (inputs_of s) (numbers_of s)) before =

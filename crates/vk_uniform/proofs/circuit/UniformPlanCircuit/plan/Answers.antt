@@ -18,7 +18,8 @@ alone : (c : After-drop-ranges-then-is_empty) → c.in_ok-plan.plan
 alone c =
     let s = c.args.self.now in
     c.in_ok-plan.ensures ∙ ap (ranged_plan s.inputs) c.in_ok-ranges.ensures
-    ∙ sym (plan_alone (inputs_of s) (numbers_of s) (none_loses s (c.is_empty.ensures.0 c.if-is_empty.true)))
+    ∙ sym (plan_alone (inputs_of s) (numbers_of s)
+    (none_loses s (c.is_empty.ensures.0 c.if-is_empty.true)))
 
 pub returns-then-is_empty-clause-plan : goal.returns-then-is_empty-clause-plan
 returns-then-is_empty-clause-plan c = alone c
@@ -56,7 +57,8 @@ many c =
     let added : c.add.new.plan ≡ with_selection
     (ranged_plan s.inputs (uniform_ranges (inputs_of s) (numbers_of s)))
     (price_selection (inputs_of s) (numbers_of s)) =
-    rw (c.in_ok-selection.ensures, c.in_ok-plan.ensures, c.in_ok-ranges.ensures) at c.in_ok-add.ensures.added in
+    rw (c.in_ok-selection.ensures, c.in_ok-plan.ensures, c.in_ok-ranges.ensures) at
+    c.in_ok-add.ensures.added in
     added ∙ sym (plan_many (inputs_of s) (numbers_of s) some)
 
 pub returns-clause-plan : goal.returns-clause-plan

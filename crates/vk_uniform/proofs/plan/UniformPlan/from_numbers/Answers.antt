@@ -23,13 +23,15 @@ returns-then-not-may_be_paid-clause-admitted c =
     let winners = c.in_ok-winners.winners.items in
     let outside = c.in_ok-losers.losers.items in
     let limits = c.are_in_limits.ensures.0 c.if-not-are_in_limits.false in
-    let winners_are : winners ≡ winners_of numbers = c.in_ok-winners.ensures ∙ take_rest numbers 2 in
+    let winners_are : winners ≡ winners_of numbers = c.in_ok-winners.ensures ∙ take_rest numbers 2
+    in
     let outside_are : outside ≡ losers inputs winners =
     c.in_ok-losers.ensures ∙ ap (losers inputs) c.as_slice.ensures.value in (
       λ e. absurd (false≢true e),
       λ case. absurd (both_ways c.may_be_paid.result c.if-not-may_be_paid.true
           (c.may_be_paid.ensures.1 (λ empty.
-          made_free inputs c.in-Some.price numbers winners outside limits c.in-Some.ensures.value winners_are outside_are case
+          made_free inputs c.in-Some.price numbers winners outside limits c.in-Some.ensures.value
+          winners_are outside_are case
           (sym c.as_slice-2.ensures.value ∙ empty)))),
     )
 
@@ -41,15 +43,18 @@ invariant_of-result c =
     let winners = c.in_ok-winners.winners.items in
     let outside = c.in_ok-losers.losers.items in
     let limits = c.are_in_limits.ensures.0 c.if-not-are_in_limits.false in
-    let winners_are : winners ≡ winners_of numbers = c.in_ok-winners.ensures ∙ take_rest numbers 2 in
+    let winners_are : winners ≡ winners_of numbers = c.in_ok-winners.ensures ∙ take_rest numbers 2
+    in
     let outside_are : outside ≡ losers inputs winners =
     c.in_ok-losers.ensures ∙ ap (losers inputs) c.as_slice.ensures.value in
     let free : outside ≡ [] → price ≡ 0 =
-    λ empty. c.may_be_paid.ensures.0 c.if-not-may_be_paid.false (c.as_slice-2.ensures.value ∙ empty) in
+    λ empty. c.may_be_paid.ensures.0 c.if-not-may_be_paid.false (c.as_slice-2.ensures.value ∙ empty)
+    in
     record {
       in_limits =
           rw c.from_vec.ensures
-          (made_in_limits inputs price numbers winners outside limits c.in-Some.ensures.value winners_are
+          (made_in_limits inputs price numbers winners outside limits c.in-Some.ensures.value
+          winners_are
           outside_are free);
       outside = c.from_vec-2.ensures ∙ outside_are ∙ ap (losers inputs) (sym c.from_vec.ensures);
     }

@@ -11,4 +11,5 @@ ranged_plan-requires c =
 pub returns : goal.returns
 returns c =
     let s = c.args.self.now in
-    c.in_ok-plan.ensures ∙ ap (ranged_plan s.seals) c.in_ok-relation.ensures ∙ sym (prices_ranged s.seals s.width (s.position - 1) s.price)
+    c.in_ok-plan.ensures ∙ ap (ranged_plan s.seals) c.in_ok-relation.ensures
+    ∙ sym (prices_ranged s.seals s.width (s.position - 1) s.price)

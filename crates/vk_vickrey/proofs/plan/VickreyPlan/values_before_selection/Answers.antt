@@ -6,11 +6,13 @@ use Rattle.vk_vickrey.proofs.plan.VickreyPlan.values_before_selection.Goals as g
 pub ranged_values-requires : goal.ranged_values-requires
 ranged_values-requires c =
     let s = c.args.self.now in
-    rw c.in_ok-relation.ensures (forms_fit s.seals s.width s.position s.price s.in_limits c.args.bids.now c.requires)
+    rw c.in_ok-relation.ensures
+    (forms_fit s.seals s.width s.position s.price s.in_limits c.args.bids.now c.requires)
 
 pub returns : goal.returns
 returns c =
     let s = c.args.self.now in
     c.in_ok-values.ensures ∙ ap (ranged_values c.args.bids.now) c.in_ok-relation.ensures
-    ∙ sym (values_ranged s.seals (s.position - 1) s.width (omega (arith, s.in_limits.some_position, s.in_limits.within_seals))
+    ∙ sym (values_ranged s.seals (s.position - 1) s.width
+    (omega (arith, s.in_limits.some_position, s.in_limits.within_seals))
     s.in_limits.wide.least s.in_limits.wide.most s.price c.args.bids.now c.requires.one_each)

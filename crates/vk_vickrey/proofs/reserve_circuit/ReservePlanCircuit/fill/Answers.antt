@@ -9,15 +9,18 @@ returns-in-Some c =
     let vickrey = c.in-Some.vickrey in
     let above = c.in-Some.ensures.above in
     c.in_ok-values.ensures.filled
-    ∙ values_without s.seals s.width s.reserve vickrey.position vickrey.price vickrey.seals vickrey.width s.sale c.args.inputs.now above.0 above.1 above.2 above.3
+    ∙ values_without s.seals s.width s.reserve vickrey.position vickrey.price vickrey.seals
+    vickrey.width s.sale c.args.inputs.now above.0 above.1 above.2 above.3
 
 pub ranged_values-requires : goal.ranged_values-requires
 ranged_values-requires c =
     let s = c.args.self.now in
-    rw c.in_ok-ranges.ensures (sale_filled s.seals s.width s.reserve s.sale c.args.inputs.now s.in_limits (c.in_default.ensures.within refl) c.requires)
+    rw c.in_ok-ranges.ensures (sale_filled s.seals s.width s.reserve s.sale c.args.inputs.now
+    s.in_limits (c.in_default.ensures.within refl) c.requires)
 
 pub returns : goal.returns
 returns c =
     let s = c.args.self.now in
     c.in_ok-values-2.ensures ∙ ap (ranged_values c.args.inputs.now) c.in_ok-ranges.ensures
-    ∙ sym (values_within s.seals s.width s.reserve s.sale c.args.inputs.now (c.in_default.ensures.within refl))
+    ∙ sym (values_within s.seals s.width s.reserve s.sale c.args.inputs.now
+    (c.in_default.ensures.within refl))

@@ -10,7 +10,8 @@ returns-in-Some-clause-plan c =
     let vickrey = c.in-Some.vickrey in
     let above = c.in-Some.ensures.above in
     c.in_ok-plan.ensures.plan
-    ∙ plan_without s.seals s.width s.reserve vickrey.position vickrey.price vickrey.seals vickrey.width s.sale above.0 above.1 above.2 above.3
+    ∙ plan_without s.seals s.width s.reserve vickrey.position vickrey.price vickrey.seals
+    vickrey.width s.sale above.0 above.1 above.2 above.3
 
 pub ranged_plan-requires : goal.ranged_plan-requires
 ranged_plan-requires c =
@@ -20,14 +21,17 @@ ranged_plan-requires c =
 pub returns-clause-plan : goal.returns-clause-plan
 returns-clause-plan c =
     let s = c.args.self.now in
-    c.in_ok-plan-2.ensures ∙ ap (ranged_plan s.seals) c.in_ok-ranges.ensures ∙ sym (plan_within s.seals s.width s.reserve s.sale (c.in_default.ensures.within refl))
+    c.in_ok-plan-2.ensures ∙ ap (ranged_plan s.seals) c.in_ok-ranges.ensures
+    ∙ sym (plan_within s.seals s.width s.reserve s.sale (c.in_default.ensures.within refl))
 
 pub returns-clause-wires : goal.returns-clause-wires
 returns-clause-wires c =
     let s = c.args.self.now in
-    ap (λ (p : PlanValue). length p.kinds) (returns-clause-plan c) ∙ reserve_wires s.seals s.width s.reserve s.sale s.in_limits.some_seals
+    ap (λ (p : PlanValue). length p.kinds) (returns-clause-plan c)
+    ∙ reserve_wires s.seals s.width s.reserve s.sale s.in_limits.some_seals
 
 pub returns-clause-rows : goal.returns-clause-rows
 returns-clause-rows c =
     let s = c.args.self.now in
-    ap (λ (p : PlanValue). length p.rows) (returns-clause-plan c) ∙ reserve_rows s.seals s.width s.reserve s.sale s.in_limits.some_seals
+    ap (λ (p : PlanValue). length p.rows) (returns-clause-plan c)
+    ∙ reserve_rows s.seals s.width s.reserve s.sale s.in_limits.some_seals
