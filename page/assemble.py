@@ -1,0 +1,68 @@
+#!/usr/bin/env python3
+"""page/assemble.py MODULE OUT: puts the one page together, from page.html, page.css, the scripts and
+the module.
+
+page.html has each of these tokens once. Each is replaced by its text, byte for byte:
+
+    @STYLE@ @STYLE_HASH@      page.css, and its digest (SHA-256, base64)
+    @SCRIPT@ @SCRIPT_HASH@    the scripts one behind another, and their digest
+    @MODULE@                  the module in base64
+"""
+import base64
+import hashlib
+import os
+import re
+import sys
+
+SCRIPTS = ("module", "work", "sentences", "fields", "parts", "check", "bid", "audit", "page")
+HERE = os.path.dirname(os.path.abspath(__file__))
+# What would end the element that a text stands in, or be read as another text than the digest's
+ODD = re.compile(rb"</|<!--|\r|\0")
+
+
+def read(path):
+    with open(path, "rb") as file:
+        return file.read()
+
+
+def own(name):
+    return read(os.path.join(HERE, name))
+
+
+def digest(text):
+    return base64.b64encode(hashlib.sha256(text).digest())
+
+
+def texts(module):
+    style, script = own("page.css"), b"".join(own(f"{name}.js") for name in SCRIPTS)
+    for name, text in (("page.css", style), ("the scripts", script)):
+        if ODD.search(text):
+            sys.exit(f"assemble: {name}: has a carriage return, a zero byte, `</` or `<!--`")
+    return {
+        b"@STYLE@": style,
+        b"@STYLE_HASH@": digest(style),
+        b"@SCRIPT@": script,
+        b"@SCRIPT_HASH@": digest(script),
+        b"@MODULE@": base64.b64encode(module),
+    }
+
+
+def page_of(template, replaced):
+    """The template is cut at its tokens first, so that none is looked for in a text put in."""
+    parts = re.split(rb"(@[A-Z_]+@)", template)
+    found = sorted(part for part in parts[1::2])
+    if found != sorted(replaced):
+        sys.exit(f"assemble: page.html has the tokens {b' '.join(found).decode()}")
+    return b"".join(replaced.get(part, part) for part in parts)
+
+
+def main():
+    if len(sys.argv) != 3:
+        sys.exit(__doc__)
+    page = page_of(own("page.html"), texts(read(sys.argv[1])))
+    with open(sys.argv[2], "wb") as file:
+        file.write(page)
+
+
+if __name__ == "__main__":
+    main()

@@ -1,0 +1,517 @@
+// page/parts.js: how work goes, and how an answer is shown; what all tools of the page share.
+//
+// Texts go in by textContent alone; the policy refuses any other way.
+const Parts = (() => {
+  const { find, make, sized, quoted, typed, given, mark, mayRun, headOf, isTooLong } = Fields;
+  const { good, bad, odd } = Sentences;
+  const SHOWN_LINES = 400;
+
+  // ---- Work in a Worker, and how it goes
+
+  // Bytes that a second does, as a first guess, by command. Each longer run makes it better.
+  const rates = { digest: 150e6, report: 60e6, verify: 15e6, "claim-verify": 15e6 };
+  const OTHER_RATE = 10e6;
+
+  // Seconds of the commands that are handed no files.
+  const SECONDS = { sample: 4, "claim-sample": 0.5 };
+
+  const setting = { queue: null, code: null };
+
+  const seconds = (time) => (time < 10 ? time.toFixed(1) : String(Math.round(time)));
+
+  // Secrets that were made here, and that nobody has saved yet.
+  const unsaved = new Set();
+
+  // The place where a tool says how its work goes, and what came of it.
+  class Place {
+    // Where it `keeps` what was made, each result has a title of its own.
+    constructor(element, keeps = false) {
+      this.keeps = keeps;
+      this.say = make("p", { className: "say" });
+      this.say.setAttribute("role", "status");
+      this.bar = make("progress", { max: 1 });
+      this.bar.setAttribute("aria-label", "How far it is, about");
+      this.time = make("span", { className: "time" });
+      this.stop = make("button", { type: "button", className: "small", textContent: "Stop" });
+      this.row = make("div", { className: "row", hidden: true }, this.bar, this.time, this.stop);
+      this.result = make("div", { className: "results" });
+      element.append(this.say, this.row, this.result);
+      this.form = element.closest("form");
+      this.jobs = [];
+      this.addresses = [];
+      this.turn = 0;
+      this.stop.addEventListener("click", () => this.stopped());
+    }
+
+    // Does something that may read files here, and says where that fails.
+    async follow(doing) {
+      try {
+        await doing();
+      } catch (error) {
+        const unread = error instanceof DOMException;
+        const about = unread ? "one of the files" : String(error);
+        this.tell(Sentences.fault(unread ? "unreadable" : "page", about));
+      }
+    }
+
+    tell({ mood, title }) {
+      Object.assign(this.say, { className: `say ${mood}`, textContent: title });
+    }
+
+    stopped() {
+      this.cease("Stopped. Nothing was found out.");
+      this.form.querySelector("button[type=submit]").focus();
+    }
+
+    // Stops what runs or waits here, and says why; false if nothing did.
+    cease(why) {
+      const stopped = this.jobs.splice(0).filter((job) => job.stop());
+      if (stopped.length) {
+        this.tell(odd(why));
+      }
+      return stopped.length > 0;
+    }
+
+    // Takes away what is shown. What is still on its way comes in an earlier turn, and isn't shown.
+    clear() {
+      this.turn++;
+      this.cease("");
+      this.tell({ mood: "", title: "" });
+      this.addresses.splice(0).forEach((address) => URL.revokeObjectURL(address));
+      this.result.replaceChildren();
+    }
+
+    // A link that saves bytes as a file of that name.
+    link(name, bytes, text = `Save ${name} (${sized(bytes.length)})`) {
+      const type = "application/octet-stream";
+      const address = URL.createObjectURL(new Blob([bytes], { type }));
+      this.addresses.push(address);
+      return make("a", { href: address, download: name, className: "save", textContent: text });
+    }
+
+    // The same of a secret: who leaves the page without it is asked whether that is meant.
+    secretLink(name, bytes) {
+      const link = this.link(name, bytes);
+      unsaved.add(link);
+      link.addEventListener("click", () => unsaved.delete(link));
+      return link;
+    }
+  }
+
+  const paragraph = (textContent) => make("p", { textContent });
+  const paragraphs = (texts) => texts.filter(Boolean).map(paragraph);
+
+  const smallButton = (textContent) =>
+    make("button", { type: "button", className: "small", textContent });
+
+  // One piece of work of the queue, with a bar that shows about how far it is. What comes of it
+  // goes to `then`.
+  class Job {
+    constructor(place, doing, message, size, then) {
+      Object.assign(this, { place, doing, message, size, then });
+      this.kind = message.task === "command" ? message.words[0] : message.task;
+      place.jobs.push(this);
+      place.result.setAttribute("aria-busy", "true");
+      place.tell(odd(`${doing}: waiting for other work on this page.`));
+      setting.queue.add(this);
+    }
+
+    began() {
+      this.start = performance.now();
+      this.guess = SECONDS[this.kind] || this.size / (rates[this.kind] || OTHER_RATE);
+      const about = this.guess > 0.5 ? `: about ${seconds(this.guess)} seconds, by its size` : "";
+      this.place.tell(odd(`${this.doing}${about}.`));
+      this.timer = setInterval(() => this.show(), 150);
+    }
+
+    taken() {
+      return (performance.now() - this.start) / 1000;
+    }
+
+    show() {
+      const { bar, time, row } = this.place;
+      const taken = this.taken();
+      row.hidden = taken < 0.3;
+      if (taken < this.guess) {
+        bar.value = Math.min(0.97, taken / this.guess);
+        time.textContent = `about ${seconds(this.guess - taken)} s more`;
+      } else {
+        bar.removeAttribute("value");
+        time.textContent = `${seconds(taken)} s so far; how much more isn't known`;
+      }
+    }
+
+    over() {
+      clearInterval(this.timer);
+      this.place.row.hidden = true;
+      this.place.jobs = this.place.jobs.filter((job) => job !== this);
+      this.place.result.setAttribute("aria-busy", String(this.place.jobs.length > 0));
+    }
+
+    answered(answer) {
+      if (this.size > 1e6) {
+        rates[this.kind] = this.size / this.taken();
+      }
+      this.over();
+      this.place.tell({ mood: "", title: "" });
+      this.place.follow(() => this.then(answer));
+    }
+
+    failed(fault, about) {
+      this.over();
+      const sentence = Sentences.fault(fault, about);
+      this.place.tell(sentence);
+      this.place.result.prepend(make("div", { className: "result" }, ...paragraphs(sentence.more)));
+    }
+
+    stop() {
+      this.over();
+      return setting.queue.stop(this);
+    }
+  }
+
+  // Runs a command of the program. `files` has, by the names in the words, what it is handed: each
+  // with its `file`, and `from` where that was made on this page. Of the first the answer has the
+  // digest and the head too.
+  function command(place, doing, words, files, more, then) {
+    const { wanted = [], roomSize = 16 * 1024 * 1024, secret = null } = more;
+    const held = Object.entries(files).map(([name, { file }]) => [name, file]);
+    const size = held.reduce((sum, [, file]) => sum + file.size, 0);
+    const main = held.length ? held[0][0] : null;
+    const rest = { words, files: held, main, wanted, roomSize };
+    const message = { task: "command", code: setting.code, ...rest };
+    const { turn } = place;
+    const tell = (answer) => then({ ...answer, words, handed: files, secret, turn });
+    return new Job(place, doing, message, size, tell);
+  }
+
+  function digestJob(place, name, file, then) {
+    return new Job(place, "Computing the digest", { task: "digest", name, file }, file.size, then);
+  }
+
+  function moduleJob(place, then) {
+    return new Job(place, "Looking at the module", { task: "module", code: setting.code }, 0, then);
+  }
+
+  // ---- What is shown of an answer
+
+  // A file that was handed to the program; of the first one with its digest.
+  function described([name, { file, from }], digest) {
+    const what = from ? from : quoted(file.name);
+    const parts = [make("code", { textContent: name }), ": ", what, `, ${sized(file.size)}`];
+    if (digest) {
+      parts.push(", SHA-256 ", make("code", { className: "digest", textContent: digest }));
+    }
+    return make("li", {}, ...parts);
+  }
+
+  // The words of a command. One that is secret is shown when that is asked for.
+  function wordsShown(words, secret) {
+    const line = (hides) => {
+      const shown = words.map((word) => (hides && word === secret ? "(seed)" : word));
+      return `vickrey ${shown.join(" ")}`;
+    };
+    const code = make("code", { className: "words", textContent: line(true) });
+    if (!secret) {
+      return [code];
+    }
+    const button = smallButton("Show the seed");
+    button.addEventListener("click", () => {
+      const hides = code.textContent === line(false);
+      code.textContent = line(hides);
+      button.textContent = hides ? "Show the seed" : "Hide the seed";
+    });
+    return [code, " ", button];
+  }
+
+  // The printed lines; of very many the first, and the rest when that is asked for.
+  function linesShown(place, text) {
+    const lines = text.split("\n");
+    const pre = make("pre", { tabIndex: 0, textContent: text || "(nothing)" });
+    pre.setAttribute("role", "region");
+    pre.setAttribute("aria-label", "Lines that the program printed");
+    if (lines.length <= SHOWN_LINES) {
+      return [pre];
+    }
+    pre.textContent = lines.slice(0, SHOWN_LINES).join("\n");
+    const rest = (lines.length - 1 - SHOWN_LINES).toLocaleString("en");
+    const button = smallButton(`Show ${rest} more lines`);
+    button.addEventListener("click", () => {
+      pre.textContent = text;
+      button.remove();
+      pre.focus();
+    });
+    const save = place.link("printed", new TextEncoder().encode(text), "Save all lines");
+    return [pre, make("p", { className: "doing" }, button, " ", save)];
+  }
+
+  // The words, the status and the lines of an answer, as they are.
+  function said(place, { words, status, text, handed, secret, digest }) {
+    const shown = make("strong", { className: "status", textContent: Sentences.status(status) });
+    const parts = [
+      make("h3", { textContent: "What the program said" }),
+      make("p", {}, "Words: ", ...wordsShown(words, secret)),
+      make("p", {}, "Status: ", shown),
+    ];
+    const files = Object.entries(handed);
+    if (files.length) {
+      parts.push(make("p", { textContent: "Files that it was handed:" }));
+      const list = files.map((file, number) => described(file, number === 0 && digest));
+      parts.push(make("ul", {}, ...list));
+    }
+    parts.push(make("p", { textContent: "Lines that it printed:" }), ...linesShown(place, text));
+    return make("div", { className: "said" }, ...parts);
+  }
+
+  const sentenceOf = ({ words, status, text }) => Sentences.explain(words[0], status, text);
+
+  // Shows an answer: its sentence, more parts if there are any, and what the program said.
+  function show(place, answer, parts = [], sentence = sentenceOf(answer)) {
+    if (answer.turn !== place.turn) {
+      return;
+    }
+    place.tell(sentence);
+    const head = place.keeps ? [make("h3", { textContent: sentence.title })] : [];
+    const all = [...head, ...paragraphs(sentence.more), ...parts, said(place, answer)];
+    place.result.prepend(make("div", { className: "result" }, ...all));
+  }
+
+  const STATES = { ok: "ok", wrong: "FAILED", open: "not compared" };
+
+  // A list of what was compared: each item has a state, what it is about, and perhaps a note.
+  function checklist(items) {
+    const rows = items.map(([state, what, note]) => {
+      const shown = make("strong", { className: "state", textContent: STATES[state] });
+      return make("li", { className: state }, shown, ` ${what}`, note ? `: ${note}` : "");
+    });
+    return make("ul", { className: "checklist" }, ...rows);
+  }
+
+  // The sentence for what is accepted: what was compared beside it counts as much.
+  function weighed(list, sentence) {
+    const number = (state) => list.filter(([found]) => found === state).length;
+    const [wrong, open] = [number("wrong"), number("open")];
+    if (wrong) {
+      return bad(`The reply is accepted, but don't rely on it: ${wrong} FAILED in the list below.`);
+    }
+    if (open) {
+      const title = `The reply is accepted. Of the list below, ${open} are not compared.`;
+      return odd(title, ...sentence.more);
+    }
+    return good("The reply is accepted, and all that was announced agrees.", ...sentence.more);
+  }
+
+  function table(caption, heads, rows) {
+    const head = heads.map((textContent) => make("th", { textContent, scope: "col" }));
+    const body = rows.map((row) => {
+      const cells = row.map((textContent) => make("td", { textContent }));
+      return make("tr", {}, ...cells);
+    });
+    const parts = [
+      make("caption", { textContent: caption }),
+      make("thead", {}, make("tr", {}, ...head)),
+      make("tbody", {}, ...body),
+    ];
+    const box = make("div", { className: "wide-table", tabIndex: 0 }, make("table", {}, ...parts));
+    box.setAttribute("role", "region");
+    box.setAttribute("aria-label", caption);
+    return box;
+  }
+
+  // ---- What tools share
+
+  const CHANGED = "Something here was changed since. Press the button again.";
+
+  // A tool is a form with a place below it. What it showed goes when something in it is changed,
+  // but not where it `keeps` what it made.
+  function beginTool(id, run, keeps = false) {
+    const form = find(id);
+    const place = new Place(find(`${id}-work`), keeps);
+    form.addEventListener("submit", (event) => {
+      event.preventDefault();
+      if (keeps) {
+        place.cease("");
+      } else {
+        place.clear();
+      }
+      if (mayRun(form)) {
+        place.follow(() => run(place));
+      } else {
+        place.tell(bad("Something above is missing, or isn't of its form."));
+      }
+    });
+    const changed = () => {
+      const had = place.result.hasChildNodes();
+      if (!keeps && (place.cease(CHANGED) || had)) {
+        place.clear();
+        place.tell(odd(CHANGED));
+      }
+    };
+    form.addEventListener("input", changed);
+    form.addEventListener("change", changed);
+    return place;
+  }
+
+  const textFile = (text, from) => ({ file: new Blob([text]), from });
+
+  const challengeText = (bits) => `vickrey-challenge 1\nbits ${bits}\nend\n`;
+
+  // The challenge of a tool: its file, or else one that is made of the bits that were typed. Null
+  // where there is neither, which is said at the field.
+  async function challengeOf(id) {
+    const file = given(`${id}-challenge`);
+    const bits = typed(`${id}-bits`);
+    if (file) {
+      return { file: await Fields.copied(file) };
+    }
+    if (bits) {
+      return textFile(challengeText(bits), "made of the bits that were typed");
+    }
+    mark(find(`${id}-bits`), "Type the bits, or choose the challenge as a file.");
+    Fields.goTo(find(`${id}-bits`));
+    return null;
+  }
+
+  // Whether the bits that were typed are those of the challenge: an item of a list.
+  async function challengeItem(id, { file, from }) {
+    const what = "the challenge is the one that the challenger published";
+    const bits = typed(`${id}-bits`);
+    if (!bits) {
+      return ["open", what, "type the bits, as they were published"];
+    }
+    if (from) {
+      return ["ok", what, "as you typed it"];
+    }
+    const same = (await headOf(file, 256)) === challengeText(bits);
+    return same ? ["ok", what] : ["wrong", what, "the file has other bits than you typed"];
+  }
+
+  // ---- Digests
+
+  // What stands in a field for a published digest: 64 digits, or a line of sha256sum.
+  function publishedDigest(id) {
+    const text = find(id).value.trim().toLowerCase();
+    const found = /^([0-9a-f]{64})(\s.*)?$/.exec(text);
+    return { text, digest: found ? found[1] : null };
+  }
+
+  // The digest of the file in a field, and whether it is the published one, as both come.
+  class DigestBox {
+    constructor(id, name, what) {
+      Object.assign(this, { id, name, what, found: null });
+      this.place = new Place(find(`${id}-${name}-work`));
+      this.field = find(`${id}-digest`);
+      this.told = find(`${id}-digest-told`);
+      this.field.addEventListener("input", () => this.compare());
+      find(`${id}-${name}`).addEventListener("change", () => this.begin());
+    }
+
+    begin() {
+      const file = given(`${this.id}-${this.name}`);
+      this.place.clear();
+      this.found = null;
+      this.compare();
+      if (file && !isTooLong(file)) {
+        digestJob(this.place, this.name, file, (digest) => this.show(file, digest));
+      }
+      this.chosen(file);
+    }
+
+    // What else is to be done with a file that was chosen, or with none.
+    chosen() {}
+
+    show(file, digest) {
+      this.found = digest;
+      const shown = make("code", { className: "digest", textContent: digest });
+      const text = `SHA-256 digest of ${this.what}'s ${file.size.toLocaleString("en")} bytes: `;
+      this.place.result.prepend(make("p", {}, text, shown));
+      this.compare();
+    }
+
+    // Whether the digest of the bytes that were judged is the published one: an item of a list.
+    item(judged) {
+      const what = `${this.what}'s digest is the one that was public before the draw`;
+      const { text, digest } = publishedDigest(`${this.id}-digest`);
+      if (!text) {
+        return ["open", what, "type the published digest"];
+      }
+      if (!digest) {
+        return ["wrong", what, "what is typed is no digest of 64 digits"];
+      }
+      return digest === judged ? ["ok", what] : ["wrong", what, `this one is ${judged}`];
+    }
+
+    compare() {
+      const { text, digest } = publishedDigest(`${this.id}-digest`);
+      const tell = (mood, title) => {
+        Object.assign(this.told, { className: `told ${mood}`, textContent: title });
+      };
+      if (!text) {
+        tell("", "");
+      } else if (!digest) {
+        tell("bad", "A digest has 64 digits, 0 to 9 and a to f.");
+      } else if (!this.found) {
+        tell("", `It is compared when ${this.what} is there.`);
+      } else if (digest === this.found) {
+        tell("good", "Same: these are the bytes whose digest was published.");
+      } else {
+        tell("bad", `Different: this isn't the file that was public. Don't rely on ${this.what}.`);
+      }
+    }
+  }
+
+  // ---- Seals on a board
+
+  const SEAL_BYTES = 64 * 1024;
+
+  // What a board publishes, from the lines that `report` printed.
+  function factsOf(text) {
+    const facts = { seats: [], winner: null, reserve: null };
+    for (const [key, value = ""] of text.split("\n").map((line) => line.split(" "))) {
+      if (key === "seat") {
+        facts.seats.push(value);
+      } else {
+        facts[key] = value;
+      }
+    }
+    return facts;
+  }
+
+  // The seal of a seat as it stands in the head of a board, as the text of a file; null if there
+  // is none.
+  function sealOnBoard(head, seat) {
+    const lines = head.split("\n");
+    const start = lines.indexOf(`seal ${seat}`) + 1;
+    if (start === 0) {
+      return null;
+    }
+    const length = lines.slice(start).findIndex((line) => !line.startsWith("x "));
+    const digests = lines.slice(start, start + length);
+    const first = ["vickrey-seal 1", lines[1], `seat ${seat}`, lines[3]];
+    return [...first, ...digests, "end", ""].join("\n");
+  }
+
+  // Whether the seal in a file stands in the head of a board: an item of a list, and its seat.
+  async function sealItem(head, file) {
+    const text = await headOf(file, SEAL_BYTES);
+    const found = /^vickrey-seal 1\nauction [0-9a-f]{32}\nseat ([1-9][0-9]{0,4})\n/.exec(text);
+    if (!found) {
+      const item = ["wrong", "my seal stands on the board", "the file isn't a seal"];
+      return { seat: null, item };
+    }
+    const seat = found[1];
+    const what = `the seal of seat ${seat} stands on the board`;
+    const onBoard = sealOnBoard(head, seat);
+    if (onBoard === null) {
+      return { seat, item: ["wrong", what, "the board has none at that seat"] };
+    }
+    const same = onBoard === text && file.size <= SEAL_BYTES;
+    return { seat, item: same ? ["ok", what] : ["wrong", what, "the board has another one there"] };
+  }
+
+  return {
+    Place, DigestBox, setting, unsaved, paragraphs, smallButton, command, moduleJob, show, said,
+    sentenceOf, checklist, weighed, table, beginTool, textFile, challengeOf, challengeItem, factsOf,
+    sealOnBoard, sealItem,
+  };
+})();

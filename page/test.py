@@ -1,0 +1,128 @@
+#!/usr/bin/env python3
+"""page/test.py PROGRAM [--page FILE] [--pictures FOLDER] [--only BROWSER] [--trial NAME]
+
+Uses the built page in Chromium and Firefox, without a window, as a seller, a bidder and an auditor
+would, and wrongly on purpose. All files are made by the built program PROGRAM, and what the page
+says of them has to be what the program says, status and lines. It is no part of the gate, and
+wants Debian's packages chromium and firefox-esr, and Python's standard library.
+
+  --page      the page, if not page/vickrey.html
+  --pictures  a folder for a picture of each tab: in light, in dark, and on a phone
+  --only      chromium or firefox alone
+  --trial     only the trials whose names have this in them
+
+It prints a line for each trial, and ends with status 0 only if none failed.
+"""
+import argparse
+import os
+import shutil
+import sys
+import tempfile
+import time
+import traceback
+
+from browser import BROWSERS, Chromium, Firefox
+from trials.desk import Desk
+from trials.hostile import HOSTILE, Listener
+from trials.made import Made
+from trials.poor import POOR
+from trials.reach import REACH, take_pictures
+from trials.use import USE, digests_without_the_browser
+
+HERE = os.path.dirname(os.path.abspath(__file__))
+
+
+class Table:
+    """The trials that were made, line by line."""
+
+    def __init__(self, wanted):
+        self.wanted = wanted
+        self.passed = self.failed = 0
+
+    def row(self, browser, trial, *words):
+        if self.wanted not in trial.__name__:
+            return
+        began = time.monotonic()
+        try:
+            trial(*words)
+        except (
+            Exception
+        ) as fault:  # a fault of any kind is a trial that failed, and the next one follows
+            self.failed += 1
+            place = traceback.extract_tb(fault.__traceback__)[1:]
+            lines = " ".join(f"{os.path.basename(at.filename)}:{at.lineno}" for at in place)
+            print(
+                f"FAILED  {browser:<9} {trial.__name__}: {str(fault)[:600]} ({lines})", flush=True
+            )
+        else:
+            self.passed += 1
+            print(
+                f"ok      {browser:<9} {trial.__name__} ({time.monotonic() - began:.1f} s)",
+                flush=True,
+            )
+
+
+def without_a_secure_context(kind, table, page, made):
+    """Digests on a page that came over a plain connection, which has none of the browser's own."""
+    listener = Listener(os.path.dirname(page))
+    name = "plain.test"
+    if kind is Chromium:
+        browser = Chromium(flags=[f"--host-resolver-rules=MAP {name} 127.0.0.1"])
+    else:
+        browser = Firefox(
+            settings={"network.dns.localDomains": name, "dom.security.https_first": False}
+        )
+    try:
+        with browser:
+            desk = Desk(browser, f"http://{name}:{listener.port}/{os.path.basename(page)}", made)
+
+            def digests_of_the_page(desk):
+                assert not digests_without_the_browser(
+                    desk
+                ), "this context has the browser's digests"
+
+            table.row(kind.name, digests_of_the_page, desk)
+    finally:
+        listener.close()
+
+
+def try_browser(kind, table, page, made, pictures):
+    address = f"file://{page}"
+    with kind() as browser:
+        browser.resize(1100, 900)
+        desk = Desk(browser, address, made)
+        for trial in [*USE, digests_without_the_browser, *REACH, *HOSTILE]:
+            table.row(kind.name, trial, desk)
+        if pictures:
+            table.row(kind.name, take_pictures, desk, pictures)
+    without_a_secure_context(kind, table, page, made)
+    for trial in POOR:
+        table.row(kind.name, trial, kind, address, made)
+
+
+def main():
+    parser = argparse.ArgumentParser(usage=__doc__)
+    parser.add_argument("program")
+    parser.add_argument("--page", default=os.path.join(HERE, "vickrey.html"))
+    parser.add_argument("--pictures")
+    parser.add_argument("--only", choices=sorted(BROWSERS))
+    parser.add_argument("--trial", default="")
+    words = parser.parse_args()
+    pictures = words.pictures and os.path.abspath(words.pictures)
+    if pictures:
+        os.makedirs(pictures, exist_ok=True)
+    folder = tempfile.mkdtemp(prefix="page-")
+    table = Table(words.trial)
+    try:
+        made = Made(words.program, folder)
+        for name, kind in BROWSERS.items():
+            if words.only in (None, name):
+                try_browser(kind, table, os.path.realpath(words.page), made, pictures)
+    finally:
+        shutil.rmtree(folder, ignore_errors=True)
+    print(f"{table.passed} passed, {table.failed} failed")
+    return 1 if table.failed or not table.passed else 0
+
+
+if __name__ == "__main__":
+    sys.exit(main())

@@ -1,0 +1,144 @@
+"""The files that the page is tried on. The program makes them, and says what they come to."""
+import hashlib
+import os
+import random
+import shutil
+import subprocess
+from collections import namedtuple
+
+# What a command came to: its status, and the lines that it printed.
+Said = namedtuple("Said", "status text")
+
+ID = "000102030405060708090a0b0c0d0e0f"
+WIDTH, LANES = 6, 4
+# Seats in their order, with their bids. Seat 300 wins, and pays 33.
+BIDS = {7: 20, 9: 33, 300: 50}
+RESERVE = 40
+
+
+class Made:
+    """A folder of files, and the program that made them."""
+
+    def __init__(self, program, folder):
+        self.program = os.path.realpath(program)
+        self.folder = folder
+        self.random = random.Random("page")
+        for make in (self.auction, self.reserved, self.claims, self.coin, self.damaged):
+            make()
+
+    def path(self, name):
+        return os.path.join(self.folder, name)
+
+    def bytes(self, name):
+        with open(self.path(name), "rb") as file:
+            return file.read()
+
+    def digest(self, name):
+        return hashlib.sha256(self.bytes(name)).hexdigest()
+
+    def put(self, name, data):
+        with open(self.path(name), "wb") as file:
+            file.write(data if isinstance(data, bytes) else data.encode())
+
+    def seed(self):
+        return self.random.randbytes(32).hex()
+
+    def run(self, *words, folder=None):
+        done = subprocess.run(
+            [self.program, *map(str, words)],
+            cwd=folder or self.folder,
+            stdout=subprocess.PIPE,
+            stderr=subprocess.DEVNULL,
+            check=False,
+        )
+        return Said(done.returncode, done.stdout.decode())
+
+    def must(self, *words, folder=None):
+        said = self.run(*words, folder=folder)
+        if said.status:
+            raise AssertionError(f"{words}: {said}")
+        return said
+
+    def said(self, words, files):
+        """What the program says of words, where files of the folder have the names in them."""
+        place = self.path("said")
+        shutil.rmtree(place, ignore_errors=True)
+        os.mkdir(place)
+        for name, source in files.items():
+            os.link(self.path(source), os.path.join(place, name))
+        return self.run(*words, folder=place)
+
+    def house(self, name, bits, *reserve):
+        """An auction with one answer, in a folder of its own: its board and its reply."""
+        place = self.path(f"house-{name}")
+        os.mkdir(place)
+        self.must("announce", ID, WIDTH, LANES, *reserve, folder=place)
+        for seat in BIDS:
+            seal, secret = self.path(f"seal-{seat}"), self.path(f"secret-{seat}")
+            self.must("submit", ID, seal, secret, folder=place)
+        self.must("prove", ID, "aa" * 32, self.path(f"board{name}"), folder=place)
+        challenge = self.path(f"challenge-{bits}")
+        self.must("answer", ID, challenge, self.path(f"reply{name}-{bits}"), folder=place)
+        shutil.rmtree(place)
+
+    def auction(self):
+        for bits in ("0110", "1100"):
+            self.put(f"challenge-{bits}", f"vickrey-challenge 1\nbits {bits}\nend\n")
+        for seat, bid in BIDS.items():
+            words = (ID, seat, bid, WIDTH, LANES, self.seed(), f"secret-{seat}", f"seal-{seat}")
+            self.must("seal", *words)
+        self.house("", "0110")
+        os.rename(self.path("board"), self.path("board-once"))
+        # A second answer, from a store that was made again. It gives every bid away.
+        self.house("", "1100")
+        if self.bytes("board") != self.bytes("board-once"):
+            raise AssertionError("one auction, two boards")
+        self.must("seal", ID, 7, 21, WIDTH, LANES, self.seed(), "secret-7-other", "seal-7-other")
+        self.must("seal", ID, 8, 21, WIDTH, LANES, self.seed(), "secret-8", "seal-8")
+
+    def reserved(self):
+        self.house("-reserve", "0110", RESERVE)
+        self.house("-unsold", "0110", 60)
+
+    def claims(self):
+        for kind in ("uniform", "matching"):
+            self.must("claim-sample", kind, 1)
+            for name in ("board", "challenge-1", "reply-1", "challenge-2", "reply-2"):
+                os.rename(self.path(f"claim-{name}"), self.path(f"{kind}-{name}"))
+
+    def coin(self):
+        self.parts = []
+        for auditor in (1, 2, 3):
+            said = self.must("coin-part", ID, auditor, LANES, self.seed(), f"share-{auditor}")
+            self.parts.append(said.text)
+        shares = [self.bytes(f"share-{auditor}").decode().split("\n")[3] for auditor in (1, 2, 3)]
+        lines = ["vickrey-coin 1", f"auction {ID}", f"bits {LANES}", "auditors 3"]
+        lines += [part.replace(" commit ", " ").strip() for part in self.parts]
+        lines += [line.replace("show", f"show {place + 1}") for place, line in enumerate(shares)]
+        self.put("coin", "\n".join([*lines, "end", ""]))
+
+    def damaged(self):
+        """Files in which one thing is wrong."""
+        board = self.bytes("board").decode()
+        lines = board.split("\n")
+        self.put("board-cut", "\n".join(lines[:20]) + "\n")
+        self.put("board-price", board.replace("price 33\n", "price 34\n"))
+        self.put("board-high", board.replace("price 33\n", "price 64\n"))
+        self.put("board-winner", board.replace("winner 300\n", "winner 8\n"))
+        reply = self.bytes("reply-0110").decode()
+        wrong = reply.replace("\nh ", "\nh 0", 1)
+        key = reply.index("\nh ") + 3
+        turned = "0" if reply[key] != "0" else "1"
+        self.put("reply-key", reply[:key] + turned + reply[key + 1 :])
+        self.put("reply-longer", wrong)
+        self.put("reply-two-lanes", reply.replace("lanes 4\n", "lanes 2\n"))
+        claim = self.bytes("uniform-board").decode()
+        self.put("claim-public", claim.replace("\nn 16\n", "\nn 0\n", 1))
+        share = self.bytes("share-2").decode()
+        bits = share[share.index("show ") + 5 + 65 :].split("\n")[0]
+        other = ("1" if bits[0] == "0" else "0") + bits[1:]
+        self.put("share-2-other", share.replace(f" {bits}\n", f" {other}\n"))
+        self.put("empty", b"")
+        self.put("noise", random.Random("noise").randbytes(300_000))
+        self.put("text", "<script>document.title = 'taken'</script>\n" * 10)
+        self.put("only-end", "end\n")

@@ -1,0 +1,149 @@
+"""Who can use the page: by keyboard, by a screen reader, in dark and in light, on a phone."""
+import os
+
+from .use import ACCEPTED, TWO, announced
+from .desk import script
+from .made import ID, LANES, WIDTH
+
+TABS = ("check", "bid", "audit")
+
+
+def fill_all(desk):
+    """Each tab with something in it: good, bad and neither."""
+    desk.use("check", **ACCEPTED, **announced(desk.made, width=7, digest=""))
+    desk.browser.click("#tab-bid")
+    desk.use("seal", id=ID, seat=7, bid=20, width=WIDTH, lanes=LANES)
+    desk.save("seal", "secret-7")
+    desk.use("seal", bid="15.50")
+    desk.use("mine", board=["board"], seal=["seal-7"], secret=["secret-7"])
+    desk.use("confront", board=["board"], **TWO, secret=["secret-7-other"])
+    desk.browser.click("#tab-audit")
+    desk.use("part", id=ID, auditor=1, lanes=LANES)
+    desk.save("part", "share-1")
+    desk.use("join", parts="".join(desk.made.parts), shares=["share-1", "share-2", "share-3"])
+    desk.use("extract", board=["board"], **TWO)
+    desk.use("derive", board=["board"])
+    claim = {name: [f"uniform-{name}-1"] for name in ("challenge", "reply")}
+    desk.use("claim", claim=["uniform-board"], **claim)
+    desk.use("sample", kind="matching", number=1)
+    desk.browser.click("#tab-check")
+
+
+def all_is_named(desk):
+    """Labels, names and references, before and after there are answers."""
+    desk.open()
+    assert desk.run(script("unnamed")) == []
+    fill_all(desk)
+    assert desk.run(script("unnamed")) == []
+
+
+def all_can_be_read(desk):
+    """Contrast of WCAG AA of every text and of every field's edge, in light and in dark."""
+    desk.open()
+    fill_all(desk)
+    try:
+        for dark in (False, True):
+            desk.browser.paint(dark)
+            for tab in TABS:
+                desk.browser.click(f"#tab-{tab}")
+                seen, faint = desk.run(script("faint"))
+                assert seen > 30 and not faint, (dark, tab, seen, faint)
+    finally:
+        desk.browser.paint(False)
+
+
+def fits_a_phone(desk):
+    """At 360 pixels nothing is wider than the page but what scrolls by itself."""
+    desk.open()
+    desk.browser.resize(360, 740)
+    try:
+        fill_all(desk)
+        for tab in TABS:
+            desk.browser.click(f"#tab-{tab}")
+            inner, width, most, out = desk.run(script("wide"))
+            assert inner == 360 and width <= most and not out, (tab, inner, width, most, out)
+    finally:
+        desk.browser.resize(1100, 900)
+
+
+def tabs_go_by_keys(desk):
+    """Arrows, Home and End go from tab to tab; Tab goes into the chosen one."""
+    desk.open()
+    desk.run("document.getElementById('tab-check').focus()")
+    chosen = (
+        "const shown = document.querySelectorAll('[role=tabpanel]:not([hidden])');"
+        "const tab = document.querySelector('[role=tab][aria-selected=true]');"
+        "return [document.activeElement.id, tab.id, [...shown].map((panel) => panel.id).join()]"
+    )
+    keys = [
+        ("ArrowRight", "bid"),
+        ("ArrowRight", "audit"),
+        ("ArrowRight", "check"),
+        ("ArrowLeft", "audit"),
+    ]
+    for key, tab in [*keys, ("Home", "check"), ("End", "audit")]:
+        desk.browser.press(key)
+        assert desk.run(chosen) == [f"tab-{tab}", f"tab-{tab}", f"panel-{tab}"], (
+            key,
+            desk.run(chosen),
+        )
+    desk.browser.press("Home", "Tab")
+    assert desk.run("return document.activeElement.id") == "panel-check"
+    desk.browser.press("Tab")
+    assert desk.run("return document.activeElement.id") == "check-board"
+
+
+def all_goes_by_keys(desk):
+    """A bid is sealed with the keyboard alone, from the first Tab on."""
+    desk.open()
+    desk.browser.press("Tab", "ArrowRight", "Tab")
+    focus = "return document.activeElement.id || document.activeElement.textContent"
+    assert desk.run(focus) == "panel-bid", desk.run(focus)
+    for name, text in dict(id=ID, seat="9", width="6", lanes="4", bid="33").items():
+        desk.browser.press("Tab")
+        assert desk.run(focus) == f"seal-{name}", desk.run(focus)
+        desk.browser.press(*text)
+    desk.browser.press("Enter")
+    shown = desk.shown("seal")
+    assert shown.said.text == "sealed seat 9 lanes 4\n", shown
+    assert desk.run(focus) == "seal-bid", desk.run(focus)
+    desk.browser.press("Tab", "Tab", "Tab")
+    assert desk.run(focus).startswith("Save secret-9"), desk.run(focus)
+    desk.browser.press("Enter")
+    assert desk.browser.downloaded("secret-9").startswith(b"vickrey-secret 1\n")
+
+
+def answers_are_told(desk):
+    """What a tool says stands in a live region that was there before."""
+    region = "document.querySelector('#check-work [role=status]')"
+    desk.open().run(f"window.region = {region}")
+    desk.use("check", **ACCEPTED)
+    same, text = desk.run(f"return [window.region === {region}, window.region.textContent]")
+    assert same and text.startswith("The reply is accepted"), text
+
+
+def take_pictures(desk, folder):
+    """Each tab in light, in dark and on a phone, with answers in it."""
+    name = desk.browser.name.lower()
+    desk.open()
+    desk.browser.resize(1100, 900)
+    fill_all(desk)
+    for look, dark, width in (("light", False, 1100), ("dark", True, 1100), ("phone", False, 360)):
+        desk.browser.resize(width, 900 if width > 400 else 740)
+        desk.browser.paint(dark)
+        for tab in TABS:
+            desk.browser.click(f"#tab-{tab}")
+            desk.run("document.activeElement.blur(); scrollTo(0, 0)")
+            desk.browser.picture(os.path.join(folder, f"{name}-{look}-{tab}.png"), whole=True)
+    desk.browser.paint(False)
+    desk.browser.resize(1100, 900)
+
+
+REACH = [
+    all_is_named,
+    all_can_be_read,
+    fits_a_phone,
+    tabs_go_by_keys,
+    all_goes_by_keys,
+    answers_are_told,
+]

@@ -1,0 +1,268 @@
+// page/work.js: what takes time, done in a Worker of its own, which ends with it.
+//
+// The Worker runs the page's whole script once more, so that the policy's one hash covers all code.
+// `serve` is its end, and `Queue` the page's: one piece of work after another, each with a new
+// Worker, so that no memory is left of it and it can be stopped at any moment.
+const Work = (() => {
+  const CHUNK = 4 * 1024 * 1024;
+
+  // More than the heads of all boards and claim files that there can be
+  const HEAD = 6 * 1024 * 1024;
+
+  // Why there is no answer, by a word that the page has a sentence for.
+  class Fault extends Error {
+    constructor(kind, about = "") {
+      super(kind);
+      this.kind = kind;
+      this.about = about;
+    }
+  }
+
+  function room(size) {
+    try {
+      return new Uint8Array(size);
+    } catch {
+      throw new Fault("memory");
+    }
+  }
+
+  // The bytes of a file, read in pieces, so that no second copy of a large one is held.
+  async function read(file, name) {
+    const bytes = room(file.size);
+    for (let at = 0; at < bytes.length; at += CHUNK) {
+      const piece = file.slice(at, at + CHUNK);
+      const part = await piece.arrayBuffer().catch(() => {
+        throw new Fault("unreadable", name);
+      });
+      if (part.byteLength !== piece.size) {
+        throw new Fault("unreadable", name);
+      }
+      bytes.set(new Uint8Array(part), at);
+    }
+    return bytes;
+  }
+
+  const ROUND_KEYS = Int32Array.of(
+    0x428a2f98, 0x71374491, 0xb5c0fbcf, 0xe9b5dba5, 0x3956c25b, 0x59f111f1, 0x923f82a4, 0xab1c5ed5,
+    0xd807aa98, 0x12835b01, 0x243185be, 0x550c7dc3, 0x72be5d74, 0x80deb1fe, 0x9bdc06a7, 0xc19bf174,
+    0xe49b69c1, 0xefbe4786, 0x0fc19dc6, 0x240ca1cc, 0x2de92c6f, 0x4a7484aa, 0x5cb0a9dc, 0x76f988da,
+    0x983e5152, 0xa831c66d, 0xb00327c8, 0xbf597fc7, 0xc6e00bf3, 0xd5a79147, 0x06ca6351, 0x14292967,
+    0x27b70a85, 0x2e1b2138, 0x4d2c6dfc, 0x53380d13, 0x650a7354, 0x766a0abb, 0x81c2c92e, 0x92722c85,
+    0xa2bfe8a1, 0xa81a664b, 0xc24b8b70, 0xc76c51a3, 0xd192e819, 0xd6990624, 0xf40e3585, 0x106aa070,
+    0x19a4c116, 0x1e376c08, 0x2748774c, 0x34b0bcb5, 0x391c0cb3, 0x4ed8aa4a, 0x5b9cca4f, 0x682e6ff3,
+    0x748f82ee, 0x78a5636f, 0x84c87814, 0x8cc70208, 0x90befffa, 0xa4506ceb, 0xbef9a3f7, 0xc67178f2,
+  );
+
+  const turned = (word, by) => (word >>> by) | (word << (32 - by));
+
+  // One block of SHA-256 (FIPS 180-4), into the eight words of the state.
+  function compress(state, view, at, words) {
+    for (let place = 0; place < 16; place++) {
+      words[place] = view.getInt32(at + 4 * place);
+    }
+    for (let place = 16; place < 64; place++) {
+      const early = words[place - 15];
+      const late = words[place - 2];
+      const first = turned(early, 7) ^ turned(early, 18) ^ (early >>> 3);
+      const second = turned(late, 17) ^ turned(late, 19) ^ (late >>> 10);
+      words[place] = (words[place - 16] + first + words[place - 7] + second) | 0;
+    }
+    let [a, b, c, d, e, f, g, h] = state;
+    for (let place = 0; place < 64; place++) {
+      const chosen = (e & f) ^ (~e & g);
+      const key = (ROUND_KEYS[place] + words[place]) | 0;
+      const left = (h + (turned(e, 6) ^ turned(e, 11) ^ turned(e, 25)) + chosen + key) | 0;
+      const most = (a & b) ^ (a & c) ^ (b & c);
+      const right = ((turned(a, 2) ^ turned(a, 13) ^ turned(a, 22)) + most) | 0;
+      h = g;
+      g = f;
+      f = e;
+      e = (d + left) | 0;
+      d = c;
+      c = b;
+      b = a;
+      a = (left + right) | 0;
+    }
+    const added = [a, b, c, d, e, f, g, h];
+    for (let place = 0; place < 8; place++) {
+      state[place] += added[place];
+    }
+  }
+
+  // SHA-256, for a browser that gives a page like this one no digest of its own.
+  function sha256(bytes) {
+    const state = Int32Array.of(
+      0x6a09e667, 0xbb67ae85, 0x3c6ef372, 0xa54ff53a,
+      0x510e527f, 0x9b05688c, 0x1f83d9ab, 0x5be0cd19,
+    );
+    const words = new Int32Array(64);
+    const whole = bytes.length - (bytes.length % 64);
+    const view = new DataView(bytes.buffer, bytes.byteOffset, bytes.length);
+    for (let at = 0; at < whole; at += 64) {
+      compress(state, view, at, words);
+    }
+    const rest = bytes.subarray(whole);
+    const last = new Uint8Array(rest.length < 56 ? 64 : 128);
+    last.set(rest);
+    last[rest.length] = 0x80;
+    const end = new DataView(last.buffer);
+    end.setBigUint64(last.length - 8, 8n * BigInt(bytes.length));
+    for (let at = 0; at < last.length; at += 64) {
+      compress(state, end, at, words);
+    }
+    state.forEach((word, place) => end.setInt32(4 * place, word));
+    return last.slice(0, 32);
+  }
+
+  const digitsOf = (byte) => byte.toString(16).padStart(2, "0");
+  const digits = (bytes) => Array.from(bytes, digitsOf).join("");
+
+  async function digestOf(bytes) {
+    if (globalThis.crypto && crypto.subtle) {
+      return digits(new Uint8Array(await crypto.subtle.digest("SHA-256", bytes)));
+    }
+    return digits(sha256(bytes));
+  }
+
+  // What stands before the first lane of a board or a claim file, its seals among it, as a text of
+  // one letter for each byte; nothing where there is no lane.
+  function headOf(bytes) {
+    const text = new TextDecoder("latin1").decode(bytes.subarray(0, HEAD));
+    return text.slice(0, Math.max(0, text.search(/^lane /m)));
+  }
+
+  async function compiled(code) {
+    if (typeof WebAssembly !== "object") {
+      throw new Fault("no WebAssembly");
+    }
+    return load(code);
+  }
+
+  // What a Worker can be asked to do, by the word `task`.
+  const TASKS = {
+    async digest({ file, name }) {
+      return digestOf(await read(file, name));
+    },
+
+    // Whether this browser takes the module, and the module's digest.
+    async module({ code }) {
+      await compiled(code);
+      return digestOf(code);
+    },
+
+    // Runs a command of the program over files, in an instance of its own. Of the file `main` the
+    // digest and the head come too, so that they are of the very bytes that were judged.
+    async command({ code, words, files, main, wanted, roomSize }) {
+      const module = await compiled(code);
+      const held = new Map();
+      for (const [name, file] of files) {
+        held.set(name, await read(file, name));
+      }
+      const bytes = held.get(main);
+      const digest = bytes ? digestOf(bytes) : null;
+      const answer = call(module, words, held, wanted, roomSize);
+      return { ...answer, digest: await digest, head: bytes ? headOf(bytes) : null };
+    },
+  };
+
+  // A module that a browser takes only if it has SIMD: its one function makes a vector.
+  const SIMD = Uint8Array.of(
+    0, 97, 115, 109, 1, 0, 0, 0, 1, 5, 1, 96, 0, 1, 123, 3, 2, 1, 0,
+    10, 10, 1, 8, 0, 65, 0, 253, 15, 253, 98, 11,
+  );
+
+  function faultOf(error) {
+    if (error instanceof Fault) {
+      return { fault: error.kind, about: error.about };
+    }
+    const about = String((error && error.message) || error);
+    if (/^(Compile|Link)Error$/.test(error && error.name)) {
+      return { fault: WebAssembly.validate(SIMD) ? "module" : "no SIMD", about };
+    }
+    const memory = error instanceof RangeError || /memory/i.test(about);
+    return { fault: memory ? "memory" : "stopped", about };
+  }
+
+  // The Worker's end: one message comes, and one with an answer or a fault goes back.
+  function serve(scope) {
+    scope.onmessage = async ({ data }) => {
+      try {
+        scope.postMessage({ answer: await TASKS[data.task](data) });
+      } catch (error) {
+        scope.postMessage(faultOf(error));
+      }
+    };
+  }
+
+  // The page's end. A piece of work has a message for the Worker, and is told what becomes of it by
+  // its methods began(), answered(answer) and failed(fault, about).
+  class Queue {
+    constructor(address) {
+      this.address = address;
+      this.waiting = [];
+      this.running = null;
+      this.worker = null;
+    }
+
+    add(work) {
+      this.waiting.push(work);
+      this.next();
+    }
+
+    next() {
+      if (this.running || this.waiting.length === 0) {
+        return;
+      }
+      const work = this.waiting.shift();
+      this.running = work;
+      work.began();
+      try {
+        this.worker = new Worker(this.address);
+        this.worker.onmessage = ({ data }) => this.hear(work, data);
+        this.worker.onerror = ({ message }) => {
+          this.end(work, () => work.failed("no Worker", message || ""));
+        };
+        this.worker.postMessage(work.message);
+      } catch (error) {
+        this.end(work, () => work.failed("no Worker", String(error)));
+      }
+    }
+
+    hear(work, data) {
+      this.end(work, () => {
+        if ("answer" in data) {
+          work.answered(data.answer);
+        } else {
+          work.failed(data.fault, data.about);
+        }
+      });
+    }
+
+    end(work, then) {
+      if (this.running !== work) {
+        return;
+      }
+      if (this.worker) {
+        this.worker.terminate();
+      }
+      this.worker = null;
+      this.running = null;
+      then();
+      this.next();
+    }
+
+    // Whether it was there to be stopped.
+    stop(work) {
+      const place = this.waiting.indexOf(work);
+      if (place >= 0) {
+        this.waiting.splice(place, 1);
+        return true;
+      }
+      const runs = this.running === work;
+      this.end(work, () => {});
+      return runs;
+    }
+  }
+
+  return { serve, Queue, digits };
+})();
