@@ -2,9 +2,11 @@
 # install.sh PREFIX [PROGRAM]: puts the built program, its manual page and its completions for bash and zsh under PREFIX, a folder such as
 #   ~/.local or /usr/local. PROGRAM is crates/vickrey/out/vickrey where none is named. Where it would have to write over a file
 #   that it did not put there, or that was changed since, it does nothing. It may be run again, for another build.
+# install.sh --native PREFIX [CPU]: the same, but the program is first compiled for this kind of processor by bench/native.sh, which wants the
+#   Rattle kit and takes minutes. The program then runs on no lesser processor.
 # install.sh --undo PREFIX: takes away just what it put there. A file that was changed since is left, and named.
 set -eu
-usage() { sed -n '2,5s/^# //p' "$0"; exit 2; }
+usage() { sed -n '2,7s/^# //p' "$0"; exit 2; }
 fail() { echo "install.sh: $*" >&2; exit 1; }
 here=$(realpath "$(dirname "$0")")
 
@@ -84,6 +86,15 @@ undo() {
 }
 
 case ${1-} in
+  --native)
+    [ $# -eq 2 ] || [ $# -eq 3 ] || usage
+    prefix=$(realpath -m "$2")
+    built=$(mktemp -d)
+    trap 'rm -rf "$built"' EXIT
+    program=$built/vickrey
+    "$here/bench/native.sh" "$program" ${3:+"$3"}
+    put
+    ;;
   --undo)
     [ $# -eq 2 ] || usage
     prefix=$(realpath -m "$2")
