@@ -1,19 +1,22 @@
 #!/usr/bin/env python3
 """hostile.py PROGRAM [--seed WORD] [--quick] [--only TABLE] [--workers N] [--keep FOLDER]
 
-Attacks the built program: hostile files, hostile places, and a fault of the outside at each of its calls. After each run it
-asks for one of these, and for nothing else:
+Attacks the built program: hostile files, hostile places, and a fault of the outside at each of its
+calls. After each run it asks for one of these, and for nothing else:
 
 - the command was done: its status, its text and its files;
-- it was stopped: status 6 and `outside fault` where the outside failed, 9 and `no memory` where memory was refused, or a
-  kill. Then either nothing changed and nothing was printed; or the files that the command writes are, in order, whole up to
-  one of them, which is as before or holds a prefix of its text, those behind it are as before, and nothing was printed; or
-  all files are whole and a prefix of the text was printed. Of a ceremony this is asked of each of its commands. And the same
-  words again, without a fault, then do the command.
+- it was stopped: status 6 and `outside fault` where the outside failed, 9 and `no memory` where
+  memory was refused, or a kill. Then either nothing changed and nothing was printed; or the files
+  that the command writes are, in order, whole up to one of them, which is as before or holds a
+  prefix of its text, those behind it are as before, and nothing was printed; or all files are whole
+  and a prefix of the text was printed. Of a ceremony this is asked of each of its commands. The
+  rows of a store are those before the command or after it, and never before it where something was
+  printed or written. And the same words again, without a fault, then do the command.
 
-It prints a table, and what differs from what is defined. What files are and what is said of them stands, once more, in
-checks/attack/reference.py. It is no part of the gate; it wants Linux, gcc and Python 3. The seed decides all that is drawn.
---quick takes a sample of each table, and --only one table; --keep keeps the changed files that show a difference.
+It prints a table, and what differs from what is defined. What files are and what is said of them
+stands, once more, in checks/attack/reference.py. It is no part of the gate; it wants Linux, gcc and
+Python 3. The seed decides all that is drawn. --quick takes a sample of each table, and --only one
+table; --keep keeps the changed files that show a difference.
 """
 import argparse
 import concurrent.futures
@@ -42,14 +45,16 @@ def shown_statuses(statuses):
 
 
 def run_table(table, attack, workers):
-    """Runs the cases of a table, prints its row, and answers how many there were and what differs."""
+    """Runs the cases of a table, prints its row, and answers how many there were and what
+    differs."""
     began = time.monotonic()
     statuses, differing = Counter(), []
-    for found, faults in workers.map(run_case, table(attack), chunksize=1 if table is changed else 8):
+    for found, faults in workers.map(run_case, table(attack),
+                                     chunksize=1 if table is changed else 8):
         statuses += found
         differing += faults
-    row = f"{table.__name__:<12} {statuses.total():>8} {len(differing):>8}   {shown_statuses(statuses)}"
-    print(f"{row}   ({time.monotonic() - began:.0f} s)", flush=True)
+    row = f"{table.__name__:<12} {statuses.total():>8} {len(differing):>8}"
+    print(f"{row}   {shown_statuses(statuses)}   ({time.monotonic() - began:.0f} s)", flush=True)
     return statuses.total(), differing
 
 
@@ -71,7 +76,7 @@ def set_out(arguments, folder):
 
 def say_skipped(attack):
     if not attack.made.calls(attack.on.small()[0], OUTSIDE):
-        print("skipped: memory, calls, interrupted and kills before a call, since the program loads no library")
+        print("skipped: all that a library in front of the C library does, which isn't loaded")
     if not any(scenario.name == "prove" for scenario in attack.on.writing):
         print("skipped: the house's commands one by one, since auctions aren't kept between runs")
     if not may_mount(attack.made):
@@ -81,10 +86,12 @@ def say_skipped(attack):
 def attack_all(arguments, folder):
     made = set_out(arguments, folder)
     attack = Attack(made, attacked(made), random.Random(), arguments.quick)
-    print(f"seed {arguments.seed}, {'a sample of each table' if arguments.quick else 'whole tables'}")
+    how = "a sample of each table" if arguments.quick else "whole tables"
+    print(f"seed {arguments.seed}, {how}")
     print(f"{'table':<12} {'cases':>8} {'differ':>8}   statuses")
     total, differing = 0, []
-    with concurrent.futures.ProcessPoolExecutor(arguments.workers, initializer=begin_worker, initargs=(made,)) as workers:
+    with concurrent.futures.ProcessPoolExecutor(arguments.workers, initializer=begin_worker,
+                                                initargs=(made,)) as workers:
         for table in TABLES:
             if arguments.only in (None, table.__name__):
                 attack.draw.seed(f"{arguments.seed} {table.__name__}")
@@ -98,8 +105,9 @@ def attack_all(arguments, folder):
 
 
 def main():
-    signal.signal(signal.SIGTERM, lambda *_: sys.exit(1))  # the folder of all that is tried goes away
-    parser = argparse.ArgumentParser(description=__doc__, formatter_class=argparse.RawDescriptionHelpFormatter)
+    signal.signal(signal.SIGTERM, lambda *_: sys.exit(1))  # so that the folder goes away
+    parser = argparse.ArgumentParser(description=__doc__,
+                                     formatter_class=argparse.RawDescriptionHelpFormatter)
     parser.add_argument("program")
     parser.add_argument("--seed", default="1")
     parser.add_argument("--quick", action="store_true")

@@ -1,4 +1,5 @@
-"""Cases. Each is run by a worker, and answers how many runs ended with each status, and what differs."""
+"""Cases. Each is run by a worker, and answers how many runs ended with each status, and what
+differs."""
 import os
 import resource
 import signal
@@ -8,9 +9,10 @@ import time
 from collections import Counter
 from dataclasses import dataclass, field
 
-from attack import mutations
+from attack import mutations, reference
 from attack.defined import ERRORS, Scenario, fault_of, is_said
-from attack.runs import KILLED, STORE, Ended, Folder, read
+from attack.runs import STORE, Ended, Folder, read
+from attack.stores import auction_of, rows_beside
 
 NOBODY = 65534
 
@@ -21,6 +23,10 @@ def begin_worker(made):
     global program
     program = made
     signal.signal(signal.SIGTERM, signal.SIG_DFL)
+
+
+def is_signal(status):
+    return isinstance(status, int) and status < 0
 
 
 @dataclass
@@ -46,20 +52,29 @@ class Case:
     def run(self):
         with Folder(program, self.scenario.files) as folder:
             ended = self.perform(folder)
-            fault = self.judge(ended, folder.files()) or self.run_again(folder, ended)
+            fault = self.judge(ended, folder.files()) or self.look_at_store(folder, ended)
+            fault = fault or self.run_again(folder, ended)
         return self.answer(ended, fault)
 
+    def look_at_store(self, folder, ended):
+        """None, or how the store isn't as the end of a run leaves it."""
+        fault = self.scenario.store_fault(folder.path, ended.text, folder.files())
+        return f"{ended}: {fault}" if fault else None
+
     def answer(self, ended, fault):
-        return Counter([ended.status]), [f"{self.scenario.name}, {self.label}: {fault}"] if fault else []
+        label = f"{self.scenario.name}, {self.label}"
+        return Counter([ended.status]), [f"{label}: {fault}"] if fault else []
 
     def run_again(self, folder, stopped):
         """The same words again do the command, or find that it has been done."""
-        if stopped.status not in (6, 9, KILLED):
+        if stopped.status not in (6, 9) and not is_signal(stopped.status):
             return None
         ended = program.run(self.scenario.words, folder.path)
-        if self.scenario.is_done_again(ended, folder.files()):
+        is_done = self.scenario.is_done_again(ended, folder.files())
+        fault = self.scenario.store_fault(folder.path, self.scenario.text(), folder.files())
+        if is_done and not fault:
             return None
-        return f"{stopped}; then the same words again: {ended}"
+        return f"{stopped}; then the same words again: {ended} {fault or ''}"
 
 
 @dataclass
@@ -70,28 +85,33 @@ class Refused(Case):
     first: int = 0
     last: int = 0
     what: object = ""
+    step: int = 1
 
     @property
     def silent(self):
         return self.first != self.last
 
     def surrounding(self):
-        return {"env": program.fault(self.kinds, self.first, self.last, self.what)}
+        return {"env": program.fault(self.kinds, self.first, self.last, self.what, step=self.step)}
 
 
 @dataclass
-class KilledLater(Case):
-    """The run is killed after a while."""
+class Signalled(Case):
+    """The run gets signals, the first after a while."""
 
     seconds: float = 0
+    signals: tuple = (signal.SIGKILL,)
 
     def perform(self, folder):
+        words = [os.fsencode(word) for word in (program.path, *self.scenario.words)]
         child = subprocess.Popen(
-            [program.path, *self.scenario.words], cwd=folder.path, env={}, stdin=subprocess.DEVNULL,
+            words, cwd=folder.path, env={}, stdin=subprocess.DEVNULL,
             stdout=subprocess.PIPE, stderr=subprocess.PIPE,
         )
         time.sleep(self.seconds)
-        child.kill()
+        for number in self.signals:
+            child.send_signal(number)
+            time.sleep(0.001)
         text, error = child.communicate()
         return Ended(child.returncode, text, error)
 
@@ -113,19 +133,26 @@ class Limited(Case):
 
 @dataclass
 class LimitedOutput(Limited):
-    """Standard output takes so many bytes."""
+    """Standard output takes so many bytes, since no file may grow past the sum of these and of what
+    is there already, which is more than any other file comes to."""
+
+    takes: int = 0
 
     def perform(self, folder):
-        place = folder.path + ".out"
+        place, there = folder.path + ".out", self.most - self.takes
         with open(place, "wb") as out:
+            out.seek(there)
+            out.truncate()
             ended = program.run(self.scenario.words, folder.path, stdout=out, **self.surrounding())
-        ended.text = read(place)
+        with open(place, "rb") as out:
+            out.seek(there)
+            ended.text = out.read()
         os.remove(place)
         return ended
 
     def judge(self, ended, files):
-        if ended.text != self.scenario.text()[: self.most]:
-            return f"{ended}: not the first {self.most} bytes of the text"
+        if ended.text != self.scenario.text()[: self.takes]:
+            return f"{ended}: not the first {self.takes} bytes of the text"
         return super().judge(ended, files)
 
 
@@ -146,7 +173,8 @@ class Output(Case):
             return program.run(self.scenario.words, folder.path, stdout=None, preexec_fn=close)
         with self.taker() as out:
             default = self.kind != "ignored pipe"
-            return program.run(self.scenario.words, folder.path, stdout=out, restore_signals=default)
+            return program.run(self.scenario.words, folder.path, stdout=out,
+                               restore_signals=default)
 
     def taker(self):
         if self.kind == "full":
@@ -178,18 +206,36 @@ class SmallDisk(Case):
                 os.mkdir(os.path.join(folder.path, name))
             os.symlink(before.path, os.path.join(folder.path, "before"))
             pages = self.pages + sum(-(-len(data) // 4096) for data in self.scenario.files.values())
-            words = ["unshare", "-m", "sh", "-c", self.script, "sh", str(pages * 4096), program.path]
+            words = ["unshare", "-m", "sh", "-c", self.script, "sh", str(pages * 4096),
+                     program.path]
             subprocess.run([*words, *self.scenario.words], cwd=folder.path, check=True)
-            out, err, status = (read(os.path.join(folder.path, name)) for name in ("out", "err", "status"))
+            out, err, status = (read(os.path.join(folder.path, name))
+                                for name in ("out", "err", "status"))
             ended, after = Ended(int(status), out, err), os.path.join(folder.path, "after")
             names = [name for name in os.listdir(after) if not name.startswith(STORE)]
-            fault = self.judge(ended, {name: read(os.path.join(after, name)) for name in names})
+            files = {name: read(os.path.join(after, name)) for name in names}
+            fault = self.judge(ended, files) or self.scenario.store_fault(after, ended.text, files)
         return self.answer(ended, fault)
+
+
+def placed(words, path):
+    return [word.replace("{folder}", path) for word in words]
+
+
+def differs_later(path, later):
+    """None, or which of the later words don't end as they are said to."""
+    for words, status, text in later:
+        ended = program.run(placed(words, path), path)
+        if (ended.status, ended.text) != (status, text):
+            return f"then {words}: {ended}, not status {status}, {text!r}"
+    return None
 
 
 @dataclass
 class Told:
-    """Words over files and places, with the one end that they have. `lay` are lines of a shell that make the places."""
+    """Words over files and places, with the one end that they have. `lay` are lines of a shell that
+    make the places, `made` the names that are new behind it, each with its text where that is told,
+    and `later` other words, each with its status and text."""
 
     label: str
     words: list
@@ -198,6 +244,7 @@ class Told:
     lay: str = ":"
     made: dict = field(default_factory=dict)
     unprivileged: bool = False
+    later: tuple = ()
 
     def run(self):
         status, text = self.end
@@ -206,24 +253,34 @@ class Told:
             how = {}
             if self.unprivileged:
                 os.chmod(folder.path, 0o555)
-                how = {"user": NOBODY, "group": NOBODY, "extra_groups": []} if os.getuid() == 0 else {}
+                nobody = {"user": NOBODY, "group": NOBODY, "extra_groups": []}
+                how = nobody if os.getuid() == 0 else {}
             before = set(os.listdir(folder.path))
             ended = program.run(self.words, folder.path, **how)
             os.chmod(folder.path, 0o755)
             new = {name for name in os.listdir(folder.path) if not name.startswith(STORE)} - before
-            is_so = (ended.status, ended.text) == (status, text) and is_said(status, ended.error, ERRORS.get(status, ())[:1])
+            texts = ERRORS.get(status, ())[:1]
+            is_so = (ended.status, ended.text) == (status, text)
+            is_so = is_so and is_said(status, ended.error, texts)
             fault = None if is_so else f"{ended}, not status {status}, {text[-160:]!r}"
             if not fault and new != set(self.made):
                 fault = f"{ended}: made {sorted(new)}, not {sorted(self.made)}"
-            subprocess.run(["sh", "-c", "chmod -R u+rwx . 2>/dev/null"], cwd=folder.path, check=False)
+            others = [name for name, text in self.made.items() if isinstance(text, bytes)]
+            if not fault and any(read(os.path.join(folder.path, name)) != self.made[name]
+                                 for name in others):
+                fault = f"{ended}: wrote something else to {others}"
+            fault = fault or differs_later(folder.path, self.later)
+            subprocess.run(["sh", "-c", "chmod -R u+rwx . 2>/dev/null"], cwd=folder.path,
+                           check=False)
         return Counter([ended.status]), [f"{self.label}: {fault}"] if fault else []
 
 
 @dataclass
 class Spelled:
-    """Words of which a written name leads to a file of the store, or to one that the words name otherwise. It is a fault of
-    the outside: nothing is printed, no file is made but those in `made`, and those that were there are as they were. Then
-    the later words end as they are said to. `lay` are lines of a shell; `{folder}` stands for the path of the folder."""
+    """Words of which a written name leads to a file of the store, or to one that the words name
+    otherwise. It is a fault of the outside: nothing is printed, no file is made but those in
+    `made`, and those that were there are as they were. Then the later words end as they are said
+    to. `lay` are lines of a shell; `{folder}` stands for the path of the folder."""
 
     label: str
     words: list
@@ -236,23 +293,22 @@ class Spelled:
         with Folder(program, self.files) as folder:
             subprocess.run(["sh", "-c", self.lay], cwd=folder.path, check=True)
             before = self.beside(folder.path)
-            ended = program.run(self.placed(self.words, folder.path), folder.path)
-            fault = self.judge(ended, before, self.beside(folder.path)) or self.differs_later(folder.path)
+            ended = program.run(placed(self.words, folder.path), folder.path)
+            fault = self.judge(ended, before, self.beside(folder.path))
+            fault = fault or differs_later(folder.path, self.later)
         return Counter([ended.status]), [f"{self.label}: {fault}"] if fault else []
 
     @staticmethod
-    def placed(words, path):
-        return [word.replace("{folder}", path) for word in words]
-
-    @staticmethod
     def beside(path):
-        """The files by their paths, of the store the names alone; not its log, which comes and goes with it."""
+        """The files by their paths, of the store the names alone; not its log, which comes and goes
+        with it."""
         found = {}
         for place, _, names in os.walk(path):
             for name in names:
                 at = os.path.join(place, name)
-                is_kept = STORE in name or STORE in os.path.realpath(at) or "kept" in os.path.relpath(at, path)
-                found[os.path.relpath(at, path)] = None if is_kept or not os.path.exists(at) else read(at)
+                here = os.path.relpath(at, path)
+                is_kept = STORE in name or STORE in os.path.realpath(at) or "kept" in here
+                found[here] = None if is_kept or not os.path.exists(at) else read(at)
         return {at: data for at, data in found.items() if not at.endswith("-wal")}
 
     def judge(self, ended, before, after):
@@ -261,15 +317,45 @@ class Spelled:
         made = {name: data for name, data in after.items() if name not in before}
         if set(made) != set(self.made):
             return f"{ended}: made {sorted(made)}, not {sorted(self.made)}"
-        changed = [name for name, data in before.items() if data is not None and after.get(name) != data]
+        kept = {name: data for name, data in before.items() if data is not None}
+        changed = [name for name, data in kept.items() if after.get(name) != data]
         return f"{ended}: changed {changed}" if changed else None
 
-    def differs_later(self, path):
-        for words, status, text in self.later:
-            ended = program.run(self.placed(words, path), path)
-            if (ended.status, ended.text) != (status, text):
-                return f"then {words}: {ended}, not status {status}, {text!r}"
-        return None
+@dataclass
+class Damaged:
+    """A command over a store of other bytes. It isn't ended by a signal. It finds a fault of the
+    outside, and then no file is made or changed; or it does what the reference does over the
+    auction that the rows come to, as another program reads them."""
+
+    scenario: Scenario
+    label: str
+    store: dict
+
+    def run(self):
+        before = self.scenario.before()
+        with Folder(program, before | self.store) as folder:
+            wanted = self.wanted(folder.path, dict(before))
+            ended = program.run(self.scenario.words, folder.path)
+            files = folder.files()
+        is_fault = ended.status == 6 and not ended.text and is_said(6, ended.error)
+        is_fault = is_fault and files == before
+        is_so = is_fault or (ended, files) == wanted or self.scenario.is_done(ended, files)
+        label = f"{self.scenario.name}, {self.label}"
+        return Counter([ended.status]), [] if is_so else [f"{label}: {ended}"]
+
+    def wanted(self, path, files):
+        """What is done over the auction that the rows come to, and the files then; None where they
+        come to none."""
+        name = self.scenario.words[1]
+        try:
+            rows = rows_beside(path, is_tested=False)
+            is_known = any(row[0] == bytes.fromhex(name) for row in rows["auction"])
+            auctions = {name: auction_of(rows, name)} if is_known else {}
+            house = reference.House(files, auctions)
+            status, text = reference.said(files, self.scenario.words, house)
+        except Exception:  # whatever such rows lead to
+            return None
+        return Ended(status, text.encode(), b""), files
 
 
 @dataclass
@@ -282,14 +368,18 @@ class Batch:
 
     def run(self):
         folder = os.path.join(program.scratch, f"batch-{os.getpid()}")
-        statuses, differing = mutations.run_batch(program.path, folder, self.subjects, self.seed, self.count)
+        found, differing = mutations.run_batch(program.path, folder, self.subjects, self.seed,
+                                               self.count)
         for label, files in differing if program.keep else []:
-            self.keep(label, files)
+            self.keep(program.keep, label, files)
+        statuses = Counter()
+        for (_, status), count in found.items():
+            statuses[status] += count
         return statuses, [label for label, _ in differing]
 
     @staticmethod
-    def keep(label, files):
-        folder = tempfile.mkdtemp(dir=program.keep, prefix="changed-")
+    def keep(folder, label, files):
+        folder = tempfile.mkdtemp(dir=folder, prefix="changed-")
         for name, data in {**files, "WHY": label.encode()}.items():
             with open(os.path.join(folder, name), "wb") as file:
                 file.write(data)

@@ -1,15 +1,19 @@
-"""What is defined of a run: what a command does when it is done, and what it leaves when it is stopped."""
+"""What is defined of a run: what a command does when it is done, and what it leaves when it is
+stopped."""
+import sqlite3
 from dataclasses import dataclass, field
 
 from attack.runs import STORE, Ended
+from attack.stores import rows_beside
 
 ERRORS = {6: (b"outside fault\n", b"other store\n"), 9: (b"no memory\n",)}
 EFFECT = "effect"
 
 
 def is_said(status, error, texts=None):
-    """Whether a run of this status says on standard error what it has to: one of the texts that are defined of it, and behind that
-    whatever a person is told. Words that are no command have a line for a person alone."""
+    """Whether a run of this status says on standard error what it has to: one of the texts that are
+    defined of it, and behind that whatever a person is told. Words that are no command have a line
+    for a person alone."""
     texts = texts or ERRORS.get(status)
     if texts:
         return error.startswith(texts)
@@ -18,8 +22,8 @@ def is_said(status, error, texts=None):
 
 @dataclass
 class Step:
-    """What one command prints; what it writes, in order: pairs of a name and a text; and what it prints instead where it
-    was done before."""
+    """What one command prints; what it writes, in order: pairs of a name and a text; and what it
+    prints instead where it was done before."""
 
     text: bytes
     written: list = field(default_factory=list)
@@ -28,20 +32,25 @@ class Step:
 
 @dataclass
 class Scenario:
-    """Words over files, and what they do."""
+    """Words over files, and what they do. Of a command of the house `kept` are the rows of the
+    store before its first step and after each one, `raised_from` other rows that may stand there
+    before it, and `auctions` those before it."""
 
     name: str
     words: list
     files: dict
     steps: list
     status: int = 0
+    kept: list = None
+    raised_from: list = field(default_factory=list)
+    auctions: dict = None
 
     def text(self):
         return b"".join(step.text for step in self.steps)
 
     def after(self, steps):
         """The files after so many steps."""
-        return self.before() | {name: data for step in self.steps[:steps] for name, data in step.written}
+        return self.before() | dict(pair for step in self.steps[:steps] for pair in step.written)
 
     def before(self):
         return {name: data for name, data in self.files.items() if not name.startswith(STORE)}
@@ -58,7 +67,8 @@ class Scenario:
             if said is None:
                 return False
             rest, status = rest[len(said) :], status if said == step.text else 8
-        return (ended.status, rest, ended.error, files) == (status, b"", b"", self.after(len(self.steps)))
+        done = (status, b"", b"", self.after(len(self.steps)))
+        return (ended.status, rest, ended.error, files) == done
 
     def is_stopped(self, text, files):
         """Whether text and files are those after some of the steps, and a part of the next one."""
@@ -70,15 +80,44 @@ class Scenario:
             if done == len(self.steps):
                 return not part and files == self.after(done)
             step = self.steps[done]
-            if part and part != step.text and step.text.startswith(part) and files == self.after(done + 1):
+            is_part = part and part != step.text and step.text.startswith(part)
+            if is_part and files == self.after(done + 1):
                 return True
             if not part and is_divided(self.after(done), step.written, files):
                 return True
         return False
 
 
+    def store_fault(self, folder, text, files):
+        """None, or how the store in the folder is none that may stand there: it is as after a step,
+        no earlier than the last one of which something was printed or written."""
+        if self.kept is None:
+            return None
+        begun = max(self.printed(text), self.written(files))
+        try:
+            rows = rows_beside(folder)
+        except sqlite3.Error as error:
+            return f"a store that isn't sound: {error}"
+        allowed = self.kept[begun:] + ([] if begun else self.raised_from)
+        return None if rows in allowed else f"a store that isn't as after step {begun} or later"
+
+    def printed(self, text):
+        """How many steps printed something."""
+        whole, count = b"", 0
+        while count < len(self.steps) and len(whole) < len(text):
+            whole, count = whole + self.steps[count].text, count + 1
+        return count
+
+    def written(self, files):
+        """How many steps there are up to the last one that wrote something."""
+        changed = {name for name in files if files[name] != self.files.get(name)}
+        return max((count for count, step in enumerate(self.steps, 1)
+                    if changed & set(dict(step.written))), default=0)
+
+
 def is_divided(before, written, files):
-    """Whether the written files are whole up to one, which is as before or a prefix, and all else is as before."""
+    """Whether the written files are whole up to one, which is as before or a prefix, and all else
+    is as before."""
     for at in range(len(written) + 1):
         wanted = before | dict(written[:at])
         if at == len(written):

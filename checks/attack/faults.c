@@ -5,9 +5,11 @@
  *                c close, C close of a file that was written and not synced since, f locks and all else, n change of names
  *   FAULT_FROM   the number of the first call that fails, from 1
  *   FAULT_TO     the number of the last one
+ *   FAULT_STEP   how many calls one failing call is behind the other, 1 where it isn't given
  *   FAULT_DO     an error's number; or `kill`, before the call is made; or `short`, where a read or write moves one byte
  *   FAULT_LOG    a file to which the letter of each counted call is added
- *   FAULT_STORE  a file with this in its name is a database's, and its close is always c: it looks after itself
+ *   FAULT_STORE  a file with this in its name is a database's, and its close is always c: it looks after itself; so is a
+ *                folder, which nothing else syncs, but for the root folder
  *   FAULT_WHOSE  `store`, where the calls on a database's files alone are counted; `own`, where all others are
  */
 #define _GNU_SOURCE
@@ -31,7 +33,7 @@ enum verdict { GO, FAIL, MOVE_ONE };
 
 static uintptr_t text_start, text_end;
 static const char *kinds = "";
-static long from, to, calls;
+static long from, to, step, calls;
 static int action, log_file = -1, whose = -1;
 static char written[DESCRIPTORS], stores[DESCRIPTORS];
 
@@ -56,6 +58,7 @@ __attribute__((constructor)) static void begin(void) {
     const char *what = setting("FAULT_DO");
     from = atol(setting("FAULT_FROM"));
     to = atol(setting("FAULT_TO"));
+    step = *setting("FAULT_STEP") ? atol(setting("FAULT_STEP")) : 1;
     action = !strcmp(what, "kill") ? KILL : !strcmp(what, "short") ? SHORT : atoi(what);
     if (*setting("FAULT_LOG"))
         log_file = syscall(SYS_openat, AT_FDCWD, setting("FAULT_LOG"), O_WRONLY | O_CREAT | O_APPEND | O_CLOEXEC, 0600);
@@ -81,7 +84,7 @@ static enum verdict count(char kind, int on_store, void *caller) {
     calls++;
     if (log_file >= 0)
         syscall(SYS_write, log_file, &kind, 1);
-    if (calls < from || calls > to)
+    if (calls < from || calls > to || (calls - from) % step)
         return GO;
     if (action == KILL)
         syscall(SYS_kill, getpid(), SIGKILL);
@@ -114,9 +117,14 @@ void *mmap(void *at, size_t size, int protection, int flags, int fd, off_t offse
     return COUNT('m') == FAIL ? MAP_FAILED : NEXT(mmap)(at, size, protection, flags, fd, offset);
 }
 
+static int is_folder(int fd) {
+    struct stat about;
+    return syscall(SYS_fstat, fd, &about) == 0 && S_ISDIR(about.st_mode);
+}
+
 static int opened(int fd, const char *path) {
     if (fd >= 0 && fd < DESCRIPTORS) {
-        stores[fd] = is_store(path);
+        stores[fd] = is_store(path) || (is_folder(fd) && strcmp(path, "/"));
         written[fd] = 0;
     }
     return fd;

@@ -1,19 +1,30 @@
-"""What a command has to say of given files: its status and its text, by docs/FORMATS.md alone. It shares nothing with the
-program, and reads whole files with regular expressions, slowly.
+"""What a command has to do with given files: its status, its text and what it writes, by
+docs/FORMATS.md alone. It shares nothing with the program, and reads whole files with regular
+expressions, slowly.
 
-A file is bytes, or None where nothing is there. `said` takes a dictionary of files and the words of a command that reads, and
-answers (status, text); what a command on a coin or a board writes is put into that dictionary. `ceremony` takes the name of a
-script.
+A file is bytes, or None where nothing is there. `said` takes a dictionary of files and the words of
+a command, and answers (status, text); what the command writes is put into that dictionary.
+`ceremony` takes the name of a script. Circuits stand in attack/circuits.py, and what is hashed and
+drawn in attack/drawn.py. The two samples aren't among the commands.
 """
 import hashlib
 import re
 from dataclasses import dataclass, field
 
-MODULUS = 2**61 - 1
+from attack.circuits import Circuit, matching_circuit, sale_circuit
+from attack.drawn import (
+    MODULUS, Wire, digest, drawn_lane, drawn_secret, drawn_share, published_text, reply_text,
+    share_digest, text_of_lines,
+)
+
 MOST_BYTES = 2**30
 NUMBER = rb"(0|[1-9][0-9]*)"
 DIGITS_16 = rb"([0-9a-f]{32})"
 DIGITS_32 = rb"([0-9a-f]{64})"
+USAGE = (
+    "usage: vickrey seal|announce|submit|prove|answer|show|verify|extract|confront|report|sample"
+    "|ceremony|claim-verify|claim-extract|claim-sample|coin-part|coin-join|coin-board\n"
+)
 
 
 class Ends(Exception):
@@ -67,70 +78,7 @@ class Lines:
             raise Malformed(self.number + 1)
 
 
-def digest(auction, seat, lane, slot, key, value):
-    place = seat.to_bytes(2, "big") + lane.to_bytes(2, "big") + slot.to_bytes(4, "big")
-    message = b"VKC1" + bytes.fromhex(auction) + place + bytes.fromhex(key) + value.to_bytes(8, "big")
-    return hashlib.sha256(message).hexdigest()
-
-
-# ----------------------------------------------------------------------------------------------------------------------
-# The circuit
-
-
-class Circuit:
-    """The wires, each a weight or None for a split one, and the rows, each (factor, wire) and a constant."""
-
-    def __init__(self, seals, width):
-        """What every auction shows: each bid has a copy, which is in range."""
-        self.kinds = [None] * (2 * seals)
-        self.seals, self.width, self.rows = seals, width, []
-        for j in range(seals):
-            self.rows.append(([(1, j), (-1, seals + j)], 0))
-        for j in range(seals):
-            self.in_range([(1, seals + j)], 0)
-
-    def unsold(self, reserve):
-        for j in range(self.seals):
-            self.in_range([(-1, self.seals + j)], reserve - 1)
-        return self
-
-    def sold(self, winners, price):
-        """The positions of those who don't win."""
-        losers = [j for j in range(self.seals) if j not in winners]
-        for winner in winners:
-            for j in losers:
-                self.in_range([(1, self.seals + winner), (-1, self.seals + j)], -1 if j < winner else 0)
-        for j in losers:
-            self.in_range([(-1, self.seals + j)], price)
-        return losers
-
-    def reach(self, winner, reserve):
-        self.in_range([(1, self.seals + winner)], -reserve)
-        return self
-
-    def in_range(self, form, constant, more=0):
-        first, pairs = len(self.kinds), range(self.width + more)
-        self.kinds += [2**i for i in pairs]
-        self.rows.append((form + [(-1, first + i) for i in pairs], constant))
-
-    def no_block(self, his, his_own, hers, hers_own):
-        """Two rows, of which a selector lets one be."""
-        selector, top = len(self.kinds), 2**self.width
-        self.kinds.append(1)
-        self.in_range([(1, self.seals + his), (-1, self.seals + his_own), (-top, selector)], top, 1)
-        self.in_range([(1, self.seals + hers), (-1, self.seals + hers_own), (top, selector)], 0, 1)
-
-    def select(self, losers, price):
-        first, most = len(self.kinds), 2**self.width - 1
-        self.kinds += [1] * len(losers)
-        if losers:
-            self.rows.append(([(1, first + i) for i in range(len(losers))], -1))
-        for i, j in enumerate(losers):
-            self.in_range([(-most, first + i), (1, self.seals + j)], most - price)
-        return self
-
-
-# ----------------------------------------------------------------------------------------------------------------------
+# ------------------------------------------------------------------------------------------------
 # The files
 
 
@@ -166,14 +114,16 @@ class Front:
             return "price"
         if self.reserve >= top or self.price >= top:
             return "price"
-        if self.winner is not None and (self.price < self.reserve or self.seals == 1 and self.price != self.reserve):
+        is_lone = self.seals == 1 and self.price != self.reserve
+        if self.winner is not None and (self.price < self.reserve or is_lone):
             return "price"
         return None if self.winner in (None, *self.seats) else "winner"
 
 
 @dataclass
 class ClaimFront:
-    """A claim file before its first lane: what it says, and the seats and seals of its inputs as on a board."""
+    """A claim file before its first lane: what it says, and the seats and seals of its inputs as on
+    a board."""
 
     auction: str
     kind: str
@@ -192,31 +142,21 @@ class ClaimFront:
         if self.seals > 64 or len(self.numbers) < 3:
             return False
         width, price, *winners = self.numbers
-        may_be = 1 <= width <= 40 and price < 2**width and winners == sorted(set(winners) & set(range(1, self.seals + 1)))
+        places = set(range(1, self.seals + 1))
+        may_be = 1 <= width <= 40 and price < 2**width and winners == sorted(set(winners) & places)
         return may_be and (price == 0 or len(winners) < self.seals)
 
     def is_matching(self):
         width, *women = self.numbers
         men = len(women)
-        return 1 <= width <= 16 and 1 <= men <= 16 and self.seals == 2 * men**2 and set(women) == set(range(1, men + 1))
+        may_be = 1 <= width <= 16 and 1 <= men <= 16 and self.seals == 2 * men**2
+        return may_be and set(women) == set(range(1, men + 1))
 
     def circuit(self):
-        return self.sale() if self.kind == "uniform" else self.matching()
-
-    def sale(self):
+        if self.kind == "matching":
+            return matching_circuit(self.seals, self.numbers[0], self.numbers[1:])
         width, price, *winners = self.numbers
-        circuit = Circuit(self.seals, width)
-        return circuit.select(circuit.sold([winner - 1 for winner in winners], price), price)
-
-    def matching(self):
-        width, *women = self.numbers
-        men, circuit = len(women), Circuit(self.seals, width)
-        for man, own in enumerate(women, 1):
-            for woman in range(1, men + 1):
-                if woman != own:
-                    his, hers = men * (man - 1) - 1, men * (men + woman - 1) - 1
-                    circuit.no_block(his + woman, his + own, hers + man, hers + women.index(woman) + 1)
-        return circuit
+        return sale_circuit(self.seals, width, price, winners)
 
 
 def text_of(groups):
@@ -226,7 +166,8 @@ def text_of(groups):
 def read_front(lines):
     (version,) = lines.take(rb"vickrey-board ([12])")
     (auction,) = text_of(lines.take(rb"auction " + DIGITS_16))
-    width, lanes, seals = lines.whole(b"width", 1, 40), lines.whole(b"lanes", 1, 64), lines.whole(b"seals", 1, 64)
+    width, lanes = lines.whole(b"width", 1, 40), lines.whole(b"lanes", 1, 64)
+    seals = lines.whole(b"seals", 1, 64)
     front = Front(auction, width, lanes, seals, int(version))
     if front.version == 1:
         front.winner = lines.whole(b"winner", 1, 65535)
@@ -244,7 +185,8 @@ def with_seals(lines, front):
         if seat in front.seats:
             raise Malformed(lines.number)
         front.seats.append(seat)
-        front.inputs.append([text_of(lines.take(rb"x " + DIGITS_32 + rb" " + DIGITS_32)) for _ in range(front.lanes)])
+        front.inputs.append([text_of(lines.take(rb"x " + DIGITS_32 + rb" " + DIGITS_32))
+                             for _ in range(front.lanes)])
     return front
 
 
@@ -303,7 +245,8 @@ def read_coin(data):
     lines.take(rb"vickrey-coin 1")
     (auction,) = text_of(lines.take(rb"auction " + DIGITS_16))
     bits, auditors = lines.whole(b"bits", 1, 64), lines.whole(b"auditors", 1, 16)
-    said = lambda word, form: [text_of(lines.take(rb"%s %d " % (word, at) + form)) for at in range(1, auditors + 1)]
+    said = lambda word, form: [text_of(lines.take(rb"%s %d " % (word, at) + form))
+                               for at in range(1, auditors + 1)]
     parts = [digest for (digest,) in said(b"part", DIGITS_32)]
     shares = said(b"show", DIGITS_32 + rb" ([01]{%d})" % bits)
     lines.end()
@@ -321,15 +264,10 @@ def read_share(data):
     return auction, auditor, key, bits
 
 
-def share_digest(auction, auditor, key, bits):
-    place = bytes.fromhex(auction) + auditor.to_bytes(2, "big") + len(bits).to_bytes(2, "big")
-    message = b"VKJ1" + place + bytes.fromhex(key) + int(bits.ljust(64, "0"), 2).to_bytes(8, "big")
-    return hashlib.sha256(message).hexdigest()
-
-
 @dataclass
 class Sealed:
-    """A seal, whose lanes are two digests each, or a secret, whose lanes are a mask and two keys each."""
+    """A seal, whose lanes are two digests each, or a secret, whose lanes are a mask and two keys
+    each."""
 
     auction: str
     seat: int
@@ -342,7 +280,9 @@ def read_seal(data):
     lines.take(rb"vickrey-seal 1")
     (auction,) = text_of(lines.take(rb"auction " + DIGITS_16))
     seat, lanes = lines.whole(b"seat", 1, 65535), lines.whole(b"lanes", 1, 64)
-    seal = Sealed(auction, seat, [text_of(lines.take(rb"x " + DIGITS_32 + rb" " + DIGITS_32)) for _ in range(lanes)])
+    seal = Sealed(auction, seat,
+                  [text_of(lines.take(rb"x " + DIGITS_32 + rb" " + DIGITS_32))
+                   for _ in range(lanes)])
     lines.end()
     return seal
 
@@ -366,7 +306,26 @@ def halves_of(secret, lane):
     return [(first, mask), (second, (secret.bid - mask) % MODULUS)]
 
 
-# ----------------------------------------------------------------------------------------------------------------------
+def secret_text(secret):
+    lines = ["vickrey-secret 1", f"auction {secret.auction}", f"seat {secret.seat}",
+             f"bid {secret.bid}"]
+    lines += [f"lanes {len(secret.lanes)}",
+              *(" ".join(map(str, ("x", *lane))) for lane in secret.lanes)]
+    return text_of_lines([*lines, "end"])
+
+
+def seal_text(secret):
+    """The seal that a secret opens."""
+    lines = ["vickrey-seal 1", f"auction {secret.auction}", f"seat {secret.seat}",
+             f"lanes {len(secret.lanes)}"]
+    for lane in range(1, len(secret.lanes) + 1):
+        made = [digest(secret.auction, secret.seat, lane, half, *halves_of(secret, lane)[half])
+                for half in (0, 1)]
+        lines.append(" ".join(["x", *made]))
+    return text_of_lines([*lines, "end"])
+
+
+# ------------------------------------------------------------------------------------------------
 # The tests
 
 
@@ -383,9 +342,15 @@ def held(files, names):
 
 
 def may_be_asked(name):
-    """A script may name what no file system takes; asking for it is a fault of the outside."""
-    if "\0" in name:
+    """A script may name what no file system takes, and a name may be a folder's; asking for it is a
+    fault of the outside."""
+    if "\0" in name or name in (".", ".."):
         raise Ends(6, "")
+
+
+def write(files, name, data):
+    may_be_asked(name)
+    files[name] = data
 
 
 def part(name, read, *given):
@@ -441,8 +406,8 @@ def judge_lane(front, circuit, lane, bit, digests, posted, shown):
 
 @dataclass
 class Accepted:
-    """What an accepted reply shows: the front of the board or the claim file, the bits, and of each lane its shown wires and
-    digests."""
+    """What an accepted reply shows: the front of the board or the claim file, the bits, and of each
+    lane its shown wires and digests."""
 
     front: object
     bits: str
@@ -451,7 +416,8 @@ class Accepted:
 
 
 def judge(names, datas, read=read_front):
-    """The first fault of a board or a claim file, a challenge and a reply, or what the reply shows."""
+    """The first fault of a board or a claim file, a challenge and a reply, or what the reply
+    shows."""
     board, reply = Lines(datas[0]), Lines(datas[2])
     front = read_judged_front(names[0], board, read)
     bits = part(names[1], read_challenge, datas[1])
@@ -475,7 +441,8 @@ def judge(names, datas, read=read_front):
 
 
 def judge_two(names, datas, read=read_front):
-    """Two accepted replies to one file, and the lanes whose bits differ, each with its openings by bit."""
+    """Two accepted replies to one file, and the lanes whose bits differ, each with its openings by
+    bit."""
     first = judge(names[:3], datas[:3], read)
     second = judge([names[0], *names[3:5]], [datas[0], *datas[3:5]], read)
     if first.bits == second.bits:
@@ -488,17 +455,21 @@ def judge_two(names, datas, read=read_front):
     return first, differing
 
 
-# No file can show a clash: it would be two messages with one digest. So no test for one stands here.
+# No file can show a clash: it would be two messages with one digest. So no test for one stands
+# here.
 def extraction(first, differing, word, outcome):
-    """What is printed of these lanes, where `word` stands before each value and `outcome` behind all of them."""
+    """What is printed of these lanes, where `word` stands before each value and `outcome` behind
+    all of them."""
     lines, found = [], {seat: set() for seat in first.front.seats}
     for lane, (zero, one) in differing.items():
         for place, seat in enumerate(first.front.seats):
             (_, key, value), (_, other_key, other) = zero[place][0], one[place][0]
             found[seat].add((value + other) % MODULUS)
-            lines.append(f"lane {lane} seat {seat} {word} {(value + other) % MODULUS} u {key} {value} v {other_key} {other}")
+            said = f"lane {lane} seat {seat} {word} {(value + other) % MODULUS}"
+            lines.append(f"{said} u {key} {value} v {other_key} {other}")
     lines.append(outcome)
-    lines += [f"seat {seat} {'same' if len(found[seat]) == 1 else 'differs'}" for seat in first.front.seats]
+    lines += [f"seat {seat} {'same' if len(found[seat]) == 1 else 'differs'}"
+              for seat in first.front.seats]
     return "".join(f"{line}\n" for line in [*lines, "end"])
 
 
@@ -522,7 +493,7 @@ def mismatch(auction, digests, secret):
     return None
 
 
-# ----------------------------------------------------------------------------------------------------------------------
+# ------------------------------------------------------------------------------------------------
 # The commands
 
 
@@ -534,9 +505,17 @@ def answer(command, files, *words):
         return ends.status, ends.text
 
 
-def said(files, words):
-    """The same by its words."""
-    return answer(COMMANDS[words[0]], files, *words[1:])
+def said(files, words, house=None):
+    """The same by its words, and what it writes is put into the files. A command of the house wants
+    one over these files."""
+    if not is_command(words):
+        return 2, USAGE
+    name, *rest = words
+    if name == "ceremony":
+        return ceremony(files, *rest, house)
+    if name in ORDERS:
+        return answer(lambda _, *given: getattr(house, name)(*given), files, *rest)
+    return answer(COMMANDS[name], files, *rest)
 
 
 def verify(files, *names):
@@ -565,14 +544,16 @@ def coin_join(files, name, challenge):
         if share_digest(auction, auditor, *share) != digest_of:
             raise Ends(1, f"refused {name} part {auditor}\n")
     odd = lambda lane: lane.count("1") % 2
-    files[challenge] = challenge_text("".join(str(odd(lane)) for lane in zip(*(bits for _, bits in shares))))
+    joint = "".join(str(odd(lane)) for lane in zip(*(bits for _, bits in shares)))
+    write(files, challenge, challenge_text(joint))
     return f"joined auditors {len(parts)} bits {len(shares[0][1])}\n"
 
 
 def coin_board(files, name, challenge):
     front, _ = read_whole(files, name)
     hashed = hashlib.sha256(b"VKD1" + files[name]).digest()
-    files[challenge] = challenge_text("".join(f"{byte:08b}" for byte in hashed)[: front.lanes])
+    write(files, challenge,
+          challenge_text("".join(f"{byte:08b}" for byte in hashed)[: front.lanes]))
     return f"derived bits {front.lanes}\n"
 
 
@@ -602,7 +583,8 @@ def read_whole(files, name):
 
 def report(files, name):
     front, circuit = read_whole(files, name)
-    said = [f"{number} {getattr(front, number)}" for number in ("auction", "width", "lanes", "seals")]
+    said = [f"{number} {getattr(front, number)}"
+            for number in ("auction", "width", "lanes", "seals")]
     said += [f"reserve {front.reserve}"] if front.version == 2 else []
     said += [sale_of(front), f"price {front.price}"] + [f"seat {seat}" for seat in front.seats]
     wires, rows = len(circuit.kinds), len(circuit.rows)
@@ -610,11 +592,90 @@ def report(files, name):
     return "".join(f"{line}\n" for line in said)
 
 
-COMMANDS = {"verify": verify, "extract": extract, "confront": confront, "report": report}
-COMMANDS |= {"claim-verify": claim_verify, "claim-extract": claim_extract, "coin-join": coin_join, "coin-board": coin_board}
+def coin_part(files, auction, auditor, lanes, seed, share):
+    auditor = int(auditor)
+    key, bits = drawn_share(seed, auction, auditor, int(lanes))
+    head = ["vickrey-share 1", f"auction {auction}", f"auditor {auditor}"]
+    write(files, share, text_of_lines([*head, f"show {key} {bits}", "end"]))
+    return f"part {auditor} commit {share_digest(auction, auditor, key, bits)}\n"
 
 
-# ----------------------------------------------------------------------------------------------------------------------
+def seal(files, auction, seat, bid, width, lanes, seed, secret_name, seal_name):
+    if int(bid) >= 2 ** int(width):
+        raise Ends(8, "seal bid too large\n")
+    secret = Sealed(auction, int(seat), drawn_secret(seed, auction, int(seat), int(lanes)),
+                    int(bid))
+    write(files, secret_name, secret_text(secret))
+    write(files, seal_name, seal_text(secret))
+    return f"sealed seat {seat} lanes {lanes}\n"
+
+
+COMMANDS = {"verify": verify, "extract": extract, "confront": confront, "report": report,
+            "seal": seal}
+COMMANDS |= {"claim-verify": claim_verify, "claim-extract": claim_extract}
+COMMANDS |= {"coin-part": coin_part, "coin-join": coin_join, "coin-board": coin_board}
+
+
+# ------------------------------------------------------------------------------------------------
+# The words of a command
+
+
+def number(least, most):
+    """A canonical decimal between the two."""
+    return lambda word: re.fullmatch("0|[1-9][0-9]{0,19}", word) and least <= int(word) <= most
+
+
+def digits(count):
+    return lambda word: re.fullmatch(f"[0-9a-f]{{{count}}}", word)
+
+
+def is_name(word):
+    return 1 <= len(word.encode()) <= 255
+
+
+def is_kind(word):
+    return word in ("uniform", "matching")
+
+
+ID, SEED, SEAT = digits(32), digits(64), number(1, 65535)
+WIDTH, LANES, AUDITOR = number(1, 40), number(1, 64), number(1, 16)
+BELOW_2_64 = number(0, 2**64 - 1)
+WORDS = {
+    "seal": [ID, SEAT, BELOW_2_64, WIDTH, LANES, SEED, is_name, is_name],
+    "announce": [ID, WIDTH, LANES],
+    "submit": [ID, is_name, is_name],
+    "prove": [ID, SEED, is_name],
+    "answer": [ID, is_name, is_name],
+    "show": [ID],
+    "verify": [is_name] * 3,
+    "extract": [is_name] * 5,
+    "confront": [is_name] * 6,
+    "report": [is_name],
+    "sample": [BELOW_2_64],
+    "ceremony": [is_name],
+    "claim-verify": [is_name] * 3,
+    "claim-extract": [is_name] * 5,
+    "claim-sample": [is_kind, BELOW_2_64],
+    "coin-part": [ID, AUDITOR, LANES, SEED, is_name],
+    "coin-join": [is_name] * 2,
+    "coin-board": [is_name] * 2,
+}
+DIFFERING = {"seal", "answer", "coin-join", "coin-board"}  # their last two words are two names
+
+
+def is_command(words):
+    if not words or words[0] not in WORDS:
+        return False
+    name, *rest = words
+    kinds = WORDS[name]
+    if name == "announce" and len(rest) == 4 and WIDTH(rest[1]):
+        kinds = [*kinds, number(0, 2 ** int(rest[1]) - 1)]
+    if len(rest) != len(kinds) or not all(kind(word) for kind, word in zip(kinds, rest)):
+        return False
+    return name not in DIFFERING or rest[-1] != rest[-2]
+
+
+# ------------------------------------------------------------------------------------------------
 # The house and its scripts
 
 
@@ -623,31 +684,66 @@ class Auction:
     width: int
     lanes: int
     reserve: int = None  # none where it was announced without one
-    seals: list = field(default_factory=list)  # of each its seat and bid
+    seals: list = field(default_factory=list)
+    secrets: list = field(default_factory=list)
     seed: str = None
     bits: str = None
 
     def phase(self):
         return "taking" if self.seed is None else "proved" if self.bits is None else "answered"
 
-    def version(self):
-        return 1 if self.reserve is None else 2
+    def bids(self):
+        return [secret.bid for secret in self.secrets]
 
-    def sale(self):
-        bids, least = [bid for _, bid in self.seals], self.reserve or 0
+    def outcome(self):
+        """The winner's place, or None where nothing is sold, and the price."""
+        bids, least = self.bids(), self.reserve or 0
         winner = bids.index(max(bids))
         if bids[winner] < least:
-            return "unsold"
-        price = max(bids[:winner] + bids[winner + 1 :] + [least])
-        return f"winner {self.seals[winner][0]} price {price}"
+            return None, 0
+        return winner, max(bids[:winner] + bids[winner + 1 :] + [least])
+
+    def front(self, auction):
+        winner, price = self.outcome()
+        seats = [seal.seat for seal in self.seals]
+        seat = None if winner is None else seats[winner]
+        version = 1 if self.reserve is None else 2
+        terms = [self.width, self.lanes, len(seats), version, self.reserve or 0]
+        return Front(auction, *terms, seat, price, seats, [seal.lanes for seal in self.seals])
+
+    def wires(self, front, circuit):
+        """Of each lane the wires."""
+        return lanes_of(self.seed, front.auction, self.secrets, circuit, front.price)
+
+
+def lanes_of(seed, auction, secrets, circuit, price=None):
+    """Of each lane the wires that an honest auctioneer makes of what is sealed."""
+    values = circuit.values([secret.bid for secret in secrets], price)
+    lanes = []
+    for lane, sealed in enumerate(zip(*(secret.lanes for secret in secrets)), 1):
+        drawn = [(mask, 0, *keys) for mask, *keys in sealed]
+        drawn += drawn_lane(seed, auction, lane, len(values) - len(sealed))
+        lanes.append([Wire(*wire, *draw) for *wire, draw in zip(circuit.kinds, values, drawn)])
+    return lanes
+
+
+def sale_text(front):
+    return "unsold" if front.winner is None else f"winner {front.winner} price {front.price}"
+
+
+def head_lines(front):
+    """A board before its seals."""
+    lines = [f"vickrey-board {front.version}", f"auction {front.auction}", f"width {front.width}"]
+    lines += [f"lanes {front.lanes}", f"seals {front.seals}"]
+    lines += [f"reserve {front.reserve}"] if front.version == 2 else []
+    return [*lines, sale_of(front), f"price {front.price}"]
 
 
 class House:
-    """The auctions, and the commands that a script may have. What is written is not worked out: a name that was written
-    holds the first line of its form, which is enough, since no command reads a board or a reply as what it is."""
+    """The auctions, and the commands that a script may have, over files, into which they write."""
 
-    def __init__(self, files):
-        self.files, self.auctions = dict(files), {}
+    def __init__(self, files, auctions=None):
+        self.files, self.auctions = files, auctions or {}
 
     def known(self, auction):
         if auction not in self.auctions:
@@ -668,7 +764,8 @@ class House:
         why = self.refusal(auction, kept, seal, secret)
         if why:
             raise Ends(8, f"house {why}\n")
-        kept.seals.append((seal.seat, secret.bid))
+        kept.seals.append(seal)
+        kept.secrets.append(secret)
         return f"taken seat {seal.seat} position {len(kept.seals)}\n"
 
     @staticmethod
@@ -679,7 +776,7 @@ class House:
             return "full"
         if seal.auction != auction:
             return f"other auction {seal.auction}"
-        if seal.seat in [seat for seat, _ in kept.seals]:
+        if seal.seat in [taken.seat for taken in kept.seals]:
             return f"seat taken {seal.seat}"
         if len(seal.lanes) != kept.lanes:
             return f"length kept {kept.lanes} given {len(seal.lanes)}"
@@ -697,9 +794,11 @@ class House:
         if kept.seed not in (None, seed):
             raise Ends(8, f"house other seed kept {kept.seed}\n")
         kept.seed = seed
-        may_be_asked(board_name)
-        self.files[board_name] = b"vickrey-board %d\n" % kept.version()
-        return f"proved {kept.sale()}\n"
+        front = kept.front(auction)
+        circuit = front.circuit()
+        board = published_text(head_lines(front), front, circuit, kept.wires(front, circuit))
+        write(self.files, board_name, board)
+        return f"proved {sale_text(front)}\n"
 
     def answer(self, auction, challenge_name, reply_name):
         bits = part(challenge_name, read_challenge, held(self.files, [challenge_name])[0])
@@ -711,8 +810,8 @@ class House:
         if kept.bits not in (None, bits):
             raise Ends(8, f"house other challenge kept {kept.bits}\n")
         kept.bits = bits
-        may_be_asked(reply_name)
-        self.files[reply_name] = b"vickrey-reply 1\n"
+        front = kept.front(auction)
+        write(self.files, reply_name, reply_text(kept.wires(front, front.circuit()), bits))
         return "answered\n"
 
     def show(self, auction):
@@ -722,46 +821,27 @@ class House:
         return f"auction {auction} {numbers} phase {kept.phase()}{reserve}\n"
 
 
-NAME = rb"([^ ]{1,255})"
-ORDERS = {
-    "announce": rb"announce " + DIGITS_16 + rb" " + NUMBER + rb" " + NUMBER + rb"(?: " + NUMBER + rb")?",
-    "submit": rb"submit " + DIGITS_16 + rb" " + NAME + rb" " + NAME,
-    "prove": rb"prove " + DIGITS_16 + rb" " + DIGITS_32 + rb" " + NAME,
-    "answer": rb"answer " + DIGITS_16 + rb" " + NAME + rb" " + NAME,
-    "show": rb"show " + DIGITS_16,
-}
+ORDERS = {"announce", "submit", "prove", "answer", "show"}
 
 
 def order_of(line, script):
-    """The command of a script's line and its words, or None."""
-    for order, form in ORDERS.items():
-        found = re.fullmatch(form, line)
-        if found:
-            try:
-                words = text_of(group for group in found.groups() if group is not None)
-            except UnicodeDecodeError:
-                return None
-            return (order, words) if fits(order, words, script) else None
-    return None
+    """The words of a script's line, or None where they are no command that it may have."""
+    try:
+        words = line.decode().split(" ")
+    except UnicodeDecodeError:
+        return None
+    if words[0] not in ORDERS or not is_command(words):
+        return None
+    return None if words[0] in ("prove", "answer") and words[-1] == script else words
 
 
-def fits(order, words, script):
-    """Whether the numbers are within their limits, and no name is written that stands elsewhere."""
-    if order == "announce":
-        width, lanes, *reserve = map(int, words[1:])
-        return 1 <= width <= 40 and 1 <= lanes <= 64 and all(number < 2**width for number in reserve)
-    if order == "answer" and words[1] == words[2]:
-        return False
-    return order not in ("prove", "answer") or words[2] != script
-
-
-def ceremony(files, script):
+def ceremony(files, script, house=None):
     """The status and the text of a whole script."""
     try:
         data = held(files, [script])[0]
     except Ends as ends:
         return ends.status, ends.text
-    lines, house, said, refused = Lines(data), House(files), "", False
+    lines, house, said, refused = Lines(data), house or House(files), "", False
     try:
         lines.take(rb"vickrey-script 1")
         while True:
@@ -770,12 +850,72 @@ def ceremony(files, script):
                 if lines.at < len(data):
                     raise Malformed(lines.number + 1)
                 return 8 if refused else 0, said + "end\n"
-            order = order_of(line, script)
-            if order is None:
+            words = order_of(line, script)
+            if words is None:
                 raise Malformed(lines.number)
-            status, text = answer(lambda _, words: getattr(house, order[0])(*words), None, order[1])
+            status, text = answer(lambda _, *given: getattr(house, words[0])(*given), None,
+                                  *words[1:])
             said, refused = said + text, refused or status == 8
             if status not in (0, 8):
                 return status, said
     except Malformed as fault:
         return 4, said + f"malformed {script} line {fault.line}\n"
+
+
+# ------------------------------------------------------------------------------------------------
+# The sample of a claim
+
+# Of each kind the letters, the inputs, and the bits of one
+SAMPLES = {"uniform": (b"VKS2", 10, 16), "matching": (b"VKS3", 32, 8)}
+
+
+def claim_sample(files, kind, number, women=None):
+    """Its text, and its five files are put among the files. Of a matching it is free which one is
+    published, as long as it is stable."""
+    letters, inputs, width = SAMPLES[kind]
+    begun = letters + number.to_bytes(8, "big")
+    labelled = lambda place: hashlib.sha256(begun + bytes([place])).digest()
+    auction, seats = labelled(0)[:16].hex(), range(101, 101 + inputs)
+    drawn = [drawn_secret(labelled(seat - 84).hex(), auction, seat, 8) for seat in seats]
+    bids = [int.from_bytes(labelled(seat - 36)[: width // 8], "big") for seat in seats]
+    secrets = [Sealed(auction, *sealed) for sealed in zip(seats, drawn, bids)]
+    numbers = [width, *(sale_of_units(bids, 3) if kind == "uniform" else women)]
+    front = ClaimFront(auction, kind, 8, inputs, numbers, list(seats))
+    front.inputs = [read_seal(seal_text(secret)).lanes for secret in secrets]
+    circuit = front.circuit()
+    lanes = lanes_of(labelled(1).hex(), auction, secrets, circuit,
+                     numbers[1] if kind == "uniform" else None)
+    files["claim-board"] = published_text(claim_lines(front), front, circuit, lanes)
+    first = f"{labelled(2)[0]:08b}"
+    for attempt, bits in enumerate((first, first.translate(str.maketrans("01", "10"))), 1):
+        files[f"claim-challenge-{attempt}"] = challenge_text(bits)
+        files[f"claim-reply-{attempt}"] = reply_text(lanes, bits)
+    sizes = f"inputs {inputs} lanes 8 wires {len(circuit.kinds)} rows {len(circuit.rows)}"
+    lines = [f"claim-sample {kind} {number}", sizes, "verify 1 accepted", "verify 2 accepted"]
+    return text_of_lines([*lines, f"extract lanes 8 same {inputs}", "end"]), bids
+
+
+def claim_lines(front):
+    """A claim file before its seals."""
+    lines = ["vickrey-claim 1", f"auction {front.auction}", f"kind {front.kind}",
+             f"lanes {front.lanes}"]
+    lines += [f"inputs {front.seals}", f"numbers {len(front.numbers)}"]
+    return lines + [f"n {number}" for number in front.numbers]
+
+
+def sale_of_units(bids, units):
+    """The price, and the winners' positions, ascending."""
+    order = sorted(range(len(bids)), key=lambda place: (-bids[place], place))
+    price = max((bids[place] for place in order[units:]), default=0)
+    return [price, *sorted(place + 1 for place in order[:units])]
+
+
+def is_stable(women, ranks):
+    """Whether no man and woman rank each other below their own, by each man's woman."""
+    men = range(1, len(women) + 1)
+    his = lambda man, woman: ranks[(man - 1) * len(women) + woman - 1]
+    hers = lambda woman, man: ranks[(len(women) + woman - 1) * len(women) + man - 1]
+    blocks = lambda man, woman: (his(man, woman) < his(man, women[man - 1])
+                                 and hers(woman, man) < hers(woman, women.index(woman) + 1))
+    couples = [(man, woman) for man in men for woman in men]
+    return sorted(women) == list(men) and not any(blocks(*couple) for couple in couples)

@@ -35,19 +35,23 @@ class Program:
         words = [os.fsencode(word) for word in (self.path, *words)]
         try:
             done = subprocess.run(
-                words, cwd=folder, env=env or {}, stdin=subprocess.DEVNULL, stdout=stdout, stderr=subprocess.PIPE,
-                timeout=seconds, **how,
+                words, cwd=folder, env=env or {}, stdin=subprocess.DEVNULL, stdout=stdout,
+                stderr=subprocess.PIPE, timeout=seconds, **how,
             )
         except subprocess.TimeoutExpired:
             return Ended("no end", b"", b"")
         return Ended(done.returncode, done.stdout or b"", done.stderr)
 
-    def fault(self, kinds, first=0, last=0, what="", log=""):
-        """The environment in which the counted calls from first to last fail. Kinds may begin with `own` or `store` and a
-        space, where those calls alone are counted."""
+    def fault(self, kinds, first=0, last=0, what="", log="", step=1):
+        """The environment in which the counted calls from first to last fail, one in so many of
+        them. Kinds may begin with `own` or `store` and a space, where those calls alone are
+        counted."""
         whose, _, kinds = kinds.rpartition(" ")
-        settings = {"KINDS": kinds, "WHOSE": whose, "FROM": first, "TO": last, "DO": what, "LOG": log, "STORE": STORE}
-        return {"LD_PRELOAD": self.faults, **{f"FAULT_{name}": str(value) for name, value in settings.items()}}
+        settings = {"KINDS": kinds, "WHOSE": whose, "FROM": first, "TO": last, "STEP": step,
+                    "DO": what, "LOG": log}
+        settings["STORE"] = STORE
+        return {"LD_PRELOAD": self.faults,
+                **{f"FAULT_{name}": str(value) for name, value in settings.items()}}
 
     def calls(self, scenario, kinds):
         """The letters of the calls that a run without a fault makes."""
