@@ -332,7 +332,7 @@ def crates(_auction):
     """The crates, each box on those to which its arrows point. It has no number of the auction."""
     figure = Figure("The crates", 780, 560)
     boxes = {
-        "app": (20, 12, 740, 44, "the program and its top call", "vickrey, vk_program, vk_app"),
+        "app": (20, 12, 740, 44, "the program, a page’s call, and the top call", "vickrey, vk_program, page, vk_app"),
         "audit": (270, 80, 240, 62, "the auditor's commands", "vk_audit, vk_claims,|vk_coins"),
         "office": (530, 80, 230, 62, "the auctioneer's commands", "vk_auctioneer, vk_ceremony,|vk_sample, vk_claim_sample"),
         "words": (20, 80, 230, 44, "words and effects", "vk_words, vk_effect"),
