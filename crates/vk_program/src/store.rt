@@ -114,10 +114,11 @@ fn admit<R: Files>(rt: &R) -> Result<(), Unopened> {
     }
 }
 
-/// Whether a file of that length and mode is empty and others may use it. What would be written
-/// into it they could read: it isn't closed to them first, since they may have it open already.
+/// Whether others may use a file of that length and mode, and SQLite takes it for empty, as it does
+/// one of a single byte. What would be written into it they could read: it isn't closed to them
+/// first, since they may have it open already.
 fn is_exposed(length: u64, mode: u32) -> bool
     ensures { result ≡ is_exposed length mode }
 {
-    length == 0 && mode & OTHERS != 0
+    length < 2 && mode & OTHERS != 0
 }

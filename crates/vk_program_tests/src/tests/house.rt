@@ -75,20 +75,20 @@ fn nothing_is_made(stop: &impl Abort, rt: &HostRuntime) -> Result<(), Fail> {
     Ok(())
 }
 
-/// An empty file that others may read becomes no store, nor does a link make one elsewhere; once it
-/// is its owner's alone it does.
+/// An empty file that others may read becomes no store, nor does one of a single byte, nor does a
+/// link make one elsewhere; once it is its owner's alone it does.
 fn others_may_read_no_store(stop: &impl Abort, rt: &HostRuntime) -> Result<(), Fail> {
     let announce = ["announce", ID, "4", "2"];
     symlink(rt, "elsewhere", "house.sqlite")?;
     assert!(stop; status_of(rt, &announce) == ExitCode::from(6));
     assert!(stop; fs::metadata(rt, "elsewhere").is_err());
     fs::remove_file(rt, "house.sqlite")?;
-    fs::write(rt, "house.sqlite", "")?;
-    for (mode, status, is_empty) in [(0o644, 6, true), (0o620, 6, true), (0o600, 0, false)] {
+    for (content, mode, status) in [("", 0o644, 6), ("S", 0o620, 6), ("", 0o600, 0)] {
+        fs::write(rt, "house.sqlite", content)?;
         fs::set_permissions(rt, "house.sqlite", Permissions::from_mode(mode))?;
         assert!(stop; status_of(rt, &announce) == ExitCode::from(status));
         let metadata = fs::metadata(rt, "house.sqlite")?;
-        assert!(stop; (metadata.len() == 0) == is_empty);
+        assert!(stop; (metadata.len() == content.len() as u64) == (status == 6));
         assert!(stop; metadata.permissions().mode() & 0o777 == mode);
     }
     Ok(())
