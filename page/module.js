@@ -126,37 +126,56 @@ function instanceOf(module) {
   }
 }
 
-function run(instance, line, files, wanted, roomSize) {
-  const memory = new Memory(instance.exports);
-  const lineSlice = memory.put(line);
-  const fileSlices = files.flatMap(([name, bytes]) => [
-    memory.put(bytesOf(name)),
-    memory.put(bytes),
-  ]);
-  const wantedSlices = wanted.map((name) => memory.put(bytesOf(name)));
-  const filesSlice = memory.putStructs(files.length, fileSlices);
-  const wantedSlice = memory.putStructs(wanted.length, wantedSlices);
-  const room = memory.take(Math.max(8, roomSize));
-  const slices = [lineSlice, filesSlice, wantedSlice, room];
-  // The status is a byte, and the bits above it are any.
-  const status = instance.exports.page_run(...slices.flat()) & 0xff;
-  if (status === WANT_OF_MEMORY) {
-    return wantOfMemory(wanted);
+// A call of the program that is laid out in the memory of a new instance. The bytes of each file are
+// put in their place there, and then it runs, once. It throws where a word holds a space, a NoMemory
+// where memory is wanting, and where the module itself stops, which would be a fault. `words` and
+// `wanted` are arrays of texts, or of bytes where they are no UTF-8; `sizes` has a name and a length
+// for each file; `roomSize` is what text and wanted files may take at most.
+class Call {
+  constructor(module, words, sizes, wanted = [], roomSize = ROOM_SIZE) {
+    const line = lineOf(words);
+    this.wanted = wanted;
+    this.instance = instanceOf(module);
+    this.memory = new Memory(this.instance.exports);
+    const lineSlice = this.memory.put(line);
+    const files = sizes.map(([name, size]) => [
+      this.memory.put(bytesOf(name)),
+      this.memory.take(size),
+    ]);
+    const wantedSlices = wanted.map((name) => this.memory.put(bytesOf(name)));
+    const filesSlice = this.memory.putStructs(files.length, files.flat());
+    const wantedSlice = this.memory.putStructs(wanted.length, wantedSlices);
+    this.places = files.map(([, place]) => place);
+    this.room = this.memory.take(Math.max(8, roomSize));
+    this.slices = [lineSlice, filesSlice, wantedSlice, this.room];
   }
-  const reader = new AnswerReader(memory.bytes(room));
-  return answerOf(status, reader.part(), wanted, () => reader.part());
+
+  // The place of the bytes of a file, by its number among the sizes, until the program runs.
+  place(number) {
+    return this.memory.bytes(this.places[number]);
+  }
+
+  // What the program answers: { status, text, printed, files }.
+  run() {
+    // The status is a byte, and the bits above it are any.
+    const status = this.instance.exports.page_run(...this.slices.flat()) & 0xff;
+    if (status === WANT_OF_MEMORY) {
+      return wantOfMemory(this.wanted);
+    }
+    const reader = new AnswerReader(this.memory.bytes(this.room));
+    return answerOf(status, reader.part(), this.wanted, () => reader.part());
+  }
 }
 
-// Runs the command of these words over the files, in an instance of its own, and answers
-// { status, text, printed, files }. `words` and `wanted` are arrays of texts, or of bytes where
-// they are no UTF-8; `files` is a Map or an object of Uint8Arrays by name; `roomSize` is what text
-// and wanted files may take at most. Where memory is wanting, the status is 9. It throws where a
-// word holds a space, and where the module itself stops, which would be a fault.
+// Runs the command of these words over files that are there, a Map or an object of Uint8Arrays by
+// name. Where memory is wanting, the status is 9.
 function call(module, words, files, wanted = [], roomSize = ROOM_SIZE) {
   const entries = files instanceof Map ? [...files] : Object.entries(files);
-  const line = lineOf(words);
+  const sizes = entries.map(([name, bytes]) => [name, bytes.length]);
   try {
-    return run(instanceOf(module), line, entries, wanted, roomSize);
+    const begun = new Call(module, words, sizes, wanted, roomSize);
+    entries.forEach(([, bytes], number) => begun.place(number).set(bytes));
+    return begun.run();
   } catch (error) {
     if (error instanceof NoMemory) {
       return wantOfMemory(wanted);

@@ -15,7 +15,9 @@ const Parts = (() => {
   // Seconds of the commands that are handed no files.
   const SECONDS = { sample: 4, "claim-sample": 0.5 };
 
-  const setting = { queue: null, code: null };
+  // The module has its bytes in `code`, and is in `module` when it has been compiled, once for all
+  // work on this page.
+  const setting = { queue: null, code: null, module: null };
 
   const seconds = (time) => (time < 10 ? time.toFixed(1) : String(Math.round(time)));
 
@@ -170,6 +172,11 @@ const Parts = (() => {
     }
   }
 
+  function commandMessage(rest) {
+    const { module, code } = setting;
+    return { task: "command", ...(module ? { module } : { code }), ...rest };
+  }
+
   // Runs a command of the program. `files` has, by the names in the words, what it is handed: each
   // with its `file`, and `from` where that was made on this page. Of the first the answer has the
   // digest and the head too.
@@ -178,8 +185,7 @@ const Parts = (() => {
     const held = Object.entries(files).map(([name, { file }]) => [name, file]);
     const size = held.reduce((sum, [, file]) => sum + file.size, 0);
     const main = held.length ? held[0][0] : null;
-    const rest = { words, files: held, main, wanted, roomSize };
-    const message = { task: "command", code: setting.code, ...rest };
+    const message = commandMessage({ words, files: held, main, wanted, roomSize });
     const { turn } = place;
     const tell = (answer) => then({ ...answer, words, handed: files, secret, turn });
     return new Job(place, doing, message, size, tell);
@@ -189,8 +195,35 @@ const Parts = (() => {
     return new Job(place, "Computing the digest", { task: "digest", name, file }, file.size, then);
   }
 
+  // Work that nobody waits for. A browser compiles a function well once it has been busy with it,
+  // for all that share the module: so this runs an example of the program's own, and drops what
+  // comes of it.
+  class Practice {
+    constructor() {
+      const words = ["claim-sample", "uniform", "1"];
+      const files = { files: [], main: null, wanted: [], roomSize: 64 * 1024 };
+      this.message = commandMessage({ words, ...files });
+    }
+
+    began() {}
+
+    answered() {
+      setting.queue.practice = null;
+    }
+
+    failed() {
+      setting.queue.practice = null;
+    }
+  }
+
+  // Compiles the module, and tells its digest.
   function moduleJob(place, then) {
-    return new Job(place, "Looking at the module", { task: "module", code: setting.code }, 0, then);
+    const message = { task: "module", code: setting.code };
+    return new Job(place, "Looking at the module", message, 0, ({ module, digest }) => {
+      setting.module = module;
+      setting.queue.practice = new Practice();
+      then(digest);
+    });
   }
 
   // ---- What is shown of an answer

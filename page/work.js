@@ -4,9 +4,13 @@
 // `serve` is its end, and `Queue` the page's: one piece of work after another, each with a new
 // Worker, so that no memory is left of it and it can be stopped at any moment.
 const Work = (() => {
-  const CHUNK = 4 * 1024 * 1024;
+  // Bytes of a file that are read at once: into memory that is there, and into new memory
+  const PART = 1024 * 1024;
+  const PIECE = 8 * 1024 * 1024;
 
-  // More than the heads of all boards and claim files that there can be
+  // Bytes in which a lane is looked for: at first, and more than the heads of all boards and claim
+  // files that there can be
+  const SHORT_HEAD = 64 * 1024;
   const HEAD = 6 * 1024 * 1024;
 
   // Why there is no answer, by a word that the page has a sentence for.
@@ -26,20 +30,50 @@ const Work = (() => {
     }
   }
 
-  // The bytes of a file, read in pieces, so that no second copy of a large one is held.
-  async function read(file, name) {
-    const bytes = room(file.size);
-    for (let at = 0; at < bytes.length; at += CHUNK) {
-      const piece = file.slice(at, at + CHUNK);
-      const part = await piece.arrayBuffer().catch(() => {
-        throw new Fault("unreadable", name);
-      });
-      if (part.byteLength !== piece.size) {
-        throw new Fault("unreadable", name);
+  // The bytes of a file, part by part, into the same memory again and again.
+  async function streamed(reader, put) {
+    let room = new ArrayBuffer(PART);
+    for (;;) {
+      const { done, value } = await reader.read(new Uint8Array(room));
+      if (done) {
+        return;
       }
-      bytes.set(new Uint8Array(part), at);
+      put(value);
+      room = value.buffer;
     }
-    return bytes;
+  }
+
+  // The same in a browser that can't read into memory that is there.
+  async function pieces(file, put) {
+    for (let at = 0; at < file.size; at += PIECE) {
+      put(new Uint8Array(await file.slice(at, at + PIECE).arrayBuffer()));
+    }
+  }
+
+  function readerOf(file) {
+    try {
+      return file.stream().getReader({ mode: "byob" });
+    } catch {
+      return null;
+    }
+  }
+
+  // Puts the bytes of a file in a place of its length as they come, so that no second copy of a
+  // large one is held.
+  async function fill(place, file, name) {
+    let at = 0;
+    const put = (part) => {
+      place.set(part, at);
+      at += part.length;
+    };
+    const reader = readerOf(file);
+    await (reader ? streamed(reader, put) : pieces(file, put)).catch(() => {
+      throw new Fault("unreadable", name);
+    });
+    if (at !== place.length) {
+      throw new Fault("unreadable", name);
+    }
+    return place;
   }
 
   const ROUND_KEYS = Int32Array.of(
@@ -127,41 +161,47 @@ const Work = (() => {
   // What stands before the first lane of a board or a claim file, its seals among it, as a text of
   // one letter for each byte; nothing where there is no lane.
   function headOf(bytes) {
-    const text = new TextDecoder("latin1").decode(bytes.subarray(0, HEAD));
-    return text.slice(0, Math.max(0, text.search(/^lane /m)));
+    for (const size of [SHORT_HEAD, HEAD]) {
+      const text = new TextDecoder("latin1").decode(bytes.subarray(0, size));
+      const lane = text.search(/^lane /m);
+      if (lane >= 0) {
+        return text.slice(0, lane);
+      }
+    }
+    return "";
   }
 
-  async function compiled(code) {
+  // The module: as it was compiled once, or from its bytes.
+  async function compiled({ module, code }) {
     if (typeof WebAssembly !== "object") {
       throw new Fault("no WebAssembly");
     }
-    return load(code);
+    return module || load(code);
   }
 
   // What a Worker can be asked to do, by the word `task`.
   const TASKS = {
     async digest({ file, name }) {
-      return digestOf(await read(file, name));
+      return digestOf(await fill(room(file.size), file, name));
     },
 
-    // Whether this browser takes the module, and the module's digest.
+    // The compiled module, if this browser takes it, and the digest of its bytes.
     async module({ code }) {
-      await compiled(code);
-      return digestOf(code);
+      const module = await compiled({ code });
+      return { module, digest: await digestOf(code) };
     },
 
     // Runs a command of the program over files, in an instance of its own. Of the file `main` the
     // digest and the head come too, so that they are of the very bytes that were judged.
-    async command({ code, words, files, main, wanted, roomSize }) {
-      const module = await compiled(code);
-      const held = new Map();
-      for (const [name, file] of files) {
-        held.set(name, await read(file, name));
-      }
-      const bytes = held.get(main);
+    async command({ module, code, words, files, main, wanted, roomSize }) {
+      const sizes = files.map(([name, file]) => [name, file.size]);
+      const begun = new Call(await compiled({ module, code }), words, sizes, wanted, roomSize);
+      await Promise.all(files.map(([name, file], at) => fill(begun.place(at), file, name)));
+      const number = files.findIndex(([name]) => name === main);
+      const bytes = number >= 0 ? begun.place(number) : null;
+      const head = bytes ? headOf(bytes) : null;
       const digest = bytes ? digestOf(bytes) : null;
-      const answer = call(module, words, held, wanted, roomSize);
-      return { ...answer, digest: await digest, head: bytes ? headOf(bytes) : null };
+      return { ...begun.run(), digest: await digest, head };
     },
   };
 
@@ -179,7 +219,7 @@ const Work = (() => {
     if (/^(Compile|Link)Error$/.test(error && error.name)) {
       return { fault: WebAssembly.validate(SIMD) ? "module" : "no SIMD", about };
     }
-    const memory = error instanceof RangeError || /memory/i.test(about);
+    const memory = error instanceof RangeError || error instanceof NoMemory || /memory/i.test(about);
     return { fault: memory ? "memory" : "stopped", about };
   }
 
@@ -194,30 +234,51 @@ const Work = (() => {
     };
   }
 
+  // Calls a function when the page has nothing else to do, or soon where a browser can't tell.
+  function whenIdle(then) {
+    if (globalThis.requestIdleCallback) {
+      requestIdleCallback(then);
+    } else {
+      setTimeout(then, 200);
+    }
+  }
+
   // The page's end. A piece of work has a message for the Worker, and is told what becomes of it by
-  // its methods began(), answered(answer) and failed(fault, about).
+  // its methods began(), answered(answer) and failed(fault, about). While nothing is asked for, a
+  // spare Worker is made for the next piece of work, and the `practice` is done, which is work that
+  // nobody waits for: whatever is added stops it, and it begins anew later.
   class Queue {
     constructor(address) {
       this.address = address;
       this.waiting = [];
       this.running = null;
       this.worker = null;
+      this.spare = null;
+      this.practice = null;
     }
 
     add(work) {
       this.waiting.push(work);
+      if (this.running && this.running === this.practice) {
+        this.end(this.practice, () => {});
+      }
       this.next();
     }
 
     next() {
-      if (this.running || this.waiting.length === 0) {
-        return;
+      if (!this.running && this.waiting.length) {
+        const worker = this.spare;
+        this.spare = null;
+        this.start(this.waiting.shift(), worker);
       }
-      const work = this.waiting.shift();
+    }
+
+    // Starts a piece of work in this Worker, or in a new one.
+    start(work, worker) {
       this.running = work;
       work.began();
       try {
-        this.worker = new Worker(this.address);
+        this.worker = worker || new Worker(this.address);
         this.worker.onmessage = ({ data }) => this.hear(work, data);
         this.worker.onerror = ({ message }) => {
           this.end(work, () => work.failed("no Worker", message || ""));
@@ -225,6 +286,36 @@ const Work = (() => {
         this.worker.postMessage(work.message);
       } catch (error) {
         this.end(work, () => work.failed("no Worker", String(error)));
+      }
+    }
+
+    // What is done while there is nothing else.
+    rest() {
+      if (this.running) {
+        return;
+      }
+      this.prepare();
+      if (this.practice) {
+        this.start(this.practice, null);
+      }
+    }
+
+    // Makes the spare Worker. Where that fails nothing is said: the next piece of work makes one for
+    // itself, and says it.
+    prepare() {
+      if (this.spare) {
+        return;
+      }
+      try {
+        const spare = new Worker(this.address);
+        spare.onerror = () => {
+          if (this.spare === spare) {
+            this.spare = null;
+          }
+        };
+        this.spare = spare;
+      } catch {
+        this.spare = null;
       }
     }
 
@@ -249,6 +340,7 @@ const Work = (() => {
       this.running = null;
       then();
       this.next();
+      whenIdle(() => this.rest());
     }
 
     // Whether it was there to be stopped.
