@@ -8,10 +8,13 @@ const Work = (() => {
   const PART = 1024 * 1024;
   const PIECE = 8 * 1024 * 1024;
 
-  // Bytes in which a lane is looked for: at first, and more than the heads of all boards and claim
-  // files that there can be
-  const SHORT_HEAD = 64 * 1024;
+  // More than the heads of all boards and claim files that there can be
   const HEAD = 6 * 1024 * 1024;
+
+  // Bytes whose digest takes longer than another Worker does
+  const LONG = 2 * 1024 * 1024;
+
+  const NEWLINE = 0x0a;
 
   // Why there is no answer, by a word that the page has a sentence for.
   class Fault extends Error {
@@ -158,17 +161,37 @@ const Work = (() => {
     return digits(sha256(bytes));
   }
 
+  // The digest of bytes by the Worker at the other end of a port. Some browsers compute a digest
+  // where it is asked for, and nothing else goes on there meanwhile.
+  function digestBeside(port, bytes) {
+    const copy = bytes.slice();
+    return new Promise((done, refuse) => {
+      port.onmessage = ({ data: { answer, fault, about } }) => {
+        if (fault) {
+          refuse(new Fault(fault, about));
+        } else {
+          done(answer);
+        }
+      };
+      port.postMessage(copy, [copy.buffer]);
+    });
+  }
+
+  // Where the first line begins that has these bytes at its start, or -1.
+  function lineWith(start, bytes) {
+    const has = (at) => start.every((byte, place) => bytes[at + place] === byte);
+    let at = bytes.indexOf(start[0]);
+    while (at >= 0 && !((at === 0 || bytes[at - 1] === NEWLINE) && has(at))) {
+      at = bytes.indexOf(start[0], at + 1);
+    }
+    return at;
+  }
+
   // What stands before the first lane of a board or a claim file, its seals among it, as a text of
   // one letter for each byte; nothing where there is no lane.
   function headOf(bytes) {
-    for (const size of [SHORT_HEAD, HEAD]) {
-      const text = new TextDecoder("latin1").decode(bytes.subarray(0, size));
-      const lane = text.search(/^lane /m);
-      if (lane >= 0) {
-        return text.slice(0, lane);
-      }
-    }
-    return "";
+    const lane = lineWith(new TextEncoder().encode("lane "), bytes.subarray(0, HEAD));
+    return new TextDecoder("latin1").decode(bytes.subarray(0, Math.max(0, lane)));
   }
 
   // The module: as it was compiled once, or from its bytes.
@@ -185,6 +208,11 @@ const Work = (() => {
       return digestOf(await fill(room(file.size), file, name));
     },
 
+    // Serves another Worker, which asks for digests at a port.
+    async digests({ port }) {
+      port.onmessage = async ({ data }) => port.postMessage(await outcome(digestOf(data)));
+    },
+
     // The compiled module, if this browser takes it, and the digest of its bytes.
     async module({ code }) {
       const module = await compiled({ code });
@@ -193,14 +221,17 @@ const Work = (() => {
 
     // Runs a command of the program over files, in an instance of its own. Of the file `main` the
     // digest and the head come too, so that they are of the very bytes that were judged.
-    async command({ module, code, words, files, main, wanted, roomSize }) {
+    // Where there is a `port`, it leads to a Worker for that digest.
+    async command({ module, code, words, files, main, wanted, roomSize, port }) {
       const sizes = files.map(([name, file]) => [name, file.size]);
       const begun = new Call(await compiled({ module, code }), words, sizes, wanted, roomSize);
       await Promise.all(files.map(([name, file], at) => fill(begun.place(at), file, name)));
-      const number = files.findIndex(([name]) => name === main);
-      const bytes = number >= 0 ? begun.place(number) : null;
-      const head = bytes ? headOf(bytes) : null;
-      const digest = bytes ? digestOf(bytes) : null;
+      if (!main) {
+        return { ...begun.run(), digest: null, head: null };
+      }
+      const bytes = begun.place(files.findIndex(([name]) => name === main));
+      const digest = port ? digestBeside(port, bytes) : digestOf(bytes);
+      const head = headOf(bytes);
       return { ...begun.run(), digest: await digest, head };
     },
   };
@@ -223,14 +254,13 @@ const Work = (() => {
     return { fault: memory ? "memory" : "stopped", about };
   }
 
+  // What becomes of a promise, as it is told to who asked.
+  const outcome = (promise) => promise.then((answer) => ({ answer }), faultOf);
+
   // The Worker's end: one message comes, and one with an answer or a fault goes back.
   function serve(scope) {
     scope.onmessage = async ({ data }) => {
-      try {
-        scope.postMessage({ answer: await TASKS[data.task](data) });
-      } catch (error) {
-        scope.postMessage(faultOf(error));
-      }
+      scope.postMessage(await outcome(TASKS[data.task](data)));
     };
   }
 
@@ -252,7 +282,7 @@ const Work = (() => {
       this.address = address;
       this.waiting = [];
       this.running = null;
-      this.worker = null;
+      this.workers = [];
       this.spare = null;
       this.practice = null;
     }
@@ -278,14 +308,37 @@ const Work = (() => {
       this.running = work;
       work.began();
       try {
-        this.worker = worker || new Worker(this.address);
-        this.worker.onmessage = ({ data }) => this.hear(work, data);
-        this.worker.onerror = ({ message }) => {
-          this.end(work, () => work.failed("no Worker", message || ""));
-        };
-        this.worker.postMessage(work.message);
+        const first = this.employ(work, worker || new Worker(this.address));
+        first.onmessage = ({ data }) => this.hear(work, data);
+        const port = this.beside(work);
+        first.postMessage({ ...work.message, port }, port ? [port] : []);
       } catch (error) {
         this.end(work, () => work.failed("no Worker", String(error)));
+      }
+    }
+
+    // A Worker that ends with a piece of work.
+    employ(work, worker) {
+      this.workers.push(worker);
+      worker.onerror = ({ message }) => {
+        this.end(work, () => work.failed("no Worker", message || ""));
+      };
+      return worker;
+    }
+
+    // A port to a second Worker, for the digest of a long file; null where there is none.
+    beside(work) {
+      const { files = [], main } = work.message;
+      if (!files.some(([name, file]) => name === main && file.size > LONG)) {
+        return null;
+      }
+      try {
+        const { port1, port2 } = new MessageChannel();
+        const second = this.employ(work, new Worker(this.address));
+        second.postMessage({ task: "digests", port: port2 }, [port2]);
+        return port1;
+      } catch {
+        return null;
       }
     }
 
@@ -333,10 +386,7 @@ const Work = (() => {
       if (this.running !== work) {
         return;
       }
-      if (this.worker) {
-        this.worker.terminate();
-      }
-      this.worker = null;
+      this.workers.splice(0).forEach((worker) => worker.terminate());
       this.running = null;
       then();
       this.next();
