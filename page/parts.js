@@ -19,6 +19,9 @@ const Parts = (() => {
   // work on this page.
   const setting = { queue: null, code: null, module: null };
 
+  // Milliseconds that the practice may take, a small part of which it needs
+  const PRACTICE_TIME = 5000;
+
   const seconds = (time) => (time < 10 ? time.toFixed(1) : String(Math.round(time)));
 
   // Secrets that were made here, and that nobody has saved yet.
@@ -205,14 +208,26 @@ const Parts = (() => {
       this.message = commandMessage({ words, ...files });
     }
 
-    began() {}
+    began() {
+      this.timer = setTimeout(() => this.over(), PRACTICE_TIME);
+    }
+
+    halted() {
+      clearTimeout(this.timer);
+    }
+
+    over() {
+      this.halted();
+      setting.queue.practice = null;
+      setting.queue.stop(this);
+    }
 
     answered() {
-      setting.queue.practice = null;
+      this.over();
     }
 
     failed() {
-      setting.queue.practice = null;
+      this.over();
     }
   }
 

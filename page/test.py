@@ -28,6 +28,7 @@ from trials.made import Made
 from trials.poor import POOR
 from trials.reach import REACH, take_pictures
 from trials.use import USE, digests_without_the_browser
+from trials.workers import WORKERS, practice_gives_way
 
 HERE = os.path.dirname(os.path.abspath(__file__))
 
@@ -91,12 +92,12 @@ def try_browser(kind, table, page, made, pictures):
     with kind() as browser:
         browser.resize(1100, 900)
         desk = Desk(browser, address, made)
-        for trial in [*USE, digests_without_the_browser, *REACH, *HOSTILE]:
+        for trial in [*USE, digests_without_the_browser, *REACH, *HOSTILE, *WORKERS]:
             table.row(kind.name, trial, desk)
         if pictures:
             table.row(kind.name, take_pictures, desk, pictures)
     without_a_secure_context(kind, table, page, made)
-    for trial in POOR:
+    for trial in [*POOR, practice_gives_way]:
         table.row(kind.name, trial, kind, address, made)
 
 

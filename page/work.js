@@ -264,19 +264,16 @@ const Work = (() => {
     };
   }
 
-  // Calls a function when the page has nothing else to do, or soon where a browser can't tell.
+  // Calls a function when the page has nothing else to do, and not before an answer is shown.
   function whenIdle(then) {
-    if (globalThis.requestIdleCallback) {
-      requestIdleCallback(then);
-    } else {
-      setTimeout(then, 200);
-    }
+    setTimeout(globalThis.requestIdleCallback ? () => requestIdleCallback(then) : then, 100);
   }
 
   // The page's end. A piece of work has a message for the Worker, and is told what becomes of it by
-  // its methods began(), answered(answer) and failed(fault, about). While nothing is asked for, a
-  // spare Worker is made for the next piece of work, and the `practice` is done, which is work that
-  // nobody waits for: whatever is added stops it, and it begins anew later.
+  // its methods began(), answered(answer) and failed(fault, about). While nothing is asked for, the
+  // `practice` is done, which is work that nobody waits for, and then a spare Worker is made for the
+  // next piece of work. What is added while the practice runs stops it and calls its halted(), and
+  // it begins anew later.
   class Queue {
     constructor(address) {
       this.address = address;
@@ -289,8 +286,9 @@ const Work = (() => {
 
     add(work) {
       this.waiting.push(work);
-      if (this.running && this.running === this.practice) {
-        this.end(this.practice, () => {});
+      const { practice } = this;
+      if (practice && this.running === practice) {
+        this.end(practice, () => practice.halted());
       }
       this.next();
     }
@@ -347,9 +345,10 @@ const Work = (() => {
       if (this.running) {
         return;
       }
-      this.prepare();
       if (this.practice) {
         this.start(this.practice, null);
+      } else {
+        this.prepare();
       }
     }
 
@@ -373,20 +372,29 @@ const Work = (() => {
     }
 
     hear(work, data) {
-      this.end(work, () => {
+      const tell = () => {
         if ("answer" in data) {
           work.answered(data.answer);
         } else {
           work.failed(data.fault, data.about);
         }
-      });
+      };
+      this.end(work, tell, this.waiting.length === 0);
     }
 
-    end(work, then) {
+    // Ends a piece of work and its Workers; these after what comes of it is shown, if that `is
+    // first`, since it takes a while to give their memory back.
+    end(work, then, isFirst = false) {
       if (this.running !== work) {
         return;
       }
-      this.workers.splice(0).forEach((worker) => worker.terminate());
+      const workers = this.workers.splice(0);
+      const leave = () => workers.forEach((worker) => worker.terminate());
+      if (isFirst) {
+        setTimeout(leave, 20);
+      } else {
+        leave();
+      }
       this.running = null;
       then();
       this.next();

@@ -84,7 +84,8 @@ def connections_are_refused(desk):
 
 
 def in_the_worker(browser, port):
-    """Asks for things from inside of the Worker that starts next, which never answers then."""
+    """Asks for things from inside of the Worker that is there or starts next, which never answers
+    then."""
     found = browser.event("Target.attachedToTarget")
     assert found["targetInfo"]["type"] == "worker", found
     page, browser.session = browser.session, found["sessionId"]
@@ -105,9 +106,10 @@ def workers_ask_for_nothing(desk):
     automatic = dict(waitForDebuggerOnStart=True, flatten=True)
     try:
         desk.open("bid").fill("seal", id=ID, seat=7, bid=1, width=6, lanes=LANES)
+        desk.browser.wait("return Boolean(Parts.setting.queue.spare)")
         desk.browser.ask("Target.setAutoAttach", autoAttach=True, **automatic)
-        desk.browser.click("#seal-run")
         in_the_worker(desk.browser, listener.port)
+        desk.browser.click("#seal-run")
         assert not asked(listener, 1), listener.asked
         desk.run("document.querySelector('#seal-work .row button').click()")
         assert desk.shown("seal").title.startswith("Stopped")
