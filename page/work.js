@@ -1,8 +1,8 @@
 // page/work.js: what takes time, done in a Worker of its own, which ends with it.
 //
 // The Worker runs the page's whole script once more, so that the policy's one hash covers all code.
-// `serve` is its end, and `Queue` the page's: one piece of work after another, each with a new
-// Worker, so that no memory is left of it and it can be stopped at any moment.
+// `serve` is its end, and `Queue` the page's: one piece of work after another, each with a Worker
+// that had no work before, so that no memory is left of it and it can be stopped at any moment.
 const Work = (() => {
   // Bytes of a file that are read at once: into memory that is there, and into new memory
   const PART = 1024 * 1024;
@@ -220,8 +220,8 @@ const Work = (() => {
     },
 
     // Runs a command of the program over files, in an instance of its own. Of the file `main` the
-    // digest and the head come too, so that they are of the very bytes that were judged.
-    // Where there is a `port`, it leads to a Worker for that digest.
+    // digest and the head come too, so that they are of the very bytes that were judged. Where
+    // there is a `port`, it leads to a Worker for that digest.
     async command({ module, code, words, files, main, wanted, roomSize, port }) {
       const sizes = files.map(([name, file]) => [name, file.size]);
       const begun = new Call(await compiled({ module, code }), words, sizes, wanted, roomSize);
@@ -250,7 +250,8 @@ const Work = (() => {
     if (/^(Compile|Link)Error$/.test(error && error.name)) {
       return { fault: WebAssembly.validate(SIMD) ? "module" : "no SIMD", about };
     }
-    const memory = error instanceof RangeError || error instanceof NoMemory || /memory/i.test(about);
+    const kinds = [RangeError, NoMemory];
+    const memory = kinds.some((kind) => error instanceof kind) || /memory/i.test(about);
     return { fault: memory ? "memory" : "stopped", about };
   }
 
@@ -382,15 +383,15 @@ const Work = (() => {
       this.end(work, tell, this.waiting.length === 0);
     }
 
-    // Ends a piece of work and its Workers; these after what comes of it is shown, if that `is
-    // first`, since it takes a while to give their memory back.
-    end(work, then, isFirst = false) {
+    // Ends a piece of work. Its Workers end at once, or else `soon`: once it is shown what came of
+    // it, since it takes a while to give their memory back.
+    end(work, then, soon = false) {
       if (this.running !== work) {
         return;
       }
       const workers = this.workers.splice(0);
       const leave = () => workers.forEach((worker) => worker.terminate());
-      if (isFirst) {
+      if (soon) {
         setTimeout(leave, 20);
       } else {
         leave();
