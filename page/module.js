@@ -126,11 +126,11 @@ function instanceOf(module) {
   }
 }
 
-// A call of the program that is laid out in the memory of a new instance. The bytes of each file are
-// put in their place there, and then it runs, once. It throws where a word holds a space, a NoMemory
-// where memory is wanting, and where the module itself stops, which would be a fault. `words` and
-// `wanted` are arrays of texts, or of bytes where they are no UTF-8; `sizes` has a name and a length
-// for each file; `roomSize` is what text and wanted files may take at most.
+// A call of the program that is laid out in the memory of a new instance. The bytes of each file
+// are put in their place there, and then it runs, once. It throws where a word holds a space, a
+// NoMemory where memory is wanting, and where the module itself stops, which would be a fault.
+// `words` and `wanted` are arrays of texts, or of bytes where they are no UTF-8; `sizes` has a name
+// and a length for each file; `roomSize` is what text and wanted files may take at most.
 class Call {
   constructor(module, words, sizes, wanted = [], roomSize = ROOM_SIZE) {
     const line = lineOf(words);

@@ -164,7 +164,8 @@ const Work = (() => {
   // The digest of bytes by the Worker at the other end of a port. Some browsers compute a digest
   // where it is asked for, and nothing else goes on there meanwhile.
   function digestBeside(port, bytes) {
-    const copy = bytes.slice();
+    const copy = new Uint8Array(bytes.length);
+    copy.set(bytes);
     return new Promise((done, refuse) => {
       port.onmessage = ({ data: { answer, fault, about } }) => {
         if (fault) {
@@ -272,7 +273,7 @@ const Work = (() => {
 
   // The page's end. A piece of work has a message for the Worker, and is told what becomes of it by
   // its methods began(), answered(answer) and failed(fault, about). While nothing is asked for, the
-  // `practice` is done, which is work that nobody waits for, and then a spare Worker is made for the
+  // `practice` is done, which is work that nobody waits for; then a spare Worker is made for the
   // next piece of work. What is added while the practice runs stops it and calls its halted(), and
   // it begins anew later.
   class Queue {
@@ -353,8 +354,8 @@ const Work = (() => {
       }
     }
 
-    // Makes the spare Worker. Where that fails nothing is said: the next piece of work makes one for
-    // itself, and says it.
+    // Makes the spare Worker. Where that fails nothing is said: the next piece of work makes one
+    // for itself, and says it.
     prepare() {
       if (this.spare) {
         return;

@@ -1,5 +1,5 @@
-// Notes each Worker that the page makes: what it was asked, and whether it has ended. Where `refused`
-// is set none is made.
+// Notes each Worker that the page makes: what it was asked, and whether it has ended. Where
+// `refused` is set none is made.
 window.workers = [];
 window.Worker = class extends Worker {
   constructor(address) {

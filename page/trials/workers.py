@@ -81,7 +81,7 @@ def the_ready_one_is_stopped(desk):
 
 @watching
 def the_ready_one_fails(desk):
-    """Where the Worker that stood ready fails, or none can be made beforehand, a new one is made."""
+    """Where the one that stood ready fails, or none can be made beforehand, a new one is made."""
     spare = ready(desk.open("audit"))
     desk.run("workers[arguments[0]].dispatchEvent(new Event('error'))", spare)
     assert desk.run(SPARE) == -1, "it is used no more"
@@ -137,7 +137,8 @@ def practice_gives_way(kind, address, made):
             browser.wait("return workers.some(({ asked }) => asked[0] === 'claim-sample')")
             browser.click("#mine-run")
             browser.wait("return document.querySelector('#mine-work .row').hidden === false")
-            assert desk.run(ALL)[-2:] == [[["claim-sample"], True], [["report"], False]], desk.run(ALL)
+            last = desk.run(ALL)[-2:]
+            assert last == [[["claim-sample"], True], [["report"], False]], last
             browser.click("#mine-work .row button")
             assert desk.shown("mine").title.startswith("Stopped"), desk.shown("mine")
             ready(desk)
