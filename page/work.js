@@ -61,22 +61,20 @@ const Work = (() => {
     }
   }
 
-  // Puts the bytes of a file in a place of its length as they come, so that no second copy of a
-  // large one is held.
-  async function fill(place, file, name) {
+  // Puts the bytes of a file in places of its length as they come.
+  async function fill(places, file, name) {
     let at = 0;
     const put = (part) => {
-      place.set(part, at);
+      places.forEach((place) => place.set(part, at));
       at += part.length;
     };
     const reader = readerOf(file);
     await (reader ? streamed(reader, put) : pieces(file, put)).catch(() => {
       throw new Fault("unreadable", name);
     });
-    if (at !== place.length) {
+    if (at !== file.size) {
       throw new Fault("unreadable", name);
     }
-    return place;
   }
 
   const ROUND_KEYS = Int32Array.of(
@@ -161,11 +159,9 @@ const Work = (() => {
     return digits(sha256(bytes));
   }
 
-  // The digest of bytes by the Worker at the other end of a port. Some browsers compute a digest
-  // where it is asked for, and nothing else goes on there meanwhile.
+  // The digest of bytes by the Worker at the other end of a port, which they go to. Some browsers
+  // compute a digest where it is asked for, and nothing else goes on there meanwhile.
   function digestBeside(port, bytes) {
-    const copy = new Uint8Array(bytes.length);
-    copy.set(bytes);
     return new Promise((done, refuse) => {
       port.onmessage = ({ data: { answer, fault, about } }) => {
         if (fault) {
@@ -174,7 +170,7 @@ const Work = (() => {
           done(answer);
         }
       };
-      port.postMessage(copy, [copy.buffer]);
+      port.postMessage(bytes, [bytes.buffer]);
     });
   }
 
@@ -206,7 +202,9 @@ const Work = (() => {
   // What a Worker can be asked to do, by the word `task`.
   const TASKS = {
     async digest({ file, name }) {
-      return digestOf(await fill(room(file.size), file, name));
+      const bytes = room(file.size);
+      await fill([bytes], file, name);
+      return digestOf(bytes);
     },
 
     // Serves another Worker, which asks for digests at a port.
@@ -226,12 +224,15 @@ const Work = (() => {
     async command({ module, code, words, files, main, wanted, roomSize, port }) {
       const sizes = files.map(([name, file]) => [name, file.size]);
       const begun = new Call(await compiled({ module, code }), words, sizes, wanted, roomSize);
-      await Promise.all(files.map(([name, file], at) => fill(begun.place(at), file, name)));
-      if (!main) {
+      const number = files.findIndex(([name]) => name === main);
+      const copy = port ? room(files[number][1].size) : null;
+      const places = (at) => (at === number && copy ? [copy] : []).concat(begun.place(at));
+      await Promise.all(files.map(([name, file], at) => fill(places(at), file, name)));
+      if (number < 0) {
         return { ...begun.run(), digest: null, head: null };
       }
-      const bytes = begun.place(files.findIndex(([name]) => name === main));
-      const digest = port ? digestBeside(port, bytes) : digestOf(bytes);
+      const bytes = begun.place(number);
+      const digest = copy ? digestBeside(port, copy) : digestOf(bytes);
       const head = headOf(bytes);
       return { ...begun.run(), digest: await digest, head };
     },

@@ -125,6 +125,28 @@ def a_long_digest_has_a_worker(desk):
     assert sum(not ended for _, ended in desk.run(ALL)) == 1, desk.run(ALL)
 
 
+def files_are_read_in_pieces(desk):
+    """The same is said where a browser can't read a file into memory that is there."""
+    browser, made = desk.browser, desk.made
+    if browser.name != "Chromium":
+        return
+    made.put("longer", made.bytes("board") + b"x" * 20_000_000)
+    desk.open("audit")
+    browser.wait("return Boolean(Parts.setting.queue.spare)")
+    automatic = dict(waitForDebuggerOnStart=False, flatten=True)
+    try:
+        browser.ask("Target.setAutoAttach", autoAttach=True, **automatic)
+        found = browser.event("Target.attachedToTarget")
+        page, browser.session = browser.session, found["sessionId"]
+        browser.run("delete Blob.prototype.stream")
+        browser.session = page
+        shown = desk.use("derive", board=["longer"])
+        desk.agrees(shown, board="longer")
+        assert made.digest("longer") in shown.said.files[0], shown.said.files
+    finally:
+        browser.ask("Target.setAutoAttach", autoAttach=False, **automatic)
+
+
 def practice_gives_way(kind, address, made):
     """What is pressed stops the practice at once. One that never ends is given up."""
     with kind() as browser:
@@ -152,4 +174,5 @@ WORKERS = [
     the_ready_one_fails,
     nothing_is_left_of_a_call,
     a_long_digest_has_a_worker,
+    files_are_read_in_pieces,
 ]
