@@ -18,8 +18,9 @@ kit=$(dirname "$(dirname "$(realpath "$rt")")")
 work=$(mktemp -d)
 trap 'rm -rf "$work"' EXIT
 
-# What all code is compiled for, and how. There are vectors where the source has them, and no
-# others, since wasm-opt can't lower all of their instructions. Divisions of 128 bits have no
+# What all code is compiled for, and how. There are vectors where the source has them and in the
+# loops that page/retarget.py marks, and no others, since wasm-opt can't lower all of their
+# instructions. Divisions of 128 bits have no
 # instruction and are written out. The kit's own clang is given the last two as well.
 target=(--target=wasm64-unknown-unknown -mcpu=lime1 -msimd128 -O2 -fno-vectorize
   -fno-slp-vectorize)

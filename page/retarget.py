@@ -7,6 +7,9 @@ pointers and structs have the same sizes and places on both, so only these chang
 target and that of the layout, which become MODEL's, and the attributes of functions that name a
 processor or a way to look at the stack. Where anything else speaks of x86, this ends with an error
 and writes nothing.
+
+Beside that, the loops that read hexadecimal digits, most of a long file, are marked as ones to be
+compiled with vectors. Such a mark asks for other instructions that do the same.
 """
 import re
 import sys
@@ -16,6 +19,12 @@ LINES = ("target triple = ", "target datalayout = ")
 NAMES = "target-cpu|target-features|tune-cpu|probe-stack|stack-probe-size"
 X86 = re.compile(rf' ?"(?:{NAMES})"(?:="[^"]*")?')
 ODD = re.compile(r"(?m)^.*(?:x86|asm sideeffect|thread_local).*$")
+
+# The functions whose loops are marked. A loop begins at a label, to which a jump further below leads
+WIDE = ("vk_lines::digits::read_values", "vk_lines::digits::join_values")
+FUNCTION = re.compile(r'(?m)^define [^@]*@"([^"]+)"\(.*\{\n(?:.*\n)*?\}\n')
+LABEL = re.compile(r"(?m)^(loop\.[0-9]+):")
+MARK = 'distinct !{{!{0}, !{1}}}\n!{1} = !{{!"llvm.loop.vectorize.enable", i1 true}}\n'
 
 
 def read(path):
@@ -29,6 +38,31 @@ def line_of(text, start):
     if len(found) != 1:
         sys.exit(f"retarget: {len(found)} lines `{start}`")
     return found[0]
+
+
+def loop_of(function, name):
+    """The one loop of the function: its label, and the place behind the one jump back to it."""
+    labels = LABEL.findall(function)
+    if len(labels) == 1:
+        back = list(re.finditer(rf"(?m)^  br label %{re.escape(labels[0])}$", function))
+        if back and function.index(f"\n{labels[0]}:") < back[-1].start() and len(back) == 2:
+            return back[-1].end()
+    sys.exit(f"retarget: {name} isn't one loop with one jump back")
+
+
+def widened(text):
+    """The same code, with the loops of the functions WIDE marked."""
+    found = {each[1]: each for each in FUNCTION.finditer(text) if each[1] in WIDE}
+    number = 1 + max(map(int, re.findall(r"(?m)^!([0-9]+) = ", text)), default=-1)
+    for name in sorted(found, key=lambda name: -found[name].start()):
+        each = found[name]
+        at = each.start() + loop_of(each[0], name)
+        text = f"{text[:at]}, !llvm.loop !{number}{text[at:]}"
+        text += f"!{number} = " + MARK.format(number, number + 1)
+        number += 2
+    if len(found) < len(WIDE):
+        sys.exit(f"retarget: no function {(set(WIDE) - set(found)).pop()}")
+    return text
 
 
 def retargeted(text, model):
@@ -46,7 +80,7 @@ def main():
         sys.exit(__doc__)
     model, text = (read(path) for path in sys.argv[1:3])
     with open(sys.argv[3], "wb") as file:
-        file.write(retargeted(text, model).encode("latin-1"))
+        file.write(widened(retargeted(text, model)).encode("latin-1"))
 
 
 if __name__ == "__main__":
