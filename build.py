@@ -6,12 +6,32 @@ one for each 5 GB of memory. What a crate says is kept in its out/ folder; it is
 """
 import os
 import re
+import shutil
 import subprocess
 import sys
 import time
 
 TOP = os.path.dirname(os.path.abspath(__file__))
 PROGRAM = "vickrey"
+
+# What `rt lib` does in a crate's folder once those below it are built. `rt` itself locks these too,
+# so that two crates which share one wait for each other; here nothing else changes them.
+LIBRARY = """
+import os
+import sys
+
+sys.path.insert(0, sys.argv[1])
+import rtlib
+
+crate = rtlib.Crate(os.getcwd(), rtlib.root_above(os.getcwd()), {})
+sys.exit(crate.build_rlib(["--jobs", "1"], anew=False))
+"""
+
+
+def kit_tools():
+    """The folder of the kit's own programs, with `rt` and what `rt` is made of."""
+    rt = shutil.which("rt") or sys.exit("build.py: there is no rt on PATH: install the kit")
+    return os.path.dirname(os.path.realpath(rt))
 
 
 def crates_below(name):
@@ -36,12 +56,13 @@ def height(crate, below, known):
     return known[crate]
 
 
-def begin(crate):
+def begin(crate, tools):
     """Proves a crate whose lower ones are proved, in a process of its own."""
     folder = os.path.join(TOP, "crates", crate)
     os.makedirs(os.path.join(folder, "out"), exist_ok=True)
     with open(os.path.join(folder, "out", "build.log"), "wb") as log:
-        return subprocess.Popen(["rt", "lib"], cwd=folder, stdout=log, stderr=subprocess.STDOUT)
+        words = [sys.executable, "-B", "-c", LIBRARY, tools]
+        return subprocess.Popen(words, cwd=folder, stdout=log, stderr=subprocess.STDOUT)
 
 
 def refused(crate):
@@ -52,12 +73,12 @@ def refused(crate):
 
 def prove(below, jobs):
     """Proves all of them, each behind those below it, so many at a time. What is refused, or None."""
-    heights, done, running = {}, set(), {}
+    heights, done, running, tools = {}, set(), {}, kit_tools()
     order = sorted(below, key=lambda crate: -height(crate, below, heights))
     while len(done) < len(below):
         ready = [crate for crate in order if crate not in done and crate not in running and below[crate] <= done]
         for crate in ready[: jobs - len(running)]:
-            running[crate] = begin(crate)
+            running[crate] = begin(crate, tools)
         time.sleep(0.1)
         for crate in [crate for crate, process in running.items() if process.poll() is not None]:
             if running.pop(crate).returncode != 0:

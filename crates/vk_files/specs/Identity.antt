@@ -4,6 +4,7 @@ use Rattle.std.specs.List.{list_any}
 use Rattle.std.specs.Str.{bytes_eq}
 use Rattle.std.specs.String.{string_bytes}
 use Rattle.vk_files.specs.declared.file_id.FileId.{FileId}
+use Rattle.vk_files.specs.declared.file_shelf.KeptFile.{KeptFile}
 use Rattle.vk_files.specs.declared.file_shelf.NamedFile.{NamedFile}
 use Rattle.vk_files.specs.declared.named_ids.NamedId.{NamedId}
 
@@ -27,6 +28,10 @@ abbrev pub is_named_otherwise : List NamedId → FileId → List ℕ → Bool
 is_named_otherwise opened id name =
     list_any (λ file. same_file file.id id && not (bytes_eq (string_bytes file.name) name)) opened
 
--- a file that is kept open was opened by that name
+-- an open file was opened by that name
 abbrev pub HasName : {F : Type 0} → List ℕ → NamedFile F → Type 0
 HasName name file = string_bytes file.name ≡ name
+
+-- and so was one that is kept open to be read
+abbrev pub IsKeptAs : {F : Type 0} → List ℕ → KeptFile F → Type 0
+IsKeptAs name kept = HasName name kept.named

@@ -3,3 +3,4 @@ pub mod Store
 pub mod Moves
 pub mod Opening
 pub mod Links
+pub mod Ahead

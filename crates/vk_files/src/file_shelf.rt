@@ -2,12 +2,13 @@ ghost use Rattle.std.specs.Prelude.{◌≡◌, ◌≢◌, ◌<◌, ◌≤◌, fa
 ghost use Rattle.std.specs.List.{HoldsAt};
 ghost use Rattle.std.specs.Io.KnownBytes.{Appends};
 ghost use Rattle.vk_io.specs.Faults.{Causes};
-ghost use Rattle.vk_files.specs.Identity.{HasName, is_named_otherwise};
+ghost use Rattle.vk_files.specs.Identity.{HasName, IsKeptAs, is_named_otherwise};
 
+use crate::ahead::Ahead;
 use crate::faults::FaultCount;
 use crate::file_id::FileId;
 use crate::links::end_of_links;
-use crate::moves::{put_counted, read_counted};
+use crate::moves::put_counted;
 use crate::named_ids::{NamedId, is_named_otherwise, note};
 use crate::opening::{length_of, make_to_write, open_to_read, open_to_write, synced};
 use crate::outcome::{counted, with_want};
@@ -24,11 +25,18 @@ use vk_text::ShortText;
 /// How many files are kept open, at most: those that a command reads side by side, and a few more.
 const MOST_OPEN: usize = 8;
 
-/// A file that is kept open, and the name that it was opened by.
+/// An open file, and the name that it was opened by.
 #[derive(Drop)]
 struct NamedFile<F> {
     name: String,
     file: F,
+}
+
+/// A file that is kept open to be read, and its bytes that were read ahead.
+#[derive(Drop)]
+struct KeptFile<F> {
+    named: NamedFile<F>,
+    ahead: Ahead,
 }
 
 /// What went wrong with a file, for a person.
@@ -41,9 +49,10 @@ pub struct NamedFault<'a> {
 }
 
 /// The real file system. A name is a path from the current folder. Its content isn't modelled, and
-/// each error raises its count. A file that is read stays open, until its name is created or
-/// appended to, or its length is asked. The file that is written stays open too, until another is
-/// written or [`FileShelf::settle`] is called: it is synced then, so that its last error is told.
+/// each error raises its count. A file that is read stays open, and more of it is read at once than
+/// is asked for, until its name is created or appended to, or its length is asked. The file that is
+/// written stays open too, until another is written or [`FileShelf::settle`] is called: it is
+/// synced then, so that its last error is told.
 ///
 /// Two kinds of file are not written, whatever the name that leads to them: those of the store, and
 /// those that were opened by another name before. To create or append to one is a fault, and leaves
@@ -54,7 +63,7 @@ pub struct FileShelf<'a, R: Files> {
     alloc: Global,
     store: Store<'a, R>,
     opened: Vec<NamedId>,
-    kept: Vec<NamedFile<R::File>>,
+    kept: Vec<KeptFile<R::File>>,
     written: Option<NamedFile<R::File>>,
     faults: FaultCount,
     wants: u64,
@@ -87,10 +96,10 @@ impl<R: Files> FileShelf<'_, R> {
     fn place_of(&self, name: &str) -> Option<usize>
         ensures place { IfSome result (λ place. place < length self.now.kept.items) }
         ensures name { IfSome result
-            (λ place. HoldsAt (HasName name.now) self.now.kept.items place) }
+            (λ place. HoldsAt (IsKeptAs name.now) self.now.kept.items place) }
     {
         for (place, kept) in self.kept.iter().enumerate() {
-            if name == kept.name.as_str() {
+            if name == kept.named.name.as_str() {
                 return Some(place);
             }
         }
@@ -111,15 +120,17 @@ impl<R: Files> FileShelf<'_, R> {
     /// Keeps a file open under its name, and answers its place. Of too many the first is closed.
     fn keep(&mut self, name: &str, file: R::File) -> Result<usize, NoMemory>
         ensures place { IfOk result (λ place. place < length self.new.kept.items) }
-        ensures name { IfOk result (λ place. HoldsAt (HasName name.now) self.new.kept.items place) }
+        ensures name { IfOk result (λ place. HoldsAt (IsKeptAs name.now) self.new.kept.items place) }
         ensures kept { self.new.faults ≡ self.old.faults }
         ensures wants { self.new.wants ≡ self.old.wants }
     {
         let name = String::from_str(self.alloc, name)?;
+        let ahead = Ahead::new(self.alloc)?;
         if MOST_OPEN <= self.kept.len() {
             self.kept.swap_remove(0);
         }
-        self.kept.push(NamedFile { name, file })?;
+        let named = NamedFile { name, file };
+        self.kept.push(KeptFile { named, ahead })?;
         Ok(self.kept.len() - 1)
     }
 
@@ -130,7 +141,7 @@ impl<R: Files> FileShelf<'_, R> {
             (λ found. IfSome found (λ place. place < length self.new.kept.items)) }
         ensures name { IfOk result
             (λ found. IfSome found
-            (λ place. HoldsAt (HasName name.now) self.new.kept.items place)) }
+            (λ place. HoldsAt (IsKeptAs name.now) self.new.kept.items place)) }
         ensures causes { Causes OutsideErr.Failed result self.old.faults self.new.faults }
         ensures wants { self.new.wants ≡ self.old.wants }
     {
@@ -330,7 +341,8 @@ impl<R: Files> FileShelf<'_, R> {
         match self.opened(name)? {
             None => Ok(0),
             Some(place) => {
-                let count = read_counted(&mut self.kept[place].file, at, into, &mut self.faults)?;
+                let KeptFile { named, ahead } = &mut self.kept[place];
+                let count = ahead.read(&mut named.file, at, into, &mut self.faults)?;
                 Ok(count)
             }
         }

@@ -1,6 +1,6 @@
 //! Numbers as text, and the lines that several forms have.
 
-ghost use Rattle.std.specs.Prelude.{◌≡◌, ◌++◌, decimal, length, drop, IfSome, OnErr, OnOk, ◌≤◌};
+ghost use Rattle.std.specs.Prelude.{◌≡◌, ◌+◌, ◌*◌, ◌^◌, ◌++◌, decimal, length, drop, IfSome, IsNone, OnErr, OnOk, ◌≤◌};
 ghost use Rattle.hex.specs.Hex.{IsBytes};
 ghost use Rattle.vk_residue.specs.Residue.{IsResidue};
 ghost use Rattle.vk_lines.specs.Tokens.{number_line, id_line, digests_line, HasDigests, decimal_of, residue_of, ReadsDecimal, next_number, starts_canonical};
@@ -59,10 +59,22 @@ fn next_number(number: u64, digit: u8, most: u64) -> Option<u64>
     if !digit.is_ascii_digit() {
         return None;
     }
-    let longer = number
-        .checked_mul(10)?
-        .checked_add(u64::from(digit - b'0'))?;
+    let longer = with_digit(number, digit - b'0')?;
     if longer <= most { Some(longer) } else { None }
+}
+
+/// Ten times the number and a digit's value more. None where that is no u64.
+fn with_digit(number: u64, value: u8) -> Option<u64>
+    requires { value ≤ 9 }
+    ensures exact { IfSome result (λ longer. longer ≡ 10 * number + value) }
+    ensures none { IsNone result → 2 ^ 64 ≤ 10 * number + value }
+{
+    // A comparison takes less time than products and sums that look whether they wrap.
+    if number < u64::MAX / 10 {
+        Some(10 * number + u64::from(value))
+    } else {
+        number.checked_mul(10)?.checked_add(u64::from(value))
+    }
 }
 
 /// The number of a line of this word and a number from `least` to `most`.
