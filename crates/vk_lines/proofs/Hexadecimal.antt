@@ -5,7 +5,7 @@ use Rattle.std.specs.Option.{IfSome}
 use Rattle.std.specs.Result.{result_ok}
 use Rattle.std.proofs.lemmas.Bool.{and_parts, cases_lt}
 use Rattle.std.proofs.lemmas.Bool.Decides.{nat_tests}
-use Rattle.std.proofs.lemmas.List.{take_more, take_all}
+use Rattle.std.proofs.lemmas.List.{take_more}
 use Rattle.std.proofs.lemmas.List.Folds.{list_all_at}
 use Rattle.std.proofs.lemmas.Grind.{common_steps, take-set_at}
 use Rattle.std.proofs.Math.ListN.{set}
@@ -196,18 +196,20 @@ unfolding hex_of
 hex_none_at count text i within great =
     rw (list_all_at is_lower_digit text i 0 within (digit_none (get_or text i 0) great)) refl
 
--- the greatest value of the digits so far and of two more is none of a digit
-pub none_more : (count : ℕ) (text : List ℕ) (i greatest high low : ℕ) → 2 * i + 1 < length text
-    → high ≡ digit_value (get_or text (2 * i) 0) → low ≡ digit_value (get_or text (2 * i + 1) 0)
-    → (15 < greatest → hex_of count text ≡ None) → 15 < max greatest (max high low)
-    → hex_of count text ≡ None
-none_more count text i greatest high low within is_high is_low before great =
+-- each item so far is that of the text, and one more is
+pub items_more : (f : ℕ → ℕ) (items text : List ℕ) (i k item : ℕ) → i < length items → k < i + 1
+    → (k < i → get_or items k 0 ≡ f (get_or text k 0)) → item ≡ f (get_or text i 0)
+    → get_or (set items i item) k 0 ≡ f (get_or text k 0)
+items_more f items text i k item within below before is = grind (arith, common_steps)
+
+-- the greatest value of the digits so far and of one more is none of a digit
+pub none_more : (count : ℕ) (text : List ℕ) (i greatest : ℕ) → i < length text
+    → ((count : ℕ) → 15 < greatest → hex_of count text ≡ None)
+    → 15 < max greatest (digit_value (get_or text i 0)) → hex_of count text ≡ None
+none_more count text i greatest within before great =
     elim (cases_lt 15 greatest) [
-      | inl one ↦ before one
-      | inr small ↦ elim (cases_lt 15 high) [
-        | inl first ↦ hex_none_at count text (2 * i) (omega arith) (rw (← is_high) first)
-        | inr less ↦ hex_none_at count text (2 * i + 1) within (rw (← is_low) (omega arith))
-      ]
+      | inl one ↦ before count one
+      | inr small ↦ hex_none_at count text i within (omega arith)
     ]
 
 -- the byte of two digits
@@ -238,41 +240,28 @@ pair_read bytes text i high low within inside is_high is_low small_high small_lo
     (sym (append_assoc (take (2 * i) text) (get_or text (2 * i) 0 ∷ [])
     (get_or text (2 * i + 1) 0 ∷ [])))
 
--- so do they where the greatest of all digits so far is that of a digit
-pub digits_more : (bytes text : List ℕ) (i greatest high low : ℕ) → i < length bytes
+-- so do they where both are values of digits
+pub digits_more : (bytes text : List ℕ) (i high low : ℕ) → i < length bytes
     → 2 * i + 1 < length text
     → high ≡ digit_value (get_or text (2 * i) 0) → low ≡ digit_value (get_or text (2 * i + 1) 0)
-    → max greatest (max high low) ≤ 15
-    → (greatest ≤ 15 → hex_text (take i bytes) ≡ take (2 * i) text)
+    → high ≤ 15 → low ≤ 15
+    → hex_text (take i bytes) ≡ take (2 * i) text
     → hex_text (take (i + 1) (set bytes i (byte_of high low))) ≡ take (2 * (i + 1)) text
-digits_more bytes text i greatest high low within inside is_high is_low small so_far =
+digits_more bytes text i high low within inside is_high is_low small_high small_low so_far =
     let byte : byte_of high low ≡ high * 16 + low = omega arith in
-    rw byte (pair_read bytes text i high low within inside is_high is_low (omega arith)
-    (omega arith) (so_far (omega arith)))
+    rw byte (pair_read bytes text i high low within inside is_high is_low small_high small_low
+    so_far)
 
-pub bytes_set : (bytes : List ℕ) (i v : ℕ) → v < 256 → IsBytes bytes → IsBytes (set bytes i v)
-bytes_set bytes i v small fit k = let there = fit k in grind (arith, common_steps)
-
--- bytes whose digits were all read
-hex_some : (bytes text : List ℕ) (count i : ℕ) → length bytes ≡ count → length text ≡ 2 * count
-    → i ≡ count → IsBytes bytes
-    → hex_text (take i bytes) ≡ take (2 * i) text → hex_of count text ≡ Some bytes
-hex_some bytes text count i long twice all fit so_far =
-    let front : take i bytes ≡ bytes = take_all i bytes (omega arith) in
-    let whole : take (2 * i) text ≡ text = take_all (2 * i) text (omega arith) in
-    let is : text ≡ hex_text bytes = sym whole ∙ sym so_far ∙ ap hex_text front in
-    ap (hex_of count) is ∙ hex_of-hex_text count bytes long fit
-
--- whether or not they were
-pub hex_by : (bytes text : List ℕ) (count i greatest : ℕ) → length bytes ≡ count
-    → length text ≡ 2 * count → i ≡ count → IsBytes bytes
-    → (greatest ≤ 15 → hex_text (take i bytes) ≡ take (2 * i) text)
-    → (15 < greatest → hex_of (length bytes) text ≡ None)
+-- whether or not all were digits
+pub hex_by : (bytes text : List ℕ) (count greatest : ℕ) → length bytes ≡ count → IsBytes bytes
+    → (greatest ≤ 15 → hex_text bytes ≡ text)
+    → (15 < greatest → hex_of count text ≡ None)
     → hex_of count text ≡ (if nat_le greatest 15 then Some bytes else None)
-hex_by bytes text count i greatest long twice all fit so_far none =
+hex_by bytes text count greatest long fit whole none =
     elim (cases_lt 15 greatest) [
       | inl great ↦ let other : nat_le greatest 15 ≡ false = grind (arith, nat_tests) in
-          rw other (ap (λ n. hex_of n text) (sym long) ∙ none great)
+          rw other (none great)
       | inr small ↦ let is : nat_le greatest 15 ≡ true = grind (arith, nat_tests) in
-          rw is (hex_some bytes text count i long twice all fit (so_far (omega arith)))
+          rw is (ap (hex_of count) (sym (whole (omega arith)))
+          ∙ hex_of-hex_text count bytes long fit)
     ]

@@ -1,5 +1,5 @@
 -- The pieces of a line: numbers, bytes in hexadecimal, and the fields between spaces.
-use Rattle.std.specs.Prelude.{◌≡◌, ◌≤◌, ◌↔◌, ℕ, ◌+◌, ◌-◌, ◌*◌, ◌==◌, ◌&&◌, ◌||◌, nat_le, nat_lt, Bool, if◌then◌else◌, List, [], ◌∷◌, length, slice_index, decimal, not, Option, Some, None}
+use Rattle.std.specs.Prelude.{◌≡◌, ◌<◌, ◌≤◌, ◌↔◌, ℕ, ◌+◌, ◌-◌, ◌*◌, ◌==◌, ◌&&◌, ◌||◌, nat_le, nat_lt, Bool, if◌then◌else◌, List, [], ◌∷◌, length, slice_index, decimal, not, Option, Some, None}
 use Rattle.std.specs.List.{list_all, slice_split}
 use Rattle.std.specs.Str.{all_ascii_digits, bytes_eq}
 use Rattle.std.specs.Char.{is_ascii_digit}
@@ -54,6 +54,12 @@ is_lower_digit byte = (nat_le 48 byte && nat_le byte 57) || (nat_le 97 byte && n
 abbrev pub digit_value : ℕ → ℕ
 digit_value byte = if nat_le 48 byte && nat_le byte 57 then byte - 48
     else if nat_le 97 byte && nat_le byte 102 then byte - 87 else 255
+
+-- a text is lower-case digits, and these are their values
+abbrev pub AreDigits : List ℕ → List ℕ → Type 0
+AreDigits text values = (length text ≡ length values)
+    × ((k : ℕ) → k < length text
+    → (slice_index values k ≡ digit_value (slice_index text k)) × (slice_index values k ≤ 15))
 
 -- the `count` bytes whose text in lower-case hexadecimal a text is
 unfoldable pub hex_of : ℕ → List ℕ → Option (List ℕ)

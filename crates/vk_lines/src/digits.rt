@@ -1,10 +1,13 @@
 //! Bytes as lower-case hexadecimal.
 
-ghost use Rattle.std.specs.Prelude.{◌≡◌, ◌↔◌, ◌*◌, IsTrue, ◌++◌, ◌<◌, ◌≤◌, length, slice_index, Some, None, if◌then◌else◌, OnErr, OnOk};
+ghost use Rattle.std.specs.Prelude.{◌≡◌, ◌↔◌, ◌*◌, IsTrue, ◌++◌, ◌<◌, ◌≤◌, ℕ, List, length, slice_index, Some, None, if◌then◌else◌, OnErr, OnOk};
 ghost use Rattle.hex.specs.Hex.{lower_digits};
-ghost use Rattle.vk_lines.specs.Tokens.{hex_of, hex_text, digit_value, ReadsHex};
+ghost use Rattle.vk_lines.specs.Tokens.{AreDigits, hex_of, hex_text, digit_value, ReadsHex};
 
 use vk_residue::NoMemory;
+
+/// The most digits that are read at once: those of 32 bytes.
+const MOST_DIGITS: usize = 64;
 
 /// The 16 bytes that 32 lower-case hexadecimal digits write; `None` for any other text.
 pub fn read_hex16(text: &[u8]) -> Option<[u8; 16]>
@@ -26,20 +29,47 @@ pub fn read_hex32(text: &[u8]) -> Option<[u8; 32]>
 
 /// Reads lower-case hexadecimal into the whole of `bytes`; false where the text is anything else.
 fn read_hex(text: &[u8], bytes: &mut [u8]) -> bool
+    requires { length bytes.old ≤ 32 }
     ensures { hex_of (length bytes.old) text.now ≡ (if result then Some bytes.new else None) }
 {
     if !is_twice(text.len(), bytes.len()) {
         return false;
     }
-    // No way out of the loop, so that the compiler can read many digits at once.
+    // All values first, and then the bytes of two each, so that the compiler can read many digits
+    // at once.
+    let mut values = [0; MOST_DIGITS];
+    let (values, _) = values.split_at_mut(text.len());
+    let greatest = read_values(text, values);
+    join_values(values, bytes);
+    greatest <= 15
+}
+
+/// Puts the value of each digit in its place, and answers the greatest of them.
+fn read_values(text: &[u8], values: &mut [u8]) -> u8
+    requires { length values.old ≡ length text.now }
+    ensures digits { result ≤ 15 → AreDigits text.now values.new }
+    ensures none { 15 < result → (count : ℕ) → hex_of count text.now ≡ None }
+{
+    // No way out of the loop, for the same reason.
     let mut greatest: u8 = 0;
+    for index in 0..text.len() {
+        let value = digit_value(text[index]);
+        greatest = greatest.max(value);
+        values[index] = value;
+    }
+    greatest
+}
+
+/// Puts the byte of each two values in its place.
+fn join_values(values: &[u8], bytes: &mut [u8])
+    requires { length values.now ≡ 2 * length bytes.old }
+    ensures { (text : List ℕ) → AreDigits text values.now → hex_text bytes.new ≡ text }
+{
     for index in 0..bytes.len() {
-        let high = digit_value(text[2 * index]);
-        let low = digit_value(text[2 * index + 1]);
-        greatest = greatest.max(high.max(low));
+        let high = values[2 * index];
+        let low = values[2 * index + 1];
         bytes[index] = high.wrapping_mul(16).wrapping_add(low);
     }
-    greatest <= 15
 }
 
 /// Whether one length is twice another.
