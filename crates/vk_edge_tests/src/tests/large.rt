@@ -99,6 +99,70 @@ fn try_piece<S: Shelf>(
     Ok(())
 }
 
+struct ManyPieces;
+
+impl Trial for ManyPieces {
+    fn on<A: Abort, S: Shelf>(
+        &self,
+        stop: &A,
+        rt: &HostRuntime,
+        folder: &Folder,
+        shelf: &mut S,
+    ) -> Result<(), Fail> {
+        let path = folder.at("a")?;
+        let mut text = Vec::new(rt.alloc());
+        for index in 0..150000u32 {
+            text.push((index % 251) as u8)?;
+        }
+        shelf.append(path.as_str(), text.as_slice())?;
+        let mut into = vec![in rt.alloc(); 0u8; 100000]?;
+        try_places(stop, shelf, path.as_str(), text.as_slice(), &mut into)
+    }
+}
+
+#[test]
+fn pieces_are_those_of_the_file_in_any_order(rt: HostRuntime) -> Result<(), Fail> {
+    in_folder(&rt, &rt, &ManyPieces)
+}
+
+/// Reads places that stand side by side, far apart, before one another and at the end, and more at
+/// once than is read ahead.
+fn try_places<S: Shelf>(
+    rt: &impl Abort,
+    shelf: &mut S,
+    path: &str,
+    text: &[u8],
+    into: &mut [u8],
+) -> Result<(), Fail> {
+    for (at, room, count) in [
+        (0u32, 4096, 4096u32),
+        (4096, 4096, 4096),
+        (63000, 4096, 4096),
+        (10, 5, 5),
+        (65535, 2, 2),
+        (149000, 4096, 1000),
+        (1000, 100000, 100000),
+        (150000, 9, 0),
+    ] {
+        let (piece, _) = into.split_at_mut(room.min(into.len()));
+        let read = shelf.read_at(path, u64::from(at), piece)?;
+        assert!(rt; read == count as usize, "at {at}");
+        assert!(rt;
+            is_part(piece, text, at as usize, count as usize),
+            "at {at}"
+        );
+    }
+    Ok(())
+}
+
+/// Whether the piece begins with so many bytes of the text from a place on.
+fn is_part(piece: &[u8], text: &[u8], at: usize, count: usize) -> bool {
+    match (piece.get(..count), text.get(at..at.saturating_add(count))) {
+        (Some(piece), Some(text)) => piece == text,
+        _ => false,
+    }
+}
+
 struct NameInName;
 
 impl Trial for NameInName {
