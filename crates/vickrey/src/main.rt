@@ -1,6 +1,7 @@
 //! `vickrey`: a sealed-bid second-price auction whose auctioneer proves the outcome.
 #![tactic(auto)]
 
+use std::alloc::Global;
 use std::fs::File;
 use std::io;
 use std::process::ExitCode;
@@ -18,7 +19,20 @@ fn take_standard_numbers(rt: &HostRuntime) -> io::Result<(File, File, File)> {
     Ok((open_root(rt)?, open_root(rt)?, open_root(rt)?))
 }
 
+/// How many bytes are taken and given back before anything else.
+const ROOM: usize = 16 * 1024 * 1024;
+
+/// A block of that size. None where there is no memory for it.
+#[inline(never)]
+fn room(alloc: Global) -> Option<Vec<u8>> {
+    Vec::with_capacity(alloc, ROOM).ok()
+}
+
 fn main(rt: HostRuntime) -> ExitCode {
+    // Once the C library was given back a block of some size, it keeps twice as much of what is
+    // given back later. Else it hands the memory of each lane to the system, which clears every
+    // page of it anew for the next lane.
+    drop(room(rt.alloc()));
     match take_standard_numbers(&rt) {
         Ok(_standing) => {
             let mut shelf = FileShelf::new(&rt, rt.alloc(), STORE);
