@@ -8,6 +8,5 @@ use Rattle.vk_coin.proofs.reading.read_coin.Goals as goal
 pub returns-clause-answers : goal.returns-clause-answers
 returns-clause-answers g c =
     told_answers coin_table (λ x. x) coin_is_whole coin_ends (g.S.Shelf.held c.args.shelf.now)
-    c.coin_read-coin.result
-    (λ files. rest_of c.args.lines.now files) (λ files. rest_of c.coin_read-coin.new.lines files)
+    c.coin_read-coin.result (rest_of c.args.lines.now) (rest_of c.coin_read-coin.new.lines)
     c.coin_read-coin.ensures.modelled
