@@ -1,6 +1,6 @@
 -- The plan of an auction with a reserve shows its sale, and every sale can be shown.
 use Rattle.std.specs.Prelude.{ℕ, ◌+◌, ◌-◌, ◌*◌, ◌%◌, ◌^◌, ◌<◌, ◌≤◌, ◌≡◌, ◌≢◌, Bool, if◌then◌else◌, List, [], ◌∷◌, ◌++◌, All, length, take, slice_index}
-use Rattle.std.proofs.Common.{refl, sym, ap, ◌∙◌, subst, arith, inl, inr, length-append, get_or-take}
+use Rattle.std.proofs.Common.{true, false, ltb, refl, sym, ap, ◌∙◌, subst, arith, inl, inr, length-append, get_or-take}
 use Rattle.std.proofs.lemmas.List.{length-take-le, get_or_default}
 use Rattle.std.proofs.lemmas.List.Elements.{All-nil, All-cons, All-append}
 use Rattle.std.proofs.lemmas.Bool.{cases_lt, lt-ltb, le-ltb}
@@ -103,19 +103,27 @@ reach_fits : (a reserve bound : ℕ) → a < bound → bound ≤ 1099511627776 �
     → (a + (modulus - reserve) % modulus) % modulus < bound
 reach_fits a reserve bound ha small h = omega arith
 
--- above the reserve the numbers are those of an auction without one
-pub case_above : (seals width reserve position price : ℕ)
-    → IsReserveCase seals width reserve (Sold position price) → reserve < price
+-- the numbers of a sale are those of an auction without a reserve, where a bid alone pays nothing
+pub sold_case : (seals width reserve position price : ℕ)
+    → IsReserveCase seals width reserve (Sold position price) → (seals ≡ 1 → price ≡ 0)
     → IsVickreyCase seals width position price
-case_above seals width reserve position price case above = record {
+sold_case seals width reserve position price case alone = record {
   some_seals = case.some_seals;
   most_seals = case.most_seals;
   wide = case.wide;
   some_position = case.sale_case.some_position;
   within_seals = case.sale_case.within_seals;
   within_width = case.sale_case.within_width;
-  alone = λ one. absurd (omega (arith, case.sale_case.alone one));
+  alone = alone;
 }
+
+-- so they are above the reserve
+pub case_above : (seals width reserve position price : ℕ)
+    → IsReserveCase seals width reserve (Sold position price) → reserve < price
+    → IsVickreyCase seals width position price
+case_above seals width reserve position price case above =
+    sold_case seals width reserve position price case
+    (λ one. absurd (omega (arith, case.sale_case.alone one)))
 
 above_many : (seals width reserve position price : ℕ)
     → IsReserveCase seals width reserve (Sold position price) → reserve < price → seals ≢ 1
@@ -515,24 +523,30 @@ sets_of : (seals forms width : ℕ) (count : ℕ) → forms ≡ count
     → seals + seals + forms * width ≡ 2 * seals + count * width
 sets_of seals forms width count same = ap (λ n. seals + seals + n * width) same ∙ omega arith
 
+-- what is counted of the plan of a sale, by whether its price is above the reserve
+sold_count : (of_plan : PlanValue → ℕ) (count : Bool → ℕ) (seals width reserve position price : ℕ)
+    → of_plan (vickrey_plan seals width position price) ≡ count true
+    → of_plan (ranged_plan seals (sale_ranges seals width reserve (Sold position price)))
+    ≡ count false
+    → of_plan (reserve_plan seals width reserve (Sold position price)) ≡ count (ltb reserve price)
+sold_count of_plan count seals width reserve position price above within =
+    elim (cases_lt reserve price) [
+      | inl high ↦ ap of_plan (plan_above seals width reserve position price high) ∙ above
+          ∙ sym (ap count (lt-ltb reserve price high))
+      | inr low ↦ ap of_plan (plan_within seals width reserve (Sold position price) low) ∙ within
+          ∙ sym (ap count (le-ltb reserve price low))
+    ]
+
 pub reserve_wires : (seals width reserve : ℕ) (sale : Sale) → 1 ≤ seals
     → length (reserve_plan seals width reserve sale).kinds
     ≡ sale_wire_count seals width reserve sale
 reserve_wires seals width reserve (Sold position price) some =
-    let count : Bool → ℕ = λ b. if b then wire_count seals width
-    else 2 * seals + (3 * seals - 1) * width in
-    elim (cases_lt reserve price) [
-      | inl above ↦ ap (λ (p : PlanValue). length p.kinds)
-          (plan_above seals width reserve position price above)
-          ∙ vickrey_wires seals width position price some
-          ∙ sym (ap count (lt-ltb reserve price above))
-      | inr low ↦ ap (λ (p : PlanValue). length p.kinds)
-          (plan_within seals width reserve (Sold position price) low)
-          ∙ ranged_wires seals (sale_ranges seals width reserve (Sold position price))
-          ∙ sets_of seals (length (sale_forms seals reserve (Sold position price))) width
-          (3 * seals - 1) (length_at seals (position - 1) reserve some)
-          ∙ sym (ap count (le-ltb reserve price low))
-    ]
+    sold_count (λ plan. length plan.kinds)
+    (λ b. if b then wire_count seals width else 2 * seals + (3 * seals - 1) * width)
+    seals width reserve position price (vickrey_wires seals width position price some)
+    (ranged_wires seals (sale_ranges seals width reserve (Sold position price))
+    ∙ sets_of seals (length (sale_forms seals reserve (Sold position price))) width
+    (3 * seals - 1) (length_at seals (position - 1) reserve some))
 reserve_wires seals width reserve Unsold some =
     ap (λ (p : PlanValue). length p.kinds) (plan_within seals width reserve Unsold tt)
     ∙ ranged_wires seals (sale_ranges seals width reserve Unsold)
@@ -542,18 +556,10 @@ reserve_wires seals width reserve Unsold some =
 pub reserve_rows : (seals width reserve : ℕ) (sale : Sale) → 1 ≤ seals
     → length (reserve_plan seals width reserve sale).rows ≡ sale_row_count seals reserve sale
 reserve_rows seals width reserve (Sold position price) some =
-    let count : Bool → ℕ = λ b. if b then row_count seals else 4 * seals - 1 in
-    elim (cases_lt reserve price) [
-      | inl above ↦ ap (λ (p : PlanValue). length p.rows)
-          (plan_above seals width reserve position price above)
-          ∙ vickrey_rows seals width position price some
-          ∙ sym (ap count (lt-ltb reserve price above))
-      | inr low ↦ ap (λ (p : PlanValue). length p.rows)
-          (plan_within seals width reserve (Sold position price) low)
-          ∙ ranged_rows seals (sale_ranges seals width reserve (Sold position price))
-          ∙ omega (arith, length_at seals (position - 1) reserve some)
-          ∙ sym (ap count (le-ltb reserve price low))
-    ]
+    sold_count (λ plan. length plan.rows) (λ b. if b then row_count seals else 4 * seals - 1)
+    seals width reserve position price (vickrey_rows seals width position price some)
+    (ranged_rows seals (sale_ranges seals width reserve (Sold position price))
+    ∙ omega (arith, length_at seals (position - 1) reserve some))
 reserve_rows seals width reserve Unsold some =
     ap (λ (p : PlanValue). length p.rows) (plan_within seals width reserve Unsold tt)
     ∙ ranged_rows seals (sale_ranges seals width reserve Unsold)
