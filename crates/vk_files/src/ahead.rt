@@ -115,6 +115,10 @@ impl Ahead {
         ensures bound { IfOk result (λ n. n ≤ length into.old) }
         ensures held { Holds self.old at (length into.old) → length into.old ≤ 65536
             → (result ≡ Ok (length into.old)) × (self.new ≡ self.old) × (file.new ≡ file.old) }
+        ensures anew { OnOk result (length into.old ≤ 65536
+            → (Holds self.old at (length into.old) → ⊥)
+            → (self.new.from ≡ at) × GivesFrom F.stream_position F.remaining at 65536 self.new.held
+            file.old file.new) }
         ensures bytes { IfOk result (λ n. length into.old ≤ 65536
             → take n into.new ≡ part_held self.new at (length into.old)) }
         ensures count { IfOk result (λ n. length into.old ≤ 65536
