@@ -123,6 +123,9 @@ impl Ahead {
             → take n into.new ≡ part_held self.new at (length into.old)) }
         ensures count { IfOk result (λ n. length into.old ≤ 65536
             → n ≡ length (part_held self.new at (length into.old))) }
+        ensures large { IfOk result (λ n. 65536 < length into.old → (self.new ≡ self.old)
+            × GivesFrom F.stream_position F.remaining at (length into.old) (take n into.new)
+            file.old file.new) }
         ensures causes { Causes OutsideErr.Failed result faults.old faults.new }
         ensures fault { OnErr result (result ≡ Err OutsideErr.Failed) }
         ensures counted { OnErr result (faults.new ≡ one_more faults.old) }
