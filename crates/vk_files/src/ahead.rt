@@ -104,7 +104,8 @@ impl Ahead {
 
     /// Fills `into` with the bytes of the file from `at` on, as far as it gives any, and answers
     /// how many bytes that are: those that are held, where they fill it; else those that a reading
-    /// gives, which are held then. An error is counted, once.
+    /// gives, which are held then. More than is read ahead is read by itself. An error is counted,
+    /// once, and after one nothing is held, unless so much was asked for.
     pub fn read<F: Read + Seek>(
         &mut self,
         file: &mut F,
@@ -126,6 +127,8 @@ impl Ahead {
         ensures large { IfOk result (λ n. 65536 < length into.old → (self.new ≡ self.old)
             × GivesFrom F.stream_position F.remaining at (length into.old) (take n into.new)
             file.old file.new) }
+        ensures refused { OnErr result
+            (length into.old ≤ 65536 → self.new.held ≡ []) }
         ensures causes { Causes OutsideErr.Failed result faults.old faults.new }
         ensures fault { OnErr result (result ≡ Err OutsideErr.Failed) }
         ensures counted { OnErr result (faults.new ≡ one_more faults.old) }
