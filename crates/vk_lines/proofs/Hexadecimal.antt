@@ -214,7 +214,7 @@ none_more count text i greatest within before great =
 
 -- the byte of two digits
 abbrev pub byte_of : ℕ → ℕ → ℕ
-byte_of high low = (high * 16 % 256 + low) % 256
+byte_of high low = high % 16 * 16 + low % 16
 
 -- two digits more write one byte more
 pair_read : (bytes text : List ℕ) (i high low : ℕ) → i < length bytes → 2 * i + 1 < length text

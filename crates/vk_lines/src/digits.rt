@@ -1,6 +1,6 @@
 //! Bytes as lower-case hexadecimal.
 
-ghost use Rattle.std.specs.Prelude.{◌≡◌, ◌↔◌, ◌*◌, IsTrue, ◌++◌, ◌<◌, ◌≤◌, ℕ, List, length, slice_index, Some, None, if◌then◌else◌, OnErr, OnOk};
+ghost use Rattle.std.specs.Prelude.{◌≡◌, ◌*◌, ◌++◌, ◌<◌, ◌≤◌, ℕ, List, length, slice_index, Some, None, if◌then◌else◌, OnErr, OnOk};
 ghost use Rattle.hex.specs.Hex.{lower_digits};
 ghost use Rattle.vk_lines.specs.Tokens.{AreDigits, hex_of, hex_text, digit_value, ReadsHex};
 
@@ -15,7 +15,7 @@ pub fn read_hex16(text: &[u8]) -> Option<[u8; 16]>
     ensures exact { ReadsHex 16 text.now result }
 {
     let mut bytes = [0; 16];
-    read_hex(text, &mut bytes).then_some(bytes)
+    read_array(text, &mut bytes).then_some(bytes)
 }
 
 /// The 32 bytes that 64 lower-case hexadecimal digits write; `None` for any other text.
@@ -24,7 +24,18 @@ pub fn read_hex32(text: &[u8]) -> Option<[u8; 32]>
     ensures exact { ReadsHex 32 text.now result }
 {
     let mut bytes = [0; 32];
-    read_hex(text, &mut bytes).then_some(bytes)
+    read_array(text, &mut bytes).then_some(bytes)
+}
+
+/// Reads lower-case hexadecimal into the whole array; false where the text is anything else.
+// The bytes are put together here, and not one by one with what the caller makes of them.
+#[inline(never)]
+fn read_array<const N: usize>(text: &[u8], bytes: &mut [u8; N]) -> bool
+    requires { N ≤ 32 }
+    ensures { hex_of N text.now ≡ (if result then Some bytes.new else None) }
+{
+    let is_read = read_hex(text, bytes);
+    is_read
 }
 
 /// Reads lower-case hexadecimal into the whole of `bytes`; false where the text is anything else.
@@ -32,13 +43,14 @@ fn read_hex(text: &[u8], bytes: &mut [u8]) -> bool
     requires { length bytes.old ≤ 32 }
     ensures { hex_of (length bytes.old) text.now ≡ (if result then Some bytes.new else None) }
 {
-    if !is_twice(text.len(), bytes.len()) {
+    let digits = 2 * bytes.len();
+    if text.len() != digits {
         return false;
     }
     // All values first, and then the bytes of two each, so that the compiler can read many digits
     // at once.
     let mut values = [0; MOST_DIGITS];
-    let (values, _) = values.split_at_mut(text.len());
+    let (values, _) = values.split_at_mut(digits);
     let greatest = read_values(text, values);
     join_values(values, bytes);
     greatest <= 15
@@ -68,15 +80,8 @@ fn join_values(values: &[u8], bytes: &mut [u8])
     for index in 0..bytes.len() {
         let high = values[2 * index];
         let low = values[2 * index + 1];
-        bytes[index] = high.wrapping_mul(16).wrapping_add(low);
+        bytes[index] = high % 16 * 16 + low % 16;
     }
-}
-
-/// Whether one length is twice another.
-fn is_twice(length: usize, half: usize) -> bool
-    ensures { IsTrue result ↔ (length ≡ 2 * half) }
-{
-    length % 2 == 0 && length / 2 == half
 }
 
 /// The value of a lower-case hexadecimal digit; 255 for any other byte.

@@ -2,9 +2,9 @@ use Rattle.std.proofs.Common.{arith, length}
 use Rattle.vk_lines.proofs.Hexadecimal.{hex_none_long, hex_by}
 use Rattle.vk_lines.proofs.digits.read_hex.Goals as goal
 
-pub returns-then-not-is_twice : goal.returns-then-not-is_twice
-returns-then-not-is_twice c = hex_none_long (length c.args.bytes.now) c.args.text.now
-    (λ same. cc (c.is_twice.ensures.1 same))
+pub returns-then-text-digits : goal.returns-then-text-digits
+returns-then-text-digits c = hex_none_long (length c.args.bytes.now) c.args.text.now
+    (λ same. absurd (omega arith))
 
 pub returns : goal.returns
 returns c =
