@@ -62,21 +62,18 @@ files_begun whole files board first_challenge first_reply second_challenge secon
     by_five (Ok a) (Ok b) (Ok c) (Ok d) (Err fault) = refl
     by_five (Ok a) (Ok b) (Ok c) (Ok d) (Ok e) = refl
 
-pub two_on_begun : (files : Files)
-    (board first_challenge first_reply second_challenge second_reply : List ℕ)
-    → two_on files board first_challenge first_reply second_challenge second_reply
-    ≡ (of_files five_rests files board first_challenge first_reply second_challenge second_reply >>=
-    λ rests. Ok (ahead_at rests.0 rests.1 rests.2 rests.3 rests.4))
-unfolding two_on
-two_on_begun = files_begun ahead_at
+module _ (files : Files) (board challenge reply other second : List ℕ) where
+  pub two_on_begun : two_on files board challenge reply other second
+      ≡ (of_files five_rests files board challenge reply other second >>= λ rests.
+      Ok (ahead_at rests.0 rests.1 rests.2 rests.3 rests.4))
+  unfolding two_on
+  two_on_begun = files_begun ahead_at files board challenge reply other second
 
-pub base_on_begun : (files : Files)
-    (board first_challenge first_reply second_challenge second_reply : List ℕ)
-    → base_on files board first_challenge first_reply second_challenge second_reply
-    ≡ (of_files five_rests files board first_challenge first_reply second_challenge second_reply >>=
-    λ rests. Ok (base_at rests.0 rests.1 rests.2 rests.3 rests.4))
-unfolding base_on
-base_on_begun = files_begun base_at
+  pub base_on_begun : base_on files board challenge reply other second
+      ≡ (of_files five_rests files board challenge reply other second >>= λ rests.
+      Ok (base_at rests.0 rests.1 rests.2 rests.3 rests.4))
+  unfolding base_on
+  base_on_begun = files_begun base_at files board challenge reply other second
 
 -- the first of them is begun where all are
 pub file_begun : (files : Files)

@@ -6,12 +6,23 @@ use Rattle.std.proofs.Math.ListN.{drop_of_length-le}
 use Rattle.std.proofs.lemmas.Option.{IfSome_then}
 use Rattle.vk_residue.specs.Steps.{◌>>=◌}
 use Rattle.vk_io.specs.Files.{Files}
-use Rattle.vk_lines.specs.Lines.{Rest}
+use Rattle.vk_lines.specs.Lines.{Rest, rest_of}
 use Rattle.vk_verifier.specs.declared.answers.Fault.{Fault}
 use Rattle.vk_verifier.specs.declared.halt.Halt.{Halt}
+use Rattle.vk_verifier.specs.declared.stage.FileAndReply.{FileAndReply}
 use Rattle.vk_verifier.specs.declared.halt.Halt.TheVariants.{Refused, Failed, NoMemory}
 use Rattle.vk_verifier.specs.Statement.{StatementValue}
 use Rattle.vk_verifier.specs.Behind.{Judges, ends_judged, lane_judged, lanes_judged}
+
+-- a file and a reply from where they are read on
+abbrev pub pair_at : FileAndReply → Files → Rest × Rest
+pair_at pair files = (rest_of pair.board files, rest_of pair.reply files)
+
+-- what the lanes come to that are left after so many, of files that are read on from there
+abbrev pub left_judged : StatementValue → List Bool → ℕ → FileAndReply → Files
+    → Result (Rest × Rest) Fault
+left_judged s bits judged pair files = lanes_judged s (judged + 1) (drop judged bits)
+    (rest_of pair.board files) (rest_of pair.reply files)
 
 -- the next lane, and then those after it
 next_lane : (s : StatementValue) (bits : List Bool) (index : ℕ) (bit : Bool) (board reply : Rest)
@@ -31,45 +42,39 @@ next_lane s bits index bit board reply within is =
 pub lane_turn : (held now : Option Files) (s : StatementValue) (bits : List Bool) (index : ℕ)
     (bit : Bool)
     (done : Unit {0})
-    (whole : Files → Result (Rest × Rest) Fault) (board reply board_now reply_now : Files → Rest)
+    (whole : Files → Result (Rest × Rest) Fault) (pair next : FileAndReply)
     → index < length bits → bit ≡ get_or bits index bit → now ≡ held
-    → IfSome held (λ files. lanes_judged s (index + 1) (drop index bits) (board files) (reply files)
-    ≡ whole files)
-    → IfSome now (λ files. Judges (λ (_ : Unit {0}). (board_now files, reply_now files)) (Ok done)
-    (lane_judged s (index + 1) bit (board files) (reply files)))
-    → IfSome held (λ files. lanes_judged s (index + 1 + 1) (drop (index + 1) bits) (board_now files)
-    (reply_now files) ≡ whole files)
-lane_turn None now s bits index bit done whole board reply board_now reply_now within is same so_far
-    step = tt
-lane_turn (Some files) now s bits index bit done whole board reply board_now reply_now within is
-    same so_far step =
-    let judged = subst (λ told.
-    IfSome told (λ files. Judges (λ (_ : Unit {0}). (board_now files, reply_now files))
-    (Ok done) (lane_judged s (index + 1) bit (board files) (reply files)))) same step in
-    sym (next_lane s bits index bit (board files) (reply files) within is
+    → IfSome held (λ files. left_judged s bits index pair files ≡ whole files)
+    → IfSome now (λ files. Judges (λ (_ : Unit {0}). pair_at next files) (Ok done)
+    (lane_judged s (index + 1) bit (rest_of pair.board files) (rest_of pair.reply files)))
+    → IfSome held (λ files. left_judged s bits (index + 1) next files ≡ whole files)
+lane_turn None now s bits index bit done whole pair next within is same so_far step = tt
+lane_turn (Some files) now s bits index bit done whole pair next within is same so_far step =
+    let judged = subst (λ told. IfSome told
+    (λ files. Judges (λ (_ : Unit {0}). pair_at next files) (Ok done)
+    (lane_judged s (index + 1) bit (rest_of pair.board files) (rest_of pair.reply files)))) same
+    step in
+    sym (next_lane s bits index bit (rest_of pair.board files) (rest_of pair.reply files) within is
     ∙ ap (λ r. r >>= λ rests. lanes_judged s (index + 1 + 1) (drop (index + 1) bits) rests.0
     rests.1) judged) ∙ so_far
 
 stop : (held : Option Files) (s : StatementValue) (bits : List Bool) (index : ℕ) (bit : Bool)
     (halt : Halt Fault)
-    (whole : Files → Result (Rest × Rest) Fault) (board reply board_now reply_now : Files → Rest)
+    (whole : Files → Result (Rest × Rest) Fault) (pair next : FileAndReply)
     → index < length bits → bit ≡ get_or bits index bit
-    → IfSome held (λ files. lanes_judged s (index + 1) (drop index bits) (board files) (reply files)
-    ≡ whole files)
-    → IfSome held (λ files. Judges {T = Unit {0}} (λ _. (board_now files, reply_now files))
-    (Err halt) (lane_judged s (index + 1) bit (board files) (reply files)))
-    → IfSome held (λ files. Judges {T = Unit {0}} (λ _. (board_now files, reply_now files))
-    (Err halt) (whole files))
-stop None s bits index bit halt whole board reply board_now reply_now within is so_far step = tt
-stop (Some files) s bits index bit (Refused fault) whole board reply board_now reply_now within is
-    so_far step =
-    sym so_far ∙ next_lane s bits index bit (board files) (reply files) within is
+    → IfSome held (λ files. left_judged s bits index pair files ≡ whole files)
+    → IfSome held (λ files. Judges {T = Unit {0}} (λ _. pair_at next files) (Err halt)
+    (lane_judged s (index + 1) bit (rest_of pair.board files) (rest_of pair.reply files)))
+    → IfSome held (λ files. Judges {T = Unit {0}} (λ _. pair_at next files) (Err halt)
+    (whole files))
+stop None s bits index bit halt whole pair next within is so_far step = tt
+stop (Some files) s bits index bit (Refused fault) whole pair next within is so_far step =
+    sym so_far
+    ∙ next_lane s bits index bit (rest_of pair.board files) (rest_of pair.reply files) within is
     ∙ ap (λ r. r >>= λ rests. lanes_judged s (index + 1 + 1) (drop (index + 1) bits) rests.0
     rests.1) step
-stop (Some files) s bits index bit Failed whole board reply board_now reply_now within is so_far
-    step = tt
-stop (Some files) s bits index bit NoMemory whole board reply board_now reply_now within is so_far
-    step = tt
+stop (Some files) s bits index bit Failed whole pair next within is so_far step = tt
+stop (Some files) s bits index bit NoMemory whole pair next within is so_far step = tt
 
 -- after a lane that was not accepted the ends are not read
 not_ended : {Y : Type 0} (lanes : Result (Rest × Rest) Fault) (next : Rest × Rest → Result Y Fault)
@@ -83,29 +88,25 @@ not_ended lanes next value other NoMemory judged = tt
 pub rest_stop : (held now : Option Files) (s : StatementValue) (bits : List Bool) (index : ℕ)
     (bit : Bool)
     (halt : Halt Fault) (result : Result (Unit {0}) (Halt Fault))
-    (whole : Files → Result (Rest × Rest) Fault) (board reply board_now reply_now : Files → Rest)
+    (whole : Files → Result (Rest × Rest) Fault) (pair next : FileAndReply)
     → index < length bits → bit ≡ get_or bits index bit → now ≡ held → result ≡ Err halt
-    → IfSome held (λ files. lanes_judged s (index + 1) (drop index bits) (board files) (reply files)
-    ≡ whole files)
-    → IfSome now (λ files. Judges {T = Unit {0}} (λ _. (board_now files, reply_now files))
-    (Err halt) (lane_judged s (index + 1) bit (board files) (reply files)))
+    → IfSome held (λ files. left_judged s bits index pair files ≡ whole files)
+    → IfSome now (λ files. Judges {T = Unit {0}} (λ _. pair_at next files) (Err halt)
+    (lane_judged s (index + 1) bit (rest_of pair.board files) (rest_of pair.reply files)))
     → IfSome held (λ files. Judges (λ (done : Unit {0}). done) result
     (whole files >>= λ rests. ends_judged rests.0 rests.1))
-rest_stop held now s bits index bit halt result whole board reply board_now reply_now within is same
-    ends so_far step =
+rest_stop held now s bits index bit halt result whole pair next within is same ends so_far step =
     let P : Option Files → Type 0 =
-    λ told. IfSome told (λ files. Judges {T = Unit {0}}
-    (λ _. (board_now files, reply_now files)) (Err halt)
-    (lane_judged s (index + 1) bit (board files) (reply files))) in
+    λ told. IfSome told (λ files. Judges {T = Unit {0}} (λ _. pair_at next files) (Err halt)
+    (lane_judged s (index + 1) bit (rest_of pair.board files) (rest_of pair.reply files))) in
     let Q : Result (Unit {0}) (Halt Fault)
     → Type 0 = λ r. IfSome held
     (λ files. Judges (λ (done : Unit {0}). done) r
     (whole files >>= λ rests. ends_judged rests.0 rests.1)) in
     subst Q (sym ends) (IfSome_then held
-    (stop held s bits index bit halt whole board reply board_now reply_now within is so_far
-    (subst P same step))
+    (stop held s bits index bit halt whole pair next within is so_far (subst P same step))
     (λ files stopped. not_ended (whole files) (λ rests. ends_judged rests.0 rests.1)
-    (λ _. (board_now files, reply_now files)) (λ done. done) halt stopped))
+    (λ _. pair_at next files) (λ done. done) halt stopped))
 
 none_left : (s : StatementValue) (number : ℕ) (bits : List Bool) (board reply : Rest)
     → length bits ≡ 0
@@ -117,21 +118,20 @@ none_left s number (bit ∷ bits) board reply none = cc
 -- after the last lane the ends are read
 pub rest_done : (held now : Option Files) (s : StatementValue) (bits : List Bool) (index : ℕ)
     (ended result : Result (Unit {0}) (Halt Fault))
-    (whole : Files → Result (Rest × Rest) Fault) (board reply : Files → Rest) → length bits ≤ index
+    (whole : Files → Result (Rest × Rest) Fault) (pair : FileAndReply) → length bits ≤ index
     → now ≡ held → result ≡ ended
-    → IfSome held (λ files. lanes_judged s (index + 1) (drop index bits) (board files) (reply files)
-    ≡ whole files)
+    → IfSome held (λ files. left_judged s bits index pair files ≡ whole files)
     → IfSome now (λ files. Judges (λ (done : Unit {0}). done) ended
-    (ends_judged (board files) (reply files)))
+    (ends_judged (rest_of pair.board files) (rest_of pair.reply files)))
     → IfSome held (λ files. Judges (λ (done : Unit {0}). done) result
     (whole files >>= λ rests. ends_judged rests.0 rests.1))
-rest_done None now s bits index ended result whole board reply past same is so_far step = tt
-rest_done (Some files) now s bits index ended result whole board reply past same is so_far step =
-    let all = sym so_far ∙ none_left s (index + 1) (drop index bits) (board files) (reply files)
-    (ap length (drop_of_length-le bits past)) in
+rest_done None now s bits index ended result whole pair past same is so_far step = tt
+rest_done (Some files) now s bits index ended result whole pair past same is so_far step =
+    let all = sym so_far ∙ none_left s (index + 1) (drop index bits) (rest_of pair.board files)
+    (rest_of pair.reply files) (ap length (drop_of_length-le bits past)) in
     let told = subst (λ told. IfSome told
     (λ files. Judges (λ (done : Unit {0}). done) ended
-    (ends_judged (board files) (reply files)))) same step in
+    (ends_judged (rest_of pair.board files) (rest_of pair.reply files)))) same step in
     subst (λ r. Judges (λ (done : Unit {0}). done) r
     (whole files >>= λ rests. ends_judged rests.0 rests.1)) (sym is)
     (subst (λ w. Judges (λ (done : Unit {0}). done) ended

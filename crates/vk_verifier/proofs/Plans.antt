@@ -1,13 +1,15 @@
 -- The circuit of a board: it is a plan, and how many wires and rows it has.
 use Rattle.std.proofs.Common.{◌≡◌, ℕ, ◌-◌, List, length, Option, Some, None, refl, ap, sym, ◌∙◌}
-use Rattle.vk_plan.specs.Plans.{IsPlan}
+use Rattle.vk_plan.specs.Plans.{IsPlan, PlanValue}
 use Rattle.vk_vickrey.specs.declared.sales.Sale.{Sale}
 use Rattle.vk_vickrey.specs.declared.sales.Sale.TheVariants.{Sold}
 use Rattle.vk_vickrey.specs.Sales.{sale_at}
-use Rattle.vk_vickrey.specs.BoardPlans.{board_numbers, board_plan, board_wire_count, board_row_count}
+use Rattle.vk_vickrey.specs.declared.board_plan.BoardPlan.{BoardPlan}
+use Rattle.vk_vickrey.specs.BoardPlans.{BoardNumbers, board_numbers, board_plan, board_wire_count, board_row_count, numbers_of}
 use Rattle.vk_vickrey.specs.BoardLaws.{board_inputs, board_is_plan, board_rows, board_wires, of_plans}
 use Rattle.vk_board.specs.declared.board.SealLines.{SealLines}
 use Rattle.vk_board.specs.declared.front.Front.{Front}
+use Rattle.vk_board.specs.declared.board.Head.{Head}
 use Rattle.vk_board.specs.Fronts.{IsFront, IsPlaced}
 use Rattle.vk_verifier.specs.Statement.{IsStatement}
 use Rattle.vk_verifier.specs.Behind.{later_wires}
@@ -33,6 +35,12 @@ statement_right front is = record {
   plan = is_plan front is;
 }
 
+abbrev numbers_by : Head → Sale → BoardNumbers
+numbers_by head = board_numbers head.version head.seals head.width head.reserve
+
+abbrev numbers_sold : Head → ℕ → BoardNumbers
+numbers_sold head place = numbers_by head (Sold place head.price)
+
 -- a count that is the same at each place is told by the seat
 by_seat : (count : Sale → ℕ) (price : ℕ) (seals : List SealLines) (winner position : Option ℕ)
     → IsPlaced seals winner position
@@ -43,14 +51,23 @@ by_seat count price seals (Some seat) None placed same = absurd placed
 by_seat count price seals None (Some position) placed same = absurd placed
 by_seat count price seals None None placed same = refl
 
+-- what the numbers of a circuit tell of it, and it is the same at each place, the head tells
+by_head : (count : PlanValue → ℕ) (told : BoardNumbers → ℕ)
+    → ((plan : BoardPlan) → count (board_plan (numbers_of plan)) ≡ told (numbers_of plan))
+    → (front : Front) → IsFront front
+    → ((place other : ℕ) → told (numbers_sold front.head place)
+    ≡ told (numbers_sold front.head other))
+    → count (plan_of front) ≡ told (head_numbers front.head)
+by_head count told law front is same =
+    of_plans (λ n. count (board_plan n) ≡ told n) law (numbers_in front) (front_case front is)
+    ∙ by_seat (λ sale. told (numbers_by front.head sale)) front.head.price front.seals
+    front.head.winner front.position is.winner same
+
 all_wires : (front : Front) → IsFront front
     → length (plan_of front).kinds ≡ board_wire_count (head_numbers front.head)
 all_wires front is =
-    of_plans (λ n. length (board_plan n).kinds ≡ board_wire_count n) board_wires (numbers_in front)
-    (front_case front is)
-    ∙ by_seat (λ sale. board_wire_count
-    (board_numbers front.head.version front.head.seals front.head.width front.head.reserve sale))
-    front.head.price front.seals front.head.winner front.position is.winner (λ place other. refl)
+    by_head (λ plan. length plan.kinds) board_wire_count board_wires front is
+    (λ place other. refl)
 
 -- the shape of its lanes
 pub wires_are : (front : Front) → IsFront front
@@ -62,8 +79,4 @@ wires_are front is =
 pub rows_are : (front : Front) → IsFront front
     → length (plan_of front).rows ≡ (shape_of front.head).rows
 rows_are front is =
-    of_plans (λ n. length (board_plan n).rows ≡ board_row_count n) board_rows (numbers_in front)
-    (front_case front is)
-    ∙ by_seat (λ sale. board_row_count
-    (board_numbers front.head.version front.head.seals front.head.width front.head.reserve sale))
-    front.head.price front.seals front.head.winner front.position is.winner (λ place other. refl)
+    by_head (λ plan. length plan.rows) board_row_count board_rows front is (λ place other. refl)

@@ -45,6 +45,20 @@ first_stop {X} (Some files) now judged (Refused finding) rest told next value sa
 first_stop (Some files) now judged Failed rest told next value same found step = tt
 first_stop (Some files) now judged NoMemory rest told next value same found step = tt
 
+-- and that is handed on
+pub first_refused : {X Y T : Type 0} (held : Option Files) (judged : Result X (Halt Fault))
+    (halt : Halt (Finding Fault)) (result : Result T (Halt (Finding Fault))) (rest : Files → Rest)
+    (told : Files → Result (X × Rest) Fault)
+    (next : Files → X × Rest → Result Y (Finding Fault)) (value : Files → T → Y)
+    → result ≡ Err halt
+    → ((r : Rest) (expected : Result (X × Rest) Fault) → Judges (λ x. (x, r)) judged expected
+    → Judges {T = X} (λ x. (x, r)) (Err halt) (of_first expected))
+    → IfSome held (λ files. Judges (λ x. (x, rest files)) judged (told files))
+    → IfSome held (λ files. Judges (value files) result (of_first (told files) >>= next files))
+first_refused {T = T} held judged halt result rest told next value is found step =
+    returned {T = T} held result halt value (λ files. of_first (told files) >>= next files) is
+    (first_stop {T = T} held held judged halt rest told next value refl found step)
+
 -- the first reply was judged on
 pub first_past : {X Y : Type 0} (held now : Option Files) (judged : Result X (Halt Fault)) (x : X)
     (rest : Files → Rest)

@@ -27,9 +27,9 @@ use Rattle.vk_verifier.specs.Statement.{StatementValue}
 use Rattle.vk_verifier.specs.Behind.{in_part, lanes_judged, ends_judged, counted, behind_judged}
 use Rattle.vk_verifier.specs.Verdicts.{in_front, front_judged, statement_of, as_verdict, in_board, judged, verdict_by, verdict_of, from_start, begun_file}
 use Rattle.vk_verifier.specs.Parts.{case_at, reply_judged, attempt_at, rest_judged, behind_in_parts}
-use Rattle.vk_verifier.specs.Two.{Ahead, Rests, second_fault, same_bits, accepted_of, two_result, of_first, of_second, second_told, found_by, two_lane_at, ends_found, ahead_from, ahead_after, ahead_behind, base_behind, ahead_by}
+use Rattle.vk_verifier.specs.Two.{Ahead, Rests, second_fault, same_bits, accepted_of, two_result, of_first, of_second, second_told, found_by, two_lane_at, ends_found, ahead_from, ahead_after, base_behind, ahead_by, lane_shown}
 use Rattle.vk_verifier.specs.TwoBoards.{as_second, as_two, is_accepted, two_verdict, ahead_past, ahead_at, two_on}
-use Rattle.vk_verifier.specs.TwoLaw.{bits_read, bits_in, ahead_in, FindsByJudging, FindsByVerdicts}
+use Rattle.vk_verifier.specs.TwoLaw.{bits_read, bits_in, ahead_in, FindsBy, FindsByJudging, FindsByVerdicts}
 use Rattle.vk_verifier.proofs.Joined.{lane_parts, behind_parts}
 
 -- ---- the ends
@@ -92,20 +92,6 @@ rest_step s number bit bits board reply =
     ∙ rest_by (case_at s number board) (λ case. reply_judged s.plan case number bit reply)
     (lanes_judged s (number + 1) bits) ends_judged
 
-abbrev lane_of : Bool → Bool → LaneCase × Rest → List Shown × Rest → List Shown × Rest
-    → Result (TwoLane × Rests) (Finding Fault)
-lane_of first_bit second_bit c s t =
-    Ok (
-      record {
-        case = c.0;
-        first_bit = first_bit;
-        first = s.0;
-        second_bit = second_bit;
-        second = t.0;
-      },
-      record { board = c.1; first = s.1; second = t.1 },
-    )
-
 -- one lane of both replies
 abbrev both : Result (LaneCase × Rest) Fault → (LaneCase → Result (List Shown × Rest) Fault)
     → (LaneCase → Result (List Shown × Rest) Fault)
@@ -113,7 +99,7 @@ abbrev both : Result (LaneCase × Rest) Fault → (LaneCase → Result (List Sho
     → Result (TwoLane × Rests) (Finding Fault)
 both case first second first_bit second_bit rest =
     of_first case >>= λ c. of_first (first c.0) >>= λ s. of_second (rest c.1 s.1) (second c.0) >>=
-    λ t. lane_of first_bit second_bit c s t
+    λ t. Ok (lane_shown first_bit second_bit c s t)
 
 finding_after : (accepted : Finding Fault) (second : Result (List Shown × Rest) Fault)
     (case : LaneCase × Rest)
@@ -252,13 +238,7 @@ finding_attempts s board (Err fault) second bits others is other_is = refl
 finding_attempts s board (Ok first) second bits others is other_is =
     finding_second s board first second bits others is other_is
 
-finding_parts : (s : StatementValue)
-    (board first_challenge first_reply second_challenge second_reply : Rest)
-    → (ahead_behind s board first_challenge first_reply second_challenge second_reply).finding
-    ≡ two_result (accepted_of (bits_read (challenge_at first_challenge))
-    (bits_read (challenge_at second_challenge)))
-    (behind_in_parts s board first_challenge first_reply)
-    (behind_in_parts s board second_challenge second_reply)
+finding_parts : FindsBy behind_in_parts
 unfolding base_behind behind_in_parts
 finding_parts s board first_challenge first_reply second_challenge second_reply =
     finding_attempts s board (attempt_at s.lanes first_challenge first_reply)

@@ -26,7 +26,7 @@ use Rattle.vk_verifier.specs.Statement.{StatementValue, IsStatement}
 use Rattle.vk_verifier.specs.Behind.{in_part, later_wires, case_of, lane_fault, counted, behind_judged}
 use Rattle.vk_verifier.specs.Verdicts.{front_judged, in_front, statement_of, from_start}
 use Rattle.vk_verifier.specs.Parts.{case_at, reply_judged, attempt_at, rest_judged}
-use Rattle.vk_verifier.specs.Two.{Ahead, Rests, BothAreAccepted, same_bits, accepted_of, two_result, of_first, of_second, found_by, both_shown, second_shown, two_lane_at, ends_found, ahead_from, ahead_after, ahead_behind, with_lane, base_behind, second_begun, ahead_by, base_in}
+use Rattle.vk_verifier.specs.Two.{Ahead, Rests, BothAreAccepted, same_bits, accepted_of, two_result, of_first, of_second, found_by, both_shown, second_shown, lane_shown, two_lane_at, ends_found, ahead_from, ahead_after, ahead_behind, with_lane, base_behind, second_begun, ahead_by, base_in}
 use Rattle.vk_verifier.specs.TwoBoards.{as_two, ahead_past, base_past, with_front}
 use Rattle.vk_verifier.specs.TwoLaw.{bits_read, ahead_in}
 use Rattle.vk_verifier.specs.Acceptance.{Accepts, AcceptsBehind, bit_of, no_lines}
@@ -71,31 +71,13 @@ lane_given : (s : StatementValue) (number : ℕ) (first_bit second_bit : Bool) (
     → reply_judged s.plan case.0 number first_bit rests.first ≡ Ok first
     → reply_judged s.plan case.0 number second_bit rests.second ≡ Ok second
     → two_lane_at s number first_bit second_bit later rests
-    ≡ Ok (
-      record {
-        case = case.0;
-        first_bit = first_bit;
-        first = first.0;
-        second_bit = second_bit;
-        second = second.0;
-      },
-      record { board = case.1; first = first.1; second = second.1 },
-    )
+    ≡ Ok (lane_shown first_bit second_bit case first second)
 unfolding two_lane_at
 lane_given s number first_bit second_bit later rests case first second case_is first_is second_is =
     ap (λ r. of_first r >>= both_shown s number first_bit second_bit later rests) case_is
     ∙ (ap (λ r. of_first r >>= second_shown s number first_bit second_bit later rests case) first_is
     ∙ ap (λ r. of_second (rest_judged s (number + 1) later case.1 first.1) r >>=
-    λ (t : List Shown × Rest). Ok (
-      record {
-        case = case.0;
-        first_bit = first_bit;
-        first = first.0;
-        second_bit = second_bit;
-        second = t.0;
-      },
-      record { board = case.1; first = first.1; second = t.1 },
-    )) second_is)
+    λ t. Ok (lane_shown first_bit second_bit case first t)) second_is)
 
 -- ---- the lanes, by the values that were read
 

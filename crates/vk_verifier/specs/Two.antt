@@ -106,6 +106,20 @@ over finding = record { lanes = []; finding = finding }
 abbrev pub with_lane : {V : Type 0} → TwoLane → Ahead V → Ahead V
 with_lane lane ahead = record { lanes = lane ∷ ahead.lanes; finding = ahead.finding }
 
+-- the lane by what was read of it, and what is read after it
+abbrev pub lane_shown : Bool → Bool → LaneCase × Rest → List Shown × Rest → List Shown × Rest
+    → TwoLane × Rests
+lane_shown first_bit second_bit case first second = (
+  record {
+    case = case.0;
+    first_bit = first_bit;
+    first = first.0;
+    second_bit = second_bit;
+    second = second.0;
+  },
+  record { board = case.1; first = first.1; second = second.1 },
+)
+
 -- what the second reply shows of the lane of that number, after what the first does; the later bits
 -- are the first challenge's
 abbrev pub second_shown : StatementValue → ℕ → Bool → Bool → List Bool → Rests → LaneCase × Rest
@@ -113,16 +127,7 @@ abbrev pub second_shown : StatementValue → ℕ → Bool → Bool → List Bool
 second_shown s number first_bit second_bit later rests case first = do
   second ← of_second (rest_judged s (number + 1) later case.1 first.1)
       (reply_judged s.plan case.0 number second_bit rests.second)
-  Ok (
-    record {
-      case = case.0;
-      first_bit = first_bit;
-      first = first.0;
-      second_bit = second_bit;
-      second = second.0;
-    },
-    record { board = case.1; first = first.1; second = second.1 },
-  )
+  Ok (lane_shown first_bit second_bit case first second)
 
 -- what both replies show of the lane
 abbrev pub both_shown : StatementValue → ℕ → Bool → Bool → List Bool → Rests → LaneCase × Rest

@@ -6,6 +6,7 @@ use Rattle.vk_lines.specs.Lines.{Rest}
 use Rattle.vk_reply.specs.declared.challenge.Challenge.{Challenge}
 use Rattle.vk_reply.specs.Reading.{challenge_at}
 use Rattle.vk_verifier.specs.declared.answers.BoardVerdict.{BoardVerdict}
+use Rattle.vk_verifier.specs.declared.answers.Fault.{Fault}
 use Rattle.vk_verifier.specs.Statement.{StatementValue}
 use Rattle.vk_verifier.specs.Behind.{behind_judged}
 use Rattle.vk_verifier.specs.Verdicts.{from_start, verdict_of}
@@ -16,15 +17,18 @@ abbrev pub bits_read : Result (Challenge × Rest) ℕ → List Bool
 bits_read (Ok challenge) = challenge.0.bits
 bits_read (Err line) = []
 
--- of every statement: what is found behind a front is what judging each reply to its end comes to
-abbrev pub FindsByJudging : Type 0
-FindsByJudging = (s : StatementValue)
+-- of every statement: what is found behind a front is what judging each reply to its end in this
+-- way comes to
+abbrev pub FindsBy : (StatementValue → Rest → Rest → Rest → Result Unit Fault) → Type 0
+FindsBy judged = (s : StatementValue)
     (board first_challenge first_reply second_challenge second_reply : Rest)
     → (ahead_behind s board first_challenge first_reply second_challenge second_reply).finding
     ≡ two_result (accepted_of (bits_read (challenge_at first_challenge))
     (bits_read (challenge_at second_challenge)))
-    (behind_judged s board first_challenge first_reply)
-    (behind_judged s board second_challenge second_reply)
+    (judged s board first_challenge first_reply) (judged s board second_challenge second_reply)
+
+abbrev pub FindsByJudging : Type 0
+FindsByJudging = FindsBy behind_judged
 
 -- ---- boards
 

@@ -14,7 +14,7 @@ ghost use Rattle.vk_verifier.specs.Answers.{board_answer, front_answer, verdict_
 use crate::answers::{BoardVerdict, Fault, Part, VErr};
 use crate::halt::Halt;
 use crate::judging::judge_behind;
-use crate::named::{OneReply, begin_attempt};
+use crate::named::OneReply;
 use crate::stage::Attempt;
 use crate::statement::Statement;
 use std::alloc::Global;
@@ -171,7 +171,7 @@ pub fn verdict<S: Shelf>(
         challenge,
         reply,
     };
-    let mut attempt = begin_attempt(alloc, shelf, &names)?;
+    let mut attempt = names.begin(alloc, shelf)?;
     let judged = judge(alloc, shelf, &mut attempt);
     let verdict = verdict_in(judged)?;
     Ok(verdict)

@@ -75,8 +75,8 @@ pub fn judge_rest<S: Shelf>(
         let bit = bits[index as usize];
         judge_lane(alloc, shelf, statement, index + 1, bit, pair)?;
     }
-    read_ends(shelf, pair)?;
-    Ok(())
+    let done = read_ends(shelf, pair);
+    done
 }
 
 /// Judges all that stands behind a front of which this is the statement.

@@ -25,7 +25,7 @@ pub use laws::{
     a_verdict_accepts_what_is_accepted, verdicts_are_given_exactly_where_they_hold,
     what_is_judged_behind_a_front_is_exact,
 };
-pub use named::{OneReply, TwoReplies, begin_attempt, begin_two};
+pub use named::{OneReply, TwoReplies};
 pub use stage::{
     Attempt, Base, FileAndReply, Finding, Stage, TwoAttempts, TwoLane, TwoReaders, TwoVerdict,
 };

@@ -64,48 +64,43 @@ fn begin<S: Shelf>(alloc: Global, shelf: &mut S, name: &str, part: Part) -> Resu
     lines
 }
 
-/// Begins to read a file, a challenge and the reply to it. Errs where one is missing or longer than
-/// 2^30 bytes, and names the first that is; where the shelf fails; and for want of memory.
-pub fn begin_attempt<S: Shelf>(
-    alloc: Global,
-    shelf: &mut S,
-    names: &OneReply<'_>,
-) -> Result<Attempt, VErr>
-    ensures modelled { IfSome (S.held shelf.old)
-        (λ files. Gives unread_file (λ attempt. of_begun three_rests attempt files) result
-        (of_attempt three_rests files names.now.file.now names.now.challenge.now
-        names.now.reply.now)) }
-    ensures shelf { OnlyReads S.held S.Shelf.faults VErr.Failed result shelf.old shelf.new }
-{
-    let board = begin(alloc, shelf, names.file, Part::Board)?;
-    let challenge = begin(alloc, shelf, names.challenge, Part::Challenge)?;
-    let reply = begin(alloc, shelf, names.reply, Part::Reply)?;
-    let pair = FileAndReply { board, reply };
-    Ok(Attempt { challenge, pair })
+impl OneReply<'_> {
+    /// Begins to read the files. Errs where one is missing or longer than 2^30 bytes, and names the
+    /// first that is; where the shelf fails; and for want of memory.
+    pub fn begin<S: Shelf>(&self, alloc: Global, shelf: &mut S) -> Result<Attempt, VErr>
+        ensures modelled { IfSome (S.held shelf.old)
+            (λ files. Gives unread_file (λ attempt. of_begun three_rests attempt files) result
+            (of_attempt three_rests files self.now.file.now self.now.challenge.now
+            self.now.reply.now)) }
+        ensures shelf { OnlyReads S.held S.Shelf.faults VErr.Failed result shelf.old shelf.new }
+    {
+        let board = begin(alloc, shelf, self.file, Part::Board)?;
+        let challenge = begin(alloc, shelf, self.challenge, Part::Challenge)?;
+        let reply = begin(alloc, shelf, self.reply, Part::Reply)?;
+        let pair = FileAndReply { board, reply };
+        Ok(Attempt { challenge, pair })
+    }
 }
 
-/// Begins to read a file, a challenge and the reply to it, and another challenge and the reply to
-/// that. Errs as for one challenge.
-pub fn begin_two<S: Shelf>(
-    alloc: Global,
-    shelf: &mut S,
-    names: &TwoReplies<'_>,
-) -> Result<TwoAttempts, VErr>
-    ensures modelled { IfSome (S.held shelf.old)
-        (λ files. Gives unread_file (λ two. of_two five_rests two files) result
-        (named_rests files names.now)) }
-    ensures shelf { OnlyReads S.held S.Shelf.faults VErr.Failed result shelf.old shelf.new }
-{
-    let board = begin(alloc, shelf, names.board, Part::Board)?;
-    let first_challenge = begin(alloc, shelf, names.challenge1, Part::Challenge)?;
-    let reply = begin(alloc, shelf, names.reply1, Part::Reply)?;
-    let second_challenge = begin(alloc, shelf, names.challenge2, Part::SecondChallenge)?;
-    let second = begin(alloc, shelf, names.reply2, Part::SecondReply)?;
-    let pair = FileAndReply { board, reply };
-    let readers = TwoReaders { pair, second };
-    Ok(TwoAttempts {
-        first_challenge,
-        second_challenge,
-        readers,
-    })
+impl TwoReplies<'_> {
+    /// Begins to read the files. Errs as for one challenge.
+    pub fn begin<S: Shelf>(&self, alloc: Global, shelf: &mut S) -> Result<TwoAttempts, VErr>
+        ensures modelled { IfSome (S.held shelf.old)
+            (λ files. Gives unread_file (λ two. of_two five_rests two files) result
+            (named_rests files self.now)) }
+        ensures shelf { OnlyReads S.held S.Shelf.faults VErr.Failed result shelf.old shelf.new }
+    {
+        let board = begin(alloc, shelf, self.board, Part::Board)?;
+        let first_challenge = begin(alloc, shelf, self.challenge1, Part::Challenge)?;
+        let reply = begin(alloc, shelf, self.reply1, Part::Reply)?;
+        let second_challenge = begin(alloc, shelf, self.challenge2, Part::SecondChallenge)?;
+        let second = begin(alloc, shelf, self.reply2, Part::SecondReply)?;
+        let pair = FileAndReply { board, reply };
+        let readers = TwoReaders { pair, second };
+        Ok(TwoAttempts {
+            first_challenge,
+            second_challenge,
+            readers,
+        })
+    }
 }

@@ -15,7 +15,7 @@ ghost use Rattle.vk_verifier.specs.TwoBoards.{BoardGoesOn, HasFrontRead, IsBoard
 use crate::answers::{BoardVerdict, Fault, VErr};
 use crate::boards::{in_front, statement_of};
 use crate::halt::{Halt, known};
-use crate::named::{TwoReplies, begin_two};
+use crate::named::TwoReplies;
 use crate::stage::{Finding, TwoAttempts, TwoLane, TwoVerdict};
 use crate::two::LaneChecker;
 use std::alloc::Global;
@@ -90,7 +90,7 @@ impl TwoChecker {
             challenge2,
             reply2,
         };
-        let two = begin_two(alloc, shelf, &names)?;
+        let two = names.begin(alloc, shelf)?;
         let checker = begin_checker(alloc, shelf, two)?;
         Ok(checker)
     }

@@ -1,31 +1,18 @@
-use Rattle.std.proofs.Common.{rules, refl}
+use Rattle.std.proofs.Common.{rules}
 use Rattle.vk_lines.specs.Lines.{rest_of}
 use Rattle.vk_verifier.specs.Parts.{attempt_at}
-use Rattle.vk_verifier.specs.Two.{base_behind, second_begun, rests_of}
+use Rattle.vk_verifier.specs.Two.{base_behind, second_begun}
 use Rattle.vk_verifier.specs.declared.stage.Base.{Base}
-use Rattle.vk_verifier.specs.declared.stage.TwoReaders.{TwoReaders}
-use Rattle.vk_verifier.proofs.TwoFound.{returned, first_stop}
+use Rattle.vk_verifier.proofs.TwoFound.{first_refused}
 use Rattle.vk_verifier.proofs.two_lane.begin_lanes.Goals as goal
 
 pub returns-in_err-first_bits-clause-modelled : goal.returns-in_err-first_bits-clause-modelled
 unfolding base_behind
 returns-in_err-first_bits-clause-modelled g c =
-    let readers : TwoReaders =
-    record {
-      pair = record {
-        board = c.args.readers.now.pair.board;
-        reply = c.read_attempt.new.reply;
-      };
-      second = c.args.readers.now.second;
-    } in
-    returned {T = Base} (g.S.Shelf.held c.args.shelf.now) _ c.in_err-first_bits.field-0.0
-    (λ files base. (base, rests_of readers files)) _ (search rules)
-    (first_stop {T = Base} (g.S.Shelf.held c.args.shelf.now) (g.S.Shelf.held c.args.shelf.now)
-    c.read_attempt.result c.in_err-first_bits.field-0.0
-    (λ files. rest_of c.read_attempt.new.reply files)
+    first_refused {T = Base} (g.S.Shelf.held c.args.shelf.now) c.read_attempt.result
+    c.in_err-first_bits.field-0.0 _ (λ files. rest_of c.read_attempt.new.reply files)
     (λ files. attempt_at c.args.statement.lanes (rest_of c.args.first.now files)
     (rest_of c.args.readers.now.pair.reply files))
     (λ files. second_begun c.args.statement (rest_of c.args.readers.now.pair.board files)
     (rest_of c.args.second.now files) (rest_of c.args.readers.now.second files))
-    (λ files base. (base, rests_of readers files))
-    refl c.in_err-first_bits.ensures.found (search rules))
+    _ (search rules) c.in_err-first_bits.ensures.found (search rules)
