@@ -1,6 +1,6 @@
 -- Two replies that are accepted for different challenges give values for which the circuit holds,
 -- on a board those of the published sale; or a clash. Only such replies do.
-use Rattle.std.proofs.Common.{◌≡◌, ◌≢◌, ℕ, suc, ◌+◌, ◌-◌, ◌<◌, ◌≤◌, ◌&&◌, Bool, true, false, if◌then◌else◌, List, [], ◌∷◌, length, Option, Some, Result, Ok, Err, refl, sym, ap, subst, ◌∙◌, arith}
+use Rattle.std.proofs.Common.{◌≡◌, ◌≢◌, ℕ, suc, ◌+◌, ◌-◌, ◌<◌, ◌≤◌, ◌&&◌, Bool, true, false, if◌then◌else◌, All, List, [], ◌∷◌, length, map, Option, Some, Result, Ok, Err, refl, sym, ap, subst, ◌∙◌, arith}
 use Rattle.std.specs.Prelude.{slice_get, slice_index_or}
 use Rattle.std.proofs.lemmas.List.Elements.{All-weaker}
 use Rattle.vk_commit.specs.Commitment.{TwoOpeningsSeen}
@@ -33,10 +33,11 @@ use Rattle.vk_bids.specs.declared.extraction.Extraction.TheVariants.{Same}
 use Rattle.vk_bids.specs.Extraction.{Extraction, extraction_in, shown_on}
 use Rattle.vk_bids.specs.Extractions.{found_by, gathered_after, given_by}
 use Rattle.vk_bids.specs.Gathering.{gathered_from, lane_shown}
-use Rattle.vk_bids.specs.Headline.{AcceptedAreExtracted, AcceptedBehindOpen, AgreesAt, IsExtraction, IsFirstClashOf, IsFound, IsOf, IsOfBehind, IsOpened, OnlyAcceptedAreExtracted, OnlyAcceptedOpen, SameIsFound, TwoAccepted, TwoAcceptedBehind, differing, differing_behind, differing_in, lane_of}
+use Rattle.vk_bids.specs.Headline.{AcceptedAreExtracted, AcceptedBehindOpen, AgreesAt, IsFirstClashOf, IsFound, IsOf, IsOfBehind, OnlyAcceptedAreExtracted, OnlyAcceptedOpen, SameIsFound, TwoAccepted, TwoAcceptedBehind, differing, differing_behind, differing_in, lane_of}
 use Rattle.vk_bids.specs.LaneExtraction.{opened_of}
+use Rattle.vk_bids.specs.Opening.{LaneOpens}
 use Rattle.vk_bids.proofs.Boards.{lanes_show}
-use Rattle.vk_bids.proofs.Gathered.{AddsLanes, Agrees, AreGiven, ClashesIn, IsLane, gathered_adds}
+use Rattle.vk_bids.proofs.Gathered.{AddsBids, AddsLanes, Agrees, AreGiven, ClashesIn, IsLane, IsShown, gathered_adds, number_of}
 
 -- ---- challenges
 
@@ -186,6 +187,24 @@ clash_is s at numbers clash adds =
       openings = adds.clash.of_lane.openings;
     }
 
+-- the bids of just the lanes with these numbers, none of which has a clash
+record AreBids (s : StatementValue) (at : ℕ → TwoLane) (numbers : List ℕ)
+    (all : List LaneBids) : Type 0 where
+  numbered : map number_of all ≡ numbers
+  shown : All (IsShown at) all
+  each : All (LaneOpens s) all
+  agree : All (AgreesAt at) numbers
+
+all_bids : (s : StatementValue) (at : ℕ → TwoLane) (numbers : List ℕ) (all : List LaneBids)
+    → AddsBids s at [] numbers all → AreBids s at numbers all
+all_bids s at numbers all adds =
+    subst (AreBids s at numbers) (sym adds.are) (record {
+      numbered = adds.numbered;
+      shown = adds.shown;
+      each = adds.each;
+      agree = All-weaker (Agrees at) (AgreesAt at) (agrees at) numbers adds.agree;
+    })
+
 -- ---- behind a front
 
 module _ {s : StatementValue} {front file first_challenge first_reply second_challenge second_reply : List ℕ}
@@ -206,16 +225,14 @@ module _ {s : StatementValue} {front file first_challenge first_reply second_cha
       → AddsLanes s (lane_of two) [] (differing_behind two) all
       → IsOfBehind two (given_by (opened_of s) all)
   opened_is (Ok found) adds =
-      let P : List LaneBids → Type 0 =
-      λ found. IsOpened two (record { statement = s; lanes = found }) in
-      subst P (sym adds.are) (record {
+      let all = all_bids s (lane_of two) (differing_behind two) found adds in
+      record {
         statement = refl;
-        numbers = adds.numbered;
-        shown = adds.shown;
-        opens = adds.each;
-        agree = All-weaker (Agrees (lane_of two)) (AgreesAt (lane_of two)) (agrees (lane_of two))
-            (differing_behind two) adds.agree;
-      })
+        numbers = all.numbered;
+        shown = all.shown;
+        opens = all.each;
+        agree = all.agree;
+      }
   opened_is (Err clash) adds = clash_is s (lane_of two) (differing_behind two) clash adds
 
 pub accepted_behind_open : AcceptedBehindOpen
@@ -250,13 +267,13 @@ accepted_behind_open s is front file first_challenge first_reply second_challeng
     (gathered_after (λ (base : Base). base.statement) base ahead.lanes)) in
     subst Q (sym give.1) (subst P (sym ready) opened)
 
-ready_behind : (base : Option Base) (finding : Finding Fault)
-    (gathered : Result (List LaneBids) TwoOpeningsSeen)
-    → IsFound (found_by (λ (base : Base). opened_of base.statement) base finding gathered)
-    → finding ≡ ends.Ready
-ready_behind base (ends.Refused second fault) gathered found = absurd found
-ready_behind base ends.Same gathered found = absurd found
-ready_behind base ends.Ready gathered found = refl
+-- bids or a clash are found only of replies that are ready
+found_ready : {V B X : Type 0} (kept : B → List LaneBids → X) (base : Option B)
+    (finding : Finding V) (gathered : Result (List LaneBids) TwoOpeningsSeen)
+    → IsFound (found_by kept base finding gathered) → finding ≡ ends.Ready
+found_ready kept base (ends.Refused second refusal) gathered found = absurd found
+found_ready kept base ends.Same gathered found = absurd found
+found_ready kept base ends.Ready gathered found = refl
 
 pub only_accepted_open : OnlyAcceptedOpen
 only_accepted_open s is front file first_challenge first_reply second_challenge second_reply rest
@@ -266,7 +283,7 @@ only_accepted_open s is front file first_challenge first_reply second_challenge 
     let base = base_in (base_behind s rest (from_start first_challenge) (from_start first_reply)
     (from_start second_challenge) (from_start second_reply)) in
     let ready : ahead.finding ≡ ends.Ready =
-    ready_behind base ahead.finding
+    found_ready (λ (base : Base). opened_of base.statement) base ahead.finding
     (gathered_after (λ (base : Base). base.statement) base ahead.lanes) found in
     let A : Finding Fault → Type 0 = λ finding. BothAreAccepted finding in
     let both = only_accepted_behind s is front file first_challenge first_reply second_challenge
@@ -313,17 +330,16 @@ shown_is : {board first_challenge first_reply second_challenge second_reply : Li
     (differing_in two) all
     → IsOf two (given_by (shown_on two.first.front) all)
 shown_is two (Ok found) adds =
-    let at = two_lane_in two.first two.second in
     let front = front_in two.first in
-    let P : List LaneBids → Type 0 =
-    λ found. IsExtraction two (record { front = front; lanes = found }) in
-    subst P (sym adds.are) (record {
+    let s = statement_of front in
+    let all = all_bids s (two_lane_in two.first two.second) (differing_in two) found adds in
+    record {
       front = refl;
-      numbers = adds.numbered;
-      shown = adds.shown;
-      outcomes = lanes_show front (statement_of front) adds.more two.first.right refl adds.each;
-      agree = All-weaker (Agrees at) (AgreesAt at) (agrees at) (differing_in two) adds.agree;
-    })
+      numbers = all.numbered;
+      shown = all.shown;
+      outcomes = lanes_show front s found two.first.right refl all.each;
+      agree = all.agree;
+    }
 shown_is two (Err clash) adds =
     clash_is (statement_of two.first.front) (two_lane_in two.first two.second) (differing_in two)
     clash adds
@@ -362,14 +378,6 @@ accepted_are_extracted board first_challenge first_reply second_challenge second
 
 -- ---- only accepted replies
 
-found_ready : (base : Option BoardBase) (finding : Finding BoardVerdict)
-    (gathered : Result (List LaneBids) TwoOpeningsSeen)
-    → IsFound (found_by (λ (base : BoardBase). shown_on base.front) base finding gathered)
-    → finding ≡ ends.Ready
-found_ready base (ends.Refused second verdict) gathered found = absurd found
-found_ready base ends.Same gathered found = absurd found
-found_ready base ends.Ready gathered found = refl
-
 same_accepted : (base : Option BoardBase) (finding : Finding BoardVerdict)
     (gathered : Result (List LaneBids) TwoOpeningsSeen)
     → found_by (λ (base : BoardBase). shown_on base.front) base finding gathered ≡ Same
@@ -383,7 +391,7 @@ only_accepted_are_extracted board first_challenge first_reply second_challenge s
     let ahead = ahead_in board first_challenge first_reply second_challenge second_reply in
     let base = begun_in board first_challenge first_reply second_challenge second_reply in
     let ready : ahead.finding ≡ ends.Ready =
-    found_ready base ahead.finding
+    found_ready (λ (base : BoardBase). shown_on base.front) base ahead.finding
     (gathered_after (λ (base : BoardBase). statement_of base.front) base ahead.lanes) found in
     let A : Finding BoardVerdict → Type 0 = λ finding. BothAreAccepted finding in
     let both = only_accepted_give board first_challenge first_reply second_challenge second_reply

@@ -16,12 +16,16 @@ use Rattle.vk_bids.specs.declared.extraction.Extracted.{Extracted}
 unfoldable pub opening_text : Opening → List ℕ
 opening_text opening = spaced (hex_text opening.key ∷ decimal opening.value ∷ [])
 
+-- a value of the lane of that number, behind this word
+abbrev pub opened_line : List ℕ → ℕ → OpenedBid → List ℕ
+opened_line word number opened =
+    line (spaced (codes "lane" ∷ decimal number ∷ codes "seat" ∷ decimal opened.seat ∷ word
+    ∷ decimal opened.bid
+    ∷ codes "u" ∷ opening_text opened.first ∷ codes "v" ∷ opening_text opened.second ∷ []))
+
 -- a bid of the lane of that number
 abbrev pub bid_line : ℕ → OpenedBid → List ℕ
-bid_line number bid =
-    line (spaced (codes "lane" ∷ decimal number ∷ codes "seat" ∷ decimal bid.seat ∷ codes "bid"
-    ∷ decimal bid.bid
-    ∷ codes "u" ∷ opening_text bid.first ∷ codes "v" ∷ opening_text bid.second ∷ []))
+bid_line = opened_line (codes "bid")
 
 -- the bids of a lane, one line for each seal in order
 abbrev pub lane_bids_text : LaneBids → List ℕ

@@ -3,9 +3,5 @@ use Rattle.vk_bids.proofs.Named.{files_are_extracted}
 use Rattle.vk_bids.proofs.laws.accepted_replies_give_bids_or_a_clash.Goals as goal
 
 pub returns : goal.returns
-returns c = record {
-  given = accepted_are_extracted;
-  only = only_accepted_are_extracted;
-  same = same_is_found;
-  files = files_are_extracted;
-}
+returns c =
+    assumption (accepted_are_extracted, only_accepted_are_extracted, same_is_found, files_are_extracted)
