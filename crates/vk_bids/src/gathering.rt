@@ -120,6 +120,7 @@ fn push_found(bids: &mut Seq<LaneBids>, found: Option<LaneBids>) -> Result<(), N
 }
 
 /// The bids of the lane, where its two bits differ.
+#[tactic(auto, using(crate::proofs::Gathered::accepted_for))]
 fn bids_in(
     alloc: Global,
     statement: &Statement,
