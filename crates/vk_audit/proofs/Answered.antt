@@ -15,11 +15,12 @@ use Rattle.vk_verifier.specs.Verdicts.{begun_file, from_start, of_attempt}
 use Rattle.vk_bids.specs.Headline.{HeldAttempt, IsHeldFile}
 use Rattle.vk_bids.proofs.Begun.{attempt_found, begun_found}
 use Rattle.vk_words.specs.Names.{ExtractWords, VerifyWords}
-use Rattle.vk_effect.specs.Effects.{SaidValue}
+use Rattle.vk_effect.specs.Effects.{SaidValue, puts}
 use Rattle.vk_effect.specs.NamedFiles.{missing_said, too_long_said}
-use Rattle.vk_audit.specs.Answers.{AnswerHolds}
+use Rattle.vk_audit.specs.Answers.{AnswerHolds, TellsAnswer}
 use Rattle.vk_audit.specs.Inputs.{CanBeRead, HoldsFiles, extract_inputs, verify_inputs}
 use Rattle.vk_audit.specs.Verdicts.{answer_said, name_of, unread_said, verified_words}
+use Rattle.vk_audit.proofs.Telling.{tells}
 use Rattle.vk_audit.proofs.Inputs.{all_read, begun_unread, fault_of, first_unread, never_none, unread_found, unread_shown}
 
 -- ---- three files
@@ -130,6 +131,12 @@ files_held read = record {
 
 -- ---- the answer
 
+-- what settles what is said, where it holds, is the answer
+abbrev pub IsAlone : {X : Type 0} → (Result X VErr → Type 0) → (X → Type 0) → Result X VErr
+    → Type 0
+IsAlone {X} Settles Holds answer =
+    (value : X) → Settles (Ok value) → Holds value → answer ≡ Ok value
+
 -- an answer that names the first of these parts whose file can't be read, and holds where all can
 -- be
 module _ {X : Type 0} (files : Files) (names : ExtractWords) (parts : List Part) (Holds : X → Type 0) (answer : Result X VErr)
@@ -157,8 +164,7 @@ module _ {X : Type 0} (files : Files) (names : ExtractWords) (parts : List Part)
     abbrev said_of : Result X VErr → SaidValue
     said_of answered = answer_said said (unread_said names) answered
 
-    pub answered_settled : (Settles : Result X VErr → Type 0)
-        → ((value : X) → Settles (Ok value) → Holds value → answer ≡ Ok value)
+    pub answered_settled : (Settles : Result X VErr → Type 0) → IsAlone Settles Holds answer
         → (other : Result X VErr) → Settles other → Answers other → said_of answer ≡ said_of other
     answered_settled Settles alone (Ok value) settles holds = ap said_of (alone value settles holds)
     answered_settled Settles alone (Err (Missing part)) settles holds =
@@ -169,3 +175,44 @@ module _ {X : Type 0} (files : Files) (names : ExtractWords) (parts : List Part)
         ap said_of (unread (found.0, true) found.1) ∙ ap too_long_said found.2
     answered_settled Settles alone (Err Failed) settles holds = absurd holds
     answered_settled Settles alone (Err NoMemory) settles holds = absurd holds
+
+    -- so it is told
+    pub answered_tells : (Settles : Result X VErr → Type 0) → IsAlone Settles Holds answer
+        → Answers answer → (taken : Option (List ℕ))
+        → TellsAnswer Answers Settles said_of (said_of answer).status taken
+        (puts (said_of answer).text taken)
+    answered_tells Settles alone holds taken =
+        tells Answers Settles said_of answer taken holds (answered_settled Settles alone)
+
+-- of three files that can all be read, and of five, that value is the answer
+pub verify_holds : {X : Type 0} (files : Files) (names : VerifyWords) (Holds : X → Type 0)
+    (answer : Result X VErr)
+    → ((unread : Part × Bool)
+    → first_unread files (name_of (verified_words names)) verify_parts ≡ Some unread
+    → answer ≡ Err (fault_of unread))
+    → (value : (board challenge reply : List ℕ) → X)
+    → ((board : List ℕ) → IsHeldFile files names.board board
+    → (attempt : HeldAttempt files names.attempt.challenge names.attempt.reply)
+    → answer ≡ Ok (value board attempt.challenge_bytes attempt.reply_bytes))
+    → ((board : List ℕ) → IsHeldFile files names.board board
+    → (attempt : HeldAttempt files names.attempt.challenge names.attempt.reply)
+    → Holds (value board attempt.challenge_bytes attempt.reply_bytes))
+    → AnswerHolds files (verified_words names) (verify_inputs names) Holds answer
+verify_holds files names Holds answer unread value read holds =
+    answered_holds files (verified_words names) verify_parts Holds answer unread (λ all.
+    subst (AnswerHolds files (verified_words names) (verify_inputs names) Holds)
+    (sym (read all.0.0 all.0.1 (attempt_held all)))
+    (holds all.0.0 all.0.1 (attempt_held all)))
+
+pub extract_holds : {X : Type 0} (files : Files) (names : ExtractWords) (Holds : X → Type 0)
+    (answer : Result X VErr)
+    → ((unread : Part × Bool) → first_unread files (name_of names) extract_parts ≡ Some unread
+    → answer ≡ Err (fault_of unread))
+    → (value : HoldsFiles files names → X)
+    → ((held : HoldsFiles files names) → answer ≡ Ok (value held))
+    → ((held : HoldsFiles files names) → Holds (value held))
+    → AnswerHolds files names (extract_inputs names) Holds answer
+extract_holds files names Holds answer unread value read holds =
+    answered_holds files names extract_parts Holds answer unread (λ all.
+    subst (AnswerHolds files names (extract_inputs names) Holds) (sym (read (files_held all)))
+    (holds (files_held all)))

@@ -20,8 +20,8 @@ use Rattle.vk_bids.specs.declared.confrontation.ConfrontErr.{ConfrontErr}
 use Rattle.vk_bids.specs.declared.confrontation.ConfrontErr.TheVariants.{Unread, MissingSecret, TooLongSecret}
 use Rattle.vk_bids.specs.Texts.{clash_text}
 use Rattle.vk_bids.specs.Confrontation.{confrontation_of, confrontation_on, of_extraction, secret_begun, secret_in}
-use Rattle.vk_bids.specs.Headline.{IsHeldFile, IsOf, LaneAgrees, TwoAccepted, differing_in, extraction_of_held}
-use Rattle.vk_bids.specs.Binding.{ClashOr, HeldOrClash, IsSealOf, confrontation_of_held}
+use Rattle.vk_bids.specs.Headline.{IsExtractionClash, IsHeldFile, IsOf, LaneAgrees, TwoAccepted, differing_in, extraction_of_held}
+use Rattle.vk_bids.specs.Binding.{ClashOr, HeldOrClash, IsClashWith, IsSealOf, confrontation_of_held}
 use Rattle.vk_bids.proofs.Agreeing.{no_clash}
 use Rattle.vk_bids.proofs.Binding.{sealed_are_held_or_clash}
 use Rattle.vk_bids.proofs.ConfrontNamed.{files_are_confronted}
@@ -217,8 +217,7 @@ module _ (files : Files) (names : ConfrontWords) where
     by_extraction extraction.Same is = absurd is
     by_extraction (extraction.Clash clash) is = (
       refl,
-      put_told (PutsClash two) _ (λ before. record { clash = clash; is = is; put = refl })
-          taken,
+      put_told (IsExtractionClash two) clash_text clash is taken,
     )
     by_extraction (extraction.Bids found) is = absurd (clashes is.agree)
 
@@ -268,8 +267,7 @@ said_bound {names} confronts index taken confrontation
         ap (λ c. (confrontation_said names c).status) clashes,
         subst (λ c. Modelled (PutsSecretClash confronts.secret found) taken
             (puts (confrontation_said names c).text taken)) (sym clashes)
-            (put_told (PutsSecretClash confronts.secret found) (clash_text clash)
-            (λ before. record { clash = clash; is = is; put = refl }) taken),
+            (put_told (IsClashWith confronts.secret found) clash_text clash is taken),
       );
     }
 

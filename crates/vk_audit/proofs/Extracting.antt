@@ -1,6 +1,6 @@
 -- What `extract` says holds of the files: of two replies that are accepted for different
 -- challenges, bids or a clash, and of no others.
-use Rattle.std.proofs.Common.{◌≡◌, ◌≢◌, ℕ, ◌<◌, Bool, true, false, List, ◌++◌, Option, Some, None, Result, Ok, Err, refl, sym, ap, subst, ◌∙◌, arith, inl, inr}
+use Rattle.std.proofs.Common.{◌≡◌, ◌≢◌, ℕ, ◌<◌, Bool, true, false, List, Option, Some, None, Result, Ok, Err, refl, sym, ap, subst, ◌∙◌, arith, inl, inr}
 use Rattle.std.specs.Prelude.{◌⊎◌}
 use Rattle.vk_residue.specs.Steps.{◌>>=◌}
 use Rattle.vk_io.specs.Files.{Files, Modelled}
@@ -9,10 +9,13 @@ use Rattle.vk_verifier.specs.declared.answers.BoardVerdict.{BoardVerdict}
 use Rattle.vk_verifier.specs.declared.answers.BoardVerdict.TheVariants as verdict
 use Rattle.vk_verifier.specs.declared.answers.VErr.{VErr}
 use Rattle.vk_verifier.specs.TwoBoards.{ahead_at, base_on, two_on}
+use Rattle.vk_bids.specs.declared.extraction.Extraction.{Extraction as ExtractionOf}
 use Rattle.vk_bids.specs.declared.extraction.Extraction.TheVariants.{Refused, Same, Clash, Bids}
 use Rattle.vk_bids.specs.Extraction.{Extraction, extraction_of, extraction_on}
 use Rattle.vk_bids.specs.Texts.{clash_text, extraction_text}
-use Rattle.vk_bids.specs.Headline.{TwoAccepted, IsOf, extraction_of_held}
+use Rattle.vk_bids.specs.Headline.{IsExtraction, IsExtractionClash, extraction_of_held}
+use Rattle.vk_bids.specs.Extractions.{IsClashOr}
+use Rattle.vk_commit.specs.Commitment.{TwoOpeningsSeen}
 use Rattle.vk_bids.proofs.Headlines.{accepted_are_extracted}
 use Rattle.vk_bids.proofs.Named.{files_are_extracted}
 use Rattle.vk_words.specs.Names.{ExtractWords}
@@ -21,12 +24,12 @@ use Rattle.vk_audit.specs.Answers.{ExtractHolds, SettlesExtract, TellsExtraction
 use Rattle.vk_audit.specs.Extractions.{extraction_said, extract_said}
 use Rattle.vk_audit.specs.Findings.{ExtractionHolds}
 use Rattle.vk_audit.specs.Inputs.{HoldsFiles, extract_inputs}
-use Rattle.vk_audit.specs.Statuses.{AcceptsTwoFiles, AcceptsSameFiles, ExtractsExactly, HasExtraction, IsExtracted, PutsExtraction, PutsClash, TellsSameExactly}
+use Rattle.vk_audit.specs.Statuses.{AcceptsTwoFiles, AcceptsSameFiles, ExtractsExactly, HasExtraction, IsExtracted, PutsFound, PutsText, TellsSameExactly}
 use Rattle.vk_audit.specs.Verdicts.{answer_said, name_of, unread_said}
 use Rattle.vk_audit.proofs.Findings.{extraction_holds, second_accepted, unfound_found}
-use Rattle.vk_audit.proofs.Answered.{answered_holds, answered_settled, extract_parts, files_held, files_unread}
+use Rattle.vk_audit.proofs.Answered.{IsAlone, answered_tells, extract_holds, extract_parts, files_unread}
 use Rattle.vk_audit.proofs.Inputs.{fault_of, first_unread}
-use Rattle.vk_audit.proofs.Telling.{only_found, only_same, second_refused, tells}
+use Rattle.vk_audit.proofs.Telling.{only_found, only_same, second_refused}
 use Rattle.vk_audit.proofs.Verifying.{status_accepted, status_within}
 
 -- ---- the answer
@@ -60,61 +63,51 @@ module _ (files : Files) (names : ExtractWords) where
       (record { held = held; is = refl })
 
   answer_holds : ExtractHolds files names answer
-  answer_holds =
-      answered_holds files names extract_parts (HasExtraction files names) answer answer_unread
-      (λ read.
-      let held : HoldsFiles files names = files_held read in
-      subst (ExtractHolds files names) (sym (answer_read held)) (record {
+  answer_holds = extract_holds files names (HasExtraction files names) answer answer_unread
+      extraction_of_held answer_read (λ held. record {
         held = held;
         holds = extraction_holds held.board_bytes held.first.challenge_bytes held.first.reply_bytes
             held.second.challenge_bytes held.second.reply_bytes;
-      }))
+      })
 
-  abbrev said_of : Result Extraction VErr → SaidValue
-  said_of answered = answer_said (extraction_said names) (unread_said names) answered
-
-  answer_settled : (other : Result Extraction VErr) → SettlesExtract other
-      → ExtractHolds files names other → said_of answer ≡ said_of other
-  answer_settled =
-      answered_settled files names extract_parts (HasExtraction files names) answer answer_unread
-      (extraction_said names) SettlesExtract (λ extraction settles has.
+  answer_alone : IsAlone SettlesExtract (HasExtraction files names) answer
+  answer_alone extraction settles has =
       let held = has.held in
       answer_read held ∙ ap (λ e. Ok e)
       (unfound_found held.board_bytes held.first.challenge_bytes held.first.reply_bytes
-      held.second.challenge_bytes held.second.reply_bytes extraction settles has.holds))
+      held.second.challenge_bytes held.second.reply_bytes extraction settles has.holds)
+
+abbrev said_of : ExtractWords → Result Extraction VErr → SaidValue
+said_of names = answer_said (extraction_said names) (unread_said names)
 
 pub tells_extractions : TellsExtractions
-tells_extractions files names taken =
-    tells (ExtractHolds files names) SettlesExtract (said_of files names) (answer files names) taken
-    (answer_holds files names) (answer_settled files names)
+tells_extractions files names =
+    answered_tells files names extract_parts (HasExtraction files names) (answer files names)
+    (answer_unread files names) (extraction_said names) SettlesExtract (answer_alone files names)
+    (answer_holds files names)
 
 -- ---- the status and the text
 
-pub put_told : (Puts : List ℕ → List ℕ → Type 0) (text : List ℕ)
-    → ((before : List ℕ) → Puts before (before ++ text)) → (taken : Option (List ℕ))
-    → Modelled Puts taken (puts text taken)
-put_told Puts text is None = refl
-put_told Puts text is (Some before) = is before
+pub put_told : {X : Type 0} (IsSuch : X → Type 0) (text : X → List ℕ) (found : X) → IsSuch found
+    → (taken : Option (List ℕ)) → Modelled (PutsText IsSuch text) taken (puts (text found) taken)
+put_told IsSuch text found is None = refl
+put_told IsSuch text found is (Some before) = record { found = found; is = is; put = refl }
 
--- what is said of an extraction that is bids of the replies, or a clash of them
-module _ {board first_challenge first_reply second_challenge second_reply : List ℕ} (two : TwoAccepted board first_challenge first_reply second_challenge second_reply) (names : ExtractWords) (taken : Option (List ℕ)) where
-  said_extracted : (extraction : Extraction) → IsOf two extraction
-      → let said = extraction_said names extraction in
-      IsExtracted two said.status taken (puts said.text taken)
-  said_extracted (Refused second refused) is = absurd is
-  said_extracted Same is = absurd is
-  said_extracted (Clash clash) is =
-      inr (
-        refl,
-        put_told (PutsClash two) (clash_text clash)
-            (λ before. record { clash = clash; is = is; put = refl }) taken,
-      )
-  said_extracted (Bids found) is =
-      inl (
-        refl,
-        put_told (PutsExtraction two) (extraction_text found)
-            (λ before. record { found = found; is = is; put = refl }) taken,
-      )
+-- what is said of an extraction that is such a thing, or such a clash
+module _ {V X : Type 0} (IsClash : TwoOpeningsSeen → Type 0) (IsSuch : X → Type 0) (text : X → List ℕ) (said : ExtractionOf V X → SaidValue)
+    (clash_is : (clash : TwoOpeningsSeen) → said (Clash clash) ≡ record { status = 3; text = clash_text clash }) (found_is : (found : X) → said (Bids found) ≡ record { status = 0; text = text found }) (taken : Option (List ℕ)) where
+  abbrev PutsIt : SaidValue → Type 0
+  PutsIt told = PutsFound (PutsText IsSuch text) (PutsText IsClash clash_text) told.status taken
+      (puts told.text taken)
+
+  pub found_said : (extraction : ExtractionOf V X) → IsClashOr IsClash IsSuch extraction
+      → PutsIt (said extraction)
+  found_said (Refused second refused) is = absurd is
+  found_said Same is = absurd is
+  found_said (Clash clash) is = subst PutsIt (sym (clash_is clash))
+      (inr (refl, put_told IsClash clash_text clash is taken))
+  found_said (Bids found) is = subst PutsIt (sym (found_is found))
+      (inl (refl, put_told IsSuch text found is taken))
 
 said_of_accepted : (files : Files) (names : ExtractWords) (taken : Option (List ℕ))
     (accepted : AcceptsTwoFiles files names)
@@ -122,11 +115,12 @@ said_of_accepted : (files : Files) (names : ExtractWords) (taken : Option (List 
     IsExtracted accepted.two said.status taken (puts said.text taken)
 said_of_accepted files names taken accepted =
     let held = accepted.held in
-    let P : Result Extraction VErr → Type 0 = λ answer. let said = said_of files names answer in
+    let P : Result Extraction VErr → Type 0 = λ answer. let said = said_of names answer in
     IsExtracted accepted.two said.status taken
     (puts said.text taken) in
     subst P (sym (answer_read files names held))
-    (said_extracted accepted.two names taken (extraction_of_held held)
+    (found_said (IsExtractionClash accepted.two) (IsExtraction accepted.two) extraction_text
+    (extraction_said names) (λ clash. refl) (λ found. refl) taken (extraction_of_held held)
     (accepted_are_extracted held.board_bytes held.first.challenge_bytes held.first.reply_bytes
     held.second.challenge_bytes held.second.reply_bytes accepted.two))
 
@@ -144,7 +138,7 @@ refused_never true refused board first_challenge first_reply second_challenge se
 
 only_said : (files : Files) (names : ExtractWords) (answered : Result Extraction VErr)
     → ExtractHolds files names answered
-    → (said_of files names answered).status ≢ 1 → (said_of files names answered).status < 4
+    → (said_of names answered).status ≢ 1 → (said_of names answered).status < 4
     → AcceptsTwoFiles files names
 only_said files names =
     only_found files names (extract_inputs names) (HasExtraction files names)
@@ -175,7 +169,7 @@ extracts_exactly files names taken = (
 
 same_shown : (files : Files) (names : ExtractWords) (answered : Result Extraction VErr)
     → ExtractHolds files names answered
-    → (said_of files names answered).status ≡ 7 → AcceptsSameFiles files names
+    → (said_of names answered).status ≡ 7 → AcceptsSameFiles files names
 same_shown files names =
     only_same files names (extract_inputs names) (HasExtraction files names) (extraction_said names)
     refl (λ _. refl) (λ _. refl) (status_within names)
@@ -183,6 +177,6 @@ same_shown files names =
 pub tells_same_exactly : TellsSameExactly
 tells_same_exactly files names = record {
   only = λ seven. same_shown files names (answer files names) (answer_holds files names) seven;
-  always = λ same _ _. ap (λ (said : SaidValue). said.status)
-      (answer_settled files names (Ok Same) (λ found. found) same);
+  always = λ same _ _. ap (λ answered. (said_of names answered).status)
+      (answer_alone files names Same (λ found. found) same);
 }

@@ -150,6 +150,17 @@ module _ (board first_challenge first_reply second_challenge second_reply : List
   two_accepted found = only_accepted_are_extracted board first_challenge first_reply
       second_challenge second_reply found
 
+  found_of : (extraction : Extraction) → IsFound extraction → extraction ≡ answered
+      → (both : TwoAccepted board first_challenge first_reply second_challenge second_reply)
+      × IsOf both extraction
+  found_of extraction found is =
+      let both = two_accepted (subst IsFound is found) in (
+        both,
+        subst (IsOf both) (sym is)
+            (accepted_are_extracted board first_challenge first_reply second_challenge second_reply
+            both),
+      )
+
   by_value : (extraction : Extraction) → extraction ≡ answered → Holds extraction
   by_value (Refused second refused) is =
       let base = begun_in board first_challenge first_reply second_challenge second_reply in
@@ -161,20 +172,8 @@ module _ (board first_challenge first_reply second_challenge second_reply : List
       (found_in board first_challenge first_reply second_challenge second_reply) ∙ finding)
   by_value Same is = (same_is_found board first_challenge first_reply second_challenge
       second_reply).0 (sym is)
-  by_value (Clash clash) is =
-      let both = two_accepted (subst IsFound is tt) in (
-        both,
-        subst (IsOf both) (sym is)
-            (accepted_are_extracted board first_challenge first_reply second_challenge second_reply
-            both),
-      )
-  by_value (Bids found) is =
-      let both = two_accepted (subst IsFound is tt) in (
-        both,
-        subst (IsOf both) (sym is)
-            (accepted_are_extracted board first_challenge first_reply second_challenge second_reply
-            both),
-      )
+  by_value (Clash clash) is = found_of (Clash clash) tt is
+  by_value (Bids found) is = found_of (Bids found) tt is
 
   -- the extraction holds of the bytes
   pub extraction_holds : Holds answered

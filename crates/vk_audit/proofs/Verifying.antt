@@ -1,5 +1,5 @@
 -- What `verify` says holds of the files, and status 0 comes exactly where the reply is accepted.
-use Rattle.std.proofs.Common.{◌≡◌, ◌≢◌, ℕ, ◌<◌, ◌≤◌, Bool, false, List, Some, Result, Ok, Err, refl, sym, ap, subst, ◌∙◌, arith}
+use Rattle.std.proofs.Common.{◌≡◌, ◌≢◌, ℕ, ◌<◌, ◌≤◌, Bool, false, List, Some, Result, Ok, Err, refl, ap, subst, ◌∙◌, arith}
 use Rattle.vk_io.specs.Files.{Files}
 use Rattle.vk_lines.specs.Lines.{Rest}
 use Rattle.vk_verifier.specs.declared.answers.Part.{Part}
@@ -15,9 +15,9 @@ use Rattle.vk_audit.specs.Answers.{TellsVerdicts, VerifyHolds}
 use Rattle.vk_audit.specs.Inputs.{verify_inputs}
 use Rattle.vk_audit.specs.Statuses.{AcceptsFiles, HasVerdict, VerifiesExactly}
 use Rattle.vk_audit.specs.Verdicts.{answer_said, judged_said, name_of, unread_said, verified_words}
-use Rattle.vk_audit.proofs.Answered.{answered_holds, answered_settled, attempt_held, attempt_read, attempt_unread, verify_parts}
+use Rattle.vk_audit.proofs.Answered.{IsAlone, answered_tells, attempt_read, attempt_unread, verify_holds, verify_parts}
 use Rattle.vk_audit.proofs.Inputs.{fault_of, first_unread}
-use Rattle.vk_audit.proofs.Telling.{only_value, tells}
+use Rattle.vk_audit.proofs.Telling.{only_value}
 
 -- ---- verdicts
 
@@ -65,43 +65,35 @@ module _ (files : Files) (names : VerifyWords) where
   answer_read board is attempt = attempt_read judging files names board is attempt
 
   answer_holds : VerifyHolds files names answer
-  answer_holds =
-      answered_holds files (verified_words names) verify_parts (HasVerdict files names) answer
-      answer_unread (λ read.
-      let attempt : HeldAttempt files names.attempt.challenge names.attempt.reply =
-      attempt_held read in
-      subst (VerifyHolds files names) (sym (answer_read read.0.0 read.0.1 attempt))
-      (record {
-        board = read.0.0;
-        board_is = read.0.1;
+  answer_holds = verify_holds files names (HasVerdict files names) answer answer_unread
+      verdict_of answer_read (λ board is attempt. record {
+        board = board;
+        board_is = is;
         attempt = attempt;
-        holds = verdict_holds read.0.0 attempt.challenge_bytes attempt.reply_bytes;
-      }))
+        holds = verdict_holds board attempt.challenge_bytes attempt.reply_bytes;
+      })
 
-  abbrev said_of : Result BoardVerdict VErr → SaidValue
-  said_of answered = answer_said (judged_said (verified_words names) false)
-      (unread_said (verified_words names)) answered
-
-  answer_settled : (other : Result BoardVerdict VErr) → VerifyHolds files names other
-      → said_of answer ≡ said_of other
-  answer_settled other holds =
-      answered_settled files (verified_words names) verify_parts (HasVerdict files names) answer
-      answer_unread (judged_said (verified_words names) false)
-      (λ _. Unit {0}) (λ answered _ has.
+  answer_alone : IsAlone (λ _. Unit {0}) (HasVerdict files names) answer
+  answer_alone verdict settles has =
       answer_read has.board has.board_is has.attempt
-      ∙ ap (λ v. Ok v) ((verdicts_exact answered has.board has.attempt.challenge_bytes
-      has.attempt.reply_bytes).1 has.holds)) other tt holds
+      ∙ ap (λ v. Ok v) ((verdicts_exact verdict has.board has.attempt.challenge_bytes
+      has.attempt.reply_bytes).1 has.holds)
+
+abbrev said_of : VerifyWords → Result BoardVerdict VErr → SaidValue
+said_of names = answer_said (judged_said (verified_words names) false)
+    (unread_said (verified_words names))
 
 pub tells_verdicts : TellsVerdicts
-tells_verdicts files names taken =
-    tells (VerifyHolds files names) (λ _. Unit {0}) (said_of files names) (answer files names) taken
-    (answer_holds files names) (λ other settles holds. answer_settled files names other holds)
+tells_verdicts files names =
+    answered_tells files (verified_words names) verify_parts (HasVerdict files names)
+    (answer files names) (answer_unread files names) (judged_said (verified_words names) false)
+    (λ _. Unit {0}) (answer_alone files names) (answer_holds files names)
 
 -- ---- status 0
 
 only_accepted : (files : Files) (names : VerifyWords) (answered : Result BoardVerdict VErr)
     → VerifyHolds files names answered
-    → (said_of files names answered).status ≡ 0 → AcceptsFiles files names
+    → (said_of names answered).status ≡ 0 → AcceptsFiles files names
 only_accepted files names =
     only_value files (verified_words names) (verify_inputs names) (HasVerdict files names)
     (judged_said (verified_words names) false) (AcceptsFiles files names)
@@ -113,6 +105,6 @@ pub verifies_exactly : VerifiesExactly
 verifies_exactly files names = record {
   only = λ zero_is. only_accepted files names (answer files names) (answer_holds files names)
       zero_is;
-  always = λ accepts _ _. ap (λ (said : SaidValue). said.status)
-      (answer_settled files names (Ok verdict.Accepted) accepts);
+  always = λ accepts _ _. ap (λ answered. (said_of names answered).status)
+      (answer_alone files names verdict.Accepted tt accepts);
 }

@@ -16,13 +16,13 @@ use Rattle.vk_report.specs.declared.report.Report.{Report}
 use Rattle.vk_report.specs.declared.report.ReportErr.{ReportErr}
 use Rattle.vk_report.specs.Meaning.{IsReportOn, IsUnreported}
 use Rattle.vk_words.specs.Names.{ConfrontWords, ExtractWords, VerifyWords}
-use Rattle.vk_effect.specs.Effects.{SaidValue, IsSaid, puts}
+use Rattle.vk_effect.specs.Effects.{SaidValue, IsSaid}
 use Rattle.vk_audit.specs.Confrontations.{confrontation_said, confront_said, confront_unread_said}
 use Rattle.vk_audit.specs.Extractions.{extraction_said, extract_said}
 use Rattle.vk_audit.specs.Findings.{ConfrontationHolds}
 use Rattle.vk_audit.specs.Inputs.{CanBeRead, HoldsFiles, IsMissing, IsTooLong, confront_inputs, extract_inputs, verify_inputs}
 use Rattle.vk_audit.specs.Reports.{report_said, reported_said, unreported_said}
-use Rattle.vk_audit.specs.Statuses.{HasExtraction, HasVerdict, PutsClash}
+use Rattle.vk_audit.specs.Statuses.{HasExtraction, HasVerdict, HoldsOfSaid, PutsClash}
 use Rattle.vk_audit.specs.Verdicts.{answer_said, judged_said, name_of, unread_said, verified_words, verify_said}
 
 -- an answer that holds is said; and where one holds that settles what is said, it is that one
@@ -135,21 +135,13 @@ TellsReport files board status old new =
 -- ---- the laws
 
 abbrev pub TellsVerdicts : Type 0
-TellsVerdicts = (files : Files) (names : VerifyWords) (taken : Option (List ℕ))
-    → let said = verify_said files names in
-    TellsVerdict files names said.status taken (puts said.text taken)
+TellsVerdicts = HoldsOfSaid verify_said TellsVerdict
 
 abbrev pub TellsExtractions : Type 0
-TellsExtractions = (files : Files) (names : ExtractWords) (taken : Option (List ℕ))
-    → let said = extract_said files names in
-    TellsExtraction files names said.status taken (puts said.text taken)
+TellsExtractions = HoldsOfSaid extract_said TellsExtraction
 
 abbrev pub TellsConfrontations : Type 0
-TellsConfrontations = (files : Files) (names : ConfrontWords) (taken : Option (List ℕ))
-    → let said = confront_said files names in
-    TellsConfrontation files names said.status taken (puts said.text taken)
+TellsConfrontations = HoldsOfSaid confront_said TellsConfrontation
 
 abbrev pub TellsReports : Type 0
-TellsReports = (files : Files) (board : List ℕ) (taken : Option (List ℕ))
-    → let said = report_said files board in
-    TellsReport files board said.status taken (puts said.text taken)
+TellsReports = HoldsOfSaid report_said TellsReport

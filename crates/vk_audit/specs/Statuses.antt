@@ -2,7 +2,6 @@
 -- files alone.
 use Rattle.std.specs.Prelude.{◌≡◌, ◌≢◌, ◌⊎◌, ℕ, All, List, ◌++◌, Option}
 use Rattle.vk_io.specs.Files.{Files, Modelled}
-use Rattle.vk_commit.specs.Commitment.{TwoOpeningsSeen}
 use Rattle.vk_seal.specs.declared.secret.Secret.{Secret}
 use Rattle.vk_seal.specs.Texts.{secret_text}
 use Rattle.vk_seal.specs.Values.{IsSecret}
@@ -20,7 +19,7 @@ use Rattle.vk_report.specs.declared.report.Report.{Report}
 use Rattle.vk_report.specs.Meaning.{IsReportOn}
 use Rattle.vk_report.specs.Reports.{report_text}
 use Rattle.vk_words.specs.Names.{VerifyWords, ExtractWords, ConfrontWords}
-use Rattle.vk_effect.specs.Effects.{puts}
+use Rattle.vk_effect.specs.Effects.{SaidValue, puts}
 use Rattle.vk_audit.specs.Confrontations.{confront_said}
 use Rattle.vk_audit.specs.Extractions.{extract_said}
 use Rattle.vk_audit.specs.Findings.{ExtractionHolds}
@@ -72,28 +71,37 @@ AcceptsSameFiles files names = HasExtraction files names Same
 abbrev pub IsSame : Files → ExtractWords → ℕ → Type 0
 IsSame files names status = ComesExactly 7 (AcceptsSameFiles files names) status
 
--- what is put is the text of bids that both replies open, in all the lanes whose bits differ
-pub record PutsExtraction {board first_challenge first_reply second_challenge second_reply : List ℕ}
-    (two : TwoAccepted board first_challenge first_reply second_challenge second_reply)
+-- what is put is the text of such a thing
+pub record PutsText {X : Type 0} (IsSuch : X → Type 0) (text : X → List ℕ)
     (old new : List ℕ) : Type 0 where
-  pub found : Extracted
-  pub is : IsExtraction two found
-  pub put : new ≡ old ++ extraction_text found
+  pub found : X
+  pub is : IsSuch found
+  pub put : new ≡ old ++ text found
+
+-- the status is 0, and what is found is put; or it is 3, and a clash is
+abbrev pub PutsFound : (PutsIt PutsClash : List ℕ → List ℕ → Type 0) → ℕ → Option (List ℕ)
+    → Option (List ℕ) → Type 0
+PutsFound PutsIt PutsClash status old new =
+    ((status ≡ 0) × Modelled PutsIt old new) ⊎ ((status ≡ 3) × Modelled PutsClash old new)
+
+-- what is put is the text of bids that both replies open, in all the lanes whose bits differ
+abbrev pub PutsExtraction : {board first_challenge first_reply second_challenge
+    second_reply : List ℕ}
+    → TwoAccepted board first_challenge first_reply second_challenge second_reply → List ℕ
+    → List ℕ → Type 0
+PutsExtraction two = PutsText (IsExtraction two) extraction_text
 
 -- what is put is the line of two openings of one commitment
-pub record PutsClash {board first_challenge first_reply second_challenge second_reply : List ℕ}
-    (two : TwoAccepted board first_challenge first_reply second_challenge second_reply)
-    (old new : List ℕ) : Type 0 where
-  pub clash : TwoOpeningsSeen
-  pub is : IsExtractionClash two clash
-  pub put : new ≡ old ++ clash_text clash
+abbrev pub PutsClash : {board first_challenge first_reply second_challenge second_reply : List ℕ}
+    → TwoAccepted board first_challenge first_reply second_challenge second_reply → List ℕ
+    → List ℕ → Type 0
+PutsClash two = PutsText (IsExtractionClash two) clash_text
 
 -- the status is 0, and the bids are put; or it is 3, and two openings are
 abbrev pub IsExtracted : {board first_challenge first_reply second_challenge second_reply : List ℕ}
     → TwoAccepted board first_challenge first_reply second_challenge second_reply → ℕ
     → Option (List ℕ) → Option (List ℕ) → Type 0
-IsExtracted two status old new = ((status ≡ 0) × Modelled (PutsExtraction two) old new)
-    ⊎ ((status ≡ 3) × Modelled (PutsClash two) old new)
+IsExtracted two = PutsFound (PutsExtraction two) (PutsClash two)
 
 -- ---- `confront`
 
@@ -122,10 +130,8 @@ pub record HoldsSecret (files : Files) (names : ConfrontWords) : Type 0 where
 
 -- what is put is the line of two openings of one commitment of the secret's seal: the secret's, and
 -- one that a reply shows in the first lane in which a half isn't the secret's
-pub record PutsSecretClash (secret : Secret) (found : Extracted) (old new : List ℕ) : Type 0 where
-  pub clash : TwoOpeningsSeen
-  pub is : IsClashWith secret found clash
-  pub put : new ≡ old ++ clash_text clash
+abbrev pub PutsSecretClash : Secret → Extracted → List ℕ → List ℕ → Type 0
+PutsSecretClash secret found = PutsText (IsClashWith secret found) clash_text
 
 -- of the bids that the replies open: the status is 0, and in every lane both halves of the bid of
 -- that seal are the secret's; or it is 3, and two openings are put
@@ -163,29 +169,38 @@ pub record IsReported (files : Files) (board : List ℕ) (status : ℕ)
 
 -- ---- the laws
 
+-- of any files and names: this holds of the status that is said, and of what its text is put after
+abbrev pub HoldsOfSaid : {Names : Type 0} → (Files → Names → SaidValue)
+    → (Files → Names → ℕ → Option (List ℕ) → Option (List ℕ) → Type 0) → Type 0
+HoldsOfSaid {Names} said Holds = (files : Files) (names : Names) (taken : Option (List ℕ))
+    → Holds files names (said files names).status taken (puts (said files names).text taken)
+
 abbrev pub VerifiesExactly : Type 0
 VerifiesExactly = (files : Files) (names : VerifyWords)
     → IsVerified files names (verify_said files names).status
 
+-- where both replies are accepted, for challenges that differ, what is found is said; and the
+-- statuses 0 and 3 come only there
+abbrev pub FindsExactly : (Files → ExtractWords → SaidValue)
+    → (Accepts : Files → ExtractWords → Type 0)
+    → ((files : Files) (names : ExtractWords) → Accepts files names → ℕ → Option (List ℕ)
+    → Option (List ℕ) → Type 0) → Type 0
+FindsExactly said Accepts Finds = HoldsOfSaid said (λ files names status old new.
+    ((accepted : Accepts files names) → Finds files names accepted status old new)
+    × ((status ≡ 0) ⊎ (status ≡ 3) → Accepts files names))
+
 -- two replies that are accepted for different challenges give the bids or a clash, and only such
 -- replies do
 abbrev pub ExtractsExactly : Type 0
-ExtractsExactly = (files : Files) (names : ExtractWords) (taken : Option (List ℕ))
-    → let said = extract_said files names in
-    ((accepted : AcceptsTwoFiles files names)
-    → IsExtracted accepted.two said.status taken (puts said.text taken))
-    × ((said.status ≡ 0) ⊎ (said.status ≡ 3) → AcceptsTwoFiles files names)
+ExtractsExactly =
+    FindsExactly extract_said AcceptsTwoFiles (λ files names accepted. IsExtracted accepted.two)
 
 abbrev pub TellsSameExactly : Type 0
 TellsSameExactly = (files : Files) (names : ExtractWords)
     → IsSame files names (extract_said files names).status
 
 abbrev pub BindsExactly : Type 0
-BindsExactly = (files : Files) (names : ConfrontWords) (taken : Option (List ℕ))
-    → let said = confront_said files names in
-    BindsSecret files names said.status taken (puts said.text taken)
+BindsExactly = HoldsOfSaid confront_said BindsSecret
 
 abbrev pub ReportsExactly : Type 0
-ReportsExactly = (files : Files) (board : List ℕ) (taken : Option (List ℕ))
-    → let said = report_said files board in
-    IsReported files board said.status taken (puts said.text taken)
+ReportsExactly = HoldsOfSaid report_said IsReported
