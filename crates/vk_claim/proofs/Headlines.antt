@@ -78,6 +78,13 @@ module _ (plans : Plans) (file challenge reply other second : List ℕ) where
 
 -- ---- values
 
+-- what the replies come to behind what was read of a claim file
+abbrev past_of : List ℕ → List ℕ → List ℕ → List ℕ → Result (Claim × Rest) ClaimVerdict
+    → ClaimExtraction
+past_of challenge reply other second claim =
+    claim_extraction_past claim (from_start challenge) (from_start reply) (from_start other)
+    (from_start second)
+
 module _ (plans : Plans) (claims : Claims) (right : AreRight plans) (sound : AreSound plans claims)
     {file challenge reply other second : List ℕ} (two : TwoClaimsAccepted plans file challenge reply other second) where
   abbrev head : ClaimHead
@@ -104,25 +111,21 @@ module _ (plans : Plans) (claims : Claims) (right : AreRight plans) (sound : Are
   claims_open =
       let shown = two.shown in
       let s = statement_of shown in
-      let c = from_start challenge in
-      let r = from_start reply in
-      let o = from_start other in
-      let t = from_start second in
       let read = front_found plans file shown.front
       (record { right = shown.right; begins = (_, two.behind.first.file_is.0) }) in
       let opens = accepted_behind_open s (statement_right plans right shown) (text_of shown) file
       challenge reply other second read.0 read.2 two.behind in
       subst (IsOfClaim plans claims two)
-      (sym (ap (λ claim. claim_extraction_past claim c r o t)
+      (sym (ap (past_of challenge reply other second)
       (claim_found plans file shown read.0 read.1)))
-      (of_claim (lane_extraction_behind s read.0 c r o t) opens)
+      (of_claim (lane_extraction_behind s read.0 (from_start challenge) (from_start reply)
+      (from_start other) (from_start second)) opens)
 
 -- ---- and no others
 
 module _ (plans : Plans) (right : AreRight plans) (file challenge reply other second : List ℕ) where
   abbrev past : Result (Claim × Rest) ClaimVerdict → ClaimExtraction
-  past claim = claim_extraction_past claim (from_start challenge) (from_start reply)
-      (from_start other) (from_start second)
+  past = past_of challenge reply other second
 
   found_behind : (head : ClaimHead) (found : LaneExtraction)
       → IsFound (claim_extraction_with head found) → IsFound found

@@ -1,20 +1,17 @@
 -- What is printed of the values that two replies to a claim file give.
-use Rattle.std.specs.Prelude.{ℕ, List, [], ◌∷◌, ◌++◌, codes, decimal}
+use Rattle.std.specs.Prelude.{ℕ, List, [], ◌∷◌, ◌++◌, codes}
 use Rattle.std.specs.List.{flat_map}
 use Rattle.vk_lines.specs.Forms.{line, spaced}
 use Rattle.vk_bids.specs.declared.bids.LaneBids.{LaneBids}
 use Rattle.vk_bids.specs.declared.bids.OpenedBid.{OpenedBid}
-use Rattle.vk_bids.specs.Texts.{agreements_text, opening_text}
+use Rattle.vk_bids.specs.Texts.{agreements_text, opened_line}
 use Rattle.vk_claim.specs.declared.extraction.OpenedClaim.{OpenedClaim}
 use Rattle.vk_claim.specs.declared.head.Kind.{Kind}
 use Rattle.vk_claim.specs.Texts.{kind_word}
 
 -- a value of the lane of that number
 abbrev pub value_line : ℕ → OpenedBid → List ℕ
-value_line number value =
-    line (spaced (codes "lane" ∷ decimal number ∷ codes "seat" ∷ decimal value.seat ∷ codes "value"
-    ∷ decimal value.bid
-    ∷ codes "u" ∷ opening_text value.first ∷ codes "v" ∷ opening_text value.second ∷ []))
+value_line = opened_line (codes "value")
 
 abbrev pub kind_text : Kind → List ℕ
 kind_text kind = line (spaced (codes "kind" ∷ kind_word kind ∷ []))

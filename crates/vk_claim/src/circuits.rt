@@ -1,8 +1,9 @@
 ghost use Rattle.std.specs.Prelude.{◌≡◌, ℕ, List, Option, take, IfOk, IfSome};
 ghost use Rattle.vk_plan.specs.Plans.{PlanValue, IsPlan, Holds};
 ghost use Rattle.vk_claim.specs.declared.head.Kind.{Kind};
+ghost use Rattle.vk_claim.specs.Values.{plan_for};
 
-use crate::head::Kind;
+use crate::head::ClaimHead;
 use std::alloc::Global;
 use vk_plan::Plan;
 use vk_residue::NoMemory;
@@ -17,15 +18,9 @@ pub trait Circuits {
     /// What such a part claims of the values of its inputs.
     ghost claim: { Self → Kind → ℕ → List ℕ → List ℕ → Type 0 };
 
-    /// The plan of the part, where it is admitted.
-    fn plan(
-        &self,
-        alloc: Global,
-        kind: Kind,
-        inputs: u32,
-        numbers: &[u64],
-    ) -> Result<Option<Plan>, NoMemory>
-        ensures { IfOk result (λ plan. plan ≡ admitted self.now kind inputs numbers.now) };
+    /// The plan of the part that the head says, where it is admitted.
+    fn plan(&self, alloc: Global, head: &ClaimHead) -> Result<Option<Plan>, NoMemory>
+        ensures { IfOk result (λ plan. plan ≡ plan_for (admitted self.now) head.now) };
 
     /// A plan keeps what every plan keeps, and has as many inputs as the part says.
     ghost is_plan: { (circuits : Self) (kind : Kind) (inputs : ℕ) (numbers : List ℕ)

@@ -60,7 +60,7 @@ fn claim_with<Q: Circuits>(
     ensures right { IfOk result (λ claim. IfOk claim (IsClaim (Q.admitted circuits.now))) }
 {
     let ClaimFront { head, seals } = front;
-    match circuits.plan(alloc, head.kind, head.inputs, head.numbers.as_slice())? {
+    match circuits.plan(alloc, &head)? {
         None => Ok(Err(ClaimVerdict::Public)),
         Some(plan) => {
             let statement = Statement::of(alloc, head.auction, head.lanes, seals, plan)?;

@@ -13,7 +13,7 @@ use crate::verdict::ClaimVerdict;
 use std::alloc::Global;
 use vk_bids::{Extraction, LaneExtraction, OpenedLanes, extract_behind};
 use vk_io::{OutsideErr, Shelf};
-use vk_verifier::{TwoAttempts, TwoReplies, VErr, begin_two};
+use vk_verifier::{TwoAttempts, TwoReplies, VErr};
 
 /// What two accepted replies open of a claim file: its head, and the values of the lanes whose two
 /// bits differ.
@@ -44,7 +44,7 @@ pub fn extract_claim<S: Shelf, Q: Circuits>(
     ensures shows { IfOk result (ShowsClaims (Q.admitted circuits.now) (Q.claim circuits.now)) }
     ensures shelf { OnlyReads S.held S.Shelf.faults VErr.Failed result shelf.old shelf.new }
 {
-    let mut two = begin_two(alloc, shelf, names)?;
+    let mut two = names.begin(alloc, shelf)?;
     match read_claim(alloc, shelf, circuits, &mut two.readers.pair.board)? {
         Ok(claim) => {
             let found = extract_behind(alloc, shelf, claim.statement, two)?;

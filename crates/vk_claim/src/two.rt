@@ -15,7 +15,7 @@ use std::alloc::Global;
 use std::marker::Model;
 use vk_io::{OutsideErr, Shelf};
 use vk_plan::Plan;
-use vk_verifier::{Fault, Finding, LaneChecker, TwoAttempts, TwoLane, TwoReplies, VErr, begin_two};
+use vk_verifier::{Fault, Finding, LaneChecker, TwoAttempts, TwoLane, TwoReplies, VErr};
 
 /// What two replies to a claim file come to.
 pub type ClaimFinding = Finding<ClaimVerdict>;
@@ -70,19 +70,23 @@ impl ClaimChecker {
             challenge2.now reply2.now)) }
         ensures none_given { IfOk result (λ checker. claim_given checker ≡ 0) }
     {
-        let two = begin_two(
-            alloc,
-            shelf,
-            &TwoReplies {
-                board,
-                challenge1,
-                reply1,
-                challenge2,
-                reply2,
-            },
-        )?;
-        let checker = check_claim(alloc, shelf, circuits, two)?;
-        Ok(checker)
+        let names = TwoReplies {
+            board,
+            challenge1,
+            reply1,
+            challenge2,
+            reply2,
+        };
+        let mut two = names.begin(alloc, shelf)?;
+        match read_claim(alloc, shelf, circuits, &mut two.readers.pair.board)? {
+            Ok(claim) => {
+                let course = begin_course(alloc, claim, shelf, two)?;
+                Ok(ClaimChecker { course: Ok(course) })
+            }
+            Err(verdict) => Ok(ClaimChecker {
+                course: Err(verdict),
+            }),
+        }
     }
 
     /// Gives the next lane, where both replies are accepted so far, and none where every lane was
@@ -170,34 +174,6 @@ impl ClaimCourse {
         let ClaimCourse { head, lanes } = self;
         let (lanes, lane) = lanes.next_lane(alloc, shelf)?;
         Ok((ClaimCourse { head, lanes }, lane))
-    }
-}
-
-/// Reads the claim file before its first lane, both challenges and the heads of both replies.
-fn check_claim<S: Shelf, Q: Circuits>(
-    alloc: Global,
-    shelf: &mut S,
-    circuits: &Q,
-    two: TwoAttempts,
-) -> Result<ClaimChecker, OutsideErr>
-    ensures modelled { IfSome (S.held shelf.old)
-        (λ files. IfOk result (λ checker. claim_ahead checker files
-        ≡ of_two (two_claims (Q.admitted circuits.now)) two files)) }
-    ensures base { IfSome (S.held shelf.old)
-        (λ files. IfOk result (λ checker. claim_base checker
-        ≡ of_two (claim_base_at (Q.admitted circuits.now)) two files)) }
-    ensures none_given { IfOk result (λ checker. claim_given checker ≡ 0) }
-    ensures shelf { OnlyReads S.held S.Shelf.faults OutsideErr.Failed result shelf.old shelf.new }
-{
-    let mut two = two;
-    match read_claim(alloc, shelf, circuits, &mut two.readers.pair.board)? {
-        Ok(claim) => {
-            let course = begin_course(alloc, claim, shelf, two)?;
-            Ok(ClaimChecker { course: Ok(course) })
-        }
-        Err(verdict) => Ok(ClaimChecker {
-            course: Err(verdict),
-        }),
     }
 }
 

@@ -10,9 +10,7 @@ use crate::circuits::Circuits;
 use crate::claim::read_claim;
 use std::alloc::Global;
 use vk_io::{OutsideErr, Shelf};
-use vk_verifier::{
-    Attempt, Fault, OneReply, Part, Statement, VErr, begin_attempt, judge_behind, known,
-};
+use vk_verifier::{Attempt, Fault, OneReply, Part, Statement, VErr, judge_behind, known};
 use vk_wire::WireFault;
 
 /// The first fault of a claim file, a challenge and a reply, or that there is none.
@@ -83,7 +81,7 @@ pub fn claim_verdict<S: Shelf, Q: Circuits>(
         challenge,
         reply,
     };
-    let mut attempt = begin_attempt(alloc, shelf, &names)?;
+    let mut attempt = names.begin(alloc, shelf)?;
     let verdict = judge_claim(alloc, shelf, circuits, &mut attempt)?;
     Ok(verdict)
 }
