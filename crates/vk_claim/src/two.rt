@@ -5,7 +5,7 @@ ghost use Rattle.vk_lines.specs.Lines.{OnlyReads};
 ghost use Rattle.vk_verifier.specs.Verdicts.{unread_file};
 ghost use Rattle.vk_verifier.specs.Two.{BothAreAccepted, of_two};
 ghost use Rattle.vk_claim.specs.Verdicts.{IsOfHead};
-ghost use Rattle.vk_claim.specs.Two.{ClaimGoesOn, HasClaim, IsChecked, IsClaimCourse, IsClaimOver, IsLaneStep, ahead_after_claim, as_claim_finding, base_after_claim, claim_ahead, claim_base, claim_base_at, claim_base_on, claim_finding, claim_given, two_claims, two_claims_on};
+ghost use Rattle.vk_claim.specs.Two.{ClaimGoesOn, HasClaim, IsChecked, IsClaimCourse, IsClaimOver, IsLaneStep, ahead_after_claim, as_claim_finding, base_after_claim, claim_ahead, claim_base, claim_base_on, claim_finding, claim_given, two_claims_on};
 
 use crate::circuits::Circuits;
 use crate::claim::{Claim, read_claim};
