@@ -1,16 +1,15 @@
 -- What `claim-extract` says holds of the files: of two replies that are accepted for different
 -- challenges, values or a clash, and of no others.
-use Rattle.std.proofs.Common.{◌≡◌, ◌≢◌, ℕ, Bool, true, false, List, Option, Some, Result, Ok, Err, refl, sym, ap, subst, ◌∙◌, arith, inl, inr}
+use Rattle.std.proofs.Common.{◌≡◌, ◌≢◌, ℕ, Bool, true, false, List, Option, Some, Result, Ok, Err, refl, sym, ap, subst, ◌∙◌}
 use Rattle.vk_io.specs.Files.{Files}
 use Rattle.vk_verifier.specs.declared.answers.Part.{Part}
 use Rattle.vk_verifier.specs.declared.answers.VErr.{VErr}
-use Rattle.vk_bids.specs.declared.extraction.Extraction.TheVariants.{Refused, Same, Clash, Bids}
+use Rattle.vk_bids.specs.declared.extraction.Extraction.TheVariants.{Refused, Same}
 use Rattle.vk_bids.specs.Headline.{IsClashBehind}
-use Rattle.vk_bids.specs.Texts.{clash_text}
 use Rattle.vk_claim.specs.declared.verdict.ClaimVerdict.{ClaimVerdict}
 use Rattle.vk_claim.specs.declared.verdict.ClaimVerdict.TheVariants.{Accepted}
 use Rattle.vk_claim.specs.Extraction.{ClaimExtraction, claim_extraction, claim_extraction_in, claim_extraction_on}
-use Rattle.vk_claim.specs.Headline.{IsClaimOpened, IsOfClaim, TwoClaimsAccepted}
+use Rattle.vk_claim.specs.Headline.{IsClaimOpened}
 use Rattle.vk_claim.specs.Printing.{claim_extraction_text}
 use Rattle.vk_claim.proofs.Headlines.{claim_files_are_extracted, claims_open}
 use Rattle.vk_words.specs.Names.{ExtractWords}
@@ -18,14 +17,14 @@ use Rattle.vk_effect.specs.Effects.{SaidValue, puts}
 use Rattle.vk_audit.specs.Answers.{SettlesExtract}
 use Rattle.vk_audit.specs.Inputs.{HoldsFiles, extract_inputs}
 use Rattle.vk_audit.specs.Verdicts.{answer_said, name_of, unread_said}
-use Rattle.vk_audit.proofs.Answered.{answered_holds, answered_settled, extract_parts, files_held, files_unread}
-use Rattle.vk_audit.proofs.Extracting.{put_told, told_apart}
+use Rattle.vk_audit.proofs.Answered.{IsAlone, answered_tells, extract_holds, extract_parts, files_unread}
+use Rattle.vk_audit.proofs.Extracting.{found_said, told_apart}
 use Rattle.vk_audit.proofs.Inputs.{fault_of, first_unread}
-use Rattle.vk_audit.proofs.Telling.{only_found, only_same, second_refused, tells}
+use Rattle.vk_audit.proofs.Telling.{only_found, only_same, second_refused}
 use Rattle.vk_claims.specs.Circuits.{admitted_plan, claimed, claims_are_sound, plans_are_right}
 use Rattle.vk_claims.specs.Extractions.{claim_extraction_said, claim_extract_said}
 use Rattle.vk_claims.specs.Findings.{ClaimExtractionHolds}
-use Rattle.vk_claims.specs.Statuses.{AcceptsTwoClaims, ClaimExtractHolds, ExtractsClaimsExactly, HasClaimExtraction, IsClaimExtracted, PutsText, TellsClaimExtractions, TellsSameClaimsExactly}
+use Rattle.vk_claims.specs.Statuses.{AcceptsTwoClaims, ClaimExtractHolds, ExtractsClaimsExactly, HasClaimExtraction, IsClaimExtracted, TellsClaimExtractions, TellsSameClaimsExactly}
 use Rattle.vk_claims.proofs.Findings.{extraction_holds, second_accepted, unfound_found}
 use Rattle.vk_claims.proofs.Verifying.{status_accepted, status_within}
 
@@ -54,74 +53,46 @@ module _ (files : Files) (names : ExtractWords) where
       (record { held = held; is = refl })
 
   answer_holds : ClaimExtractHolds files names answer
-  answer_holds =
-      answered_holds files names extract_parts (HasClaimExtraction files names) answer answer_unread
-      (λ read.
-      let held : HoldsFiles files names = files_held read in
-      let holds =
-      extraction_holds admitted_plan claimed plans_are_right claims_are_sound
-      held.board_bytes held.first.challenge_bytes held.first.reply_bytes held.second.challenge_bytes
-      held.second.reply_bytes in
-      subst (ClaimExtractHolds files names) (sym (answer_read held))
-      (record { held = held; holds = holds }))
+  answer_holds = extract_holds files names (HasClaimExtraction files names) answer answer_unread
+      of_held answer_read (λ held. record {
+        held = held;
+        holds = extraction_holds admitted_plan claimed plans_are_right claims_are_sound
+            held.board_bytes held.first.challenge_bytes held.first.reply_bytes
+            held.second.challenge_bytes held.second.reply_bytes;
+      })
 
-  abbrev said_of : Result ClaimExtraction VErr → SaidValue
-  said_of answered = answer_said (claim_extraction_said names) (unread_said names) answered
-
-  answer_settled : (other : Result ClaimExtraction VErr) → SettlesExtract other
-      → ClaimExtractHolds files names other → said_of answer ≡ said_of other
-  answer_settled =
-      answered_settled files names extract_parts (HasClaimExtraction files names) answer
-      answer_unread (claim_extraction_said names) SettlesExtract
-      (λ extraction settles has.
+  answer_alone : IsAlone SettlesExtract (HasClaimExtraction files names) answer
+  answer_alone extraction settles has =
       let held = has.held in
       answer_read held ∙ ap (λ e. Ok e)
       (unfound_found admitted_plan claimed plans_are_right claims_are_sound
       held.board_bytes held.first.challenge_bytes held.first.reply_bytes held.second.challenge_bytes
-      held.second.reply_bytes extraction settles has.holds))
+      held.second.reply_bytes extraction settles has.holds)
+
+abbrev said_of : ExtractWords → Result ClaimExtraction VErr → SaidValue
+said_of names = answer_said (claim_extraction_said names) (unread_said names)
 
 pub tells_claim_extractions : TellsClaimExtractions
-tells_claim_extractions files names taken =
-    tells (ClaimExtractHolds files names) SettlesExtract (said_of files names) (answer files names)
-    taken
-    (answer_holds files names) (answer_settled files names)
+tells_claim_extractions files names =
+    answered_tells files names extract_parts (HasClaimExtraction files names) (answer files names)
+    (answer_unread files names) (claim_extraction_said names) SettlesExtract
+    (answer_alone files names) (answer_holds files names)
 
 -- ---- the status and the text
-
--- what is said of values of the replies, or of a clash of them
-module _ {file challenge reply other second : List ℕ} (two : TwoClaimsAccepted admitted_plan file challenge reply other second) (names : ExtractWords) (taken : Option (List ℕ)) where
-  abbrev Puts : {X : Type 0} → (X → Type 0) → (X → List ℕ) → List ℕ → List ℕ → Type 0
-  Puts IsSuch text = PutsText IsSuch text
-
-  said_extracted : (extraction : ClaimExtraction) → IsOfClaim admitted_plan claimed two extraction
-      → let said = claim_extraction_said names extraction in
-      IsClaimExtracted two said.status taken (puts said.text taken)
-  said_extracted (Refused of_second refused) is = absurd is
-  said_extracted Same is = absurd is
-  said_extracted (Clash clash) is =
-      inr (
-        refl,
-        put_told (Puts (IsClashBehind two.behind) clash_text) (clash_text clash)
-            (λ before. record { found = clash; is = is; put = refl }) taken,
-      )
-  said_extracted (Bids found) is =
-      inl (
-        refl,
-        put_told (Puts (IsClaimOpened admitted_plan claimed two) claim_extraction_text)
-            (claim_extraction_text found)
-            (λ before. record { found = found; is = is; put = refl }) taken,
-      )
 
 said_of_accepted : (files : Files) (names : ExtractWords) (taken : Option (List ℕ))
     (accepted : AcceptsTwoClaims files names)
     → let said = claim_extract_said files names in
     IsClaimExtracted accepted.two said.status taken (puts said.text taken)
 said_of_accepted files names taken accepted =
-    let P : Result ClaimExtraction VErr → Type 0 = λ answer. let said = said_of files names answer
+    let P : Result ClaimExtraction VErr → Type 0 = λ answer. let said = said_of names answer
     in IsClaimExtracted accepted.two said.status taken
     (puts said.text taken) in
     subst P (sym (answer_read files names accepted.held))
-    (said_extracted accepted.two names taken (of_held files names accepted.held)
+    (found_said (IsClashBehind accepted.two.behind)
+    (IsClaimOpened admitted_plan claimed accepted.two) claim_extraction_text
+    (claim_extraction_said names) (λ clash. refl) (λ found. refl) taken
+    (of_held files names accepted.held)
     (claims_open admitted_plan claimed plans_are_right claims_are_sound accepted.two))
 
 -- ---- only such files
@@ -160,6 +131,6 @@ tells_same_claims_exactly files names = record {
       only_same files names (extract_inputs names) (HasClaimExtraction files names)
       (claim_extraction_said names) refl (λ _. refl) (λ _. refl) (status_within names)
       (answer files names) (answer_holds files names);
-  always = λ same _ _. ap (λ (said : SaidValue). said.status)
-      (answer_settled files names (Ok Same) (λ found. found) same);
+  always = λ same _ _. ap (λ answered. (said_of names answered).status)
+      (answer_alone files names Same (λ found. found) same);
 }

@@ -1,6 +1,6 @@
 -- What `claim-verify` says holds of the files, and status 0 comes exactly where the reply is
 -- accepted.
-use Rattle.std.proofs.Common.{◌≡◌, ◌≢◌, ℕ, ◌<◌, ◌≤◌, Bool, false, List, Some, Result, Ok, Err, refl, sym, ap, subst, ◌∙◌, arith}
+use Rattle.std.proofs.Common.{◌≡◌, ◌≢◌, ℕ, ◌<◌, ◌≤◌, Bool, false, List, Some, Result, Ok, Err, refl, ap, subst, ◌∙◌, arith}
 use Rattle.vk_io.specs.Files.{Files}
 use Rattle.vk_verifier.specs.declared.answers.Part.{Part}
 use Rattle.vk_verifier.specs.declared.answers.VErr.{VErr}
@@ -9,12 +9,11 @@ use Rattle.vk_claim.specs.declared.verdict.ClaimVerdict.{ClaimVerdict}
 use Rattle.vk_claim.specs.declared.verdict.ClaimVerdict.TheVariants.{Accepted, Malformed, Public, Lanes, Wire, Row}
 use Rattle.vk_claim.specs.Verdicts.{claim_judged, claim_verdict_of, claim_verdict_on}
 use Rattle.vk_words.specs.Names.{ExtractWords, VerifyWords}
-use Rattle.vk_effect.specs.Effects.{SaidValue}
 use Rattle.vk_audit.specs.Inputs.{verify_inputs}
 use Rattle.vk_audit.specs.Verdicts.{answer_said, name_of, unread_said, verified_words}
-use Rattle.vk_audit.proofs.Answered.{answered_holds, answered_settled, attempt_held, attempt_read, attempt_unread, verify_parts}
+use Rattle.vk_audit.proofs.Answered.{IsAlone, answered_tells, attempt_read, attempt_unread, verify_holds, verify_parts}
 use Rattle.vk_audit.proofs.Inputs.{fault_of, first_unread}
-use Rattle.vk_audit.proofs.Telling.{only_value, tells}
+use Rattle.vk_audit.proofs.Telling.{only_value}
 use Rattle.vk_claims.specs.Circuits.{admitted_plan, plans_are_right}
 use Rattle.vk_claims.specs.Statuses.{AcceptsClaim, ClaimVerifyHolds, HasClaimVerdict, TellsClaimVerdicts, VerifiesClaimsExactly}
 use Rattle.vk_claims.specs.Verdicts.{claim_judged_said}
@@ -64,38 +63,27 @@ module _ (files : Files) (names : VerifyWords) where
       attempt_read (claim_judged admitted_plan) files names board is attempt
 
   answer_holds : ClaimVerifyHolds files names answer
-  answer_holds =
-      answered_holds files (verified_words names) verify_parts (HasClaimVerdict files names) answer
-      answer_unread (λ read.
-      let attempt : HeldAttempt files names.attempt.challenge names.attempt.reply =
-      attempt_held read in
-      subst (ClaimVerifyHolds files names) (sym (answer_read read.0.0 read.0.1 attempt)) (record {
-        board = read.0.0;
-        board_is = read.0.1;
+  answer_holds = verify_holds files names (HasClaimVerdict files names) answer answer_unread
+      (claim_verdict_of admitted_plan) answer_read (λ board is attempt. record {
+        board = board;
+        board_is = is;
         attempt = attempt;
-        holds = verdict_shown admitted_plan plans_are_right read.0.0 attempt.challenge_bytes
+        holds = verdict_shown admitted_plan plans_are_right board attempt.challenge_bytes
             attempt.reply_bytes _ refl;
-      }))
+      })
 
-  abbrev said_of : Result ClaimVerdict VErr → SaidValue
-  said_of answered = answer_said (claim_judged_said (verified_words names) false)
-      (unread_said (verified_words names)) answered
-
-  answer_settled : (other : Result ClaimVerdict VErr) → ClaimVerifyHolds files names other
-      → said_of answer ≡ said_of other
-  answer_settled other holds =
-      answered_settled files (verified_words names) verify_parts (HasClaimVerdict files names)
-      answer answer_unread
-      (claim_judged_said (verified_words names) false) (λ _. Unit {0}) (λ verdict _ has.
+  answer_alone : IsAlone (λ _. Unit {0}) (HasClaimVerdict files names) answer
+  answer_alone verdict settles has =
       answer_read has.board has.board_is has.attempt
       ∙ ap (λ v. Ok v) (verdict_given admitted_plan plans_are_right has.board
-      has.attempt.challenge_bytes has.attempt.reply_bytes verdict has.holds)) other tt holds
+      has.attempt.challenge_bytes has.attempt.reply_bytes verdict has.holds)
 
 pub tells_claim_verdicts : TellsClaimVerdicts
-tells_claim_verdicts files names taken =
-    tells (ClaimVerifyHolds files names) (λ _. Unit {0}) (said_of files names) (answer files names)
-    taken
-    (answer_holds files names) (λ other settles holds. answer_settled files names other holds)
+tells_claim_verdicts files names =
+    answered_tells files (verified_words names) verify_parts (HasClaimVerdict files names)
+    (answer files names) (answer_unread files names)
+    (claim_judged_said (verified_words names) false) (λ _. Unit {0})
+    (answer_alone files names) (answer_holds files names)
 
 -- ---- status 0
 
@@ -108,6 +96,8 @@ verifies_claims_exactly files names = record {
       (status_accepted (verified_words names) false answered (λ one. omega arith) (omega arith))
       holds)
       (answer files names) (answer_holds files names);
-  always = λ accepts _ _. ap (λ (said : SaidValue). said.status)
-      (answer_settled files names (Ok Accepted) accepts);
+  always = λ accepts _ _. ap (λ answered. (answer_said
+      (claim_judged_said (verified_words names) false)
+      (unread_said (verified_words names)) answered).status)
+      (answer_alone files names Accepted tt accepts);
 }

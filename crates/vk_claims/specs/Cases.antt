@@ -7,7 +7,7 @@ use Rattle.std.proofs.lemmas.Bool.Decides.{Decides-and, Decides-by_and, Decides-
 use Rattle.std.proofs.lemmas.List.Kept.{AllPairs-cons}
 use Rattle.vk_uniform.specs.Losers.{loser_listed, losers_lose}
 use Rattle.vk_uniform.specs.Outcomes.{IsLoser, IsPositionAmong}
-use Rattle.vk_uniform.specs.UniformPlans.{IsUniformCase, losers_of, price_of, width_of, winners_of}
+use Rattle.vk_uniform.specs.UniformPlans.{IsUniformCase, IsUniformInLimits, losers_of, price_of, width_of, winners_of}
 use Rattle.vk_matching.specs.MatchingPlans.{IsMatchingCase, matching_of, size_of}
 use Rattle.vk_matching.specs.MatchingPlans as ranks
 use Rattle.vk_matching.specs.Stability.{IsPerson}
@@ -61,15 +61,20 @@ module _ (test : ℕ → ℕ → Bool) (P : ℕ → ℕ → Type 0) (each : (ear
 
 -- ---- the numbers of a sale of equal units
 
--- whether a sale of equal units may have these numbers, which are the width, the price and the
--- winners' positions: each is within its limits, and where all win the price is 0
-unfoldable pub is_uniform_case : ℕ → List ℕ → Bool
-is_uniform_case inputs numbers =
-    (nat_le 1 inputs && (nat_le inputs 64 && (nat_le 3 (length numbers)
+-- whether the width, the price and the winners' positions are within their limits
+abbrev pub is_in_limits : ℕ → List ℕ → Bool
+is_in_limits inputs numbers =
+    nat_le 1 inputs && (nat_le inputs 64 && (nat_le 3 (length numbers)
     && (is_among 40 (width_of numbers)
     && (nat_lt (price_of numbers) (2 ^ width_of numbers)
     && (list_all (is_among inputs) (winners_of numbers)
-    && all_pairs nat_lt (winners_of numbers)))))))
+    && all_pairs nat_lt (winners_of numbers))))))
+
+-- whether a sale of equal units may have these numbers: each is within its limits, and where all
+-- win the price is 0
+unfoldable pub is_uniform_case : ℕ → List ℕ → Bool
+is_uniform_case inputs numbers =
+    is_in_limits inputs numbers
     && (nat_lt 0 (length (losers_of inputs numbers)) || price_of numbers == 0)
 
 module _ (inputs : ℕ) (numbers : List ℕ) where
@@ -100,39 +105,31 @@ module _ (inputs : ℕ) (numbers : List ℕ) where
         absurd (omega (arith, empty, (loser_listed inputs (winners_of numbers) position loses).1))))
   ]
 
-  pub uniform_decides : Decides (is_uniform_case inputs numbers) (IsUniformCase inputs numbers)
-  unfolding is_uniform_case
-  uniform_decides =
-      Decides-like (is_uniform_case inputs numbers)
+  limits_decide : Decides (is_in_limits inputs numbers) (IsUniformInLimits inputs numbers)
+  limits_decide =
+      Decides-like (is_in_limits inputs numbers)
       (λ h. record {
-        limits = record {
-          some_inputs = h.0.0;
-          most_inputs = h.0.1.0;
-          enough = h.0.1.1.0;
-          wide = record { least = h.0.1.1.1.0.0; most = h.0.1.1.1.0.1 };
-          within_width = h.0.1.1.1.1.0;
-          are_positions = h.0.1.1.1.1.1.0;
-          ascending = h.0.1.1.1.1.1.1;
-        };
-        all_win_for_0 = for_nothing h.1;
+        some_inputs = h.0;
+        most_inputs = h.1.0;
+        enough = h.1.1.0;
+        wide = record { least = h.1.1.1.0.0; most = h.1.1.1.0.1 };
+        within_width = h.1.1.1.1.0;
+        are_positions = h.1.1.1.1.1.0;
+        ascending = h.1.1.1.1.1.1;
       })
-      (λ is. let limits = is.limits in (
+      (λ is. (
+        is.some_inputs,
         (
-          limits.some_inputs,
+          is.most_inputs,
           (
-            limits.most_inputs,
+            is.enough,
             (
-              limits.enough,
-              (
-                (limits.wide.least, limits.wide.most),
-                (limits.within_width, (limits.are_positions, limits.ascending)),
-              ),
+              (is.wide.least, is.wide.most),
+              (is.within_width, (is.are_positions, is.ascending)),
             ),
           ),
         ),
-        owes_nothing is.all_win_for_0,
       ))
-      (Decides-and _ _
       (Decides-and _ _ (le_decides 1 inputs)
       (Decides-and _ _ (le_decides inputs 64)
       (Decides-and _ _ (le_decides 3 (length numbers))
@@ -142,6 +139,14 @@ module _ (inputs : ℕ) (numbers : List ℕ) where
       (all_decides (is_among inputs) (IsPositionAmong inputs) position_decides (winners_of numbers))
       (pairs_decide nat_lt (λ earlier later. earlier < later) Decides-ltb
       (winners_of numbers))))))))
+
+  pub uniform_decides : Decides (is_uniform_case inputs numbers) (IsUniformCase inputs numbers)
+  unfolding is_uniform_case
+  uniform_decides =
+      Decides-like (is_uniform_case inputs numbers)
+      (λ h. record { limits = h.0; all_win_for_0 = for_nothing h.1 })
+      (λ is. (is.limits, owes_nothing is.all_win_for_0))
+      (Decides-and _ _ limits_decide
       (Decides-or _ _ (Decides-ltb 0 (length (losers_of inputs numbers)))
       (Decides-eqb (price_of numbers) 0)))
 

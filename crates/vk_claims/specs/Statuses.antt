@@ -1,7 +1,7 @@
 -- What the statuses of `claim-verify` and `claim-extract` mean, by the bytes of the named files
 -- alone.
-use Rattle.std.specs.Prelude.{◌≡◌, ◌⊎◌, ◌↔◌, ℕ, false, List, ◌++◌, Option, Some, None, Result}
-use Rattle.vk_io.specs.Files.{Files, Modelled}
+use Rattle.std.specs.Prelude.{◌≡◌, ◌↔◌, ℕ, false, List, Option, Some, None, Result}
+use Rattle.vk_io.specs.Files.{Files}
 use Rattle.vk_verifier.specs.declared.answers.VErr.{VErr}
 use Rattle.vk_bids.specs.declared.extraction.Extraction.TheVariants.{Same}
 use Rattle.vk_bids.specs.Headline.{HeldAttempt, IsClashBehind, IsHeldFile}
@@ -17,10 +17,9 @@ use Rattle.vk_claim.specs.Extraction.{ClaimExtraction}
 use Rattle.vk_claim.specs.Headline.{IsClaimOpened, TwoClaimsAccepted}
 use Rattle.vk_claim.specs.Printing.{claim_extraction_text}
 use Rattle.vk_words.specs.Names.{ExtractWords, VerifyWords}
-use Rattle.vk_effect.specs.Effects.{puts}
 use Rattle.vk_audit.specs.Answers.{AnswerHolds, SettlesExtract, TellsAnswer}
 use Rattle.vk_audit.specs.Inputs.{HoldsFiles, extract_inputs, verify_inputs}
-use Rattle.vk_audit.specs.Statuses.{ComesExactly}
+use Rattle.vk_audit.specs.Statuses.{ComesExactly, FindsExactly, HoldsOfSaid, PutsFound, PutsText}
 use Rattle.vk_audit.specs.Verdicts.{answer_said, unread_said, verified_words}
 use Rattle.vk_claims.specs.Circuits.{admitted_plan, claimed}
 use Rattle.vk_claims.specs.Extractions.{claim_extraction_said, claim_extract_said}
@@ -103,23 +102,15 @@ AcceptsSameClaims files names = HasClaimExtraction files names Same
 abbrev pub IsSameClaim : Files → ExtractWords → ℕ → Type 0
 IsSameClaim files names status = ComesExactly 7 (AcceptsSameClaims files names) status
 
--- the text of such a thing is put
-pub record PutsText {X : Type 0} (IsSuch : X → Type 0) (text : X → List ℕ)
-    (old new : List ℕ) : Type 0 where
-  pub found : X
-  pub is : IsSuch found
-  pub put : new ≡ old ++ text found
-
 -- the status is 0, and the text of values is put: of every lane whose bits differ, opened by what
 -- the replies show of it, which open the lane's seals, and of which the file's claim holds; or it
 -- is 3, and two openings of one commitment are put
 abbrev pub IsClaimExtracted : {file challenge reply other second : List ℕ}
     → TwoClaimsAccepted admitted_plan file challenge reply other second → ℕ → Option (List ℕ)
     → Option (List ℕ) → Type 0
-IsClaimExtracted two status old new =
-    ((status ≡ 0) × Modelled (PutsText (IsClaimOpened admitted_plan claimed two)
-    claim_extraction_text) old new)
-    ⊎ ((status ≡ 3) × Modelled (PutsText (IsClashBehind two.behind) clash_text) old new)
+IsClaimExtracted two =
+    PutsFound (PutsText (IsClaimOpened admitted_plan claimed two) claim_extraction_text)
+    (PutsText (IsClashBehind two.behind) clash_text)
 
 -- every end says what holds, and every answer that holds is what is said, but for values and a
 -- clash
@@ -140,24 +131,17 @@ VerifiesClaimsExactly = (files : Files) (names : VerifyWords)
     → IsClaimVerified files names (claim_verify_said files names).status
 
 abbrev pub TellsClaimVerdicts : Type 0
-TellsClaimVerdicts = (files : Files) (names : VerifyWords) (taken : Option (List ℕ))
-    → let said = claim_verify_said files names in
-    TellsClaimVerdict files names said.status taken (puts said.text taken)
+TellsClaimVerdicts = HoldsOfSaid claim_verify_said TellsClaimVerdict
 
 -- two replies that are accepted for different challenges give the values or a clash, and only such
 -- replies do
 abbrev pub ExtractsClaimsExactly : Type 0
-ExtractsClaimsExactly = (files : Files) (names : ExtractWords) (taken : Option (List ℕ)) →
-    let said = claim_extract_said files names in
-    ((accepted : AcceptsTwoClaims files names)
-    → IsClaimExtracted accepted.two said.status taken (puts said.text taken))
-    × ((said.status ≡ 0) ⊎ (said.status ≡ 3) → AcceptsTwoClaims files names)
+ExtractsClaimsExactly = FindsExactly claim_extract_said AcceptsTwoClaims
+    (λ files names accepted. IsClaimExtracted accepted.two)
 
 abbrev pub TellsSameClaimsExactly : Type 0
 TellsSameClaimsExactly = (files : Files) (names : ExtractWords)
     → IsSameClaim files names (claim_extract_said files names).status
 
 abbrev pub TellsClaimExtractions : Type 0
-TellsClaimExtractions = (files : Files) (names : ExtractWords) (taken : Option (List ℕ))
-    → let said = claim_extract_said files names in
-    TellsClaimExtraction files names said.status taken (puts said.text taken)
+TellsClaimExtractions = HoldsOfSaid claim_extract_said TellsClaimExtraction

@@ -5,7 +5,7 @@ ghost use Rattle.vk_claims.specs.Circuits.{admitted_plan, claimed, claims_are_so
 ghost use Rattle.vk_claim.specs.declared.head.Kind.TheVariants.{Uniform, Matching};
 
 use std::alloc::Global;
-use vk_claim::{Circuits, Kind};
+use vk_claim::{Circuits, ClaimHead, Kind};
 use vk_matching::MatchingPlan;
 use vk_plan::{Circuit, Plan};
 use vk_residue::NoMemory;
@@ -24,14 +24,10 @@ impl Circuits for ClaimCircuits {
 
     ghost sound = { λ _. claims_are_sound };
 
-    fn plan(
-        &self,
-        alloc: Global,
-        kind: Kind,
-        inputs: u32,
-        numbers: &[u64],
-    ) -> Result<Option<Plan>, NoMemory> {
-        match kind {
+    fn plan(&self, alloc: Global, head: &ClaimHead) -> Result<Option<Plan>, NoMemory> {
+        let inputs = head.inputs;
+        let numbers = head.numbers.as_slice();
+        match head.kind {
             Kind::Uniform => {
                 let plan = plan_of_units(alloc, inputs, numbers)?;
                 Ok(plan)
