@@ -3,7 +3,7 @@ use Rattle.std.proofs.Common.{subst, sym, ◌≡◌, ◌≢◌, ℕ, ◌+◌, �
 use Rattle.std.proofs.lemmas.List.Elements.{All-nil, All-cons}
 use Rattle.vk_plan.specs.Plans.{PlanValue, Holds}
 use Rattle.vk_form_tests.specs.Sums.{SumTo, sum_plan, sum_values}
-use Rattle.vk_form_tests.specs.SumLaws.{sum_complete}
+use Rattle.vk_form_tests.specs.SumLaws.{of_three, sum_complete}
 
 abbrev IsSmall : ℕ → Type 0
 IsSmall number = number < 2 ^ 3
@@ -31,18 +31,8 @@ large_refused total numbers index within large claim =
     omega (arith, large, claim.small index 0 (omega (arith, claim.three)))
 
 small_total : (total : ℕ) (numbers : List ℕ) → SumTo total numbers → total ≤ 21
-small_total total (a ∷ b ∷ c ∷ []) claim =
-    omega (
-      arith,
-      claim.come_to,
-      claim.small 0 0 (omega arith),
-      claim.small 1 0 (omega arith),
-      claim.small 2 0 (omega arith),
-    )
-small_total total [] claim = omega (arith, claim.three)
-small_total total (a ∷ []) claim = omega (arith, claim.three)
-small_total total (a ∷ b ∷ []) claim = omega (arith, claim.three)
-small_total total (a ∷ b ∷ c ∷ d ∷ more) claim = omega (arith, claim.three)
+small_total total = of_three total (λ numbers. total ≤ 21)
+    (λ a b c small-a small-b small-c come_to. omega arith)
 
 pub filled_hold : (total : ℕ) (numbers : List ℕ) (plan : PlanValue) (values : List ℕ)
     → SumTo total numbers → plan ≡ sum_plan total

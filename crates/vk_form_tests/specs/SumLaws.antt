@@ -1,5 +1,5 @@
 -- The laws of the circuit: what holds for it is what is claimed.
-use Rattle.std.specs.Prelude.{◌≡◌, ℕ, ◌^◌, ◌<◌, ◌≤◌, List, [], ◌∷◌, All, length, take, slice_index}
+use Rattle.std.specs.Prelude.{◌≡◌, ℕ, ◌+◌, ◌^◌, ◌<◌, ◌≤◌, List, [], ◌∷◌, All, length, take, slice_index}
 use Rattle.std.proofs.Common.{refl, subst, arith, lit≤, append-nil}
 use Rattle.std.proofs.lemmas.List.{take_all, take_at}
 use Rattle.std.proofs.lemmas.List.Elements.{All-nil, All-cons}
@@ -93,21 +93,24 @@ sum_sound total values few holds =
 residues_of : (numbers : List ℕ) → All (λ number. number < 2 ^ 3) numbers → All IsResidue numbers
 residues_of numbers small k d h = omega (arith, small k d h)
 
+-- what holds of each three small numbers that come to the total
+pub of_three : (total : ℕ) (P : List ℕ → Type 0)
+    → ((a b c : ℕ) → a < 8 → b < 8 → c < 8 → a + (b + c) ≡ total → P (a ∷ b ∷ c ∷ []))
+    → (numbers : List ℕ) → SumTo total numbers → P numbers
+of_three total P each (a ∷ b ∷ c ∷ []) claim =
+    each a b c (claim.small 0 0 (omega arith)) (claim.small 1 0 (omega arith))
+    (claim.small 2 0 (omega arith)) (omega (arith, claim.come_to))
+of_three total P each [] claim = absurd (omega (arith, claim.three))
+of_three total P each (a ∷ []) claim = absurd (omega (arith, claim.three))
+of_three total P each (a ∷ b ∷ []) claim = absurd (omega (arith, claim.three))
+of_three total P each (a ∷ b ∷ c ∷ d ∷ more) claim = absurd (omega (arith, claim.three))
+
 total_of : (total : ℕ) (numbers : List ℕ) → total ≤ 21 → SumTo total numbers
     → form_value (total_form total) numbers ≡ 0
 unfolding form_value linear_part
-total_of total (a ∷ b ∷ c ∷ []) few claim =
-    omega (
-      arith,
-      claim.come_to,
-      claim.small 0 0 (omega arith),
-      claim.small 1 0 (omega arith),
-      claim.small 2 0 (omega arith),
-    )
-total_of total [] few claim = omega (arith, claim.three)
-total_of total (a ∷ []) few claim = omega (arith, claim.three)
-total_of total (a ∷ b ∷ []) few claim = omega (arith, claim.three)
-total_of total (a ∷ b ∷ c ∷ d ∷ more) few claim = omega (arith, claim.three)
+total_of total numbers few claim =
+    of_three total (λ numbers. form_value (total_form total) numbers ≡ 0)
+    (λ a b c small-a small-b small-c come_to. omega arith) numbers claim
 
 width_of : (numbers : List ℕ) (i : ℕ) → slice_index numbers i < 8
     → IsOfWidth 3 (form_value (input_form i) numbers)

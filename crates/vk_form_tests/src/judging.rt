@@ -5,24 +5,23 @@ ghost use Rattle.vk_lines.specs.Gives.{Gives};
 ghost use Rattle.vk_lines.specs.Lines.{OnlyReads, rest_of};
 ghost use Rattle.vk_board.specs.Values.{AreSealsOf};
 ghost use Rattle.vk_verifier.specs.Behind.{Judges};
-ghost use Rattle.vk_verifier.specs.Two.{of_two};
 ghost use Rattle.vk_verifier.specs.Verdicts.{of_begun, unread_file};
 ghost use Rattle.vk_form_tests.specs.Forms.{IsSumHead};
-ghost use Rattle.vk_form_tests.specs.Judging.{Begins, IsOfHead, OpensSums, statement_at, sum_extraction, sum_extraction_on, sum_judged, sum_judged_on, sum_statement};
+ghost use Rattle.vk_form_tests.specs.Judging.{Begins, IsOfHead, OpensSums, statement_at, sum_extraction_on, sum_judged, sum_judged_on, sum_statement};
 
 use crate::circuit::SumPlan;
 use crate::form::SumHead;
 use std::alloc::Global;
 use vk_bids::{Extraction, LaneExtraction, extract_behind};
 use vk_board::{SealLines, read_seal_lines};
-use vk_io::{OutsideErr, Shelf};
+use vk_io::Shelf;
 use vk_lines::Lines;
 use vk_plan::Circuit;
 use vk_residue::NoMemory;
 use vk_seq::Seq;
 use vk_verifier::{
-    Attempt, Fault, Halt, OneReply, Part, Statement, TwoAttempts, TwoReplies, VErr, begin_attempt,
-    begin_two, in_part, judge_behind, known,
+    Attempt, Fault, Halt, OneReply, Part, Statement, TwoReplies, VErr, in_part,
+    judge_behind, known,
 };
 
 /// Reads the head and the seals of a sum file: what its lanes are to show.
@@ -73,7 +72,7 @@ pub fn judge<S: Shelf>(
         (sum_judged_on files names.now.file.now names.now.challenge.now names.now.reply.now)) }
     ensures shelf { OnlyReads S.held S.Shelf.faults VErr.Failed result shelf.old shelf.new }
 {
-    let attempt = begin_attempt(alloc, shelf, names)?;
+    let attempt = names.begin(alloc, shelf)?;
     let judged = judge_lines(alloc, shelf, attempt);
     let judged = known(judged)?;
     Ok(judged)
@@ -112,25 +111,7 @@ pub fn extract<S: Shelf>(
         IfOk result (OpensSums (Begins file)))) }
     ensures shelf { OnlyReads S.held S.Shelf.faults VErr.Failed result shelf.old shelf.new }
 {
-    let two = begin_two(alloc, shelf, names)?;
-    let found = extract_lines(alloc, shelf, two)?;
-    Ok(found)
-}
-
-/// What the files come to, from their first lines on.
-fn extract_lines<S: Shelf>(
-    alloc: Global,
-    shelf: &mut S,
-    two: TwoAttempts,
-) -> Result<LaneExtraction, OutsideErr>
-    ensures modelled { IfSome (S.held shelf.old)
-        (λ files. IfOk result (λ found. of_two sum_extraction two files ≡ found)) }
-    ensures opens { IfOk result (OpensSums IsSumHead) }
-    ensures of_file { IfSome (S.held shelf.old) (λ files.
-        IfOk result (OpensSums (Begins (rest_of two.readers.pair.board files).left))) }
-    ensures shelf { OnlyReads S.held S.Shelf.faults OutsideErr.Failed result shelf.old shelf.new }
-{
-    let mut two = two;
+    let mut two = names.begin(alloc, shelf)?;
     let read = read_statement(alloc, shelf, &mut two.readers.pair.board);
     match known(read)? {
         Err(verdict) => Ok(Extraction::Refused {
