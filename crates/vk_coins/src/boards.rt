@@ -1,43 +1,29 @@
 //! `coin-board`: the challenge that a board's bytes give.
 
 ghost use Rattle.std.specs.Prelude.{◌≡◌, length, IfOk, IfSome, Ok};
-ghost use Rattle.vk_coins.specs.Boards.{board_deed, derived_in, derive_deed, derived_said};
+ghost use Rattle.vk_coins.specs.Boards.{derived_in, derive_deed, derived_said};
 ghost use Rattle.vk_io.specs.Reads.{OnlyReads};
 ghost use Rattle.vk_lines.specs.Gives.{Gives};
 ghost use Rattle.vk_report.specs.Reports.{fault_of};
 ghost use Rattle.vk_words.specs.Coins.{challenge_seen};
 
 use std::alloc::Global;
-use vk_audit::unreported;
 use vk_coin::board_challenge;
 use vk_effect::{Deed, Said};
-use vk_io::{OutsideErr, Shelf};
+use vk_io::Shelf;
 use vk_reply::{Challenge, challenge_text};
 use vk_report::{ReportErr, read_report};
 use vk_residue::NoMemory;
 use vk_text::ShortText;
 use vk_words::ChallengeNames;
 
-/// Tests the named board as `report` does, and derives the challenge for its lanes.
-pub fn derive<S: Shelf>(
+/// The challenge for the lanes of the named board, which is tested as `report` does.
+#[tactic(auto, unfolding(crate::specs::Boards::derived_in))]
+pub fn named_board<S: Shelf>(
     alloc: Global,
     shelf: &mut S,
-    names: &ChallengeNames<'_>,
-) -> Result<Deed, OutsideErr>
-    ensures modelled { IfSome (S.held shelf.old)
-        (λ files. IfOk result (λ deed. deed ≡ board_deed (challenge_seen names.now) files)) }
-    ensures shelf { OnlyReads S.held S.Shelf.faults OutsideErr.Failed result shelf.old shelf.new }
-{
-    let deed = match named_board(alloc, shelf, names.from) {
-        Ok(challenge) => derived(alloc, names, &challenge)?,
-        Err(fault) => Deed::says(alloc, unreported(alloc, names.from, fault)?),
-    };
-    Ok(deed)
-}
-
-/// The challenge for the lanes of the named board, where that may be reported on.
-#[tactic(auto, unfolding(crate::specs::Boards::derived_in))]
-fn named_board<S: Shelf>(alloc: Global, shelf: &mut S, board: &str) -> Result<Challenge, ReportErr>
+    board: &str,
+) -> Result<Challenge, ReportErr>
     ensures modelled { IfSome (S.held shelf.old)
         (λ files. Gives fault_of (λ challenge. challenge) result (derived_in files board.now)) }
     ensures shelf { OnlyReads S.held S.Shelf.faults ReportErr.Failed result shelf.old shelf.new }
@@ -48,7 +34,7 @@ fn named_board<S: Shelf>(alloc: Global, shelf: &mut S, board: &str) -> Result<Ch
 }
 
 /// A challenge is written.
-fn derived(
+pub fn derived(
     alloc: Global,
     names: &ChallengeNames<'_>,
     challenge: &Challenge,

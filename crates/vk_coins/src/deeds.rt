@@ -9,10 +9,11 @@ ghost use Rattle.vk_io.specs.Faults.{Causes};
 ghost use Rattle.vk_io.specs.Reads.{OnlyReads};
 ghost use Rattle.std.specs.Prelude.{◌≡◌, IfOk, IfSome, Option};
 
-use crate::boards::derive;
+use crate::boards::{derived, named_board};
 use crate::drawing::part;
-use crate::joining::join;
+use crate::joining::{joined, named_coin};
 use std::alloc::Global;
+use vk_audit::unreported;
 use vk_effect::{Deed, Said};
 use vk_io::{OutsideErr, Shelf};
 use vk_words::CoinOrder;
@@ -50,11 +51,17 @@ fn deed<S: Shelf>(alloc: Global, shelf: &mut S, order: &CoinOrder<'_>) -> Result
             Ok(deed)
         }
         CoinOrder::Join(names) => {
-            let deed = join(alloc, shelf, names)?;
+            let deed = match named_coin(alloc, shelf, names.from) {
+                Ok(coin) => joined(alloc, names, &coin)?,
+                Err(unread) => Deed::says(alloc, unread.said_or_stopped()?),
+            };
             Ok(deed)
         }
         CoinOrder::Board(names) => {
-            let deed = derive(alloc, shelf, names)?;
+            let deed = match named_board(alloc, shelf, names.from) {
+                Ok(challenge) => derived(alloc, names, &challenge)?,
+                Err(fault) => Deed::says(alloc, unreported(alloc, names.from, fault)?),
+            };
             Ok(deed)
         }
     }

@@ -7,36 +7,19 @@ ghost use Rattle.vk_io.specs.Reads.{OnlyReads};
 ghost use Rattle.vk_lines.specs.Gives.{Gives};
 ghost use Rattle.vk_words.specs.Coins.{challenge_seen};
 ghost use Rattle.vk_effect.specs.Reading.{named_in, said_of_unread};
-ghost use Rattle.vk_coins.specs.Joining.{coin_deed, join_deed, joined_said, unmet_said};
+ghost use Rattle.vk_coins.specs.Joining.{coin_deed, joined_said, unmet_said};
 
 use std::alloc::Global;
 use vk_coin::{Coin, JointErr, joint, read_coin};
 use vk_effect::{Deed, Said, Unread, begin_named, named_value, numbers_line, refused};
-use vk_io::{OutsideErr, Shelf};
+use vk_io::Shelf;
 use vk_reply::challenge_text;
 use vk_residue::NoMemory;
 use vk_words::ChallengeNames;
 
-/// Reads the named coin, and joins its shares where each opens its part.
-pub fn join<S: Shelf>(
-    alloc: Global,
-    shelf: &mut S,
-    names: &ChallengeNames<'_>,
-) -> Result<Deed, OutsideErr>
-    ensures modelled { IfSome (S.held shelf.old)
-        (λ files. IfOk result (λ deed. deed ≡ join_deed (challenge_seen names.now) files)) }
-    ensures shelf { OnlyReads S.held S.Shelf.faults OutsideErr.Failed result shelf.old shelf.new }
-{
-    let deed = match named_coin(alloc, shelf, names.from) {
-        Ok(coin) => joined(alloc, names, &coin)?,
-        Err(unread) => Deed::says(alloc, unread.said_or_stopped()?),
-    };
-    Ok(deed)
-}
-
 /// Reads the named coin.
 #[tactic(auto, unfolding(vk_effect::specs::Reading::named_in))]
-fn named_coin<S: Shelf>(alloc: Global, shelf: &mut S, name: &str) -> Result<Coin, Unread>
+pub fn named_coin<S: Shelf>(alloc: Global, shelf: &mut S, name: &str) -> Result<Coin, Unread>
     ensures modelled { IfSome (S.held shelf.old)
         (λ files. Gives said_of_unread (λ coin. coin) result (named_in coin_at files name.now)) }
     ensures shelf { OnlyReads S.held S.Shelf.faults Unread.Failed result shelf.old shelf.new }
@@ -49,7 +32,7 @@ fn named_coin<S: Shelf>(alloc: Global, shelf: &mut S, name: &str) -> Result<Coin
 }
 
 /// The joint challenge of a coin is written, or the first share is said that doesn't open its part.
-fn joined(alloc: Global, names: &ChallengeNames<'_>, coin: &Coin) -> Result<Deed, NoMemory>
+pub fn joined(alloc: Global, names: &ChallengeNames<'_>, coin: &Coin) -> Result<Deed, NoMemory>
     requires { IsCoin coin.now }
     ensures { IfOk result (λ deed. deed ≡ coin_deed (challenge_seen names.now) coin.now) }
 {
