@@ -20,8 +20,7 @@ use vk_plan::Circuit;
 use vk_residue::NoMemory;
 use vk_seq::Seq;
 use vk_verifier::{
-    Attempt, Fault, Halt, OneReply, Part, Statement, TwoReplies, VErr, in_part,
-    judge_behind, known,
+    Attempt, Fault, Halt, OneReply, Part, Statement, TwoReplies, VErr, in_part, judge_behind, known,
 };
 
 /// Reads the head and the seals of a sum file: what its lanes are to show.
