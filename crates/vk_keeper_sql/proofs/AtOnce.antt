@@ -19,6 +19,9 @@ survives_same state P = record {
   crash = λ clean db h. inl h;
 }
 
+pub was_clean : (old new : State) → CommitsNothing old new → HasCleanDisk new → HasCleanDisk old
+was_clean old new none clean = omega (arith, none.clean)
+
 on_ok_of_err : {E : Type 0} (P : Type 0) (result : Result Unit E) → IsErr result → OnOk result P
 on_ok_of_err P (Ok done) refused = absurd (let e = refused in cc)
 on_ok_of_err P (Err refusal) refused = tt

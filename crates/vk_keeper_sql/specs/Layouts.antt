@@ -21,20 +21,19 @@ pub record TableShape : Type 0 where
   pub columns : List ColumnShape
   pub keys : List (List ℕ)
 
+abbrev pub shape : List ℕ → Kind → Bool → Bool → ColumnShape
+shape name kind not_null is_strict =
+    record { name = name; kind = kind; not_null = not_null; is_strict = is_strict }
+
 abbrev pub shape_of : Column → ColumnShape
-shape_of column = record {
-  name = column.name;
-  kind = column.kind;
-  not_null = column.not_null;
-  is_strict = column.is_strict;
-}
+shape_of column = shape column.name column.kind column.not_null column.is_strict
 
 -- a column that takes no NULL, and one that does
 abbrev pub always : List ℕ → Kind → ColumnShape
-always name kind = record { name = name; kind = kind; not_null = true; is_strict = false }
+always name kind = shape name kind true false
 
 abbrev pub maybe : List ℕ → Kind → ColumnShape
-maybe name kind = record { name = name; kind = kind; not_null = false; is_strict = false }
+maybe name kind = shape name kind false false
 
 -- a column of type BLOB takes any value
 abbrev pub about_shape : TableShape

@@ -19,6 +19,10 @@ pub record CommitsAtOnce {E : Type 0} (Makes : Trees → Type 0) (old new : Stat
   pub done : HasCleanDisk new → OnOk result ((new.committed.trees ≡ whole) × Makes whole)
 
 module _ {S : Type 0} (g : Ghosts S) where
+  -- a step inside a transaction, which commits nothing
+  abbrev pub LeavesDisk : Held S → Held S → Type 0
+  LeavesDisk old new = CommitsNothing (state g old) (state g new)
+
   -- a statement with these parameters was run inside a transaction, and was not refused
   unfoldable pub Ran : List ℕ → Row → Held S → Held S → Type 0
   Ran statement columns old new = (count : ℕ)

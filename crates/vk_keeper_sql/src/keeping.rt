@@ -6,8 +6,7 @@ ghost use Rattle.sqlite.specs.State.{HasCleanDisk};
 ghost use Rattle.sqlite.specs.Values.{bound};
 ghost use Rattle.vk_keeper.specs.Auctions.{IsAuction};
 ghost use Rattle.vk_keeper_sql.specs.Columns.{auction_row, bits_in, terms_row, texts_of};
-ghost use Rattle.vk_keeper_sql.specs.Statements.{keep_auction, keep_terms};
-ghost use Rattle.vk_keeper_sql.specs.Transactions.{CommitsNothing, CommitsAtOnce, Ran};
+ghost use Rattle.vk_keeper_sql.specs.Transactions.{CommitsAtOnce, LeavesDisk};
 ghost use Rattle.vk_keeper_sql.specs.Writing.{Keeps, WritesAuction};
 
 use crate::errors::refused_statement;
@@ -77,31 +76,13 @@ fn write_rows<S: Alter>(
     ensures same_reference { transaction.new.conn.ghost_name ≡ transaction.old.conn.ghost_name }
     ensures wrote { HasCleanDisk (state S.Store transaction.new.conn.now) → OnOk result
         (WritesAuction S.Store auction.now transaction.old.conn.now transaction.new.conn.now) }
-    ensures crash { CommitsNothing (state S.Store transaction.old.conn.now)
-        (state S.Store transaction.new.conn.now) }
+    ensures crash { LeavesDisk S.Store transaction.old.conn.now transaction.new.conn.now }
 {
-    write_auction(transaction, auction, &texts.bits)?;
-    write_terms(transaction, auction)?;
+    let row = auction_columns(auction, &texts.bits);
+    run(transaction, KEEP_AUCTION, &row)?;
+    let terms = terms_columns(auction);
+    run(transaction, KEEP_TERMS, &terms)?;
     write_seals(transaction, &auction.id, texts.seals.as_slice())?;
-    Ok(())
-}
-
-/// Writes the auction's own row.
-fn write_auction<S: Alter>(
-    transaction: &mut Transaction<'_, S>,
-    auction: &Auction,
-    bits: &Option<Seq<u8>>,
-) -> Result<(), OutsideErr>
-    requires { bits.now ≡ bits_in auction.now.phase }
-    ensures same_reference { transaction.new.conn.ghost_name ≡ transaction.old.conn.ghost_name }
-    ensures ran { HasCleanDisk (state S.Store transaction.new.conn.now) → OnOk result
-        (Ran S.Store keep_auction (auction_row auction.now) transaction.old.conn.now
-        transaction.new.conn.now) }
-    ensures crash { CommitsNothing (state S.Store transaction.old.conn.now)
-        (state S.Store transaction.new.conn.now) }
-{
-    let columns = auction_columns(auction, bits);
-    run(transaction, KEEP_AUCTION, &columns)?;
     Ok(())
 }
 
@@ -127,24 +108,6 @@ fn auction_columns<'a>(auction: &'a Auction, bits: &'a Option<Seq<u8>>) -> [Valu
         seed,
         bits,
     ]
-}
-
-/// Writes the row of an auction's terms.
-fn write_terms<S: Alter>(
-    transaction: &mut Transaction<'_, S>,
-    auction: &Auction,
-) -> Result<(), OutsideErr>
-    requires { auction.now.reserve < 2 ^ 40 }
-    ensures same_reference { transaction.new.conn.ghost_name ≡ transaction.old.conn.ghost_name }
-    ensures ran { HasCleanDisk (state S.Store transaction.new.conn.now) → OnOk result
-        (Ran S.Store keep_terms (terms_row auction.now) transaction.old.conn.now
-        transaction.new.conn.now) }
-    ensures crash { CommitsNothing (state S.Store transaction.old.conn.now)
-        (state S.Store transaction.new.conn.now) }
-{
-    let columns = terms_columns(auction);
-    run(transaction, KEEP_TERMS, &columns)?;
-    Ok(())
 }
 
 /// The row of an auction's terms.

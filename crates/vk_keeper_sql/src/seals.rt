@@ -7,7 +7,7 @@ ghost use Rattle.sqlite.specs.Values.{bound};
 ghost use Rattle.sqlite.specs.declared.types.Value.TheVariants.{Int, Blob};
 ghost use Rattle.vk_keeper_sql.specs.Columns.{ShowSeals, ShowsSeal, seal_row};
 ghost use Rattle.vk_keeper_sql.specs.Statements.{drop_seals, keep_seal};
-ghost use Rattle.vk_keeper_sql.specs.Transactions.{CommitsNothing, Ran};
+ghost use Rattle.vk_keeper_sql.specs.Transactions.{LeavesDisk, Ran};
 ghost use Rattle.vk_keeper_sql.specs.Writing.{AddsSeals, WritesSeals};
 
 use crate::columns::{number_at, text_at};
@@ -33,8 +33,7 @@ pub fn write_seals<S: Alter>(
     ensures same_reference { transaction.new.conn.ghost_name ≡ transaction.old.conn.ghost_name }
     ensures wrote { HasCleanDisk (state S.Store transaction.new.conn.now) → OnOk result
         (WritesSeals S.Store id.now seals.now transaction.old.conn.now transaction.new.conn.now) }
-    ensures crash { CommitsNothing (state S.Store transaction.old.conn.now)
-        (state S.Store transaction.new.conn.now) }
+    ensures crash { LeavesDisk S.Store transaction.old.conn.now transaction.new.conn.now }
 {
     let held = rows_under(transaction, SEALS, id)?;
     let standing = count_standing(held.as_slice(), seals);
@@ -82,8 +81,7 @@ fn clear_seals<S: Alter>(
     ensures ran { HasCleanDisk (state S.Store transaction.new.conn.now) → OnOk result
         (Ran S.Store drop_seals (Blob id.now ∷ Int (pos standing) ∷ []) transaction.old.conn.now
         transaction.new.conn.now) }
-    ensures crash { CommitsNothing (state S.Store transaction.old.conn.now)
-        (state S.Store transaction.new.conn.now) }
+    ensures crash { LeavesDisk S.Store transaction.old.conn.now transaction.new.conn.now }
 {
     let columns = clear_columns(id, standing);
     run(transaction, DROP_SEALS, &columns)?;
@@ -112,8 +110,7 @@ fn add_seals<S: Alter>(
     ensures added { HasCleanDisk (state S.Store transaction.new.conn.now) → OnOk result
         (AddsSeals S.Store id.now before seals.now transaction.old.conn.now
         transaction.new.conn.now) }
-    ensures crash { CommitsNothing (state S.Store transaction.old.conn.now)
-        (state S.Store transaction.new.conn.now) }
+    ensures crash { LeavesDisk S.Store transaction.old.conn.now transaction.new.conn.now }
 {
     for (i, seal) in seals.iter().enumerate() {
         add_seal(transaction, id, before + i as u32 + 1, seal)?;
@@ -132,8 +129,7 @@ fn add_seal<S: Alter>(
     ensures ran { HasCleanDisk (state S.Store transaction.new.conn.now) → OnOk result
         (Ran S.Store keep_seal (seal_row id.now position seal.now) transaction.old.conn.now
         transaction.new.conn.now) }
-    ensures crash { CommitsNothing (state S.Store transaction.old.conn.now)
-        (state S.Store transaction.new.conn.now) }
+    ensures crash { LeavesDisk S.Store transaction.old.conn.now transaction.new.conn.now }
 {
     let columns = seal_columns(id, position, seal);
     run(transaction, KEEP_SEAL, &columns)?;

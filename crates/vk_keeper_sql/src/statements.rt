@@ -5,7 +5,7 @@ ghost use Rattle.sqlite.specs.Held.{state};
 ghost use Rattle.sqlite.specs.State.{HasCleanDisk};
 ghost use Rattle.sqlite.specs.Values.{bound};
 ghost use Rattle.sqlite.specs.declared.types.Value.TheVariants.{Blob};
-ghost use Rattle.vk_keeper_sql.specs.Transactions.{Answers, CommitsNothing, Ran};
+ghost use Rattle.vk_keeper_sql.specs.Transactions.{Answers, LeavesDisk, Ran};
 
 use crate::errors::refused_statement;
 use sqlite::types::ValueRef;
@@ -37,8 +37,7 @@ pub fn rows_under<S: Alter>(
     ensures same_reference { transaction.new.conn.ghost_name ≡ transaction.old.conn.ghost_name }
     ensures rows { HasCleanDisk (state S.Store transaction.new.conn.now) → IfOk result (λ rows.
         Answers S.Store query.now (Blob id.now ∷ []) transaction.old.conn.now transaction.new.conn.now rows.items) }
-    ensures crash { CommitsNothing (state S.Store transaction.old.conn.now)
-        (state S.Store transaction.new.conn.now) }
+    ensures crash { LeavesDisk S.Store transaction.old.conn.now transaction.new.conn.now }
 {
     let rows = ask(transaction, query, &[ValueRef::Blob(id.as_slice())])?;
     Ok(rows)
@@ -53,8 +52,7 @@ pub fn ask<S: Alter>(
     ensures same_reference { transaction.new.conn.ghost_name ≡ transaction.old.conn.ghost_name }
     ensures rows { HasCleanDisk (state S.Store transaction.new.conn.now) → IfOk result (λ rows.
         Answers S.Store query.now (bound columns.now) transaction.old.conn.now transaction.new.conn.now rows.items) }
-    ensures crash { CommitsNothing (state S.Store transaction.old.conn.now)
-        (state S.Store transaction.new.conn.now) }
+    ensures crash { LeavesDisk S.Store transaction.old.conn.now transaction.new.conn.now }
 {
     let rows = transaction
         .query_all(query, columns)
@@ -72,8 +70,7 @@ pub fn run<S: Alter>(
     ensures ran { HasCleanDisk (state S.Store transaction.new.conn.now) → OnOk result
         (Ran S.Store statement.now (bound columns.now) transaction.old.conn.now
         transaction.new.conn.now) }
-    ensures crash { CommitsNothing (state S.Store transaction.old.conn.now)
-        (state S.Store transaction.new.conn.now) }
+    ensures crash { LeavesDisk S.Store transaction.old.conn.now transaction.new.conn.now }
 {
     match transaction.execute(statement, columns) {
         Ok(_) => Ok(()),

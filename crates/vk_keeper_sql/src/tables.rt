@@ -6,7 +6,7 @@ ghost use Rattle.sqlite.specs.State.{HasCleanDisk};
 ghost use Rattle.sqlite.specs.declared.types.Value.TheVariants.{Int};
 ghost use Rattle.vk_keeper_sql.specs.Layouts.{HasLayout};
 ghost use Rattle.vk_keeper_sql.specs.Opening.{IsNumbered, MakesTables, Prepares, PreparesFrom, ShowNumber};
-ghost use Rattle.vk_keeper_sql.specs.Transactions.{CommitsNothing, CommitsAtOnce};
+ghost use Rattle.vk_keeper_sql.specs.Transactions.{CommitsAtOnce, LeavesDisk};
 ghost use Rattle.vk_keeper_sql.specs.Versions.{version_of};
 
 use crate::columns::{amount_at, count_at};
@@ -76,8 +76,7 @@ fn prepare_within<S: Alter>(
     ensures same_reference { transaction.new.conn.ghost_name ≡ transaction.old.conn.ghost_name }
     ensures prepared { HasCleanDisk (state S.Store transaction.new.conn.now) → OnOk result
         (PreparesFrom S.Store layout transaction.old.conn.now transaction.new.conn.now) }
-    ensures crash { CommitsNothing (state S.Store transaction.old.conn.now)
-        (state S.Store transaction.new.conn.now) }
+    ensures crash { LeavesDisk S.Store transaction.old.conn.now transaction.new.conn.now }
 {
     match layout {
         Layout::Blank => make_tables(transaction)?,
@@ -99,8 +98,7 @@ fn check_number<S: Alter>(transaction: &mut Transaction<'_, S>, number: u32) -> 
     ensures same_reference { transaction.new.conn.ghost_name ≡ transaction.old.conn.ghost_name }
     ensures numbered { HasCleanDisk (state S.Store transaction.new.conn.now) → OnOk result
         (IsNumbered S.Store number transaction.old.conn.now transaction.new.conn.now) }
-    ensures crash { CommitsNothing (state S.Store transaction.old.conn.now)
-        (state S.Store transaction.new.conn.now) }
+    ensures crash { LeavesDisk S.Store transaction.old.conn.now transaction.new.conn.now }
 {
     if number_in(transaction)? != number {
         return Err(OpenErr::Refused);
@@ -114,8 +112,7 @@ fn number_in<S: Alter>(transaction: &mut Transaction<'_, S>) -> Result<u32, Open
     ensures numbered { HasCleanDisk (state S.Store transaction.new.conn.now)
         → IfOk result (λ number.
         IsNumbered S.Store number transaction.old.conn.now transaction.new.conn.now) }
-    ensures crash { CommitsNothing (state S.Store transaction.old.conn.now)
-        (state S.Store transaction.new.conn.now) }
+    ensures crash { LeavesDisk S.Store transaction.old.conn.now transaction.new.conn.now }
 {
     let rows = ask(transaction, NUMBER, &[])?;
     let number = number_from(rows.as_slice())?;
@@ -151,8 +148,7 @@ fn make_tables<S: Alter>(transaction: &mut Transaction<'_, S>) -> Result<(), Out
     ensures same_reference { transaction.new.conn.ghost_name ≡ transaction.old.conn.ghost_name }
     ensures made { HasCleanDisk (state S.Store transaction.new.conn.now) → OnOk result
         (MakesTables S.Store transaction.old.conn.now transaction.new.conn.now) }
-    ensures crash { CommitsNothing (state S.Store transaction.old.conn.now)
-        (state S.Store transaction.new.conn.now) }
+    ensures crash { LeavesDisk S.Store transaction.old.conn.now transaction.new.conn.now }
 {
     run(transaction, MAKE_ABOUT, &[])?;
     run(transaction, MAKE_AUCTIONS, &[])?;

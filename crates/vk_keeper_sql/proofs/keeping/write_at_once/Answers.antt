@@ -1,11 +1,19 @@
-use Rattle.std.proofs.Common.{◌≡◌, Ok, Err, refl, ap, subst, rules}
+use Rattle.std.proofs.Common.{◌≡◌, true, Ok, Err, refl, ap, subst, rules}
 use Rattle.sqlite.specs.Effect.{Database}
-use Rattle.sqlite.specs.Held.{state}
+use Rattle.sqlite.specs.Store.{Ghosts}
+use Rattle.sqlite.specs.Held.{Held, state}
 use Rattle.sqlite.specs.State.{HasCleanDisk}
+use Rattle.vk_keeper.specs.declared.auction.Auction.{Auction}
 use Rattle.vk_keeper_sql.specs.Transactions.{CommitsAtOnce}
-use Rattle.vk_keeper_sql.specs.Writing.{Keeps}
+use Rattle.vk_keeper_sql.specs.Writing.{Keeps, WritesAuction}
 use Rattle.vk_keeper_sql.proofs.AtOnce.{rolled_back_at_once, committed_at_once}
 use Rattle.vk_keeper_sql.proofs.keeping.write_at_once.Goals as goal
+
+-- what is written in the transaction is what is kept
+kept : {S : Type 0} (g : Ghosts S) (old begun last : Held S) (auction : Auction)
+    → begun ≡ record old { in_transaction = true } → WritesAuction g auction begun last
+    → Keeps g auction old (state g last).now.trees
+kept g old begun last auction is wrote = (last, rw is at wrote, refl)
 
 pub returns-in_err-write_rows : goal.returns-in_err-write_rows
 returns-in_err-write_rows g c =
@@ -32,12 +40,9 @@ returns-in-Err g c =
     let last = c.commit.new.self.0 in
     let refused = Err c.refused_statement.result in
     let inside = rw c.transaction-transaction.ensures.begun at c.write_rows.ensures.crash in
-    let made : HasCleanDisk mid → Makes mid.now.trees =
-    λ clean. (
-      c.write_rows.new.transaction.conn.now,
-      rw c.transaction-transaction.ensures.begun at (c.in_ok-write_rows.ensures.wrote clean),
-      refl,
-    ) in
+    let made : HasCleanDisk mid → Makes mid.now.trees = λ clean.
+    kept g.S.Store old _ _ c.args.auction.now c.transaction-transaction.ensures.begun
+    (c.in_ok-write_rows.ensures.wrote clean) in
     let whole = committed_at_once g.S.Store old mid (store last) inside Makes refused made
     c.commit.ensures.survives (λ clean. tt) in
     let same : last ≡ c.connection-2-1.given.0 = search rules in
@@ -51,12 +56,9 @@ returns-in-Ok g c =
     let Makes = Keeps g.S.Store c.args.auction.now old in
     let mid = store c.write_rows.new.transaction.conn.now in
     let inside = rw c.transaction-transaction.ensures.begun at c.write_rows.ensures.crash in
-    let made : HasCleanDisk mid → Makes mid.now.trees =
-    λ clean. (
-      c.write_rows.new.transaction.conn.now,
-      rw c.transaction-transaction.ensures.begun at (c.in_ok-write_rows.ensures.wrote clean),
-      refl,
-    ) in
+    let made : HasCleanDisk mid → Makes mid.now.trees = λ clean.
+    kept g.S.Store old _ _ c.args.auction.now c.transaction-transaction.ensures.begun
+    (c.in_ok-write_rows.ensures.wrote clean) in
     let whole = committed_at_once g.S.Store old mid (store last) inside Makes (Ok tt) made
     c.commit.ensures.survives
     (λ clean. ap (λ (d : Database). d.trees) (c.in-Ok.ensures.ok clean).1.committed_is) in

@@ -1,22 +1,21 @@
-use Rattle.std.proofs.Common.{◌≡◌, ◌∙◌, map, ap, arith}
-use Rattle.sqlite.specs.Held.{state}
-use Rattle.sqlite.specs.State.{HasCleanDisk}
+use Rattle.std.proofs.Common.{◌≡◌, ◌∙◌, map, ap}
 use Rattle.vk_keeper_sql.specs.Columns.{seal_texts}
+use Rattle.vk_keeper_sql.specs.Statements.{keep_auction, keep_terms}
 use Rattle.vk_keeper_sql.specs.declared.texts.Texts.{Texts}
+use Rattle.vk_keeper_sql.proofs.AtOnce.{was_clean}
 use Rattle.vk_keeper_sql.proofs.keeping.write_rows.Goals as goal
 
 pub returns-clause-wrote : goal.returns-clause-wrote
+unfolding keep_auction keep_terms
 returns-clause-wrote g c clean =
-    let two : HasCleanDisk (state g.S.Store c.write_terms.new.transaction.conn.now) =
-    omega (arith, c.write_seals.ensures.crash.clean) in
-    let one : HasCleanDisk (state g.S.Store c.write_auction.new.transaction.conn.now) =
-    omega (arith, c.write_terms.ensures.crash.clean) in
+    let two = was_clean _ _ c.write_seals.ensures.crash clean in
+    let one = was_clean _ _ c.run-2.ensures.crash two in
     let seals : c.as_slice.result.now ≡ map seal_texts c.args.auction.now.seals =
     c.as_slice.ensures ∙ ap (λ (t : Texts). t.seals) c.requires.texts in
     record {
-      one = c.write_auction.new.transaction.conn.now;
-      two = c.write_terms.new.transaction.conn.now;
-      row = c.in_ok-write_auction.ensures.ran one;
-      terms = c.in_ok-write_terms.ensures.ran two;
+      one = c.run.new.transaction.conn.now;
+      two = c.run-2.new.transaction.conn.now;
+      row = rw c.auction_columns-row.ensures at (c.in_ok-run.ensures.ran one);
+      terms = rw c.terms_columns-terms.ensures at (c.in_ok-run-2.ensures.ran two);
       seals = rw seals at (c.in_ok-write_seals.ensures.wrote clean);
     }
