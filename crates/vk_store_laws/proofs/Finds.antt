@@ -7,7 +7,7 @@ use Rattle.std.specs.List.{AllByRecursion}
 use Rattle.std.proofs.lemmas.List.Elements.{recursion_from_All}
 use Rattle.std.proofs.lemmas.List.Sorted.{sorted_far, ranks_by}
 use Rattle.sqlite_value.proofs.OrderLemmas.{then-Equal}
-use Rattle.sqlite_trees.specs.Tree.{IsAscending}
+use Rattle.sqlite_trees.specs.Tree.{IsAscending, Trees}
 use Rattle.sqlite_rules.proofs.ListLemmas.{all_has, all_from}
 use Rattle.sqlite_rules.proofs.ProbeLemmas.{has_mapped}
 use Rattle.sqlite_sql.proofs.QueryLemmas.{key_cmp_total}
@@ -29,7 +29,7 @@ use Rattle.sqlite.proofs.Callers.{reads_as, IsPlain}
 use Rattle.vk_keeper_sql.specs.Statements.{auction_query as find_auction, terms_query as find_terms, seals_query as find_seals}
 use Rattle.vk_store_laws.specs.Tables.{store_schema}
 use Rattle.vk_store_laws.specs.Rows.{has_id, under, head_columns, term_columns, seal_columns}
-use Rattle.vk_store_laws.proofs.Texts.{of_id, two_query, head_query, rows_query, term_query, find_auction_is, find_terms_is, find_seals_is}
+use Rattle.vk_store_laws.proofs.Texts.{of_id, IsQuery, two_query, head_query, rows_query, term_query, find_auction_is, find_terms_is, find_seals_is}
 use Rattle.vk_store_laws.proofs.Selects.{matches_are, filter_same, is_id}
 
 pub and_true : (b : Bool) → b && true ≡ b
@@ -45,18 +45,22 @@ pub matches_under : (id : List ℕ) (rows : List Row)
 matches_under id rows = filter_same _ _ (tests_id id) rows
 
 -- a query for at most two of the rows of the id shows two of them
-shows_two : (tree : ℕ) (project : List Term) (old : State) (id : List ℕ) (rows : List Row)
-    → overlay old.now.trees [] tree ≡ old.now.trees tree
-    → IsAnswer (two_query tree project) (overlay old.now.trees []) (Blob id ∷ []) rows
+finds_two : (text : List ℕ) (tree : ℕ) (project : List Term) (names : List (List ℕ))
+    → IsQuery text (two_query tree project) names
+    → ((trees : Trees) → overlay trees [] tree ≡ trees tree)
+    → (old new : State) (id : List ℕ) (rows : List Row)
+    → old.now.schema ≡ store_schema → Shown text (Blob id ∷ []) old new rows
     → (all : List Row) × IsPermutation
     (map (λ r. (output (two_query tree project) ((Blob id ∷ []) ∷ r ∷ [])).1)
     (under id (old.now.trees tree))) all × (rows ≡ take 2 all)
-shows_two tree project old id rows here a =
+finds_two text tree project names is here old new id rows has shown =
     let params = Blob id ∷ [] in
     let query = two_query tree project in
+    let a : IsAnswer query (overlay old.now.trees []) params rows =
+    (reads_as text params old new store_schema has _ is.0.0 is.1 is.0.1 rows shown).answer Null in
     let found = under id (old.now.trees tree) in
-    let asked = ap (filter (λ r. list_all (holds (params ∷ r ∷ [])) (of_id ∷ []))) here
-    ∙ matches_under id (old.now.trees tree) in
+    let asked = ap (filter (λ r. list_all (holds (params ∷ r ∷ [])) (of_id ∷ [])))
+    (here old.now.trees) ∙ matches_under id (old.now.trees tree) in
     let staged = a.grouped ∙ (matches_are Null (overlay old.now.trees []) params tree (of_id ∷ [])
     ∙ ap (map (λ r. params ∷ r ∷ [])) asked) in
     let kept = a.distinct ∙ (ap (map (output query)) staged
@@ -74,20 +78,14 @@ pub finds_heads : (old new : State) (id : List ℕ) (rows : List Row) → old.no
     → Shown find_auction (Blob id ∷ []) old new rows
     → (all : List Row) × IsPermutation (map head_columns (under id (old.now.trees 1))) all
     × (rows ≡ take 2 all)
-finds_heads old new id rows has shown =
-    let got = reads_as find_auction (Blob id ∷ []) old new store_schema has _ find_auction_is.0.0
-    find_auction_is.1 find_auction_is.0.1 rows shown in
-    shows_two 1 head_query.project old id rows refl (got.answer Null)
+finds_heads = finds_two find_auction 1 head_query.project _ find_auction_is (λ trees. refl)
 
 -- and of the rows of its terms
 pub finds_terms : (old new : State) (id : List ℕ) (rows : List Row) → old.now.schema ≡ store_schema
     → Shown find_terms (Blob id ∷ []) old new rows
     → (all : List Row) × IsPermutation (map term_columns (under id (old.now.trees 6))) all
     × (rows ≡ take 2 all)
-finds_terms old new id rows has shown =
-    let got = reads_as find_terms (Blob id ∷ []) old new store_schema has _ find_terms_is.0.0
-    find_terms_is.1 find_terms_is.0.1 rows shown in
-    shows_two 6 term_query.project old id rows refl (got.answer Null)
+finds_terms = finds_two find_terms 6 term_query.project _ find_terms_is (λ trees. refl)
 
 far_ascending : {X : Type 0} (lt : X → X → Bool) (xs : List X)
     → ((i j : ℕ) (d : X) → i ≤ j → j < length xs → lt (get_or xs j d) (get_or xs i d) ≡ false)

@@ -1,5 +1,5 @@
 -- What each statement of `put` makes of the tables.
-use Rattle.std.proofs.Common.{◌≡◌, ℕ, ◌+◌, pos, Bool, true, false, cond, not, List, [], ◌∷◌, ◌++◌, map, filter, refl, ap, sym, subst, ◌∙◌, inl, inr, Ordering, Less, Equal, Greater}
+use Rattle.std.proofs.Common.{◌≡◌, ◌≢◌, ℕ, ◌+◌, pos, Bool, true, false, cond, not, List, [], ◌∷◌, ◌++◌, map, filter, refl, ap, sym, subst, ◌∙◌, inl, inr, Ordering, Less, Equal, Greater}
 use Rattle.std.specs.Prelude.{None, Some, Option, ◌&&◌, ◌||◌, IsPermutation}
 use Rattle.std.specs.Ordering.{match_ordering}
 use Rattle.std.specs.List.{list_all}
@@ -11,6 +11,7 @@ use Rattle.sqlite_value.specs.Order.{Row, column, value_cmp}
 use Rattle.sqlite_value.proofs.KeyLemmas.{first_key-plain}
 use Rattle.sqlite_trees.specs.Tree.{rowid, put_row}
 use Rattle.sqlite_trees.proofs.ListLemmas.{filter_none, IsPermutation-same}
+use Rattle.sqlite_schema.specs.declared.command.Command.{Command}
 use Rattle.sqlite_schema.specs.Rules.{equal}
 use Rattle.sqlite_sql.specs.Term.{holds}
 use Rattle.sqlite_rules.specs.Cast.{as_text}
@@ -21,6 +22,7 @@ use Rattle.sqlite.specs.Values.{or_null}
 use Rattle.sqlite.specs.Store.{Ghosts}
 use Rattle.sqlite.specs.Held.{Held, state}
 use Rattle.sqlite.specs.Effect.{Database}
+use Rattle.sqlite.specs.State.{Runs}
 use Rattle.sqlite.specs.Listing.{understood}
 use Rattle.sqlite.proofs.Callers.{statement_of, runs_as}
 use Rattle.vk_keeper.specs.declared.auction.Auction.{Auction}
@@ -30,9 +32,9 @@ use Rattle.vk_keeper_sql.specs.Statements.{keep_auction, keep_terms, drop_seals,
 use Rattle.vk_keeper_sql.specs.Transactions.{Ran}
 use Rattle.vk_keeper_sql.specs.Writing.{AddsSeals}
 use Rattle.vk_store_laws.specs.Tables.{store_schema, placed, auctions, seals, terms}
-use Rattle.vk_store_laws.specs.Rows.{has_id, under, head_columns, term_columns, seal_columns, IsTableOfRows, PutsRow}
+use Rattle.vk_store_laws.specs.Rows.{has_id, under, head_columns, term_columns, seal_columns, IsTableOfRows, OnlyTable, PutsRow}
 use Rattle.vk_store_laws.specs.Holding.{IsStore, IsStoreStep, head_row, term_row, seal_rows}
-use Rattle.vk_store_laws.proofs.Texts.{of_id, is_behind, auction_terms, seal_terms, keep_auction_is, terms_terms, keep_terms_is, keep_seal_is, drop_seals_is}
+use Rattle.vk_store_laws.proofs.Texts.{IsCommand, of_id, is_behind, auction_terms, seal_terms, keep_auction_is, terms_terms, keep_terms_is, keep_seal_is, drop_seals_is}
 use Rattle.vk_store_laws.proofs.Selects.{is_id}
 use Rattle.vk_store_laws.proofs.Finds.{and_true}
 use Rattle.vk_store_laws.proofs.Tables.{cast_null, cast_int, deletes, inserts, replaces}
@@ -121,21 +123,67 @@ abbrev pub goes : List ℕ → ℕ → Row → Bool
 goes id standing r = list_all (holds ((Blob id ∷ Int (pos standing) ∷ []) ∷ r ∷ []))
     (of_id ∷ is_behind ∷ [])
 
+-- ---- one table
+
+-- a table stays one, and its rows of other ids are as they were
+record StaysBut (id : List ℕ) (old new : List Row) : Type 0 where
+  rows : IsTableOfRows new
+  others : (other : List ℕ) → other ≢ id → under other new ≡ under other old
+
+as_was : (id : List ℕ) (old new : List Row) → IsTableOfRows old → new ≡ old → StaysBut id old new
+as_was id old new table same = record {
+  rows = subst IsTableOfRows (sym same) table;
+  others = λ other apart. ap (under other) same;
+}
+
+-- where a row took the place of all of its id
+put_over : (id : List ℕ) (values : Row) (old new : List Row) → IsTableOfRows old
+    → PutsRow (Blob id ∷ values) (filter (λ r. not (has_id id r)) old) new → StaysBut id old new
+put_over id values old new table put =
+    let left = filter (λ r. not (has_id id r)) old in
+    record {
+      rows = table_after_put (Blob id ∷ values) left new (table_after_delete _ old table) put;
+      others = λ other apart. others_after_put other id values left new apart put
+          ∙ others_after_delete other id (has_id id) old apart (λ r h. h);
+    }
+
+step_of : (id : List ℕ) (old new : Database) → new.schema ≡ store_schema
+    → StaysBut id (old.trees 1) (new.trees 1) → StaysBut id (old.trees 6) (new.trees 6)
+    → StaysBut id (old.trees 3) (new.trees 3) → IsStoreStep id old new
+step_of id old new schema auctions terms seals = record {
+  store = record {
+    schema = schema;
+    auctions = auctions.rows;
+    terms = terms.rows;
+    seals = seals.rows;
+  };
+  others = record { auctions = auctions.others; terms = terms.others; seals = seals.others };
+}
+
 module _ {S : Type 0} (g : Ghosts S) (old new : Held S) (store : IsStore (state g old).now) where
+  -- a text that was run wrote what its command does
+  pub wrote : (text : List ℕ) (params : Row) (command : Command) → IsCommand text command
+      → Ran g text params old new
+      → (count : ℕ) × Runs (state g old) (state g new) None command
+      (statement_of text (understood store_schema text)) params count
+  unfolding Ran
+  wrote text params command is ran = (
+    ran.0,
+    runs_as text params (state g old) (state g new) store_schema store.schema command is.0 is.1
+        ran.0 ran.1.0,
+  )
+
   -- the row of the auction is the only one of its id, and nothing else is changed
   pub keeps_row : (auction : Auction) → Ran g keep_auction (auction_row auction) old new
       → IsStoreStep auction.id (state g old).now (state g new).now
       × (map head_columns (under auction.id ((state g new).now.trees 1)) ≡ head_row auction ∷ [])
-  unfolding Ran
   keeps_row auction ran =
       let id = auction.id in
       let params = auction_row auction in
       let before = (state g old).now.trees 1 in
-      let w = runs_as keep_auction params (state g old) (state g new) store_schema store.schema _
-      keep_auction_is.0 keep_auction_is.1 ran.0 ran.1.0 in
-      let text = statement_of keep_auction (understood store_schema keep_auction) in
+      let w = wrote keep_auction params _ keep_auction_is ran in
       let done = replaces store_schema 1 (placed auctions 1) refl (λ keys db edit. refl)
-      (state g old) (state g new) store.schema text params ran.0
+      (state g old) (state g new) store.schema _ params w.0
       (has_id id) refl (λ n. rw (
         cast_int n,
         cast_int (pos auction.width),
@@ -152,31 +200,12 @@ module _ {S : Type 0} (g : Ghosts S) (old new : Held S) (store : IsStore (state 
         cast_int (pos auction.lanes),
         cast_int _,
         text_stays (bits_in auction.phase),
-      ) refl) store.auctions w in
-      let left = filter (λ r. not (has_id id r)) before in
-      let put = done.1 in
-      let alone = left_alone id params before _ put (own_id id) in
-      let same : (state g new).now.trees 3 ≡ (state g old).now.trees 3 =
-      done.0.tables.1.1.0 apart_31 in
-      let terms : (state g new).now.trees 6 ≡ (state g old).now.trees 6 =
-      done.0.tables.1.1.1.0 apart_61 in (
-        record {
-          store = record {
-            schema = done.0.schema;
-            auctions = table_after_put params left _ (table_after_delete _ before store.auctions)
-                put;
-            terms = subst IsTableOfRows (sym terms) store.terms;
-            seals =
-                subst IsTableOfRows (sym same) store.seals;
-          };
-          others = record {
-            auctions = λ other apart. others_after_put other id _ left _ apart put
-                ∙ others_after_delete other id (has_id id) before apart (λ r h. h);
-            terms = λ other apart. ap (under other) terms;
-            seals = λ other apart. ap (under other) same;
-          };
-        },
-        ap (map head_columns) alone,
+      ) refl) store.auctions w.1 in (
+        step_of id (state g old).now (state g new).now done.0.schema
+            (put_over id _ before _ store.auctions done.1)
+            (as_was id _ _ store.terms (done.0.tables.1.1.1.0 apart_61))
+            (as_was id _ _ store.seals (done.0.tables.1.1.0 apart_31)),
+        ap (map head_columns) (left_alone id params before _ done.1 (own_id id)),
       )
 
   -- the row of its terms is the only one of its id, and nothing else is changed
@@ -185,49 +214,43 @@ module _ {S : Type 0} (g : Ghosts S) (old new : Held S) (store : IsStore (state 
       × (map term_columns (under auction.id ((state g new).now.trees 6)) ≡ term_row auction ∷ [])
       × ((state g new).now.trees 1 ≡ (state g old).now.trees 1)
       × IsSound store_schema (state g new).now.trees
-  unfolding Ran
   keeps_terms auction ran =
-      let before = (state g old).now.trees 6 in
       let id = auction.id in
-      let left = filter (λ r. not (has_id id r)) before in
       let params = terms_row auction in
-      let w = runs_as keep_terms params (state g old) (state g new) store_schema store.schema _
-      keep_terms_is.0 keep_terms_is.1 ran.0 ran.1.0 in
-      let text = statement_of keep_terms (understood store_schema keep_terms) in
+      let before = (state g old).now.trees 6 in
+      let w = wrote keep_terms params _ keep_terms_is ran in
       let done = replaces store_schema 3 (placed terms 6) refl (λ keys db edit. refl) (state g old)
-      (state g new) store.schema text params ran.0
+      (state g new) store.schema _ params w.0
       (has_id id) refl (λ n. rw
       (cast_int n, cast_int (pos auction.version), cast_int (pos auction.reserve)) refl)
       (λ n r. subst (λ (k : Key). ((equal k.collation (column r 1) (Blob id) && true) || false)
       ≡ has_id id r) (sym first_key-plain) (or_false _ ∙ (and_true _ ∙ is_id (column r 1) id)))
       terms_terms 4 refl refl refl
       (rw (cast_null, cast_int (pos auction.version), cast_int (pos auction.reserve)) refl)
-      store.terms w in
-      let put = done.1 in
-      let alone = left_alone id params before _ put (own_id id) in
-      let heads : (state g new).now.trees 1 ≡ (state g old).now.trees 1 = done.0.tables.1.0 apart_16
-      in
-      let same : (state g new).now.trees 3 ≡ (state g old).now.trees 3 =
-      done.0.tables.1.1.0 apart_36 in (
-        record {
-          store = record {
-            schema = done.0.schema;
-            auctions = subst IsTableOfRows (sym heads) store.auctions;
-            terms =
-                table_after_put params left _ (table_after_delete _ before store.terms) put;
-            seals =
-                subst IsTableOfRows (sym same) store.seals;
-          };
-          others = record {
-            auctions = λ other apart. ap (under other) heads;
-            terms = λ other apart. others_after_put other id _ left _ apart put
-                ∙ others_after_delete other id (has_id id) before apart (λ r h. h);
-            seals = λ other apart. ap (under other) same;
-          };
-        },
-        ap (map term_columns) alone,
+      store.terms w.1 in
+      let heads = done.0.tables.1.0 apart_16 in (
+        step_of id (state g old).now (state g new).now done.0.schema
+            (as_was id _ _ store.auctions heads)
+            (put_over id _ before _ store.terms done.1)
+            (as_was id _ _ store.seals (done.0.tables.1.1.0 apart_36)),
+        ap (map term_columns) (left_alone id params before _ done.1 (own_id id)),
         heads,
-        subst (λ s. IsSound s (state g new).now.trees) done.0.schema w.sound,
+        subst (λ s. IsSound s (state g new).now.trees) done.0.schema w.1.sound,
+      )
+
+  -- what writes nothing but seals leaves the other tables as they were
+  only_seals : (id : List ℕ) → OnlyTable 3 store_schema (state g old).now (state g new).now
+      → StaysBut id ((state g old).now.trees 3) ((state g new).now.trees 3)
+      → IsStoreStep id (state g old).now (state g new).now
+      × ((state g new).now.trees 1 ≡ (state g old).now.trees 1)
+      × ((state g new).now.trees 6 ≡ (state g old).now.trees 6)
+  only_seals id only seals =
+      let heads = only.tables.1.0 apart_13 in
+      let terms = only.tables.1.1.1.0 apart_63 in (
+        step_of id (state g old).now (state g new).now only.schema
+            (as_was id _ _ store.auctions heads) (as_was id _ _ store.terms terms) seals,
+        heads,
+        terms,
       )
 
   -- one more seal's row, and nothing else is changed
@@ -237,40 +260,19 @@ module _ {S : Type 0} (g : Ghosts S) (old new : Held S) (store : IsStore (state 
       × PutsRow (seal_row id position texts) ((state g old).now.trees 3) ((state g new).now.trees 3)
       × ((state g new).now.trees 1 ≡ (state g old).now.trees 1)
       × ((state g new).now.trees 6 ≡ (state g old).now.trees 6)
-  unfolding Ran
   keeps_seal id position texts ran =
       let params = seal_row id position texts in
       let before = (state g old).now.trees 3 in
-      let w = runs_as keep_seal params (state g old) (state g new) store_schema store.schema _
-      keep_seal_is.0 keep_seal_is.1 ran.0 ran.1.0 in
-      let text = statement_of keep_seal (understood store_schema keep_seal) in
+      let w = wrote keep_seal params _ keep_seal_is ran in
       let done = inserts store_schema 2 (placed seals 3) refl (λ keys db edit. refl) (state g old)
-      (state g new) store.schema text params ran.0
+      (state g new) store.schema _ params w.0
       seal_terms 6 refl refl refl
-      (rw (cast_null, cast_int (pos position), cast_int (pos texts.seat)) refl) w in
-      let same : (state g new).now.trees 1 ≡ (state g old).now.trees 1 = done.0.tables.1.0 apart_13
-      in
-      let terms : (state g new).now.trees 6 ≡ (state g old).now.trees 6 =
-      done.0.tables.1.1.1.0 apart_63 in (
-        record {
-          store = record {
-            schema = done.0.schema;
-            auctions = subst IsTableOfRows (sym same) store.auctions;
-            terms =
-                subst IsTableOfRows (sym terms) store.terms;
-            seals =
-                table_after_put params before _ store.seals done.1;
-          };
-          others = record {
-            auctions = λ other apart. ap (under other) same;
-            terms = λ other apart. ap (under other) terms;
-            seals = λ other apart. others_after_put other id _ before _ apart done.1;
-          };
-        },
-        done.1,
-        same,
-        terms,
-      )
+      (rw (cast_null, cast_int (pos position), cast_int (pos texts.seat)) refl) w.1 in
+      let step = only_seals id done.0 (record {
+        rows = table_after_put params before _ store.seals done.1;
+        others = λ other apart. others_after_put other id _ before _ apart done.1;
+      }) in
+      (step.0, done.1, step.1, step.2)
 
   -- the rows of the id's seals go but for so many from the first position on, and nothing else is
   -- changed
@@ -281,41 +283,20 @@ module _ {S : Type 0} (g : Ghosts S) (old new : Held S) (store : IsStore (state 
       ≡ filter (λ r. not (goes id standing r)) ((state g old).now.trees 3))
       × ((state g new).now.trees 1 ≡ (state g old).now.trees 1)
       × ((state g new).now.trees 6 ≡ (state g old).now.trees 6)
-  unfolding Ran
   clears_seals id standing ran =
       let params = Blob id ∷ Int (pos standing) ∷ [] in
       let before = (state g old).now.trees 3 in
-      let w = runs_as drop_seals params (state g old) (state g new) store_schema store.schema _
-      drop_seals_is.0 drop_seals_is.1 ran.0 ran.1.0 in
-      let text = statement_of drop_seals (understood store_schema drop_seals) in
+      let w = wrote drop_seals params _ drop_seals_is ran in
       let done = deletes store_schema 2 (placed seals 3) refl (λ keys db edit. refl) (state g old)
-      (state g new) store.schema text params ran.0
-      (of_id ∷ is_behind ∷ []) (λ db. refl) store.seals w in
-      let same : (state g new).now.trees 1 ≡ (state g old).now.trees 1 = done.0.tables.1.0 apart_13
-      in
-      let terms : (state g new).now.trees 6 ≡ (state g old).now.trees 6 =
-      done.0.tables.1.1.1.0 apart_63 in (
-        record {
-          store = record {
-            schema = done.0.schema;
-            auctions = subst IsTableOfRows (sym same) store.auctions;
-            terms =
-                subst IsTableOfRows (sym terms) store.terms;
-            seals =
-                subst IsTableOfRows (sym done.1) (table_after_delete _ before store.seals);
-          };
-          others = record {
-            auctions = λ other apart. ap (under other) same;
-            terms = λ other apart. ap (under other) terms;
-            seals = λ other apart. ap (under other) done.1
-                ∙ others_after_delete other id (goes id standing) before apart
-                (λ r gone. sym (is_id (column r 1) id) ∙ (and_parts _ _ gone).0);
-          };
-        },
-        done.1,
-        same,
-        terms,
-      )
+      (state g new) store.schema _ params w.0
+      (of_id ∷ is_behind ∷ []) (λ db. refl) store.seals w.1 in
+      let step = only_seals id done.0 (record {
+        rows = subst IsTableOfRows (sym done.1) (table_after_delete _ before store.seals);
+        others = λ other apart. ap (under other) done.1
+            ∙ others_after_delete other id (goes id standing) before apart
+            (λ r gone. sym (is_id (column r 1) id) ∙ (and_parts _ _ gone).0);
+      }) in
+      (step.0, done.1, step.1, step.2)
 
 pub then_step : (id : List ℕ) (a b c : Database) → IsStoreStep id a b → IsStoreStep id b c
     → IsStoreStep id a c

@@ -50,13 +50,8 @@ use Rattle.vk_store_laws.proofs.Marks.{IsMarked, names, adds_terms}
 
 terms_from : Defines first_store_schema make_terms terms
 unfolding understood everything make_terms
-terms_from = record {
-  command = refl;
-  text = refl;
-  plain = (refl, refl);
-  table_is = refl;
-  uncounted = refl;
-}
+terms_from =
+    record { command = refl; text = refl; plain = (refl, refl); table_is = refl; uncounted = refl }
 
 lifted_schema : created first_store_schema terms ≡ store_schema
 unfolding digits

@@ -47,46 +47,16 @@ pub record Defines (schema : Schema) (sql : List ℕ) (table : Table) : Type 0 w
   pub table_is : table_defined_by sql ≡ Ok table
   pub uncounted : lacks_sequence (created schema table) ≡ false
 
-about_is : Defines no_schema make_about about
-unfolding understood everything make_about
-about_is = record {
-  command = refl;
-  text = refl;
-  plain = (refl, refl);
-  table_is = refl;
-  uncounted = refl;
-}
-
-auctions_is : Defines one_schema make_auctions auctions
-unfolding understood everything make_auctions
-auctions_is = record {
-  command = refl;
-  text = refl;
-  plain = (refl, refl);
-  table_is = refl;
-  uncounted = refl;
-}
-
-seals_is : Defines two_schema make_seals seals
-unfolding understood everything make_seals
-seals_is = record {
-  command = refl;
-  text = refl;
-  plain = (refl, refl);
-  table_is = refl;
-  uncounted = refl;
-}
-
 -- the terms came last: a store that was made before has the three tables above
-terms_is : Defines three_schema make_terms terms
-unfolding understood everything make_terms
-terms_is = record {
-  command = refl;
-  text = refl;
-  plain = (refl, refl);
-  table_is = refl;
-  uncounted = refl;
-}
+texts_are : Defines no_schema make_about about × Defines one_schema make_auctions auctions
+    × Defines two_schema make_seals seals × Defines three_schema make_terms terms
+unfolding understood everything make_about make_auctions make_seals make_terms
+texts_are = (
+  record { command = refl; text = refl; plain = (refl, refl); table_is = refl; uncounted = refl },
+  record { command = refl; text = refl; plain = (refl, refl); table_is = refl; uncounted = refl },
+  record { command = refl; text = refl; plain = (refl, refl); table_is = refl; uncounted = refl },
+  record { command = refl; text = refl; plain = (refl, refl); table_is = refl; uncounted = refl },
+)
 
 number_is : command_of (understood store_schema first_number)
     ≡ Insert 0 (Values (lit Null ∷ col 0 0 ∷ []) 2)
@@ -145,11 +115,11 @@ module _ {S : Type 0} (g : Ghosts S) where
       × ((state g new).now.trees 3 ≡ []) × ((state g new).now.trees 6 ≡ [])
   unfolding Ran
   made_is_store old new has it =
-      let one = makes old it.one no_schema make_about about has about_is it.about in
-      let two = makes it.one it.two one_schema make_auctions auctions one.0 auctions_is it.auctions
+      let one = makes old it.one no_schema make_about about has texts_are.0 it.about in
+      let two = makes it.one it.two one_schema make_auctions auctions one.0 texts_are.1 it.auctions
       in
-      let three = makes it.two it.three two_schema make_seals seals two.0 seals_is it.seals in
-      let four = makes it.three it.four three_schema make_terms terms three.0 terms_is it.terms in
+      let three = makes it.two it.three two_schema make_seals seals two.0 texts_are.2 it.seals in
+      let four = makes it.three it.four three_schema make_terms terms three.0 texts_are.3 it.terms in
       let whole = four.0 ∙ all_made in
       let params = Int (pos 2) ∷ [] in
       let w = runs_as first_number params (state g it.four) (state g new) store_schema whole _

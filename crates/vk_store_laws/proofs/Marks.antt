@@ -23,8 +23,6 @@ use Rattle.sqlite.specs.Values.{bound_value}
 use Rattle.sqlite.specs.Store.{Ghosts}
 use Rattle.sqlite.specs.Held.{Held, state}
 use Rattle.sqlite.specs.Effect.{Database}
-use Rattle.sqlite.specs.Listing.{understood}
-use Rattle.sqlite.proofs.Callers.{statement_of, runs_as}
 use Rattle.vk_keeper_sql.specs.Statements.{keep_terms}
 use Rattle.vk_keeper_sql.specs.Transactions.{Ran}
 use Rattle.vk_keeper_sql.specs.Opening.{AddsTerms}
@@ -36,7 +34,7 @@ use Rattle.vk_store_laws.proofs.Selects.{told, is_id, filter_same}
 use Rattle.vk_store_laws.proofs.Finds.{and_true}
 use Rattle.vk_store_laws.proofs.Tables.{cast_null, cast_int, replaces}
 use Rattle.vk_store_laws.proofs.Under.{equal_is, own_id, filter_put, table_after_put, table_after_delete}
-use Rattle.vk_store_laws.proofs.Keeping.{apart_13, or_false, put_alone, none_left, apart_16, apart_36}
+use Rattle.vk_store_laws.proofs.Keeping.{apart_13, or_false, put_alone, none_left, apart_16, apart_36, wrote}
 
 -- ---- a value and a blob
 
@@ -167,20 +165,17 @@ puts_terms : {S : Type 0} (g : Ghosts S) (old new : Held S) (w : Value) → IsSt
     → OnlyTerms (state g old).now (state g new).now
     × PutsRow (w ∷ first_row) (filter (λ r. not (is_of w r)) ((state g old).now.trees 6))
     ((state g new).now.trees 6)
-unfolding Ran
 puts_terms g old new w store ran =
     let params = w ∷ first_row in
     let before = (state g old).now.trees 6 in
-    let run = runs_as keep_terms params (state g old) (state g new) store_schema store.schema _
-    keep_terms_is.0 keep_terms_is.1 ran.0 ran.1.0 in
-    let text = statement_of keep_terms (understood store_schema keep_terms) in
+    let run = wrote g old new store keep_terms params _ keep_terms_is ran in
     let done = replaces store_schema 3 (placed terms 6) refl (λ keys db edit. refl) (state g old)
-    (state g new) store.schema text params ran.0
+    (state g new) store.schema _ params run.0
     (is_of w) refl (λ n. rw (cast_int n, cast_int (pos 1), cast_int (pos 0)) refl)
     (λ n r. subst (λ (k : Key). ((equal k.collation (column r 1) w && true) || false) ≡ is_of w r)
     (sym first_key-plain) (or_false _ ∙ and_true _))
     terms_terms 4 refl refl (mended_is w) (rw (cast_null, cast_int (pos 1), cast_int (pos 0)) refl)
-    store.terms run in
+    store.terms run.1 in
     let heads : (state g new).now.trees 1 ≡ (state g old).now.trees 1 = done.0.tables.1.0 apart_16
     in
     let rows : (state g new).now.trees 3 ≡ (state g old).now.trees 3 = done.0.tables.1.1.0 apart_36

@@ -73,23 +73,28 @@ four_columns rows order same =
     (all_from IsFour (map seal_columns rows)
     (λ x h. let from = has_mapped seal_columns rows x h in subst IsFour (sym from.2) refl))
 
+-- the one row is this one, where any that shows as much is
+one_is : (f : Row → Row) (Shows : Row → Type 0) (wanted : Row)
+    → ((r : Row) → Shows (f r) → f r ≡ wanted) → (rows : List Row) (row : Row)
+    → map f rows ≡ row ∷ [] → Shows row → map f rows ≡ wanted ∷ []
+one_is f Shows wanted means [] row is shown = absurd (let e = is in cc)
+one_is f Shows wanted means (r ∷ rows) row is shown =
+    let first : row ≡ f r = cc in
+    is ∙ ap (λ x. x ∷ []) (first ∙ means r (subst Shows first shown))
+
 -- a row that shows the auction is its row
 head_is : (rows : List Row) (head : Row) (auction : Auction) → map head_columns rows ≡ head ∷ []
     → ShowsAuction head auction → map head_columns rows ≡ head_row auction ∷ []
-head_is [] head auction is shown = absurd (let e = is in cc)
-head_is (r ∷ rows) head auction is shown =
-    let first : head ≡ head_columns r = cc in
-    let shows : ShowsAuction (head_columns r) auction =
-    subst (λ row. ShowsAuction row auction) first shown in
-    is ∙ ap (λ row. row ∷ []) (first
-    ∙ rw (
+head_is rows head auction =
+    one_is head_columns (λ row. ShowsAuction row auction) (head_row auction)
+    (λ r shows. rw (
       shows.width,
       shows.lanes,
       shows.phase,
       shows.seed,
       shows.bits,
       bits_as (challenge_of auction.phase),
-    ) refl)
+    ) refl) rows head
 
 none_mapped : (f : Row → Row) (rows : List Row) → map f rows ≡ [] → rows ≡ []
 none_mapped f [] is = refl
@@ -110,12 +115,9 @@ one_permuted rows order row same is =
 -- a row that shows the terms is theirs
 terms_are : (rows : List Row) (row : Row) (auction : Auction) → map term_columns rows ≡ row ∷ []
     → ShowsTerms row auction → map term_columns rows ≡ term_row auction ∷ []
-terms_are [] row auction is shown = absurd (let e = is in cc)
-terms_are (r ∷ rows) row auction is shown =
-    let first : row ≡ term_columns r = cc in
-    let shows : ShowsTerms (term_columns r) auction =
-    subst (λ row. ShowsTerms row auction) first shown in
-    is ∙ ap (λ row. row ∷ []) (first ∙ rw (shows.version, shows.reserve) refl)
+terms_are rows row auction =
+    one_is term_columns (λ row. ShowsTerms row auction) (term_row auction)
+    (λ r shows. rw (shows.version, shows.reserve) refl) rows row
 
 module _ {S : Type 0} (g : Ghosts S) (id : List ℕ) (old : Held S) (has : (state g old).now.schema ≡ store_schema) (heads terms rows : List Row) (it : Reads g id old heads terms rows) where
   -- what the three queries found

@@ -96,32 +96,41 @@ uncounts false less A B e h = h
 module _ (schema : Schema) (at : ℕ) (table : Table) (placed : slice_get schema.tables at ≡ Some table)
     (alone : (keys : Keys) (db : Trees) (edit : Edit) → works schema keys 0 edit.table.tree (taken_by db edit) edit.news ≡ [])
     (old new : State) (has : old.now.schema ≡ schema) (text : List ℕ) (params : Row) (count : ℕ) where
+  abbrev task_on : Table → Task
+  task_on t = record {
+    limit = old.step_limit;
+    keys = (mode_of old).keys;
+    schema = schema;
+    table = t;
+    params = params;
+  }
+
+  -- what a statement did, under this schema
+  did : (command : Command) → (w : Writes old new None command text params count)
+      → Does old.step_limit (mode_of old) params (record old.now { schema = schema }) text None
+      command (Ok (w.tally, new.now))
+  did command w = subst (λ s. Does old.step_limit (mode_of old) params
+      (record old.now { schema = s }) text None command (Ok (w.tally, new.now))) has w.changed
+
+  -- and what it did on the rows of the table
   ran : (command : Command) (tally : Tally)
-      → AtPlace (λ t. OnRows (record {
-        limit = old.step_limit;
-        keys = (mode_of old).keys;
-        schema = schema;
-        table = t;
-        params = params;
-      }) (mode_of old) None command old.now.trees)
+      → AtPlace (λ t. OnRows (task_on t) (mode_of old) None command old.now.trees)
       (slice_get schema.tables at) (Ok (tally, new.now))
-      → OnRows (record {
-        limit = old.step_limit;
-        keys = (mode_of old).keys;
-        schema = schema;
-        table = table;
-        params = params;
-      }) (mode_of old) None command old.now.trees
-      (Ok (tally, new.now))
-  ran command tally h = subst (λ o.
-      AtPlace (λ t. OnRows (record {
-        limit = old.step_limit;
-        keys = (mode_of old).keys;
-        schema = schema;
-        table = t;
-        params = params;
-      }) (mode_of old) None command old.now.trees) o
-      (Ok (tally, new.now))) placed h
+      → OnRows (task_on table) (mode_of old) None command old.now.trees (Ok (tally, new.now))
+  ran command tally = subst (λ o. AtPlace
+      (λ t. OnRows (task_on t) (mode_of old) None command old.now.trees) o
+      (Ok (tally, new.now))) placed
+
+  abbrev Others : Trees → Trees → Type 0
+  Others before after = AllByRecursion
+      (λ (other : Table). other.tree ≢ table.tree → after other.tree ≡ before other.tree)
+      schema.tables
+
+  -- these are the trees that it left, and no other than that of the table was written
+  only : (next : Trees) → new.now.schema ≡ schema → new.now.trees ≡ next
+      → Others old.now.trees next → OnlyTable table.tree schema old.now new.now
+  only next stays is others =
+      record { schema = stays; tables = subst (Others old.now.trees) (sym is) others }
 
   -- the rows that the test passes are gone, and nothing else
   pub deletes : (terms : List Term) → ((db : Trees) → overlay db [] table.tree ≡ db table.tree)
@@ -134,11 +143,9 @@ module _ (schema : Schema) (at : ℕ) (table : Table) (placed : slice_get schema
   deletes terms seen sorted w =
       let db = old.now.trees in
       let query = plain_query table.tree terms (col 1 0 ∷ []) in
-      let command = Delete at (record { lets = []; body = query }) in
       let p = λ (r : Row). list_all (holds (params ∷ r ∷ [])) terms in
-      let done = went (ran command w.tally
-      (subst (λ s. Does old.step_limit (mode_of old) params (record old.now { schema = s }) text
-      None command (Ok (w.tally, new.now))) has w.changed)) in
+      let command = Delete at (record { lets = []; body = query }) in
+      let done = went (ran command w.tally (did command w)) in
       let now = ap (λ (q : Tally × Database). q.1) (same_value (went (went done.2).2).2) in
       let found = went done.1 in
       let wrote = went found.2 in
@@ -162,12 +169,7 @@ module _ (schema : Schema) (at : ℕ) (table : Table) (placed : slice_get schema
       (IsPermutation-map ids a.kept a.ordered a.same)) in
       let left = left_are (db table.tree) sorted.0 sorted.1 p (ids_of found.0) same in
       let is : new.now.trees ≡ wrote.0 = ap (λ (d : Database). d.trees) now ∙ trees in (
-        record {
-          schema = ap (λ (d : Database). d.schema) now;
-          tables = subst (λ (t : Trees). AllByRecursion
-              (λ (other : Table). other.tree ≢ table.tree → t other.tree ≡ db other.tree)
-              schema.tables) (sym is) applied.tables;
-        },
+        only wrote.0 (ap (λ (d : Database). d.schema) now) is applied.tables,
         ap (λ (t : Trees). t table.tree) is ∙ (applied.rows ∙ left),
       )
 
@@ -176,23 +178,15 @@ module _ (schema : Schema) (at : ℕ) (table : Table) (placed : slice_get schema
       → OnlyTable table.tree schema old.now new.now
   updates program w =
       let db = old.now.trees in
-      let command = Update at program in
-      let done = went (ran command w.tally
-      (subst (λ s. Does old.step_limit (mode_of old) params (record old.now { schema = s }) text
-      None command (Ok (w.tally, new.now))) has w.changed)) in
+      let done = went (ran (Update at program) w.tally (did (Update at program) w)) in
       let now = ap (λ (q : Tally × Database). q.1) (same_value (went (went done.2).2).2) in
       let found = went done.1 in
       let wrote = went found.2 in
       let edit = edit_of db table (ids_of found.0) Given 1 found.0 in
       let applied = one_step schema _ db wrote.0 edit (alone (mode_of old).keys db edit) wrote.1 in
-      let is : new.now.trees ≡ wrote.0 = ap (λ (d : Database). d.trees) now
-      ∙ ap (λ (it : Written). it.trees) (same_value wrote.2) in
-      record {
-        schema = ap (λ (d : Database). d.schema) now;
-        tables = subst (λ (t : Trees). AllByRecursion
-            (λ (other : Table). other.tree ≢ table.tree → t other.tree ≡ db other.tree) schema.tables)
-            (sym is) applied.tables;
-      }
+      only wrote.0 (ap (λ (d : Database). d.schema) now)
+      (ap (λ (d : Database). d.trees) now ∙ ap (λ (it : Written). it.trees) (same_value wrote.2))
+      applied.tables
 
   -- one row is put under a rowid that was free, and nothing else is changed
   pub inserts : (terms : List Term) (width : ℕ) → table.is_counted ≡ false
@@ -205,9 +199,7 @@ module _ (schema : Schema) (at : ℕ) (table : Table) (placed : slice_get schema
   inserts terms width uncounted unstamped valued casts w =
       let db = old.now.trees in
       let command = Insert at (Values terms width) in
-      let done = went (ran command w.tally
-      (subst (λ s. Does old.step_limit (mode_of old) params (record old.now { schema = s }) text
-      None command (Ok (w.tally, new.now))) has w.changed)) in
+      let done = went (ran command w.tally (did command w)) in
       let now = ap (λ (q : Tally × Database). q.1) (same_value (went (went done.2).2).2) in
       let given = went done.1 in
       let counter = went given.2 in
@@ -231,12 +223,7 @@ module _ (schema : Schema) (at : ℕ) (table : Table) (placed : slice_get schema
       let news : edit.news ≡ row ∷ [] = ap (λ all. (edit_of db table [] Chosen 0 all).news) rows
       ∙ ap (λ r. numbered Chosen (db table.tree) (r ∷ [])) casts in
       let is : new.now.trees ≡ written.0 = ap (λ (d : Database). d.trees) now ∙ trees in (
-        record {
-          schema = ap (λ (d : Database). d.schema) now;
-          tables = subst (λ (t : Trees). AllByRecursion
-              (λ (other : Table). other.tree ≢ table.tree → t other.tree ≡ db other.tree)
-              schema.tables) (sym is) applied.tables;
-        },
+        only written.0 (ap (λ (d : Database). d.schema) now) is applied.tables,
         record {
           number = number;
           rows = ap (λ (t : Trees). t table.tree) is
@@ -251,18 +238,7 @@ module _ (schema : Schema) (at : ℕ) (table : Table) (placed : slice_get schema
       (keyed : (n : ℤ) (r : Row) → list_any (shares None table (Int n ∷ params) r) schema.indexes
       ≡ key r) where
     task : Task
-    task = record {
-      limit = old.step_limit;
-      keys = (mode_of old).keys;
-      schema = schema;
-      table = table;
-      params = params;
-    }
-
-    abbrev Others : Trees → Trees → Type 0
-    Others before after = AllByRecursion
-        (λ (other : Table). other.tree ≢ table.tree → after other.tree ≡ before other.tree)
-        schema.tables
+    task = task_on table
 
     puts : (n : ℤ) (mid : Trees) (one : Written) → Puts task (Int n ∷ params) mid (Ok one)
         → (one.trees table.tree ≡ put_row (Int n ∷ params) (mid table.tree))
@@ -397,9 +373,7 @@ module _ (schema : Schema) (at : ℕ) (table : Table) (placed : slice_get schema
     replaces terms width unstamped valued mends casts sorted w =
         let db = old.now.trees in
         let command = InsertOr at Replace (Values terms width) [] in
-        let done = went (ran command w.tally
-        (subst (λ s. Does old.step_limit (mode_of old) params (record old.now { schema = s })
-        text None command (Ok (w.tally, new.now))) has w.changed)) in
+        let done = went (ran command w.tally (did command w)) in
         let given = went done.1 in
         let counter = went given.2 in
         let tried = went counter.2 in
@@ -427,10 +401,7 @@ module _ (schema : Schema) (at : ℕ) (table : Table) (placed : slice_get schema
         (subst (λ r. Tries task Replace [] r db (Ok one.0)) source one.1) in
         let is : new.now.trees ≡ one.0.trees = ap (λ (d : Database). d.trees) now ∙ (after ∙ trees)
         in (
-          record {
-            schema = ap (λ (d : Database). d.schema) now;
-            tables = subst (Others db) (sym is) made.4;
-          },
+          only one.0.trees (ap (λ (d : Database). d.schema) now) is made.4,
           record {
             number = next_rowid (db table.tree);
             rows = ap (λ (t : Trees). t table.tree) is

@@ -12,6 +12,7 @@ use Rattle.sqlite.specs.Query.{Query, inner, end}
 use Rattle.sqlite_tied.specs.Compute.{everything}
 use Rattle.sqlite.specs.Listing.{understood, reads_listing}
 use Rattle.sqlite.proofs.Callers.{IsPlain, command_of}
+use Rattle.sqlite_schema.specs.declared.command.Command.{Command}
 use Rattle.sqlite_schema.specs.declared.command.Command.TheVariants.{Insert, InsertOr, Delete, Select}
 use Rattle.sqlite_schema.specs.declared.command.Conflict.TheVariants.{Replace}
 use Rattle.sqlite.specs.Source.TheVariants.{Values}
@@ -72,54 +73,43 @@ seal_terms = lit Null ∷ col 0 0 ∷ col 0 1 ∷ col 0 2 ∷ col 0 3 ∷ col 0 
 
 -- ---- each text is this command, and plain
 
-pub find_auction_is : ((command_of (understood store_schema auction_query)
-    ≡ Select (record { lets = []; body = head_query })
-    (codes "width" ∷ codes "lanes" ∷ codes "phase" ∷ codes "seed" ∷ codes "bits" ∷ []))
-    × (reads_listing store_schema auction_query ≡ false))
-    × IsPlain (understood store_schema auction_query)
-unfolding understood everything auction_query terms_query seals_query keep_auction keep_terms
-    drop_seals keep_seal
+abbrev pub IsCommand : List ℕ → Command → Type 0
+IsCommand text command = (command_of (understood store_schema text) ≡ command)
+    × IsPlain (understood store_schema text)
+
+-- a query that shows columns of these names
+abbrev pub IsQuery : List ℕ → Query → List (List ℕ) → Type 0
+IsQuery text query names = ((command_of (understood store_schema text)
+    ≡ Select (record { lets = []; body = query }) names)
+    × (reads_listing store_schema text ≡ false)) × IsPlain (understood store_schema text)
+
+pub find_auction_is : IsQuery auction_query head_query
+    (codes "width" ∷ codes "lanes" ∷ codes "phase" ∷ codes "seed" ∷ codes "bits" ∷ [])
+unfolding understood everything auction_query
 find_auction_is = ((refl, refl), (refl, refl))
 
-pub find_seals_is : ((command_of (understood store_schema seals_query)
-    ≡ Select (record { lets = []; body = rows_query })
-    (codes "position" ∷ codes "seat" ∷ codes "seal" ∷ codes "secret" ∷ []))
-    × (reads_listing store_schema seals_query ≡ false))
-    × IsPlain (understood store_schema seals_query)
-unfolding understood everything auction_query terms_query seals_query keep_auction keep_terms
-    drop_seals keep_seal
-find_seals_is = ((refl, refl), (refl, refl))
-
-pub keep_auction_is : (command_of (understood store_schema keep_auction)
-    ≡ InsertOr 1 Replace (Values auction_terms 7) [])
-    × IsPlain (understood store_schema keep_auction)
-unfolding understood everything auction_query terms_query seals_query keep_auction keep_terms
-    drop_seals keep_seal
-keep_auction_is = (refl, (refl, refl))
-
-pub keep_seal_is : (command_of (understood store_schema keep_seal) ≡ Insert 2 (Values seal_terms 6))
-    × IsPlain (understood store_schema keep_seal)
-unfolding understood everything auction_query terms_query seals_query keep_auction keep_terms
-    drop_seals keep_seal
-keep_seal_is = (refl, (refl, refl))
-
-pub drop_seals_is : (command_of (understood store_schema drop_seals)
-    ≡ Delete 2 (record { lets = []; body = plain_query 3 (of_id ∷ is_behind ∷ []) (col 1 0 ∷ []) }))
-    × IsPlain (understood store_schema drop_seals)
-unfolding understood everything auction_query terms_query seals_query keep_auction keep_terms
-    drop_seals keep_seal
-drop_seals_is = (refl, (refl, refl))
-
-pub find_terms_is : ((command_of (understood store_schema terms_query)
-    ≡ Select (record { lets = []; body = term_query }) (codes "version" ∷ codes "reserve" ∷ []))
-    × (reads_listing store_schema terms_query ≡ false))
-    × IsPlain (understood store_schema terms_query)
-unfolding understood everything auction_query terms_query seals_query keep_auction keep_terms
-    drop_seals keep_seal
+pub find_terms_is : IsQuery terms_query term_query (codes "version" ∷ codes "reserve" ∷ [])
+unfolding understood everything terms_query
 find_terms_is = ((refl, refl), (refl, refl))
 
-pub keep_terms_is : (command_of (understood store_schema keep_terms)
-    ≡ InsertOr 3 Replace (Values terms_terms 4) []) × IsPlain (understood store_schema keep_terms)
-unfolding understood everything auction_query terms_query seals_query keep_auction keep_terms
-    drop_seals keep_seal
+pub find_seals_is : IsQuery seals_query rows_query
+    (codes "position" ∷ codes "seat" ∷ codes "seal" ∷ codes "secret" ∷ [])
+unfolding understood everything seals_query
+find_seals_is = ((refl, refl), (refl, refl))
+
+pub keep_auction_is : IsCommand keep_auction (InsertOr 1 Replace (Values auction_terms 7) [])
+unfolding understood everything keep_auction
+keep_auction_is = (refl, (refl, refl))
+
+pub keep_terms_is : IsCommand keep_terms (InsertOr 3 Replace (Values terms_terms 4) [])
+unfolding understood everything keep_terms
 keep_terms_is = (refl, (refl, refl))
+
+pub keep_seal_is : IsCommand keep_seal (Insert 2 (Values seal_terms 6))
+unfolding understood everything keep_seal
+keep_seal_is = (refl, (refl, refl))
+
+pub drop_seals_is : IsCommand drop_seals
+    (Delete 2 (record { lets = []; body = plain_query 3 (of_id ∷ is_behind ∷ []) (col 1 0 ∷ []) }))
+unfolding understood everything drop_seals
+drop_seals_is = (refl, (refl, refl))

@@ -2,7 +2,7 @@
 use Rattle.sqlite.specs.declared.types.Value.TheVariants.{Null}
 use Rattle.sqlite_value.specs.declared.keys.Collation.TheVariants.{Binary}
 use Rattle.sqlite_value.specs.Keys.{plain}
-use Rattle.std.specs.Prelude.{true, false, [], ◌∷◌, ◌++◌, None, codes, List, ℕ}
+use Rattle.std.specs.Prelude.{Bool, true, false, [], ◌∷◌, ◌++◌, None, codes, List, ℕ}
 use Rattle.sqlite_schema.specs.declared.schema.Column.{Column}
 use Rattle.sqlite_schema.specs.declared.schema.Index.{Index}
 use Rattle.sqlite.specs.Table.{Table}
@@ -10,26 +10,22 @@ use Rattle.sqlite.specs.Schema.{Schema}
 use Rattle.sqlite_schema.specs.declared.schema.Kind.{Kind}
 use Rattle.sqlite.specs.Kind.TheVariants.{Integer, Text, Any}
 
--- a column that takes no NULL, and one that does; each takes values of other types too
-abbrev pub needed : List ℕ → Kind → Column
-needed name kind = record {
+-- a column that takes values of other types too, and NULL or not
+abbrev pub column_of : Bool → List ℕ → Kind → Column
+column_of not_null name kind = record {
   name = name;
   kind = kind;
   is_strict = false;
-  not_null = true;
+  not_null = not_null;
   default = Null;
   collation = Binary;
 }
 
+abbrev pub needed : List ℕ → Kind → Column
+needed = column_of true
+
 abbrev pub optional : List ℕ → Kind → Column
-optional name kind = record {
-  name = name;
-  kind = kind;
-  is_strict = false;
-  not_null = false;
-  default = Null;
-  collation = Binary;
-}
+optional = column_of false
 
 -- ---- the tables, each but for its tree
 
