@@ -7,6 +7,7 @@ use Rattle.std.proofs.lemmas.Bool.Decides.{nat_tests}
 use Rattle.std.proofs.lemmas.List.{get_or_append_left, get_or-append_right, get_or-take, get_or-drop, length-take-le}
 use Rattle.std.proofs.lemmas.List.Sums.{fails_before_first, passes_at_first}
 use Rattle.vk_vickrey.specs.Outcomes.{bid_at, IsVickreyOutcome}
+use Rattle.vk_vickrey.specs.OutcomeLaws.{all_first}
 use Rattle.vk_job.specs.Outcome.{greatest, place_of_greatest, all_but, outcome_of}
 
 -- ---- the greatest
@@ -146,28 +147,13 @@ pub outcome_is_vickrey : (bids : List ℕ) → 1 ≤ length bids
 unfolding outcome_of
 outcome_is_vickrey bids some =
     let place = place_of_greatest bids in
-    let within : place < length bids = place_within bids some in
-    let best : bid_at bids (place + 1) ≡ greatest bids = outcome_bids_most bids some in
-    record {
-      is_position = record { some = omega arith; within = omega arith };
-      none_bids_more = λ other at.
-          omega (arith, at_most_greatest bids (other - 1) (omega (arith, at.some, at.within)));
-      first_of_the_greatest = λ other at before.
-          omega (
-            arith,
-            place_first bids (other - 1) (omega (arith, at.some))
-                (omega (arith, at.some, at.within)),
-          );
-      alone_pays_0 = none_but place bids within;
-      others_within_price = λ many other at ne. others_at_most place bids (other - 1) within
-          (omega (arith, at.some, at.within)) (λ e. ne (omega (arith, at.some)));
-      price_is_bid = λ many.
-          let held = holder_of_other place bids within many in
-          record {
-            holder = held.0 + 1;
-            is_position = record { some = omega arith; within = omega (arith, held.1) };
-            is_other = λ e. held.2 (omega arith);
-            bids_price = (let e : held.0 + 1 - 1 ≡ held.0 = omega arith in ap (slice_index bids) e)
-                ∙ held.3;
-          };
-    }
+    let within = place_within bids some in
+    all_first bids place (greatest bids) (greatest (all_but place bids)) (record {
+      inside = within;
+      is_best = sym (place_holds bids some);
+      most = at_most_greatest bids;
+      first = λ j before. place_first bids j before (omega (arith, within));
+      alone = none_but place bids within;
+      within = λ j lt ne. others_at_most place bids j within lt ne;
+      held = holder_of_other place bids within;
+    })

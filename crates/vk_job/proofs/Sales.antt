@@ -7,6 +7,7 @@ use Rattle.vk_vickrey.specs.Outcomes.{bid_at}
 use Rattle.vk_vickrey.specs.Sales.{IsSold, IsSale}
 use Rattle.vk_vickrey.specs.SaleLaws.{sale_is_one, sold_at_greater, unsold_below}
 use Rattle.vk_vickrey.specs.ReservePlans.{IsReserveCase, IsSaleCase}
+use Rattle.vk_vickrey.specs.ReserveLaws.{sold_case}
 use Rattle.vk_vickrey.specs.BoardPlans.{IsFirstCase}
 use Rattle.vk_job.specs.Outcome.{greatest, outcome_of, sale_of}
 use Rattle.vk_job.proofs.Outcomes.{outcome_bids_most, outcome_is_vickrey}
@@ -94,14 +95,6 @@ pub first_case : (seals width reserve : ℕ) (sale : Sale) → IsReserveCase sea
     → reserve ≡ 0 → IsFirstCase seals width reserve sale
 first_case seals width reserve (Sold position price) is none = (
   none,
-  record {
-    some_seals = is.some_seals;
-    most_seals = is.most_seals;
-    wide = is.wide;
-    some_position = is.sale_case.some_position;
-    within_seals = is.sale_case.within_seals;
-    within_width = is.sale_case.within_width;
-    alone = λ one. is.sale_case.alone one ∙ none;
-  },
+  sold_case seals width reserve position price is (λ one. is.sale_case.alone one ∙ none),
 )
 first_case seals width reserve Unsold is none = omega (arith, is.sale_case)

@@ -41,15 +41,14 @@ pub record TapeSource : Type 0 where
   pub seed : List ℕ
   pub further : ℕ
 
+abbrev pub source_with : List ℕ → List SealRow → ℕ → List ℕ → ℕ → TapeSource
+source_with id rows lanes seed further =
+    record { id = id; rows = rows; lanes = lanes; seed = seed; further = further }
+
 -- that of a proof
 abbrev pub source_of : ProofValue → TapeSource
-source_of proof = record {
-  id = proof.id;
-  rows = proof.rows;
-  lanes = proof.lanes;
-  seed = proof.seed;
-  further = length proof.plan.kinds - proof.plan.inputs;
-}
+source_of proof = source_with proof.id proof.rows proof.lanes proof.seed
+    (length proof.plan.kinds - proof.plan.inputs)
 
 -- the tapes of the inputs in a lane: those of the bidders' secrets, which never swap
 abbrev pub given_in : List SealRow → ℕ → List WireTape
