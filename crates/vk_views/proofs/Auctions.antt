@@ -13,16 +13,20 @@ use Rattle.vk_job.specs.Jobs.{IsProvedAuction, numbers_in, plan_of, values_of, p
 use Rattle.vk_job.specs.Published.{lane_of, shown_in, shown_from}
 use Rattle.vk_job.proofs.Drawing.{lane_tape_is}
 use Rattle.vk_job.proofs.Held.{board_values_hold, has_seal, case_is, plan_is, proof_is, values_hold}
+use Rattle.vk_views.specs.declared.views.LaneView.{LaneView}
 use Rattle.vk_views.specs.Views.{views_of}
 use Rattle.vk_views.specs.Auctions.{RepliesAreTextsOfViews, PostedAreThoseOfViews, OtherBidsGiveTheViews, tapes_of, values_for}
 use Rattle.vk_views.proofs.Counts.{views_of_lanes}
 
--- what is shown from a lane on, by the tapes of so many lanes
+-- the views of the lanes behind so many, one for each bit
+abbrev views_behind : Auction → ℕ → List Bool → List LaneView
+views_behind auction before bits = views_of (plan_of auction) (values_of auction)
+    (map (λ index. lane_tape auction (index + 1)) (range_with_len before (length bits))) bits
+
+-- what is shown from a lane on
 shown_of_views : (auction : Auction) (before : ℕ) (bits : List Bool)
     → shown_from auction (before + 1) bits
-    ≡ map (λ view. view.shown)
-    (views_of (plan_of auction) (values_of auction)
-    (map (λ index. lane_tape auction (index + 1)) (range_with_len before (length bits))) bits)
+    ≡ map (λ view. view.shown) (views_behind auction before bits)
 unfolding lane_shown_in
 shown_of_views auction before [] = refl
 shown_of_views auction before (bit ∷ bits) =
@@ -32,9 +36,7 @@ shown_of_views auction before (bit ∷ bits) =
 posted_of_views : (auction : Auction) (before : ℕ) (bits : List Bool)
     → map (λ lane. lane.posted)
     (map (λ index. lane_of auction (index + 1)) (range_with_len before (length bits)))
-    ≡ map (λ view. view.posted)
-    (views_of (plan_of auction) (values_of auction)
-    (map (λ index. lane_tape auction (index + 1)) (range_with_len before (length bits))) bits)
+    ≡ map (λ view. view.posted) (views_behind auction before bits)
 unfolding lane_in
 posted_of_views auction before [] = refl
 posted_of_views auction before (bit ∷ bits) =
