@@ -4,29 +4,34 @@ use Rattle.std.specs.Prelude.{◌≢◌, not}
 use Rattle.std.proofs.lemmas.List.Elements.{All-cons, All-nil, All-weaker}
 use Rattle.vk_bids.specs.Headline.{differing}
 
+-- the bits at a place differ
+abbrev DifferAt : List Bool → List Bool → ℕ → Type 0
+DifferAt bits others place = get_or bits place false ≢ get_or others place false
+
 -- the bits of the lane differ, where the first of the lists is that of the lane of that number
 pub record DiffersIn (number : ℕ) (bits others : List Bool) (lane : ℕ) : Type 0 where
   pub from : number ≤ lane
   pub until : lane < number + length bits
   pub bits_differ : get_or bits (lane - number) false ≢ get_or others (lane - number) false
 
-differ_here : (number : ℕ) (bit other : Bool) (bits others : List Bool) → bit ≢ other
-    → DiffersIn number (bit ∷ bits) (other ∷ others) number
-differ_here number bit other bits others differ =
-    let none : 0 ≡ number - number = omega arith in
-    let P : ℕ → Type 0 = λ k. get_or (bit ∷ bits) k false ≢ get_or (other ∷ others) k false in
-    record { from = omega arith; until = omega arith; bits_differ = subst P none differ }
+module _ (number : ℕ) (bit other : Bool) (bits others : List Bool) where
+  abbrev DifferNow : ℕ → Type 0
+  DifferNow = DifferAt (bit ∷ bits) (other ∷ others)
 
-differ_later : (number : ℕ) (bit other : Bool) (bits others : List Bool) (lane : ℕ)
-    → DiffersIn (number + 1) bits others lane → DiffersIn number (bit ∷ bits) (other ∷ others) lane
-differ_later number bit other bits others lane later =
-    let next : suc (lane - (number + 1)) ≡ lane - number = omega (arith, later.from) in
-    let P : ℕ → Type 0 = λ k. get_or (bit ∷ bits) k false ≢ get_or (other ∷ others) k false in
-    record {
-      from = omega (arith, later.from);
-      until = omega (arith, later.until);
-      bits_differ = subst P next later.bits_differ;
-    }
+  differ_here : bit ≢ other → DiffersIn number (bit ∷ bits) (other ∷ others) number
+  differ_here differ =
+      let none : 0 ≡ number - number = omega arith in
+      record { from = omega arith; until = omega arith; bits_differ = subst DifferNow none differ }
+
+  differ_later : (lane : ℕ) → DiffersIn (number + 1) bits others lane
+      → DiffersIn number (bit ∷ bits) (other ∷ others) lane
+  differ_later lane later =
+      let next : suc (lane - (number + 1)) ≡ lane - number = omega (arith, later.from) in
+      record {
+        from = omega (arith, later.from);
+        until = omega (arith, later.until);
+        bits_differ = subst DifferNow next later.bits_differ;
+      }
 
 pub all_differ : (number : ℕ) (bits others : List Bool)
     → All (DiffersIn number bits others) (differing number bits others)
