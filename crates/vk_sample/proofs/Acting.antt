@@ -1,6 +1,6 @@
 -- How `sample` ends, from what its parts did.
 use Rattle.std.proofs.Common.{◌≡◌, ℕ, List, [], ◌∷◌, ◌++◌, length, Option, Some, None, Result, Ok, Err, refl, sym, ap, subst, ◌∙◌, inl, inr}
-use Rattle.std.specs.Prelude.{IfSome, IsSome}
+use Rattle.std.specs.Prelude.{IfOk, IfSome, IsSome}
 use Rattle.std.specs.FinMap.{insert}
 use Rattle.vk_io.specs.Files.{Files, Modelled}
 use Rattle.vk_io.specs.Writing.{IsDivided, WritesAll, written}
@@ -94,6 +94,19 @@ module _ (texts : List (List ℕ × List ℕ)) (whole : SaidValue) (ledger : Opt
     is ∙ ap said_of_files told ∙ reads files,
     ap (λ left. stores left ledger) (same ∙ ap Some told),
   )
+
+  -- it is, unless the reading was stopped
+  pub holding_acts : (said_of_files : Files → SaidValue)
+      → ((files : Files) → said_of_files (written texts files) ≡ whole)
+      → (held left now : Option Files) (answer : Result SaidValue OutsideErr)
+      → Modelled (WritesAll {E = OutsideErr} texts (Ok tt)) held left → now ≡ left
+      → IfSome left (λ files. IfOk answer (λ said. said ≡ said_of_files files))
+      → IfSome (modelled_effect held ledger texts whole)
+      (λ effect. Acts answer effect (stores held ledger) (stores now ledger))
+  holding_acts said_of_files reads held left now (Ok said) told same is =
+      holding_done said_of_files reads held left now said told same is
+  holding_acts said_of_files reads held left now (Err stop) told same is =
+      reading_stopped held left now stop told same
 
 -- ---- the summary
 

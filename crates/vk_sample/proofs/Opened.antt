@@ -15,7 +15,7 @@ use Rattle.vk_bids.specs.Headline.{HeldAttempt, HeldFiles}
 use Rattle.vk_bids.specs.Texts.{has_one_bid}
 use Rattle.vk_bids.proofs.Named.{files_are_extracted}
 use Rattle.vk_keeper.specs.declared.auction.Auction.{Auction}
-use Rattle.vk_vickrey.specs.BoardPlans.{board_numbers}
+use Rattle.vk_vickrey.specs.BoardPlans.{BoardNumbers, board_numbers}
 use Rattle.vk_job.specs.Jobs.{numbers_in, sale_in}
 use Rattle.vk_job.specs.Proofs.{seal_lines_of}
 use Rattle.vk_job.specs.Published.{IsChallengeTo, board_of, reply_of}
@@ -72,6 +72,12 @@ all_counted test all from count = counted_on test all 0 from count ∙ omega ari
 
 -- ---- the sample
 
+-- how many lines, by other numbers and lanes that are the same
+lines_of_sizes : (lines : BoardNumbers → ℕ → ℕ) (one numbers : BoardNumbers) (lanes many : ℕ)
+    → one ≡ numbers → lanes ≡ many → lines one lanes ≡ lines numbers many
+lines_of_sizes lines one numbers lanes many same as_many =
+    ap (λ n. lines n lanes) same ∙ ap (lines numbers) as_many
+
 module _ (sample : SampleCase) (case : IsSampleCase sample) (auction : Auction) (is : IsAuctionOf sample auction) where
   pub has_lines : HasLines sample auction
   has_lines =
@@ -84,20 +90,12 @@ module _ (sample : SampleCase) (case : IsSampleCase sample) (auction : Auction) 
       ∙ ap (λ w. board_numbers 1 auction_sizes.seals w auction.reserve sale) is.width_is
       ∙ ap (λ reserve. board_numbers 1 auction_sizes.seals auction_sizes.width reserve sale)
       is.reserve_is in
-      let board : board_lines (numbers_in auction) auction.lanes
-      ≡ board_lines (board_numbers 1 auction_sizes.seals auction_sizes.width 0 sale)
-      auction_sizes.lanes =
-      ap (λ n. board_lines n auction.lanes) numbers
-      ∙ ap (board_lines (board_numbers 1 auction_sizes.seals auction_sizes.width 0 sale))
-      is.lanes_are in
-      let reply : reply_lines (numbers_in auction) auction.lanes
-      ≡ reply_lines (board_numbers 1 auction_sizes.seals auction_sizes.width 0 sale)
-      auction_sizes.lanes =
-      ap (λ n. reply_lines n auction.lanes) numbers
-      ∙ ap (reply_lines (board_numbers 1 auction_sizes.seals auction_sizes.width 0 sale))
+      let reply = lines_of_sizes reply_lines (numbers_in auction) _ auction.lanes _ numbers
       is.lanes_are in
       record {
-        board = boards_have_lines auction is.proved ∙ board;
+        board = boards_have_lines auction is.proved
+            ∙ lines_of_sizes board_lines (numbers_in auction) _ auction.lanes _ numbers
+            is.lanes_are;
         first = replies_have_lines auction sample.first is.proved is.first ∙ reply;
         second = replies_have_lines auction sample.second is.proved is.second ∙ reply;
       }

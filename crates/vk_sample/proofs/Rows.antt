@@ -2,7 +2,7 @@
 use Rattle.std.proofs.Common.{◌≡◌, ℕ, zero, suc, ◌+◌, ◌-◌, ◌<◌, nat_lt, true, if◌then◌else◌, List, [], ◌∷◌, ◌++◌, length, Option, Some, None, Result, Ok, Err, refl, sym, ap, subst, ◌∙◌, arith}
 use Rattle.std.proofs.lemmas.Bool.Decides.{nat_tests}
 use Rattle.vk_residue.specs.Steps.{◌>>=◌}
-use Rattle.vk_lines.specs.Gives.{Refuses}
+use Rattle.vk_lines.specs.Gives.{Gives, Refuses}
 use Rattle.vk_seal.specs.declared.making.SealErr.{SealErr}
 use Rattle.vk_seal.specs.declared.making.SealErr.TheVariants.{BidTooLarge, DrySeed as DryLane, NoMemory}
 use Rattle.vk_seal.specs.declared.secret.Secret.{Secret}
@@ -16,6 +16,7 @@ use Rattle.vk_job.specs.Jobs.{dry_in, seed_in}
 use Rattle.vk_job.specs.declared.errors.JobErr.{JobErr}
 use Rattle.vk_job.specs.declared.errors.JobErr.TheVariants as job
 use Rattle.vk_report.specs.declared.sample.SampleCase.{SampleCase}
+use Rattle.vk_sample.specs.declared.errors.SampleErr.{SampleErr}
 use Rattle.vk_sample.specs.Auctions.{DrySeed, OfBidder, auction_by, auction_with, dry_of, of_job, rows_onto, sealed, secret_at, unless_dry}
 
 -- ---- one seal
@@ -100,6 +101,14 @@ pub bind_refuses : {A B : Type 0} (dry : Option DrySeed) (step : Result A DrySee
     (next : A → Result B DrySeed) → Refuses dry step → Refuses dry (step >>= next)
 bind_refuses None step next refused = tt
 bind_refuses (Some dry) step next refused = ap (λ s. s >>= next) refused
+
+-- where the rows are refused, this is answered
+pub rows_refused : {T X : Type 0} (sample : SampleCase) (next : List SealRow → Result X DrySeed)
+    (value : T → X) (answer : Result T SampleErr) (refused : SampleErr) → answer ≡ Err refused
+    → Refuses (dry_of refused) (rows_onto sample [] (length sample.seats))
+    → Gives dry_of value answer (rows_onto sample [] (length sample.seats) >>= next)
+rows_refused sample next value answer refused is rows =
+    rw is (bind_refuses (dry_of refused) (rows_onto sample [] (length sample.seats)) next rows)
 
 pub job_refuses : (sample : SampleCase) (rows : List SealRow) (refused : JobErr)
     → rows_onto sample [] (length sample.seats) ≡ Ok rows

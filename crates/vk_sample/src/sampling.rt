@@ -34,8 +34,8 @@ fn hold<S: Shelf>(
 {
     let made = made_lines(alloc, number, &job.head())?;
     write_sample(alloc, shelf, sample, job)?;
-    let said = read_back(alloc, shelf, made)?;
-    Ok(said)
+    let said = read_back(alloc, shelf, made);
+    said
 }
 
 /// Makes the auction of a number with its board and two replies, writes them, reads them back, and

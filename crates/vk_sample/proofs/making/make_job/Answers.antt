@@ -1,7 +1,7 @@
-use Rattle.std.proofs.Common.{◌≡◌, [], Err, length, rules}
-use Rattle.vk_sample.specs.Auctions.{auction_by, auction_of, dry_of, rows_onto}
+use Rattle.std.proofs.Common.{rules}
+use Rattle.vk_sample.specs.Auctions.{auction_by, auction_of}
 use Rattle.vk_sample.proofs.Auctions.{all_rows, is_auction}
-use Rattle.vk_sample.proofs.Rows.{bind_refuses, job_made}
+use Rattle.vk_sample.proofs.Rows.{job_made, rows_refused}
 use Rattle.vk_sample.proofs.making.make_job.Goals as goal
 
 pub of-requires-clause-right : goal.of-requires-clause-right
@@ -12,12 +12,8 @@ of-requires-clause-right c =
 
 pub returns-in_err-seals : goal.returns-in_err-seals
 unfolding auction_of
-returns-in_err-seals c =
-    let refused = c.in_err-seals.field-0.0 in
-    let is : c.from_residual.result ≡ Err refused = search rules in
-    rw is (bind_refuses (dry_of refused)
-    (rows_onto c.args.sample.now [] (length c.args.sample.now.seats))
-    (auction_by c.args.sample.now) c.in_err-seals.ensures)
+returns-in_err-seals c = rows_refused c.args.sample.now (auction_by c.args.sample.now) _ _
+    c.in_err-seals.field-0.0 (search rules) c.in_err-seals.ensures
 
 pub returns : goal.returns
 unfolding auction_of

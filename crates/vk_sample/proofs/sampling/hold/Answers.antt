@@ -5,7 +5,7 @@ use Rattle.vk_board.specs.declared.board.Head.{Head}
 use Rattle.vk_bids.specs.Extraction.{extraction_on}
 use Rattle.vk_job.specs.Published.{head_of}
 use Rattle.vk_effect.specs.Effects.{stores}
-use Rattle.vk_sample.proofs.Acting.{holding_done, reading_stopped, reads_back, stopped_first, writing_stopped}
+use Rattle.vk_sample.proofs.Acting.{holding_acts, reads_back, stopped_first, writing_stopped}
 use Rattle.vk_sample.proofs.Auctions.{auction_is}
 use Rattle.vk_sample.proofs.Opened.{opens_all}
 use Rattle.vk_sample.specs.Texts.{files_of, made_text, read_said, sample_names, summary_said}
@@ -21,31 +21,22 @@ returns-in_err-write_sample-clause-acts g c =
     (g.S.Shelf.held c.args.shelf.now) (g.S.Shelf.held c.write_sample.new.shelf) p.0
     c.in_err-write_sample.ensures.written)
 
-pub returns-in_err-said-clause-acts : goal.returns-in_err-said-clause-acts
-returns-in_err-said-clause-acts g c =
-    let p = err_from_is_err_and c.from_residual-in_err-said.result
-    c.from_residual-in_err-said.ensures.1 in
-    rw p.1
-    (λ ledger. reading_stopped (files_of c.args.sample.now c.args.job.now.auction)
-    (summary_said c.args.number (head_of c.args.job.now.auction)) ledger
-    (g.S.Shelf.held c.args.shelf.now) (g.S.Shelf.held c.write_sample.new.shelf)
-    (g.S.Shelf.held c.read_back.new.shelf) p.0
-    c.in_ok-write_sample.ensures.written c.in_err-said.ensures.shelf.held)
-
 pub returns-clause-acts : goal.returns-clause-acts
 returns-clause-acts g c = λ ledger.
-    let sample = c.args.sample.now in
     let auction = c.args.job.now.auction in
     let made = flat_map string_bytes c.in_ok-made.made.items in
-    let is = auction_is sample c.requires.right auction c.requires.made in
-    holding_done (files_of sample auction) (summary_said c.args.number (head_of auction)) ledger
+    let is = auction_is c.args.sample.now c.requires.right auction c.requires.made in
+    holding_acts (files_of c.args.sample.now auction)
+    (summary_said c.args.number (head_of auction)) ledger
     (λ files. read_said made (extraction_on files sample_names.board sample_names.first.challenge
     sample_names.first.reply sample_names.second.challenge sample_names.second.reply))
-    (reads_back sample auction is (opens_all sample c.requires.right auction is) c.args.number made
+    (reads_back c.args.sample.now auction is
+    (opens_all c.args.sample.now c.requires.right auction is) c.args.number made
     (c.in_ok-made.ensures ∙ ap (made_text c.args.number) c.head.ensures.value))
     (g.S.Shelf.held c.args.shelf.now) (g.S.Shelf.held c.write_sample.new.shelf)
-    (g.S.Shelf.held c.read_back.new.shelf) c.in_ok-said.said
-    c.in_ok-write_sample.ensures.written c.in_ok-said.ensures.shelf.held c.in_ok-said.ensures.said
+    (g.S.Shelf.held c.read_back-said.new.shelf) c.read_back-said.result
+    c.in_ok-write_sample.ensures.written c.read_back-said.ensures.shelf.held
+    c.read_back-said.ensures.said
 
 -- the sample's board is one of version 1
 pub made_lines-requires-clause-first : goal.made_lines-requires-clause-first
