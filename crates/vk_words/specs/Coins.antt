@@ -32,14 +32,12 @@ pub data CoinWords : Type 0 where
   Join : ChallengeWords → CoinWords
   Board : ChallengeWords → CoinWords
 
+abbrev part_words : List ℕ → (auditor lanes : ℕ) → (seed share : List ℕ) → PartWords
+part_words auction auditor lanes seed share =
+    record { auction = auction; auditor = auditor; lanes = lanes; seed = seed; share = share }
+
 abbrev pub part_seen : PartOrder → PartWords
-part_seen order = record {
-  auction = order.auction;
-  auditor = order.auditor;
-  lanes = order.lanes;
-  seed = order.seed;
-  share = order.share.now;
-}
+part_seen order = part_words order.auction order.auditor order.lanes order.seed order.share.now
 
 abbrev pub challenge_seen : ChallengeNames → ChallengeWords
 challenge_seen names = record { from = names.from.now; challenge = names.challenge.now }
@@ -71,13 +69,7 @@ part_in words =
     number_token 1 64 (nth_word words 3) >>? λ lanes.
     seed_at words 4 >>? λ seed.
     name_at words 5 >>? λ share.
-    Some (record {
-      auction = auction;
-      auditor = auditor;
-      lanes = lanes;
-      seed = seed;
-      share = share;
-    })
+    Some (part_words auction auditor lanes seed share)
 
 -- a file's name and CHALLENGE behind the first word, where the two files have different names
 unfoldable pub challenge_in : List (List ℕ) → Option ChallengeWords

@@ -32,18 +32,23 @@ pub data HouseWords : Type 0 where
   Answer : (id challenge reply : List ℕ) → HouseWords
   Show : (id : List ℕ) → HouseWords
 
+abbrev seal_words : List ℕ → (seat bid width lanes : ℕ) → (seed secret seal : List ℕ) → SealWords
+seal_words auction seat bid width lanes seed secret seal =
+    record {
+      auction = auction;
+      seat = seat;
+      bid = bid;
+      width = width;
+      lanes = lanes;
+      seed = seed;
+      secret = secret;
+      seal = seal;
+    }
+
 abbrev pub seal_seen : SealOrder → SealWords
 seal_seen order =
-    record {
-      auction = order.auction;
-      seat = order.seat;
-      bid = order.bid;
-      width = order.width;
-      lanes = order.lanes;
-      seed = order.seed;
-      secret = order.secret.now;
-      seal = order.seal.now;
-    }
+    seal_words order.auction order.seat order.bid order.width order.lanes order.seed
+    order.secret.now order.seal.now
 
 abbrev pub house_seen : HouseOrder → HouseWords
 house_seen (orders.Announce id width lanes) = Announce id width lanes
@@ -93,16 +98,7 @@ seal_in words =
     seed_at words 6 >>? λ seed.
     name_at words 7 >>? λ secret.
     name_at words 8 >>? λ seal.
-    if_other secret seal (record {
-      auction = auction;
-      seat = seat;
-      bid = bid;
-      width = width;
-      lanes = lanes;
-      seed = seed;
-      secret = secret;
-      seal = seal;
-    })
+    if_other secret seal (seal_words auction seat bid width lanes seed secret seal)
 
 -- behind ID, WIDTH and LANES: RESERVE, below 2^WIDTH, where there is a word more; else nothing
 abbrev pub announced_on : (id : List ℕ) (width lanes : ℕ) → List (List ℕ) → Option HouseWords

@@ -16,51 +16,31 @@ pub record Row : Type 0 where
   pub most : ℕ
   pub asks_house : Bool
 
+abbrev command_row : List ℕ → Verb → (words most : ℕ) → (asks_house : Bool) → Row
+command_row name verb words most asks_house =
+    record { name = name; verb = verb; words = words; most = most; asks_house = asks_house }
+
 -- the commands, in the order of the usage line
 unfoldable pub commands : List Row
 commands =
-    record { name = codes "seal"; verb = Seal; words = 9; most = 9; asks_house = false }
-    ∷ record { name = codes "announce"; verb = Announce; words = 4; most = 5; asks_house = true }
-    ∷ record { name = codes "submit"; verb = Submit; words = 4; most = 4; asks_house = true }
-    ∷ record { name = codes "prove"; verb = Prove; words = 4; most = 4; asks_house = true }
-    ∷ record { name = codes "answer"; verb = Answer; words = 4; most = 4; asks_house = true }
-    ∷ record { name = codes "show"; verb = Show; words = 2; most = 2; asks_house = true }
-    ∷ record { name = codes "verify"; verb = Verify; words = 4; most = 4; asks_house = false }
-    ∷ record { name = codes "extract"; verb = Extract; words = 6; most = 6; asks_house = false }
-    ∷ record { name = codes "confront"; verb = Confront; words = 7; most = 7; asks_house = false }
-    ∷ record { name = codes "report"; verb = Report; words = 2; most = 2; asks_house = false }
-    ∷ record { name = codes "sample"; verb = Sample; words = 2; most = 2; asks_house = false }
-    ∷ record { name = codes "ceremony"; verb = Ceremony; words = 2; most = 2; asks_house = true }
-    ∷ record {
-      name = codes "claim-verify";
-      verb = ClaimVerify;
-      words = 4;
-      most = 4;
-      asks_house = false;
-    }
-    ∷ record {
-      name = codes "claim-extract";
-      verb = ClaimExtract;
-      words = 6;
-      most = 6;
-      asks_house = false;
-    }
-    ∷ record {
-      name = codes "claim-sample";
-      verb = ClaimSample;
-      words = 3;
-      most = 3;
-      asks_house = false;
-    }
-    ∷ record { name = codes "coin-part"; verb = CoinPart; words = 6; most = 6; asks_house = false }
-    ∷ record { name = codes "coin-join"; verb = CoinJoin; words = 3; most = 3; asks_house = false }
-    ∷ record {
-      name = codes "coin-board";
-      verb = CoinBoard;
-      words = 3;
-      most = 3;
-      asks_house = false;
-    }
+    command_row (codes "seal") Seal 9 9 false
+    ∷ command_row (codes "announce") Announce 4 5 true
+    ∷ command_row (codes "submit") Submit 4 4 true
+    ∷ command_row (codes "prove") Prove 4 4 true
+    ∷ command_row (codes "answer") Answer 4 4 true
+    ∷ command_row (codes "show") Show 2 2 true
+    ∷ command_row (codes "verify") Verify 4 4 false
+    ∷ command_row (codes "extract") Extract 6 6 false
+    ∷ command_row (codes "confront") Confront 7 7 false
+    ∷ command_row (codes "report") Report 2 2 false
+    ∷ command_row (codes "sample") Sample 2 2 false
+    ∷ command_row (codes "ceremony") Ceremony 2 2 true
+    ∷ command_row (codes "claim-verify") ClaimVerify 4 4 false
+    ∷ command_row (codes "claim-extract") ClaimExtract 6 6 false
+    ∷ command_row (codes "claim-sample") ClaimSample 3 3 false
+    ∷ command_row (codes "coin-part") CoinPart 6 6 false
+    ∷ command_row (codes "coin-join") CoinJoin 3 3 false
+    ∷ command_row (codes "coin-board") CoinBoard 3 3 false
     ∷ []
 
 -- the first command of that name
@@ -68,10 +48,4 @@ unfoldable pub row_of : List ℕ → Option Row
 row_of word = find (λ row. bytes_eq row.name word) commands
 
 abbrev pub row_seen : CommandRow → Row
-row_seen row = record {
-  name = row.name.now;
-  verb = row.verb;
-  words = row.words;
-  most = row.most;
-  asks_house = row.asks_house;
-}
+row_seen row = command_row row.name.now row.verb row.words row.most row.asks_house
