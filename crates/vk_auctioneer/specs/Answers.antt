@@ -1,14 +1,16 @@
 -- What the parts of a command of the house answer.
-use Rattle.std.specs.Prelude.{◌≡◌, Result, Ok, Err, ◌⊎◌}
+use Rattle.std.specs.Prelude.{◌≡◌, Option, Result, Ok, Err, ◌⊎◌, IfSome}
 use Rattle.vk_io.specs.declared.errors.OutsideErr.{OutsideErr}
 use Rattle.vk_io.specs.Files.{Files}
 use Rattle.vk_io.specs.Writing.{WritesAll}
+use Rattle.vk_keeper.specs.Ledgers.{Ledger}
 use Rattle.vk_keeper.specs.Turns.{GetsOnce, Turns}
 use Rattle.vk_house.specs.declared.errors.HouseErr.TheVariants.{KeeperFailed, NoMemory}
 use Rattle.vk_house.specs.Commands.{HouseCommand}
 use Rattle.vk_house.specs.Replies.{HouseReply, Refused}
-use Rattle.vk_effect.specs.Effects.{SaidValue}
-use Rattle.vk_auctioneer.specs.Effects.{Writes}
+use Rattle.vk_effect.specs.Effects.{Effect, SaidValue, stores}
+use Rattle.vk_effect.specs.Ends.{Acts}
+use Rattle.vk_auctioneer.specs.Effects.{Writes, on_ledger}
 use Rattle.vk_auctioneer.specs.Lines.{reply_said}
 
 -- a reply of the house, and not the failure of its keeper or want of memory
@@ -30,3 +32,10 @@ Leaves writes (Err stop) old new = WritesAll writes (Err stop) old new
 -- the keeper was asked by one `get` and after it at most one `put`; or it wasn't asked
 abbrev pub AsksOnce : Turns → Turns → Type 0
 AsksOnce old new = (new ≡ old) ⊎ GetsOnce old new
+
+-- whatever the files, a command that reads and writes none did its effect on the ledger
+abbrev pub ActsAlone : (Ledger → Effect) → Result SaidValue OutsideErr → (old new : Option Ledger)
+    → Type 0
+ActsAlone effect answer old new =
+    (files : Option Files) → IfSome (on_ledger effect old)
+    (λ known. Acts answer known (stores files old) (stores files new))

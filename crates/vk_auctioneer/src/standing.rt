@@ -1,13 +1,13 @@
 //! `announce` and `show`, which read and write no file: an auction begins, and how it stands is
 //! said.
 
-ghost use Rattle.std.specs.Prelude.{◌≡◌, ◌≤◌, ◌+◌, ◌^◌, ◌<◌, ◌++◌, ℕ, IfErr, IfOk, IfSome, IsOk, Option, length};
+ghost use Rattle.std.specs.Prelude.{◌≡◌, ◌≤◌, ◌+◌, ◌^◌, ◌<◌, ◌++◌, ℕ, IfErr, IfOk, IsOk, length};
 ghost use Rattle.vk_residue.specs.Limits.{IsSize};
 ghost use Rattle.vk_house.specs.Replies.{Done, Stands};
 ghost use Rattle.vk_house.specs.Commands.{Announce, AnnounceReserve, Show};
-ghost use Rattle.vk_auctioneer.specs.Answers.{Says};
-ghost use Rattle.vk_auctioneer.specs.Common.{Acts, Causes, Files, GetsOnce, KeepsAnswers, Modelled, as_reply, stores};
-ghost use Rattle.vk_auctioneer.specs.Effects.{announce_effect, announce_reserve_effect, on_ledger, show_effect};
+ghost use Rattle.vk_auctioneer.specs.Answers.{ActsAlone, Says};
+ghost use Rattle.vk_auctioneer.specs.Common.{Causes, GetsOnce, KeepsAnswers, Modelled, as_reply};
+ghost use Rattle.vk_auctioneer.specs.Effects.{announce_effect, announce_reserve_effect, show_effect};
 ghost use Rattle.vk_auctioneer.specs.Lines.{TakesNoMemory, announced_line, done_said, progress_words, reserve_words, standing_line};
 
 use crate::refusals::{phase_word, refused};
@@ -28,10 +28,8 @@ pub fn announce<K: Keeper + Drop>(
     lanes: u32,
 ) -> Result<Said, OutsideErr>
     requires { IsSize width lanes }
-    ensures acts { (files : Option Files)
-        → IfSome (on_ledger (λ kept. announce_effect kept id.now width lanes) (K.ledger keeper.old))
-        (λ effect. Acts result effect (stores files (K.ledger keeper.old))
-        (stores files (K.ledger keeper.new))) }
+    ensures acts { ActsAlone (λ kept. announce_effect kept id.now width lanes) result
+        (K.ledger keeper.old) (K.ledger keeper.new) }
     ensures once { Modelled KeepsAnswers (K.ledger keeper.old) (K.ledger keeper.new) }
     ensures turns { GetsOnce (K.turns keeper.old) (K.turns keeper.new) }
     ensures causes { Causes OutsideErr.Failed result (K.faults keeper.old) (K.faults keeper.new) }
@@ -52,11 +50,8 @@ pub fn announce_reserve<K: Keeper + Drop>(
 ) -> Result<Said, OutsideErr>
     requires size { IsSize width lanes }
     requires small { reserve < 2 ^ width }
-    ensures acts { (files : Option Files)
-        → IfSome (on_ledger (λ kept. announce_reserve_effect kept id.now width lanes reserve)
-        (K.ledger keeper.old))
-        (λ effect. Acts result effect (stores files (K.ledger keeper.old))
-        (stores files (K.ledger keeper.new))) }
+    ensures acts { ActsAlone (λ kept. announce_reserve_effect kept id.now width lanes reserve) result
+        (K.ledger keeper.old) (K.ledger keeper.new) }
     ensures once { Modelled KeepsAnswers (K.ledger keeper.old) (K.ledger keeper.new) }
     ensures turns { GetsOnce (K.turns keeper.old) (K.turns keeper.new) }
     ensures causes { Causes OutsideErr.Failed result (K.faults keeper.old) (K.faults keeper.new) }
@@ -98,10 +93,8 @@ pub fn show<K: Keeper + Drop>(
     keeper: &mut K,
     id: &[u8; 16],
 ) -> Result<Said, OutsideErr>
-    ensures acts { (files : Option Files)
-        → IfSome (on_ledger (λ kept. show_effect kept id.now) (K.ledger keeper.old))
-        (λ effect. Acts result effect (stores files (K.ledger keeper.old))
-        (stores files (K.ledger keeper.new))) }
+    ensures acts { ActsAlone (λ kept. show_effect kept id.now) result (K.ledger keeper.old)
+        (K.ledger keeper.new) }
     ensures once { Modelled KeepsAnswers (K.ledger keeper.old) (K.ledger keeper.new) }
     ensures turns { GetsOnce (K.turns keeper.old) (K.turns keeper.new) }
     ensures causes { Causes OutsideErr.Failed result (K.faults keeper.old) (K.faults keeper.new) }

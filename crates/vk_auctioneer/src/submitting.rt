@@ -1,15 +1,15 @@
 //! `submit`.
 
-ghost use Rattle.std.specs.Prelude.{◌≡◌, ℕ, IfErr, IfOk, IfSome, IsOk, List, Option};
+ghost use Rattle.std.specs.Prelude.{◌≡◌, ℕ, IfErr, IfOk, IfSome, IsOk, List};
 ghost use Rattle.vk_seal.specs.declared.secret.Seal.{Seal};
 ghost use Rattle.vk_seal.specs.declared.secret.Secret.{Secret};
 ghost use Rattle.vk_seal.specs.Values.{IsSeal, IsSecret};
 ghost use Rattle.vk_house.specs.Commands.{Submit};
 ghost use Rattle.vk_house.specs.Replies.{Position};
 ghost use Rattle.vk_effect.specs.Reading.{said_of_unread};
-ghost use Rattle.vk_auctioneer.specs.Answers.{AsksOnce, Says};
-ghost use Rattle.vk_auctioneer.specs.Common.{Acts, Causes, CausesTwo, Files, GetsOnce, Gives, KeepsAnswers, OnlyReads, Modelled, as_reply, stores};
-ghost use Rattle.vk_auctioneer.specs.Effects.{asked, no_file, on_both, on_ledger, submit_effect};
+ghost use Rattle.vk_auctioneer.specs.Answers.{ActsAlone, AsksOnce, Says};
+ghost use Rattle.vk_auctioneer.specs.Common.{Acts, Causes, CausesTwo, GetsOnce, Gives, KeepsAnswers, OnlyReads, Modelled, as_reply, stores};
+ghost use Rattle.vk_auctioneer.specs.Effects.{asked, no_file, on_both, submit_effect};
 ghost use Rattle.vk_auctioneer.specs.Inputs.{row_in};
 ghost use Rattle.vk_auctioneer.specs.Lines.{TakesNoMemory, done_said, taken_line};
 
@@ -83,11 +83,8 @@ fn hand_in<K: Keeper + Drop>(
 ) -> Result<Said, OutsideErr>
     requires seal { IsSeal row.seal }
     requires secret { IsSecret row.secret }
-    ensures acts { (files : Option Files)
-        → IfSome (on_ledger (λ kept. asked no_file kept (Submit id.now row.seal row.secret))
-        (K.ledger keeper.old))
-        (λ effect. Acts result effect (stores files (K.ledger keeper.old))
-        (stores files (K.ledger keeper.new))) }
+    ensures acts { ActsAlone (λ kept. asked no_file kept (Submit id.now row.seal row.secret)) result
+        (K.ledger keeper.old) (K.ledger keeper.new) }
     ensures once { Modelled KeepsAnswers (K.ledger keeper.old) (K.ledger keeper.new) }
     ensures turns { GetsOnce (K.turns keeper.old) (K.turns keeper.new) }
     ensures causes { Causes OutsideErr.Failed result (K.faults keeper.old) (K.faults keeper.new) }
