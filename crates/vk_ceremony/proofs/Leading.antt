@@ -13,14 +13,14 @@ use Rattle.vk_house.proofs.Once.{keeps_same, keeps_on}
 use Rattle.vk_effect.specs.declared.reading.Unread.{Unread}
 use Rattle.vk_effect.specs.declared.reading.Unread.TheVariants.{Said, Failed, NoMemory}
 use Rattle.vk_effect.specs.Counts.{CausesThree}
-use Rattle.vk_effect.specs.Effects.{Effect, Outside, SaidValue, Stores, done, outside, stores}
+use Rattle.vk_effect.specs.Effects.{Effect, Outside, SaidValue, done, outside, stores}
 use Rattle.vk_effect.specs.Reading.{said_of_unread, said_or_stopped}
 use Rattle.vk_effect.proofs.NamedFiles.{same_Ok}
 use Rattle.vk_ceremony.specs.declared.holding.Turn.{Turn}
 use Rattle.vk_ceremony.specs.declared.holding.Turn.TheVariants.{Next, Ended}
-use Rattle.vk_ceremony.specs.Ceremonies.{Ceremony, EndsAll, ceremony_behind, ceremony_on, closed, with_command}
+use Rattle.vk_ceremony.specs.Ceremonies.{Ceremony, EndsAll, EndsSaying, EndsSome, ceremony_behind, ceremony_on, closed, with_command}
 use Rattle.vk_ceremony.specs.Scripts.{script_begun}
-use Rattle.vk_ceremony.specs.Turns.{Turns, left_of, stores_of}
+use Rattle.vk_ceremony.specs.Turns.{Turns, TurnsSome, left_of, stores_of}
 
 -- ---- the turns
 
@@ -30,8 +30,12 @@ Leads whole old left now = IsSomeAnd left
     (λ later. (answer : Result ℕ OutsideErr) (new : Outside) → EndsAll answer later now new
     → EndsAll answer whole old new)
 
+-- the same of one that may be known
+abbrev pub LeadsSome : Option Ceremony → Outside → Option Ceremony → Outside → Type 0
+LeadsSome known old left now = IfSome known (λ whole. Leads whole old left now)
+
 pub leads_itself : (left : Option Ceremony) (old : Outside)
-    → IfSome left (λ whole. Leads whole old left old)
+    → LeadsSome left old left old
 leads_itself None old = tt
 leads_itself (Some whole) old = λ answer new ends. ends
 
@@ -66,9 +70,8 @@ turn_leads script lines refused whole old now new (Some left) (Some after) is le
 -- the ceremony goes on
 pub leads_on : (script : List ℕ) (lines : LinesValue) (turn : Turn) (refused : Bool)
     (whole : Option Ceremony) (old now new : Outside) (left : Option Ceremony) → turn ≡ Next refused
-    → IfSome whole (λ w. Leads w old left now)
-    → IfSome left (λ later. Turns script lines (Ok turn) later now new)
-    → IfSome whole (λ w. Leads w old (left_of script refused lines (stores_of new)) new)
+    → LeadsSome whole old left now → TurnsSome script lines left (Ok turn) now new
+    → LeadsSome whole old (left_of script refused lines (stores_of new)) new
 leads_on script lines turn refused None old now new left is leads turns = tt
 leads_on script lines turn refused (Some whole) old now new left is leads turns =
     turn_leads script lines refused whole old now new left _ refl leads
@@ -76,18 +79,23 @@ leads_on script lines turn refused (Some whole) old now new left is leads turns 
 
 -- it ended
 pub leads_to : (whole : Option Ceremony) (answer : Result ℕ OutsideErr) (old now new : Outside)
-    (left : Option Ceremony) → IfSome whole (λ w. Leads w old left now)
-    → IfSome left (λ later. EndsAll answer later now new)
-    → IfSome whole (λ w. EndsAll answer w old new)
+    (left : Option Ceremony) → LeadsSome whole old left now → EndsSome left answer now new
+    → EndsSome whole answer old new
 leads_to None answer old now new left leads ends = tt
 leads_to (Some whole) answer old now new None leads ends = absurd leads
 leads_to (Some whole) answer old now new (Some left) leads ends = leads answer new ends
 
+pub leads_to_stop : (script : List ℕ) (lines : LinesValue) (whole : Option Ceremony)
+    (stop other : OutsideErr) (old now new : Outside) (left : Option Ceremony)
+    → LeadsSome whole old left now → TurnsSome script lines left (Err stop) now new
+    → EndsSome whole (Err other) old new
+leads_to_stop script lines whole stop other old now new left leads ends =
+    leads_to whole (Err other) old now new left leads ends
+
 pub leads_to_end : (script : List ℕ) (lines : LinesValue) (turn : Turn) (status : ℕ)
     (whole : Option Ceremony) (old now new : Outside) (left : Option Ceremony) → turn ≡ Ended status
-    → IfSome whole (λ w. Leads w old left now)
-    → IfSome left (λ later. Turns script lines (Ok turn) later now new)
-    → IfSome whole (λ w. EndsAll (Ok status) w old new)
+    → LeadsSome whole old left now → TurnsSome script lines left (Ok turn) now new
+    → EndsSome whole (Ok status) old new
 leads_to_end script lines turn status whole old now new left is leads turns =
     leads_to whole (Ok status) old now new left leads
     (subst (λ t. IfSome left (λ later. Turns script lines (Ok t) later now new)) is turns)
@@ -100,10 +108,9 @@ pub begun_ceremony : (script : List ℕ) (lines : LinesValue) (held now : Option
     (new : Outside) → now ≡ held
     → IfSome held (λ files. Gives {T = LinesValue} said_of_unread (λ l. rest_of l files) (Ok lines)
     (script_begun files script))
-    → IfSome (left_of script false lines (stores now ledger))
-    (λ whole. EndsAll answer whole (outside (stores now ledger) taken) new)
-    → IfSome (ceremony_on held ledger script)
-    (λ whole. EndsAll answer whole (outside (stores held ledger) taken) new)
+    → EndsSome (left_of script false lines (stores now ledger)) answer
+    (outside (stores now ledger) taken) new
+    → EndsSome (ceremony_on held ledger script) answer (outside (stores held ledger) taken) new
 begun_ceremony script lines None now ledger taken answer new same is ends = tt
 begun_ceremony script lines (Some files) now ledger taken answer new same is ends =
     let here : IfSome (left_of script false lines (stores (Some files) ledger))
@@ -129,10 +136,9 @@ pub unread_ceremony : (script : List ℕ) (unread : Unread) (said : SaidValue)
     (answer : Result ℕ OutsideErr) → now ≡ held → Ok said ≡ said_or_stopped unread
     → IfSome held (λ files. Gives {T = LinesValue} said_of_unread (λ l. rest_of l files)
     (Err unread) (script_begun files script))
-    → ((old : Stores) → EndsAll answer (closed said) (outside old taken) (outside old then_))
-    → IfSome (ceremony_on held ledger script)
-    (λ whole. EndsAll answer whole (outside (stores held ledger) taken)
-    (outside (stores now ledger) then_))
+    → EndsSaying said answer taken then_
+    → EndsSome (ceremony_on held ledger script) answer (outside (stores held ledger) taken)
+    (outside (stores now ledger) then_)
 unread_ceremony script unread said None now ledger taken then_ answer same is gives ends = tt
 unread_ceremony script unread said (Some files) now ledger taken then_ answer same is gives ends =
     subst (λ r. IfSome (ceremony_behind script (stores (Some files) ledger) r)

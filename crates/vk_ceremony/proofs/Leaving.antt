@@ -1,21 +1,20 @@
 -- What a ceremony leaves of the files, turn by turn, whether or not its keeper is modelled.
 use Rattle.std.proofs.Common.{◌≡◌, ℕ, zero, suc, Bool, true, false, ◌||◌, if◌then◌else◌, List, Option, Some, None, IfSome, Result, Ok, Err, refl, sym, ap, subst, ◌∙◌, inl, inr}
-use Rattle.std.specs.Prelude.{IfOk}
 use Rattle.vk_io.specs.Files.{Files, Modelled, bytes_of}
 use Rattle.vk_io.specs.declared.errors.OutsideErr.{OutsideErr}
 use Rattle.vk_io.proofs.WritingLemmas.{told_chain, told_same}
 use Rattle.vk_lines.specs.Gives.{Gives}
 use Rattle.vk_lines.specs.Lines.{LinesValue, rest_of}
 use Rattle.vk_effect.specs.declared.reading.Unread.{Unread}
-use Rattle.vk_effect.specs.Effects.{SaidValue, Stores, outside, stores}
+use Rattle.vk_effect.specs.Effects.{SaidValue, stores}
 use Rattle.vk_effect.specs.Reading.{said_of_unread, said_or_stopped}
 use Rattle.vk_words.specs.Orders.{HouseWords, Announce, AnnounceReserve, Submit, Prove, Answer, Show}
 use Rattle.vk_words.specs.Scripts.{script_words, written_name_of}
 use Rattle.vk_auctioneer.specs.Leaving.{LeavesDone, LeavesFiles}
 use Rattle.vk_ceremony.specs.declared.holding.Turn.{Turn}
 use Rattle.vk_ceremony.specs.declared.holding.Turn.TheVariants.{Next, Ended}
-use Rattle.vk_ceremony.specs.Ceremonies.{closed, closing_said, goes_on, is_refusal, EndsAll}
-use Rattle.vk_ceremony.specs.Leaving.{BehindLeaves, CeremonyLeaves, Continues, ScriptLeaves, TurnLeaves}
+use Rattle.vk_ceremony.specs.Ceremonies.{EndsSaying, closing_said, goes_on, is_refusal}
+use Rattle.vk_ceremony.specs.Leaving.{BehindLeaves, Continues, HoldLeaves, LeavesAnswered, OrderLeaves, ScriptLeaves, TurnLeaves}
 use Rattle.vk_ceremony.specs.Scripts.{closes, script_at, script_begun, with_order}
 use Rattle.vk_ceremony.specs.Turns.{order_then}
 use Rattle.vk_ceremony.proofs.Leading.{unread_said}
@@ -80,10 +79,6 @@ command_leaves script order refused before lines status files new false goes lef
     subst (λ said. ScriptLeaves script refused said status files new) (sym reads)
     (status, (new, left, inr (goes, refl, refl)))
 
--- by what it came to
-abbrev OrderLeaves : HouseWords → Result ℕ OutsideErr → Files → Files → Type 0
-OrderLeaves order answer old new = IfOk answer (λ status. LeavesFiles order status old new)
-
 -- what it read before is that command and what stands behind it
 abbrev ReadsOrder : List ℕ → List (List ℕ) → (before lines : LinesValue) → Files → Type 0
 ReadsOrder script words before lines files =
@@ -123,6 +118,15 @@ order_left script words order refused before lines (Some files) between now answ
     turn_leaves script words order refused before lines files now answer named is reads
     (subst (λ held. Modelled (OrderLeaves order answer) held now) same left)
 
+-- the command was stopped
+pub order_stopped : (script : List ℕ) (refused : Bool) (before lines : LinesValue)
+    (stop other : OutsideErr) (order : HouseWords) (held between now : Option Files)
+    → between ≡ held → Modelled (OrderLeaves order (Err other)) between now
+    → Modelled (TurnLeaves script refused before lines (Err stop)) held now
+order_stopped script refused before lines stop other order held between now same left =
+    subst (λ files. Modelled (TurnLeaves script refused before lines (Err stop)) files now) same
+    left
+
 -- it was stopped, and no file was written
 pub stop_left : (script : List ℕ) (refused : Bool) (before lines : LinesValue) (stop : OutsideErr)
     (held now : Option Files) → now ≡ held
@@ -135,8 +139,7 @@ pub close_left : (script : List ℕ) (refused : Bool) (before lines : LinesValue
     (held now : Option Files)
     (taken then_ : Option (List ℕ)) (fault : Option ℕ) (status : ℕ) → now ≡ held
     → IfSome held (λ files. script_at script (rest_of before files) ≡ closes fault)
-    → ((old : Stores) → EndsAll (Ok status) (closed (closing_said script fault refused))
-    (outside old taken) (outside old then_))
+    → EndsSaying (closing_said script fault refused) (Ok status) taken then_
     → Modelled (TurnLeaves script refused before lines (Ok (Ended status))) held now
 close_left script refused before lines None now taken then_ fault status same is ends = same
 close_left script refused before lines (Some files) now taken then_ fault status same is ends =
@@ -167,12 +170,6 @@ leaves_on script start lines later refused now turn old between new is =
     left))
     old between new
 
--- what was left from the beginning, where it ended
-abbrev pub HoldLeaves : List ℕ → LinesValue → Result ℕ OutsideErr → Files → Files → Type 0
-HoldLeaves script start answer old new =
-    IfOk answer (λ status. ScriptLeaves script false (script_at script (rest_of start old)) status
-    old new)
-
 pub leaves_to_end : (script : List ℕ) (start lines later : LinesValue) (refused : Bool)
     (turn : Turn)
     (status : ℕ) (old between new : Option Files) → turn ≡ Ended status
@@ -200,9 +197,6 @@ leaves_to_stop script start lines later refused stop other old between new =
 
 -- ---- the whole ceremony
 
-abbrev pub LeavesAnswered : List ℕ → Result ℕ OutsideErr → Files → Files → Type 0
-LeavesAnswered script answer old new = IfOk answer (λ status. CeremonyLeaves script status old new)
-
 begun_by : (script : List ℕ) (lines : LinesValue) (answer : Result ℕ OutsideErr) (files : Files)
     (now : Option Files) → script_begun files script ≡ Ok (rest_of lines files)
     → Modelled (HoldLeaves script lines answer) (Some files) now
@@ -229,7 +223,7 @@ pub unread_left : (script : List ℕ) (unread : Unread) (said : SaidValue) (held
     (taken then_ : Option (List ℕ)) (status : ℕ) → now ≡ held → Ok said ≡ said_or_stopped unread
     → IfSome held (λ files. Gives {T = LinesValue} said_of_unread (λ l. rest_of l files)
     (Err unread) (script_begun files script))
-    → ((old : Stores) → EndsAll (Ok status) (closed said) (outside old taken) (outside old then_))
+    → EndsSaying said (Ok status) taken then_
     → Modelled (LeavesAnswered script (Ok status)) held now
 unread_left script unread said None now taken then_ status same is gives ends = same
 unread_left script unread said (Some files) now taken then_ status same is gives ends =

@@ -6,7 +6,7 @@ use Rattle.vk_io.specs.Writing.{written}
 use Rattle.vk_io.specs.declared.errors.OutsideErr.{OutsideErr}
 use Rattle.vk_lines.specs.Lines.{LinesValue, rest_in, rest_of}
 use Rattle.vk_keeper.specs.Ledgers.{Ledger}
-use Rattle.vk_effect.specs.Effects.{Effect, Outside, Stores, after, done, outside, puts, stores}
+use Rattle.vk_effect.specs.Effects.{Effect, Outside, after, done, outside, puts, stores}
 use Rattle.vk_effect.specs.Ends.{Done, Ends, Stopped, TakesPrefix}
 use Rattle.vk_effect.specs.Sequences.{StopsAmong}
 use Rattle.vk_effect.proofs.Sequences.{done_is}
@@ -17,8 +17,8 @@ use Rattle.vk_ceremony.specs.declared.reading.Line.{Line}
 use Rattle.vk_ceremony.specs.declared.holding.Turn.{Turn}
 use Rattle.vk_ceremony.specs.declared.holding.Turn.TheVariants.{Next, Ended}
 use Rattle.vk_ceremony.specs.Scripts.{Script, closes, over_at, script_at}
-use Rattle.vk_ceremony.specs.Ceremonies.{Ceremony, EndsAll, after_command, ceremony_by, closed, closing_said, ended_by, goes_on, is_refusal, with_command}
-use Rattle.vk_ceremony.specs.Turns.{Stands, Turns, left_of, order_then, stores_of, turn_by}
+use Rattle.vk_ceremony.specs.Ceremonies.{Ceremony, EndsAll, EndsSaying, EndsSome, after_command, ceremony_by, closed, closing_said, ended_by, goes_on, is_refusal, with_command}
+use Rattle.vk_ceremony.specs.Turns.{Stands, Turns, TurnsSome, left_of, order_then, stores_of, turn_by}
 use Rattle.vk_ceremony.proofs.Writing.{command_leaves}
 
 -- ---- nothing was done
@@ -45,11 +45,19 @@ stopped_here whole stop held now ledger taken same =
 
 pub left_stopped : (left : Option Ceremony) (stop : OutsideErr) (held now : Option Files)
     (ledger : Option Ledger) (taken : Option (List ℕ)) → now ≡ held
-    → IfSome left (λ whole. EndsAll (Err stop) whole (outside (stores held ledger) taken)
-    (outside (stores now ledger) taken))
+    → EndsSome left (Err stop) (outside (stores held ledger) taken)
+    (outside (stores now ledger) taken)
 left_stopped None stop held now ledger taken same = tt
 left_stopped (Some whole) stop held now ledger taken same =
     stopped_here whole stop held now ledger taken same
+
+pub turn_stopped : (script : List ℕ) (lines : LinesValue) (left : Option Ceremony)
+    (stop : OutsideErr) (held now : Option Files) (ledger : Option Ledger)
+    (taken : Option (List ℕ)) → now ≡ held
+    → TurnsSome script lines left (Err stop) (outside (stores held ledger) taken)
+    (outside (stores now ledger) taken)
+turn_stopped script lines left stop held now ledger taken same =
+    left_stopped left stop held now ledger taken same
 
 -- ---- what was read
 
@@ -96,11 +104,9 @@ pub left_closed : (script : List ℕ) (refused : Bool) (lines : LinesValue) (hel
     (ledger : Option Ledger) (taken then_ : Option (List ℕ)) (fault : Option ℕ)
     (answer : Result ℕ OutsideErr) → now ≡ held
     → IfSome held (λ files. script_at script (rest_of lines files) ≡ closes fault)
-    → ((old : Stores) → EndsAll answer (closed (closing_said script fault refused))
-    (outside old taken) (outside old then_))
-    → IfSome (left_of script refused lines (stores held ledger))
-    (λ whole. EndsAll answer whole (outside (stores held ledger) taken)
-    (outside (stores now ledger) then_))
+    → EndsSaying (closing_said script fault refused) answer taken then_
+    → EndsSome (left_of script refused lines (stores held ledger)) answer
+    (outside (stores held ledger) taken) (outside (stores now ledger) then_)
 left_closed script refused lines None now ledger taken then_ fault answer same is ends = tt
 left_closed script refused lines (Some files) now ledger taken then_ fault answer same is ends =
     let P : Script → Type 0 = λ said.
@@ -251,9 +257,8 @@ pub left_turned : (script : List ℕ) (words : List (List ℕ)) (order : HouseWo
     ≡ order_then script (script_words script words) (rest_of lines files))
     → IfSome (house_effect now ledger order)
     (λ effect. Ends answer effect (outside (stores now ledger) taken) new)
-    → IfSome (left_of script refused before (stores held ledger))
-    (λ whole. Turns script lines (turned refused answer) whole (outside (stores held ledger) taken)
-    new)
+    → TurnsSome script lines (left_of script refused before (stores held ledger))
+    (turned refused answer) (outside (stores held ledger) taken) new
 left_turned script words order refused before lines None now ledger answer taken new same named is
     read ends = tt
 left_turned script words order refused before lines (Some files) now ledger answer taken new same

@@ -1,11 +1,11 @@
 -- What a ceremony does, where nothing outside fails and memory is given.
-use Rattle.std.specs.Prelude.{◌≡◌, ℕ, ◌==◌, ◌||◌, Bool, false, if◌then◌else◌, List, [], ◌∷◌, codes, Option, Some, None, option_map, option_and_then, Result, Ok, Err}
+use Rattle.std.specs.Prelude.{◌≡◌, ℕ, ◌==◌, ◌||◌, Bool, false, if◌then◌else◌, List, [], ◌∷◌, codes, Option, Some, None, IfSome, option_map, option_and_then, Result, Ok, Err}
 use Rattle.vk_io.specs.Files.{Files}
 use Rattle.vk_io.specs.declared.errors.OutsideErr.{OutsideErr}
 use Rattle.vk_lines.specs.Forms.{line}
 use Rattle.vk_lines.specs.Lines.{Rest}
 use Rattle.vk_keeper.specs.Ledgers.{Ledger}
-use Rattle.vk_effect.specs.Effects.{Effect, Outside, SaidValue, Stores, after, stores}
+use Rattle.vk_effect.specs.Effects.{Effect, Outside, SaidValue, Stores, after, outside, stores}
 use Rattle.vk_effect.specs.Sequences.{StopsAmong, done_all, one_effect}
 use Rattle.vk_words.specs.Orders.{HouseWords}
 use Rattle.vk_auctioneer.specs.Effects.{house_effect}
@@ -100,3 +100,12 @@ abbrev pub EndsAll : Result ℕ OutsideErr → Ceremony → Outside → Outside 
 EndsAll (Ok status) whole old new = (status ≡ whole.closing.status)
     × (new ≡ done_all whole.commands whole.closing.text old)
 EndsAll (Err stop) whole old new = StopsAmong whole.commands whole.closing.text old new
+
+-- the same of a ceremony that may be known
+abbrev pub EndsSome : Option Ceremony → Result ℕ OutsideErr → Outside → Outside → Type 0
+EndsSome known answer old new = IfSome known (λ whole. EndsAll answer whole old new)
+
+-- no command was left, and that was said of the ceremony
+abbrev pub EndsSaying : SaidValue → Result ℕ OutsideErr → (taken now : Option (List ℕ)) → Type 0
+EndsSaying said answer taken now =
+    (old : Stores) → EndsAll answer (closed said) (outside old taken) (outside old now)

@@ -1,5 +1,5 @@
 -- What a ceremony leaves of the files where they are modelled, whether or not its keeper is.
-use Rattle.std.specs.Prelude.{◌≡◌, ℕ, ◌||◌, Bool, false, List, [], ◌∷◌, Result, Ok, Err, IsTrue, IsFalse, ◌⊎◌}
+use Rattle.std.specs.Prelude.{◌≡◌, ℕ, ◌||◌, Bool, false, List, [], ◌∷◌, Result, Ok, Err, IfOk, IsTrue, IsFalse, ◌⊎◌}
 use Rattle.vk_io.specs.Files.{Files}
 use Rattle.vk_io.specs.declared.errors.OutsideErr.{OutsideErr}
 use Rattle.vk_lines.specs.Lines.{LinesValue, Rest, rest_of}
@@ -38,7 +38,21 @@ BehindLeaves script (Err said) status old new = (status ≡ said.status) × (new
 abbrev pub CeremonyLeaves : List ℕ → (status : ℕ) → Files → Files → Type 0
 CeremonyLeaves script status old new = BehindLeaves script (script_begun old script) status old new
 
+-- the same of one that may have been stopped
+abbrev pub LeavesAnswered : List ℕ → Result ℕ OutsideErr → Files → Files → Type 0
+LeavesAnswered script answer old new = IfOk answer (λ status. CeremonyLeaves script status old new)
+
+-- and of what stands behind these lines
+abbrev pub HoldLeaves : List ℕ → LinesValue → Result ℕ OutsideErr → Files → Files → Type 0
+HoldLeaves script start answer old new =
+    IfOk answer (λ status. ScriptLeaves script false (script_at script (rest_of start old)) status
+    old new)
+
 -- ---- a turn of it
+
+-- what a command leaves that may have been stopped
+abbrev pub OrderLeaves : HouseWords → Result ℕ OutsideErr → Files → Files → Type 0
+OrderLeaves order answer old new = IfOk answer (λ status. LeavesFiles order status old new)
 
 -- whatever is left by what stands behind these lines, what stood before them leaves from the
 -- beginning

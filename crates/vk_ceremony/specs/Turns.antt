@@ -1,5 +1,5 @@
 -- What the steps of a ceremony answer.
-use Rattle.std.specs.Prelude.{◌≡◌, ℕ, ◌+◌, ◌||◌, Bool, if◌then◌else◌, List, map, string_bytes, Option, Some, None, option_and_then, Result, Ok, Err, IsSomeAnd}
+use Rattle.std.specs.Prelude.{◌≡◌, ℕ, ◌+◌, ◌||◌, Bool, if◌then◌else◌, List, map, string_bytes, Option, Some, None, IfSome, option_and_then, Result, Ok, Err, IsSomeAnd}
 use Rattle.vk_io.specs.declared.errors.OutsideErr.{OutsideErr}
 use Rattle.vk_lines.specs.declared.step.Step.{Step}
 use Rattle.vk_lines.specs.declared.step.Step.TheVariants as step
@@ -69,6 +69,12 @@ Turns script lines (Ok (Next refused)) whole old new =
     (λ later. (effect : Effect) × (whole ≡ with_command effect later) × (new ≡ done effect old))
 Turns script lines (Ok (Ended status)) whole old new = EndsAll (Ok status) whole old new
 Turns script lines (Err stop) whole old new = EndsAll (Err stop) whole old new
+
+-- the same of what may be known to be left of it
+abbrev pub TurnsSome : List ℕ → LinesValue → Option Ceremony → Result Turn OutsideErr → Outside
+    → Outside → Type 0
+TurnsSome script lines left answer old new =
+    IfSome left (λ whole. Turns script lines answer whole old new)
 
 -- the status at the end is none of a ceremony that was stopped
 abbrev pub EndsWell : Turn → Type 0

@@ -2,8 +2,8 @@
 
 ghost use Rattle.std.specs.Prelude.{◌≡◌, IfOk};
 ghost use Rattle.vk_io.specs.Faults.{Causes};
-ghost use Rattle.vk_effect.specs.Effects.{IsEnd, Stores, outside};
-ghost use Rattle.vk_ceremony.specs.Ceremonies.{EndsAll, closed, closing_said, end_said};
+ghost use Rattle.vk_effect.specs.Effects.{IsEnd};
+ghost use Rattle.vk_ceremony.specs.Ceremonies.{EndsSaying, closing_said, end_said};
 
 use std::alloc::Global;
 use vk_effect::{Said, malformed};
@@ -19,9 +19,8 @@ pub fn close<W: Sink>(
     fault: Option<u64>,
     refused: bool,
 ) -> Result<u8, OutsideErr>
-    ensures ends { (old : Stores)
-        → EndsAll result (closed (closing_said script.now fault refused))
-        (outside old (W.taken out.old)) (outside old (W.taken out.new)) }
+    ensures ends { EndsSaying (closing_said script.now fault refused) result (W.taken out.old)
+        (W.taken out.new) }
     ensures end { IfOk result IsEnd }
     ensures causes { Causes OutsideErr.Failed result (W.Sink.faults out.old)
         (W.Sink.faults out.new) }
@@ -57,9 +56,7 @@ fn end(alloc: Global, refused: bool) -> Result<Said, NoMemory>
 
 /// Prints what is said, and answers its status.
 pub fn say<W: Sink>(out: &mut W, said: &Said) -> Result<u8, OutsideErr>
-    ensures ends { (old : Stores)
-        → EndsAll result (closed said.now) (outside old (W.taken out.old))
-        (outside old (W.taken out.new)) }
+    ensures ends { EndsSaying said.now result (W.taken out.old) (W.taken out.new) }
     ensures end { IfOk result IsEnd }
     ensures causes { Causes OutsideErr.Failed result (W.Sink.faults out.old)
         (W.Sink.faults out.new) }

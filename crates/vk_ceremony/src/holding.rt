@@ -1,18 +1,16 @@
 //! The commands of a script, one after another.
 
 ghost use Rattle.std.specs.Prelude.{◌≡◌, ◌≤◌, ◌+◌, ◌^◌, false, IfOk, IfSome};
-ghost use Rattle.vk_lines.specs.Lines.{KeepsFile, rest_of};
+ghost use Rattle.vk_lines.specs.Lines.{KeepsFile};
 ghost use Rattle.vk_words.specs.Orders.{IsHouseOrder, house_seen};
 ghost use Rattle.vk_effect.specs.Counts.{CausesThree};
 ghost use Rattle.vk_effect.specs.Effects.{IsEnd, outside};
 ghost use Rattle.vk_effect.specs.Ends.{Ends};
 ghost use Rattle.vk_auctioneer.specs.Common.{KeepsAnswers, Modelled, stores};
 ghost use Rattle.vk_auctioneer.specs.Effects.{house_effect};
-ghost use Rattle.vk_auctioneer.specs.Leaving.{LeavesFiles};
-ghost use Rattle.vk_ceremony.specs.Ceremonies.{EndsAll, ceremony_on};
-ghost use Rattle.vk_ceremony.specs.Leaving.{CeremonyLeaves, ScriptLeaves, TurnLeaves};
-ghost use Rattle.vk_ceremony.specs.Scripts.{script_at};
-ghost use Rattle.vk_ceremony.specs.Turns.{EndsWell, IsNextTurn, Turns, left_of, turn_by};
+ghost use Rattle.vk_ceremony.specs.Ceremonies.{EndsSome, ceremony_on};
+ghost use Rattle.vk_ceremony.specs.Leaving.{HoldLeaves, LeavesAnswered, OrderLeaves, TurnLeaves};
+ghost use Rattle.vk_ceremony.specs.Turns.{EndsWell, IsNextTurn, TurnsSome, left_of, turn_by};
 
 use crate::closing::{close, say};
 use crate::reading::{Line, begin_script, behind_end, read_line};
@@ -36,6 +34,7 @@ pub enum Turn {
 /// Answers the status: 5 or 4 where the script isn't held or is too long; 4 where a line is no such
 /// command in its form or writes the script itself; that of a command which is neither done nor
 /// refused; and at the end of the script 8 where a command was refused, else 0.
+#[tactic(auto, using(crate::proofs::Turning::left_stopped, crate::proofs::Leaving::stopped_left))]
 pub fn ceremony<S: Shelf, K: Keeper + Drop, W: Sink>(
     alloc: Global,
     shelf: &mut S,
@@ -43,13 +42,11 @@ pub fn ceremony<S: Shelf, K: Keeper + Drop, W: Sink>(
     out: &mut W,
     script: &str,
 ) -> Result<u8, OutsideErr>
-    ensures ends { IfSome (ceremony_on (S.held shelf.old) (K.ledger keeper.old) script.now)
-        (λ whole. EndsAll result whole
+    ensures ends { EndsSome (ceremony_on (S.held shelf.old) (K.ledger keeper.old) script.now) result
         (outside (stores (S.held shelf.old) (K.ledger keeper.old)) (W.taken out.old))
-        (outside (stores (S.held shelf.new) (K.ledger keeper.new)) (W.taken out.new))) }
+        (outside (stores (S.held shelf.new) (K.ledger keeper.new)) (W.taken out.new)) }
     ensures end { IfOk result IsEnd }
-    ensures files { Modelled (λ old new.
-        IfOk result (λ status. CeremonyLeaves script.now status old new)) (S.held shelf.old)
+    ensures files { Modelled (LeavesAnswered script.now result) (S.held shelf.old)
         (S.held shelf.new) }
     ensures once { Modelled KeepsAnswers (K.ledger keeper.old) (K.ledger keeper.new) }
     ensures causes { CausesThree OutsideErr.Failed result (S.Shelf.faults shelf.old)
@@ -71,6 +68,7 @@ pub fn ceremony<S: Shelf, K: Keeper + Drop, W: Sink>(
 }
 
 /// Does the commands of a script that is read behind its first line.
+#[tactic(auto, using(crate::proofs::Leading::leads_to_stop, crate::proofs::Leading::leads_to_end, crate::proofs::Leading::keeps_further, crate::proofs::Leaving::leaves_to_stop, crate::proofs::Leaving::leaves_to_end))]
 fn hold<S: Shelf, K: Keeper + Drop, W: Sink>(
     alloc: Global,
     shelf: &mut S,
@@ -80,16 +78,13 @@ fn hold<S: Shelf, K: Keeper + Drop, W: Sink>(
     lines: Lines,
 ) -> Result<u8, OutsideErr>
     requires { lines.name ≡ script.now }
-    ensures ends { IfSome (left_of script.now false lines
-        (stores (S.held shelf.old) (K.ledger keeper.old)))
-        (λ whole. EndsAll result whole
+    ensures ends { EndsSome (left_of script.now false lines
+        (stores (S.held shelf.old) (K.ledger keeper.old))) result
         (outside (stores (S.held shelf.old) (K.ledger keeper.old)) (W.taken out.old))
-        (outside (stores (S.held shelf.new) (K.ledger keeper.new)) (W.taken out.new))) }
+        (outside (stores (S.held shelf.new) (K.ledger keeper.new)) (W.taken out.new)) }
     ensures end { IfOk result IsEnd }
-    ensures files { Modelled (λ old new.
-        IfOk result (λ status. ScriptLeaves script.now false
-        (script_at script.now (rest_of lines old)) status old new))
-        (S.held shelf.old) (S.held shelf.new) }
+    ensures files { Modelled (HoldLeaves script.now lines result) (S.held shelf.old)
+        (S.held shelf.new) }
     ensures once { Modelled KeepsAnswers (K.ledger keeper.old) (K.ledger keeper.new) }
     ensures causes { CausesThree OutsideErr.Failed result (S.Shelf.faults shelf.old)
         (S.Shelf.faults shelf.new)
@@ -107,6 +102,7 @@ fn hold<S: Shelf, K: Keeper + Drop, W: Sink>(
 }
 
 /// Takes the next line of a script, and does its command.
+#[tactic(auto, using(crate::proofs::Turning::turn_stopped, crate::proofs::Leaving::order_stopped, crate::proofs::Leaving::stop_left))]
 fn next<S: Shelf, K: Keeper + Drop, W: Sink>(
     alloc: Global,
     shelf: &mut S,
@@ -117,11 +113,10 @@ fn next<S: Shelf, K: Keeper + Drop, W: Sink>(
     refused: bool,
 ) -> Result<Turn, OutsideErr>
     requires { lines.now.name ≡ script.now }
-    ensures turns { IfSome (left_of script.now refused lines.old
-        (stores (S.held shelf.old) (K.ledger keeper.old)))
-        (λ whole. Turns script.now lines.new result whole
+    ensures turns { TurnsSome script.now lines.new (left_of script.now refused lines.old
+        (stores (S.held shelf.old) (K.ledger keeper.old))) result
         (outside (stores (S.held shelf.old) (K.ledger keeper.old)) (W.taken out.old))
-        (outside (stores (S.held shelf.new) (K.ledger keeper.new)) (W.taken out.new))) }
+        (outside (stores (S.held shelf.new) (K.ledger keeper.new)) (W.taken out.new)) }
     ensures end { IfOk result (λ turn. EndsWell turn) }
     ensures files { Modelled (TurnLeaves script.now refused lines.old lines.new result)
         (S.held shelf.old) (S.held shelf.new) }
@@ -188,9 +183,8 @@ fn command<S: Shelf, K: Keeper + Drop, W: Sink>(
         (λ effect. Ends result effect
         (outside (stores (S.held shelf.old) (K.ledger keeper.old)) (W.taken out.old))
         (outside (stores (S.held shelf.new) (K.ledger keeper.new)) (W.taken out.new))) }
-    ensures files { Modelled (λ old new.
-        IfOk result (λ status. LeavesFiles (house_seen order.now) status old new))
-        (S.held shelf.old) (S.held shelf.new) }
+    ensures files { Modelled (OrderLeaves (house_seen order.now) result) (S.held shelf.old)
+        (S.held shelf.new) }
     ensures once { Modelled KeepsAnswers (K.ledger keeper.old) (K.ledger keeper.new) }
     ensures causes { CausesThree OutsideErr.Failed result (S.Shelf.faults shelf.old)
         (S.Shelf.faults shelf.new)

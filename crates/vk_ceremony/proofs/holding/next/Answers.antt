@@ -1,264 +1,116 @@
-use Rattle.std.proofs.Common.{◌∙◌, Ok, Err, Some, ap, map, string_bytes}
+use Rattle.std.proofs.Common.{◌∙◌, Ok, Err, ap, map, string_bytes}
 use Rattle.std.proofs.lemmas.Result.{err_from_is_err_and}
-use Rattle.vk_effect.specs.Effects.{outside, stores}
-use Rattle.vk_words.specs.Orders.{house_seen}
 use Rattle.vk_words.specs.Scripts.{script_words}
 use Rattle.vk_ceremony.specs.declared.reading.Line.TheVariants.{Words, End, Malformed}
-use Rattle.vk_ceremony.specs.Turns.{left_of}
-use Rattle.vk_ceremony.proofs.Turning.{end_told, left_closed, left_stopped, left_turned, line_told, none_told}
-use Rattle.vk_ceremony.proofs.Leaving.{close_left, order_left, stop_left}
+use Rattle.vk_ceremony.proofs.Turning.{end_told, left_closed, left_turned, line_told, none_told}
+use Rattle.vk_ceremony.proofs.Leaving.{close_left, order_left}
 use Rattle.vk_ceremony.proofs.holding.next.Goals as goal
-
-pub returns-in_err-words-clause-turns : goal.returns-in_err-words-clause-turns
-returns-in_err-words-clause-turns g c =
-    let p = err_from_is_err_and c.from_residual.result c.from_residual.ensures.1 in
-    rw p.1 (left_stopped (left_of c.args.script.now c.args.refused c.args.lines.now
-    (stores (g.S.Shelf.held c.args.shelf.now) (g.K.Keeper.ledger c.args.keeper.now))) p.0
-    (g.S.Shelf.held c.args.shelf.now) (g.S.Shelf.held c.read_line.new.shelf)
-    (g.K.Keeper.ledger c.args.keeper.now) (g.W.Sink.taken c.args.out.now)
-    c.in_err-words.ensures.shelf.held)
 
 pub returns-in_err-status-in-Some-clause-turns : goal.returns-in_err-status-in-Some-clause-turns
 returns-in_err-status-in-Some-clause-turns g c =
     let p = err_from_is_err_and c.from_residual-in_err-status-in-Some.result
     c.from_residual-in_err-status-in-Some.ensures.1 in
-    rw p.1 (left_turned c.args.script.now (map string_bytes c.in-Words.words.items)
-    (house_seen c.in-Some.order) c.args.refused c.args.lines.now c.read_line.new.lines
-    (g.S.Shelf.held c.args.shelf.now) (g.S.Shelf.held c.read_line.new.shelf)
-    (g.K.Keeper.ledger c.args.keeper.now) (Err p.0) (g.W.Sink.taken c.args.out.now)
-    (outside (stores (g.S.Shelf.held c.command.new.shelf)
-    (g.K.Keeper.ledger c.command.new.keeper)) (g.W.Sink.taken c.command.new.out))
-    c.in_ok-words.ensures.shelf.held (c.in_ok-words.ensures.file.name ∙ c.requires)
+    rw p.1 (left_turned _ _ _ _ _ _ _ _ _ (Err p.0) _ _ c.in_ok-words.ensures.shelf.held
+    (c.in_ok-words.ensures.file.name ∙ c.requires)
     (c.in-Some.ensures.value ∙ ap (λ words. script_words c.args.script.now (map string_bytes words))
     c.as_slice.ensures.value)
-    (line_told c.args.script.now (g.S.Shelf.held c.args.shelf.now) c.args.lines.now
-    c.read_line.new.lines c.in_ok-words.field-0 (Words c.in-Words.words) c.in-Words.is
-    c.in_ok-words.ensures.modelled) c.in_err-status-in-Some.ensures.ends)
+    (line_told _ _ _ _ _ (Words c.in-Words.words) c.in-Words.is c.in_ok-words.ensures.modelled)
+    c.in_err-status-in-Some.ensures.ends)
 
 pub returns-in-Some-clause-turns : goal.returns-in-Some-clause-turns
 returns-in-Some-clause-turns g c =
     rw c.turn_by.ensures.value
-    (left_turned c.args.script.now (map string_bytes c.in-Words.words.items)
-    (house_seen c.in-Some.order) c.args.refused c.args.lines.now c.read_line.new.lines
-    (g.S.Shelf.held c.args.shelf.now) (g.S.Shelf.held c.read_line.new.shelf)
-    (g.K.Keeper.ledger c.args.keeper.now) (Ok c.in_ok-status-in-Some.status)
-    (g.W.Sink.taken c.args.out.now)
-    (outside (stores (g.S.Shelf.held c.command.new.shelf)
-    (g.K.Keeper.ledger c.command.new.keeper)) (g.W.Sink.taken c.command.new.out))
+    (left_turned _ _ _ _ _ _ _ _ _ (Ok c.in_ok-status-in-Some.status) _ _
     c.in_ok-words.ensures.shelf.held (c.in_ok-words.ensures.file.name ∙ c.requires)
     (c.in-Some.ensures.value ∙ ap (λ words. script_words c.args.script.now (map string_bytes words))
     c.as_slice.ensures.value)
-    (line_told c.args.script.now (g.S.Shelf.held c.args.shelf.now) c.args.lines.now
-    c.read_line.new.lines c.in_ok-words.field-0 (Words c.in-Words.words) c.in-Words.is
-    c.in_ok-words.ensures.modelled) c.in_ok-status-in-Some.ensures.ends)
+    (line_told _ _ _ _ _ (Words c.in-Words.words) c.in-Words.is c.in_ok-words.ensures.modelled)
+    c.in_ok-status-in-Some.ensures.ends)
 
 pub returns-in_err-status-in-None-clause-turns : goal.returns-in_err-status-in-None-clause-turns
 returns-in_err-status-in-None-clause-turns g c =
     let p = err_from_is_err_and c.from_residual-in_err-status-in-None.result
     c.from_residual-in_err-status-in-None.ensures.1 in
-    rw p.1 (left_closed c.args.script.now c.args.refused c.args.lines.now
-    (g.S.Shelf.held c.args.shelf.now) (g.S.Shelf.held c.read_line.new.shelf)
-    (g.K.Keeper.ledger c.args.keeper.now) (g.W.Sink.taken c.args.out.now)
-    (g.W.Sink.taken c.close.new.out) (Some c.number.result) (Err p.0)
-    c.in_ok-words.ensures.shelf.held
-    (none_told c.args.script.now (g.S.Shelf.held c.args.shelf.now) c.args.lines.now
-    c.read_line.new.lines (map string_bytes c.in-Words.words.items) c.number.result
-    (c.in-None.ensures.value ∙ ap (λ words. script_words c.args.script.now (map string_bytes words))
+    rw p.1 (left_closed _ _ _ _ _ _ _ _ _ (Err p.0) c.in_ok-words.ensures.shelf.held
+    (none_told _ _ _ _ _ _ (c.in-None.ensures.value
+    ∙ ap (λ words. script_words c.args.script.now (map string_bytes words))
     c.as_slice.ensures.value) c.number.ensures.count
-    (line_told c.args.script.now (g.S.Shelf.held c.args.shelf.now) c.args.lines.now
-    c.read_line.new.lines c.in_ok-words.field-0 (Words c.in-Words.words) c.in-Words.is
-    c.in_ok-words.ensures.modelled)) c.in_err-status-in-None.ensures.ends)
+    (line_told _ _ _ _ _ (Words c.in-Words.words) c.in-Words.is c.in_ok-words.ensures.modelled))
+    c.in_err-status-in-None.ensures.ends)
 
 pub returns-in-Words-clause-turns : goal.returns-in-Words-clause-turns
 returns-in-Words-clause-turns g c =
-    left_closed c.args.script.now c.args.refused c.args.lines.now (g.S.Shelf.held c.args.shelf.now)
-    (g.S.Shelf.held c.read_line.new.shelf) (g.K.Keeper.ledger c.args.keeper.now)
-    (g.W.Sink.taken c.args.out.now) (g.W.Sink.taken c.close.new.out) (Some c.number.result)
-    (Ok c.in_ok-status-in-None.status)
+    left_closed _ _ _ _ _ _ _ _ _ (Ok c.in_ok-status-in-None.status)
     c.in_ok-words.ensures.shelf.held
-    (none_told c.args.script.now (g.S.Shelf.held c.args.shelf.now) c.args.lines.now
-    c.read_line.new.lines (map string_bytes c.in-Words.words.items) c.number.result
-    (c.in-None.ensures.value ∙ ap (λ words. script_words c.args.script.now (map string_bytes words))
+    (none_told _ _ _ _ _ _ (c.in-None.ensures.value
+    ∙ ap (λ words. script_words c.args.script.now (map string_bytes words))
     c.as_slice.ensures.value) c.number.ensures.count
-    (line_told c.args.script.now (g.S.Shelf.held c.args.shelf.now) c.args.lines.now
-    c.read_line.new.lines c.in_ok-words.field-0 (Words c.in-Words.words) c.in-Words.is
-    c.in_ok-words.ensures.modelled)) c.in_ok-status-in-None.ensures.ends
-
-pub returns-in_err-fault-in-End-clause-turns : goal.returns-in_err-fault-in-End-clause-turns
-returns-in_err-fault-in-End-clause-turns g c =
-    let p = err_from_is_err_and c.from_residual-in_err-fault-in-End.result
-    c.from_residual-in_err-fault-in-End.ensures.1 in
-    rw p.1 (left_stopped (left_of c.args.script.now c.args.refused c.args.lines.now
-    (stores (g.S.Shelf.held c.args.shelf.now) (g.K.Keeper.ledger c.args.keeper.now))) p.0
-    (g.S.Shelf.held c.args.shelf.now) (g.S.Shelf.held c.behind_end.new.shelf)
-    (g.K.Keeper.ledger c.args.keeper.now) (g.W.Sink.taken c.args.out.now)
-    (c.in_err-fault-in-End.ensures.shelf.held ∙ c.in_ok-words.ensures.shelf.held))
+    (line_told _ _ _ _ _ (Words c.in-Words.words) c.in-Words.is c.in_ok-words.ensures.modelled))
+    c.in_ok-status-in-None.ensures.ends
 
 pub returns-in_err-status-in-End-clause-turns : goal.returns-in_err-status-in-End-clause-turns
 returns-in_err-status-in-End-clause-turns g c =
     let p = err_from_is_err_and c.from_residual-in_err-status-in-End.result
     c.from_residual-in_err-status-in-End.ensures.1 in
-    rw p.1 (left_closed c.args.script.now c.args.refused c.args.lines.now
-    (g.S.Shelf.held c.args.shelf.now) (g.S.Shelf.held c.behind_end.new.shelf)
-    (g.K.Keeper.ledger c.args.keeper.now) (g.W.Sink.taken c.args.out.now)
-    (g.W.Sink.taken c.close-in-End.new.out) c.in_ok-fault-in-End.fault (Err p.0)
+    rw p.1 (left_closed _ _ _ _ _ _ _ _ _ (Err p.0)
     (c.in_ok-fault-in-End.ensures.shelf.held ∙ c.in_ok-words.ensures.shelf.held)
-    (end_told c.args.script.now (g.S.Shelf.held c.args.shelf.now)
-    (g.S.Shelf.held c.read_line.new.shelf) c.args.lines.now c.read_line.new.lines
-    c.in_ok-fault-in-End.fault c.in_ok-words.ensures.shelf.held
-    (line_told c.args.script.now (g.S.Shelf.held c.args.shelf.now) c.args.lines.now
-    c.read_line.new.lines c.in_ok-words.field-0 (End) c.in-End.is
-    c.in_ok-words.ensures.modelled) c.in_ok-fault-in-End.ensures.modelled)
-    c.in_err-status-in-End.ensures.ends)
+    (end_told _ _ _ _ _ _ c.in_ok-words.ensures.shelf.held
+    (line_told _ _ _ _ _ (End) c.in-End.is c.in_ok-words.ensures.modelled)
+    c.in_ok-fault-in-End.ensures.modelled) c.in_err-status-in-End.ensures.ends)
 
 pub returns-in-End-clause-turns : goal.returns-in-End-clause-turns
 returns-in-End-clause-turns g c =
-    left_closed c.args.script.now c.args.refused c.args.lines.now (g.S.Shelf.held c.args.shelf.now)
-    (g.S.Shelf.held c.behind_end.new.shelf) (g.K.Keeper.ledger c.args.keeper.now)
-    (g.W.Sink.taken c.args.out.now) (g.W.Sink.taken c.close-in-End.new.out)
-    c.in_ok-fault-in-End.fault (Ok c.in_ok-status-in-End.status)
+    left_closed _ _ _ _ _ _ _ _ _ (Ok c.in_ok-status-in-End.status)
     (c.in_ok-fault-in-End.ensures.shelf.held ∙ c.in_ok-words.ensures.shelf.held)
-    (end_told c.args.script.now (g.S.Shelf.held c.args.shelf.now)
-    (g.S.Shelf.held c.read_line.new.shelf) c.args.lines.now c.read_line.new.lines
-    c.in_ok-fault-in-End.fault c.in_ok-words.ensures.shelf.held
-    (line_told c.args.script.now (g.S.Shelf.held c.args.shelf.now) c.args.lines.now
-    c.read_line.new.lines c.in_ok-words.field-0 (End) c.in-End.is
-    c.in_ok-words.ensures.modelled) c.in_ok-fault-in-End.ensures.modelled)
-    c.in_ok-status-in-End.ensures.ends
+    (end_told _ _ _ _ _ _ c.in_ok-words.ensures.shelf.held
+    (line_told _ _ _ _ _ (End) c.in-End.is c.in_ok-words.ensures.modelled)
+    c.in_ok-fault-in-End.ensures.modelled) c.in_ok-status-in-End.ensures.ends
 
 pub returns-in_err-status-in-Malformed-clause-turns :
     goal.returns-in_err-status-in-Malformed-clause-turns
 returns-in_err-status-in-Malformed-clause-turns g c =
     let p = err_from_is_err_and c.from_residual-in_err-status-in-Malformed.result
     c.from_residual-in_err-status-in-Malformed.ensures.1 in
-    rw p.1 (left_closed c.args.script.now c.args.refused c.args.lines.now
-    (g.S.Shelf.held c.args.shelf.now) (g.S.Shelf.held c.read_line.new.shelf)
-    (g.K.Keeper.ledger c.args.keeper.now) (g.W.Sink.taken c.args.out.now)
-    (g.W.Sink.taken c.close-in-Malformed.new.out) (Some c.in-Malformed.number) (Err p.0)
-    c.in_ok-words.ensures.shelf.held
-    (line_told c.args.script.now (g.S.Shelf.held c.args.shelf.now) c.args.lines.now
-    c.read_line.new.lines c.in_ok-words.field-0 (Malformed c.in-Malformed.number)
-    c.in-Malformed.is c.in_ok-words.ensures.modelled) c.in_err-status-in-Malformed.ensures.ends)
+    rw p.1 (left_closed _ _ _ _ _ _ _ _ _ (Err p.0) c.in_ok-words.ensures.shelf.held
+    (line_told _ _ _ _ _ (Malformed c.in-Malformed.number) c.in-Malformed.is
+    c.in_ok-words.ensures.modelled) c.in_err-status-in-Malformed.ensures.ends)
 
 pub returns-clause-turns : goal.returns-clause-turns
 returns-clause-turns g c =
-    left_closed c.args.script.now c.args.refused c.args.lines.now (g.S.Shelf.held c.args.shelf.now)
-    (g.S.Shelf.held c.read_line.new.shelf) (g.K.Keeper.ledger c.args.keeper.now)
-    (g.W.Sink.taken c.args.out.now) (g.W.Sink.taken c.close-in-Malformed.new.out)
-    (Some c.in-Malformed.number) (Ok c.in_ok-status-in-Malformed.status)
+    left_closed _ _ _ _ _ _ _ _ _ (Ok c.in_ok-status-in-Malformed.status)
     c.in_ok-words.ensures.shelf.held
-    (line_told c.args.script.now (g.S.Shelf.held c.args.shelf.now) c.args.lines.now
-    c.read_line.new.lines c.in_ok-words.field-0 (Malformed c.in-Malformed.number)
-    c.in-Malformed.is c.in_ok-words.ensures.modelled) c.in_ok-status-in-Malformed.ensures.ends
-
-pub returns-in_err-words-clause-files : goal.returns-in_err-words-clause-files
-returns-in_err-words-clause-files g c =
-    let p = err_from_is_err_and c.from_residual.result c.from_residual.ensures.1 in
-    rw p.1 (stop_left c.args.script.now c.args.refused c.args.lines.now c.read_line.new.lines p.0
-    (g.S.Shelf.held c.args.shelf.now) (g.S.Shelf.held c.read_line.new.shelf)
-    c.in_err-words.ensures.shelf.held)
-
-pub returns-in_err-status-in-Some-clause-files : goal.returns-in_err-status-in-Some-clause-files
-returns-in_err-status-in-Some-clause-files g c =
-    let p = err_from_is_err_and c.from_residual-in_err-status-in-Some.result
-    c.from_residual-in_err-status-in-Some.ensures.1 in
-    rw p.1 (order_left c.args.script.now (map string_bytes c.in-Words.words.items)
-    (house_seen c.in-Some.order) c.args.refused c.args.lines.now c.read_line.new.lines
-    (g.S.Shelf.held c.args.shelf.now) (g.S.Shelf.held c.read_line.new.shelf)
-    (g.S.Shelf.held c.command.new.shelf) (Err p.0)
-    c.in_ok-words.ensures.shelf.held (c.in_ok-words.ensures.file.name ∙ c.requires)
-    (c.in-Some.ensures.value
-    ∙ ap (λ words. script_words c.args.script.now (map string_bytes words))
-    c.as_slice.ensures.value)
-    (line_told c.args.script.now (g.S.Shelf.held c.args.shelf.now) c.args.lines.now
-    c.read_line.new.lines c.in_ok-words.field-0 (Words c.in-Words.words) c.in-Words.is
-    c.in_ok-words.ensures.modelled) c.in_err-status-in-Some.ensures.files)
+    (line_told _ _ _ _ _ (Malformed c.in-Malformed.number) c.in-Malformed.is
+    c.in_ok-words.ensures.modelled) c.in_ok-status-in-Malformed.ensures.ends
 
 pub returns-in-Some-clause-files : goal.returns-in-Some-clause-files
 returns-in-Some-clause-files g c =
     rw c.turn_by.ensures.value
-    (order_left c.args.script.now (map string_bytes c.in-Words.words.items)
-    (house_seen c.in-Some.order) c.args.refused c.args.lines.now c.read_line.new.lines
-    (g.S.Shelf.held c.args.shelf.now) (g.S.Shelf.held c.read_line.new.shelf)
-    (g.S.Shelf.held c.command.new.shelf) (Ok c.in_ok-status-in-Some.status)
+    (order_left _ _ _ _ _ _ _ _ _ (Ok c.in_ok-status-in-Some.status)
     c.in_ok-words.ensures.shelf.held (c.in_ok-words.ensures.file.name ∙ c.requires)
-    (c.in-Some.ensures.value
-    ∙ ap (λ words. script_words c.args.script.now (map string_bytes words))
+    (c.in-Some.ensures.value ∙ ap (λ words. script_words c.args.script.now (map string_bytes words))
     c.as_slice.ensures.value)
-    (line_told c.args.script.now (g.S.Shelf.held c.args.shelf.now) c.args.lines.now
-    c.read_line.new.lines c.in_ok-words.field-0 (Words c.in-Words.words) c.in-Words.is
-    c.in_ok-words.ensures.modelled) c.in_ok-status-in-Some.ensures.files)
-
-pub returns-in_err-status-in-None-clause-files : goal.returns-in_err-status-in-None-clause-files
-returns-in_err-status-in-None-clause-files g c =
-    let p = err_from_is_err_and c.from_residual-in_err-status-in-None.result
-    c.from_residual-in_err-status-in-None.ensures.1 in
-    rw p.1 (stop_left c.args.script.now c.args.refused c.args.lines.now c.read_line.new.lines p.0
-    (g.S.Shelf.held c.args.shelf.now) (g.S.Shelf.held c.read_line.new.shelf)
-    c.in_ok-words.ensures.shelf.held)
+    (line_told _ _ _ _ _ (Words c.in-Words.words) c.in-Words.is c.in_ok-words.ensures.modelled)
+    c.in_ok-status-in-Some.ensures.files)
 
 pub returns-in-Words-clause-files : goal.returns-in-Words-clause-files
 returns-in-Words-clause-files g c =
-    close_left c.args.script.now c.args.refused c.args.lines.now c.read_line.new.lines
-    (g.S.Shelf.held c.args.shelf.now) (g.S.Shelf.held c.read_line.new.shelf)
-    (g.W.Sink.taken c.args.out.now) (g.W.Sink.taken c.close.new.out) (Some c.number.result)
-    c.in_ok-status-in-None.status
-    c.in_ok-words.ensures.shelf.held
-    (none_told c.args.script.now (g.S.Shelf.held c.args.shelf.now) c.args.lines.now
-    c.read_line.new.lines (map string_bytes c.in-Words.words.items) c.number.result
-    (c.in-None.ensures.value ∙ ap (λ words. script_words c.args.script.now (map string_bytes words))
+    close_left _ _ _ c.read_line.new.lines _ _ _ _ _ _ c.in_ok-words.ensures.shelf.held
+    (none_told _ _ _ _ _ _ (c.in-None.ensures.value
+    ∙ ap (λ words. script_words c.args.script.now (map string_bytes words))
     c.as_slice.ensures.value) c.number.ensures.count
-    (line_told c.args.script.now (g.S.Shelf.held c.args.shelf.now) c.args.lines.now
-    c.read_line.new.lines c.in_ok-words.field-0 (Words c.in-Words.words) c.in-Words.is
-    c.in_ok-words.ensures.modelled)) c.in_ok-status-in-None.ensures.ends
-
-pub returns-in_err-fault-in-End-clause-files : goal.returns-in_err-fault-in-End-clause-files
-returns-in_err-fault-in-End-clause-files g c =
-    let p = err_from_is_err_and c.from_residual-in_err-fault-in-End.result
-    c.from_residual-in_err-fault-in-End.ensures.1 in
-    rw p.1 (stop_left c.args.script.now c.args.refused c.args.lines.now c.read_line.new.lines p.0
-    (g.S.Shelf.held c.args.shelf.now) (g.S.Shelf.held c.behind_end.new.shelf)
-    (c.in_err-fault-in-End.ensures.shelf.held ∙ c.in_ok-words.ensures.shelf.held))
-
-pub returns-in_err-status-in-End-clause-files : goal.returns-in_err-status-in-End-clause-files
-returns-in_err-status-in-End-clause-files g c =
-    let p = err_from_is_err_and c.from_residual-in_err-status-in-End.result
-    c.from_residual-in_err-status-in-End.ensures.1 in
-    rw p.1 (stop_left c.args.script.now c.args.refused c.args.lines.now c.read_line.new.lines p.0
-    (g.S.Shelf.held c.args.shelf.now) (g.S.Shelf.held c.behind_end.new.shelf)
-    (c.in_ok-fault-in-End.ensures.shelf.held ∙ c.in_ok-words.ensures.shelf.held))
+    (line_told _ _ _ _ _ (Words c.in-Words.words) c.in-Words.is c.in_ok-words.ensures.modelled))
+    c.in_ok-status-in-None.ensures.ends
 
 pub returns-in-End-clause-files : goal.returns-in-End-clause-files
 returns-in-End-clause-files g c =
-    close_left c.args.script.now c.args.refused c.args.lines.now c.read_line.new.lines
-    (g.S.Shelf.held c.args.shelf.now) (g.S.Shelf.held c.behind_end.new.shelf)
-    (g.W.Sink.taken c.args.out.now) (g.W.Sink.taken c.close-in-End.new.out)
-    c.in_ok-fault-in-End.fault c.in_ok-status-in-End.status
+    close_left _ _ _ c.read_line.new.lines _ _ _ _ _ _
     (c.in_ok-fault-in-End.ensures.shelf.held ∙ c.in_ok-words.ensures.shelf.held)
-    (end_told c.args.script.now (g.S.Shelf.held c.args.shelf.now)
-    (g.S.Shelf.held c.read_line.new.shelf) c.args.lines.now c.read_line.new.lines
-    c.in_ok-fault-in-End.fault c.in_ok-words.ensures.shelf.held
-    (line_told c.args.script.now (g.S.Shelf.held c.args.shelf.now) c.args.lines.now
-    c.read_line.new.lines c.in_ok-words.field-0 (End) c.in-End.is
-    c.in_ok-words.ensures.modelled) c.in_ok-fault-in-End.ensures.modelled)
-    c.in_ok-status-in-End.ensures.ends
-
-pub returns-in_err-status-in-Malformed-clause-files :
-    goal.returns-in_err-status-in-Malformed-clause-files
-returns-in_err-status-in-Malformed-clause-files g c =
-    let p = err_from_is_err_and c.from_residual-in_err-status-in-Malformed.result
-    c.from_residual-in_err-status-in-Malformed.ensures.1 in
-    rw p.1 (stop_left c.args.script.now c.args.refused c.args.lines.now c.read_line.new.lines p.0
-    (g.S.Shelf.held c.args.shelf.now) (g.S.Shelf.held c.read_line.new.shelf)
-    c.in_ok-words.ensures.shelf.held)
+    (end_told _ _ _ _ _ _ c.in_ok-words.ensures.shelf.held
+    (line_told _ _ _ _ _ (End) c.in-End.is c.in_ok-words.ensures.modelled)
+    c.in_ok-fault-in-End.ensures.modelled) c.in_ok-status-in-End.ensures.ends
 
 pub returns-clause-files : goal.returns-clause-files
 returns-clause-files g c =
-    close_left c.args.script.now c.args.refused c.args.lines.now c.read_line.new.lines
-    (g.S.Shelf.held c.args.shelf.now) (g.S.Shelf.held c.read_line.new.shelf)
-    (g.W.Sink.taken c.args.out.now) (g.W.Sink.taken c.close-in-Malformed.new.out)
-    (Some c.in-Malformed.number) c.in_ok-status-in-Malformed.status
-    c.in_ok-words.ensures.shelf.held
-    (line_told c.args.script.now (g.S.Shelf.held c.args.shelf.now) c.args.lines.now
-    c.read_line.new.lines c.in_ok-words.field-0 (Malformed c.in-Malformed.number)
-    c.in-Malformed.is c.in_ok-words.ensures.modelled) c.in_ok-status-in-Malformed.ensures.ends
+    close_left _ _ _ c.read_line.new.lines _ _ _ _ _ _ c.in_ok-words.ensures.shelf.held
+    (line_told _ _ _ _ _ (Malformed c.in-Malformed.number) c.in-Malformed.is
+    c.in_ok-words.ensures.modelled) c.in_ok-status-in-Malformed.ensures.ends
