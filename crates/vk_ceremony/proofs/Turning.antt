@@ -1,5 +1,5 @@
 -- One turn of a ceremony: what is left of it is what the turn did, and what is left then.
-use Rattle.std.proofs.Common.{◌≡◌, ℕ, zero, Bool, true, false, ◌||◌, if◌then◌else◌, List, [], ◌∷◌, Option, Some, None, IfSome, Result, Ok, Err, option_map, refl, sym, ap, subst, ◌∙◌, inl, append-nil, arith}
+use Rattle.std.proofs.Common.{◌≡◌, ℕ, zero, Bool, true, false, ◌||◌, if◌then◌else◌, List, [], ◌∷◌, Option, Some, None, IfSome, Result, Ok, Err, map, option_map, refl, sym, ap, subst, ◌∙◌, inl, append-nil, arith}
 use Rattle.std.specs.Prelude.{IsSomeAnd, option_and_then}
 use Rattle.vk_io.specs.Files.{Files, Modelled, bytes_of}
 use Rattle.vk_io.specs.Writing.{written}
@@ -73,6 +73,13 @@ line_told script (Some files) before lines line other same told =
 number_of : (files : Files) (lines : LinesValue) → (rest_of lines files).taken ≡ lines.taken
 unfolding rest_of rest_in
 number_of files lines = refl
+
+-- what is found of the words of a line is found of them as a slice
+pub words_found : {S : Type 0} (script : List ℕ) (bytes : S → List ℕ) (slice words : List S)
+    (found : Option HouseWords) → found ≡ script_words script (map bytes slice) → slice ≡ words
+    → found ≡ script_words script (map bytes words)
+words_found script bytes slice words found is same =
+    is ∙ ap (λ items. script_words script (map bytes items)) same
 
 -- words that are no command
 pub none_told : (script : List ℕ) (held : Option Files) (before lines : LinesValue)

@@ -1,8 +1,7 @@
-use Rattle.std.proofs.Common.{◌∙◌, Ok, Err, ap, map, string_bytes}
+use Rattle.std.proofs.Common.{◌∙◌, Ok, Err}
 use Rattle.std.proofs.lemmas.Result.{err_from_is_err_and}
-use Rattle.vk_words.specs.Scripts.{script_words}
 use Rattle.vk_ceremony.specs.declared.reading.Line.TheVariants.{Words, End, Malformed}
-use Rattle.vk_ceremony.proofs.Turning.{end_told, left_closed, left_turned, line_told, none_told}
+use Rattle.vk_ceremony.proofs.Turning.{end_told, left_closed, left_turned, line_told, none_told, words_found}
 use Rattle.vk_ceremony.proofs.Leaving.{close_left, order_left}
 use Rattle.vk_ceremony.proofs.holding.next.Goals as goal
 
@@ -12,8 +11,7 @@ returns-in_err-status-in-Some-clause-turns g c =
     c.from_residual-in_err-status-in-Some.ensures.1 in
     rw p.1 (left_turned _ _ _ _ _ _ _ _ _ (Err p.0) _ _ c.in_ok-words.ensures.shelf.held
     (c.in_ok-words.ensures.file.name ∙ c.requires)
-    (c.in-Some.ensures.value ∙ ap (λ words. script_words c.args.script.now (map string_bytes words))
-    c.as_slice.ensures.value)
+    (words_found _ _ _ _ _ c.in-Some.ensures.value c.as_slice.ensures.value)
     (line_told _ _ _ _ _ (Words c.in-Words.words) c.in-Words.is c.in_ok-words.ensures.modelled)
     c.in_err-status-in-Some.ensures.ends)
 
@@ -22,8 +20,7 @@ returns-in-Some-clause-turns g c =
     rw c.turn_by.ensures.value
     (left_turned _ _ _ _ _ _ _ _ _ (Ok c.in_ok-status-in-Some.status) _ _
     c.in_ok-words.ensures.shelf.held (c.in_ok-words.ensures.file.name ∙ c.requires)
-    (c.in-Some.ensures.value ∙ ap (λ words. script_words c.args.script.now (map string_bytes words))
-    c.as_slice.ensures.value)
+    (words_found _ _ _ _ _ c.in-Some.ensures.value c.as_slice.ensures.value)
     (line_told _ _ _ _ _ (Words c.in-Words.words) c.in-Words.is c.in_ok-words.ensures.modelled)
     c.in_ok-status-in-Some.ensures.ends)
 
@@ -32,9 +29,8 @@ returns-in_err-status-in-None-clause-turns g c =
     let p = err_from_is_err_and c.from_residual-in_err-status-in-None.result
     c.from_residual-in_err-status-in-None.ensures.1 in
     rw p.1 (left_closed _ _ _ _ _ _ _ _ _ (Err p.0) c.in_ok-words.ensures.shelf.held
-    (none_told _ _ _ _ _ _ (c.in-None.ensures.value
-    ∙ ap (λ words. script_words c.args.script.now (map string_bytes words))
-    c.as_slice.ensures.value) c.number.ensures.count
+    (none_told _ _ _ _ _ _ (words_found _ _ _ _ _ c.in-None.ensures.value c.as_slice.ensures.value)
+    c.number.ensures.count
     (line_told _ _ _ _ _ (Words c.in-Words.words) c.in-Words.is c.in_ok-words.ensures.modelled))
     c.in_err-status-in-None.ensures.ends)
 
@@ -42,9 +38,8 @@ pub returns-in-Words-clause-turns : goal.returns-in-Words-clause-turns
 returns-in-Words-clause-turns g c =
     left_closed _ _ _ _ _ _ _ _ _ (Ok c.in_ok-status-in-None.status)
     c.in_ok-words.ensures.shelf.held
-    (none_told _ _ _ _ _ _ (c.in-None.ensures.value
-    ∙ ap (λ words. script_words c.args.script.now (map string_bytes words))
-    c.as_slice.ensures.value) c.number.ensures.count
+    (none_told _ _ _ _ _ _ (words_found _ _ _ _ _ c.in-None.ensures.value c.as_slice.ensures.value)
+    c.number.ensures.count
     (line_told _ _ _ _ _ (Words c.in-Words.words) c.in-Words.is c.in_ok-words.ensures.modelled))
     c.in_ok-status-in-None.ensures.ends
 
@@ -87,17 +82,15 @@ returns-in-Some-clause-files g c =
     rw c.turn_by.ensures.value
     (order_left _ _ _ _ _ _ _ _ _ (Ok c.in_ok-status-in-Some.status)
     c.in_ok-words.ensures.shelf.held (c.in_ok-words.ensures.file.name ∙ c.requires)
-    (c.in-Some.ensures.value ∙ ap (λ words. script_words c.args.script.now (map string_bytes words))
-    c.as_slice.ensures.value)
+    (words_found _ _ _ _ _ c.in-Some.ensures.value c.as_slice.ensures.value)
     (line_told _ _ _ _ _ (Words c.in-Words.words) c.in-Words.is c.in_ok-words.ensures.modelled)
     c.in_ok-status-in-Some.ensures.files)
 
 pub returns-in-Words-clause-files : goal.returns-in-Words-clause-files
 returns-in-Words-clause-files g c =
     close_left _ _ _ c.read_line.new.lines _ _ _ _ _ _ c.in_ok-words.ensures.shelf.held
-    (none_told _ _ _ _ _ _ (c.in-None.ensures.value
-    ∙ ap (λ words. script_words c.args.script.now (map string_bytes words))
-    c.as_slice.ensures.value) c.number.ensures.count
+    (none_told _ _ _ _ _ _ (words_found _ _ _ _ _ c.in-None.ensures.value c.as_slice.ensures.value)
+    c.number.ensures.count
     (line_told _ _ _ _ _ (Words c.in-Words.words) c.in-Words.is c.in_ok-words.ensures.modelled))
     c.in_ok-status-in-None.ensures.ends
 
