@@ -252,7 +252,7 @@ def main(seals, width, lanes, number, folder, word=None):
         name, circuit = "claim", matching_circuit(size, bids, width, women)
         head = claim_lines(auction, "matching", lanes, seats, [width, *(woman + 1 for woman in women)])
     elif word and word.startswith("units:"):
-        units = int(word.removeprefix("units:"))
+        units = int(word[len("units:") :])
         winners, price = uniform(bids, units)
         name, circuit = "claim", claim_circuit(bids, width, units)
         head = claim_lines(auction, "uniform", lanes, seats, [width, price, *(winner + 1 for winner in winners)])

@@ -8,9 +8,10 @@ where no number is given. It compares the status, the text, the files that are w
 of the store with what checks/attack/reference.py has, which is written from docs/FORMATS.md alone.
 COUNT is a multiple of 1000. The seed decides all that is drawn.
 
-With --resume what is done is noted in FILE, so that a run which was stopped goes on where it was.
-It has to be of the same program, the same scripts and the same seed. --keep keeps the files of each
-case that differs. --write writes the table into docs/TESTING.md. It is no part of the gate.
+There are N workers, one for each processor where no number is given. With --resume what is done is
+noted in FILE, so that a run which was stopped goes on where it was. It has to be of the same
+program, the same scripts and the same seed. --keep keeps the files of each case that differs.
+--write writes the table into docs/TESTING.md. It is no part of the gate.
 """
 import argparse
 import concurrent.futures
@@ -27,6 +28,7 @@ from collections import Counter
 from attack.cases import Batch
 from attack.changes import changed_subjects
 from attack.mutations import run_batch
+from attack.remembered import remember
 from attack.runs import Program
 
 HERE = os.path.dirname(os.path.abspath(__file__))
@@ -42,6 +44,7 @@ at_work = None  # of a worker: the program, its folder and the subjects
 def begin_worker(program, folder, subjects):
     global at_work
     at_work = program, os.path.join(folder, f"worker-{os.getpid()}"), subjects
+    remember()
     signal.signal(signal.SIGTERM, signal.SIG_DFL)
     signal.signal(signal.SIGINT, signal.SIG_IGN)
 
@@ -63,7 +66,8 @@ def digest_of(paths):
 
 def scripts():
     """The files that decide what is drawn and what is to be said of it."""
-    parts = "changes circuits defined drawn mutations reference runs stores subjects".split()
+    parts = ["changes", "circuits", "defined", "drawn", "mutations", "reference", "remembered",
+             "runs", "stores", "subjects"]
     data = os.path.join(TOP, "crates", "vickrey", "data")
     found = [os.path.join(HERE, "attack", f"{part}.py") for part in parts]
     found += [os.path.join(data, name) for name in sorted(os.listdir(data))]
@@ -112,7 +116,7 @@ class Progress:
             os.fsync(file.fileno())
 
     def cases(self):
-        return self.counts.total()
+        return sum(self.counts.values())
 
 
 def rows_of_table(counts):
@@ -167,9 +171,10 @@ def run_all(arguments, program, folder, progress):
     began, at_first, told = time.monotonic(), progress.cases(), 0
     pool = concurrent.futures.ProcessPoolExecutor(
         arguments.jobs, initializer=begin_worker, initargs=(program, folder, subjects))
+    waiting = []
     with pool:
         try:
-            waiting = [pool.submit(run_one, arguments.seed, batch) for batch in left]
+            waiting.extend(pool.submit(run_one, arguments.seed, batch) for batch in left)
             for future in concurrent.futures.as_completed(waiting):
                 batch, counts, differing = future.result()
                 for label, files in differing if arguments.keep else []:
@@ -179,7 +184,8 @@ def run_all(arguments, program, folder, progress):
                     told = time.monotonic()
                     tell(progress, began, at_first, arguments.count)
         except BaseException:
-            pool.shutdown(wait=False, cancel_futures=True)
+            for future in waiting:
+                future.cancel()
             raise
     tell(progress, began, at_first, arguments.count)
 
@@ -190,7 +196,7 @@ def read_words():
     parser.add_argument("program")
     parser.add_argument("count", nargs="?", type=int, default=1000000)
     parser.add_argument("--seed", default="1")
-    parser.add_argument("--jobs", type=int, default=1)
+    parser.add_argument("--jobs", type=int, default=len(os.sched_getaffinity(0)))
     parser.add_argument("--resume")
     parser.add_argument("--keep")
     parser.add_argument("--write", action="store_true")

@@ -11,6 +11,7 @@ from dataclasses import dataclass, field
 
 from attack import mutations, reference
 from attack.defined import ERRORS, Scenario, fault_of, is_said
+from attack.remembered import remember
 from attack.runs import STORE, Ended, Folder, read
 from attack.stores import auction_of, rows_beside
 
@@ -22,6 +23,7 @@ program = None
 def begin_worker(made):
     global program
     program = made
+    remember()
     signal.signal(signal.SIGTERM, signal.SIG_DFL)
 
 

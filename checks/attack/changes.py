@@ -39,7 +39,7 @@ def on_boards(files, names):
 
 def on_claims(claims, board):
     for files in claims.values():
-        files = files | {"board": board}  # which may come in the place of another file
+        files = {**files, "board": board}  # which may come in the place of another file
         for some in (REPLIES[:2], REPLIES[2:]):
             yield Subject(["claim-verify", "claim", *some], files, replies("claim", some))
         yield Subject(["claim-extract", "claim", *REPLIES], files, replies("claim", REPLIES))

@@ -50,7 +50,8 @@ class Scenario:
 
     def after(self, steps):
         """The files after so many steps."""
-        return self.before() | dict(pair for step in self.steps[:steps] for pair in step.written)
+        written = (pair for step in self.steps[:steps] for pair in step.written)
+        return {**self.before(), **dict(written)}
 
     def before(self):
         return {name: data for name, data in self.files.items() if not name.startswith(STORE)}
@@ -119,7 +120,7 @@ def is_divided(before, written, files):
     """Whether the written files are whole up to one, which is as before or a prefix, and all else
     is as before."""
     for at in range(len(written) + 1):
-        wanted = before | dict(written[:at])
+        wanted = {**before, **dict(written[:at])}
         if at == len(written):
             return files == wanted
         name, text = written[at]

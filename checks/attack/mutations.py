@@ -1,12 +1,15 @@
 """Small changes to files, drawn from a seed, and what `vickrey` says of the changed files beside
 what checks/attack/reference.py says."""
-import copy
 import os
+import pickle
 import random
 import re
+import shutil
 import signal
 import sqlite3
+import tempfile
 from collections import Counter
+from functools import lru_cache
 
 from attack import reference
 from attack.defined import is_said
@@ -208,7 +211,7 @@ def other_bits(draw, line):
     """Other bits, and now and then another key, at the end of a line."""
     *words, key, bits = line.split(b" ")
     bits = b"".join(draw.choice([b"0", b"1"]) for _ in range(len(bits)))
-    key = draw.choice([key, draw.randbytes(32).hex().encode()])
+    key = draw.choice([key, draw.getrandbits(256).to_bytes(32, "little").hex().encode()])
     return b" ".join([*words, key, bits])
 
 
@@ -323,7 +326,7 @@ def form_of(data):
     if first == b"vickrey-claim 1":
         return f"claim file, {lines[1].split()[1].decode()}"
     word = first.split()[0].decode()
-    return word.removeprefix("vickrey-") if word.startswith("vickrey-") else "parts"
+    return word[len("vickrey-") :] if word.startswith("vickrey-") else "parts"
 
 
 class Subject:
@@ -333,8 +336,8 @@ class Subject:
 
     def __init__(self, words, files, forgery=None, auctions=None, finish=None):
         self.words, self.files, self.forgery = words, files, forgery
-        self.auctions, self.finish = auctions, finish
-        self.texts = {name: data for name, data in files.items() if not name.startswith(STORE)}
+        self.auctions, self.finish, self.kept = auctions, finish, pickle.dumps(auctions)
+        self.texts = texts_of(files)
         named = self.texts if finish or words[0] == "ceremony" else words[1:]
         self.forms = {name: form_of(data) for name, data in self.texts.items() if name in named}
 
@@ -364,55 +367,88 @@ class Subject:
 
     def expected(self, words, files):
         """The status and the text, the files after it, and the auctions that are kept then."""
-        after = {name: data for name, data in files.items() if not name.startswith(STORE)}
-        house = reference.House(after, copy.deepcopy(self.auctions))
+        after = texts_of(files)
+        house = reference.House(after, pickle.loads(self.kept))
         status, text = reference.said(after, words, house)
         return status, text.encode(), after, house
 
 
+class Place:
+    """A folder for the files of one subject, and what lies there. It is the working folder."""
+
+    def __init__(self, path):
+        os.mkdir(path)
+        self.path, self.there = path, {}
+
+    def lay(self, files):
+        """Writes what isn't there, and removes what isn't among these files."""
+        for name in self.there.keys() - files.keys():
+            os.remove(name)
+        for name, data in files.items():
+            if self.there.get(name) != data:
+                write(name, data)
+        self.there = dict(files)
+
+    def look(self):
+        """Reads all files anew."""
+        self.there = {name: read(name) for name in os.listdir(".")}
+
+
+def write(path, data):
+    file = os.open(path, os.O_WRONLY | os.O_CREAT | os.O_TRUNC, 0o666)
+    if os.write(file, data) < len(data):
+        raise OSError(f"{path}: no room")
+    os.close(file)
+
+
+def read(path):
+    file = os.open(path, os.O_RDONLY)
+    data = os.read(file, os.fstat(file).st_size + 1)
+    os.close(file)
+    return data
+
+
 class Bench:
-    """A folder in which a program is run again and again, each time over a few changed files."""
+    """A program that is run again and again, each time over a few changed files. Each subject has a
+    folder of its own, in which what a run left as it was isn't written again."""
 
     def __init__(self, program, folder, seconds=60):
         self.program, self.folder, self.seconds = program, folder, seconds
-        self.there, self.is_late = {}, False
+        self.places, self.child, self.is_late = {}, None, False
         self.ends = [os.memfd_create("out"), os.memfd_create("err")]
         self.actions = [(os.POSIX_SPAWN_OPEN, 0, os.devnull, os.O_RDONLY, 0)]
         self.actions += [(os.POSIX_SPAWN_DUP2, end, to) for to, end in enumerate(self.ends, 1)]
+        self.back = os.getcwd()
 
-    def close(self):
+    def __enter__(self):
+        os.makedirs(self.folder)
+        signal.signal(signal.SIGALRM, self.end_late)
+        return self
+
+    def __exit__(self, *_):
+        os.chdir(self.back)
+        shutil.rmtree(self.folder)
         for end in self.ends:
             os.close(end)
 
-    def lay(self, files):
-        for name in os.listdir(self.folder):
-            if name not in files or name not in self.there:
-                os.remove(os.path.join(self.folder, name))
-                self.there.pop(name, None)
-        for name, data in files.items():
-            if self.there.get(name) != data:
-                with open(os.path.join(self.folder, name), "wb") as file:
-                    file.write(data)
-        self.there = dict(files)
+    def end_late(self, *_):
+        self.is_late = True
+        os.kill(self.child, signal.SIGKILL)
 
-    def after(self):
-        """The files that lie there now, but for the store."""
-        found = {}
-        for name in os.listdir(self.folder):
-            if not name.startswith(STORE):
-                with open(os.path.join(self.folder, name), "rb") as file:
-                    found[name] = file.read()
-        return found
-
-    def others(self, files):
-        """The names of what isn't as in these files; of all but a store the names are compared."""
-        found = {*os.listdir(self.folder), *files}
-        kept = [name for name in found if name in files and name.startswith(STORE)]
-        same = {*files.keys() - kept}
-        for name in kept:
-            with open(os.path.join(self.folder, name), "rb") as file:
-                same |= {name} if file.read() == files[name] else set()
-        return sorted(found - same)
+    def run_over(self, subject, words, files):
+        """The status, the text and the error of the program over these files, and the files then.
+        Where it is late, the machine may have slept meanwhile: it is tried once more."""
+        place = self.places.get(subject)
+        if place is None:
+            place = self.places[subject] = Place(f"{self.folder}/{len(self.places)}")
+        os.chdir(place.path)
+        for _ in range(2):
+            place.lay(files)
+            ended = self.run(words)
+            place.look()
+            if not self.is_late:
+                break
+        return *ended, place.there
 
     def run(self, words):
         """The status, the text and the error of the program in this folder. It is killed where it
@@ -421,19 +457,19 @@ class Bench:
         for end in self.ends:
             os.ftruncate(end, 0)
             os.lseek(end, 0, os.SEEK_SET)
-        child = os.posix_spawn(self.program, [b"vickrey", *words], {}, file_actions=self.actions)
-
-        def end_late(*_):
-            self.is_late = True
-            os.kill(child, signal.SIGKILL)
-
-        signal.signal(signal.SIGALRM, end_late)
+        self.child = os.posix_spawn(self.program, [b"vickrey", *words], {},
+                                    file_actions=self.actions)
         signal.alarm(self.seconds)
         try:
-            status = os.waitstatus_to_exitcode(os.waitpid(child, 0)[1])
+            status = exit_code(os.waitpid(self.child, 0)[1])
         finally:
             signal.alarm(0)
         return status, *(os.pread(end, os.fstat(end).st_size, 0) for end in self.ends)
+
+
+def exit_code(status):
+    """The status of a process that has ended, or the negative of the signal that ended it."""
+    return os.WEXITSTATUS(status) if os.WIFEXITED(status) else -os.WTERMSIG(status)
 
 
 def told_words(words):
@@ -452,53 +488,61 @@ def difference(bench, subject, words, files):
     """The status of a run, and None or how it differs from the reference."""
     told = told_words(words)
     wanted, text, after, house = subject.expected(told, files)
-    bench.lay(files)
-    status, printed, error = bench.run(words)
-    if bench.is_late:  # the machine may have slept meanwhile
-        bench.there = {}
-        bench.lay(files)
-        status, printed, error = bench.run(words)
-    is_writing = told and told[0] in WRITING
-    bench.there = {} if is_writing else bench.there
+    status, printed, error, there = bench.run_over(subject, words, files)
     if (status, printed) != (wanted, text) or not is_said(wanted, error):
         return status, f"{status} {printed[-200:]!r} {error!r}, not {wanted} {text[-200:]!r}"
-    if not is_writing:
-        others = bench.others(files)
-        return status, f"{status} with other {others}" if others else None
-    found = bench.after()
+    found, store = texts_of(there), store_of(there)
     differs = [name for name in {**found, **after} if found.get(name) != after.get(name)]
-    if not differs and subject.auctions is not None:
-        differs = differing_store(bench.folder, house.auctions)
+    if not told or told[0] not in WRITING:
+        differs += [STORE] if store != store_of(files) else []
+    elif not differs and subject.auctions is not None:
+        differs = differing_store(store, house.auctions)
     return status, f"{status} with other {differs}" if differs else None
 
 
-def differing_store(folder, auctions):
-    """A store of other auctions than these. Where there are none it needn't be there."""
+def texts_of(files):
+    """The files but for those of a store."""
+    return {name: data for name, data in files.items() if not name.startswith(STORE)}
+
+
+def store_of(files):
+    return {name: data for name, data in files.items() if name.startswith(STORE)}
+
+
+def differing_store(store, auctions):
+    """A store, by its files, of other auctions than these. Where there are none it needn't be
+    there."""
     try:
-        rows = rows_in(folder)
+        rows = rows_of_store(tuple(sorted(store.items())))
     except sqlite3.Error as error:
         return [f"store: {error}"]
     return [] if rows == rows_of(auctions) or rows is None and not auctions else ["store"]
+
+
+@lru_cache(300)
+def rows_of_store(files):
+    """The rows of a store, by the names and the bytes of its files."""
+    with tempfile.TemporaryDirectory(dir="..") as folder:
+        for name, data in files:
+            write(os.path.join(folder, name), data)
+        return rows_in(folder)
 
 
 def run_batch(program, folder, subjects, seed, count):
     """So many changed files: how many there were of each form that ended with each status, and what
     differs from the reference, each with its files."""
     draw, statuses, differing = random.Random(seed), Counter(), []
-    os.makedirs(folder, exist_ok=True)
     forms = forms_of(subjects)
     having = {form: [subject for subject in subjects if subject.has(form)] for form in forms}
-    bench, back = Bench(program, folder), os.getcwd()
-    os.chdir(folder)
-    for number in range(count):
-        form = draw.choice(forms)
-        subject = draw.choice(having[form])
-        words, files = subject.changed(draw, form)
-        status, why = difference(bench, subject, words, files)
-        statuses[form, status] += 1
-        if why:
-            said = b" ".join(words).decode(errors="backslashreplace")
-            differing.append((f"{said}, case {number} of the seed {seed!r}: {why}", files))
-    os.chdir(back)
-    bench.close()
+    with Bench(program, folder) as bench:
+        for number in range(count):
+            form = draw.choice(forms)
+            subject = draw.choice(having[form])
+            words, files = subject.changed(draw, form)
+            status, why = difference(bench, subject, words, files)
+            statuses[form, status] += 1
+            if why:
+                said = b" ".join(words).decode(errors="backslashreplace")
+                label = f"{said}, case {number} of the seed {seed!r}: {why}"
+                differing.append((label, files))
     return statuses, differing

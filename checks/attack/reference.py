@@ -43,6 +43,12 @@ class Malformed(Exception):
         self.line = line
 
 
+def groups_of(line, form):
+    """The groups of a line that is all of this form, or None."""
+    found = re.fullmatch(form, line)
+    return found.groups() if found else None
+
+
 class Lines:
     """The lines of a file, each taken by the form that it is to have."""
 
@@ -53,11 +59,11 @@ class Lines:
         """The groups of the next line, which is all of this form."""
         self.number += 1
         end = self.data.find(b"\n", self.at, self.at + 256)
-        found = re.fullmatch(form, self.data[self.at : end]) if end >= 0 else None
-        if not found:
+        groups = groups_of(self.data[self.at : end], form) if end >= 0 else None
+        if groups is None:
             raise Malformed(self.number)
         self.at = end + 1
-        return found.groups()
+        return groups
 
     def whole(self, word, least, most):
         """The number of the next line, a word and a canonical decimal."""
@@ -82,7 +88,7 @@ class Lines:
 # The files
 
 
-@dataclass
+@dataclass(eq=False)
 class Front:
     """A board before its first lane."""
 
@@ -120,7 +126,7 @@ class Front:
         return None if self.winner in (None, *self.seats) else "winner"
 
 
-@dataclass
+@dataclass(eq=False)
 class ClaimFront:
     """A claim file before its first lane: what it says, and the seats and seals of its inputs as on
     a board."""
@@ -361,7 +367,7 @@ def part(name, read, *given):
         raise Ends(4, f"malformed {name} line {fault.line}\n") from None
 
 
-def read_judged_front(name, lines, read=read_front):
+def read_judged_front(name, lines, read):
     front = part(name, read, lines)
     refused = front.refusal()
     if refused:
@@ -415,7 +421,7 @@ class Accepted:
     digests: list
 
 
-def judge(names, datas, read=read_front):
+def judge(names, datas, read):
     """The first fault of a board or a claim file, a challenge and a reply, or what the reply
     shows."""
     board, reply = Lines(datas[0]), Lines(datas[2])
@@ -440,7 +446,7 @@ def judge(names, datas, read=read_front):
     return accepted
 
 
-def judge_two(names, datas, read=read_front):
+def judge_two(names, datas, read):
     """Two accepted replies to one file, and the lanes whose bits differ, each with its openings by
     bit."""
     first = judge(names[:3], datas[:3], read)
@@ -519,12 +525,12 @@ def said(files, words, house=None):
 
 
 def verify(files, *names):
-    judge(names, held(files, names))
+    judge(names, held(files, names), read_front)
     return "accepted\n"
 
 
 def extract(files, *names):
-    first, differing = judge_two(names, held(files, names))
+    first, differing = judge_two(names, held(files, names), read_front)
     return extraction(first, differing, "bid", outcome_of(first.front))
 
 
@@ -559,7 +565,7 @@ def coin_board(files, name, challenge):
 
 def confront(files, *names):
     datas = held(files, names)
-    first, _ = judge_two(names, datas)
+    first, _ = judge_two(names, datas, read_front)
     secret = part(names[5], read_secret, datas[5])
     front = first.front
     if secret.seat not in front.seats:
@@ -573,7 +579,7 @@ def confront(files, *names):
 def read_whole(files, name):
     """The front of a board, of which all lines are of their form, and its circuit."""
     lines = Lines(held(files, [name])[0])
-    front = read_judged_front(name, lines)
+    front = read_judged_front(name, lines, read_front)
     circuit = front.circuit()
     for lane in range(1, front.lanes + 1):
         part(name, read_board_lane, lines, front, circuit, lane)
@@ -611,9 +617,8 @@ def seal(files, auction, seat, bid, width, lanes, seed, secret_name, seal_name):
 
 
 COMMANDS = {"verify": verify, "extract": extract, "confront": confront, "report": report,
-            "seal": seal}
-COMMANDS |= {"claim-verify": claim_verify, "claim-extract": claim_extract}
-COMMANDS |= {"coin-part": coin_part, "coin-join": coin_join, "coin-board": coin_board}
+            "seal": seal, "claim-verify": claim_verify, "claim-extract": claim_extract,
+            "coin-part": coin_part, "coin-join": coin_join, "coin-board": coin_board}
 
 
 # ------------------------------------------------------------------------------------------------

@@ -76,7 +76,7 @@ def auction_of(rows, name):
     auction = reference.Auction(width, lanes, reserve if version == 2 else None)
     house = reference.House({}, {name: auction})
     for _, position, seat, seal, secret in sorted(row for row in rows["seal"] if row[0] == key):
-        house.files |= {"seal": seal.encode(), "secret": secret.encode()}
+        house.files.update({"seal": seal.encode(), "secret": secret.encode()})
         text = house.submit(name, "seal", "secret")
         assert text == f"taken seat {seat} position {position}\n", text
     auction.seed, auction.bits = seed and seed.hex(), bits

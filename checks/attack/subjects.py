@@ -39,7 +39,7 @@ def smallest_files():
     data = os.path.join(REPOSITORY, "crates", "vickrey", "data")
     files = {name: read(os.path.join(data, name)) for name in sorted(os.listdir(data))}
     claim = claim_of_the_smallest_board(files["board"])
-    return files | {"secret": secret_of_the_smallest_board(), "claim": claim}
+    return {**files, "secret": secret_of_the_smallest_board(), "claim": claim}
 
 
 def claim_of_the_smallest_board(board):
@@ -53,7 +53,8 @@ def reading_scenarios(files, unsold, couple):
     that is sold at its reserve, and a matching of one couple."""
     first, both = ["challenge-0", "reply-0"], ["challenge-0", "reply-0", "challenge-1", "reply-1"]
     at = answered_twice({7: 15, 9: 9}, 12)
-    dear = files | {"claim": files["claim"].replace(b"numbers 3\nn 1\nn 0", b"numbers 3\nn 1\nn 1")}
+    claim = files["claim"].replace(b"numbers 3\nn 1\nn 0", b"numbers 3\nn 1\nn 1")
+    dear = {**files, "claim": claim}
     table = [
         ("verify", files, ["verify", "board", *first]),
         ("extract", files, ["extract", "board", *both]),
@@ -103,7 +104,7 @@ def shares_of(auditors, lanes):
         (step,) = share_scenario("", auditor, lanes, {}).steps
         parts.append(step.text.replace(b" commit", b""))
         files[f"share-{auditor}"] = step.written[0][1]
-    return files | {"parts": b"".join(parts)}
+    return {**files, "parts": b"".join(parts)}
 
 
 def joined(auditors, lanes, files):
@@ -115,7 +116,7 @@ def joined(auditors, lanes, files):
         share = files.get(f"share-{auditor}", b"").split(b"\n")
         shown = [line for line in share if line[:5] == b"show "]
         lines += [b"show %d %s\n" % (auditor, line[5:]) for line in shown]
-    return files | {"coin": b"".join(lines) + b"end\n"}
+    return {**files, "coin": b"".join(lines) + b"end\n"}
 
 
 def coin_of(auditors, lanes):
@@ -200,7 +201,7 @@ def said_again(text):
 def ceremony_scenario(name, bids, lanes, reserve=None):
     """A whole auction by a script, in a folder that keeps none."""
     lines = lines_of_an_auction(AUCTION, bids, lanes, reserve)
-    files = handed_in(AUCTION, bids, lanes) | {"script": script(lines)}
+    files = {**handed_in(AUCTION, bids, lanes), "script": script(lines)}
     return scripted(name, lines, files, {}, [None, {}])
 
 
@@ -241,7 +242,7 @@ def on_first_store(scenario):
     """The same over a store of the number 1, as it was before auctions had a version and a
     reserve."""
     files = {name: data for name, data in scenario.files.items() if not name.startswith(STORE)}
-    files |= {STORE: first_store(store_among(scenario.files))}
+    files[STORE] = first_store(store_among(scenario.files))
     before = [first_rows(scenario.kept[0])]
     name = f"{scenario.name}, store of number 1"
     return Scenario(name, scenario.words, files, scenario.steps, 0, scenario.kept, before,
@@ -257,7 +258,7 @@ def kept_scenarios(house):
         return []
     lines = lines_of_an_auction(OTHER, {7: 3, 9: 11}, 2, 4)
     files = handed_in(OTHER, {7: 3, 9: 11}, 2)
-    files |= {"script": script(lines)} | store_among(shown.files)
+    files.update({"script": script(lines), **store_among(shown.files)})
     ceremony = scripted("ceremony beside another", lines, files, shown.auctions, [])
     announce = ["announce", OTHER, "4", "2", "4"]
     step, before, after = next(done_by(lines, files, copy.deepcopy(shown.auctions)))
