@@ -19,10 +19,7 @@ returns-clause-secret c = record {
 
 pub returns-clause-seal : goal.returns-clause-seal
 returns-clause-seal c =
-    let coms : c.commit_lanes-lanes.result
-    ≡ lane_coms c.args.auction.now c.args.seat c.args.bid 1 c.args.tapes =
-    c.commit_lanes-lanes.ensures.coms
-    ∙ ap (lane_coms c.args.auction.now c.args.seat c.args.bid 1) c.as_slice.ensures in
+    let coms = rw c.as_slice.ensures at c.commit_lanes-lanes.ensures.coms in
     let count : length c.commit_lanes-lanes.result ≡ length c.args.tapes =
     ap length coms ∙ length-lane_coms c.args.auction.now c.args.seat c.args.bid 1 c.args.tapes
     in
@@ -37,10 +34,7 @@ returns-clause-seal c =
 
 pub returns-clause-matched : goal.returns-clause-matched
 returns-clause-matched c =
-    let coms : c.commit_lanes-lanes.result
-    ≡ lane_coms c.args.auction.now c.args.seat c.args.bid 1 c.args.tapes =
-    c.commit_lanes-lanes.ensures.coms
-    ∙ ap (lane_coms c.args.auction.now c.args.seat c.args.bid 1) c.as_slice.ensures in
+    let coms = rw c.as_slice.ensures at c.commit_lanes-lanes.ensures.coms in
     rw coms (made_matches (record {
       auction = c.args.auction.now;
       seat = c.args.seat;
