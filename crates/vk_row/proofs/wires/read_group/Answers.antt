@@ -5,13 +5,9 @@ use Rattle.vk_row.proofs.wires.read_group.Goals as goal
 
 pub returns-in_err-half-clause-fault : goal.returns-in_err-half-clause-fault
 returns-in_err-half-clause-fault c =
-    let step = next_half c.args.plan.now c.args.lane.now.case.now c.args.lane.now.bit
-    c.args.lane.now.shown.now c.loop-wire.halves.items c.loop-wire.wire c.len-from.result
-    c.hash_group-opened.result
-    c.kind.result c.index-shown-at.result c.read_opened-read.result c.at_wire.result
-    c.requires.counts c.hash_group-opened.ensures c.loop-wire.invariant.so_many (omega arith)
-    (omega arith) (omega arith)
-    c.kind.ensures.read c.index-shown-at.is
+    let step = next_half _ _ _ _ _ _ _ _ _ _ _ _ c.requires.counts c.hash_group-opened.ensures
+    c.loop-wire.invariant.so_many (omega arith) (omega arith) (omega arith) c.kind.ensures.read
+    c.index-shown-at.is
     (λ place made. rw c.as_slice.ensures at (c.read_opened-read.ensures place made))
     c.at_wire.ensures in
     let fault = sym c.loop-wire.invariant.rest ∙ rw c.in_err-half.was at step in
@@ -19,13 +15,9 @@ returns-in_err-half-clause-fault c =
 
 pub loop-wire-preserved : goal.loop-wire-preserved
 loop-wire-preserved c =
-    let step = next_half c.args.plan.now c.args.lane.now.case.now c.args.lane.now.bit
-    c.args.lane.now.shown.now c.loop-wire.halves.items c.loop-wire.wire c.len-from.result
-    c.hash_group-opened.result
-    c.kind.result c.index-shown-at.result c.read_opened-read.result c.at_wire.result
-    c.requires.counts c.hash_group-opened.ensures c.loop-wire.invariant.so_many (omega arith)
-    (omega arith) (omega arith)
-    c.kind.ensures.read c.index-shown-at.is
+    let step = next_half _ _ _ _ _ _ _ _ _ _ _ _ c.requires.counts c.hash_group-opened.ensures
+    c.loop-wire.invariant.so_many (omega arith) (omega arith) (omega arith) c.kind.ensures.read
+    c.index-shown-at.is
     (λ place made. rw c.as_slice.ensures at (c.read_opened-read.ensures place made))
     c.at_wire.ensures in
     let half = rw (c.in_ok-half.was, ← c.in_ok-keep.ensures) at step in
