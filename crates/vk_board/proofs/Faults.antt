@@ -2,7 +2,7 @@
 -- crate with a head of its own shows that reading it follows its table to `behind_head`, line by
 -- line with `head_line_then`, as `head_follows` does here, and takes all that stands behind it from
 -- `behind_ends`.
-use Rattle.std.proofs.Common.{◌≡◌, ℕ, ◌+◌, ◌-◌, ◌^◌, ◌==◌, Bool, true, false, if◌then◌else◌, List, [], ◌∷◌, ◌++◌, length, codes, Option, option_map, Result, Ok, refl, arith, length-append, subst}
+use Rattle.std.proofs.Common.{◌≡◌, ℕ, zero, suc, ◌+◌, ◌-◌, ◌^◌, ◌==◌, Bool, true, false, if◌then◌else◌, List, [], ◌∷◌, ◌++◌, length, codes, Option, option_map, Result, Ok, refl, arith, length-append, subst}
 use Rattle.std.specs.Result.{result_err}
 use Rattle.vk_residue.specs.Steps.{◌>>=◌}
 use Rattle.vk_lines.specs.Lines.{Rest, line_by}
@@ -12,12 +12,12 @@ use Rattle.vk_lines.proofs.Faults.{line_follows, many_follows, follows_then, fol
 use Rattle.vk_board.specs.declared.board.Head.{Head}
 use Rattle.vk_board.specs.declared.board.SealLines.{SealLines}
 use Rattle.vk_board.specs.declared.board.LaneLines.{LaneLines}
-use Rattle.vk_board.specs.Values.{Shape, Frame, frame_of}
+use Rattle.vk_board.specs.Values.{head_with, Shape, Frame, frame_of}
 use Rattle.vk_board.specs.Reading.{com_line, posted_line, seats_of, reserve_at, head_at, seal_at, seal_lines_at, lane_at, lane_lines_at, behind_at, board_at}
 use Rattle.vk_board.specs.Tables.{InHead, Seal, Input, Lane, Wire, Row, Last, Over, BoardPlace, lane_place, row_place, wire_place, seal_place, input_place, behind_head, HeadTable, sealed_table}
 use Rattle.vk_board.specs.Tables.{Heading, Auction, Width, Lanes, Seals, Reserve, Winner, Price, HeadPlace, reserve_place, head_table, board_table}
 use Rattle.vk_board.proofs.Seats.{seats_more}
-use Rattle.vk_board.proofs.Forms.{head_with, seal_with, lane_with}
+use Rattle.vk_board.proofs.Forms.{seal_with, lane_with}
 use Rattle.vk_board.proofs.Boards.{board_with}
 
 module _ {H : Type 0} (head : HeadTable H) where
@@ -37,16 +37,27 @@ module _ {H : Type 0} (head : HeadTable H) where
 
   -- ---- behind the head
 
+  -- so many lines of a kind, where each place is one line before the next
+  lines_follow : {X : Type 0} (parse : List ℕ → Option X) (place : ℕ → BoardPlace H)
+      → ((left : ℕ) (text : List ℕ)
+      → table.next (place (suc left)) text ≡ option_map (λ _. place left) (parse text))
+      → ((left : ℕ) → table.over (place (suc left)) ≡ false)
+      → (count : ℕ)
+      → Follows table (place count) (many_at count (λ _. line_by parse)) (λ _. place zero)
+  lines_follow parse place next inside count =
+      many_follows table (λ left before. place left) (λ _. line_by parse)
+      (λ left before. line_follows table (place (suc left)) parse (λ _. place left) (next left)
+      (inside left))
+      count []
+
   module _ (frame : Frame) where
     inputs_follow : (more : ℕ) (seats : List ℕ) (count : ℕ)
         → Follows table (input_place frame more seats count)
         (many_at count (λ _. line_by (com_line (codes "x"))))
         (λ _. seal_place frame more seats)
     inputs_follow more seats count =
-        many_follows table (λ left before. input_place frame more seats left)
-        (λ _. line_by (com_line (codes "x")))
-        (λ left before. line_follows table (Input frame more seats left) (com_line (codes "x"))
-        (λ _. input_place frame more seats left) (λ text. refl) refl) count []
+        lines_follow (com_line (codes "x")) (input_place frame more seats) (λ left text. refl)
+        (λ left. refl) count
 
     seal_done : (more : ℕ) (before : List SealLines) (seal : SealLines)
         → Follows table (seal_place frame more (seats_of before ++ seal.seat ∷ []))
@@ -84,20 +95,16 @@ module _ {H : Type 0} (head : HeadTable H) where
         → Follows table (row_place frame lane more count) (many_at count (λ _. line_by posted_line))
         (λ _. lane_place frame (lane + 1) more)
     rows_follow lane more count =
-        many_follows table (λ left before. row_place frame lane more left)
-        (λ _. line_by posted_line)
-        (λ left before. line_follows table (Row frame lane more left) posted_line
-        (λ _. row_place frame lane more left) (λ text. refl) refl) count []
+        lines_follow posted_line (row_place frame lane more) (λ left text. refl) (λ left. refl)
+        count
 
     wires_follow : (lane more count : ℕ)
         → Follows table (wire_place frame lane more count)
         (many_at count (λ _. line_by (com_line (codes "w"))))
         (λ _. row_place frame lane more frame.shape.rows)
     wires_follow lane more count =
-        many_follows table (λ left before. wire_place frame lane more left)
-        (λ _. line_by (com_line (codes "w")))
-        (λ left before. line_follows table (Wire frame lane more left) (com_line (codes "w"))
-        (λ _. wire_place frame lane more left) (λ text. refl) refl) count []
+        lines_follow (com_line (codes "w")) (wire_place frame lane more) (λ left text. refl)
+        (λ left. refl) count
 
     lane_done : (more : ℕ) (before : List LaneLines) (lines : LaneLines)
         → Follows table (lane_place frame (length before + 1 + 1) more) (λ rest. Ok (lines, rest))

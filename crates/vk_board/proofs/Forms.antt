@@ -14,26 +14,13 @@ use Rattle.vk_wire.specs.Values.{IsCom}
 use Rattle.vk_board.specs.declared.board.Head.{Head}
 use Rattle.vk_board.specs.declared.board.SealLines.{SealLines}
 use Rattle.vk_board.specs.declared.board.LaneLines.{LaneLines}
-use Rattle.vk_board.specs.Values.{IsReserve, IsWinner, IsHead, IsSealAfter, AreSealsOf, AreSeals, IsLaneLines}
-use Rattle.vk_board.specs.Texts.{com_text, posted_text, reserve_text, winner_text, head_text, seal_lines_text, lane_text}
+use Rattle.vk_board.specs.Values.{head_with, IsReserve, IsWinner, IsHead, IsSealAfter, AreSealsOf, AreSeals, IsLaneLines}
+use Rattle.vk_board.specs.Texts.{com_text, posted_text, counted_text, reserve_text, winner_text, head_text, seal_lines_text, lane_text}
 use Rattle.vk_board.specs.Reading.{com_line, posted_line, seats_of, winner_line, reserve_at, head_at, seal_at, seal_lines_at, seals_at, lane_at}
 use Rattle.vk_board.proofs.Seats.{new_from_test, new_to_test}
 use Rattle.vk_board.proofs.Lines.{com_line_is, posted_line_is, seat_line_is, winner_line_is, to_residues, from_residues}
 
 -- ---- the head
-
-abbrev pub head_with : ℕ → List ℕ → ℕ → ℕ → ℕ → ℕ → Option ℕ → ℕ → Head
-head_with version auction width lanes seals reserve winner price =
-    record {
-      auction = auction;
-      version = version;
-      width = width;
-      lanes = lanes;
-      seals = seals;
-      reserve = reserve;
-      winner = winner;
-      price = price;
-    }
 
 -- what is read from the price, the winner, the reserve, the seals, the lanes, the width, the id and
 -- the version on
@@ -66,7 +53,7 @@ IdOf version head = ((length head.auction ≡ 16) × IsBytes head.auction)
     × WidthOf version head.auction head
 
 abbrev price_text : Head → List ℕ
-price_text head = line (spaced (codes "price" ∷ decimal head.price ∷ []))
+price_text head = counted_text (codes "price") head.price
 
 abbrev outcome_text : Head → List ℕ
 outcome_text head = line (winner_text head.winner) ++ price_text head
@@ -75,16 +62,13 @@ abbrev least_text : ℕ → Head → List ℕ
 least_text version head = reserve_text version head.reserve ++ outcome_text head
 
 abbrev seals_text : ℕ → Head → List ℕ
-seals_text version head = line (spaced (codes "seals" ∷ decimal head.seals ∷ []))
-    ++ least_text version head
+seals_text version head = counted_text (codes "seals") head.seals ++ least_text version head
 
 abbrev count_text : ℕ → Head → List ℕ
-count_text version head = line (spaced (codes "lanes" ∷ decimal head.lanes ∷ []))
-    ++ seals_text version head
+count_text version head = counted_text (codes "lanes") head.lanes ++ seals_text version head
 
 abbrev width_text : ℕ → Head → List ℕ
-width_text version head = line (spaced (codes "width" ∷ decimal head.width ∷ []))
-    ++ count_text version head
+width_text version head = counted_text (codes "width") head.width ++ count_text version head
 
 abbrev id_text : ℕ → Head → List ℕ
 id_text version head = line (spaced (codes "auction" ∷ hex_text head.auction ∷ []))

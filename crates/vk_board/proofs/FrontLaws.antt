@@ -1,5 +1,5 @@
 -- Fronts are read from their texts alone, and refused for what fails first.
-use Rattle.std.proofs.Common.{◌≡◌, ℕ, Bool, true, false, if◌then◌else◌, List, ◌++◌, Option, Some, None, Result, Ok, Err, refl, ap, sym, ◌∙◌, append_assoc}
+use Rattle.std.proofs.Common.{◌≡◌, ◌≢◌, ℕ, Bool, true, false, if◌then◌else◌, List, ◌++◌, Option, Some, None, Result, Ok, Err, refl, ap, sym, ◌∙◌, append_assoc}
 use Rattle.std.specs.List.{flat_map}
 use Rattle.std.proofs.lemmas.Option.{same_Some}
 use Rattle.vk_residue.specs.Steps.{◌>>=◌}
@@ -217,18 +217,37 @@ fails : (head : Head) (stands : Bool) → price_stands head ≡ stands → ¬ Pr
 fails head true is other = absurd (other (price_shown head is))
 fails head false is other = refl
 
-price_way : (rest : Rest) → Way rest → front_at rest ≡ Err Price → PriceFails rest.left
-price_way rest (NoHead line stop) refused = cc (at_head rest line stop)
-price_way rest (NoSeals head middle line is stop) refused =
-    cc (at_seals rest head middle line is stop)
-price_way rest (Both head seals after read) refused =
-    let no = price_by head seals after (price_stands head) (placed head.winner seals)
-    (sym (at_tests rest head seals after read) ∙ refused) in
+-- what is refused for no line has a head and seals that were read, and fails one of the two tests
+record IsTested (rest : Rest) (fault : FrontFault) : Type 0 where
+  pub head : Head
+  pub seals : List SealLines
+  pub after : Rest
+  pub read : AreRead rest head seals after
+  pub refused : tested head seals after (price_stands head) (placed head.winner seals) ≡ Err fault
+
+past_lines : (rest : Rest) (fault : FrontFault) → ((line : ℕ) → Malformed line ≢ fault) → Way rest
+    → front_at rest ≡ Err fault → IsTested rest fault
+past_lines rest fault other (NoHead line stop) refused =
+    absurd (other line (let no = at_head rest line stop in cc))
+past_lines rest fault other (NoSeals head middle line is stop) refused =
+    absurd (other line (let no = at_seals rest head middle line is stop in cc))
+past_lines rest fault other (Both head seals after read) refused = record {
+  head = head;
+  seals = seals;
+  after = after;
+  read = read;
+  refused = sym (at_tests rest head seals after read) ∙ refused;
+}
+
+price_fails : (rest : Rest) → IsTested rest Price → PriceFails rest.left
+price_fails rest is =
+    let no = price_by is.head is.seals is.after (price_stands is.head)
+    (placed is.head.winner is.seals) is.refused in
     record {
-      head = head;
-      seals = seals;
-      begins = text_shown rest head seals after read;
-      price = λ stands. let yes = price_found head stands in cc (yes, no);
+      head = is.head;
+      seals = is.seals;
+      begins = text_shown rest is.head is.seals is.after is.read;
+      price = λ stands. let yes = price_found is.head stands in cc (yes, no);
     }
 
 price_refused : (rest : Rest) → PriceFails rest.left → front_at rest ≡ Err Price
@@ -238,20 +257,17 @@ price_refused rest is =
     ∙ ap (λ stands. tested is.head is.seals (record { taken = read.0; left = is.begins.more })
     stands (placed is.head.winner is.seals)) (fails is.head (price_stands is.head) refl is.price)
 
-winner_way : (rest : Rest) → Way rest → front_at rest ≡ Err Winner → WinnerFails rest.left
-winner_way rest (NoHead line stop) refused = cc (at_head rest line stop)
-winner_way rest (NoSeals head middle line is stop) refused =
-    cc (at_seals rest head middle line is stop)
-winner_way rest (Both head seals after read) refused =
-    let no = winner_by head seals after (price_stands head) (placed head.winner seals)
-    (sym (at_tests rest head seals after read) ∙ refused) in
-    let begins = text_shown rest head seals after read in
-    let missing = none_shown head seals head.winner begins.are_seals no.1 in
+winner_fails : (rest : Rest) → IsTested rest Winner → WinnerFails rest.left
+winner_fails rest is =
+    let no = winner_by is.head is.seals is.after (price_stands is.head)
+    (placed is.head.winner is.seals) is.refused in
+    let begins = text_shown rest is.head is.seals is.after is.read in
+    let missing = none_shown is.head is.seals is.head.winner begins.are_seals no.1 in
     record {
-      head = head;
-      seals = seals;
+      head = is.head;
+      seals = is.seals;
       begins = begins;
-      price = price_shown head no.0;
+      price = price_shown is.head no.0;
       seat = missing.0;
       named = missing.1;
       missing = missing.2;
@@ -273,6 +289,13 @@ fronts_refused = record {
     line_shown shape bytes number,
     line_refused shape bytes number (way (record { taken = 0; left = bytes })),
   );
-  price = λ rest. (price_way rest (way rest), price_refused rest);
-  winner = λ rest. (winner_way rest (way rest), winner_refused rest);
+  price = λ rest. (
+    λ refused. price_fails rest (past_lines rest Price (λ line e. absurd (cc)) (way rest) refused),
+    price_refused rest,
+  );
+  winner = λ rest. (
+    λ refused. winner_fails rest
+        (past_lines rest Winner (λ line e. absurd (cc)) (way rest) refused),
+    winner_refused rest,
+  );
 }

@@ -11,7 +11,7 @@ use Rattle.vk_wire.specs.Coms.{com_by}
 use Rattle.vk_board.specs.declared.board.Head.{Head}
 use Rattle.vk_board.specs.declared.board.SealLines.{SealLines}
 use Rattle.vk_board.specs.declared.board.LaneLines.{LaneLines}
-use Rattle.vk_board.specs.Values.{Board, Shape, Frame, frame_of}
+use Rattle.vk_board.specs.Values.{head_with, Board, Shape, Frame, frame_of}
 
 -- ---- lines
 
@@ -67,19 +67,7 @@ head_at rest =
     reserve_at version.0 seals.1 >>= λ reserve.
     line_by (winner_line version.0) reserve.1 >>= λ winner.
     line_by (number_line (codes "price") 0 (2 ^ 64 - 1)) winner.1 >>= λ price.
-    Ok (
-      record {
-        auction = auction.0;
-        version = version.0;
-        width = width.0;
-        lanes = lanes.0;
-        seals = seals.0;
-        reserve = reserve.0;
-        winner = winner.0;
-        price = price.0;
-      },
-      price.1,
-    )
+    Ok (head_with version.0 auction.0 width.0 lanes.0 seals.0 reserve.0 winner.0 price.0, price.1)
 
 -- a seal of so many lanes after these
 unfoldable pub seal_at : ℕ → List SealLines → Rest → Result (SealLines × Rest) ℕ

@@ -3,7 +3,7 @@ use Rattle.std.specs.Prelude.{ℕ, zero, suc, ◌+◌, ◌-◌, ◌^◌, ◌==�
 use Rattle.vk_lines.specs.Forms.{Table}
 use Rattle.vk_lines.specs.Tokens.{word_of, number_line, id_line}
 use Rattle.vk_board.specs.declared.board.Head.{Head}
-use Rattle.vk_board.specs.Values.{Shape, Frame, frame_of}
+use Rattle.vk_board.specs.Values.{head_with, Shape, Frame, frame_of}
 use Rattle.vk_board.specs.Reading.{com_line, posted_line, seat_line, winner_line}
 
 -- ---- behind a head
@@ -123,16 +123,7 @@ head_next shape (Winner version auction width lanes seals reserve) text =
     (winner_line version text)
 head_next shape (Price version auction width lanes seals reserve winner) text =
     option_map (λ price. behind_head
-    (frame_of shape (record {
-      auction = auction;
-      version = version;
-      width = width;
-      lanes = lanes;
-      seals = seals;
-      reserve = reserve;
-      winner = winner;
-      price = price;
-    })))
+    (frame_of shape (head_with version auction width lanes seals reserve winner price)))
     (number_line (codes "price") 0 (2 ^ 64 - 1) text)
 
 abbrev pub head_table : (Head → Shape) → HeadTable HeadPlace

@@ -27,16 +27,22 @@ abbrev pub winner_text : Option ℕ → List ℕ
 winner_text (Some seat) = spaced (codes "winner" ∷ decimal seat ∷ [])
 winner_text None = codes "unsold"
 
-unfoldable pub head_text : Head → List ℕ
-head_text head =
-    line (spaced (codes "vickrey-board" ∷ decimal head.version ∷ []))
-    ++ (line (spaced (codes "auction" ∷ hex_text head.auction ∷ []))
-    ++ (line (spaced (codes "width" ∷ decimal head.width ∷ []))
-    ++ (line (spaced (codes "lanes" ∷ decimal head.lanes ∷ []))
-    ++ (line (spaced (codes "seals" ∷ decimal head.seals ∷ []))
+-- a line of this word and a number
+abbrev pub counted_text : List ℕ → ℕ → List ℕ
+counted_text word number = line (spaced (word ∷ decimal number ∷ []))
+
+-- what a head tells behind its first line
+abbrev pub told_text : Head → List ℕ
+told_text head =
+    line (spaced (codes "auction" ∷ hex_text head.auction ∷ []))
+    ++ (counted_text (codes "width") head.width
+    ++ (counted_text (codes "lanes") head.lanes
+    ++ (counted_text (codes "seals") head.seals
     ++ (reserve_text head.version head.reserve
-    ++ (line (winner_text head.winner)
-    ++ line (spaced (codes "price" ∷ decimal head.price ∷ []))))))))
+    ++ (line (winner_text head.winner) ++ counted_text (codes "price") head.price)))))
+
+unfoldable pub head_text : Head → List ℕ
+head_text head = counted_text (codes "vickrey-board") head.version ++ told_text head
 
 unfoldable pub seal_lines_text : SealLines → List ℕ
 seal_lines_text seal =

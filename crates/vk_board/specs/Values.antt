@@ -42,6 +42,20 @@ pub record IsHead (head : Head) : Type 0 where
   pub winner : IsWinner head.version head.winner
   pub price : head.price < 2 ^ 64
 
+-- the head of these lines, in their order
+abbrev pub head_with : ℕ → List ℕ → ℕ → ℕ → ℕ → ℕ → Option ℕ → ℕ → Head
+head_with version auction width lanes seals reserve winner price =
+    record {
+      auction = auction;
+      version = version;
+      width = width;
+      lanes = lanes;
+      seals = seals;
+      reserve = reserve;
+      winner = winner;
+      price = price;
+    }
+
 -- a seal on a board of so many lanes: a bidder's seat, and the two commitments of each lane
 pub record IsSealLines (lanes : ℕ) (seal : SealLines) : Type 0 where
   pub some_seat : 1 ≤ seal.seat
