@@ -9,6 +9,7 @@ pub mod Series
 pub mod Ranges
 pub mod RangesLaws
 pub mod Copies
+pub mod Differences
 pub mod Others
 pub mod Ranged
 pub mod RangedLaws

@@ -17,6 +17,7 @@ use Rattle.vk_range.specs.Ranges.{no_form, form_at, AreRanges, ranges_wires, ran
 use Rattle.vk_range.specs.RangesLaws.{ranges_sound, ranges_complete}
 use Rattle.vk_range.specs.Rooms.{ranges_room}
 use Rattle.vk_range.specs.Forms.{difference_form}
+use Rattle.vk_range.specs.Differences.{width_small}
 use Rattle.vk_range.specs.Copies.{copies, length_copies, copies_names, IsPlan-copies, copied_sound, copies_complete}
 use Rattle.vk_range.specs.Ranged.{ranges_of, with_ranges, ranged_plan, ranged_values, IsRanged, MayBeFilled, AreRanged}
 
@@ -198,6 +199,15 @@ module _ (inputs : List ℕ) (relation : Ranges) where
       (copies_names (length inputs) (length inputs) (omega arith))
       (over_copies (length inputs) relation may.ranged) (copies_complete inputs residues)
       may.of_width
+
+  -- so many inputs of a width
+  pub ranged_of_width : (count width : ℕ) → length inputs ≡ count → width ≤ 40
+      → All (IsOfWidth width) inputs → MayBeFilled inputs relation
+      → Holds (ranged_plan count relation) (ranged_values inputs relation)
+  ranged_of_width count width same most of_width may =
+      let bound = width_small width most in
+      subst (λ n. Holds (ranged_plan n relation) (ranged_values inputs relation)) same
+      (ranged_complete may (λ k d h. omega (arith, of_width k d h, bound)))
 
   -- what the code meets: the ranges fit the values of the copies
   pub over_values : IsRanged (length inputs) relation

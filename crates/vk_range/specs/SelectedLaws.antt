@@ -534,16 +534,23 @@ stage_complete relation plan values place (suc count) own fits holds selected fe
 at_range : (n k d : ℕ) → k < n → slice_index_or (range_with_len 0 n) k d ≡ k
 at_range n k d h = get_or-range_with_len 0 n k d h ∙ omega arith
 
-serves_from : (relation : SelectedIs) (values : List ℕ) (place : ℕ)
-    → IsSelected relation values place → serves relation values place ≡ true
+-- where every wire may stand, the place serves: the end of a search
+pub serves_all : (relation : SelectedIs) (values : List ℕ) (place : ℕ)
+    → ((k : ℕ) → k < length relation.wires → may_stand relation values place k ≡ true)
+    → serves relation values place ≡ true
 unfolding serves
-serves_from relation values place selected =
+serves_all relation values place h =
     let n = length relation.wires in
-    list_all-from_AllPass (may_stand relation values place) (range_with_len 0 n) (λ k d h.
+    list_all-from_AllPass (may_stand relation values place) (range_with_len 0 n) (λ k d l.
     let inside : k < n = omega (arith, length-range_with_len 0 n) in
     subst (λ other. may_stand relation values place other ≡ true) (sym (at_range n k d inside))
-    (lt-ltb (place_number relation values k (k == place)) (2 ^ relation.width)
-    (place_in_range relation values place k selected inside)))
+    (h k inside))
+
+serves_from : (relation : SelectedIs) (values : List ℕ) (place : ℕ)
+    → IsSelected relation values place → serves relation values place ≡ true
+serves_from relation values place selected = serves_all relation values place (λ k inside.
+    lt-ltb (place_number relation values k (k == place)) (2 ^ relation.width)
+    (place_in_range relation values place k selected inside))
 
 pub selected_from : (relation : SelectedIs) (values : List ℕ) (place : ℕ)
     → place < length relation.wires → serves relation values place ≡ true
@@ -618,18 +625,7 @@ not_true : (b : Bool) → (b ≡ true → ⊥) → b ≡ false
 not_true true h = absurd (h refl)
 not_true false h = refl
 
--- the end of a search, and its early end
-pub serves_all : (relation : SelectedIs) (values : List ℕ) (place : ℕ)
-    → ((k : ℕ) → k < length relation.wires → may_stand relation values place k ≡ true)
-    → serves relation values place ≡ true
-unfolding serves
-serves_all relation values place h =
-    let n = length relation.wires in
-    list_all-from_AllPass (may_stand relation values place) (range_with_len 0 n) (λ k d l.
-    let inside : k < n = omega (arith, length-range_with_len 0 n) in
-    subst (λ other. may_stand relation values place other ≡ true) (sym (at_range n k d inside))
-    (h k inside))
-
+-- the early end of a search
 pub serves_not : (relation : SelectedIs) (values : List ℕ) (place other : ℕ)
     → other < length relation.wires
     → may_stand relation values place other ≡ false → serves relation values place ≡ false

@@ -5,6 +5,7 @@ use Rattle.std.proofs.lemmas.List.{get_or-append-add}
 use Rattle.std.proofs.lemmas.List.Elements.{All-nil, All-append}
 use Rattle.std.proofs.lemmas.List.FromFn.{map-range_with_len_more, length-map-range_with_len, get_or-map-range_with_len, sum_by-map-range_with_len_more}
 use Rattle.std.proofs.lemmas.Nat.{mod-pow-add, pow-add}
+use Rattle.std.proofs.Math.Nat.{mul-add}
 use Rattle.std.proofs.Math.Pow.{pow_mono}
 use Rattle.std.proofs.lemmas.Bool.{cases_lt}
 use Rattle.vk_residue.specs.Residue.{modulus, IsResidue}
@@ -63,30 +64,30 @@ set_sum_below values start (suc n) fit =
     let more = sum_listed_more (λ i. slice_index values (start + i)) n in
     subst (λ m. IsOfWidth m (set_sum values start m)) (add-one n) (omega (arith, pow-add 2 n 1))
 
+-- the terms of wires one after another, each with that factor
+linear_set : (values : List ℕ) (start factor count : ℕ)
+    → sum_by (term_value values) (listed (λ i. record { wire = start + i; factor = factor }) count)
+    ≡ factor * set_sum values start count
+linear_set values start factor zero = omega arith
+linear_set values start factor (suc n) =
+    let term : ℕ → Term = λ i. record { wire = start + i; factor = factor } in
+    let before = linear_set values start factor n in
+    let terms = sum_by-map-range_with_len_more (term_value values) term 0 n n (omega arith) in
+    let sums = sum_listed_more (λ i. slice_index values (start + i)) n in
+    subst (λ m. sum_by (term_value values) (listed term m) ≡ factor * set_sum values start m)
+    (add-one n) (terms ∙ ap (λ m. m + factor * slice_index values (start + n)) before
+    ∙ sym (mul-add factor (set_sum values start n) (slice_index values (start + n)))
+    ∙ ap (λ m. factor * m) (sym sums))
+
 -- the terms of a set, all taken off
 linear_minus_set : (values : List ℕ) (start width : ℕ)
     → sum_by (term_value values) (minus_set start width)
     ≡ (modulus - 1) * set_sum values start width
-linear_minus_set values start zero = omega arith
-linear_minus_set values start (suc n) =
-    let before = linear_minus_set values start n in
-    let terms = sum_by-map-range_with_len_more (term_value values) (λ i. minus (start + i)) 0 n n
-    (omega arith) in
-    let sums = sum_listed_more (λ i. slice_index values (start + i)) n in
-    subst (λ m. sum_by (term_value values) (minus_set start m)
-    ≡ (modulus - 1) * set_sum values start m) (add-one n) (omega arith)
+linear_minus_set values start width = linear_set values start (modulus - 1) width
 
--- the terms of wires one after another
 pub linear_plus_set : (values : List ℕ) (start count : ℕ)
     → sum_by (term_value values) (listed (λ i. plus (start + i)) count) ≡ set_sum values start count
-linear_plus_set values start zero = omega arith
-linear_plus_set values start (suc n) =
-    let before = linear_plus_set values start n in
-    let terms = sum_by-map-range_with_len_more (term_value values) (λ i. plus (start + i)) 0 n n
-    (omega arith) in
-    let sums = sum_listed_more (λ i. slice_index values (start + i)) n in
-    subst (λ m. sum_by (term_value values) (listed (λ i. plus (start + i)) m)
-    ≡ set_sum values start m) (add-one n) (omega arith)
+linear_plus_set values start count = omega (arith, linear_set values start 1 count)
 
 -- a row is 0 exactly where the form is what is taken off
 reads_sum : (terms taken constant : ℕ) → taken < modulus
