@@ -9,7 +9,7 @@ use Rattle.std.proofs.lemmas.List.Quantifiers.{all_pairs_remove}
 use Rattle.std.proofs.lemmas.Bool.{cases_lt, cases_eq, cases_order, cases_Bool}
 use Rattle.std.proofs.lemmas.Bool.Decides.{not_from_Decides}
 use Rattle.vk_range.specs.SetLaws.{length_listed, at_listed}
-use Rattle.vk_uniform.specs.Outcomes.{IsPositionAmong, IsAscending, IsLoser, Beats, IsUniformOutcome, bid_at}
+use Rattle.vk_uniform.specs.Outcomes.{IsPositionAmong, IsAscending, IsLoser, IsLosersBid, Beats, IsUniformOutcome, bid_at}
 use Rattle.vk_uniform.specs.Losers.{stands, stands_decides, found, Contains-place, positions, positions_are, position_listed, losers, losers_lose, loser_listed}
 
 -- all others of the first so many winners beat the one at that place
@@ -366,25 +366,25 @@ module _ (bids winners others : List ℕ) (price other : ℕ) (is : IsUniformOut
   pub same_winners : winners ≡ others
   same_winners = ext_get_or 0 winners others same (same_upto (length winners) (omega arith))
 
--- and so is the price
+-- the price is a loser's bid, or 0
+pub price_is_bid_or_0 : (bids winners : List ℕ) (price : ℕ) → IsUniformOutcome bids winners price
+    → IsLosersBid bids winners price ⊎ (price ≡ 0)
+price_is_bid_or_0 bids winners price is =
+    elim (cases_lt 0 (length (losers (length bids) winners))) [
+      | inl some ↦ inl (is.price_is_bid _ (losers_lose (length bids) winners 0 0 some))
+      | inr none ↦ inr (is.all_win_for_0 (λ position loses.
+          omega (arith, none, (loser_listed (length bids) winners position loses).1)))
+    ]
+
+-- and it is one
 price_below : (bids winners : List ℕ) (price other : ℕ) → IsUniformOutcome bids winners price
     → IsUniformOutcome bids winners other
     → price ≤ other
 price_below bids winners price other is too =
-    let outside = losers (length bids) winners in
-    elim (cases_lt 0 (length outside)) [
-      | inl some ↦
-          (let held = is.price_is_bid (slice_index outside 0)
-          (losers_lose (length bids) winners 0 0 some) in
-          omega (arith, held.bids_price, too.losers_within_price held.holder held.is_loser))
-      | inr none ↦
-          (let nobody : (position : ℕ) → ¬ IsLoser (length bids) winners position =
-          λ position loses. absurd (omega (
-            arith,
-            none,
-            (loser_listed (length bids) winners position loses).1,
-          )) in
-          omega (arith, is.all_win_for_0 nobody))
+    elim (price_is_bid_or_0 bids winners price is) [
+      | inl held ↦
+          omega (arith, held.bids_price, too.losers_within_price held.holder held.is_loser)
+      | inr nothing ↦ omega arith
     ]
 
 pub outcome_is_one : (bids winners others : List ℕ) (price other : ℕ)

@@ -5,12 +5,12 @@ use Rattle.std.proofs.Common.{refl, sym, ◌∙◌, subst, arith, length-append,
 use Rattle.std.proofs.lemmas.List.{length-map, get_or-map}
 use Rattle.std.proofs.lemmas.List.Elements.{All-nil, All-cons, All-head, All-tail, All-append, All-map, All-contains, Contains-get_or}
 use Rattle.std.proofs.lemmas.Bool.{false≢true, lt-ltb, ltb-true}
-use Rattle.std.proofs.Math.Pow.{pow_mono}
 use Rattle.vk_residue.specs.Residue.{modulus, sum, difference}
 use Rattle.vk_plan.specs.declared.form.Form.{Form}
 use Rattle.vk_plan.specs.Forms.{linear_part, form_value}
 use Rattle.vk_range.specs.Sets.{IsOfWidth}
 use Rattle.vk_range.specs.Forms.{less_one}
+use Rattle.vk_range.specs.Differences.{width_small, within_means, within_fits}
 use Rattle.vk_range.specs.SetLaws.{length_listed, All-listed}
 use Rattle.vk_range.specs.Laws.{difference_value}
 use Rattle.vk_range.specs.RangedLaws.{All-front, All-back, listed_each}
@@ -127,9 +127,6 @@ copied inputs values position = slice_index values (copy_at inputs position)
 
 -- of numbers of at most 40 bits: a difference is of the width exactly where the one isn't above the
 -- other, and where it is below it for a difference less 1
-pub width_small : (width : ℕ) → width ≤ 40 → 2 ^ width ≤ 1099511627776
-width_small width most = pow_mono {i = width} {j = 40} most
-
 win_shows : (a b bound : ℕ) (strict : Bool) → a < bound → b < bound → bound ≤ 1099511627776
     → (a + (modulus - 1) * b + less_one strict) % modulus < bound
     → (b ≤ a) × (strict ≡ true → b < a)
@@ -141,27 +138,6 @@ win_fits : (a b bound : ℕ) (strict : Bool) → a < bound → bound ≤ 1099511
     → (a + (modulus - 1) * b + less_one strict) % modulus < bound
 win_fits a b bound true ha small le more = omega (arith, more refl)
 win_fits a b bound false ha small le more = omega arith
-
-price_shows : (b price bound : ℕ) → b < bound → price < bound → bound ≤ 1099511627776
-    → ((modulus - 1) * b + price) % modulus < bound → b ≤ price
-price_shows b price bound hb hp small h = omega arith
-
-price_fits : (b price bound : ℕ) → price < bound → bound ≤ 1099511627776 → b ≤ price
-    → ((modulus - 1) * b + price) % modulus < bound
-price_fits b price bound hp small h = omega arith
-
--- and a number that isn't above the price is selected exactly where it is the price
-pub selected_shows : (b price bound : ℕ) → b ≤ price → price < bound → bound ≤ 1099511627776
-    → difference b price < bound → b ≡ price
-selected_shows b price bound le hp small h = omega arith
-
-pub selected_fits : (b price bound : ℕ) → b ≡ price → price < bound → bound ≤ 1099511627776
-    → difference b price < bound
-selected_fits b price bound same hp small = omega arith
-
-pub unselected_fits : (b price bound : ℕ) → b ≤ price → price < bound → bound ≤ 1099511627776
-    → sum b (difference (bound - 1) price) < bound
-unselected_fits b price bound le hp small = omega arith
 
 module _ (inputs : ℕ) (values : List ℕ) where
   pub bid_value : (place : ℕ) → slice_index values (inputs + place) < modulus
@@ -207,7 +183,7 @@ module _ (inputs : ℕ) (values : List ℕ) where
         → IsOfWidth width (form_value (price_form inputs price loser) values)
         → copied inputs values loser ≤ price
     price_shown price loser of_price of_loser within =
-        price_shows (copied inputs values loser) price (2 ^ width) of_loser of_price
+        within_means (copied inputs values loser) price (2 ^ width) of_loser of_price
         (width_small width most)
         (subst (IsOfWidth width) (price_value price loser) within)
 
@@ -216,5 +192,6 @@ module _ (inputs : ℕ) (values : List ℕ) where
         → IsOfWidth width (form_value (price_form inputs price loser) values)
     price_within price loser of_price low =
         subst (IsOfWidth width) (sym (price_value price loser))
-        (price_fits (copied inputs values loser) price (2 ^ width) of_price (width_small width most)
+        (within_fits (copied inputs values loser) price (2 ^ width) of_price
+        (width_small width most)
         low)

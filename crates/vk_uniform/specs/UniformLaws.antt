@@ -15,15 +15,16 @@ use Rattle.vk_range.specs.Laws.{difference_names, one_name}
 use Rattle.vk_range.specs.Copies.{BeginsWith, begins_alone, begins_longer}
 use Rattle.vk_range.specs.Ranges.{ranges_values}
 use Rattle.vk_range.specs.Ranged.{IsRanged, MayBeFilled, AreRanged, ranged_plan, ranged_values}
-use Rattle.vk_range.specs.RangedLaws.{ranged_is_plan, ranged_sound, ranged_complete, ranged_begins, ranged_wires, ranged_rows}
+use Rattle.vk_range.specs.RangedLaws.{ranged_is_plan, ranged_sound, ranged_of_width, ranged_begins, ranged_wires, ranged_rows}
 use Rattle.vk_range.specs.Selected.{IsSelection, IsSelected, place_row, selected_wires, selected_rows, selected_values}
 use Rattle.vk_range.specs.SelectedLaws.{length_kinds, selected_sound, selected_complete}
 use Rattle.vk_range.specs.SetLaws.{length_listed}
 use Rattle.vk_range.specs.Rooms.{selected_room}
+use Rattle.vk_range.specs.Differences.{width_small, reaches_means, equal_fits, below_fits}
 use Rattle.vk_uniform.specs.Outcomes.{IsPositionAmong, IsLoser, Beats, bid_at}
 use Rattle.vk_uniform.specs.Losers.{found, losers, losers_lose, loser_listed, few_losers, few_winners}
 use Rattle.vk_uniform.specs.UniformPlans.{IsUniformCase, IsUniformInLimits, IsUniformClaim, width_of, price_of, winners_of, losers_of, copy_at, win_form, uniform_ranges, price_selection, with_selection, uniform_plan, uniform_values, wire_count, row_count}
-use Rattle.vk_uniform.specs.UniformForms.{AreForms, All-forms, forms-All, length_forms, copied, width_small, bid_value, win_shown, win_within, price_shown, price_within, selected_shows, selected_fits, unselected_fits}
+use Rattle.vk_uniform.specs.UniformForms.{AreForms, All-forms, forms-All, length_forms, copied, bid_value, win_shown, win_within, price_shown, price_within}
 
 -- the numbers are the width, the price and the winners
 pub split_numbers : (numbers : List ℕ) → 3 ≤ length numbers
@@ -266,7 +267,7 @@ module _ (inputs : ℕ) (numbers values : List ℕ) (case : IsUniformCase inputs
       (get_or-map (copy_at inputs) outside place 0 0 inside) selected.here in (
         loser,
         loses,
-        selected_shows (copied inputs values loser) price bound
+        reaches_means (copied inputs values loser) price bound
             (copy_within_price loser loses) case.limits.within_width
             (width_small (width_of numbers) case.limits.wide.most) here,
       )
@@ -484,7 +485,7 @@ module _ (inputs : ℕ) (numbers bids values : List ℕ) (case : IsUniformCase i
           here =
               subst (λ wire. difference (slice_index values wire) price < 2 ^ width_of numbers)
               (sym (read at.0 at.1))
-              (selected_fits (copied inputs values (slice_index outside at.0)) price
+              (equal_fits (copied inputs values (slice_index outside at.0)) price
               (2 ^ width_of numbers) holds case.limits.within_width small);
           others = λ place h ne.
               let inside : place < length outside = omega arith in
@@ -492,7 +493,7 @@ module _ (inputs : ℕ) (numbers bids values : List ℕ) (case : IsUniformCase i
               subst (λ wire. sum (slice_index values wire)
               (difference (2 ^ width_of numbers - 1) price) < 2 ^ width_of numbers)
               (sym (read place inside))
-              (unselected_fits (copied inputs values (slice_index outside place)) price
+              (below_fits (copied inputs values (slice_index outside place)) price
               (2 ^ width_of numbers)
               (within_price (slice_index outside place) loses) case.limits.within_width small);
         },
@@ -518,15 +519,8 @@ module _ (inputs : ℕ) (numbers bids : List ℕ) (case : IsUniformCase inputs n
   pub ranged_holds : Holds (ranged_plan inputs (uniform_ranges inputs numbers))
       (ranged_values bids (uniform_ranges inputs numbers))
   ranged_holds =
-      let ranges = uniform_ranges inputs numbers in
-      let residues : All IsResidue bids =
-      λ k d h. omega (
-        arith,
-        claim.within_width k d h,
-        width_small (width_of numbers) case.limits.wide.most,
-      ) in
-      subst (λ n. Holds (ranged_plan n ranges) (ranged_values bids ranges)) claim.one_each
-      (ranged_complete bids ranges uniform_filled residues)
+      ranged_of_width bids (uniform_ranges inputs numbers) inputs (width_of numbers) claim.one_each
+      case.limits.wide.most claim.within_width uniform_filled
 
   pub uniform_complete : Holds (uniform_plan inputs numbers) (uniform_values inputs numbers bids)
   uniform_complete =

@@ -12,10 +12,11 @@ use Rattle.vk_range.specs.Ranged.{ranged_values}
 use Rattle.vk_range.specs.RangedLaws.{ranged_wires}
 use Rattle.vk_range.specs.Selected.{place_number, serves, first_place, selector, selectors, place_parts}
 use Rattle.vk_range.specs.SelectedLaws.{serves_all, selected_from, first_place_found}
+use Rattle.vk_range.specs.Differences.{width_small, reaches_means, equal_fits, below_fits}
 use Rattle.vk_uniform.specs.Outcomes.{bid_at}
 use Rattle.vk_uniform.specs.Losers.{losers_lose}
 use Rattle.vk_uniform.specs.UniformPlans.{IsUniformCase, IsUniformClaim, width_of, price_of, winners_of, losers_of, copy_at, uniform_ranges, price_selection, uniform_values}
-use Rattle.vk_uniform.specs.UniformForms.{copied, length_forms, width_small, selected_shows, selected_fits, unselected_fits}
+use Rattle.vk_uniform.specs.UniformForms.{copied, length_forms}
 use Rattle.vk_uniform.specs.UniformLaws.{bid_here, within_price, begins_ranged, ranged_holds, values_many}
 
 -- the first of the listed losers whose bid is the price
@@ -85,13 +86,13 @@ module _ (inputs : ℕ) (numbers bids values : List ℕ) (case : IsUniformCase i
             subst (λ b. nat_lt (place_number relation values k b) bound ≡ true) (sym e.0)
             (lt-ltb (place_number relation values k true) bound
             (subst (λ b. difference b price < bound) (sym read)
-            (selected_fits (copied inputs values
+            (equal_fits (copied inputs values
             (slice_index outside k)) price bound here case.limits.within_width small))))
         | inr e ↦
             subst (λ b. nat_lt (place_number relation values k b) bound ≡ true) (sym e.0)
             (lt-ltb (place_number relation values k false) bound
             (subst (λ b. sum b (difference (bound - 1) price) < bound) (sym read)
-            (unselected_fits (copied inputs values (slice_index outside k)) price bound
+            (below_fits (copied inputs values (slice_index outside k)) price bound
             (low k inside) case.limits.within_width small)))
       ])
 
@@ -107,7 +108,7 @@ module _ (inputs : ℕ) (numbers bids values : List ℕ) (case : IsUniformCase i
       subst (λ b. difference b (price_of numbers) < 2 ^ width_of numbers) (copy_read place h)
       (selected_from relation values place (omega arith) test).here in
       other (sym (copied_bid place h)
-      ∙ selected_shows (copied inputs values (slice_index outside place)) (price_of numbers)
+      ∙ reaches_means (copied inputs values (slice_index outside place)) (price_of numbers)
       (2 ^ width_of numbers) (low place h) case.limits.within_width
       (width_small (width_of numbers) case.limits.wide.most) here))
 
