@@ -4,7 +4,7 @@ use Rattle.std.proofs.Common.{refl, sym, ap, ◌∙◌, subst, arith, inl, inr, 
 use Rattle.std.proofs.lemmas.Bool.{cases_lt}
 use Rattle.vk_vickrey.specs.declared.sales.Sale.{Sale}
 use Rattle.vk_vickrey.specs.declared.sales.Sale.TheVariants.{Sold, Unsold}
-use Rattle.vk_vickrey.specs.Outcomes.{bid_at, IsVickreyOutcome}
+use Rattle.vk_vickrey.specs.Outcomes.{bid_at, IsBidElsewhere, IsVickreyOutcome}
 use Rattle.vk_vickrey.specs.Sales.{IsSale, IsSold}
 use Rattle.vk_vickrey.specs.SaleLaws.{sold_is_one, winner_is_one, wins_outcome, outcome_is_sale, sold_at_greater, unsold_below}
 
@@ -110,6 +110,17 @@ next_is_lower bids count winner best price below low so_far =
           (count, omega arith, (λ e. omega (arith, so_far.inside)), omega arith))
     ]) so_far
 
+-- the price is that of another, by his place counted from 0
+pub price_held : (bids : List ℕ) (winner price : ℕ)
+    (held : (j : ℕ) × (j < length bids) × (j ≢ winner) × (slice_index bids j ≡ price))
+    → IsBidElsewhere bids (winner + 1) price
+price_held bids winner price held = record {
+  holder = held.0 + 1;
+  is_position = record { some = omega arith; within = omega (arith, held.1) };
+  is_other = λ e. held.2 (omega arith);
+  bids_price = (let e : held.0 + 1 - 1 ≡ held.0 = omega arith in ap (slice_index bids) e) ∙ held.3;
+}
+
 -- the outcome of all bids
 pub all_first : (bids : List ℕ) (winner best price : ℕ)
     → IsOutcomeOfFirst bids (length bids) winner best price
@@ -126,15 +137,7 @@ all_first bids winner best price found =
       alone_pays_0 = found.alone;
       others_within_price = λ many other at ne. found.within (other - 1)
           (omega (arith, at.some, at.within)) (λ e. ne (omega (arith, at.some)));
-      price_is_bid = λ many.
-          let held = found.held many in
-          record {
-            holder = held.0 + 1;
-            is_position = record { some = omega arith; within = omega (arith, held.1) };
-            is_other = λ e. held.2 (omega arith);
-            bids_price = (let e : held.0 + 1 - 1 ≡ held.0 = omega arith in ap (slice_index bids) e)
-                ∙ held.3;
-          };
+      price_is_bid = λ many. price_held bids winner price (found.held many);
     }
 
 -- where there is a bid there is an outcome

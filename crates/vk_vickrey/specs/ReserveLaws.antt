@@ -1,6 +1,6 @@
 -- The plan of an auction with a reserve shows its sale, and every sale can be shown.
 use Rattle.std.specs.Prelude.{ℕ, ◌+◌, ◌-◌, ◌*◌, ◌%◌, ◌^◌, ◌<◌, ◌≤◌, ◌≡◌, ◌≢◌, Bool, if◌then◌else◌, List, [], ◌∷◌, ◌++◌, All, length, take, slice_index}
-use Rattle.std.proofs.Common.{true, false, ltb, refl, sym, ap, ◌∙◌, subst, arith, inl, inr, length-append, get_or-take}
+use Rattle.std.proofs.Common.{true, false, ltb, rules, refl, sym, ap, ◌∙◌, subst, arith, inl, inr, length-append, get_or-take}
 use Rattle.std.proofs.lemmas.List.{length-take-le, get_or_default}
 use Rattle.std.proofs.lemmas.List.Elements.{All-nil, All-cons, All-append}
 use Rattle.std.proofs.lemmas.Bool.{cases_lt, lt-ltb, le-ltb}
@@ -15,7 +15,8 @@ use Rattle.vk_range.specs.Others.{other}
 use Rattle.vk_range.specs.Copies.{begins_alone}
 use Rattle.vk_range.specs.Ranges.{AreOfWidth}
 use Rattle.vk_range.specs.Ranged.{IsRanged, MayBeFilled, AreRanged, ranged_plan, ranged_values}
-use Rattle.vk_range.specs.RangedLaws.{ranged_is_plan, ranged_sound, ranged_complete, ranged_begins, ranged_wires, ranged_rows, All-front, All-back, listed_each}
+use Rattle.vk_range.specs.Differences.{width_small, within_means, within_fits}
+use Rattle.vk_range.specs.RangedLaws.{ranged_is_plan, ranged_sound, ranged_of_width, ranged_begins, ranged_wires, ranged_rows, All-front, All-back, listed_each}
 use Rattle.vk_vickrey.specs.declared.reserve.ReservePlan.{ReservePlan}
 use Rattle.vk_vickrey.specs.declared.sales.Sale.{Sale}
 use Rattle.vk_vickrey.specs.declared.sales.Sale.TheVariants.{Sold, Unsold}
@@ -23,7 +24,7 @@ use Rattle.vk_vickrey.specs.Outcomes.{IsVickreyOutcome}
 use Rattle.vk_vickrey.specs.OutcomeLaws.{outcome_exists, outcome_of_sold}
 use Rattle.vk_vickrey.specs.SaleLaws.{sold_at_price}
 use Rattle.vk_vickrey.specs.VickreyPlans.{IsVickreyCase, IsVickreyClaim, bid_form, win_form, price_form, vickrey_forms, vickrey_plan, honest_values, wire_count, row_count}
-use Rattle.vk_vickrey.specs.VickreyLaws.{HoldsBeforeSelection, win_shown, bid_value, less_value, within_means, within_fits, width_small, position_of, bid_at_place, bid_of, bids_fit, wins_fit, within_price, price_value, bids_series, vickrey_sound, vickrey_complete}
+use Rattle.vk_vickrey.specs.VickreyLaws.{HoldsBeforeSelection, win_shown, bid_value, less_value, position_of, bid_at_place, bid_of, bids_fit, wins_fit, within_price, price_value, bids_series, vickrey_sound, vickrey_complete}
 use Rattle.vk_vickrey.specs.VickreyRanges.{All-vickrey_forms, forms_over, length_forms}
 use Rattle.vk_vickrey.specs.VickreySteps.{vickrey_is_plan, honest_begins, vickrey_wires, vickrey_rows}
 use Rattle.vk_vickrey.specs.ReservePlans.{IsReserveCase, IsBoardClaim, IsWithinReserve, below_form, reach_form, sale_forms, sale_ranges, reserve_plan, reserve_values, sale_wire_count, sale_row_count}
@@ -107,15 +108,7 @@ reach_fits a reserve bound ha small h = omega arith
 pub sold_case : (seals width reserve position price : ℕ)
     → IsReserveCase seals width reserve (Sold position price) → (seals ≡ 1 → price ≡ 0)
     → IsVickreyCase seals width position price
-sold_case seals width reserve position price case alone = record {
-  some_seals = case.some_seals;
-  most_seals = case.most_seals;
-  wide = case.wide;
-  some_position = case.sale_case.some_position;
-  within_seals = case.sale_case.within_seals;
-  within_width = case.sale_case.within_width;
-  alone = alone;
-}
+sold_case seals width reserve position price case alone = search rules
 
 -- so they are above the reserve
 pub case_above : (seals width reserve position price : ℕ)
@@ -435,12 +428,8 @@ within_complete : (seals width reserve : ℕ) (sale : Sale) (bids : List ℕ)
     → Holds (reserve_plan seals width reserve sale) (reserve_values seals width reserve sale bids)
 within_complete seals width reserve sale bids case low claim =
     let relation = sale_ranges seals width reserve sale in
-    let residues : All IsResidue bids =
-    λ j d h. omega (arith, claim.within_width j d h, width_small width case.wide.most) in
-    let holds = subst (λ n. Holds (ranged_plan n relation) (ranged_values bids relation))
-    claim.one_each
-    (ranged_complete bids relation (sale_filled seals width reserve sale bids case low claim)
-    residues) in
+    let holds = ranged_of_width bids relation seals width claim.one_each case.wide.most
+    claim.within_width (sale_filled seals width reserve sale bids case low claim) in
     subst (λ p. Holds p (reserve_values seals width reserve sale bids))
     (sym (plan_within seals width reserve sale low))
     (subst (Holds (ranged_plan seals relation))

@@ -4,7 +4,6 @@ use Rattle.std.proofs.Common.{refl, sym, ap, ◌∙◌, subst, arith, inl, inr, 
 use Rattle.std.proofs.lemmas.List.{append-nil, get_or_default, length-take-le, take_all}
 use Rattle.std.proofs.lemmas.Bool.{cases_lt, cases_eq, lt-ltb, le-ltb}
 use Rattle.std.proofs.lemmas.Bool.Decides.{eqb_tells}
-use Rattle.std.proofs.Math.Pow.{pow_mono}
 use Rattle.vk_residue.specs.Residue.{modulus, IsResidue, sum, difference}
 use Rattle.vk_plan.specs.declared.form.Form.{Form}
 use Rattle.vk_plan.specs.Forms.{linear_part, form_value}
@@ -14,6 +13,7 @@ use Rattle.vk_range.specs.Others.{other, other_before, other_within, other_not, 
 use Rattle.vk_range.specs.Copies.{copies, copies_rows, length_copies, copies_names, copied_sound, copies_complete, BeginsWith, begins_alone, begins_longer}
 use Rattle.vk_range.specs.Sets.{IsOfWidth, plus, minus}
 use Rattle.vk_range.specs.Forms.{less_one}
+use Rattle.vk_range.specs.Differences.{width_small, within_means, within_fits, reaches_means, equal_fits, below_fits}
 use Rattle.vk_range.specs.SetLaws.{length_listed, at_listed, All-listed}
 use Rattle.vk_range.specs.Laws.{difference_value, difference_names, one_name}
 use Rattle.vk_range.specs.Series.{same_plan, series, series_rows, series_values, IsSeries, length_series, series_sound_within, series_complete, names_series}
@@ -150,14 +150,6 @@ above_means : (a b bound : ℕ) → a < bound → b < bound → bound ≤ 109951
     → (a + (modulus - 1) * b + (modulus - 1)) % modulus < bound → b < a
 above_means a b bound ha hb small h = omega arith
 
-pub within_means : (b price bound : ℕ) → b < bound → price < bound → bound ≤ 1099511627776
-    → ((modulus - 1) * b + price) % modulus < bound → b ≤ price
-within_means b price bound hb hp small h = omega arith
-
-pub reaches_means : (b price bound : ℕ) → b ≤ price → price < bound → bound ≤ 1099511627776
-    → difference b price < bound → b ≡ price
-reaches_means b price bound le hp small h = omega arith
-
 at_least_fits : (a b bound : ℕ) → a < bound → bound ≤ 1099511627776 → b ≤ a
     → (a + (modulus - 1) * b + 0) % modulus < bound
 at_least_fits a b bound ha small h = omega arith
@@ -165,21 +157,6 @@ at_least_fits a b bound ha small h = omega arith
 above_fits : (a b bound : ℕ) → a < bound → bound ≤ 1099511627776 → b < a
     → (a + (modulus - 1) * b + (modulus - 1)) % modulus < bound
 above_fits a b bound ha small h = omega arith
-
-pub within_fits : (b price bound : ℕ) → price < bound → bound ≤ 1099511627776 → b ≤ price
-    → ((modulus - 1) * b + price) % modulus < bound
-within_fits b price bound hp small h = omega arith
-
-pub equal_fits : (b price bound : ℕ) → b ≡ price → price < bound → bound ≤ 1099511627776
-    → difference b price < bound
-equal_fits b price bound same hp small = omega arith
-
-pub below_fits : (b price bound : ℕ) → b ≤ price → price < bound → bound ≤ 1099511627776
-    → sum b (difference (bound - 1) price) < bound
-below_fits b price bound le hp small = omega arith
-
-pub width_small : (width : ℕ) → width ≤ 40 → 2 ^ width ≤ 1099511627776
-width_small width most = pow_mono {i = width} {j = 40} most
 
 -- the rows before the selection, each part beginning at its own wire
 abbrev rows_from : ℕ → ℕ → ℕ → ℕ → ℕ → ℕ → ℕ → List Form

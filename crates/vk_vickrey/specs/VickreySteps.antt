@@ -259,3 +259,12 @@ vickrey_rows seals width position price some =
       | inl one ↦ rows_alone seals width position price one.1
       | inr many ↦ rows_many seals width position price some many.1
     ]
+
+-- so has a plan that is this one
+pub vickrey_counts : (seals width position price : ℕ) (plan : PlanValue) → 1 ≤ seals
+    → plan ≡ vickrey_plan seals width position price
+    → (length plan.kinds ≡ wire_count seals width) × (length plan.rows ≡ row_count seals)
+vickrey_counts seals width position price plan some is = (
+  ap (λ (p : PlanValue). length p.kinds) is ∙ vickrey_wires seals width position price some,
+  ap (λ (p : PlanValue). length p.rows) is ∙ vickrey_rows seals width position price some,
+)

@@ -7,28 +7,20 @@ use Rattle.vk_vickrey.specs.VickreyPlans.{honest_values}
 use Rattle.vk_vickrey.proofs.plan.VickreyPlanCircuit.fill.Goals as goal
 use Rattle.vk_vickrey.proofs.plan.VickreyPlanCircuit.fill.Goals.{Then-self-eq1, After-drop-selection-2}
 
-pub fill-requires-clause-fits : goal.fill-requires-clause-fits
-fill-requires-clause-fits c =
+pub fill-requires : goal.fill-requires
+fill-requires c =
     let s = c.args.self.now in
     let values = c.in_ok-values.values.items in
     let begins : BeginsWith c.args.inputs.now values =
     subst (BeginsWith c.args.inputs.now) (sym c.in_ok-values.ensures)
     (begins_prices s.seals s.width (s.position - 1) s.price c.args.inputs.now) in
-    rw c.in_ok-selection.ensures
-    (selection_over s.seals s.width s.position s.price s.in_limits values c.if-self-eq1.false
-    (omega (arith, begins.enough, c.requires.one_each)))
-
-pub fill-requires-clause-true_of : goal.fill-requires-clause-true_of
-fill-requires-clause-true_of c =
-    let s = c.args.self.now in
-    let values = c.in_ok-values.values.items in
-    let begins : BeginsWith c.args.inputs.now values =
-    subst (BeginsWith c.args.inputs.now) (sym c.in_ok-values.ensures)
-    (begins_prices s.seals s.width (s.position - 1) s.price c.args.inputs.now) in
-    rw c.in_ok-selection.ensures
-    (may_be_selected s.seals s.width s.position s.price c.args.inputs.now values s.in_limits
-    c.requires begins
-    (omega (arith, s.in_limits.some_seals, c.if-self-eq1.false)))
+    rw c.in_ok-selection.ensures (record {
+      fits = selection_over s.seals s.width s.position s.price s.in_limits values
+          c.if-self-eq1.false (omega (arith, begins.enough, c.requires.one_each));
+      true_of = may_be_selected s.seals s.width s.position s.price c.args.inputs.now values
+          s.in_limits c.requires begins
+          (omega (arith, s.in_limits.some_seals, c.if-self-eq1.false));
+    })
 
 alone : (c : Then-self-eq1) → c.in_ok-values.values.items
     ≡ honest_values c.args.self.now.seals c.args.self.now.width c.args.self.now.position

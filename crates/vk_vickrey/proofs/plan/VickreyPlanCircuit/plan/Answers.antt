@@ -1,9 +1,8 @@
-use Rattle.std.proofs.Common.{◌≡◌, length, sym, ap, ◌∙◌}
-use Rattle.vk_plan.specs.Plans.{PlanValue}
+use Rattle.std.proofs.Common.{◌≡◌, sym, ◌∙◌}
 use Rattle.vk_vickrey.specs.VickreyPlans.{vickrey_plan}
 use Rattle.std.proofs.lemmas.Bool.{eq-eqb, ne_eqb}
 use Rattle.vk_vickrey.specs.VickreyLaws.{plan_alone, plan_many}
-use Rattle.vk_vickrey.specs.VickreySteps.{selection_fits, selection_room, vickrey_wires, vickrey_rows}
+use Rattle.vk_vickrey.specs.VickreySteps.{selection_fits, selection_room, vickrey_counts}
 use Rattle.vk_vickrey.proofs.plan.VickreyPlanCircuit.plan.Goals as goal
 use Rattle.vk_vickrey.proofs.plan.VickreyPlanCircuit.plan.Goals.{Then-self-eq1, After-drop-selection-2}
 
@@ -21,14 +20,12 @@ returns-then-self-eq1-clause-plan c = alone c
 pub returns-then-self-eq1-clause-wires : goal.returns-then-self-eq1-clause-wires
 returns-then-self-eq1-clause-wires c =
     let s = c.args.self.now in
-    ap (λ (p : PlanValue). length p.kinds) (alone c)
-    ∙ vickrey_wires s.seals s.width s.position s.price s.in_limits.some_seals
+    (vickrey_counts s.seals s.width s.position s.price _ s.in_limits.some_seals (alone c)).0
 
 pub returns-then-self-eq1-clause-rows : goal.returns-then-self-eq1-clause-rows
 returns-then-self-eq1-clause-rows c =
     let s = c.args.self.now in
-    ap (λ (p : PlanValue). length p.rows) (alone c)
-    ∙ vickrey_rows s.seals s.width s.position s.price s.in_limits.some_seals
+    (vickrey_counts s.seals s.width s.position s.price _ s.in_limits.some_seals (alone c)).1
 
 pub add-requires-clause-fits : goal.add-requires-clause-fits
 add-requires-clause-fits c =
@@ -56,11 +53,9 @@ returns-clause-plan c = many c
 pub returns-clause-wires : goal.returns-clause-wires
 returns-clause-wires c =
     let s = c.args.self.now in
-    ap (λ (p : PlanValue). length p.kinds) (many c)
-    ∙ vickrey_wires s.seals s.width s.position s.price s.in_limits.some_seals
+    (vickrey_counts s.seals s.width s.position s.price _ s.in_limits.some_seals (many c)).0
 
 pub returns-clause-rows : goal.returns-clause-rows
 returns-clause-rows c =
     let s = c.args.self.now in
-    ap (λ (p : PlanValue). length p.rows) (many c)
-    ∙ vickrey_rows s.seals s.width s.position s.price s.in_limits.some_seals
+    (vickrey_counts s.seals s.width s.position s.price _ s.in_limits.some_seals (many c)).1
