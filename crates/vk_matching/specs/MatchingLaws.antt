@@ -15,7 +15,7 @@ use Rattle.vk_range.specs.Laws.{one_name}
 use Rattle.vk_range.specs.Copies.{BeginsWith, begins_alone, begins_longer}
 use Rattle.vk_range.specs.Ranges.{ranges_values}
 use Rattle.vk_range.specs.Ranged.{IsRanged, MayBeFilled, ranged_plan, ranged_values}
-use Rattle.vk_range.specs.RangedLaws.{ranged_is_plan, ranged_sound, ranged_complete, ranged_begins, ranged_wires, ranged_rows, listed_each}
+use Rattle.vk_range.specs.RangedLaws.{ranged_is_plan, ranged_sound, ranged_of_width, ranged_begins, ranged_wires, ranged_rows, listed_each}
 use Rattle.vk_matching.specs.Stability.{IsPerson, IsStable, his_place, her_place, his_rank, her_rank, wife_of}
 use Rattle.vk_matching.specs.Couples.{husband_of, husband_is, husband_alone}
 use Rattle.vk_matching.specs.Eithers.{IsEither, IsEitherAtLeast, either_wires, either_rows, either_values}
@@ -426,15 +426,8 @@ module _ (inputs : ℕ) (numbers : List ℕ) (case : IsMatchingCase inputs numbe
     pub ranged_holds : Holds (ranged_plan inputs (rank_ranges inputs numbers))
         (ranged_values ranks (rank_ranges inputs numbers))
     ranged_holds =
-        let ranges = rank_ranges inputs numbers in
-        let residues : All IsResidue ranks =
-        λ k d h. omega (
-          arith,
-          claim.within_width k d h,
-          small_power (width_of numbers) case.limits.most_width,
-        ) in
-        subst (λ n. Holds (ranged_plan n ranges) (ranged_values ranks ranges)) claim.one_each
-        (ranged_complete ranks ranges matching_filled residues)
+        ranged_of_width ranks (rank_ranges inputs numbers) inputs (width_of numbers) claim.one_each
+        (omega (arith, case.limits.most_width)) claim.within_width matching_filled
 
     -- the relation of each pair is true of the values before
     pub pair_true : (pair : ℕ) → pair < pair_count (size_of numbers)

@@ -8,23 +8,23 @@ use Rattle.vk_range.specs.Others.{other, other_within, other_not, other_of}
 use Rattle.vk_matching.specs.Stability.{IsPerson, IsPermutation, his_place, her_place, wife_of}
 use Rattle.vk_matching.specs.MatchingPlans.{pair_count, man_at, woman_at}
 
+-- a rank's place among those of one person after another
+place_within : (size person other : ℕ) → IsPerson size person → IsPerson size other
+    → (person - 1) * size + (other - 1) < size * size
+place_within size person other is_person is_other =
+    mul-add-lt (person - 1) size (other - 1) size
+    (omega (arith, is_person.some, is_person.within))
+    (omega (arith, is_other.some, is_other.within))
+
 pub his_place_within : (size man woman : ℕ) → IsPerson size man → IsPerson size woman
     → his_place size man woman < 2 * size * size
 his_place_within size man woman is_man is_woman =
-    omega (
-      arith,
-      mul-add-lt (man - 1) size (woman - 1) size
-          (omega (arith, is_man.some, is_man.within)) (omega (arith, is_woman.some, is_woman.within)),
-    )
+    omega (arith, place_within size man woman is_man is_woman)
 
 pub her_place_within : (size woman man : ℕ) → IsPerson size woman → IsPerson size man
     → her_place size woman man < 2 * size * size
 her_place_within size woman man is_woman is_man =
-    omega (
-      arith,
-      mul-add-lt (woman - 1) size (man - 1) size
-          (omega (arith, is_woman.some, is_woman.within)) (omega (arith, is_man.some, is_man.within)),
-    )
+    omega (arith, place_within size woman man is_woman is_man)
 
 -- where there is a pair, there is a woman other than a man's own
 some_other : (size pair : ℕ) → pair < pair_count size → 0 < size - 1
