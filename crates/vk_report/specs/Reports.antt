@@ -7,13 +7,12 @@ use Rattle.vk_io.specs.Files.{Files}
 use Rattle.vk_lines.specs.Forms.{line, spaced}
 use Rattle.vk_lines.specs.declared.errors.StartErr.{StartErr}
 use Rattle.vk_lines.specs.Lines.{Rest, end_at, started}
-use Rattle.vk_lines.specs.Tokens.{hex_text}
 use Rattle.vk_board.specs.declared.board.Head.{Head}
 use Rattle.vk_board.specs.declared.board.SealLines.{SealLines}
 use Rattle.vk_board.specs.declared.front.Front.{Front}
 use Rattle.vk_board.specs.Values.{IsHead, Shape}
 use Rattle.vk_board.specs.Reading.{lanes_at, seats_of}
-use Rattle.vk_board.specs.Texts.{reserve_text, winner_text}
+use Rattle.vk_board.specs.Texts.{told_text}
 use Rattle.vk_board.specs.Fronts.{FrontFault, PriceStands, front_at}
 use Rattle.vk_board.specs.Fronts as fronts
 use Rattle.vk_vickrey.specs.Sales.{sale_at}
@@ -123,14 +122,7 @@ commitment_count report = 2 * report.wires * report.head.lanes
 
 -- what the head says; the reserve and the winner in the lines of the board
 unfoldable pub head_lines : Head → List ℕ
-head_lines head =
-    line (spaced (codes "auction" ∷ hex_text head.auction ∷ []))
-    ++ (line (spaced (codes "width" ∷ decimal head.width ∷ []))
-    ++ (line (spaced (codes "lanes" ∷ decimal head.lanes ∷ []))
-    ++ (line (spaced (codes "seals" ∷ decimal head.seals ∷ []))
-    ++ (reserve_text head.version head.reserve
-    ++ (line (winner_text head.winner)
-    ++ line (spaced (codes "price" ∷ decimal head.price ∷ [])))))))
+head_lines head = told_text head
 
 abbrev pub seat_text : ℕ → List ℕ
 seat_text seat = spaced (codes "seat" ∷ decimal seat ∷ [])
