@@ -153,10 +153,6 @@ unfolding halves_from
 halves_given case bit [] coms shown front all same_coms same_shown weights e =
     let nothing = append-nil front in
     ([], (cc, record { one_each = refl; each = λ k lt. absurd (omega arith) }))
-halves_given case bit (kind ∷ kinds) [] shown front all same_coms same_shown weights e =
-    absurd (omega arith)
-halves_given case bit (kind ∷ kinds) (digests ∷ coms) [] front all same_coms same_shown weights e =
-    absurd (omega arith)
 halves_given case bit (kind ∷ kinds) (digests ∷ coms) (s ∷ shown) front all same_coms same_shown
     weights e =
     let step = step_ok _ (λ half. halves_from case bit (front ++ half ∷ []) kinds coms shown)
@@ -174,6 +170,8 @@ halves_given case bit (kind ∷ kinds) (digests ∷ coms) (s ∷ shown) front al
             (rw longer at later.1.1),
       ),
     )
+halves_given case bit (kind ∷ kinds) coms shown front all same_coms same_shown weights e =
+    absurd (omega arith)
 
 -- given halves are computed
 pub halves_computed : (case : LaneCase) (bit : Bool) (kinds : List WireKind) (coms : List WireCom)
@@ -214,10 +212,6 @@ pub fault_found : (case : LaneCase) (bit : Bool) (kinds : List WireKind) (coms :
     × Fails case bit (length front) kinds coms shown wire w))
 unfolding halves_from
 fault_found case bit [] coms shown front fault same_coms same_shown weights e = absurd (cc)
-fault_found case bit (kind ∷ kinds) [] shown front fault same_coms same_shown weights e =
-    absurd (omega arith)
-fault_found case bit (kind ∷ kinds) (digests ∷ coms) [] front fault same_coms same_shown weights e =
-    absurd (omega arith)
 fault_found case bit (kind ∷ kinds) (digests ∷ coms) (s ∷ shown) front fault same_coms same_shown
     weights e =
     let weight = All-head HasWeight kind kinds weights in
@@ -256,6 +250,8 @@ fault_found case bit (kind ∷ kinds) (digests ∷ coms) (s ∷ shown) front fau
             ),
           )
     ]
+fault_found case bit (kind ∷ kinds) coms shown front fault same_coms same_shown weights e =
+    absurd (omega arith)
 
 -- the first fault is computed
 pub fault_computed : (case : LaneCase) (bit : Bool) (kinds : List WireKind) (coms : List WireCom)
