@@ -91,17 +91,15 @@ split_fault place digests opening bit (Digest second) = let e =
 split_fault place digests opening bit NotASet = let e =
     entry_fault place digests bit opening NotASet in grind (arith, common_steps)
 
--- the faults of a spent entry
+-- the faults of a spent entry are those of a split value
 spent_fault : (i : ℕ) (place : Place) (digests : WireCom) (spent : Bool) (opening : Opening)
     (f : WireFault)
     → (entry_read place digests spent opening ≡ Err f)
     ↔ HasFault (Pair i) place digests (Spent spent opening) true f
-spent_fault i place digests spent opening Form = let e =
-    entry_fault place digests spent opening Form in grind (arith, common_steps)
-spent_fault i place digests spent opening (Digest second) = let e =
-    entry_fault place digests spent opening (Digest second) in grind (arith, common_steps)
-spent_fault i place digests spent opening NotASet = let e =
-    entry_fault place digests spent opening NotASet in grind (arith, common_steps)
+spent_fault i place digests spent opening Form = split_fault place digests opening spent Form
+spent_fault i place digests spent opening (Digest second) =
+    split_fault place digests opening spent (Digest second)
+spent_fault i place digests spent opening NotASet = split_fault place digests opening spent NotASet
 
 -- each fault is computed as it is defined
 pub fault_is_computed : (kind : WireKind) (place : Place) (digests : WireCom) (shown : Shown)
