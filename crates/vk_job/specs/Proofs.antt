@@ -30,6 +30,11 @@ pub record ProofValue : Type 0 where
   pub plan : PlanValue
   pub values : List ℕ
 
+-- the proof from these
+abbrev pub proof_with : List ℕ → List SealRow → ℕ → List ℕ → PlanValue → List ℕ → ProofValue
+proof_with id rows lanes seed plan values =
+    record { id = id; rows = rows; lanes = lanes; seed = seed; plan = plan; values = values }
+
 -- ---- tapes
 
 -- what the tapes of the lanes come from: all that but the circuit and its values, of which it is
@@ -41,6 +46,7 @@ pub record TapeSource : Type 0 where
   pub seed : List ℕ
   pub further : ℕ
 
+-- that of these
 abbrev pub source_with : List ℕ → List SealRow → ℕ → List ℕ → ℕ → TapeSource
 source_with id rows lanes seed further =
     record { id = id; rows = rows; lanes = lanes; seed = seed; further = further }

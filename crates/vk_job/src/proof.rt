@@ -1,7 +1,7 @@
 ghost use Rattle.std.specs.Prelude.{◌≡◌, ◌-◌, ◌≤◌, length, slice_index_or, IfOk};
 ghost use Rattle.vk_prover.specs.Drawn.{TapeAnswer};
 ghost use Rattle.vk_prover.specs.Laws.{IsTapeOf};
-ghost use Rattle.vk_job.specs.Proofs.{IsProof, drawn_in, lane_in, lane_shown_in, lane_tape_in, no_row, seal_lines_of, source_of};
+ghost use Rattle.vk_job.specs.Proofs.{IsProof, drawn_in, lane_in, lane_shown_in, lane_tape_in, no_row, proof_with, seal_lines_of, source_of};
 
 use crate::tapes::{given_tapes, words_of};
 use std::alloc::Global;
@@ -26,28 +26,14 @@ pub struct HonestProof<'a> {
 }
 
 impl<'a> Model for HonestProof<'a> {
-    ghost use Rattle.vk_job.specs.Proofs.{ProofValue, IsProof};
+    ghost use Rattle.vk_job.specs.Proofs.{ProofValue, IsProof, proof_with};
 
     ghost Value = { ProofValue };
 
-    ghost view = { λ p. record {
-      id = p.id.now;
-      rows = p.rows.now;
-      lanes = p.lanes;
-      seed = p.seed;
-      plan = p.plan.now;
-      values = p.values.now;
-    } };
+    ghost view = { λ p. proof_with p.id.now p.rows.now p.lanes p.seed p.plan.now p.values.now };
 
     ghost invariant = { λ p. IsProof
-        (record {
-          id = p.id.now;
-          rows = p.rows.now;
-          lanes = p.lanes;
-          seed = p.seed;
-          plan = p.plan.now;
-          values = p.values.now;
-        }) };
+        (proof_with p.id.now p.rows.now p.lanes p.seed p.plan.now p.values.now) };
 }
 
 impl<'a> HonestProof<'a> {
@@ -62,22 +48,8 @@ impl<'a> HonestProof<'a> {
         plan: &'a Plan,
         values: &'a [Residue],
     ) -> HonestProof<'a>
-        requires { IsProof (record {
-          id = id.now;
-          rows = rows.now;
-          lanes = lanes;
-          seed = seed;
-          plan = plan.now;
-          values = values.now;
-        }) }
-        ensures { result ≡ record {
-          id = id.now;
-          rows = rows.now;
-          lanes = lanes;
-          seed = seed;
-          plan = plan.now;
-          values = values.now;
-        } }
+        requires { IsProof (proof_with id.now rows.now lanes seed plan.now values.now) }
+        ensures { result ≡ proof_with id.now rows.now lanes seed plan.now values.now }
     {
         HonestProof {
             id,

@@ -3,7 +3,7 @@ ghost use Rattle.std.specs.Prelude.{◌≡◌, ◌+◌, ◌^◌, ◌<◌, ◌≤
 ghost use Rattle.vk_dice.specs.Stream.{word_at, words_ahead};
 ghost use Rattle.vk_prover.specs.Drawn.{dry_wire};
 ghost use Rattle.vk_job.specs.Answers.{dry_refusal};
-ghost use Rattle.vk_job.specs.Proofs.{first_dry_in, given_in};
+ghost use Rattle.vk_job.specs.Proofs.{first_dry_in, given_in, source_with};
 
 use crate::errors::JobErr;
 use std::alloc::Global;
@@ -24,13 +24,7 @@ pub fn check_tapes(
 ) -> Result<(), JobErr>
     requires { length rows.now + further < 2 ^ 32 }
     ensures { result ≡ dry_refusal
-        (first_dry_in (record {
-          id = id.now;
-          rows = rows.now;
-          lanes = lanes;
-          seed = seed.now;
-          further = further;
-        })) }
+        (first_dry_in (source_with id.now rows.now lanes seed.now further)) }
 {
     for before in 0..lanes {
         let lane = before + 1;

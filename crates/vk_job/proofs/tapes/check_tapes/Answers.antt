@@ -1,19 +1,14 @@
 use Rattle.std.proofs.Common.{◌≡◌, ◌-◌, ◌+◌, Err, arith, rules, refl, ap, sym, ◌∙◌, length}
 use Rattle.vk_dice.specs.Stream.{words_ahead}
 use Rattle.vk_job.specs.Answers.{dry_refusal}
-use Rattle.vk_job.specs.Proofs.{TapeSource, first_dry_in}
+use Rattle.vk_job.specs.Proofs.{first_dry_in, source_with}
 use Rattle.vk_job.proofs.Dry.{lane_refusal, dry_turn, dry_stop, dry_done}
 use Rattle.vk_job.proofs.tapes.check_tapes.Goals as goal
 
 pub returns-in_err-check_tape : goal.returns-in_err-check_tape
 returns-in_err-check_tape c =
-    let source : TapeSource = record {
-      id = c.args.id.now;
-      rows = c.args.rows.now;
-      lanes = c.args.lanes;
-      seed = c.args.seed.now;
-      further = c.args.further;
-    } in
+    let source = source_with c.args.id.now c.args.rows.now c.args.lanes c.args.seed.now
+    c.args.further in
     let lane = c.loop-before.before + 1 in
     let dry = lane_refusal source lane (length c.args.rows.now) (words_ahead c.words_of.result) refl
     c.words_of.ensures in
@@ -25,13 +20,8 @@ returns-in_err-check_tape c =
 
 pub loop-before-preserved : goal.loop-before-preserved
 loop-before-preserved c =
-    let source : TapeSource = record {
-      id = c.args.id.now;
-      rows = c.args.rows.now;
-      lanes = c.args.lanes;
-      seed = c.args.seed.now;
-      further = c.args.further;
-    } in
+    let source = source_with c.args.id.now c.args.rows.now c.args.lanes c.args.seed.now
+    c.args.further in
     let lane = c.loop-before.before + 1 in
     let dry = lane_refusal source lane (length c.args.rows.now) (words_ahead c.words_of.result) refl
     c.words_of.ensures in
@@ -42,13 +32,8 @@ loop-before-preserved c =
 
 pub returns : goal.returns
 returns c =
-    let source : TapeSource = record {
-      id = c.args.id.now;
-      rows = c.args.rows.now;
-      lanes = c.args.lanes;
-      seed = c.args.seed.now;
-      further = c.args.further;
-    } in
+    let source = source_with c.args.id.now c.args.rows.now c.args.lanes c.args.seed.now
+    c.args.further in
     ap dry_refusal (sym (dry_done source (c.loop-before.before + 1)
     (c.args.lanes - c.loop-before.before) (first_dry_in source) (omega arith)
     c.loop-before.invariant))
