@@ -4,7 +4,5 @@ use Rattle.vk_app.proofs.command.read.Goals as goal
 
 pub returns-clause-acts : goal.returns-clause-acts
 returns-clause-acts g c = λ ledger.
-    read_and_said (λ files. audit_said files (audit_seen c.args.order.now))
-    (g.S.Shelf.held c.args.shelf.now) (g.S.Shelf.held c.audit-said.new.shelf) ledger
-    c.audit-said.result
+    read_and_said (λ files. audit_said files (audit_seen c.args.order.now)) _ _ ledger _
     c.audit-said.ensures.shelf.held c.audit-said.ensures.said

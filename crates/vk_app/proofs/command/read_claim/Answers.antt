@@ -4,7 +4,5 @@ use Rattle.vk_app.proofs.command.read_claim.Goals as goal
 
 pub returns-clause-acts : goal.returns-clause-acts
 returns-clause-acts g c = λ ledger.
-    read_and_said (λ files. claim_said files (claim_order_seen c.args.order.now))
-    (g.S.Shelf.held c.args.shelf.now) (g.S.Shelf.held c.audit_claim-said.new.shelf) ledger
-    c.audit_claim-said.result
+    read_and_said (λ files. claim_said files (claim_order_seen c.args.order.now)) _ _ ledger _
     c.audit_claim-said.ensures.shelf.held c.audit_claim-said.ensures.said
