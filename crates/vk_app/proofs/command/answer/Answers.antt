@@ -57,28 +57,20 @@ returns-clause-ends g c =
 pub returns-in_err-said-clause-free : goal.returns-in_err-said-clause-free
 returns-in_err-said-clause-free g c =
     let p = err_from_is_err_and c.from_residual.result c.from_residual.ensures.1 in
-    let old = stores (g.S.Shelf.held c.args.shelf.now) (g.K.Keeper.ledger c.args.keeper.now) in
-    let new = stores (g.S.Shelf.held c.act.new.shelf) (g.K.Keeper.ledger c.act.new.keeper) in
-    let taken = g.W.Sink.taken c.args.out.now in
-    rw p.1 (acting_freely old new taken taken (option_map command_seen c.args.command) p.0
-    c.in_err-said.field-0.0 c.in_err-said.ensures.free)
+    rw p.1
+    (acting_freely _ _ _ (g.W.Sink.taken c.args.out.now) (option_map command_seen c.args.command)
+    p.0 c.in_err-said.field-0.0 c.in_err-said.ensures.free)
 
 pub returns-in_err-print-clause-free : goal.returns-in_err-print-clause-free
 returns-in_err-print-clause-free g c =
     let p = err_from_is_err_and c.from_residual-in_err-print.result
     c.from_residual-in_err-print.ensures.1 in
-    let old = stores (g.S.Shelf.held c.args.shelf.now) (g.K.Keeper.ledger c.args.keeper.now) in
-    let new = stores (g.S.Shelf.held c.act.new.shelf) (g.K.Keeper.ledger c.act.new.keeper) in
     rw p.1
-    (printing_freely old new (g.W.Sink.taken c.args.out.now) (g.W.Sink.taken c.print.new.out)
-    (option_map command_seen c.args.command) c.in_ok-said.said p.0 p.0 c.in_ok-said.ensures.free
-    c.in_err-print.ensures.printed)
+    (printing_freely _ _ _ _ (option_map command_seen c.args.command) c.in_ok-said.said p.0 p.0
+    c.in_ok-said.ensures.free c.in_err-print.ensures.printed)
 
 pub returns-clause-free : goal.returns-clause-free
 returns-clause-free g c =
-    let old = stores (g.S.Shelf.held c.args.shelf.now) (g.K.Keeper.ledger c.args.keeper.now) in
-    let new = stores (g.S.Shelf.held c.act.new.shelf) (g.K.Keeper.ledger c.act.new.keeper) in
-    ended_freely old new (g.W.Sink.taken c.args.out.now) (g.W.Sink.taken c.print.new.out)
-    (option_map command_seen c.args.command) c.in_ok-said.said c.status.result
-    c.status.ensures.value c.in_ok-said.ensures.free
+    ended_freely _ _ _ _ (option_map command_seen c.args.command) c.in_ok-said.said
+    c.status.result c.status.ensures.value c.in_ok-said.ensures.free
     c.in_ok-print.ensures.printed
