@@ -208,8 +208,6 @@ meant_words : (files : Files) (words : List (List ℕ)) (orders : List HouseWord
 meant_words files words orders is = by_command (command_words words) refl where
   by_command : (command : Option CommandWords) → command_words words ≡ command
       → AllByRecursion AreHouseWords orders
-  by_command None at = (let no : orders_of files None ≡ Some orders = ap (orders_of files) (sym at)
-      ∙ is in cc)
   by_command (Some (House order)) at =
       subst (AllByRecursion AreHouseWords)
       (same_Some (order ∷ []) orders (ap (orders_of files) (sym at) ∙ is))
@@ -218,36 +216,8 @@ meant_words files words orders is = by_command (command_words words) refl where
       subst (AllByRecursion AreHouseWords)
       (same_Some (orders_in files script) orders (ap (orders_of files) (sym at) ∙ is))
       (orders_are files script)
-  by_command (Some (Seal order)) at =
-      (let no : orders_of files (Some (Seal order)) ≡ Some orders = ap (orders_of files) (sym at)
-      ∙ is in cc)
-  by_command (Some (Verify names)) at =
-      (let no : orders_of files (Some (Verify names)) ≡ Some orders = ap (orders_of files) (sym at)
-      ∙ is in cc)
-  by_command (Some (Extract names)) at =
-      (let no : orders_of files (Some (Extract names)) ≡ Some orders = ap (orders_of files) (sym at)
-      ∙ is in cc)
-  by_command (Some (Confront names)) at =
-      (let no : orders_of files (Some (Confront names))
-      ≡ Some orders = ap (orders_of files) (sym at) ∙ is in cc)
-  by_command (Some (Report board)) at =
-      (let no : orders_of files (Some (Report board)) ≡ Some orders = ap (orders_of files) (sym at)
-      ∙ is in cc)
-  by_command (Some (ClaimVerify names)) at =
-      (let no : orders_of files (Some (ClaimVerify names))
-      ≡ Some orders = ap (orders_of files) (sym at) ∙ is in cc)
-  by_command (Some (ClaimExtract names)) at =
-      (let no : orders_of files (Some (ClaimExtract names))
-      ≡ Some orders = ap (orders_of files) (sym at) ∙ is in cc)
-  by_command (Some (ClaimSample kind number)) at =
-      (let no : orders_of files (Some (ClaimSample kind number))
-      ≡ Some orders = ap (orders_of files) (sym at) ∙ is in cc)
-  by_command (Some (Coin order)) at =
-      (let no : orders_of files (Some (Coin order)) ≡ Some orders = ap (orders_of files) (sym at)
-      ∙ is in cc)
-  by_command (Some (Sample number)) at =
-      (let no : orders_of files (Some (Sample number)) ≡ Some orders = ap (orders_of files) (sym at)
-      ∙ is in cc)
+  by_command command at =
+      (let no : orders_of files command ≡ Some orders = ap (orders_of files) (sym at) ∙ is in cc)
 
 -- what is kept after a run of which all that is kept is kept until the last ledger
 pub served_keeps : (meant : Option (List HouseWords)) (files : Files) (ledger : Ledger)
@@ -444,24 +414,11 @@ module _ (files : Files) (ledger : Ledger) (result : Result ℕ OutsideErr) (old
   performed : (command : Option CommandWords)
       → IfSome (work_of (Some files) (Some ledger) command) EndsSo
       → CommandEndsFreely command result before new → Performed command
-  performed None ends free = still (command_effect (Some files) (Some ledger) None) refl ends
   performed (Some (Seal order)) ends free =
       still (seal_on (Some ledger) order) (seal_still order) ends
   performed (Some (House order)) ends free =
       acts_of (order ∷ []) (command_performs files ledger order old result new
       (from_command (house_effect (Some files) (Some ledger) order) ends))
-  performed (Some (Verify names)) ends free =
-      still (command_effect (Some files) (Some ledger) (Some (Verify names))) refl ends
-  performed (Some (Extract names)) ends free =
-      still (command_effect (Some files) (Some ledger) (Some (Extract names))) refl ends
-  performed (Some (Confront names)) ends free =
-      still (command_effect (Some files) (Some ledger) (Some (Confront names))) refl ends
-  performed (Some (Report board)) ends free =
-      still (command_effect (Some files) (Some ledger) (Some (Report board))) refl ends
-  performed (Some (ClaimVerify names)) ends free =
-      still (command_effect (Some files) (Some ledger) (Some (ClaimVerify names))) refl ends
-  performed (Some (ClaimExtract names)) ends free =
-      still (command_effect (Some files) (Some ledger) (Some (ClaimExtract names))) refl ends
   performed (Some (ClaimSample Uniform number)) ends free =
       still (claim_sample_on (Some files) (Some ledger) Uniform number)
       (claim_still files ledger Uniform number (numbers_of number)) ends
@@ -475,6 +432,8 @@ module _ (files : Files) (ledger : Ledger) (result : Result ℕ OutsideErr) (old
       acts_of (orders_in files script)
       (ceremony_performs files ledger script old result new
       (from_script (ceremony_on (Some files) (Some ledger) script) ends))
+  performed command ends free =
+      still (command_effect (Some files) (Some ledger) command) refl ends
 
   pub serves : (words : List (List ℕ)) → IfSome (work_on (Some files) (Some ledger) words) EndsSo
       → CommandEndsFreely (command_words words) result before new
