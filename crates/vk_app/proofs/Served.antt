@@ -19,7 +19,7 @@ use Rattle.vk_house.specs.Once.{KeepsAnswers}
 use Rattle.vk_house.specs.Replies.{HouseReply}
 use Rattle.vk_house.proofs.Once.{keeps_on, keeps_same}
 use Rattle.vk_honest.proofs.Accepted.{answers_are_accepted}
-use Rattle.vk_words.specs.Commands.{CommandWords, Seal, House, Verify, Extract, Confront, Report, Sample, ClaimVerify, ClaimExtract, ClaimSample, Coin, command_words}
+use Rattle.vk_words.specs.Commands.{CommandWords, Seal, House, Sample, ClaimSample, Coin, command_words}
 use Rattle.vk_words.specs.Commands as commands
 use Rattle.vk_words.specs.Orders.{HouseWords, SealWords, Announce, AnnounceReserve, Submit, Prove, Answer, Show}
 use Rattle.vk_effect.specs.Effects.{Effect, Outside, SaidValue, outside, said_of, stores, says}
