@@ -15,6 +15,7 @@ use Rattle.vk_extractor.specs.Confronting.{secret_opening}
 use Rattle.vk_extractor.specs.FirstClash.{WireAgrees}
 use Rattle.vk_reply.specs.declared.challenge.Challenge.{Challenge}
 use Rattle.vk_reply.specs.Texts.{challenge_text}
+use Rattle.vk_reply.specs.Values.{IsChallenge}
 use Rattle.vk_verifier.specs.Acceptance.{bit_of}
 use Rattle.vk_bids.specs.declared.bids.LaneBids.{LaneBids}
 use Rattle.vk_bids.specs.declared.bids.OpenedBid.{OpenedBid}
@@ -22,9 +23,8 @@ use Rattle.vk_bids.specs.declared.extraction.Extracted.{Extracted}
 use Rattle.vk_bids.specs.Extraction.{Extraction}
 use Rattle.vk_bids.specs.declared.extraction.Extraction.TheVariants.{Bids, Clash, Refused, Same}
 use Rattle.vk_bids.specs.Gathering.{shown_for}
-use Rattle.vk_bids.specs.Headline.{IsExtraction, IsOf, LaneAgrees, TwoAccepted, differing, shown_of}
+use Rattle.vk_bids.specs.Headline.{IsExtraction, IsOf, TwoAccepted, differing}
 use Rattle.vk_bids.specs.Opening.{AreShownIn}
-use Rattle.vk_bids.specs.Outcome.{ShowsOutcome}
 use Rattle.vk_bids.specs.Texts.{bid_in, bid_or_zero, has_one_bid}
 use Rattle.vk_bids.proofs.Agreeing.{no_clash}
 use Rattle.vk_bids.proofs.Halves.{halves_sum}
@@ -33,8 +33,8 @@ use Rattle.vk_keeper.specs.Auctions.{IsSealRow}
 use Rattle.vk_keeper.specs.declared.auction.Auction.{Auction}
 use Rattle.vk_keeper.specs.declared.auction.SealRow.{SealRow}
 use Rattle.vk_job.specs.Jobs.{IsProvedAuction, proof_of}
-use Rattle.vk_job.specs.Proofs.{ProofValue, lane_shown_in, no_row, seal_lines_of}
-use Rattle.vk_job.specs.Published.{IsChallengeTo, board_of, reply_of, shown_from, shown_in}
+use Rattle.vk_job.specs.Proofs.{ProofValue, lane_shown_in, lanes_shown_from, no_row, seal_lines_of}
+use Rattle.vk_job.specs.Published.{IsChallengeTo, board_of, reply_of}
 use Rattle.vk_job.proofs.Drawing.{lanes_of}
 use Rattle.vk_honest.specs.Answers.{IsSealedProof, front_of}
 use Rattle.vk_honest.specs.Extracted.{BidsAreEqual, RepliesGiveBids, TurnedOpenAll, bid_in_lane, bids_in_lane, rows_in_lane, sealed_bids}
@@ -65,14 +65,20 @@ same_bid one other seat bid first second =
     ∙ (ap (λ u. of other.seat other.bid u one.second) first
     ∙ ap (of other.seat other.bid other.first) second))
 
+-- one bid is opened for each seal, at its seat, and it is the sum of its halves
+pub record AreOfRows (rows : List SealRow) (bids : List OpenedBid) : Type 0 where
+  pub one_each : map (λ (bid : OpenedBid). bid.seat) bids
+      ≡ board.seats_of (map seal_lines_of rows)
+  pub sums : (index : ℕ) (bid : OpenedBid) → slice_get bids index ≡ Some bid
+      → bid.bid ≡ sum bid.first.value bid.second.value
+
 module _ (width : ℕ) (proof : ProofValue) (is : IsSealedProof width proof) (lane : ℕ) (some : 1 ≤ lane) (within : lane ≤ proof.lanes) (bids : List OpenedBid)
     (shown : AreShownIn (lane_shown_in proof lane false) (lane_shown_in proof lane true) bids)
-    (one_each : map (λ (bid : OpenedBid). bid.seat) bids ≡ board.seats_of (map seal_lines_of proof.rows))
-    (sums : (index : ℕ) (bid : OpenedBid) → slice_get bids index ≡ Some bid → bid.bid ≡ sum bid.first.value bid.second.value) where
+    (of : AreOfRows proof.rows bids) where
   -- one for each seal, at its seat
   seats_same : map (λ (bid : OpenedBid). bid.seat) bids
       ≡ map (λ (row : SealRow). row.seal.seat) proof.rows
-  seats_same = one_each ∙ seats_are proof.rows
+  seats_same = of.one_each ∙ seats_are proof.rows
 
   count_same : length bids ≡ length proof.rows
   count_same = sym (length-map bids (λ bid. bid.seat))
@@ -100,7 +106,7 @@ module _ (width : ℕ) (proof : ProofValue) (is : IsSealedProof width proof) (la
       (sym (get_or-map (λ (b : OpenedBid). b.seat) bids index no_bid 0 lt)
       ∙ (ap (λ seats. slice_index seats index) seats_same
       ∙ get_or-map (λ (r : SealRow). r.seal.seat) proof.rows index no_row 0 inside))
-      (sums index bid here
+      (of.sums index bid here
       ∙ (ap (λ (u : Opening). sum u.value bid.second.value) first
       ∙ (ap (λ (v : Opening). sum (secret_opening row.secret lane false).value v.value) second
       ∙ halves_sum row.secret lane right.secret some last)))
@@ -142,6 +148,92 @@ by_number of (lane ∷ lanes) all =
     ap (λ l. l ∷ lanes) (All-head P lane lanes all)
     ∙ ap (λ ls. of lane.number ∷ ls) (by_number of lanes (All-tail P lane lanes all))
 
+-- ---- what two replies show of the lanes whose bits differ
+
+module _ (width : ℕ) (proof : ProofValue) (is : IsSealedProof width proof) (first second : Challenge)
+    (right_first : IsChallenge first) (count_first : length first.bits ≡ proof.lanes) (right_second : IsChallenge second) (count_second : length second.bits ≡ proof.lanes) where
+  -- for this bit, by the reply that shows it
+  abbrev pub lane_for : Bool → ℕ → List Shown
+  lane_for bit lane = shown_for bit (bit_of first lane)
+      (slice_index_or (lanes_shown_from proof 1 first.bits) (lane - 1) [])
+      (slice_index_or (lanes_shown_from proof 1 second.bits) (lane - 1) [])
+
+  -- the lane is one of the proof, and what is shown of it for a bit is what the prover shows for it
+  record IsOpenedLane (lane : ℕ) : Type 0 where
+    some : 1 ≤ lane
+    within : lane ≤ proof.lanes
+    shown : (bit : Bool) → lane_for bit lane ≡ lane_shown_in proof lane bit
+
+  opened : (lane : ℕ) → DiffersIn 1 first.bits second.bits lane → IsOpenedLane lane
+  opened lane differs =
+      let number : lane - 1 + 1 ≡ lane = omega (arith, differs.from) in
+      let of_first : slice_index_or (lanes_shown_from proof 1 first.bits) (lane - 1) []
+      ≡ lane_shown_in proof lane (bit_of first lane) =
+      shown_at width proof is first right_first count_first (lane - 1)
+      (omega (arith, differs.from, differs.until))
+      ∙ ap (λ n. lane_shown_in proof n (bit_of first n)) number in
+      let of_second : slice_index_or (lanes_shown_from proof 1 second.bits) (lane - 1) []
+      ≡ lane_shown_in proof lane (bit_of second lane) =
+      shown_at width proof is second right_second count_second (lane - 1)
+      (omega (arith, differs.from, differs.until, count_first, count_second))
+      ∙ ap (λ n. lane_shown_in proof n (bit_of second n)) number in
+      record {
+        some = differs.from;
+        within = omega (arith, differs.until, count_first);
+        shown = λ bit.
+            ap (λ one. shown_for bit (bit_of first lane) one
+            (slice_index_or (lanes_shown_from proof 1 second.bits) (lane - 1) [])) of_first
+            ∙ (ap (λ other. shown_for bit (bit_of first lane)
+            (lane_shown_in proof lane (bit_of first lane)) other) of_second
+            ∙ shown_either (lane_shown_in proof lane) bit (bit_of first lane) (bit_of second lane)
+            differs.bits_differ);
+      }
+
+  all_opened : All IsOpenedLane (differing 1 first.bits second.bits)
+  all_opened = All-weaker (DiffersIn 1 first.bits second.bits) IsOpenedLane opened
+      (differing 1 first.bits second.bits) (all_differ 1 first.bits second.bits)
+
+  -- so what is shown of them for both bits agrees
+  agrees : (lane : ℕ) → IsOpenedLane lane → (wire : ℕ)
+      → WireAgrees (lane_for false lane) (lane_for true lane) wire
+  agrees lane of wire =
+      let P : List Shown → Type 0 = λ zeros. WireAgrees zeros (lane_shown_in proof lane true) wire
+      in
+      let Q : List Shown → Type 0 = λ ones. WireAgrees (lane_for false lane) ones wire in
+      subst Q (sym (of.shown true))
+      (subst P (sym (of.shown false)) (shown_agree width proof is lane of.some of.within wire))
+
+  pub all_agree : All (λ lane. (wire : ℕ)
+      → WireAgrees (lane_for false lane) (lane_for true lane) wire)
+      (differing 1 first.bits second.bits)
+  all_agree k d lt = agrees _ (all_opened k d lt)
+
+  -- and the values that are found are those that were sealed
+  lane_is : (lane : LaneBids) → IsOpenedLane lane.number
+      → AreShownIn (lane_for false lane.number) (lane_for true lane.number) lane.bids
+      → AreOfRows proof.rows lane.bids → lane ≡ rows_in_lane proof.rows lane.number
+  lane_is lane of shown right =
+      let P : List Shown → Type 0 =
+      λ zeros. AreShownIn zeros (lane_for true lane.number) lane.bids in
+      let Q : List Shown → Type 0 =
+      λ ones. AreShownIn (lane_shown_in proof lane.number false) ones lane.bids in
+      lane_same lane (map (bid_in_lane lane.number) proof.rows)
+      (bids_same width proof is lane.number of.some of.within lane.bids
+      (subst Q (of.shown true) (subst P (of.shown false) shown)) right)
+
+  pub lanes_are : (lanes : List LaneBids)
+      → map (λ (lane : LaneBids). lane.number) lanes ≡ differing 1 first.bits second.bits
+      → All (λ (lane : LaneBids).
+      AreShownIn (lane_for false lane.number) (lane_for true lane.number) lane.bids) lanes
+      → All (λ (lane : LaneBids). AreOfRows proof.rows lane.bids) lanes
+      → lanes ≡ map (rows_in_lane proof.rows) (differing 1 first.bits second.bits)
+  lanes_are lanes numbers shown right =
+      let opens : All (λ (lane : LaneBids). IsOpenedLane lane.number) lanes =
+      of_numbers IsOpenedLane lanes (subst (All IsOpenedLane) (sym numbers) all_opened) in
+      by_number (rows_in_lane proof.rows) lanes
+      (λ k d lt. lane_is (get_or lanes k d) (opens k d lt) (shown k d lt) (right k d lt))
+      ∙ ap (map (rows_in_lane proof.rows)) numbers
+
 extracted_same : (one : Extracted) (front : Front) (lanes : List LaneBids) → one.front ≡ front
     → one.lanes ≡ lanes → one ≡ record { front = front; lanes = lanes }
 extracted_same one front lanes fronts same =
@@ -158,54 +250,6 @@ module _ (auction : Auction) (proved : IsProvedAuction auction) (first second : 
     differ = differ;
   }
 
-  -- a lane whose bits differ is one of the auction, and what is shown of it for a bit is what the
-  -- auctioneer shows for it
-  record IsOpened (lane : ℕ) : Type 0 where
-    some : 1 ≤ lane
-    within : lane ≤ auction.lanes
-    shown : (bit : Bool) → shown_of two bit lane ≡ shown_in auction lane bit
-
-  opened : (lane : ℕ) → DiffersIn 1 first.bits second.bits lane → IsOpened lane
-  opened lane is =
-      let number : lane - 1 + 1 ≡ lane = omega (arith, is.from) in
-      let some : 1 ≤ lane = is.from in
-      let within : lane ≤ auction.lanes = omega (arith, is.until, is_first.one_bit_each) in
-      let of_first : slice_index_or (shown_from auction 1 first.bits) (lane - 1) []
-      ≡ shown_in auction lane (bit_of first lane) =
-      shown_at auction.width (proof_of auction) (sealed auction proved) first is_first.right
-      is_first.one_bit_each (lane - 1) (omega (arith, is_first.one_bit_each))
-      ∙ ap (λ n. shown_in auction n (bit_of first n)) number in
-      let of_second : slice_index_or (shown_from auction 1 second.bits) (lane - 1) []
-      ≡ shown_in auction lane (bit_of second lane) =
-      shown_at auction.width (proof_of auction) (sealed auction proved) second is_second.right
-      is_second.one_bit_each (lane - 1) (omega (arith, is_second.one_bit_each))
-      ∙ ap (λ n. shown_in auction n (bit_of second n)) number in
-      record {
-        some = some;
-        within = within;
-        shown = λ bit.
-            ap (λ one. shown_for bit (bit_of first lane) one
-            (slice_index_or (shown_from auction 1 second.bits) (lane - 1) [])) of_first
-            ∙ (ap (λ other. shown_for bit (bit_of first lane)
-            (shown_in auction lane (bit_of first lane)) other) of_second
-            ∙ shown_either (shown_in auction lane) bit (bit_of first lane) (bit_of second lane)
-            is.bits_differ);
-      }
-
-  -- so what is shown of these lanes for both bits agrees, and there is no clash
-  all_opened : All IsOpened (differing 1 first.bits second.bits)
-  all_opened = All-weaker (DiffersIn 1 first.bits second.bits) IsOpened opened
-      (differing 1 first.bits second.bits) (all_differ 1 first.bits second.bits)
-
-  agrees : (lane : ℕ) → IsOpened lane → LaneAgrees two lane
-  agrees lane is wire inside =
-      let P : List Shown → Type 0 = λ zeros. WireAgrees zeros (shown_in auction lane true) wire in
-      let Q : List Shown → Type 0 = λ ones. WireAgrees (shown_of two false lane) ones wire in
-      subst Q (sym (is.shown true))
-      (subst P (sym (is.shown false))
-      (shown_agree auction.width (proof_of auction) (sealed auction proved) lane is.some
-      is.within wire))
-
   record GivesBids (extraction : Extraction) : Type 0 where
     found : Extracted
     is : extraction ≡ Bids found
@@ -215,36 +259,22 @@ module _ (auction : Auction) (proved : IsProvedAuction auction) (first second : 
   gives_bids (Refused second_reply verdict) is = absurd is
   gives_bids Same is = absurd is
   gives_bids (Clash clash) is =
-      absurd (no_clash two clash
-      (All-weaker IsOpened (LaneAgrees two) agrees (differing 1 first.bits second.bits) all_opened)
-      is)
+      absurd (no_clash two clash (λ k d lt wire inside. all_agree auction.width (proof_of auction)
+      (sealed auction proved) first second is_first.right is_first.one_bit_each is_second.right
+      is_second.one_bit_each k d lt wire) is)
   gives_bids (Bids found) is = record { found = found; is = refl; right = is }
 
   -- the bids that are found are those that were sealed
-  lane_is : (lane : LaneBids) → IsOpened lane.number
-      → AreShownIn (shown_of two false lane.number) (shown_of two true lane.number) lane.bids
-      → ShowsOutcome (front_of auction) lane.number lane.bids
-      → lane ≡ bids_in_lane auction lane.number
-  lane_is lane is shown shows =
-      let P : List Shown → Type 0 =
-      λ zeros. AreShownIn zeros (shown_of two true lane.number) lane.bids in
-      let Q : List Shown → Type 0 =
-      λ ones. AreShownIn (shown_in auction lane.number false) ones lane.bids in
-      lane_same lane (map (bid_in_lane lane.number) auction.seals)
-      (bids_same auction.width (proof_of auction) (sealed auction proved) lane.number is.some
-      is.within lane.bids (subst Q (is.shown true) (subst P (is.shown false) shown))
-      shows.one_each (λ index bid here. (shows.opened index bid here).is_sum))
-
   found_is : (found : Extracted) → IsExtraction two found → found ≡ sealed_bids auction first second
   found_is found right =
-      let opens : All (λ (lane : LaneBids). IsOpened lane.number) found.lanes =
-      of_numbers IsOpened found.lanes (subst (All IsOpened) (sym right.numbers) all_opened) in
       extracted_same found (front_of auction)
       (map (bids_in_lane auction) (differing 1 first.bits second.bits)) right.front
-      (by_number (bids_in_lane auction) found.lanes
-      (λ k d lt. lane_is (get_or found.lanes k d) (opens k d lt) (right.shown k d lt)
-      (right.outcomes k d lt))
-      ∙ ap (map (bids_in_lane auction)) right.numbers)
+      (lanes_are auction.width (proof_of auction) (sealed auction proved) first second
+      is_first.right is_first.one_bit_each is_second.right is_second.one_bit_each found.lanes
+      right.numbers right.shown (λ k d lt. record {
+        one_each = (right.outcomes k d lt).one_each;
+        sums = λ index bid here. ((right.outcomes k d lt).opened index bid here).is_sum;
+      }))
 
 pub replies_give_bids : RepliesGiveBids
 replies_give_bids auction first second proved is_first is_second differ =
