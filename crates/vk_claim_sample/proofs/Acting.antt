@@ -1,8 +1,8 @@
 -- How `claim-sample` ends, from what its parts did.
 use Rattle.std.proofs.Common.{◌≡◌, ℕ, List, ◌++◌, length, Option, Result, Ok, Err, refl, sym, ap, subst, ◌∙◌, inl, inr}
-use Rattle.std.specs.Prelude.{IfSome, IsSome}
-use Rattle.vk_io.specs.Files.{Files}
-use Rattle.vk_io.specs.Writing.{written}
+use Rattle.std.specs.Prelude.{IfOk, IfSome, IsErr, IsSome}
+use Rattle.vk_io.specs.Files.{Files, Modelled}
+use Rattle.vk_io.specs.Writing.{WritesAll, written}
 use Rattle.vk_io.specs.declared.errors.OutsideErr.{OutsideErr}
 use Rattle.vk_residue.specs.declared.memory.NoMemory.{NoMemory}
 use Rattle.vk_lines.specs.Gives.{Refuses}
@@ -19,29 +19,43 @@ use Rattle.vk_effect.proofs.Acting.{if_some_map}
 use Rattle.vk_sample.specs.Auctions.{DrySeed}
 use Rattle.vk_sample.specs.Samples.{modelled_effect}
 use Rattle.vk_sample.specs.Texts.{dry_said, found_text, same_count}
-use Rattle.vk_sample.proofs.Acting.{dry_acts, stopped_first}
+use Rattle.vk_sample.proofs.Acting.{dry_acts, holding_done, reading_stopped, stopped_first}
 use Rattle.vk_claim_sample.proofs.Opened.{opens}
 use Rattle.vk_claim_sample.proofs.Sales.{numbers_are}
 use Rattle.vk_claim_sample.specs.Claims.{IsMatchingOf, MayPublish, claim_case, proof_by, sizes_of}
-use Rattle.vk_claim_sample.specs.ClaimSamples.{ActsFreely, OfSomeMatching, claim_sample_on, effect_by, effect_with}
+use Rattle.vk_claim_sample.specs.ClaimSamples.{ActsFreely, ActsSo, OfSomeMatching, claim_sample_on, effect_by, effect_with}
 use Rattle.vk_claim_sample.specs.Texts.{claim_read, files_of, made_text, read_said, summary_said}
 
--- the files that were written are read back, and open every value
-pub reads_back : (kind : ClaimKind) (case : SampleCase) → IsCaseOf (sizes_of kind) case
-    → (numbers : List ℕ) → MayPublish kind case numbers → (proof : ProofValue)
-    → proof_by kind case numbers ≡ Ok proof
-    → (number : ℕ) (made : List ℕ) → made ≡ made_text kind number proof.lanes proof.plan
-    → (files : Files) → read_said made
-    (claim_read (written (files_of kind case numbers proof) files)) ≡ summary_said kind number proof
-reads_back kind case is numbers published proof made number text text_is files =
-    let all = opens kind case is numbers published proof made in
-    let of : List ℕ → ℕ → ℕ → SaidValue =
-    λ front lanes same. record { status = 0; text = front ++ found_text lanes same } in
-    let same = same_count all.found.head.inputs all.found.opened.lanes in
-    ap (read_said text) (all.read files)
-    ∙ (ap (λ front. of front (length all.found.opened.lanes) same) text_is
-    ∙ (ap (λ lanes. of (made_text kind number proof.lanes proof.plan) lanes same) all.all_lanes
-    ∙ ap (of (made_text kind number proof.lanes proof.plan) proof.lanes) all.all_same))
+module _ (kind : ClaimKind) (case : SampleCase) (is : IsCaseOf (sizes_of kind) case) (numbers : List ℕ) (published : MayPublish kind case numbers)
+    (proof : ProofValue) (made : proof_by kind case numbers ≡ Ok proof) (number : ℕ) (text : List ℕ) (text_is : text ≡ made_text kind number proof.lanes proof.plan) where
+  -- the files that were written are read back, and open every value
+  reads_back : (files : Files)
+      → read_said text (claim_read (written (files_of kind case numbers proof) files))
+      ≡ summary_said kind number proof
+  reads_back files =
+      let all = opens kind case is numbers published proof made in
+      let of : List ℕ → ℕ → ℕ → SaidValue =
+      λ front lanes same. record { status = 0; text = front ++ found_text lanes same } in
+      let same = same_count all.found.head.inputs all.found.opened.lanes in
+      ap (read_said text) (all.read files)
+      ∙ (ap (λ front. of front (length all.found.opened.lanes) same) text_is
+      ∙ (ap (λ lanes. of (made_text kind number proof.lanes proof.plan) lanes same) all.all_lanes
+      ∙ ap (of (made_text kind number proof.lanes proof.plan) proof.lanes) all.all_same))
+
+  -- and this is said of them, unless the reading is stopped
+  pub read_acts : (ledger : Option Ledger) (held left now : Option Files)
+      (answer : Result SaidValue OutsideErr)
+      → Modelled (WritesAll {E = OutsideErr} (files_of kind case numbers proof) (Ok tt)) held left
+      → now ≡ left
+      → IfSome left (λ files. IfOk answer (λ said. said ≡ read_said text (claim_read files)))
+      → IfSome (effect_by kind held ledger number case numbers (Ok proof))
+      (λ effect. Acts answer effect (stores held ledger) (stores now ledger))
+  read_acts ledger held left now (Err stop) told same said_is =
+      reading_stopped (files_of kind case numbers proof) (summary_said kind number proof) ledger
+      held left now stop told same
+  read_acts ledger held left now (Ok said) told same said_is =
+      holding_done (files_of kind case numbers proof) (summary_said kind number proof) ledger
+      (λ files. read_said text (claim_read files)) reads_back held left now said told same said_is
 
 -- ---- which effect it is
 
@@ -55,14 +69,6 @@ some_matching_map files ledger number P Q follows (numbers, published, holds) = 
   if_some_map P Q follows (effect_with Matching files ledger number numbers)
       holds,
 )
-
--- it acted as the effect of a claim that publishes these numbers, so it did as the one effect of
--- its kind, or freely
-pub record ActsSo (kind : ClaimKind) (number : ℕ) (answer : Result SaidValue OutsideErr)
-    (old new : Stores) : Type 0 where
-  pub acts : IfSome (claim_sample_on old.files old.ledger kind number)
-      (λ effect. Acts answer effect old new)
-  pub free : ActsFreely kind number answer old new
 
 module _ (number : ℕ) (numbers : List ℕ) (old new : Stores) where
   freely : (answer : Result SaidValue OutsideErr)
@@ -104,14 +110,15 @@ claim_acts kind number case numbers made answer old new case_is published comes 
     (subst P case_is (subst Q (sym comes) acts))
 
 -- it was stopped before any numbers were found, and nothing changed
-pub stopped_so : (kind : ClaimKind) (number : ℕ) (stop : OutsideErr) (old : Stores)
-    → ActsSo kind number (Err stop) old old
-stopped_so Uniform number stop old =
+pub stopped_so : (kind : ClaimKind) (number : ℕ) (answer : Result SaidValue OutsideErr)
+    → IsErr answer → (old : Stores) → ActsSo kind number answer old old
+stopped_so kind number (Ok said) refused old = absurd (let e = refused in cc)
+stopped_so Uniform number (Err stop) refused old =
     record {
       acts = stopped_first (claim_sample_on old.files old.ledger Uniform number) old stop;
       free = tt;
     }
-stopped_so Matching number stop old = record { acts = tt; free = inl refl }
+stopped_so Matching number (Err stop) refused old = record { acts = tt; free = inl refl }
 
 -- ---- of what was made and found
 

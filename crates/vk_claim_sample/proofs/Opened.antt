@@ -1,27 +1,21 @@
 -- What a sample's claim writes is accepted, and read back it opens every value.
-use Rattle.std.proofs.Common.{◌≡◌, ◌≢◌, ℕ, ◌+◌, ◌-◌, ◌≤◌, All, Bool, true, false, List, [], ◌∷◌, ◌++◌, length, map, codes, flat_map, get_or, None, Ok, refl, sym, ap, subst, ◌∙◌, append_assoc, arith}
-use Rattle.std.specs.Prelude.{slice_index_or}
+use Rattle.std.proofs.Common.{◌≡◌, ◌≢◌, ℕ, ◌+◌, ◌≤◌, All, true, List, [], ◌∷◌, ◌++◌, length, map, codes, flat_map, None, Ok, refl, sym, ap, subst, ◌∙◌, append_assoc, arith}
 use Rattle.std.specs.FinMap.{insert}
 use Rattle.std.proofs.lemmas.List.{length-map}
-use Rattle.std.proofs.lemmas.List.Elements.{All-weaker}
 use Rattle.vk_io.specs.Files.{Files}
 use Rattle.vk_io.specs.Writing.{written}
 use Rattle.vk_lines.specs.Forms.{line}
-use Rattle.vk_wire.specs.declared.wire.Shown.{Shown}
-use Rattle.vk_extractor.specs.FirstClash.{WireAgrees}
 use Rattle.vk_board.specs.Values.{AreSealsOf}
 use Rattle.vk_board.specs.Texts.{lanes_text, seal_lines_text}
 use Rattle.vk_reply.specs.declared.challenge.Challenge.{Challenge}
 use Rattle.vk_reply.specs.Texts.{challenge_text}
 use Rattle.vk_reply.specs.Values.{IsChallenge}
 use Rattle.vk_verifier.specs.Statement.{StatementValue}
-use Rattle.vk_verifier.specs.Acceptance.{bit_of, file_text}
+use Rattle.vk_verifier.specs.Acceptance.{file_text}
 use Rattle.vk_bids.specs.declared.bids.LaneBids.{LaneBids}
 use Rattle.vk_bids.specs.declared.extraction.Extraction.TheVariants.{Bids, Clash, Refused, Same}
 use Rattle.vk_bids.specs.declared.lane_extraction.OpenedLanes.{OpenedLanes}
-use Rattle.vk_bids.specs.Gathering.{lane_shown, shown_for}
 use Rattle.vk_bids.specs.Headline.{AgreesAt, HeldAttempt, HeldFiles, IsOpened, TwoAcceptedBehind, differing, lane_of}
-use Rattle.vk_bids.specs.Opening.{AreShownIn, LaneOpens}
 use Rattle.vk_bids.specs.Texts.{has_one_bid}
 use Rattle.vk_bids.proofs.Agreeing.{no_first_clash}
 use Rattle.vk_claim.specs.declared.extraction.OpenedClaim.{OpenedClaim}
@@ -34,13 +28,13 @@ use Rattle.vk_claim.specs.Texts.{claim_front_text, claim_head_text}
 use Rattle.vk_claim.specs.Values.{IsClaimFront, IsClaimHead}
 use Rattle.vk_claim.proofs.Headlines.{claim_files_are_extracted, claims_open}
 use Rattle.vk_keeper.specs.declared.auction.SealRow.{SealRow}
-use Rattle.vk_job.specs.Proofs.{ProofValue, file_of, first_dry_in, lane_shown_in, lanes_in, lanes_shown_from, reply_in, seal_lines_of, source_of}
+use Rattle.vk_job.specs.Proofs.{ProofValue, file_of, first_dry_in, lanes_in, reply_in, seal_lines_of, source_of}
 use Rattle.vk_honest.specs.Answers.{IsSealedProof, statement_in}
-use Rattle.vk_honest.specs.Extracted.{bid_in_lane, rows_in_lane}
-use Rattle.vk_honest.proofs.Accepted.{accepts_proof, shown_at}
-use Rattle.vk_honest.proofs.Differing.{DiffersIn, all_differ, length-differing_turned, turned_differ}
-use Rattle.vk_honest.proofs.Extracted.{bids_same, by_number, equal_in, lane_same, of_numbers}
-use Rattle.vk_honest.proofs.Opened.{shown_agree, shown_either}
+use Rattle.vk_honest.specs.Extracted.{rows_in_lane}
+use Rattle.vk_honest.proofs.Accepted.{accepts_proof}
+use Rattle.vk_honest.proofs.Differing.{length-differing_turned, turned_differ}
+use Rattle.vk_honest.proofs.Extracted.{equal_in}
+use Rattle.vk_honest.proofs.Extracted as replies
 use Rattle.vk_honest.proofs.Sizes.{challenges_are_short}
 use Rattle.vk_report.specs.declared.sample.SampleCase.{SampleCase}
 use Rattle.vk_report.specs.Samples.{IsCaseOf}
@@ -71,82 +65,18 @@ module _ (width : ℕ) (proof : ProofValue) (is : IsSealedProof width proof) (fr
     differ = differ;
   }
 
-  -- a lane whose bits differ is one of the proof, and what is shown of it for a bit is what the
-  -- prover shows for it
-  record IsOpenedLane (lane : ℕ) : Type 0 where
-    some : 1 ≤ lane
-    within : lane ≤ proof.lanes
-    shown : (bit : Bool) → lane_shown bit (lane_of two lane) ≡ lane_shown_in proof lane bit
-
-  opened : (lane : ℕ) → DiffersIn 1 first.bits second.bits lane → IsOpenedLane lane
-  opened lane differs =
-      let number : lane - 1 + 1 ≡ lane = omega (arith, differs.from) in
-      let within : lane ≤ proof.lanes = omega (arith, differs.until, count_first) in
-      let of_first : slice_index_or (lanes_shown_from proof 1 first.bits) (lane - 1) []
-      ≡ lane_shown_in proof lane (bit_of first lane) =
-      shown_at width proof is first right_first count_first (lane - 1)
-      (omega (arith, differs.from, count_first))
-      ∙ ap (λ n. lane_shown_in proof n (bit_of first n)) number in
-      let of_second : slice_index_or (lanes_shown_from proof 1 second.bits) (lane - 1) []
-      ≡ lane_shown_in proof lane (bit_of second lane) =
-      shown_at width proof is second right_second count_second (lane - 1)
-      (omega (arith, differs.from, count_second))
-      ∙ ap (λ n. lane_shown_in proof n (bit_of second n)) number in
-      record {
-        some = differs.from;
-        within = within;
-        shown = λ bit.
-            ap (λ one. shown_for bit (bit_of first lane) one
-            (slice_index_or (lanes_shown_from proof 1 second.bits) (lane - 1) [])) of_first
-            ∙ (ap (λ other. shown_for bit (bit_of first lane)
-            (lane_shown_in proof lane (bit_of first lane)) other) of_second
-            ∙ shown_either (lane_shown_in proof lane) bit (bit_of first lane) (bit_of second lane)
-            differs.bits_differ);
-      }
-
-  all_opened : All IsOpenedLane (differing 1 first.bits second.bits)
-  all_opened = All-weaker (DiffersIn 1 first.bits second.bits) IsOpenedLane opened
-      (differing 1 first.bits second.bits) (all_differ 1 first.bits second.bits)
-
-  -- so what is shown of these lanes for both bits agrees
-  agrees : (lane : ℕ) → IsOpenedLane lane → AgreesAt (lane_of two) lane
-  agrees lane of wire inside =
-      let P : List Shown → Type 0 = λ zeros. WireAgrees zeros (lane_shown_in proof lane true) wire
-      in
-      let Q : List Shown → Type 0 =
-      λ ones. WireAgrees (lane_shown false (lane_of two lane)) ones wire in
-      subst Q (sym (of.shown true))
-      (subst P (sym (of.shown false)) (shown_agree width proof is lane of.some of.within wire))
-
   pub all_agree : All (AgreesAt (lane_of two)) (differing 1 first.bits second.bits)
-  all_agree = All-weaker IsOpenedLane (AgreesAt (lane_of two)) agrees
-      (differing 1 first.bits second.bits) all_opened
-
-  -- the values that are found are those that were sealed
-  lane_is : (lane : LaneBids) → IsOpenedLane lane.number
-      → AreShownIn (lane_shown false (lane_of two lane.number))
-      (lane_shown true (lane_of two lane.number)) lane.bids
-      → LaneOpens (statement_in proof) lane → lane ≡ rows_in_lane proof.rows lane.number
-  lane_is lane of shown opens =
-      let P : List Shown → Type 0 =
-      λ zeros. AreShownIn zeros (lane_shown true (lane_of two lane.number)) lane.bids in
-      let Q : List Shown → Type 0 =
-      λ ones. AreShownIn (lane_shown_in proof lane.number false) ones lane.bids in
-      lane_same lane (map (bid_in_lane lane.number) proof.rows)
-      (bids_same width proof is lane.number of.some of.within lane.bids
-      (subst Q (of.shown true) (subst P (of.shown false) shown))
-      opens.one_each (λ index bid here. (opens.opened index bid here).is_sum))
+  all_agree k d lt wire inside = replies.all_agree width proof is first second right_first
+      count_first right_second count_second k d lt wire
 
   pub lanes_are : (found : OpenedLanes) → IsOpened two found
       → found.lanes ≡ map (rows_in_lane proof.rows) (differing 1 first.bits second.bits)
   lanes_are found right =
-      let opens : All (λ (lane : LaneBids). IsOpenedLane lane.number) found.lanes =
-      of_numbers IsOpenedLane found.lanes
-      (subst (All IsOpenedLane) (sym right.numbers) all_opened) in
-      by_number (rows_in_lane proof.rows) found.lanes
-      (λ k d lt. lane_is (get_or found.lanes k d) (opens k d lt) (right.shown k d lt)
-      (right.opens k d lt))
-      ∙ ap (map (rows_in_lane proof.rows)) right.numbers
+      replies.lanes_are width proof is first second right_first count_first right_second
+      count_second found.lanes right.numbers right.shown (λ k d lt. record {
+        one_each = (right.opens k d lt).one_each;
+        sums = λ index bid here. ((right.opens k d lt).opened index bid here).is_sum;
+      })
 
 -- ---- the claim of a case
 

@@ -23,7 +23,7 @@ use Rattle.vk_sample.specs.Auctions.{DrySeed, OfHouse, auction_with, dry_of, of_
 use Rattle.vk_sample.proofs.Auctions.{AllRows, all_rows, is_auction, none_dry}
 use Rattle.vk_claims.specs.Circuits.{plan_inputs, plan_is_right, plan_of}
 use Rattle.vk_claim_sample.proofs.Shown.{IsShown}
-use Rattle.vk_claim_sample.specs.Claims.{kind_in, proof_by, proof_unless_dry, proof_with, values_of}
+use Rattle.vk_claim_sample.specs.Claims.{kind_in, proof_by, proof_of_parts, proof_unless_dry, proof_with, values_of}
 
 module _ (kind : ClaimKind) (case : SampleCase) (is : IsCase case) (numbers : List ℕ) (shown : IsShown kind case numbers) (rows : List SealRow) (all : AllRows case rows)
     (none : first_dry_in (source_of (proof_with kind case numbers rows)) ≡ None) where
@@ -137,26 +137,11 @@ module _ (kind : ClaimKind) (case : SampleCase) (numbers : List ℕ) (rows : Lis
 
   pub tapes_pass : (values : List ℕ) → values ≡ values_of kind (length case.seats) numbers case.bids
       → Ok tt ≡ dry_refusal (first_dry_in (source_with case rows further))
-      → proof_by kind case numbers
-      ≡ Ok (record {
-        id = case.auction;
-        rows = rows;
-        lanes = case.lanes;
-        seed = case.seed;
-        plan = plan;
-        values = values;
-      })
+      → proof_by kind case numbers ≡ Ok (proof_of_parts case rows plan values)
   unfolding proof_by
   tapes_pass values values_are is =
       let made : PlanValue → List ℕ → Result ProofValue DrySeed =
-      λ p vs. Ok (record {
-        id = case.auction;
-        rows = rows;
-        lanes = case.lanes;
-        seed = case.seed;
-        plan = p;
-        values = vs;
-      }) in
+      λ p vs. Ok (proof_of_parts case rows p vs) in
       ap (λ r. r >>= proof_unless_dry kind case numbers) rows_are
       ∙ dry_passes (proof_with kind case numbers rows)
       (first_dry_in (source_of (proof_with kind case numbers rows))) (of_proof (Ok tt) is)

@@ -7,7 +7,7 @@ use Rattle.vk_job.specs.Proofs.{ProofValue}
 use Rattle.vk_report.specs.declared.sample.SampleCase.{SampleCase}
 use Rattle.vk_words.specs.declared.claim.ClaimKind.{ClaimKind}
 use Rattle.vk_words.specs.declared.claim.ClaimKind.TheVariants.{Uniform, Matching}
-use Rattle.vk_effect.specs.Effects.{Effect, Outside, SaidValue, Stores}
+use Rattle.vk_effect.specs.Effects.{Effect, Outside, SaidValue, Stores, stores}
 use Rattle.vk_effect.specs.Ends.{Acts, Ends}
 use Rattle.vk_sample.specs.Auctions.{DrySeed}
 use Rattle.vk_sample.specs.Samples.{effect_unless_dry, modelled_effect}
@@ -60,6 +60,19 @@ Freely Matching number files ledger Stands (Err stop) old new =
 -- what is done but for printing, and the whole command
 abbrev pub ActsFreely : ClaimKind → ℕ → Result SaidValue OutsideErr → Stores → Stores → Type 0
 ActsFreely kind number answer old new = Freely kind number old.files old.ledger Acts answer old new
+
+-- it acted as the one effect of its kind, or freely
+pub record ActsSo (kind : ClaimKind) (number : ℕ) (answer : Result SaidValue OutsideErr)
+    (old new : Stores) : Type 0 where
+  pub acts : IfSome (claim_sample_on old.files old.ledger kind number)
+      (λ effect. Acts answer effect old new)
+  pub free : ActsFreely kind number answer old new
+
+-- the same over files, with any ledger
+abbrev pub ActsOn : ClaimKind → ℕ → Result SaidValue OutsideErr → Option Files → Option Files
+    → Type 0
+ActsOn kind number answer old new =
+    (ledger : Option Ledger) → ActsSo kind number answer (stores old ledger) (stores new ledger)
 
 abbrev pub EndsFreely : ClaimKind → ℕ → Result ℕ OutsideErr → Outside → Outside → Type 0
 EndsFreely kind number answer old new = Freely kind number old.files old.ledger Ends answer old new

@@ -1,6 +1,6 @@
-use Rattle.std.proofs.Common.{◌≡◌, ◌-◌, [], length, Err, rules, ap, arith, refl}
+use Rattle.std.proofs.Common.{◌≡◌, ◌-◌, length, Err, rules, ap, arith, refl}
 use Rattle.vk_prover.proofs.Wires.{inputs_within}
-use Rattle.vk_sample.specs.Auctions.{dry_of, of_job, rows_onto}
+use Rattle.vk_sample.specs.Auctions.{dry_of, of_job}
 use Rattle.vk_sample.proofs.Auctions.{all_rows}
 use Rattle.vk_sample.proofs.Rows.{bind_refuses}
 use Rattle.vk_claim_sample.proofs.Proofs.{tapes_pass, tapes_refuse}
@@ -10,10 +10,8 @@ use Rattle.vk_claim_sample.proofs.making.make_claim.Goals as goal
 pub returns-in_err-rows : goal.returns-in_err-rows
 unfolding proof_by
 returns-in_err-rows c =
-    let refused = c.in_err-rows.field-0.0 in
-    let is : c.from_residual.result ≡ Err refused = search rules in
-    rw is (bind_refuses (dry_of refused)
-    (rows_onto c.args.case.now [] (length c.args.case.now.seats))
+    let is : c.from_residual.result ≡ Err c.in_err-rows.field-0.0 = search rules in
+    rw is (bind_refuses (dry_of c.in_err-rows.field-0.0) _
     (proof_unless_dry c.args.kind c.args.case.now c.args.numbers.now) c.in_err-rows.ensures)
 
 pub overflow_sub-wires : goal.overflow_sub-wires

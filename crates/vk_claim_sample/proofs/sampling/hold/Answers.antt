@@ -2,12 +2,12 @@ use Rattle.std.proofs.Common.{string_bytes}
 use Rattle.std.specs.List.{flat_map}
 use Rattle.std.proofs.lemmas.Result.{err_from_is_err_and}
 use Rattle.vk_effect.specs.Effects.{stores}
-use Rattle.vk_sample.proofs.Acting.{holding_done, reading_stopped, stopped_first, writing_stopped}
-use Rattle.vk_claim_sample.proofs.Acting.{reads_back}
+use Rattle.vk_sample.proofs.Acting.{stopped_first, writing_stopped}
+use Rattle.vk_claim_sample.proofs.Acting.{read_acts}
 use Rattle.vk_claim_sample.proofs.Proofs.{is_honest}
 use Rattle.vk_claim_sample.proofs.Shown.{is_shown}
 use Rattle.vk_claim_sample.specs.Claims.{proof_in}
-use Rattle.vk_claim_sample.specs.Texts.{claim_read, files_of, read_said, summary_said}
+use Rattle.vk_claim_sample.specs.Texts.{files_of, summary_said}
 use Rattle.vk_claim_sample.proofs.sampling.hold.Goals as goal
 
 pub returns-in_err-lines-clause-acts : goal.returns-in_err-lines-clause-acts
@@ -26,32 +26,15 @@ returns-in_err-write_claim-clause-acts g c =
     (g.S.Shelf.held c.args.shelf.now) (g.S.Shelf.held c.write_claim.new.shelf) p.0
     c.in_err-write_claim.ensures.written)
 
-pub returns-in_err-said-clause-acts : goal.returns-in_err-said-clause-acts
-returns-in_err-said-clause-acts g c =
-    let proof = proof_in c.args.case.now c.args.made.now in
-    let p = err_from_is_err_and c.from_residual-in_err-said.result
-    c.from_residual-in_err-said.ensures.1 in
-    rw p.1
-    (λ ledger. reading_stopped (files_of c.args.kind c.args.case.now c.args.numbers.now proof)
-    (summary_said c.args.kind c.args.number proof) ledger
-    (g.S.Shelf.held c.args.shelf.now) (g.S.Shelf.held c.write_claim.new.shelf)
-    (g.S.Shelf.held c.read_back.new.shelf) p.0
-    c.in_ok-write_claim.ensures.written c.in_err-said.ensures.shelf.held)
-
 pub returns-clause-acts : goal.returns-clause-acts
 returns-clause-acts g c = λ ledger.
-    let case = c.args.case.now in
-    let numbers = c.args.numbers.now in
-    let proof = proof_in case c.args.made.now in
-    let text = flat_map string_bytes c.in_ok-lines.lines.items in
-    holding_done (files_of c.args.kind case numbers proof)
-    (summary_said c.args.kind c.args.number proof) ledger
-    (λ files. read_said text (claim_read files))
-    (reads_back c.args.kind case c.requires.right numbers c.requires.published proof c.requires.made
-    c.args.number text c.in_ok-lines.ensures)
+    read_acts c.args.kind c.args.case.now c.requires.right c.args.numbers.now
+    c.requires.published (proof_in c.args.case.now c.args.made.now) c.requires.made
+    c.args.number (flat_map string_bytes c.in_ok-lines.lines.items) c.in_ok-lines.ensures ledger
     (g.S.Shelf.held c.args.shelf.now) (g.S.Shelf.held c.write_claim.new.shelf)
-    (g.S.Shelf.held c.read_back.new.shelf) c.in_ok-said.said
-    c.in_ok-write_claim.ensures.written c.in_ok-said.ensures.shelf.held c.in_ok-said.ensures.said
+    (g.S.Shelf.held c.read_back-said.new.shelf) c.read_back-said.result
+    c.in_ok-write_claim.ensures.written c.read_back-said.ensures.shelf.held
+    c.read_back-said.ensures.said
 
 pub write_claim-requires-clause-right : goal.write_claim-requires-clause-right
 write_claim-requires-clause-right g c =
