@@ -2,6 +2,7 @@
 use Rattle.std.proofs.Common.{◌≡◌, ℕ, ◌+◌, ◌-◌, ◌*◌, ◌^◌, ◌<◌, List, ◌∷◌, length, sym, ap, subst, ◌∙◌, arith}
 use Rattle.std.specs.Prelude.{All}
 use Rattle.std.proofs.lemmas.List.Elements.{All-weaker, recursion_from_All}
+use Rattle.vk_matching.specs.Circuits as ranked
 use Rattle.vk_matching.specs.MatchingLaws.{matching_rows, matching_wires}
 use Rattle.vk_matching.specs.MatchingPlans.{IsMatchingCase, IsMatchingClaim, matching_plan, row_count, wire_count}
 use Rattle.vk_matching.specs.Stability.{IsPermutation, IsPerson, IsStable}
@@ -9,6 +10,7 @@ use Rattle.vk_claim.specs.Values.{AreNumbers}
 use Rattle.vk_report.specs.declared.sample.SampleCase.{SampleCase}
 use Rattle.vk_report.specs.Samples.{IsCaseOf}
 use Rattle.vk_words.specs.declared.claim.ClaimKind.TheVariants.{Matching}
+use Rattle.vk_claim_sample.proofs.Circuits.{IsOfKind}
 use Rattle.vk_claim_sample.specs.Claims.{IsMatchingOf, couples, sizes_of}
 
 module _ (case : SampleCase) (is : IsCaseOf (sizes_of Matching) case) (matching : List ℕ) (permutes : IsPermutation couples matching) (stable : IsStable couples case.bids matching) where
@@ -82,3 +84,6 @@ module _ (case : SampleCase) (is : IsCaseOf (sizes_of Matching) case) (numbers :
       matching_rows (length case.seats) numbers is_case
       ∙ ap (λ ns. row_count ns) of.numbers_are
       ∙ ap rows_with of.permutation.one_each
+
+pub circuit : IsOfKind ranked.inputs_of ranked.numbers_of IsMatchingCase IsMatchingClaim Matching
+circuit = record { case_is = is_case; claim_is = is_claim }

@@ -5,6 +5,7 @@ use Rattle.std.proofs.lemmas.Bool.{cases_lt}
 use Rattle.std.proofs.Math.Nat.{pow-le-pow_right}
 use Rattle.std.proofs.lemmas.List.Elements.{All-weaker, recursion_from_All}
 use Rattle.std.proofs.lemmas.Nat.{mul-le, pow_pos}
+use Rattle.vk_uniform.specs.Circuits as uniform
 use Rattle.vk_uniform.specs.Outcomes.{IsLoser, IsPositionAmong, IsUniformOutcome, bid_at}
 use Rattle.vk_uniform.specs.Losers.{loser_listed, losers, losers_lose}
 use Rattle.vk_uniform.specs.OutcomeLaws.{outcome_exists, outcome_is_one}
@@ -14,6 +15,7 @@ use Rattle.vk_claim.specs.Values.{AreNumbers}
 use Rattle.vk_report.specs.declared.sample.SampleCase.{SampleCase}
 use Rattle.vk_report.specs.Samples.{IsCaseOf}
 use Rattle.vk_words.specs.declared.claim.ClaimKind.TheVariants.{Uniform}
+use Rattle.vk_claim_sample.proofs.Circuits.{IsOfKind}
 use Rattle.vk_claim_sample.specs.Claims.{IsSaleOf, claim_case, enough_bids, numbers_of, sizes_of, some_unit, units}
 
 -- the price is a loser's bid, or 0
@@ -139,6 +141,9 @@ module _ (case : SampleCase) (is : IsCaseOf (sizes_of Uniform) case) (numbers : 
       at_most_one : (test : Bool) → (if test then 0 else 1) ≤ 1
       at_most_one true = omega arith
       at_most_one false = omega arith
+
+pub circuit : IsOfKind uniform.inputs_of uniform.numbers_of IsUniformCase IsUniformClaim Uniform
+circuit = record { case_is = is_case; claim_is = is_claim }
 
 -- they are those of the number
 pub numbers_are : (number : ℕ) (case : SampleCase) (numbers : List ℕ)
