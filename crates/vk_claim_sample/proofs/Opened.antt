@@ -1,5 +1,5 @@
 -- What a sample's claim writes is accepted, and read back it opens every value.
-use Rattle.std.proofs.Common.{◌≡◌, ◌≢◌, ℕ, ◌+◌, ◌≤◌, All, true, List, [], ◌∷◌, ◌++◌, length, map, codes, flat_map, None, Ok, refl, sym, ap, subst, ◌∙◌, append_assoc, arith}
+use Rattle.std.proofs.Common.{◌≡◌, ◌≢◌, ℕ, ◌≤◌, All, true, List, [], ◌∷◌, ◌++◌, length, map, codes, flat_map, None, Ok, refl, sym, ap, subst, ◌∙◌, append_assoc, arith}
 use Rattle.std.specs.FinMap.{insert}
 use Rattle.std.proofs.lemmas.List.{length-map}
 use Rattle.vk_io.specs.Files.{Files}
