@@ -12,6 +12,7 @@ def script(name):
 
 
 SHOWN = script("shown")
+TRIES = 20  # to stop a sample before it is over
 
 
 class Shown:
@@ -78,6 +79,20 @@ class Desk:
         self.fill(tool, **fields)
         self.browser.click(f"#{tool}-run")
         return self.shown(tool)
+
+    def stop_sample(self, before=lambda: None):
+        """Stops a sample: what `before` said, what was noted as it was stopped, and what is shown.
+
+        Where one is over before it can be stopped, as in a fast browser, the next one is."""
+        self.run(script("stops"))
+        for _ in range(TRIES):
+            said = before()
+            self.browser.click("#sample-run")
+            shown = self.shown("sample")
+            noted = self.run("return window.stopped")
+            if noted:
+                return said, noted, shown
+        raise AssertionError("each sample was over before it could be stopped")
 
     def save(self, tool, name):
         """Follows a link that saves a file, and answers its bytes."""

@@ -316,22 +316,9 @@ def real_drops_are_taken(desk):
 def work_can_be_stopped(desk):
     """What runs is stopped at once, and the next piece of work goes on."""
     desk.open("audit").fill("sample", kind="board", number=3)
-    # The page itself stops it as soon as it can be stopped, which no slow browser misses.
-    desk.run(
-        "new MutationObserver((_, watcher) => {"
-        "  const row = document.querySelector('#sample-work .row');"
-        "  if (row.hidden) { return; }"
-        "  watcher.disconnect();"
-        "  const bar = row.querySelector('progress');"
-        "  window.seen = [bar.value, bar.max];"
-        "  row.querySelector('button').click();"
-        "}).observe(document.querySelector('#sample-work'), {subtree: true, attributes: true})"
-    )
-    desk.browser.click("#sample-run")
-    desk.browser.wait("return Boolean(window.seen)")
-    bar = desk.run("return window.seen")
-    assert 0 <= bar[0] <= 0.97 and bar[1] == 1, bar
-    shown = desk.shown("sample")
+    _, noted, shown = desk.stop_sample()
+    value, most = noted["bar"]
+    assert 0 <= value <= 0.97 and most == 1, noted
     assert shown.title == "Stopped. Nothing was found out." and not shown.said, shown
     assert desk.run("return document.activeElement.id") == "sample-run"
     assert desk.use("derive", board=["board"]).said.status == 0

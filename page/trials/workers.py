@@ -67,15 +67,9 @@ def a_worker_stands_ready(desk):
 def the_ready_one_is_stopped(desk):
     """Work in the Worker that stood ready is stopped at once, and the next goes on in another."""
     desk.open("audit").fill("sample", kind="board", number=3)
-    spare = ready(desk)
-    desk.browser.click("#sample-run")
-    desk.browser.wait("return document.querySelector('#sample-work .row').hidden === false")
-    assert state(desk, spare) == [["sample"], False], desk.run(ALL)
-    desk.run(
-        "document.querySelector('#sample-work .row button').click();"
-        "if (!workers[arguments[0]].ended) throw new Error('it goes on')",
-        spare,
-    )
+    spare, noted, _ = desk.stop_sample(lambda: ready(desk))
+    assert noted["before"][spare] == [["sample"], False], noted
+    assert noted["after"][spare] == [["sample"], True], "it goes on"
     assert desk.use("derive", board=["board"]).said.status == 0
 
 
