@@ -1,2 +1,3 @@
 pub mod PaddedMessages
 pub mod Lanes
+pub mod Majority

@@ -3,17 +3,17 @@ ghost use Rattle.std.specs.Prelude.{◌≡◌, ◌<◌, ℕ, map};
 ghost use Rattle.sha2.specs.Sha256.{digest_bytes, initial_hash_256, sha256};
 ghost use Rattle.vk_digests.specs.Lanes.{lane};
 
-use crate::blocks::{block_words, first_blocks, last_blocks};
+use crate::blocks::{first_words, last_word};
 use crate::constants::INITIAL_HASH;
-use crate::rounds::compress;
+use crate::rounds::{compress, compress_last};
 use std::simd::u32x4;
 
 /// The SHA-256 digest (FIPS 180-4, 6.2) of each of four messages of 68 bytes.
 pub fn digests(messages: &[[u8; 68]; 4]) -> [[u8; 32]; 4]
     ensures { result ≡ map sha256 messages.now }
 {
-    let first = compress(initial_hash(), block_words(&first_blocks(messages)));
-    let hash = compress(first, block_words(&last_blocks(messages)));
+    let first = compress(initial_hash(), first_words(messages));
+    let hash = compress_last(first, last_word(messages));
     [
         digest(&hash, 0),
         digest(&hash, 1),

@@ -31,13 +31,14 @@ fn ch(x: u32x4, y: u32x4, z: u32x4) -> u32x4
     (x & y) ^ (!x & z)
 }
 
+/// Maj in four operations, where the standard writes five.
 #[inline(always)]
-#[tactic(auto, using(crate::proofs::Lanes::lanes))]
+#[tactic(auto, using(crate::proofs::Lanes::lanes, crate::proofs::Majority::maj_in_four))]
 fn maj(x: u32x4, y: u32x4, z: u32x4) -> u32x4
     ensures { (j : ℕ) → j < 4
         → slice_index result j ≡ maj (slice_index x j) (slice_index y j) (slice_index z j) }
 {
-    (x & y) ^ (x & z) ^ (y & z)
+    (x & (y ^ z)) ^ (y & z)
 }
 
 #[inline(always)]

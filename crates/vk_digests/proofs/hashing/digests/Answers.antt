@@ -1,5 +1,5 @@
-use Rattle.std.proofs.Common.{◌≡◌, ◌<◌, ℕ, List, [], ◌∷◌, length, map, slice_index_or, ap₂, ◌∙◌, arith}
-use Rattle.sha2.specs.Sha256.{compress, sha256}
+use Rattle.std.proofs.Common.{◌≡◌, ◌<◌, ℕ, List, [], ◌∷◌, length, map, take, drop, slice_index_or, ap, ◌∙◌, arith}
+use Rattle.sha2.specs.Sha256.{compress, padded_message, sha256}
 use Rattle.vk_digests.specs.Lanes.{lane}
 use Rattle.vk_digests.proofs.PaddedMessages.{Hash, digest_of_hash}
 use Rattle.vk_digests.proofs.hashing.digests.Goals as goal
@@ -19,15 +19,15 @@ mapped_four f (w ∷ x ∷ y ∷ z ∷ v ∷ rest) four a b c d at_a at_b at_c a
 pub returns : goal.returns
 returns c =
     let messages = c.args.messages.now in
+    let sizes = c.last_word.ensures.sizes in
     let hashed : (j : ℕ) → j < 4
-    → Hash (slice_index_or messages j []) (lane j c.compress-hash.result) =
+    → Hash (slice_index_or messages j []) (lane j c.compress_last-hash.result) =
     λ j lt.
-    let first = c.compress-first.ensures j lt _ (c.block_words.ensures j lt) in
-    let last = c.compress-hash.ensures j lt _ (c.block_words-2.ensures j lt) in
-    last ∙ ap₂ compress (first
-    ∙ ap₂ compress (c.initial_hash.ensures j lt) (c.first_blocks.ensures j lt))
-    (c.last_blocks.ensures.blocks j lt) in
-    let sizes = c.last_blocks.ensures.sizes in
+    let first = c.compress-first.ensures j lt _ (c.first_words.ensures j lt (sizes j lt)) in
+    let last = c.compress_last-hash.ensures j lt _ (sizes j lt) (c.last_word.ensures.words j lt) in
+    last ∙ ap (λ hash. compress hash (drop 64 (padded_message (slice_index_or messages j []))))
+    (first ∙ ap (λ hash. compress hash (take 64 (padded_message (slice_index_or messages j []))))
+    (c.initial_hash.ensures j lt)) in
     mapped_four sha256 messages c.told-messages _ _ _ _
     (c.digest.ensures ∙ digest_of_hash _ _ (sizes 0 (omega arith)) (hashed 0 (omega arith)))
     (c.digest-2.ensures ∙ digest_of_hash _ _ (sizes 1 (omega arith)) (hashed 1 (omega arith)))
