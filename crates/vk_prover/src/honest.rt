@@ -29,6 +29,27 @@ pub fn make_lane(
     ensures { IfOk result
         (λ lines. lines ≡ honest_lane plan.now auction.now lane values.now tape.now.wires) }
 {
+    let table = RowTable::of(alloc, plan)?;
+    let lines = make_lane_with(alloc, plan, &table, auction, lane, values, tape)?;
+    Ok(lines)
+}
+
+/// The same with a table of the plan's rows, which serves for every lane of the plan.
+pub fn make_lane_with(
+    alloc: Global,
+    plan: &Plan,
+    table: &RowTable,
+    auction: &[u8; 16],
+    lane: u16,
+    values: &[Residue],
+    tape: &LaneTape,
+) -> Result<LaneLines, NoMemory>
+    requires holds { Holds plan.now values.now }
+    requires one_each { length tape.now.wires ≡ length plan.now.kinds }
+    requires table { table.now ≡ plan.now.rows }
+    ensures { IfOk result
+        (λ lines. lines ≡ honest_lane plan.now auction.now lane values.now tape.now.wires) }
+{
     let wires = LaneWires {
         plan,
         auction,
@@ -38,7 +59,7 @@ pub fn make_lane(
     };
     let coms = commit_wires(alloc, &wires)?;
     let firsts = first_halves(alloc, tape)?;
-    let posted = post_rows(alloc, plan, firsts.as_slice())?;
+    let posted = post_rows(alloc, plan, table, firsts.as_slice())?;
     Ok(LaneLines { coms, posted })
 }
 
@@ -56,11 +77,11 @@ pub fn answer_lane(
     ensures { IfOk result (λ shown. shown
         ≡ honest_reply plan.now.kinds values.now tape.now.wires bit) }
 {
-    let mut shown = Seq::new(alloc);
+    let mut shown = Vec::with_capacity(alloc, values.len())?;
     for wire in 0..plan.wires() {
         shown.push(show_wire(plan, values, tape, bit, wire))?;
     }
-    Ok(shown)
+    Ok(Seq::from_vec(shown))
 }
 
 /// The wires of a lane, to be made: its plan, auction and number, and the values and secret choices
@@ -87,7 +108,7 @@ fn commit_wires(alloc: Global, wires: &LaneWires) -> Result<Seq<WireCom>, NoMemo
 {
     let inputs = wires.plan.inputs();
     let count = wires.plan.wires() - inputs;
-    let mut coms = Seq::new(alloc);
+    let mut coms = Vec::with_capacity(alloc, count as usize)?;
     for two in 0..count / 2 {
         let wire = inputs + 2 * two;
         let first = honest_wire(wires, wire);
@@ -100,7 +121,7 @@ fn commit_wires(alloc: Global, wires: &LaneWires) -> Result<Seq<WireCom>, NoMemo
         let last = honest_wire(wires, wires.plan.wires() - 1);
         coms.push(make(last.kind, &last.place, last.value, &last.tape))?;
     }
-    Ok(coms)
+    Ok(Seq::from_vec(coms))
 }
 
 /// One wire after the inputs, to be made.
@@ -142,7 +163,7 @@ fn show_wire(plan: &Plan, values: &[Residue], tape: &LaneTape, bit: bool, wire: 
 fn first_halves(alloc: Global, tape: &LaneTape) -> Result<Vec<Residue>, NoMemory>
     ensures { IfOk result (λ firsts. firsts.items ≡ masks tape.now.wires) }
 {
-    let mut firsts = Vec::new(alloc);
+    let mut firsts = Vec::with_capacity(alloc, tape.wires.len())?;
     for wire in tape.wires.as_slice() {
         firsts.push(wire.mask)?;
     }
@@ -150,14 +171,19 @@ fn first_halves(alloc: Global, tape: &LaneTape) -> Result<Vec<Residue>, NoMemory
 }
 
 /// What is posted for each row.
-fn post_rows(alloc: Global, plan: &Plan, firsts: &[Residue]) -> Result<Seq<Residue>, NoMemory>
-    requires { length firsts.now ≡ length plan.now.kinds }
+fn post_rows(
+    alloc: Global,
+    plan: &Plan,
+    table: &RowTable,
+    firsts: &[Residue],
+) -> Result<Seq<Residue>, NoMemory>
+    requires table { table.now ≡ plan.now.rows }
+    requires firsts { length firsts.now ≡ length plan.now.kinds }
     ensures { IfOk result (λ numbers. numbers ≡ map (posted_on firsts.now) plan.now.rows) }
 {
-    let table = RowTable::of(alloc, plan)?;
-    let mut numbers = Seq::new(alloc);
+    let mut numbers = Vec::with_capacity(alloc, plan.rows() as usize)?;
     for row in 0..plan.rows() {
         numbers.push(table.sum(row, firsts))?;
     }
-    Ok(numbers)
+    Ok(Seq::from_vec(numbers))
 }

@@ -62,8 +62,26 @@ pub fn draw_tape<W: Words>(
     ensures tape { IfOk result (λ tape. IsTapeOf plan.now tape.wires) }
     ensures memory { IsErrOf result DrawErr.NoMemory → W.ahead words.new ≡ W.ahead words.old }
 {
-    let wires = copied(alloc, given, plan.wires())?;
-    let wires = draw_onto(wires, plan.wires() - plan.inputs(), &WireDraw, words)?;
+    let tape = draw_wires(alloc, given, plan.wires() - plan.inputs(), words)?;
+    Ok(tape)
+}
+
+/// The same by how many wires follow the inputs, where no plan is at hand.
+pub fn draw_wires<W: Words>(
+    alloc: Global,
+    given: &[WireTape],
+    further: u32,
+    words: &mut W,
+) -> Result<LaneTape, DrawErr>
+    requires { length given.now + further < 2 ^ 32 }
+    ensures drawn { TapeAnswer result (drawn_tape given.now further (W.ahead words.old)) }
+    ensures after { TapeWords result (W.ahead words.new) (after_wires further (W.ahead words.old)) }
+    ensures count { IfOk result (λ tape. length tape.wires ≡ length given.now + further) }
+    ensures tapes { IfOk result (λ tape. All IsTape tape.wires) }
+    ensures memory { IsErrOf result DrawErr.NoMemory → W.ahead words.new ≡ W.ahead words.old }
+{
+    let wires = copied(alloc, given, given.len() as u32 + further)?;
+    let wires = draw_onto(wires, further, &WireDraw, words)?;
     Ok(LaneTape {
         wires: Seq::from_vec(wires),
     })
