@@ -1,6 +1,6 @@
 -- The tape of each lane of a proof is a tape for its plan.
-use Rattle.std.proofs.Common.{◌≡◌, ℕ, zero, suc, ◌-◌, ◌<◌, ◌≤◌, All, List, ◌++◌, length, Option, Some, None, Ok, refl, sym, ap, ◌∙◌, subst, arith, inl, inr}
-use Rattle.std.specs.Prelude.{slice_index, option_map}
+use Rattle.std.proofs.Common.{◌≡◌, ℕ, zero, suc, ◌+◌, ◌-◌, ◌<◌, ◌≤◌, All, List, ◌++◌, length, Option, Some, None, Ok, refl, sym, ap, ◌∙◌, subst, arith, inl, inr}
+use Rattle.std.specs.Prelude.{slice_index, slice_index_or, option_map}
 use Rattle.std.specs.Int.{w64, bytes_high_first, byte_at, to_be_bytes}
 use Rattle.std.proofs.lemmas.Bool.{cases_lt}
 use Rattle.std.proofs.lemmas.Bool.Decides.{nat_tests}
@@ -12,6 +12,7 @@ use Rattle.vk_dice.specs.Words.{later}
 use Rattle.vk_dice.specs.Draws.{drawn_by, first_of, residue_within, drawn_residue, after_residue, drawn_key}
 use Rattle.vk_dice.specs.Stream.{word_at}
 use Rattle.vk_dice.proofs.Drawing.{drawn_each}
+use Rattle.vk_range.specs.SetLaws.{at_listed, length_listed}
 use Rattle.vk_wire.specs.Values.{IsTape}
 use Rattle.vk_wire.specs.declared.wire.WireTape.{WireTape}
 use Rattle.vk_seal.specs.Made.{seal_of}
@@ -19,12 +20,14 @@ use Rattle.vk_seal.specs.Values.{IsXTape, wire_tape}
 use Rattle.vk_seal.proofs.SealsMatch.{match_exact}
 use Rattle.vk_seal.proofs.Tapes.{length-lane_coms}
 use Rattle.vk_extractor.specs.Confronting.{no_tape, tape_in}
+use Rattle.vk_prover.specs.declared.tape.LaneTape.{LaneTape}
 use Rattle.vk_prover.specs.Drawn.{drawn_wire, wire_drawing, wire_with}
 use Rattle.vk_prover.specs.Laws.{IsTapeOf}
 use Rattle.vk_prover.proofs.Wires.{inputs_within}
 use Rattle.vk_keeper.specs.declared.auction.SealRow.{SealRow}
 use Rattle.vk_keeper.specs.Auctions.{IsSealRow}
-use Rattle.vk_job.specs.Proofs.{ProofValue, source_of, given_in, drawn_in, tape_or_none, lane_tape_in, HasTapesFor, IsProof}
+use Rattle.vk_job.specs.declared.proof.Prepared.{Prepared}
+use Rattle.vk_job.specs.Proofs.{ProofValue, TapeSource, source_of, given_in, drawn_in, tape_or_none, tape_at, tapes_in, lane_tape_in, HasTapesFor, IsPrepared, IsProof}
 use Rattle.vk_job.proofs.Dry.{tapes_of_none}
 
 -- ---- what is drawn of words
@@ -139,3 +142,21 @@ lane_tape_is proof lane right some last =
     let drawn = tapes_of_none (source_of proof) right.none_dry lane some last in
     subst (IsTapeOf proof.plan) (sym (ap tape_or_none drawn.1))
     (drawn_is_tape proof lane drawn.0 right some last drawn.1)
+
+-- ---- the tapes of all lanes
+
+pub one_tape_each : (source : TapeSource) (tapes : List LaneTape) → tapes ≡ tapes_in source
+    → length tapes ≡ source.lanes
+one_tape_each source tapes are = ap length are ∙ length_listed (tape_at source) source.lanes
+
+-- that which stands at a lane's place is the lane's
+pub prepared_tape : (proof : ProofValue) (made : Prepared) (tapes : List LaneTape) (lane : ℕ)
+    (tape : LaneTape) → IsPrepared proof made → tapes ≡ made.tapes → 1 ≤ lane → lane ≤ proof.lanes
+    → tape ≡ slice_index_or tapes (lane - 1) tape → tape.wires ≡ lane_tape_in proof lane
+prepared_tape proof made tapes lane tape is are some last here =
+    let source = source_of proof in
+    let back : lane - 1 + 1 ≡ lane = omega arith in
+    let stands = here ∙ ap (λ all. slice_index_or all (lane - 1) tape) (are ∙ is.tapes)
+    ∙ at_listed (tape_at source) source.lanes (lane - 1) tape (omega arith) in
+    ap (λ found. found.wires) stands
+    ∙ ap (lane_tape_in proof) back

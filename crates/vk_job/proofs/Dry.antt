@@ -1,5 +1,5 @@
 -- The first wire that is dry: what is computed lane by lane is that.
-use Rattle.std.proofs.Common.{◌≡◌, ℕ, zero, suc, ◌+◌, ◌-◌, ◌<◌, ◌≤◌, ◌↔◌, List, Option, Some, None, Result, Ok, Err, refl, sym, ap, ◌∙◌, subst, arith, inl, inr}
+use Rattle.std.proofs.Common.{◌≡◌, ℕ, zero, suc, ◌+◌, ◌-◌, ◌<◌, ◌≤◌, ◌↔◌, ◌⊎◌, List, Option, Some, None, Result, Ok, Err, refl, sym, ap, ◌∙◌, subst, arith, inl, inr}
 use Rattle.std.specs.Prelude.{length, option_map}
 use Rattle.std.specs.Result.{result_err}
 use Rattle.std.proofs.lemmas.Bool.{cases_lt}
@@ -11,7 +11,8 @@ use Rattle.vk_prover.specs.Drawn.{dry_wire}
 use Rattle.vk_prover.proofs.Drawing.{dry_of_tape}
 use Rattle.vk_wire.specs.declared.wire.WireTape.{WireTape}
 use Rattle.vk_job.specs.declared.errors.JobErr.{JobErr}
-use Rattle.vk_job.specs.Answers.{dry_refusal}
+use Rattle.vk_job.specs.declared.errors.JobErr.TheVariants as job
+use Rattle.vk_job.specs.Answers.{TapesOr, dry_refusal}
 use Rattle.vk_job.specs.Proofs.{TapeSource, Dry, dry_or, given_in, drawn_in, first_dry_from, first_dry_in, IsDrawnIn, IsFirstDryIn}
 
 -- the lane has a tape, or is dry
@@ -173,6 +174,32 @@ lane_refusal source lane inputs ahead inputs_are words =
     (dry_wire (length source.rows) source.further w))) words
     ∙ ap dry_refusal (ap (option_map (λ wire. record { lane = lane; wire = wire }))
     (sym (of_lane source lane)) ∙ sym (found_dry (drawn_in source lane) lane))
+
+-- ---- what is told of all lanes
+
+-- the first wire that is dry, whatever is said where memory is refused
+pub refusal_told : (source : TapeSource) (Refused : Type 0) (refused : JobErr) (found : Option Dry)
+    → first_dry_in source ≡ found → dry_refusal found ≡ Err refused
+    → TapesOr Refused (Err refused) source
+refusal_told source Refused refused None is told = cc told
+refusal_told source Refused (job.DrySeed lane wire) (Some dry) is told =
+    let lanes : dry.lane ≡ lane = cc in
+    let wires : dry.wire ≡ wire = cc in
+    let make : ℕ → ℕ → Option Dry = λ l w. Some (record { lane = l; wire = w }) in
+    is ∙ ap (λ l. make l dry.wire) lanes ∙ ap (make lane) wires
+refusal_told source Refused job.NoMemory (Some dry) is told = cc told
+
+-- that of the first lane that is left
+pub lane_told : (source : TapeSource) (lane left : ℕ) (refused : JobErr) → 0 < left
+    → ((refused ≡ job.NoMemory)
+    ⊎ (dry_refusal (dry_or (drawn_in source lane) lane None) ≡ Err refused))
+    → first_dry_from source lane left ≡ first_dry_in source
+    → TapesOr (Unit {0}) (Err refused) source
+lane_told source lane left refused some (inl memory) so_far =
+    subst (λ e. TapesOr (Unit {0}) (Err e) source) (sym memory) tt
+lane_told source lane left refused some (inr dry) so_far =
+    refusal_told source (Unit {0}) refused (first_dry_in source) refl
+    (dry_stop source lane left (first_dry_in source) refused some dry so_far)
 
 -- ---- in all lanes
 

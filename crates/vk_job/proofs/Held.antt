@@ -5,7 +5,7 @@ use Rattle.std.proofs.lemmas.Bool.{cases_eq}
 use Rattle.std.proofs.lemmas.List.{length-map}
 use Rattle.std.proofs.lemmas.List.Elements.{All-map, All-weaker}
 use Rattle.vk_residue.specs.Residue.{IsResidue}
-use Rattle.vk_plan.specs.Plans.{IsPlan, Holds}
+use Rattle.vk_plan.specs.Plans.{PlanValue, IsPlan, Holds}
 use Rattle.vk_vickrey.specs.declared.sales.Sale.{Sale}
 use Rattle.vk_vickrey.specs.declared.sales.Sale.TheVariants.{Sold}
 use Rattle.vk_vickrey.specs.Sales.{IsSold, IsSale}
@@ -14,9 +14,12 @@ use Rattle.vk_vickrey.specs.ReservePlans.{IsReserveCase}
 use Rattle.vk_vickrey.specs.BoardPlans.{BoardNumbers, BoardClaim, IsBoardCase, board_numbers, board_plan, board_values, board_wire_count, board_row_count}
 use Rattle.vk_vickrey.specs.BoardLaws.{board_complete, board_inputs, board_is_plan, board_rows, board_wires, of_plans}
 use Rattle.vk_keeper.specs.declared.auction.Auction.{Auction}
+use Rattle.vk_keeper.specs.declared.auction.SealRow.{SealRow}
 use Rattle.vk_keeper.specs.Auctions.{IsAuction, IsSealRow, seed_of}
 use Rattle.vk_job.specs.Outcome.{outcome_of, sale_of}
-use Rattle.vk_job.specs.Proofs.{HasTapesFor, IsProof, first_dry_in, source_of}
+use Rattle.vk_job.specs.declared.proof.Prepared.{Prepared}
+use Rattle.vk_job.specs.JobValues.{IsJob}
+use Rattle.vk_job.specs.Proofs.{HasTapesFor, IsPrepared, IsProof, ProofValue, first_dry_in, prepared_proof, source_of, tapes_in}
 use Rattle.vk_job.specs.Jobs.{bids_of, numbers_in, plan_of, sale_in, values_of, proof_of, proof_with, seed_in, IsProvedAuction}
 use Rattle.vk_job.proofs.Drawing.{lanes_of}
 use Rattle.vk_job.proofs.Sales as sales
@@ -187,6 +190,13 @@ module _ (auction : Auction) (one : auction.version ≡ 1) (none : auction.reser
 
 -- ---- its proof
 
+-- a secret has a tape for each lane of its seal
+pub have_tapes : (id : List ℕ) (width lanes : ℕ) (rows : List SealRow)
+    → All (IsSealRow id width lanes) rows → All (HasTapesFor lanes) rows
+have_tapes id width lanes rows right =
+    All-weaker (IsSealRow id width lanes) (HasTapesFor lanes)
+    (λ row is. record { count = lanes_of id width lanes row is; each = is.secret.tapes }) rows right
+
 -- with any seed that leaves no wire dry
 pub proof_where : (auction : Auction) (seed : List ℕ) → IsAuction auction → 1 ≤ length auction.seals
     → first_dry_in (source_of (proof_with auction seed)) ≡ None
@@ -197,15 +207,31 @@ proof_where auction seed right sealed none =
       one_input_each = inputs_are auction right sealed;
       values = values_hold auction right sealed;
       count = right.held.size.lanes;
-      secrets = All-weaker (IsSealRow auction.id auction.width auction.lanes)
-          (HasTapesFor auction.lanes)
-          (λ row is. record {
-            count = lanes_of auction.id auction.width auction.lanes row is;
-            each = is.secret.tapes;
-          }) auction.seals right.held.rows;
+      secrets = have_tapes auction.id auction.width auction.lanes auction.seals right.held.rows;
       none_dry = none;
     }
 
 pub proof_is : (auction : Auction) → IsProvedAuction auction → IsProof (proof_of auction)
 proof_is auction proved = proof_where auction (seed_in auction) proved.right
     (has_seal auction proved) proved.tapes
+
+-- what a job keeps was prepared for it
+pub prepared_for : (auction : Auction) (sale : Sale) (made : Prepared) → IsJob auction sale made
+    → IsPrepared (prepared_proof auction.id auction.seals auction.lanes (seed_in auction) made) made
+prepared_for auction sale made is =
+    let of : PlanValue → List ℕ → ProofValue =
+    λ plan values. record {
+      id = auction.id;
+      rows = auction.seals;
+      lanes = auction.lanes;
+      seed = seed_in auction;
+      plan = plan;
+      values = values;
+    } in
+    let same : proof_of auction ≡ of made.plan made.values =
+    sym (ap (λ plan. of plan made.values) is.plan_is ∙ ap (of (plan_of auction)) is.values_are) in
+    record {
+      right = subst IsProof same (proof_is auction is.proved);
+      table = is.table_is;
+      tapes = is.tapes_are ∙ ap (λ proof. tapes_in (source_of proof)) same;
+    }

@@ -5,3 +5,4 @@ pub mod Published
 pub mod Laws
 pub mod JobValues
 pub mod Answers
+pub mod Sources

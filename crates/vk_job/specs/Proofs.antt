@@ -16,8 +16,10 @@ use Rattle.vk_reply.specs.Texts.{reply_text, reply_head_text, reply_lane_text}
 use Rattle.vk_seal.specs.Values.{IsXTape, wire_tape}
 use Rattle.vk_extractor.specs.Confronting.{tape_in}
 use Rattle.vk_prover.specs.Drawn.{drawn_tape}
+use Rattle.vk_prover.specs.declared.tape.LaneTape.{LaneTape}
 use Rattle.vk_prover.specs.Honest.{honest_lane, honest_reply}
 use Rattle.vk_keeper.specs.declared.auction.SealRow.{SealRow}
+use Rattle.vk_job.specs.declared.proof.Prepared.{Prepared}
 
 -- what an honest proof is made from: the auction's id, the rows of the inputs (each a seal with its
 -- secret), how many lanes there are, the auctioneer's seed, the circuit, and the values of its
@@ -102,6 +104,13 @@ abbrev pub tape_or_none : Result (List WireTape) ℕ → List WireTape
 tape_or_none (Ok tape) = tape
 tape_or_none (Err wire) = []
 
+-- the tapes of all lanes
+abbrev pub tape_at : TapeSource → ℕ → LaneTape
+tape_at source index = record { wires = tape_or_none (drawn_in source (index + 1)) }
+
+abbrev pub tapes_in : TapeSource → List LaneTape
+tapes_in source = listed (tape_at source) source.lanes
+
 -- a proof's tape of a lane
 abbrev pub lane_tape_in : ProofValue → ℕ → List WireTape
 lane_tape_in proof lane = tape_or_none (drawn_in (source_of proof) lane)
@@ -122,6 +131,18 @@ pub record IsProof (proof : ProofValue) : Type 0 where
   pub count : IsLaneCount proof.lanes
   pub secrets : All (HasTapesFor proof.lanes) proof.rows
   pub none_dry : first_dry_in (source_of proof) ≡ None
+
+-- ---- what is prepared for one
+
+-- the proof that is made from what was prepared, and these
+abbrev pub prepared_proof : List ℕ → List SealRow → ℕ → List ℕ → Prepared → ProofValue
+prepared_proof id rows lanes seed made = proof_with id rows lanes seed made.plan made.values
+
+-- what was prepared serves for the proof, which is one
+pub record IsPrepared (proof : ProofValue) (made : Prepared) : Type 0 where
+  pub right : IsProof proof
+  pub table : made.table ≡ proof.plan.rows
+  pub tapes : made.tapes ≡ tapes_in (source_of proof)
 
 -- ---- what is published and shown
 

@@ -8,28 +8,27 @@ ghost use Rattle.vk_job.specs.Published.{board_pieces, head_of, kept_bit, lane_o
 
 use crate::errors::JobErr;
 use crate::kept::{bit_in, seed_in};
-use crate::proof::HonestProof;
+use crate::proof::{HonestProof, Prepared};
 use crate::sale::{further_wires, plan_of, price_in, sale_in, values_of, winner_of};
-use crate::tapes::check_tapes;
+use crate::tapes::draw_tapes;
 use std::alloc::Global;
 use std::marker::Model;
 use vk_board::{Head, LaneLines, SealLines, head_text};
 use vk_keeper::Auction;
-use vk_plan::Plan;
+use vk_plan::RowTable;
 use vk_reply::Challenge;
-use vk_residue::{NoMemory, Residue};
+use vk_residue::NoMemory;
 use vk_seq::Seq;
 use vk_vickrey::Sale;
 use vk_wire::Shown;
 
 /// An auction in a phase with a seed, which gives a tape for every lane, and the sale of its bids.
-/// Plan and values are kept, so that no lane makes them anew.
+/// All that serves for every lane is kept, so that no lane makes it anew.
 #[derive(Drop)]
 pub struct Job {
     auction: Auction,
     sale: Sale,
-    plan: Plan,
-    values: Seq<Residue>,
+    made: Prepared,
 }
 
 impl Model for Job {
@@ -41,7 +40,7 @@ impl Model for Job {
 
     ghost view = { λ j. record { auction = j.auction; sale = j.sale } };
 
-    ghost invariant = { λ j. IsJob j.auction j.sale j.plan j.values };
+    ghost invariant = { λ j. IsJob j.auction j.sale j.made };
 }
 
 impl Job {
@@ -53,7 +52,8 @@ impl Job {
         ensures { JobAnswer result auction }
     {
         let sale = sale_in(&auction);
-        check_tapes(
+        let tapes = draw_tapes(
+            alloc,
             &auction.id,
             auction.seals.as_slice(),
             auction.lanes,
@@ -61,12 +61,18 @@ impl Job {
             further_wires(&auction, sale),
         )?;
         let plan = plan_of(alloc, &auction, sale)?;
+        let table = RowTable::of(alloc, &plan)?;
         let values = values_of(alloc, &auction, sale)?;
+        let made = Prepared {
+            plan,
+            table,
+            values: Seq::from_vec(values),
+            tapes,
+        };
         Ok(Job {
             auction,
             sale,
-            plan,
-            values: Seq::from_vec(values),
+            made,
         })
     }
 
@@ -211,8 +217,7 @@ impl Job {
             self.auction.seals.as_slice(),
             self.auction.lanes,
             seed_in(&self.auction.phase),
-            &self.plan,
-            self.values.as_slice(),
+            &self.made,
         )
     }
 }

@@ -18,5 +18,5 @@ pub use laws::{
     pieces_are_texts, proved_auctions_hold, published_boards_are_of_their_form,
     sales_are_by_maxima,
 };
-pub use proof::HonestProof;
-pub use tapes::check_tapes;
+pub use proof::{HonestProof, Prepared};
+pub use tapes::draw_tapes;

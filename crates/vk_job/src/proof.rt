@@ -1,63 +1,68 @@
 ghost use Rattle.std.specs.Prelude.{◌≡◌, ◌-◌, ◌≤◌, length, slice_index_or, IfOk};
-ghost use Rattle.vk_prover.specs.Drawn.{TapeAnswer};
 ghost use Rattle.vk_prover.specs.Laws.{IsTapeOf};
-ghost use Rattle.vk_job.specs.Proofs.{IsProof, drawn_in, lane_in, lane_shown_in, lane_tape_in, no_row, proof_with, seal_lines_of, source_of};
+ghost use Rattle.vk_job.specs.Proofs.{IsPrepared, IsProof, lane_in, lane_shown_in, lane_tape_in, no_row, prepared_proof, seal_lines_of};
 
-use crate::tapes::{given_tapes, words_of};
 use std::alloc::Global;
 use std::marker::Model;
 use vk_board::{LaneLines, SealLines};
 use vk_keeper::SealRow;
-use vk_plan::Plan;
-use vk_prover::{DrawErr, LaneTape, answer_lane, draw_tape, make_lane};
+use vk_plan::{Plan, RowTable};
+use vk_prover::{LaneTape, answer_lane, make_lane_with};
 use vk_residue::{NoMemory, Residue};
 use vk_seq::Seq;
 use vk_wire::Shown;
 
-/// What an honest proof is made from. Each lane has a tape, and is made anew at each call.
+/// What serves for every lane of a proof: the circuit with a table of its rows, the values of its
+/// wires, and the tape of each lane, the first's first.
+#[derive(Drop)]
+pub struct Prepared {
+    pub plan: Plan,
+    pub table: RowTable,
+    pub values: Seq<Residue>,
+    pub tapes: Seq<LaneTape>,
+}
+
+/// What an honest proof is made from. What is published or shown of a lane is made at each call.
 #[derive(Drop)]
 pub struct HonestProof<'a> {
     id: &'a [u8; 16],
     rows: &'a [SealRow],
     lanes: u32,
     seed: [u8; 32],
-    plan: &'a Plan,
-    values: &'a [Residue],
+    made: &'a Prepared,
 }
 
 impl<'a> Model for HonestProof<'a> {
-    ghost use Rattle.vk_job.specs.Proofs.{ProofValue, IsProof, proof_with};
+    ghost use Rattle.vk_job.specs.Proofs.{ProofValue, IsPrepared, prepared_proof};
 
     ghost Value = { ProofValue };
 
-    ghost view = { λ p. proof_with p.id.now p.rows.now p.lanes p.seed p.plan.now p.values.now };
+    ghost view = { λ p. prepared_proof p.id.now p.rows.now p.lanes p.seed p.made.now };
 
-    ghost invariant = { λ p. IsProof
-        (proof_with p.id.now p.rows.now p.lanes p.seed p.plan.now p.values.now) };
+    ghost invariant = { λ p. IsPrepared
+        (prepared_proof p.id.now p.rows.now p.lanes p.seed p.made.now) p.made.now };
 }
 
 impl<'a> HonestProof<'a> {
     /// The proof that is made from the auction's id, the rows of the circuit's inputs, so many
-    /// lanes, the auctioneer's seed, and the values of the circuit's wires. `check_tapes` tells
-    /// that no wire is dry.
+    /// lanes, the auctioneer's seed, and what was prepared. `draw_tapes` tells that no wire is dry,
+    /// and gives the tapes.
     pub fn of(
         id: &'a [u8; 16],
         rows: &'a [SealRow],
         lanes: u32,
         seed: [u8; 32],
-        plan: &'a Plan,
-        values: &'a [Residue],
+        made: &'a Prepared,
     ) -> HonestProof<'a>
-        requires { IsProof (proof_with id.now rows.now lanes seed plan.now values.now) }
-        ensures { result ≡ proof_with id.now rows.now lanes seed plan.now values.now }
+        requires { IsPrepared (prepared_proof id.now rows.now lanes seed made.now) made.now }
+        ensures { result ≡ prepared_proof id.now rows.now lanes seed made.now }
     {
         HonestProof {
             id,
             rows,
             lanes,
             seed,
-            plan,
-            values,
+            made,
         }
     }
 
@@ -99,8 +104,15 @@ impl<'a> HonestProof<'a> {
         requires last { lane ≤ self.now.lanes }
         ensures { IfOk result (λ lines. lines ≡ lane_in self.now lane) }
     {
-        let tape = self.tape(alloc, lane)?;
-        let lines = make_lane(alloc, self.plan, self.id, lane as u16, self.values, &tape)?;
+        let lines = make_lane_with(
+            alloc,
+            &self.made.plan,
+            &self.made.table,
+            self.id,
+            lane as u16,
+            self.made.values.as_slice(),
+            self.tape(lane),
+        )?;
         Ok(lines)
     }
 
@@ -111,37 +123,18 @@ impl<'a> HonestProof<'a> {
         requires last { lane ≤ self.now.lanes }
         ensures { IfOk result (λ shown. shown ≡ lane_shown_in self.now lane bit) }
     {
-        let tape = self.tape(alloc, lane)?;
-        let shown = answer_lane(alloc, self.plan, self.values, &tape, bit)?;
+        let values = self.made.values.as_slice();
+        let shown = answer_lane(alloc, &self.made.plan, values, self.tape(lane), bit)?;
         Ok(shown)
     }
 
     /// The tape of the lane.
-    fn tape(&self, alloc: Global, lane: u32) -> Result<LaneTape, NoMemory>
+    fn tape(&self, lane: u32) -> &LaneTape
         requires some { 1 ≤ lane }
         requires last { lane ≤ self.now.lanes }
-        ensures tape { IfOk result (λ tape. tape.wires ≡ lane_tape_in self.now lane) }
-        ensures of_plan { IfOk result (λ tape. IsTapeOf self.now.plan tape.wires) }
+        ensures tape { result.now.wires ≡ lane_tape_in self.now lane }
+        ensures of_plan { IsTapeOf self.now.plan result.now.wires }
     {
-        match self.drawn(alloc, lane) {
-            Ok(tape) => Ok(tape),
-            Err(DrawErr::NoMemory) => Err(NoMemory),
-            Err(DrawErr::DrySeed { .. }) => unreachable!(),
-        }
-    }
-
-    /// Draws the tape of the lane. Errs where the seed is dry, and for want of memory.
-    #[tactic(auto, unfolding(crate::specs::Proofs::drawn_in))]
-    fn drawn(&self, alloc: Global, lane: u32) -> Result<LaneTape, DrawErr>
-        requires some { 1 ≤ lane }
-        requires last { lane ≤ self.now.lanes }
-        ensures drawn { TapeAnswer result (drawn_in (source_of self.now) lane) }
-        ensures of_plan { IfOk result (λ tape. IsTapeOf self.now.plan tape.wires) }
-        ensures proof { IsProof self.now }
-    {
-        let given = given_tapes(alloc, self.rows, lane)?;
-        let mut words = words_of(self.id, &self.seed, lane);
-        let tape = draw_tape(alloc, self.plan, given.as_slice(), &mut words)?;
-        Ok(tape)
+        &self.made.tapes.as_slice()[lane as usize - 1]
     }
 }

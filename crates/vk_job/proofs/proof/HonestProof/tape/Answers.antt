@@ -1,11 +1,34 @@
-use Rattle.vk_job.specs.Proofs.{source_of}
-use Rattle.vk_job.proofs.Dry.{tapes_of_none, no_tape_where_dry}
+use Rattle.std.proofs.Common.{arith, sym, ◌∙◌, subst}
+use Rattle.vk_prover.specs.Laws.{IsTapeOf}
+use Rattle.vk_job.specs.Proofs.{IsPrepared, source_of}
+use Rattle.vk_job.proofs.Drawing.{lane_tape_is, one_tape_each, prepared_tape}
 use Rattle.vk_job.proofs.proof.HonestProof.tape.Goals as goal
 
-pub unreachable-requires : goal.unreachable-requires
-unreachable-requires c =
-    let source = source_of c.args.self.now in
-    let dry = rw c.in-Err-DrySeed.field-0-is at c.in-Err-DrySeed.ensures.drawn in
-    no_tape_where_dry source c.args.lane c.in-Err-DrySeed.field-0-0
-    (tapes_of_none source c.drawn.ensures.proof.none_dry c.args.lane c.requires.some
-    c.requires.last) dry
+pub bounds-as_slice-lane : goal.bounds-as_slice-lane
+bounds-as_slice-lane c =
+    let proof = c.args.self.now in
+    let is = subst (λ p. IsPrepared p c.self.inside.made.now) c.self.view_is c.self.invariant in
+    omega (
+      arith,
+      one_tape_each (source_of proof) c.as_slice.result.now (c.as_slice.ensures ∙ is.tapes),
+      c.requires.some,
+      c.requires.last,
+    )
+
+pub returns-clause-tape : goal.returns-clause-tape
+returns-clause-tape c =
+    let proof = c.args.self.now in
+    let is = subst (λ p. IsPrepared p c.self.inside.made.now) c.self.view_is c.self.invariant in
+    prepared_tape proof c.self.inside.made.now c.as_slice.result.now c.args.lane
+    c.index-as_slice-lane.result is c.as_slice.ensures c.requires.some c.requires.last
+    c.index-as_slice-lane.is
+
+pub returns-clause-of_plan : goal.returns-clause-of_plan
+returns-clause-of_plan c =
+    let proof = c.args.self.now in
+    let is = subst (λ p. IsPrepared p c.self.inside.made.now) c.self.view_is c.self.invariant in
+    let found = prepared_tape proof c.self.inside.made.now c.as_slice.result.now c.args.lane
+    c.index-as_slice-lane.result is c.as_slice.ensures c.requires.some c.requires.last
+    c.index-as_slice-lane.is in
+    subst (IsTapeOf proof.plan) (sym found)
+    (lane_tape_is proof c.args.lane is.right c.requires.some c.requires.last)
