@@ -1,24 +1,31 @@
 -- Reading a share or a coin stops at its fault line.
-use Rattle.std.proofs.Common.{◌≡◌, ℕ, ◌+◌, List, [], ◌∷◌, ◌++◌, length, Option, Some, None, Ok, option_map, refl, ap, arith, sym, subst, length-append}
+use Rattle.std.proofs.Common.{◌≡◌, ℕ, ◌+◌, false, List, [], ◌∷◌, ◌++◌, length, Option, Some, None, Result, Ok, option_map, refl, ap, arith, sym, subst, length-append}
 use Rattle.std.specs.Result.{result_err}
-use Rattle.vk_lines.specs.Lines.{line_by}
-use Rattle.vk_lines.specs.Forms.{FindsFaults, Follows, fault_line, whole}
+use Rattle.vk_residue.specs.Steps.{◌>>=◌}
+use Rattle.vk_lines.specs.Lines.{Rest, line_by}
+use Rattle.vk_lines.specs.Forms.{FindsFaults, Follows, Table, fault_line, whole}
 use Rattle.vk_lines.proofs.Faults.{end_ends, ends_done, ends_then, fault_line_is, follows_done, follows_then, line_follows, many_follows}
 use Rattle.vk_coin.specs.declared.share.Share.{Share}
 use Rattle.vk_coin.specs.Reading.{coin_at, coin_with, part_line, parts_at, share_at, share_with, shares_at, shown_at, shown_line}
 use Rattle.vk_coin.specs.Tables.{CoinPlace, Heading, Auction, Auditor, Show as ShowPlace, Bits, Auditors, Part, Shown, Last, Over, before_parts, before_shares, coin_table, share_table}
 
+-- a line that the table tells as it is parsed, and what is read behind it
+line_ends : {X Z : Type 0} (table : Table CoinPlace) (place : CoinPlace)
+    (parse : List ℕ → Option X) (after : X → CoinPlace) {read : X → Rest → Result (Z × Rest) ℕ}
+    → ((text : List ℕ) → table.next place text ≡ option_map after (parse text))
+    → table.over place ≡ false
+    → ((x : X) → FindsFaults table (after x) (read x))
+    → FindsFaults table place (λ rest. line_by parse rest >>= λ p. read p.0 p.1)
+line_ends table place parse after next inside behind =
+    ends_then table place (line_follows table place parse after next inside) behind
+
 pub share_ends : FindsFaults share_table Heading share_at
 unfolding share_at
 share_ends =
-    ends_then share_table Heading
-    (line_follows share_table Heading _ (λ _. Auction) (λ text. refl) refl) (λ heading.
-    ends_then share_table Auction
-    (line_follows share_table Auction _ (λ _. Auditor) (λ text. refl) refl) (λ auction.
-    ends_then share_table Auditor
-    (line_follows share_table Auditor _ (λ _. ShowPlace) (λ text. refl) refl) (λ auditor.
-    ends_then share_table ShowPlace
-    (line_follows share_table ShowPlace _ (λ _. Last) (λ text. refl) refl) (λ show.
+    line_ends share_table Heading _ (λ _. Auction) (λ text. refl) refl (λ heading.
+    line_ends share_table Auction _ (λ _. Auditor) (λ text. refl) refl (λ auction.
+    line_ends share_table Auditor _ (λ _. ShowPlace) (λ text. refl) refl (λ auditor.
+    line_ends share_table ShowPlace _ (λ _. Last) (λ text. refl) refl (λ show.
     ends_done share_table Last (share_with auction auditor show)
     (end_ends share_table Last Over (λ text. refl) refl (λ text. refl) refl)))))
 
@@ -85,14 +92,11 @@ shares_follow auction bits auditors =
 pub coin_ends : FindsFaults coin_table Heading coin_at
 unfolding coin_at
 coin_ends =
-    ends_then coin_table Heading
-    (line_follows coin_table Heading _ (λ _. Auction) (λ text. refl) refl) (λ heading.
-    ends_then coin_table Auction (line_follows coin_table Auction _ (λ _. Bits) (λ text. refl) refl)
-    (λ auction.
-    ends_then coin_table Bits (line_follows coin_table Bits _ Auditors (λ text. refl) refl) (λ bits.
-    ends_then coin_table (Auditors bits)
-    (line_follows coin_table (Auditors bits) _
-    (λ auditors. before_parts bits auditors 1 auditors) (λ text. refl) refl) (λ auditors.
+    line_ends coin_table Heading _ (λ _. Auction) (λ text. refl) refl (λ heading.
+    line_ends coin_table Auction _ (λ _. Bits) (λ text. refl) refl (λ auction.
+    line_ends coin_table Bits _ Auditors (λ text. refl) refl (λ bits.
+    line_ends coin_table (Auditors bits) _ (λ auditors. before_parts bits auditors 1 auditors)
+    (λ text. refl) refl (λ auditors.
     ends_then coin_table (before_parts bits auditors 1 auditors) (parts_follow bits auditors)
     (λ parts.
     ends_then coin_table (before_shares bits 1 auditors) (shares_follow auction bits auditors)

@@ -114,33 +114,29 @@ shown_line_is bits auditor some few fits =
     (λ show. tt) (λ show. show.key) (λ show. show.bits) (λ x. refl) (λ a b c. refl) (λ a b c. refl)
     (λ a b c. refl)
 
--- ---- what stands behind a first line
+-- ---- what stands behind the first lines
 
-headed_whole : {X : Type 0} {IsValue : X → Type 0} {text : X → List ℕ}
-    {read : Rest → Result (X × Rest) ℕ} (heading : List ℕ) → is_plain heading ≡ true
-    → length heading ≤ 255
-    → IsWhole IsValue text read
-    → IsWhole IsValue (λ x. line heading ++ text x)
-    (λ rest. line_by (word_of heading) rest >>= λ first. read first.1)
-headed_whole {IsValue = IsValue} {text = text} {read = read} heading plain short whole =
-    let behind =
-    whole_then {X = Unit {0}} {IsZ = λ _ x. IsValue x} {text_z = λ _ x. text x}
-    {read_z = λ _ rest. read rest} (λ x. tt) (line_part (fixed_line heading plain short))
-    (λ first _. whole) (λ first x is. refl) in
-    whole_same behind (λ x is. is.1) (λ x is. (tt, is)) (λ x. refl)
-
--- a value that begins with the line of its id
-id_whole : {Z : Type 0} {IsZ : List ℕ → Z → Type 0} {text : Z → List ℕ}
-    {read : List ℕ → Rest → Result (Z × Rest) ℕ} (id : Z → List ℕ)
+-- a value behind its heading and the line of its id
+titled_whole : {Z : Type 0} {IsZ : List ℕ → Z → Type 0} {text : Z → List ℕ}
+    {read : List ℕ → Rest → Result (Z × Rest) ℕ} (heading : List ℕ) → is_plain heading ≡ true
+    → length heading ≤ 255 → (id : Z → List ℕ)
     → ((auction : List ℕ) → IsWhole (IsZ auction) text (read auction))
     → ((auction : List ℕ) (z : Z) → IsZ auction z → id z ≡ auction)
     → IsWhole (λ z. IsId (id z) × IsZ (id z) z)
-    (λ z. line (spaced (codes "auction" ∷ hex_text (id z) ∷ [])) ++ text z)
-    (λ rest. line_by (id_line (codes "auction")) rest >>= λ auction. read auction.0 auction.1)
-id_whole {IsZ = IsZ} {text = text} {read = read} id whole same =
+    (λ z. line heading ++ (line (spaced (codes "auction" ∷ hex_text (id z) ∷ [])) ++ text z))
+    (λ rest. line_by (word_of heading) rest >>= λ first.
+    line_by (id_line (codes "auction")) first.1 >>= λ auction. read auction.0 auction.1)
+titled_whole {IsZ = IsZ} {text = text} {read = read} heading plain short id whole same =
+    let identified =
     whole_then {IsZ = IsZ} {text_z = λ _ z. text z} {read_z = read} id
     (line_part (id_line_is (codes "auction") refl (omega arith))) (λ auction _. whole auction)
-    same
+    same in
+    whole_same
+    (whole_then {X = Unit {0}} {IsZ = λ _ z. IsId (id z) × IsZ (id z) z}
+    {text_z = λ _ z. line (spaced (codes "auction" ∷ hex_text (id z) ∷ [])) ++ text z}
+    (λ z. tt) (line_part (fixed_line heading plain short)) (λ first _. identified)
+    (λ first z is. refl))
+    (λ z is. is.1) (λ z is. (tt, is)) (λ z. refl)
 
 -- ---- a share
 
@@ -191,9 +187,9 @@ pub share_is_whole : IsWhole IsShare share_text share_at
 unfolding share_text share_at
 share_is_whole =
     whole_same
-    (headed_whole (codes "vickrey-share 1") refl (omega arith)
-    (id_whole {IsZ = AuditorOf} {text = auditor_text} {read = auditor_at} (λ share. share.auction)
-    auditor_whole (λ auction share is. ap (λ s. s.auction) is.1.1)))
+    (titled_whole {IsZ = AuditorOf} {text = auditor_text} {read = auditor_at}
+    (codes "vickrey-share 1") refl (omega arith) (λ share. share.auction) auditor_whole
+    (λ auction share is. ap (λ s. s.auction) is.1.1))
     (λ share is. record {
       id = is.0;
       auditor = record { least = from_test 1 share.auditor is.1.0.1; most = is.1.0.0 };
@@ -329,18 +325,13 @@ count_whole auction =
     (λ bits is. auditors_whole auction bits (from_test 1 bits is.1) is.0)
     (λ bits coin is. ap (λ c. c.bits) is.1.1.1)
 
--- from the id on
-coin_whole : IsWhole (λ coin. IsId coin.auction × BitsOf coin.auction coin)
-    (λ coin. line (spaced (codes "auction" ∷ hex_text coin.auction ∷ [])) ++ count_text coin)
-    (λ rest. line_by (id_line (codes "auction")) rest >>= λ auction. count_at auction.0 auction.1)
-coin_whole =
-    id_whole {IsZ = BitsOf} {text = count_text} {read = count_at} (λ coin. coin.auction) count_whole
-    (λ auction coin is. ap (λ c. c.auction) is.1.1.1.1)
-
 pub coin_is_whole : IsWhole IsCoin coin_text coin_at
 unfolding coin_text coin_at
 coin_is_whole =
-    whole_same (headed_whole (codes "vickrey-coin 1") refl (omega arith) coin_whole)
+    whole_same
+    (titled_whole {IsZ = BitsOf} {text = count_text} {read = count_at} (codes "vickrey-coin 1") refl
+    (omega arith) (λ coin. coin.auction) count_whole
+    (λ auction coin is. ap (λ c. c.auction) is.1.1.1.1))
     (λ coin is. record {
       bits = record { least = from_test 1 coin.bits is.1.0.1; most = is.1.0.0 };
       auditors = record { least = from_test 1 (length coin.parts) is.1.1.0.1; most = is.1.1.0.0 };
