@@ -1,5 +1,5 @@
 -- What a command did that came to its end.
-use Rattle.std.proofs.Common.{◌≡◌, ℕ, List, Option, Some, None, IfSome, refl, sym, subst}
+use Rattle.std.proofs.Common.{◌≡◌, ℕ, List, Option, Some, None, IfSome, sym, subst}
 use Rattle.vk_io.specs.Files.{Files}
 use Rattle.vk_keeper.specs.Ledgers.{Ledger}
 use Rattle.vk_report.specs.declared.report.Report.{Report}

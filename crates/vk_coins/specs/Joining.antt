@@ -38,5 +38,9 @@ abbrev pub deed_by : {X : Type 0} → (X → DeedValue) → Result X SaidValue �
 deed_by deed (Ok x) = deed x
 deed_by deed (Err said) = only_says said
 
+-- the coin of the named file, or what is said of one that can't be read
+abbrev pub coin_in : Files → List ℕ → Result Coin SaidValue
+coin_in files name = named_in coin_at files name
+
 abbrev pub join_deed : ChallengeWords → Files → DeedValue
-join_deed names files = deed_by (coin_deed names) (named_in coin_at files names.from)
+join_deed names files = deed_by (coin_deed names) (coin_in files names.from)

@@ -2,12 +2,11 @@
 
 ghost use Rattle.std.specs.Prelude.{◌≡◌, IfOk, IfSome};
 ghost use Rattle.vk_coin.specs.Coins.{IsCoin};
-ghost use Rattle.vk_coin.specs.Reading.{coin_at};
 ghost use Rattle.vk_io.specs.Reads.{OnlyReads};
 ghost use Rattle.vk_lines.specs.Gives.{Gives};
 ghost use Rattle.vk_words.specs.Coins.{challenge_seen};
-ghost use Rattle.vk_effect.specs.Reading.{named_in, said_of_unread};
-ghost use Rattle.vk_coins.specs.Joining.{coin_deed, joined_said, unmet_said};
+ghost use Rattle.vk_effect.specs.Reading.{said_of_unread};
+ghost use Rattle.vk_coins.specs.Joining.{coin_deed, coin_in, joined_said, unmet_said};
 
 use std::alloc::Global;
 use vk_coin::{Coin, JointErr, joint, read_coin};
@@ -21,7 +20,7 @@ use vk_words::ChallengeNames;
 #[tactic(auto, unfolding(vk_effect::specs::Reading::named_in))]
 pub fn named_coin<S: Shelf>(alloc: Global, shelf: &mut S, name: &str) -> Result<Coin, Unread>
     ensures modelled { IfSome (S.held shelf.old)
-        (λ files. Gives said_of_unread (λ coin. coin) result (named_in coin_at files name.now)) }
+        (λ files. Gives said_of_unread (λ coin. coin) result (coin_in files name.now)) }
     ensures shelf { OnlyReads S.held S.Shelf.faults Unread.Failed result shelf.old shelf.new }
     ensures right { IfOk result IsCoin }
 {
