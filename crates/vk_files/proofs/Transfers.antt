@@ -1,7 +1,7 @@
--- Bytes that are known, taken and given piece by piece.
-use Rattle.std.proofs.Common.{◌≡◌, ℕ, ◌+◌, List, ◌++◌, length, take, drop, Option, Some, None, append_assoc, sym, ap, subst, ◌∙◌}
-use Rattle.std.proofs.Math.Seq.{take-add, take-append-add}
-use Rattle.std.specs.Io.KnownBytes.{Consumes, Appends}
+-- Bytes that are known, given piece by piece.
+use Rattle.std.proofs.Common.{◌≡◌, ℕ, ◌+◌, List, ◌++◌, length, take, Option, Some, None, append_assoc, sym, ap, subst, ◌∙◌}
+use Rattle.std.proofs.Math.Seq.{take-append-add}
+use Rattle.std.specs.Io.KnownBytes.{Consumes}
 
 Consumes_chain : (a b c : Option (List ℕ)) (xs ys : List ℕ) → Consumes a b xs → Consumes b c ys
     → Consumes a c (xs ++ ys)
@@ -10,21 +10,6 @@ Consumes_chain (Some x) None c xs ys p q = absurd p
 Consumes_chain (Some x) (Some y) None xs ys p q = absurd q
 Consumes_chain (Some x) (Some y) (Some z) xs ys p q = p ∙ ap (λ l. xs ++ l) q
     ∙ sym (append_assoc xs ys z)
-
-Appends_chain : (a b c : Option (List ℕ)) (xs ys : List ℕ) → Appends a b xs → Appends b c ys
-    → Appends a c (xs ++ ys)
-Appends_chain None b c xs ys p q = tt
-Appends_chain (Some x) None c xs ys p q = absurd p
-Appends_chain (Some x) (Some y) None xs ys p q = absurd q
-Appends_chain (Some x) (Some y) (Some z) xs ys p q = q ∙ ap (λ l. l ++ ys) p ∙ append_assoc x xs ys
-
--- what was written before and then the first of the rest
-pub written_more : (a b c : Option (List ℕ)) (piece : List ℕ) (written count : ℕ)
-    → Appends a b (take written piece) → Appends b c (take count (drop written piece))
-    → Appends a c (take (written + count) piece)
-written_more a b c piece written count p q =
-    subst (Appends a c) (sym (take-add written count piece))
-    (Appends_chain a b c (take written piece) (take count (drop written piece)) p q)
 
 -- what was filled before and then the first of the rest
 pub filled_more : (a b c : Option (List ℕ)) (front rest : List ℕ) (filled count : ℕ)

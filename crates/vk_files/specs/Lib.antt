@@ -4,3 +4,4 @@ pub mod Moves
 pub mod Opening
 pub mod Links
 pub mod Ahead
+pub mod Counting

@@ -1,8 +1,8 @@
 //! Bytes of a file that were read ahead, so that one call of the system serves many readings.
 
-ghost use Rattle.std.specs.Prelude.{◌≡◌, ◌<◌, ◌≤◌, Ok, Err, [], length, take, IfOk, OnOk, OnErr};
-ghost use Rattle.vk_io.specs.Faults.{Causes, one_more};
+ghost use Rattle.std.specs.Prelude.{◌≡◌, ◌<◌, ◌≤◌, Ok, [], length, take, IfOk, OnOk, OnErr};
 ghost use Rattle.vk_files.specs.Ahead.{Holds, held_from, part_held};
+ghost use Rattle.vk_files.specs.Counting.{CountsOnce};
 ghost use Rattle.vk_files.specs.Moves.{GivesFrom};
 
 use crate::faults::FaultCount;
@@ -91,9 +91,7 @@ impl Ahead {
         ensures bytes { OnOk result
             (GivesFrom F.stream_position F.remaining at 65536 self.new.held file.old file.new) }
         ensures none { OnErr result (self.new.held ≡ []) }
-        ensures causes { Causes OutsideErr.Failed result faults.old faults.new }
-        ensures fault { OnErr result (result ≡ Err OutsideErr.Failed) }
-        ensures counted { OnErr result (faults.new ≡ one_more faults.old) }
+        ensures counted { CountsOnce result faults.old faults.new }
     {
         self.count = 0;
         self.from = at;
@@ -129,9 +127,7 @@ impl Ahead {
             file.old file.new) }
         ensures refused { OnErr result
             (length into.old ≤ 65536 → self.new.held ≡ []) }
-        ensures causes { Causes OutsideErr.Failed result faults.old faults.new }
-        ensures fault { OnErr result (result ≡ Err OutsideErr.Failed) }
-        ensures counted { OnErr result (faults.new ≡ one_more faults.old) }
+        ensures counted { CountsOnce result faults.old faults.new }
     {
         if into.len() > MOST_AHEAD {
             let count = read_counted(file, at, into, faults)?;

@@ -1,13 +1,13 @@
 //! Bytes moved to a writer and from a reader, where an error is counted as a fault.
 
-ghost use Rattle.std.specs.Prelude.{◌≡◌, ◌≤◌, length, take, IfOk, OnOk, OnErr};
+ghost use Rattle.std.specs.Prelude.{◌≤◌, length, take, IfOk, OnOk};
 ghost use Rattle.std.specs.Io.KnownBytes.{Appends};
-ghost use Rattle.vk_io.specs.Faults.{Causes, one_more};
+ghost use Rattle.vk_files.specs.Counting.{CountsOnce};
 ghost use Rattle.vk_files.specs.Moves.{GivesFrom};
 
 use crate::faults::FaultCount;
 use crate::outcome::counted;
-use crate::pieces::{read_fully, write_fully};
+use crate::pieces::read_fully;
 use std::io;
 use std::io::{Read, Seek, SeekFrom, Write};
 use vk_io::OutsideErr;
@@ -19,11 +19,9 @@ pub fn put_counted<W: Write>(
     faults: &mut FaultCount,
 ) -> Result<(), OutsideErr>
     ensures put { OnOk result (Appends (W.contents writer.old) (W.contents writer.new) piece.now) }
-    ensures causes { Causes OutsideErr.Failed result faults.old faults.new }
-    ensures fault { OnErr result (result ≡ Err OutsideErr.Failed) }
-    ensures counted { OnErr result (faults.new ≡ one_more faults.old) }
+    ensures counted { CountsOnce result faults.old faults.new }
 {
-    counted(write_fully(writer, piece), faults)?;
+    counted(writer.write_all(piece), faults)?;
     Ok(())
 }
 
@@ -39,9 +37,7 @@ pub fn read_counted<F: Read + Seek>(
     ensures bytes { IfOk result
         (λ n. GivesFrom F.stream_position F.remaining at (length into.old) (take n into.new)
         file.old file.new) }
-    ensures causes { Causes OutsideErr.Failed result faults.old faults.new }
-    ensures fault { OnErr result (result ≡ Err OutsideErr.Failed) }
-    ensures counted { OnErr result (faults.new ≡ one_more faults.old) }
+    ensures counted { CountsOnce result faults.old faults.new }
 {
     let count = counted(read_from(file, at, into), faults)?;
     Ok(count)

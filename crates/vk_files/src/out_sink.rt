@@ -2,7 +2,7 @@ ghost use Rattle.std.specs.Prelude.{◌≡◌};
 
 use crate::faults::FaultCount;
 use crate::moves::put_counted;
-use std::io;
+use std::io::{self, Write};
 use vk_io::{OutsideErr, Sink};
 
 /// Standard output. What it took isn't modelled, and each error raises its count. It takes no
@@ -31,6 +31,22 @@ impl<'a, P: Print> OutSink<'a, P> {
     }
 }
 
+/// Standard output as a writer, each of whose writes is one call of the system.
+#[derive(Drop)]
+struct Printed<'a, P: Print> {
+    to: &'a P,
+}
+
+impl<P: Print> Write for Printed<'_, P> {
+    fn write(&mut self, piece: &[u8]) -> io::Result<usize> {
+        self.to.write_some(piece)
+    }
+
+    fn flush(&mut self) -> io::Result<()> {
+        Ok(())
+    }
+}
+
 impl<P: Print> Sink for OutSink<'_, P> {
     ghost use Rattle.std.specs.Prelude.{None};
 
@@ -41,7 +57,7 @@ impl<P: Print> Sink for OutSink<'_, P> {
     ghost wants = { λ _. 0 };
 
     fn put(&mut self, piece: &[u8]) -> Result<(), OutsideErr> {
-        put_counted(&mut io::writer(self.to), piece, &mut self.faults)?;
+        put_counted(&mut Printed { to: self.to }, piece, &mut self.faults)?;
         Ok(())
     }
 }

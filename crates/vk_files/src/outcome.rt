@@ -1,5 +1,6 @@
 ghost use Rattle.std.specs.Prelude.{◌≡◌, Ok, Err, IfOk, OnErr};
-ghost use Rattle.vk_io.specs.Faults.{Causes, one_more};
+ghost use Rattle.vk_io.specs.Faults.{Causes};
+ghost use Rattle.vk_files.specs.Counting.{CountsOnce};
 
 use crate::faults::FaultCount;
 use std::io;
@@ -8,9 +9,8 @@ use vk_io::OutsideErr;
 /// What an outcome of the system is to its caller: an error is counted, and nothing else is.
 pub fn counted<T>(outcome: io::Result<T>, faults: &mut FaultCount) -> Result<T, OutsideErr>
     ensures value { IfOk outcome (λ value. result ≡ Ok value) }
-    ensures kept { IfOk outcome (λ value. faults.new ≡ faults.old) }
     ensures fault { OnErr outcome (result ≡ Err OutsideErr.Failed) }
-    ensures counted { OnErr outcome (faults.new ≡ one_more faults.old) }
+    ensures counted { CountsOnce result faults.old faults.new }
 {
     match outcome {
         Ok(value) => Ok(value),

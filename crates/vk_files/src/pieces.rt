@@ -1,10 +1,10 @@
-//! Whole pieces from a reader and to a writer, where a call that a signal interrupts is made again.
+//! Whole pieces from a reader, where a call that a signal interrupts is made again.
 
-ghost use Rattle.std.specs.Prelude.{◌≡◌, ◌<◌, ◌≤◌, length, take, IfOk, OnOk, OnErr};
-ghost use Rattle.std.specs.Io.KnownBytes.{Consumes, IsAtEnd, Appends, ReadConsumes, WriteAppends};
+ghost use Rattle.std.specs.Prelude.{◌<◌, ◌≤◌, length, take, IfOk};
+ghost use Rattle.std.specs.Io.KnownBytes.{Consumes, IsAtEnd, ReadConsumes};
 
 use std::io;
-use std::io::{ErrorKind, Read, Write};
+use std::io::{ErrorKind, Read};
 
 /// One read, made again where a signal interrupts it.
 fn read_some<R: Read>(reader: &mut R, into: &mut [u8]) -> io::Result<usize>
@@ -13,24 +13,6 @@ fn read_some<R: Read>(reader: &mut R, into: &mut [u8]) -> io::Result<usize>
 {
     for _turn in 0..u64::MAX {
         match reader.read(into) {
-            Ok(count) => return Ok(count),
-            Err(error) => {
-                if error.kind() != ErrorKind::Interrupted {
-                    return Err(error);
-                }
-            }
-        }
-    }
-    Err(io::Error::from(ErrorKind::Interrupted))
-}
-
-/// One write, made again where a signal interrupts it.
-fn write_some<W: Write>(writer: &mut W, piece: &[u8]) -> io::Result<usize>
-    ensures bound { IfOk result (λ n. n ≤ length piece.now) }
-    ensures bytes { WriteAppends (W.contents writer.old) (W.contents writer.new) result piece.now }
-{
-    for _turn in 0..u64::MAX {
-        match writer.write(piece) {
             Ok(count) => return Ok(count),
             Err(error) => {
                 if error.kind() != ErrorKind::Interrupted {
@@ -59,20 +41,4 @@ pub fn read_fully<R: Read>(reader: &mut R, into: &mut [u8]) -> io::Result<usize>
         filled += count;
     }
     Ok(filled)
-}
-
-/// Writes the whole piece. A write that takes nothing of what is left is an error.
-pub fn write_fully<W: Write>(writer: &mut W, piece: &[u8]) -> io::Result<()>
-    ensures { OnOk result (Appends (W.contents writer.old) (W.contents writer.new) piece.now) }
-{
-    let mut written = 0;
-    while written < piece.len() {
-        let (_, rest) = piece.split_at(written);
-        let count = write_some(writer, rest)?;
-        if count == 0 {
-            return Err(io::Error::from(ErrorKind::WriteZero));
-        }
-        written += count;
-    }
-    Ok(())
 }
