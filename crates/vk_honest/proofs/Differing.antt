@@ -33,34 +33,36 @@ module _ (number : ℕ) (bit other : Bool) (bits others : List Bool) where
         bits_differ = subst DifferNow next later.bits_differ;
       }
 
+  abbrev LaterDiffer : List ℕ → Type 0
+  LaterDiffer = All (DiffersIn (number + 1) bits others)
+
+  abbrev NowDiffer : List ℕ → Type 0
+  NowDiffer = All (DiffersIn number (bit ∷ bits) (other ∷ others))
+
+  all_later : LaterDiffer (differing (number + 1) bits others)
+      → NowDiffer (differing (number + 1) bits others)
+  all_later = All-weaker (DiffersIn (number + 1) bits others)
+      (DiffersIn number (bit ∷ bits) (other ∷ others)) differ_later
+      (differing (number + 1) bits others)
+
+  all_from : bit ≢ other → LaterDiffer (differing (number + 1) bits others)
+      → NowDiffer (number ∷ differing (number + 1) bits others)
+  all_from differ later = All-cons (DiffersIn number (bit ∷ bits) (other ∷ others)) number
+      (differing (number + 1) bits others) (differ_here differ) (all_later later)
+
 pub all_differ : (number : ℕ) (bits others : List Bool)
     → All (DiffersIn number bits others) (differing number bits others)
 all_differ number [] others = All-nil (DiffersIn number [] others)
 all_differ number (false ∷ bits) [] = All-nil (DiffersIn number (false ∷ bits) [])
 all_differ number (true ∷ bits) [] = All-nil (DiffersIn number (true ∷ bits) [])
 all_differ number (false ∷ bits) (false ∷ others) =
-    All-weaker (DiffersIn (number + 1) bits others)
-    (DiffersIn number (false ∷ bits) (false ∷ others))
-    (differ_later number false false bits others)
-    (differing (number + 1) bits others) (all_differ (number + 1) bits others)
+    all_later number false false bits others (all_differ (number + 1) bits others)
 all_differ number (true ∷ bits) (true ∷ others) =
-    All-weaker (DiffersIn (number + 1) bits others) (DiffersIn number (true ∷ bits) (true ∷ others))
-    (differ_later number true true bits others)
-    (differing (number + 1) bits others) (all_differ (number + 1) bits others)
+    all_later number true true bits others (all_differ (number + 1) bits others)
 all_differ number (false ∷ bits) (true ∷ others) =
-    All-cons (DiffersIn number (false ∷ bits) (true ∷ others)) number
-    (differing (number + 1) bits others) (differ_here number false true bits others (λ e. cc))
-    (All-weaker (DiffersIn (number + 1) bits others)
-    (DiffersIn number (false ∷ bits) (true ∷ others))
-    (differ_later number false true bits others)
-    (differing (number + 1) bits others) (all_differ (number + 1) bits others))
+    all_from number false true bits others (λ e. cc) (all_differ (number + 1) bits others)
 all_differ number (true ∷ bits) (false ∷ others) =
-    All-cons (DiffersIn number (true ∷ bits) (false ∷ others)) number
-    (differing (number + 1) bits others) (differ_here number true false bits others (λ e. cc))
-    (All-weaker (DiffersIn (number + 1) bits others)
-    (DiffersIn number (true ∷ bits) (false ∷ others))
-    (differ_later number true false bits others)
-    (differing (number + 1) bits others) (all_differ (number + 1) bits others))
+    all_from number true false bits others (λ e. cc) (all_differ (number + 1) bits others)
 
 -- where each bit is turned
 pub length-differing_turned : (number : ℕ) (bits : List Bool)
