@@ -1,7 +1,7 @@
 -- The plan as a circuit: its numbers, and its laws.
 use Rattle.std.specs.Prelude.{ℕ, ◌≡◌, List, ◌∷◌, take}
 use Rattle.std.proofs.Common.{sym, subst, ap, ◌∙◌}
-use Rattle.vk_plan.specs.Plans.{IsPlan, Holds}
+use Rattle.vk_plan.specs.Plans.{PlanValue, IsPlan, Holds}
 use Rattle.vk_matching.specs.declared.plan.MatchingPlan.{MatchingPlan}
 use Rattle.vk_matching.specs.MatchingPlans.{IsMatchingClaim, matching_plan, matching_values}
 use Rattle.vk_matching.specs.MatchingLaws.{matching_inputs, matching_is_plan, matching_begins, matching_sound, matching_complete}
@@ -14,30 +14,36 @@ inputs_of c = c.inputs
 abbrev pub numbers_of : MatchingPlan → List ℕ
 numbers_of c = c.width ∷ c.wives
 
-pub circuit_is_plan : (c : MatchingPlan) → IsPlan (matching_plan (inputs_of c) (numbers_of c))
-circuit_is_plan c = matching_is_plan (inputs_of c) (numbers_of c) c.in_limits
+-- what its circuit is
+abbrev pub planned : MatchingPlan → PlanValue
+planned c = matching_plan (inputs_of c) (numbers_of c)
 
-pub circuit_begins : (c : MatchingPlan) (ranks : List ℕ)
-    → IsMatchingClaim (inputs_of c) (numbers_of c) ranks
-    → take (matching_plan (inputs_of c) (numbers_of c)).inputs
-    (matching_values (inputs_of c) (numbers_of c) ranks) ≡ ranks
-circuit_begins c ranks claim =
-    ap (λ n. take n (matching_values (inputs_of c) (numbers_of c) ranks))
-    (matching_inputs (inputs_of c) (numbers_of c))
-    ∙ matching_begins (inputs_of c) (numbers_of c) c.in_limits ranks claim
+-- what it shows of the ranks
+abbrev pub claim_of : MatchingPlan → List ℕ → Type 0
+claim_of c = IsMatchingClaim (inputs_of c) (numbers_of c)
 
-pub circuit_sound : (c : MatchingPlan) (values : List ℕ)
-    → Holds (matching_plan (inputs_of c) (numbers_of c)) values
-    → IsMatchingClaim (inputs_of c) (numbers_of c)
-    (take (matching_plan (inputs_of c) (numbers_of c)).inputs values)
-circuit_sound c values holds =
-    subst (λ n. IsMatchingClaim (inputs_of c) (numbers_of c) (take n values))
-    (sym (matching_inputs (inputs_of c) (numbers_of c)))
-    (matching_sound (inputs_of c) (numbers_of c) c.in_limits values holds)
+-- the values of all its wires, where that holds of the ranks
+abbrev pub values_of : MatchingPlan → List ℕ → List ℕ
+values_of c = matching_values (inputs_of c) (numbers_of c)
 
-pub circuit_complete : (c : MatchingPlan) (ranks : List ℕ)
-    → IsMatchingClaim (inputs_of c) (numbers_of c) ranks
-    → Holds (matching_plan (inputs_of c) (numbers_of c))
-    (matching_values (inputs_of c) (numbers_of c) ranks)
-circuit_complete c ranks claim =
-    matching_complete (inputs_of c) (numbers_of c) c.in_limits ranks claim
+module _ (c : MatchingPlan) where
+  pub circuit_is_plan : IsPlan (planned c)
+  circuit_is_plan = matching_is_plan (inputs_of c) (numbers_of c) c.in_limits
+
+  inputs_are : (planned c).inputs ≡ inputs_of c
+  inputs_are = matching_inputs (inputs_of c) (numbers_of c)
+
+  pub circuit_begins : (ranks : List ℕ) → claim_of c ranks
+      → take (planned c).inputs (values_of c ranks) ≡ ranks
+  circuit_begins ranks claim =
+      ap (λ n. take n (values_of c ranks)) inputs_are
+      ∙ matching_begins (inputs_of c) (numbers_of c) c.in_limits ranks claim
+
+  pub circuit_sound : (values : List ℕ) → Holds (planned c) values
+      → claim_of c (take (planned c).inputs values)
+  circuit_sound values holds =
+      subst (λ n. claim_of c (take n values)) (sym inputs_are)
+      (matching_sound (inputs_of c) (numbers_of c) c.in_limits values holds)
+
+  pub circuit_complete : (ranks : List ℕ) → claim_of c ranks → Holds (planned c) (values_of c ranks)
+  circuit_complete = matching_complete (inputs_of c) (numbers_of c) c.in_limits

@@ -1,8 +1,8 @@
 ghost use Rattle.std.specs.Prelude.{◌≡◌, ◌<◌, ℕ, length, IfOk};
 ghost use Rattle.vk_matching.specs.Stability.{IsPerson, his_place, her_place, wife_of};
 ghost use Rattle.vk_matching.specs.Couples.{husband_of};
-ghost use Rattle.vk_matching.specs.MatchingPlans.{IsMatchingClaim, copy_at, either_at, man_at, matching_of, matching_plan, matching_values, pair_count, rank_ranges, row_count, size_of, wire_count, woman_at};
-ghost use Rattle.vk_matching.specs.Circuits.{inputs_of, numbers_of, circuit_begins, circuit_complete, circuit_is_plan, circuit_sound};
+ghost use Rattle.vk_matching.specs.MatchingPlans.{copy_at, either_at, man_at, matching_of, pair_count, rank_ranges, row_count, size_of, wire_count, woman_at};
+ghost use Rattle.vk_matching.specs.Circuits.{inputs_of, numbers_of, planned, claim_of, values_of, circuit_begins, circuit_complete, circuit_is_plan, circuit_sound};
 
 use crate::either::EitherAtLeast;
 use crate::plan::MatchingPlan;
@@ -13,13 +13,13 @@ use vk_residue::{NoMemory, Residue};
 use vk_seq::Seq;
 
 impl Circuit for MatchingPlan {
-    ghost plan_of = { λ c. matching_plan (inputs_of c) (numbers_of c) };
+    ghost plan_of = { planned };
 
     ghost is_plan = { circuit_is_plan };
 
-    ghost claim = { λ c ranks. IsMatchingClaim (inputs_of c) (numbers_of c) ranks };
+    ghost claim = { claim_of };
 
-    ghost filled = { λ c ranks. matching_values (inputs_of c) (numbers_of c) ranks };
+    ghost filled = { values_of };
 
     ghost begins = { circuit_begins };
 
@@ -30,8 +30,7 @@ impl Circuit for MatchingPlan {
     #[tactic(auto, using(crate::specs::MatchingLaws::matching_inputs))]
     fn inputs(&self) -> u32
         ensures ranks { result ≡ inputs_of self.now }
-        ensures inputs { result
-            ≡ (matching_plan (inputs_of self.now) (numbers_of self.now)).inputs }
+        ensures inputs { result ≡ (planned self.now).inputs }
     {
         self.inputs
     }
@@ -39,8 +38,7 @@ impl Circuit for MatchingPlan {
     /// For n men and ranks of width t it has `4n^2 + 2n^2*t + n(n-1)(2t + 3)` wires and `4n^2 +
     /// 2n(n-1)` rows.
     fn plan(&self, alloc: Global) -> Result<Plan, NoMemory>
-        ensures plan { IfOk result
-            (λ plan. plan ≡ matching_plan (inputs_of self.now) (numbers_of self.now)) }
+        ensures plan { IfOk result (λ plan. plan ≡ planned self.now) }
         ensures wires { IfOk result (λ plan. length plan.kinds ≡ wire_count (numbers_of self.now)) }
         ensures rows { IfOk result (λ plan. length plan.rows ≡ row_count (numbers_of self.now)) }
     {
@@ -53,9 +51,8 @@ impl Circuit for MatchingPlan {
     }
 
     fn fill(&self, alloc: Global, inputs: &[Residue]) -> Result<Vec<Residue>, NoMemory>
-        requires { IsMatchingClaim (inputs_of self.now) (numbers_of self.now) inputs.now }
-        ensures { IfOk result (λ values.
-            values.items ≡ matching_values (inputs_of self.now) (numbers_of self.now) inputs.now) }
+        requires { claim_of self.now inputs.now }
+        ensures { IfOk result (λ values. values.items ≡ values_of self.now inputs.now) }
     {
         let ranges = self.ranges(alloc)?;
         let mut values = ranged_values(alloc, inputs, &ranges)?;
