@@ -75,33 +75,12 @@ fn read_lanes<S: Shelf>(
     Ok(())
 }
 
-/// Reads a board to the end of its lines.
-#[tactic(auto, unfolding(crate::specs::Reports::report_at))]
-fn read_board<S: Shelf>(
-    alloc: Global,
-    shelf: &mut S,
-    lines: &mut Lines,
-) -> Result<Report, ReportErr>
-    ensures modelled { IfSome (S.held shelf.old) (λ files.
-        Gives fault_of (λ report. report) result (report_at (rest_of lines.old files))) }
-    ensures right { IfOk result IsReport }
-    ensures shelf { OnlyReads S.held S.Shelf.faults ReportErr.Failed result shelf.old shelf.new }
-{
-    let front = read_front(alloc, shelf, lines)?;
-    let Ok(report) = report_from(alloc, &front) else {
-        return Err(ReportErr::NoMemory);
-    };
-    read_lanes(alloc, shelf, lines, &report).map_err(FrontErr::from)?;
-    lines.read_end(shelf).map_err(FrontErr::from)?;
-    Ok(report)
-}
-
 /// Reports what the named board publishes, with the whole file read.
 ///
 /// Errs where the file is missing or longer than 2^30 bytes; with the first of its faults, in the
 /// order of the lines of its head and its seals, the price, the winner, and the lines of its lanes
 /// and its end; where the shelf fails; and for want of memory.
-#[tactic(auto, unfolding(crate::specs::Reports::report_on))]
+#[tactic(auto, unfolding(crate::specs::Reports::report_on, crate::specs::Reports::report_at))]
 pub fn read_report<S: Shelf>(alloc: Global, shelf: &mut S, board: &str) -> Result<Report, ReportErr>
     ensures modelled { IfSome (S.held shelf.old) (λ files.
         Gives fault_of (λ report. report) result (report_on files board.now)) }
@@ -109,6 +88,11 @@ pub fn read_report<S: Shelf>(alloc: Global, shelf: &mut S, board: &str) -> Resul
     ensures shelf { OnlyReads S.held S.Shelf.faults ReportErr.Failed result shelf.old shelf.new }
 {
     let mut lines = Lines::start(alloc, shelf, board)?;
-    let report = read_board(alloc, shelf, &mut lines)?;
+    let front = read_front(alloc, shelf, &mut lines)?;
+    let Ok(report) = report_from(alloc, &front) else {
+        return Err(ReportErr::NoMemory);
+    };
+    read_lanes(alloc, shelf, &mut lines, &report).map_err(FrontErr::from)?;
+    lines.read_end(shelf).map_err(FrontErr::from)?;
     Ok(report)
 }
