@@ -21,7 +21,7 @@ use Rattle.vk_board.proofs.Fronts.{FrontRead, front_right, front_at_shown, front
 use Rattle.vk_report.specs.declared.report.Report.{Report}
 use Rattle.vk_report.specs.declared.report.ReportErr.{ReportErr}
 use Rattle.vk_lines.specs.declared.errors.StartErr.TheVariants.{TooLong}
-use Rattle.vk_report.specs.Reports.{in_board, in_front, passed, lanes_passed, report_with, report_at, in_start, report_on}
+use Rattle.vk_report.specs.Reports.{in_board, in_front, passed, lanes_passed, report_of, report_with, report_at, in_start, report_on}
 use Rattle.vk_report.proofs.Winner.{winner_is, winner_placed}
 use Rattle.vk_report.specs.Meaning.{auction_shape, IsReportOn}
 
@@ -51,38 +51,44 @@ passed_ok (Ok read) done after h =
     (read.0, ap (λ p. Ok (read.0, p.1)) (ok_same (tt, read.1) (done, after) h))
 passed_ok (Err line) done after h = cc
 
--- ---- the parts of a board, and the board
+-- ---- the report and the board
 
-record AreParts (rest : Rest) (head : Head) (seals : List SealLines) (lanes : List LaneLines)
-    (over : Rest) : Type 0 where
-  pub after_head : Rest
-  pub after_seals : Rest
-  pub after_lanes : Rest
-  pub head_is : head_at rest ≡ Ok (head, after_head)
-  pub seals_are : seals_at head after_head ≡ Ok (seals, after_seals)
-  pub lanes_are : lanes_at auction_shape head after_seals ≡ Ok (lanes, after_lanes)
-  pub end_is : end_at after_lanes ≡ Ok (tt, over)
+-- the parts of a board in turn, each with what is left after it
+module _ (rest : Rest) {after_head after_seals after_lanes over : Rest} {head : Head}
+    {seals : List SealLines} {lanes : List LaneLines}
+    (head_is : head_at rest ≡ Ok (head, after_head))
+    (seals_are : seals_at head after_head ≡ Ok (seals, after_seals))
+    (lanes_are : lanes_at auction_shape head after_seals ≡ Ok (lanes, after_lanes))
+    (end_is : end_at after_lanes ≡ Ok (tt, over)) where
+  board_joined : board_at auction_shape rest ≡ Ok (board_with head seals lanes, over)
+  unfolding board_at
+  board_joined = rw (head_is, seals_are, lanes_are, end_is) refl
 
-board_joined : (rest : Rest) (head : Head) (seals : List SealLines) (lanes : List LaneLines)
-    (over : Rest) → AreParts rest head seals lanes over
-    → board_at auction_shape rest ≡ Ok (board_with head seals lanes, over)
+  report_joined : (board : Board) (left : Rest) (position : Option ℕ)
+      → ◌≡◌ {A = Result (Board × Rest) ℕ} (Ok (board_with head seals lanes, over)) (Ok (board, left))
+      → price_stands board.head ≡ true → placed board.head.winner board.seals ≡ Some position
+      → report_at rest ≡ Ok (report_of board.head board.seals)
+  unfolding report_at
+  report_joined board left position same =
+      let P : Board × Rest → Type 0 = λ p. price_stands p.0.head ≡ true
+      → placed p.0.head.winner p.0.seals ≡ Some position
+      → report_at rest ≡ Ok (report_of p.0.head p.0.seals) in
+      subst P (ok_same (board_with head seals lanes, over) (board, left) same) (λ price winner.
+      let read = front_at_found rest (front_with head seals position) after_seals (record {
+        middle = after_head;
+        head_read = head_is;
+        seals_read = seals_are;
+        price = price;
+        winner = winner;
+      }) in
+      rw (read, lanes_are, end_is) refl)
+
+board_reported : (rest over : Rest) (board : Board) (position : Option ℕ)
+    → board_at auction_shape rest ≡ Ok (board, over) → price_stands board.head ≡ true
+    → placed board.head.winner board.seals ≡ Some position
+    → report_at rest ≡ Ok (report_of board.head board.seals)
 unfolding board_at
-board_joined rest head seals lanes over are =
-    rw (are.head_is, are.seals_are, are.lanes_are, are.end_is) refl
-
-parts_of : (rest over last : Rest) (head : Head) (seals : List SealLines) (lanes : List LaneLines)
-    (board : Board) → AreParts rest head seals lanes last
-    → ◌≡◌ {A = Result (Board × Rest) ℕ} (Ok (board_with head seals lanes, last)) (Ok (board, over))
-    → AreParts rest board.head board.seals board.lanes over
-parts_of rest over last head seals lanes board are same =
-    let P : Board × Rest → Type 0 = λ p. AreParts rest p.0.head p.0.seals p.0.lanes p.1 in
-    subst P (ok_same (board_with head seals lanes, last) (board, over) same) are
-
-board_parts : (rest : Rest) (board : Board) (over : Rest)
-    → board_at auction_shape rest ≡ Ok (board, over)
-    → AreParts rest board.head board.seals board.lanes over
-unfolding board_at
-board_parts rest board over some =
+board_reported rest over board position some =
     let head = bind_ok (head_at rest)
     (λ head. ◌>>=◌ (seals_at head.0 head.1)
     (λ seals. ◌>>=◌ (lanes_at auction_shape head.0 seals.1)
@@ -97,33 +103,7 @@ board_parts rest board over some =
     (λ last. Ok (board_with head.0.0 seals.0.0 lanes.0, last.1))) (board, over) seals.2 in
     let last = bind_ok (end_at lanes.0.1)
     (λ last. Ok (board_with head.0.0 seals.0.0 lanes.0.0, last.1)) (board, over) lanes.2 in
-    parts_of rest over last.0.1 head.0.0 seals.0.0 lanes.0.0 board (record {
-      after_head = head.0.1;
-      after_seals = seals.0.1;
-      after_lanes = lanes.0.1;
-      head_is = head.1;
-      seals_are = seals.1;
-      lanes_are = lanes.1;
-      end_is = last.1;
-    }) last.2
-
--- ---- the report and the board
-
-report_joined : (rest : Rest) (front : Front) (lanes : List LaneLines) (over : Rest)
-    → AreParts rest front.head front.seals lanes over
-    → price_stands front.head ≡ true → placed front.head.winner front.seals ≡ Some front.position
-    → report_at rest ≡ Ok (report_with front)
-unfolding report_at
-report_joined rest front lanes over are price winner =
-    let read = front_at_found rest front are.after_seals
-    (record {
-      middle = are.after_head;
-      head_read = are.head_is;
-      seals_read = are.seals_are;
-      price = price;
-      winner = winner;
-    }) in
-    rw (read, are.lanes_are, are.end_is) refl
+    report_joined rest head.1 seals.1 lanes.1 last.1 board over position last.2
 
 -- a report, and the board that it is of
 record IsReportOfBoard (rest : Rest) (report : Report) : Type 0 where
@@ -156,15 +136,8 @@ board_shown rest report some =
       front_is = is;
       lanes = read.0;
       over = over.0.1;
-      board_is = board_joined rest front.0.0.head front.0.0.seals read.0 over.0.1 (record {
-        after_head = is.middle;
-        after_seals = front.0.1;
-        after_lanes = lanes.0.1;
-        head_is = is.head_read;
-        seals_are = is.seals_read;
-        lanes_are = read.1;
-        end_is = in_ok (end_at lanes.0.1) over.0 over.1;
-      });
+      board_is = board_joined rest is.head_read is.seals_read read.1
+          (in_ok (end_at lanes.0.1) over.0 over.1);
       report_is = sym (given (report_with front.0.0) report over.2);
     }
 
@@ -223,11 +196,9 @@ is_reported files name report is =
     let board : Board = publishes.board in
     let rest : Rest = record { taken = 0; left = is.file } in
     let read = (board_is_whole auction_shape).found rest board publishes.is_board publishes.text in
-    let parts = board_parts rest board read.0 read.1 in
     let winner = winner_placed board.seals board.head.winner publishes.winner in
-    let front : Front = front_with board.head board.seals winner.0 in
     ap (λ told. in_start (started told) >>= report_at) is.held
     ∙ ap (λ begins. begins >>= report_at) (started_found is.file is.short)
-    ∙ report_joined rest front board.lanes read.0 parts (price_found board.head publishes.price)
+    ∙ board_reported rest read.0 board winner.0 read.1 (price_found board.head publishes.price)
     winner.1
     ∙ ap (λ made. Ok made) (sym publishes.report_is)
