@@ -1,7 +1,6 @@
 pub mod Forms
 pub mod Faults
 pub mod Named
-pub mod Begun
 pub mod Opening
 pub mod Fronts
 pub mod Exact

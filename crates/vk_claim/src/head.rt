@@ -41,7 +41,7 @@ pub struct ClaimHead {
 
 /// Reads the head of a claim file. Malformed carries the number of the first line that isn't what
 /// its place demands.
-#[tactic(auto, unfolding(crate::specs::Reading::claim_head_at))]
+#[tactic(auto, unfolding(crate::specs::Reading::claim_head_at, crate::specs::Reading::numbers_at))]
 pub fn read_claim_head<S: Shelf>(
     alloc: Global,
     shelf: &mut S,
@@ -55,13 +55,14 @@ pub fn read_claim_head<S: Shelf>(
     lines.read_fixed(shelf, b"vickrey-claim 1")?;
     let auction = lines.read_id(shelf, b"auction")?;
     let kind = read_kind(shelf, lines)?;
-    let count = lines.read_number(shelf, b"lanes", 1, 64)?;
+    let lanes = lines.read_number(shelf, b"lanes", 1, 64)?;
     let inputs = lines.read_number(shelf, b"inputs", 1, 512)?;
-    let numbers = read_numbers(alloc, shelf, lines)?;
+    let count = lines.read_number(shelf, b"numbers", 1, 128)?;
+    let numbers = read_many(alloc, shelf, lines, &NumberLine, count as u32)?;
     Ok(ClaimHead {
         auction,
         kind,
-        lanes: count as u32,
+        lanes: lanes as u32,
         inputs: inputs as u32,
         numbers,
     })
@@ -99,23 +100,6 @@ fn kind_named(word: &[u8]) -> Option<Kind>
     } else {
         None
     }
-}
-
-/// Reads how many numbers there are, and then each.
-#[tactic(auto, unfolding(crate::specs::Reading::numbers_at))]
-fn read_numbers<S: Shelf>(
-    alloc: Global,
-    shelf: &mut S,
-    lines: &mut Lines,
-) -> Result<Seq<u64>, ReadErr>
-    ensures modelled { ReadsPart numbers_at (S.held shelf.old) lines.old lines.new result }
-    ensures right { IfOk result AreNumbers }
-    ensures file { KeepsFile lines.old lines.new }
-    ensures shelf { OnlyReads S.held S.Shelf.faults ReadErr.Failed result shelf.old shelf.new }
-{
-    let count = lines.read_number(shelf, b"numbers", 1, 128)?;
-    let numbers = read_many(alloc, shelf, lines, &NumberLine, count as u32)?;
-    Ok(numbers)
 }
 
 /// The line of a number.
