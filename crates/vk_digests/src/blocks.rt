@@ -40,25 +40,11 @@ pub(crate) fn last_words(last: u32x4) -> [u32x4; 16]
         → slice_index last j ≡ word_at message 64
         → lane j result ≡ first_words (drop 64 (padded_message message)) 16 }
 {
-    let zero = u32x4::splat(0);
-    [
-        last,
-        u32x4::splat(BIT),
-        zero,
-        zero,
-        zero,
-        zero,
-        zero,
-        zero,
-        zero,
-        zero,
-        zero,
-        zero,
-        zero,
-        zero,
-        zero,
-        u32x4::splat(LENGTH),
-    ]
+    let mut words = [u32x4::splat(0); 16];
+    words[0] = last;
+    words[1] = u32x4::splat(BIT);
+    words[15] = u32x4::splat(LENGTH);
+    words
 }
 
 /// The word of each message that begins at its byte `at`.
