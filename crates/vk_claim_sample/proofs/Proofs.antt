@@ -1,29 +1,28 @@
 -- The proof of a sample's claim is an honest one whose rows are sealed.
-use Rattle.std.proofs.Common.{◌≡◌, ℕ, ◌-◌, List, [], length, map, take, Option, Some, None, Result, Ok, Err, refl, sym, ap, subst, ◌∙◌}
-use Rattle.std.proofs.lemmas.List.Elements.{All-weaker}
+use Rattle.std.proofs.Common.{◌≡◌, ℕ, ◌-◌, List, [], length, map, take, None, Result, Ok, Err, sym, ap, subst, ◌∙◌}
 use Rattle.vk_residue.specs.Steps.{◌>>=◌}
 use Rattle.vk_plan.specs.Plans.{PlanValue}
 use Rattle.vk_lines.specs.Gives.{Refuses}
 use Rattle.vk_board.specs.Values.{AreSealsOf}
 use Rattle.vk_verifier.proofs.Steps.{bind_ok}
 use Rattle.vk_keeper.specs.declared.auction.SealRow.{SealRow}
-use Rattle.vk_keeper.specs.Auctions.{IsSealRow}
 use Rattle.vk_job.specs.declared.errors.JobErr.{JobErr}
 use Rattle.vk_job.specs.declared.errors.JobErr.TheVariants as job
-use Rattle.vk_job.specs.Answers.{dry_refusal}
-use Rattle.vk_job.specs.Proofs.{Dry, HasTapesFor, IsProof, ProofValue, TapeSource, first_dry_in, seal_lines_of, source_of}
+use Rattle.vk_job.specs.Answers.{TapesAnswer}
+use Rattle.vk_job.specs.Proofs as job_proofs
+use Rattle.vk_job.specs.Proofs.{IsProof, ProofValue, TapeSource, first_dry_in, seal_lines_of, source_of, source_with}
 use Rattle.vk_job.specs.Published.{head_of}
-use Rattle.vk_job.proofs.Drawing.{lanes_of}
+use Rattle.vk_job.proofs.Held.{have_tapes}
 use Rattle.vk_job.proofs.Parts as job_parts
 use Rattle.vk_honest.specs.Answers.{IsSealedProof}
 use Rattle.vk_report.specs.declared.sample.SampleCase.{SampleCase}
 use Rattle.vk_report.specs.Samples.{IsCase}
 use Rattle.vk_words.specs.declared.claim.ClaimKind.{ClaimKind}
-use Rattle.vk_sample.specs.Auctions.{DrySeed, OfHouse, auction_with, dry_of, of_job, rows_onto, unless_dry}
+use Rattle.vk_sample.specs.Auctions.{DrySeed, auction_with, dry_of, of_job, rows_onto, unless_dry}
 use Rattle.vk_sample.proofs.Auctions.{AllRows, all_rows, is_auction, none_dry}
 use Rattle.vk_claims.specs.Circuits.{plan_inputs, plan_is_right, plan_of}
 use Rattle.vk_claim_sample.proofs.Shown.{IsShown}
-use Rattle.vk_claim_sample.specs.Claims.{kind_in, proof_by, proof_of_parts, proof_unless_dry, proof_with, values_of}
+use Rattle.vk_claim_sample.specs.Claims.{kind_in, proof_by, proof_unless_dry, proof_with, values_of}
 
 module _ (kind : ClaimKind) (case : SampleCase) (is : IsCase case) (numbers : List ℕ) (shown : IsShown kind case numbers) (rows : List SealRow) (all : AllRows case rows)
     (none : first_dry_in (source_of (proof_with kind case numbers rows)) ≡ None) where
@@ -33,11 +32,7 @@ module _ (kind : ClaimKind) (case : SampleCase) (is : IsCase case) (numbers : Li
     one_input_each = all.count ∙ sym (plan_inputs (kind_in kind) (length case.seats) numbers);
     values = shown.holds;
     count = is.size.lanes;
-    secrets = All-weaker (IsSealRow case.auction case.width case.lanes) (HasTapesFor case.lanes)
-        (λ row right. record {
-          count = lanes_of case.auction case.width case.lanes row right;
-          each = right.secret.tapes;
-        }) rows all.right;
+    secrets = have_tapes case.auction case.width case.lanes rows all.right;
     none_dry = none;
   }
 
@@ -88,62 +83,40 @@ is_honest kind case is numbers shown proof made =
 
 -- ---- what refuses it
 
-dry_refuses : (proof : ProofValue) (dry : Option Dry) (refused : JobErr)
-    → Err refused ≡ dry_refusal dry → Refuses (dry_of (of_job refused)) (unless_dry proof dry)
-dry_refuses proof None refused is = cc
-dry_refuses proof (Some dry) (job.DrySeed lane wire) is =
-    let lanes : lane ≡ dry.lane = cc in
-    let wires : wire ≡ dry.wire = cc in
-    let of : ℕ → ℕ → Result ProofValue DrySeed =
-    λ l w. Err (OfHouse (record { lane = l; wire = w })) in
-    ap (λ l. of l dry.wire) (sym lanes) ∙ ap (of lane) (sym wires)
-dry_refuses proof (Some dry) job.NoMemory is = tt
-
-dry_passes : (proof : ProofValue) (dry : Option Dry) → Ok tt ≡ dry_refusal dry
-    → unless_dry proof dry ≡ Ok proof
-dry_passes proof None is = refl
-dry_passes proof (Some dry) is = cc
-
--- what the tapes come from, with so many wires after the inputs
-abbrev pub source_with : SampleCase → List SealRow → ℕ → TapeSource
-source_with case rows further =
-    record {
-      id = case.auction;
-      rows = rows;
-      lanes = case.lanes;
-      seed = case.seed;
-      further = further;
-    }
+dry_refuses : (proof : ProofValue) (source : TapeSource) (refused : JobErr)
+    → TapesAnswer (Err refused) source
+    → Refuses (dry_of (of_job refused)) (unless_dry proof (first_dry_in source))
+dry_refuses proof source (job.DrySeed lane wire) is = ap (unless_dry proof) is
+dry_refuses proof source job.NoMemory is = tt
 
 module _ (kind : ClaimKind) (case : SampleCase) (numbers : List ℕ) (rows : List SealRow) (rows_are : rows_onto case [] (length case.seats) ≡ Ok rows)
     (plan : PlanValue) (plan_is : plan ≡ plan_of (kind_in kind) (length case.seats) numbers) (further : ℕ) (further_is : further ≡ length plan.kinds - plan.inputs) where
-  of_proof : (answer : Result Unit JobErr)
-      → answer ≡ dry_refusal (first_dry_in (source_with case rows further))
-      → answer ≡ dry_refusal (first_dry_in (source_of (proof_with kind case numbers rows)))
-  of_proof answer is =
-      is ∙ ap (λ f. dry_refusal (first_dry_in (source_with case rows f)))
+  same_source : source_with case.auction rows case.lanes case.seed further
+      ≡ source_of (proof_with kind case numbers rows)
+  same_source = ap (source_with case.auction rows case.lanes case.seed)
       (further_is ∙ ap (λ (p : PlanValue). length p.kinds - p.inputs) plan_is)
 
   pub tapes_refuse : (refused : JobErr)
-      → Err refused ≡ dry_refusal (first_dry_in (source_with case rows further))
+      → TapesAnswer (Err refused) (source_with case.auction rows case.lanes case.seed further)
       → Refuses (dry_of (of_job refused)) (proof_by kind case numbers)
   unfolding proof_by
   tapes_refuse refused is =
       subst (λ r. Refuses (dry_of (of_job refused)) (r >>= proof_unless_dry kind case numbers))
       (sym rows_are)
       (dry_refuses (proof_with kind case numbers rows)
-      (first_dry_in (source_of (proof_with kind case numbers rows))) refused
-      (of_proof (Err refused) is))
+      (source_of (proof_with kind case numbers rows)) refused
+      (subst (TapesAnswer (Err refused)) same_source is))
 
   pub tapes_pass : (values : List ℕ) → values ≡ values_of kind (length case.seats) numbers case.bids
-      → Ok tt ≡ dry_refusal (first_dry_in (source_with case rows further))
-      → proof_by kind case numbers ≡ Ok (proof_of_parts case rows plan values)
+      → first_dry_in (source_with case.auction rows case.lanes case.seed further) ≡ None
+      → proof_by kind case numbers
+      ≡ Ok (job_proofs.proof_with case.auction rows case.lanes case.seed plan values)
   unfolding proof_by
-  tapes_pass values values_are is =
+  tapes_pass values values_are none =
       let made : PlanValue → List ℕ → Result ProofValue DrySeed =
-      λ p vs. Ok (proof_of_parts case rows p vs) in
+      λ p vs. Ok (job_proofs.proof_with case.auction rows case.lanes case.seed p vs) in
       ap (λ r. r >>= proof_unless_dry kind case numbers) rows_are
-      ∙ dry_passes (proof_with kind case numbers rows)
-      (first_dry_in (source_of (proof_with kind case numbers rows))) (of_proof (Ok tt) is)
+      ∙ ap (unless_dry (proof_with kind case numbers rows))
+      (ap first_dry_in (sym same_source) ∙ none)
       ∙ ap (λ p. made p (values_of kind (length case.seats) numbers case.bids)) (sym plan_is)
       ∙ ap (made plan) (sym values_are)

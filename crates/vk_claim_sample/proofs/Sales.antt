@@ -1,14 +1,12 @@
 -- The numbers of a sample's sale, and that its bids are as they claim.
 use Rattle.std.proofs.Common.{◌≡◌, ℕ, ◌+◌, ◌-◌, ◌*◌, ◌^◌, ◌<◌, ◌≤◌, Bool, true, false, List, ◌∷◌, length, refl, sym, ap, subst, ◌∙◌, arith, inl, inr}
-use Rattle.std.specs.Prelude.{All, ◌==◌, if◌then◌else◌, slice_index}
-use Rattle.std.proofs.lemmas.Bool.{cases_lt}
+use Rattle.std.specs.Prelude.{All, ◌==◌, if◌then◌else◌}
 use Rattle.std.proofs.Math.Nat.{pow-le-pow_right}
 use Rattle.std.proofs.lemmas.List.Elements.{All-weaker, recursion_from_All}
 use Rattle.std.proofs.lemmas.Nat.{mul-le, pow_pos}
 use Rattle.vk_uniform.specs.Circuits as uniform
 use Rattle.vk_uniform.specs.Outcomes.{IsLoser, IsPositionAmong, IsUniformOutcome, bid_at}
-use Rattle.vk_uniform.specs.Losers.{loser_listed, losers, losers_lose}
-use Rattle.vk_uniform.specs.OutcomeLaws.{outcome_exists, outcome_is_one}
+use Rattle.vk_uniform.specs.OutcomeLaws.{outcome_exists, outcome_is_one, price_is_bid_or_0}
 use Rattle.vk_uniform.specs.UniformLaws.{some_loses_not_all, uniform_rows, uniform_wires}
 use Rattle.vk_uniform.specs.UniformPlans.{IsUniformCase, IsUniformClaim, losers_of, row_count, uniform_plan, width_of, winners_of, wire_count}
 use Rattle.vk_claim.specs.Values.{AreNumbers}
@@ -22,20 +20,13 @@ use Rattle.vk_claim_sample.specs.Claims.{IsSaleOf, claim_case, enough_bids, numb
 price_small : (width : ℕ) (bids winners : List ℕ) (price : ℕ) → All (λ bid. bid < 2 ^ width) bids
     → IsUniformOutcome bids winners price → price < 2 ^ width
 price_small width bids winners price small is =
-    let outside = losers (length bids) winners in
-    elim (cases_lt 0 (length outside)) [
-      | inl some ↦
-          (let held = is.price_is_bid (slice_index outside 0)
-          (losers_lose (length bids) winners 0 0 some) in
-          let at = held.is_loser.is_position in
+    elim (price_is_bid_or_0 bids winners price is) [
+      | inl held ↦
+          (let at = held.is_loser.is_position in
           let below : bid_at bids held.holder < 2 ^ width =
           small (held.holder - 1) 0 (omega (arith, at.some, at.within)) in
           omega (arith, held.bids_price, below))
-      | inr none ↦
-          (let nobody : (position : ℕ) → ¬ IsLoser (length bids) winners position =
-          λ position loses. absurd
-          (omega (arith, none, (loser_listed (length bids) winners position loses).1)) in
-          omega (arith, is.all_win_for_0 nobody, pow_pos width))
+      | inr nothing ↦ omega (arith, nothing, pow_pos width)
     ]
 
 module _ (case : SampleCase) (is : IsCaseOf (sizes_of Uniform) case) (winners : List ℕ) (price : ℕ) (sale : IsUniformOutcome case.bids winners price) (count : length winners ≡ units) where

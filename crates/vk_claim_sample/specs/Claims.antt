@@ -3,9 +3,9 @@
 use Rattle.std.specs.Prelude.{◌≡◌, ◌≤◌, ℕ, List, [], ◌∷◌, length, codes, Result}
 use Rattle.std.proofs.Common.{arith}
 use Rattle.vk_residue.specs.Steps.{◌>>=◌}
-use Rattle.vk_plan.specs.Plans.{PlanValue}
 use Rattle.vk_keeper.specs.declared.auction.SealRow.{SealRow}
-use Rattle.vk_job.specs.Proofs.{ProofValue, first_dry_in, source_of}
+use Rattle.vk_job.specs.Proofs as job
+use Rattle.vk_job.specs.Proofs.{ProofValue, first_dry_in, prepared_proof, source_of}
 use Rattle.vk_uniform.specs.Outcomes.{IsUniformOutcome}
 use Rattle.vk_uniform.specs.OutcomeLaws.{outcome_exists}
 use Rattle.vk_uniform.specs.UniformPlans.{uniform_values}
@@ -113,21 +113,11 @@ head_with kind case numbers = record {
   numbers = numbers;
 }
 
--- what the honest proof of a case is made from, with these seals, this circuit and its values
-abbrev pub proof_of_parts : SampleCase → List SealRow → PlanValue → List ℕ → ProofValue
-proof_of_parts case rows plan values = record {
-  id = case.auction;
-  rows = rows;
-  lanes = case.lanes;
-  seed = case.seed;
-  plan = plan;
-  values = values;
-}
-
--- where these numbers are published
+-- what the honest proof of a case is made from, where these numbers are published
 abbrev pub proof_with : ClaimKind → SampleCase → List ℕ → List SealRow → ProofValue
 proof_with kind case numbers rows =
-    proof_of_parts case rows (plan_of (kind_in kind) (length case.seats) numbers)
+    job.proof_with case.auction rows case.lanes case.seed
+    (plan_of (kind_in kind) (length case.seats) numbers)
     (values_of kind (length case.seats) numbers case.bids)
 
 abbrev pub proof_unless_dry : ClaimKind → SampleCase → List ℕ → List SealRow
@@ -144,4 +134,4 @@ proof_by kind case numbers = rows_onto case [] (length case.seats) >>= proof_unl
 
 -- what was made of the case, as that of its proof
 abbrev pub proof_in : SampleCase → Made → ProofValue
-proof_in case made = proof_of_parts case made.rows made.plan made.values
+proof_in case made = prepared_proof case.auction made.rows case.lanes case.seed made.prepared

@@ -5,7 +5,7 @@ ghost use Rattle.vk_io.specs.Files.{Modelled};
 ghost use Rattle.vk_io.specs.Writing.{WritesAll};
 ghost use Rattle.vk_words.specs.Names.{extract_seen};
 ghost use Rattle.vk_claim.specs.Texts.{claim_head_text};
-ghost use Rattle.vk_job.specs.Proofs.{IsProof};
+ghost use Rattle.vk_job.specs.Proofs.{IsPrepared, IsProof};
 ghost use Rattle.vk_claim_sample.specs.Claims.{head_with, kind_in, proof_in};
 ghost use Rattle.vk_claim_sample.specs.Texts.{claim_names, files_of};
 
@@ -81,6 +81,7 @@ pub fn write_claim<S: Shelf>(
 ) -> Result<(), OutsideErr>
     requires few { length case.now.seats ≤ 64 }
     requires right { IsProof (proof_in case.now made.now) }
+    requires prepared { IsPrepared (proof_in case.now made.now) made.now.prepared }
     requires first { length case.now.first.bits ≡ case.now.lanes }
     requires second { length case.now.second.bits ≡ case.now.lanes }
     ensures written { Modelled
@@ -95,8 +96,7 @@ pub fn write_claim<S: Shelf>(
         made.rows.as_slice(),
         case.lanes,
         case.seed,
-        &made.plan,
-        made.values.as_slice(),
+        &made.prepared,
     );
     let files = ProofFiles {
         names: claim_names(),

@@ -4,14 +4,15 @@ ghost use Rattle.vk_residue.specs.Residue.{IsResidue};
 ghost use Rattle.vk_lines.specs.Gives.{Gives};
 ghost use Rattle.vk_report.specs.Samples.{IsCaseOf};
 ghost use Rattle.vk_claims.specs.Circuits.{plan_of};
+ghost use Rattle.vk_job.specs.Proofs.{IsPrepared};
 ghost use Rattle.vk_sample.specs.Auctions.{dry_of};
 ghost use Rattle.vk_claim_sample.specs.Claims.{MayPublish, kind_in, proof_by, proof_in, sizes_of, values_of};
 
 use std::alloc::Global;
-use vk_job::check_tapes;
+use vk_job::{Prepared, draw_tapes};
 use vk_keeper::SealRow;
 use vk_matching::MatchingPlan;
-use vk_plan::{Circuit, Plan};
+use vk_plan::{Circuit, Plan, RowTable};
 use vk_report::SampleCase;
 use vk_residue::{NoMemory, Residue};
 use vk_sample::{SampleErr, seal_rows};
@@ -19,13 +20,12 @@ use vk_seq::Seq;
 use vk_uniform::UniformPlan;
 use vk_words::ClaimKind;
 
-/// What the honest proof of a case is made from besides it: the seals with their secrets, the
-/// circuit, and the values of its wires.
+/// What the honest proof of a case is made from besides it: the seals with their secrets, and what
+/// serves for every lane.
 #[derive(Drop)]
 pub struct Made {
     pub rows: Seq<SealRow>,
-    pub plan: Plan,
-    pub values: Seq<Residue>,
+    pub prepared: Prepared,
 }
 
 /// A circuit's plan, and the values of all its wires.
@@ -45,22 +45,27 @@ pub fn make_claim(
 ) -> Result<Made, SampleErr>
     requires right { IsCaseOf (sizes_of kind) case.now }
     requires published { MayPublish kind case.now numbers.now }
-    ensures { Gives dry_of (proof_in case.now) result (proof_by kind case.now numbers.now) }
+    ensures proof { Gives dry_of (proof_in case.now) result (proof_by kind case.now numbers.now) }
+    ensures prepared { IfOk result (λ made. IsPrepared (proof_in case.now made) made.prepared) }
 {
     let rows = seal_rows(alloc, case)?;
     let filled = filled_by(alloc, kind, case, numbers)?;
-    check_tapes(
+    let tapes = draw_tapes(
+        alloc,
         &case.auction,
         rows.as_slice(),
         case.lanes,
         &case.seed,
         filled.plan.wires() - filled.plan.inputs(),
     )?;
-    Ok(Made {
-        rows,
+    let table = RowTable::of(alloc, &filled.plan)?;
+    let prepared = Prepared {
         plan: filled.plan,
+        table,
         values: filled.values,
-    })
+        tapes,
+    };
+    Ok(Made { rows, prepared })
 }
 
 /// The plan of these numbers, filled with the case's values.
@@ -121,7 +126,7 @@ fn residues(alloc: Global, numbers: &[u64]) -> Result<Vec<Residue>, NoMemory>
     requires { All IsResidue numbers.now }
     ensures { IfOk result (λ same. same.items ≡ numbers.now) }
 {
-    let mut same = Vec::new(alloc);
+    let mut same = Vec::with_capacity(alloc, numbers.len())?;
     for number in numbers {
         same.push(Residue::new(*number).unwrap())?;
     }

@@ -1,6 +1,7 @@
 ghost use Rattle.std.specs.Prelude.{◌≡◌, ℕ, IfSome, Ok, Option};
 ghost use Rattle.vk_io.specs.Faults.{Causes};
 ghost use Rattle.vk_keeper.specs.Ledgers.{Ledger};
+ghost use Rattle.vk_job.specs.Proofs.{IsPrepared};
 ghost use Rattle.vk_report.specs.Samples.{IsCaseOf};
 ghost use Rattle.vk_effect.specs.Effects.{stores};
 ghost use Rattle.vk_sample.specs.Samples.{Acts};
@@ -81,6 +82,7 @@ fn hold<S: Shelf>(
     requires right { IsCaseOf (sizes_of kind) case.now }
     requires published { MayPublish kind case.now numbers.now }
     requires made { proof_by kind case.now numbers.now ≡ Ok (proof_in case.now made.now) }
+    requires prepared { IsPrepared (proof_in case.now made.now) made.now.prepared }
     ensures acts { (ledger : Option Ledger)
         → IfSome (effect_by kind (S.held shelf.old) ledger number case.now numbers.now
         (Ok (proof_in case.now made.now)))
@@ -89,7 +91,7 @@ fn hold<S: Shelf>(
     ensures causes { Causes OutsideErr.Failed result (S.Shelf.faults shelf.old)
         (S.Shelf.faults shelf.new) }
 {
-    let lines = made_lines(alloc, kind, number, case.lanes, &made.plan)?;
+    let lines = made_lines(alloc, kind, number, case.lanes, &made.prepared.plan)?;
     write_claim(alloc, shelf, kind, case, numbers, made)?;
     let said = read_back(alloc, shelf, lines);
     said

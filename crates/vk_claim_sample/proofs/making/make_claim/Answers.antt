@@ -1,4 +1,7 @@
-use Rattle.std.proofs.Common.{◌≡◌, ◌-◌, length, Err, rules, ap, arith, refl}
+use Rattle.std.proofs.Common.{◌≡◌, ℕ, ◌-◌, length, Err, rules, ap, arith, refl, subst}
+use Rattle.vk_job.specs.Answers.{TapesAnswer}
+use Rattle.vk_job.specs.Proofs.{source_with, tapes_in}
+use Rattle.vk_job.proofs.Held.{have_tapes}
 use Rattle.vk_prover.proofs.Wires.{inputs_within}
 use Rattle.vk_sample.specs.Auctions.{dry_of, of_job}
 use Rattle.vk_sample.proofs.Auctions.{all_rows}
@@ -7,9 +10,9 @@ use Rattle.vk_claim_sample.proofs.Proofs.{tapes_pass, tapes_refuse}
 use Rattle.vk_claim_sample.specs.Claims.{proof_by, proof_unless_dry}
 use Rattle.vk_claim_sample.proofs.making.make_claim.Goals as goal
 
-pub returns-in_err-rows : goal.returns-in_err-rows
+pub returns-in_err-rows-clause-proof : goal.returns-in_err-rows-clause-proof
 unfolding proof_by
-returns-in_err-rows c =
+returns-in_err-rows-clause-proof c =
     let is : c.from_residual.result ≡ Err c.in_err-rows.field-0.0 = search rules in
     rw is (bind_refuses (dry_of c.in_err-rows.field-0.0) _
     (proof_unless_dry c.args.kind c.args.case.now c.args.numbers.now) c.in_err-rows.ensures)
@@ -22,8 +25,8 @@ overflow_sub-wires c = omega (
   inputs_within c.in_ok-filled.filled.plan c.wires.ensures.plan,
 )
 
-pub check_tapes-requires : goal.check_tapes-requires
-check_tapes-requires c =
+pub draw_tapes-requires-clause-few : goal.draw_tapes-requires-clause-few
+draw_tapes-requires-clause-few c =
     let all = all_rows c.args.case.now c.requires.right.right c.in_ok-rows.rows c.in_ok-rows.ensures
     in
     omega (
@@ -35,20 +38,48 @@ check_tapes-requires c =
       c.wires.ensures.plan.wires,
     )
 
-pub returns-in_err-check_tapes : goal.returns-in_err-check_tapes
-returns-in_err-check_tapes c =
-    let refused = c.in_err-check_tapes.field-0.0 in
-    let is : c.from_residual-in_err-check_tapes.result ≡ Err (of_job refused) = search rules in
-    rw is
-    (tapes_refuse c.args.kind c.args.case.now c.args.numbers.now c.in_ok-rows.rows
-    c.in_ok-rows.ensures c.in_ok-filled.filled.plan c.in_ok-filled.ensures.plan
-    (c.wires.result - c.inputs.result) (rw (c.wires.ensures.value, c.inputs.ensures.value) refl)
-    refused (rw (c.as_slice.ensures) at c.in_err-check_tapes.ensures))
+pub draw_tapes-requires-clause-secrets : goal.draw_tapes-requires-clause-secrets
+draw_tapes-requires-clause-secrets c =
+    let case = c.args.case.now in
+    let all = all_rows case c.requires.right.right c.in_ok-rows.rows c.in_ok-rows.ensures in
+    rw (c.as_slice.ensures)
+    (have_tapes case.auction case.width case.lanes c.in_ok-rows.rows all.right)
 
-pub returns : goal.returns
-returns c =
+pub returns-in_err-tapes-clause-proof : goal.returns-in_err-tapes-clause-proof
+returns-in_err-tapes-clause-proof c =
+    let case = c.args.case.now in
+    let refused = c.in_err-tapes.field-0.0 in
+    let further : ℕ = c.wires.result - c.inputs.result in
+    let is : c.from_residual-in_err-tapes.result ≡ Err (of_job refused) = search rules in
+    rw is
+    (tapes_refuse c.args.kind case c.args.numbers.now c.in_ok-rows.rows
+    c.in_ok-rows.ensures c.in_ok-filled.filled.plan c.in_ok-filled.ensures.plan
+    further (rw (c.wires.ensures.value, c.inputs.ensures.value) refl)
+    refused
+    (subst (λ rows. TapesAnswer (Err refused)
+    (source_with case.auction rows case.lanes case.seed further)) c.as_slice.ensures
+    c.in_err-tapes.ensures))
+
+pub returns-clause-proof : goal.returns-clause-proof
+returns-clause-proof c =
     tapes_pass c.args.kind c.args.case.now c.args.numbers.now c.in_ok-rows.rows c.in_ok-rows.ensures
     c.in_ok-filled.filled.plan c.in_ok-filled.ensures.plan
     (c.wires.result - c.inputs.result) (rw (c.wires.ensures.value, c.inputs.ensures.value) refl)
     c.in_ok-filled.filled.values c.in_ok-filled.ensures.values
-    (rw (c.as_slice.ensures) at c.in_ok-check_tapes.ensures)
+    (rw (c.as_slice.ensures) at c.in_ok-tapes.ensures.1)
+
+pub returns-clause-prepared : goal.returns-clause-prepared
+returns-clause-prepared c =
+    let case = c.args.case.now in
+    let tapes = c.in_ok-tapes.tapes in
+    let plan = c.in_ok-filled.filled.plan in
+    let further : ℕ = c.wires.result - c.inputs.result in
+    let is : further ≡ length plan.kinds - plan.inputs =
+    rw (c.wires.ensures.value, c.inputs.ensures.value) refl in
+    record {
+      table = c.in_ok-table.ensures;
+      tapes = subst (λ f. tapes ≡ tapes_in (source_with case.auction c.in_ok-rows.rows case.lanes
+          case.seed f)) is
+          (subst (λ rows. tapes ≡ tapes_in (source_with case.auction rows case.lanes case.seed
+          further)) c.as_slice.ensures c.in_ok-tapes.ensures.0);
+    }

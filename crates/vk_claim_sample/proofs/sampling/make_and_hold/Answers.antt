@@ -23,7 +23,7 @@ returns-in-Ok-clause-so g c = λ ledger.
     c.as_slice-numbers.result.now c.in_ok-published.ensures c.as_slice-numbers.ensures
     (proof_in c.in_ok-case.case c.in-Ok.made) c.hold-said.result
     (stores (g.S.Shelf.held c.args.shelf.now) ledger)
-    (stores (g.S.Shelf.held c.hold-said.new.shelf) ledger) c.in-Ok.ensures
+    (stores (g.S.Shelf.held c.hold-said.new.shelf) ledger) c.in-Ok.ensures.proof
     (c.hold-said.ensures.acts ledger)
 
 pub returns-clause-so : goal.returns-clause-so
@@ -32,5 +32,5 @@ returns-clause-so g c = λ ledger.
     c.in_ok-case.ensures.case c.in_ok-published.published
     c.as_slice-numbers.result.now c.in_ok-published.ensures c.as_slice-numbers.ensures
     (dry_of c.in-Err.dry) c.in_ok-said-in-Err.said
-    (g.S.Shelf.held c.args.shelf.now) ledger c.in-Err.ensures c.in_ok-said-in-Err.ensures.said
+    (g.S.Shelf.held c.args.shelf.now) ledger c.in-Err.ensures.proof c.in_ok-said-in-Err.ensures.said
     c.in_ok-said-in-Err.ensures.dry
