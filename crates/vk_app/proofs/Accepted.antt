@@ -36,19 +36,16 @@ replies_are_accepted files ledger id name reply right is_id done =
     let wrote = replies_are_written files ledger id name reply right is_id done in
     let auction = wrote.0 in
     let challenge = wrote.1.0 in
-    let is = wrote.1.1 in (
-      auction,
-      (
-        challenge_text challenge,
-        reply_of auction challenge,
-        record {
-          kept = is.kept;
-          read = is.read;
-          written = is.written;
-          accepted = answers_are_accepted auction challenge is.proved is.asked;
-        },
-      ),
-    )
+    let is = wrote.1.1 in
+    record {
+      auction = auction;
+      kept = is.kept;
+      challenge_file = challenge_text challenge;
+      read = is.read;
+      reply_file = reply_of auction challenge;
+      written = is.written;
+      accepted = answers_are_accepted auction challenge is.proved is.asked;
+    }
 
 pub challenges_are_answered : ChallengesAreAnswered
 challenges_are_answered files ledger id name reply auction seed challenge is =

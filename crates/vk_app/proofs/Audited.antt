@@ -4,6 +4,7 @@ use Rattle.std.specs.Prelude.{◌⊎◌}
 use Rattle.vk_io.specs.Files.{Files}
 use Rattle.vk_keeper.specs.Ledgers.{Ledger}
 use Rattle.vk_words.specs.Commands.{CommandWords, ClaimExtract, ClaimVerify, Confront, Extract, Report, Verify, command_words}
+use Rattle.vk_words.specs.Names.{ExtractWords}
 use Rattle.vk_effect.specs.Effects.{Outside, SaidValue, outside, puts, says, stores}
 use Rattle.vk_effect.specs.Ends.{Done}
 use Rattle.vk_audit.specs.Answers.{TellsConfrontation, TellsExtraction, TellsReport, TellsVerdict}
@@ -22,7 +23,7 @@ use Rattle.vk_claims.specs.Verdicts.{claim_verify_said}
 use Rattle.vk_claims.proofs.Extracting.{extracts_claims_exactly, tells_claim_extractions, tells_same_claims_exactly}
 use Rattle.vk_claims.proofs.Verifying.{tells_claim_verdicts, verifies_claims_exactly}
 use Rattle.vk_app.specs.Commands.{DoesWork, Work, work_of, work_on}
-use Rattle.vk_app.specs.Promises.{Audits, ClaimHeadline, Claims, Headline}
+use Rattle.vk_app.specs.Promises.{Audits, ClaimHeadline, Claims, Headline, OverFiles, PutsExactly, Says}
 
 -- ---- at its end
 
@@ -42,75 +43,81 @@ module _ (files : Files) (ledger : Option Ledger) (words : List (List ℕ)) (sta
   from_said said P done is = subst (λ text. P status text) (sym done.taken_is)
       (subst (λ n. P n (puts said.text old)) (sym done.status_is) is)
 
-  pub ended_headline : Headline files words status old new.taken
-  ended_headline = record {
-    found = λ names is accepted _ _.
-        from_said (extract_said files names) (λ n text. IsExtracted accepted.two n old text)
-        (done_is (Extract names) is) ((extracts_exactly files names old).0 accepted);
-    only = λ names is. from_said (extract_said files names)
-        (λ n _. (n ≡ 0) ⊎ (n ≡ 3) → AcceptsTwoFiles files names) (done_is (Extract names) is)
-        (extracts_exactly files names old).1;
+  -- the words of a command that says this end so
+  abbrev EndsAs : {N : Type 0} → (N → CommandWords) → (N → SaidValue) → Type 0
+  EndsAs {N} command said = (names : N) → command_words words ≡ Some (command names)
+      → Done status (says ledger (said names)) (outside (stores (Some files) ledger) old) new
+
+  each_puts : (command : ExtractWords → CommandWords) (said : ExtractWords → SaidValue)
+      (Accepts : ExtractWords → Type 0)
+      (Puts : (names : ExtractWords) → Accepts names → ℕ → Option (List ℕ) → Type 0)
+      → EndsAs command said
+      → ((names : ExtractWords) → ((accepted : Accepts names)
+      → Puts names accepted (said names).status (puts (said names).text old))
+      × (((said names).status ≡ 0) ⊎ ((said names).status ≡ 3) → Accepts names))
+      → PutsExactly words status command Accepts
+      (λ names accepted. Puts names accepted status new.taken)
+  each_puts command said Accepts Puts ends exactly = record {
+    found = λ names is accepted _ _. from_said (said names) (Puts names accepted) (ends names is)
+        ((exactly names).0 accepted);
+    only = λ names is. from_said (said names) (λ n _. (n ≡ 0) ⊎ (n ≡ 3) → Accepts names)
+        (ends names is) (exactly names).1;
   }
+
+  each_says : {N : Type 0} (command : N → CommandWords) (said : N → SaidValue)
+      (Means Tells : N → ℕ → Option (List ℕ) → Type 0) → EndsAs command said
+      → ((names : N) → Means names (said names).status (puts (said names).text old))
+      → ((names : N) → Tells names (said names).status (puts (said names).text old))
+      → (names : N) → command_words words ≡ Some (command names)
+      → Says status (Means names status new.taken) (Tells names status new.taken)
+  each_says command said Means Tells ends means tells names is = record {
+    means = from_said (said names) (Means names) (ends names is) (means names);
+    tells = λ _ _. from_said (said names) (Tells names) (ends names is) (tells names);
+  }
+
+  pub ended_headline : Headline files words status old new.taken
+  ended_headline =
+      each_puts Extract (extract_said files) (AcceptsTwoFiles files)
+      (λ names accepted n text. IsExtracted accepted.two n old text)
+      (λ names. done_is (Extract names)) (λ names. extracts_exactly files names old)
+
+  pub ended_claim_headline : ClaimHeadline files words status old new.taken
+  ended_claim_headline =
+      each_puts ClaimExtract (claim_extract_said files) (AcceptsTwoClaims files)
+      (λ names accepted n text. IsClaimExtracted accepted.two n old text)
+      (λ names. done_is (ClaimExtract names))
+      (λ names. extracts_claims_exactly files names old)
 
   pub ended_audits : Audits files words status old new.taken
   ended_audits = record {
-    verify = λ names is. record {
-      accepts = from_said (verify_said files names) (λ n _. IsVerified files names n)
-          (done_is (Verify names) is) (verifies_exactly files names);
-      tells = λ _ _. from_said (verify_said files names)
-          (λ n text. TellsVerdict files names n old text) (done_is (Verify names) is)
-          (tells_verdicts files names old);
-    };
-    extract = λ names is. record {
-      same = from_said (extract_said files names) (λ n _. IsSame files names n)
-          (done_is (Extract names) is) (tells_same_exactly files names);
-      tells = λ _ _. from_said (extract_said files names)
-          (λ n text. TellsExtraction files names n old text) (done_is (Extract names) is)
-          (tells_extractions files names old);
-    };
-    confront = λ names is. record {
-      binds = from_said (confront_said files names) (λ n text. BindsSecret files names n old text)
-          (done_is (Confront names) is) (binds_exactly files names old);
-      tells = λ _ _. from_said (confront_said files names)
-          (λ n text. TellsConfrontation files names n old text) (done_is (Confront names) is)
-          (tells_confrontations files names old);
-    };
-    report = λ board is. record {
-      reports = from_said (report_said files board) (λ n text. IsReported files board n old text)
-          (done_is (Report board) is) (reports_exactly files board old);
-      tells = λ _ _. from_said (report_said files board)
-          (λ n text. TellsReport files board n old text) (done_is (Report board) is)
-          (tells_reports files board old);
-    };
-  }
-
-  pub ended_claim_headline : ClaimHeadline files words status old new.taken
-  ended_claim_headline = record {
-    found = λ names is accepted _ _.
-        from_said (claim_extract_said files names)
-        (λ n text. IsClaimExtracted accepted.two n old text) (done_is (ClaimExtract names) is)
-        ((extracts_claims_exactly files names old).0 accepted);
-    only = λ names is. from_said (claim_extract_said files names)
-        (λ n _. (n ≡ 0) ⊎ (n ≡ 3) → AcceptsTwoClaims files names) (done_is (ClaimExtract names) is)
-        (extracts_claims_exactly files names old).1;
+    verify = each_says Verify (verify_said files) (λ names n _. IsVerified files names n)
+        (λ names n text. TellsVerdict files names n old text) (λ names. done_is (Verify names))
+        (verifies_exactly files) (λ names. tells_verdicts files names old);
+    extract = each_says Extract (extract_said files) (λ names n _. IsSame files names n)
+        (λ names n text. TellsExtraction files names n old text) (λ names. done_is (Extract names))
+        (tells_same_exactly files) (λ names. tells_extractions files names old);
+    confront = each_says Confront (confront_said files)
+        (λ names n text. BindsSecret files names n old text)
+        (λ names n text. TellsConfrontation files names n old text)
+        (λ names. done_is (Confront names)) (λ names. binds_exactly files names old)
+        (λ names. tells_confrontations files names old);
+    report = each_says Report (report_said files) (λ board n text. IsReported files board n old text)
+        (λ board n text. TellsReport files board n old text) (λ board. done_is (Report board))
+        (λ board. reports_exactly files board old) (λ board. tells_reports files board old);
   }
 
   pub ended_claims : Claims files words status old new.taken
   ended_claims = record {
-    verify = λ names is. record {
-      accepts = from_said (claim_verify_said files names) (λ n _. IsClaimVerified files names n)
-          (done_is (ClaimVerify names) is) (verifies_claims_exactly files names);
-      tells = λ _ _. from_said (claim_verify_said files names)
-          (λ n text. TellsClaimVerdict files names n old text) (done_is (ClaimVerify names) is)
-          (tells_claim_verdicts files names old);
-    };
-    extract = λ names is. record {
-      same = from_said (claim_extract_said files names) (λ n _. IsSameClaim files names n)
-          (done_is (ClaimExtract names) is) (tells_same_claims_exactly files names);
-      tells = λ _ _. from_said (claim_extract_said files names)
-          (λ n text. TellsClaimExtraction files names n old text) (done_is (ClaimExtract names) is)
-          (tells_claim_extractions files names old);
-    };
+    verify = each_says ClaimVerify (claim_verify_said files)
+        (λ names n _. IsClaimVerified files names n)
+        (λ names n text. TellsClaimVerdict files names n old text)
+        (λ names. done_is (ClaimVerify names)) (verifies_claims_exactly files)
+        (λ names. tells_claim_verdicts files names old);
+    extract = each_says ClaimExtract (claim_extract_said files)
+        (λ names n _. IsSameClaim files names n)
+        (λ names n text. TellsClaimExtraction files names n old text)
+        (λ names. done_is (ClaimExtract names)) (tells_same_claims_exactly files)
+        (λ names. tells_claim_extractions files names old);
   }
 
 -- ---- as far as the files are modelled
@@ -121,7 +128,7 @@ TellsOf P = (held : Option Files) (ledger : Option Ledger) (words : List (List �
     (old : Option (List ℕ)) (new : Outside)
     → IfSome (work_on held ledger words)
     (λ work. DoesWork status work (outside (stores held ledger) old) new)
-    → IfSome held (λ files. P files words status old new.taken)
+    → OverFiles P held words status old new.taken
 
 module _ (P : Files → List (List ℕ) → ℕ → Option (List ℕ) → Option (List ℕ) → Type 0)
     (ended : (files : Files) (ledger : Option Ledger) (words : List (List ℕ)) (status : ℕ) (old : Option (List ℕ)) (new : Outside)

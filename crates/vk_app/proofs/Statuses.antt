@@ -5,6 +5,7 @@ use Rattle.std.specs.FinMap.{get}
 use Rattle.vk_io.specs.Files.{Files}
 use Rattle.vk_lines.specs.Lines.{Rest, line_by}
 use Rattle.vk_lines.specs.Tokens.{word_of}
+use Rattle.vk_commit.specs.Commitment.{TwoOpeningsSeen}
 use Rattle.vk_reply.specs.Reading.{challenge_at}
 use Rattle.vk_seal.specs.declared.making.SealErr.{SealErr}
 use Rattle.vk_seal.specs.declared.making.SealErr.TheVariants as unmade
@@ -21,7 +22,8 @@ use Rattle.vk_bids.specs.declared.confrontation.ConfrontErr.TheVariants as confr
 use Rattle.vk_bids.specs.declared.confrontation.Confrontation.{Confrontation}
 use Rattle.vk_bids.specs.declared.confrontation.Confrontation.TheVariants as confrontations
 use Rattle.vk_bids.specs.declared.extraction.Extraction.TheVariants as extractions
-use Rattle.vk_bids.specs.Extraction.{Extraction, extraction_on}
+use Rattle.vk_bids.specs.declared.extraction.Extraction.{Extraction}
+use Rattle.vk_bids.specs.Extraction.{Extraction as BoardExtraction, extraction_on}
 use Rattle.vk_report.specs.declared.report.ReportErr.{ReportErr}
 use Rattle.vk_report.specs.declared.report.ReportErr.TheVariants as unreported
 use Rattle.vk_report.specs.Reports.{report_on}
@@ -52,7 +54,7 @@ use Rattle.vk_coin.specs.Coins.{unmet_part}
 use Rattle.vk_coin.specs.Reading.{coin_at}
 use Rattle.vk_coins.specs.Boards.{derive_deed, derived_in}
 use Rattle.vk_coins.specs.Deeds.{coin_on}
-use Rattle.vk_coins.specs.Joining.{coin_deed, deed_by, joined_if}
+use Rattle.vk_coins.specs.Joining.{coin_deed, coin_in, deed_by, joined_if}
 use Rattle.vk_reply.specs.declared.challenge.Challenge.{Challenge}
 use Rattle.vk_audit.specs.Audits.{AuditWords, audit_said}
 use Rattle.vk_audit.specs.Audits as audits
@@ -117,12 +119,23 @@ unread_files names (unread.TooLong part) = refl
 unread_files names unread.Failed = refl
 unread_files names unread.NoMemory = refl
 
-extracted : (names : ExtractWords) (extraction : Extraction)
+-- what two replies come to
+by_extraction : {V X : Type 0} (said : Extraction V X → SaidValue) (extraction : Extraction V X)
+    → ((second : Bool) (verdict : V) → SaysOther (said (extractions.Refused second verdict)))
+    → SaysOther (said extractions.Same)
+    → ((two : TwoOpeningsSeen) → SaysOther (said (extractions.Clash two)))
+    → ((found : X) → SaysOther (said (extractions.Bids found))) → SaysOther (said extraction)
+by_extraction said (extractions.Refused second verdict) refused same clash bids =
+    refused second verdict
+by_extraction said extractions.Same refused same clash bids = same
+by_extraction said (extractions.Clash two) refused same clash bids = clash two
+by_extraction said (extractions.Bids found) refused same clash bids = bids found
+
+extracted : (names : ExtractWords) (extraction : BoardExtraction)
     → SaysOther (extraction_said names extraction)
-extracted names (extractions.Refused second verdict) = judged names second verdict
-extracted names extractions.Same = refl
-extracted names (extractions.Clash two) = refl
-extracted names (extractions.Bids found) = refl
+extracted names extraction =
+    by_extraction (extraction_said names) extraction (judged names) refl (λ two. refl)
+    (λ found. refl)
 
 confronted : (names : ConfrontWords) (confrontation : Confrontation)
     → SaysOther (confrontation_said names confrontation)
@@ -153,19 +166,18 @@ unreported_file board unreported.NoMemory = refl
 
 claim_told : (names : ExtractWords) (second : Bool) (verdict : ClaimVerdict)
     → SaysOther (claim_judged_said names second verdict)
+claim_told names second claim_verdicts.Public = refl
 claim_told names second claim_verdicts.Accepted = refl
 claim_told names second (claim_verdicts.Malformed part line) = refl
-claim_told names second claim_verdicts.Public = refl
 claim_told names second claim_verdicts.Lanes = refl
 claim_told names second (claim_verdicts.Wire lane wire fault) = refl
 claim_told names second (claim_verdicts.Row lane row) = refl
 
 values_told : (names : ExtractWords) (extraction : ClaimExtraction)
     → SaysOther (claim_extraction_said names extraction)
-values_told names (extractions.Refused second verdict) = claim_told names second verdict
-values_told names extractions.Same = refl
-values_told names (extractions.Clash two) = refl
-values_told names (extractions.Bids found) = refl
+values_told names extraction =
+    by_extraction (claim_extraction_said names) extraction (claim_told names) refl (λ two. refl)
+    (λ found. refl)
 
 claimed : (files : Files) (order : ClaimWords) → SaysOther (claim_said files order)
 claimed files (claims.Verify names) =
@@ -361,17 +373,28 @@ module _ (files : Files) (ledger : Ledger) (status : ℕ) (old : Option (List �
   by_script None ends = tt
   by_script (Some whole) ends = ends
 
-  command_other : (found : Option Effect) → IsSomeAnd found EndsOther
-      → IfSome (option_map Command found) EndsThis → status ≡ 2 → ⊥
-  command_other found told ends =
-      two_told (λ effect. Ends (Ok status) effect before new) (λ effect. effect.status) found status
-      told (by_command found ends) (λ effect done. done.status_is)
+  command_other : {C : Type 0} (found : Option Effect) → IsSomeAnd found EndsOther
+      → IfSome (option_map Command found) EndsThis → status ≡ 2 → C
+  command_other found told ends two =
+      absurd (two_told (λ effect. Ends (Ok status) effect before new) (λ effect. effect.status)
+      found status told (by_command found ends) (λ effect done. done.status_is) two)
 
-  script_other : (found : Option ceremonies.Ceremony) → IsSomeAnd found ClosesOther
-      → IfSome (option_map Script found) EndsThis → status ≡ 2 → ⊥
-  script_other found told ends =
-      two_told (λ whole. EndsAll (Ok status) whole before new) (λ whole. whole.closing.status) found
-      status told (by_script found ends) (λ whole done. done.0)
+  audit_other : {C : Type 0} (order : AuditWords)
+      → IfSome (option_map Command (audit_on (Some files) (Some ledger) order)) EndsThis
+      → status ≡ 2 → C
+  audit_other order = command_other (audit_on (Some files) (Some ledger) order) (audited files order)
+
+  claim_other : {C : Type 0} (order : ClaimWords)
+      → IfSome (option_map Command (claim_on (Some files) (Some ledger) order)) EndsThis
+      → status ≡ 2 → C
+  claim_other order = command_other (claim_on (Some files) (Some ledger) order) (claimed files order)
+
+  script_other : {C : Type 0} (found : Option ceremonies.Ceremony) → IsSomeAnd found ClosesOther
+      → IfSome (option_map Script found) EndsThis → status ≡ 2 → C
+  script_other found told ends two =
+      absurd (two_told (λ whole. EndsAll (Ok status) whole before new)
+      (λ whole. whole.closing.status) found status told (by_script found ends)
+      (λ whole done. done.0) two)
 
   sealed_told : (order : SealWords) → IsSomeAnd (seal_on (Some ledger) order) EndsOther
   unfolding seal_on
@@ -397,7 +420,7 @@ module _ (files : Files) (ledger : Ledger) (status : ℕ) (old : Option (List �
   made_told : (order : CoinWords) → IsSomeAnd (coin_on (Some files) (Some ledger) order) EndsOther
   made_told (coins.Part order) = refl
   made_told (coins.Join names) =
-      joined names (named_in coin_at files names.from) (file_read coin_at files names.from)
+      joined names (coin_in files names.from) (file_read coin_at files names.from)
   made_told (coins.Board names) = derived names (derived_in files names.from)
 
   order_is_told : (order : HouseWords)
@@ -418,38 +441,23 @@ module _ (files : Files) (ledger : Ledger) (status : ℕ) (old : Option (List �
       → CommandEndsFreely command (Ok status) before new → status ≡ 2 → command ≡ None
   no_command None ends free two = refl
   no_command (Some (Seal order)) ends free two =
-      absurd (command_other (seal_on (Some ledger) order) (sealed_told order) ends two)
+      command_other (seal_on (Some ledger) order) (sealed_told order) ends two
   no_command (Some (House order)) ends free two =
-      absurd (command_other (house_effect (Some files) (Some ledger) order) (order_is_told order)
-      ends two)
-  no_command (Some (Verify names)) ends free two =
-      absurd (command_other (audit_on (Some files) (Some ledger) (audits.Verify names))
-      (audited files (audits.Verify names)) ends two)
-  no_command (Some (Extract names)) ends free two =
-      absurd (command_other (audit_on (Some files) (Some ledger) (audits.Extract names))
-      (audited files (audits.Extract names)) ends two)
-  no_command (Some (Confront names)) ends free two =
-      absurd (command_other (audit_on (Some files) (Some ledger) (audits.Confront names))
-      (audited files (audits.Confront names)) ends two)
-  no_command (Some (Report board)) ends free two =
-      absurd (command_other (audit_on (Some files) (Some ledger) (audits.Report board))
-      (audited files (audits.Report board)) ends two)
-  no_command (Some (ClaimVerify names)) ends free two =
-      absurd (command_other (claim_on (Some files) (Some ledger) (claims.Verify names))
-      (claimed files (claims.Verify names)) ends two)
-  no_command (Some (ClaimExtract names)) ends free two =
-      absurd (command_other (claim_on (Some files) (Some ledger) (claims.Extract names))
-      (claimed files (claims.Extract names)) ends two)
+      command_other (house_effect (Some files) (Some ledger) order) (order_is_told order) ends two
+  no_command (Some (Verify names)) ends free two = audit_other (audits.Verify names) ends two
+  no_command (Some (Extract names)) ends free two = audit_other (audits.Extract names) ends two
+  no_command (Some (Confront names)) ends free two = audit_other (audits.Confront names) ends two
+  no_command (Some (Report board)) ends free two = audit_other (audits.Report board) ends two
+  no_command (Some (ClaimVerify names)) ends free two = claim_other (claims.Verify names) ends two
+  no_command (Some (ClaimExtract names)) ends free two = claim_other (claims.Extract names) ends two
   no_command (Some (ClaimSample Uniform number)) ends free two =
-      absurd (command_other (claim_sample_on (Some files) (Some ledger) Uniform number)
-      (claim_sampled_told Uniform number (numbers_of number)) ends two)
+      command_other (claim_sample_on (Some files) (Some ledger) Uniform number)
+      (claim_sampled_told Uniform number (numbers_of number)) ends two
   no_command (Some (ClaimSample Matching number)) ends free two =
       absurd (matching_other number free two)
   no_command (Some (commands.Coin order)) ends free two =
-      absurd (command_other (coin_on (Some files) (Some ledger) order) (made_told order) ends two)
+      command_other (coin_on (Some files) (Some ledger) order) (made_told order) ends two
   no_command (Some (Sample number)) ends free two =
-      absurd (command_other (sample_on (Some files) (Some ledger) number) (sampled_told number) ends
-      two)
+      command_other (sample_on (Some files) (Some ledger) number) (sampled_told number) ends two
   no_command (Some (Ceremony script)) ends free two =
-      absurd (script_other (ceremony_on (Some files) (Some ledger) script) (script_is_told script)
-      ends two)
+      script_other (ceremony_on (Some files) (Some ledger) script) (script_is_told script) ends two

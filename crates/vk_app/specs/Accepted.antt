@@ -18,24 +18,30 @@ use Rattle.vk_auctioneer.specs.Effects.{answer_effect}
 use Rattle.vk_auctioneer.specs.Laws.{LeavesAuction}
 use Rattle.vk_auctioneer.specs.Leaving.{LeavesReply}
 
+-- `answer` ends with status 0
+abbrev pub IsAnswered : Files → Ledger → (id challenge_name reply : List ℕ) → Type 0
+IsAnswered files ledger id challenge_name reply =
+    (answer_effect files ledger id challenge_name reply).status ≡ 0
+
 -- the effect of `answer`: it leaves an auction with whose board, and the challenge of the named
 -- file, what it writes is accepted
 pub record WritesAccepted (files : Files) (id challenge_name reply : List ℕ) (effect : Effect)
-    (auction : Auction) (challenge_file reply_file : List ℕ) : Type 0 where
+    : Type 0 where
+  pub auction : Auction
   pub kept : LeavesAuction effect id auction
+  pub challenge_file : List ℕ
   pub read : get files challenge_name ≡ Some challenge_file
+  pub reply_file : List ℕ
   pub written : effect.writes ≡ (reply, reply_file) ∷ []
   pub accepted : Accepts (board_of auction) challenge_file reply_file
 
--- each `answer` that ends with status 0 does so
+-- each that does so has such an effect
 abbrev pub RepliesAreAccepted : Type 0
 RepliesAreAccepted =
     (files : Files) (ledger : Ledger) (id challenge_name reply : List ℕ) → IsLedger ledger
-    → AreBytes 16 id
-    → (answer_effect files ledger id challenge_name reply).status ≡ 0
-    → (auction : Auction) × ((challenge_file reply_file : List ℕ)
-    × WritesAccepted files id challenge_name reply
-    (answer_effect files ledger id challenge_name reply) auction challenge_file reply_file)
+    → AreBytes 16 id → IsAnswered files ledger id challenge_name reply
+    → WritesAccepted files id challenge_name reply
+    (answer_effect files ledger id challenge_name reply)
 
 -- the auction is proved and was not answered, and the named file is a challenge with a bit for each
 -- of its lanes
@@ -53,7 +59,7 @@ ChallengesAreAnswered =
     (files : Files) (ledger : Ledger) (id challenge_name reply : List ℕ) (auction : Auction)
     (seed : List ℕ) (challenge : Challenge)
     → IsAsked files ledger id challenge_name auction seed challenge
-    → (answer_effect files ledger id challenge_name reply).status ≡ 0
+    → IsAnswered files ledger id challenge_name reply
 
 -- a reply that is left, whether or not the keeper is modelled: the file of the challenge's name
 -- held the challenge's text, and with that the reply is accepted with the board of its auction
@@ -78,9 +84,9 @@ pub record IsPublished (files : Files) (ledger : Ledger) (id board : List ℕ) (
 pub record DerivesAnswered (files : Files) (ledger : Ledger)
     (id board challenge reply : List ℕ) : Type 0 where
   pub derived : (board_deed (record { from = board; challenge = challenge }) files).said.status ≡ 0
-  pub answered : (answer_effect
+  pub answered : IsAnswered
       (written (board_deed (record { from = board; challenge = challenge }) files).writes files)
-      ledger id challenge reply).status ≡ 0
+      ledger id challenge reply
 
 -- so is each such board
 abbrev pub DerivedAreAnswered : Type 0

@@ -1,13 +1,14 @@
 -- What a command does, where nothing outside fails and memory is given.
-use Rattle.std.specs.Prelude.{ℕ, List, Option, Some, None, option_map, Result, Ok, Err}
+use Rattle.std.specs.Prelude.{◌≡◌, ◌≢◌, ◌⊎◌, ℕ, List, Option, Some, None, IfSome, option_map, Result, Ok, Err}
+use Rattle.vk_io.specs.Faults.{Causes}
 use Rattle.vk_io.specs.Files.{Files}
 use Rattle.vk_io.specs.declared.errors.OutsideErr.{OutsideErr}
 use Rattle.vk_io.specs.declared.errors.OutsideErr.TheVariants.{Failed}
 use Rattle.vk_keeper.specs.Ledgers.{Ledger}
-use Rattle.vk_words.specs.Commands.{CommandWords, Seal, House, Verify, Extract, Confront, Report, Sample, Ceremony, ClaimVerify, ClaimExtract, ClaimSample, Coin, command_words}
+use Rattle.vk_words.specs.Commands.{AsksNoKeeper, CommandWords, Seal, House, Verify, Extract, Confront, Report, Sample, Ceremony, ClaimVerify, ClaimExtract, ClaimSample, Coin, command_words}
 use Rattle.vk_words.specs.Usage.{usage_text}
-use Rattle.vk_effect.specs.Effects.{Effect, Outside, SaidValue, Stores, says}
-use Rattle.vk_effect.specs.Ends.{Ends}
+use Rattle.vk_effect.specs.Effects.{Effect, Outside, SaidValue, Stores, says, stores}
+use Rattle.vk_effect.specs.Ends.{Acts, Ends}
 use Rattle.vk_audit.specs.Audits.{AuditWords, audit_said}
 use Rattle.vk_audit.specs.Audits as audits
 use Rattle.vk_claims.specs.Orders.{ClaimWords, claim_said}
@@ -106,3 +107,30 @@ DoesWork status work old new = EndsWork (Ok status) work old new
 -- it was stopped, for whichever cause
 abbrev pub StopsWork : Work → Outside → Outside → Type 0
 StopsWork work old new = EndsWork (Err Failed) work old new
+
+-- where it is known what the words do: with any status but 6 and 9 that was done
+abbrev pub RunIsDone : List (List ℕ) → (status : ℕ) → (old new : Outside) → Type 0
+RunIsDone words status old new = IfSome (work_on old.files old.ledger words)
+    (λ work. status ≢ 6 → status ≢ 9 → DoesWork status work old new)
+
+-- and with these it was stopped
+abbrev pub RunIsStopped : List (List ℕ) → (status : ℕ) → (old new : Outside) → Type 0
+RunIsStopped words status old new = IfSome (work_on old.files old.ledger words)
+    (λ work. (status ≡ 6) ⊎ (status ≡ 9) → StopsWork work old new)
+
+-- ---- what a call does to a shelf, and to a keeper
+
+-- a command on files alone has its effect, where that is known, over whatever ledger; and it
+-- answers a fault of the outside exactly where the shelf's count rose
+pub record ActsOnFiles {S : Type 0} (held : S → Option Files) (count : S → ℕ)
+    (effect : Option Files → Option Ledger → Option Effect) (result : Result SaidValue OutsideErr)
+    (old new : S) : Type 0 where
+  pub acts : (ledger : Option Ledger) → IfSome (effect (held old) ledger)
+      (λ whole. Acts result whole (stores (held old) ledger) (stores (held new) ledger))
+  pub causes : Causes Failed result (count old) (count new)
+
+-- a command that asks no keeper leaves it alone
+abbrev pub LeavesKeeper : {K : Type 0} → (K → Option Ledger) → (count : K → ℕ)
+    → Option CommandWords → (old new : K) → Type 0
+LeavesKeeper ledger count command old new = AsksNoKeeper command
+    → (ledger new ≡ ledger old) × (count new ≡ count old)

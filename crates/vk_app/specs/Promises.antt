@@ -1,6 +1,6 @@
 -- What `run` promises, one record for each family of commands, over files and a ledger that are
 -- modelled.
-use Rattle.std.specs.Prelude.{◌≡◌, ◌≢◌, ◌⊎◌, ℕ, ◌^◌, ◌<◌, ◌≤◌, Bool, List, [], length, Option, Some, None}
+use Rattle.std.specs.Prelude.{◌≡◌, ◌≢◌, ◌⊎◌, ℕ, ◌^◌, ◌<◌, ◌≤◌, Bool, List, [], length, Option, Some, None, IfSome}
 use Rattle.std.specs.FinMap.{get}
 use Rattle.vk_io.specs.Files.{Files, Modelled}
 use Rattle.vk_keeper.specs.Ledgers.{Ledger}
@@ -25,98 +25,84 @@ use Rattle.vk_ceremony.specs.Runs.{orders_in}
 use Rattle.vk_app.specs.Auctions.{CommandIsDone, Serves}
 use Rattle.vk_app.specs.Commands.{script_in, usage_said}
 
+-- where files are modelled, this is promised of the words and the status, and of the text before
+-- and after
+abbrev pub OverFiles : (Files → List (List ℕ) → ℕ → Option (List ℕ) → Option (List ℕ) → Type 0)
+    → Option Files → List (List ℕ) → (status : ℕ) → (old new : Option (List ℕ)) → Type 0
+OverFiles Promised held words status old new =
+    IfSome held (λ files. Promised files words status old new)
+
 -- ---- the headline
+
+-- of two replies that are accepted, a command that extracts puts what is extracted of them; and it
+-- puts such of no others
+pub record PutsExactly (words : List (List ℕ)) (status : ℕ) (command : ExtractWords → CommandWords)
+    (Accepts : ExtractWords → Type 0) (Puts : (names : ExtractWords) → Accepts names → Type 0)
+    : Type 0 where
+  pub found : (names : ExtractWords) → command_words words ≡ Some (command names)
+      → (accepted : Accepts names) → status ≢ 6 → status ≢ 9 → Puts names accepted
+  pub only : (names : ExtractWords) → command_words words ≡ Some (command names)
+      → (status ≡ 0) ⊎ (status ≡ 3) → Accepts names
 
 -- of two replies that are accepted with one board for different challenges, `extract` puts the bids
 -- of each lane whose bits differ: they are below 2^width, open the lane's seals, and have the
 -- Vickrey outcome that the board publishes, which is the published sale under the board's reserve,
 -- 0 in version 1. Or it puts two openings of one commitment. It puts such of no others
-pub record Headline (files : Files) (words : List (List ℕ)) (status : ℕ)
-    (old new : Option (List ℕ)) : Type 0 where
-  pub found : (names : ExtractWords) → command_words words ≡ Some (Extract names)
-      → (accepted : AcceptsTwoFiles files names)
-      → status ≢ 6 → status ≢ 9 → IsExtracted accepted.two status old new
-  pub only : (names : ExtractWords) → command_words words ≡ Some (Extract names)
-      → (status ≡ 0) ⊎ (status ≡ 3) → AcceptsTwoFiles files names
+abbrev pub Headline : Files → List (List ℕ) → (status : ℕ) → (old new : Option (List ℕ)) → Type 0
+Headline files words status old new =
+    PutsExactly words status Extract (AcceptsTwoFiles files)
+    (λ names accepted. IsExtracted accepted.two status old new)
 
 -- of two replies that are accepted with one claim file for different challenges, `claim-extract`
 -- puts the values of each lane whose bits differ: they open the lane's seals, and the file's claim
 -- holds of them. Or it puts two openings of one commitment. It puts such of no others
-pub record ClaimHeadline (files : Files) (words : List (List ℕ)) (status : ℕ)
-    (old new : Option (List ℕ)) : Type 0 where
-  pub found : (names : ExtractWords) → command_words words ≡ Some (ClaimExtract names)
-      → (accepted : AcceptsTwoClaims files names)
-      → status ≢ 6 → status ≢ 9 → IsClaimExtracted accepted.two status old new
-  pub only : (names : ExtractWords) → command_words words ≡ Some (ClaimExtract names)
-      → (status ≡ 0) ⊎ (status ≡ 3) → AcceptsTwoClaims files names
+abbrev pub ClaimHeadline : Files → List (List ℕ) → (status : ℕ) → (old new : Option (List ℕ))
+    → Type 0
+ClaimHeadline files words status old new =
+    PutsExactly words status ClaimExtract (AcceptsTwoClaims files)
+    (λ names accepted. IsClaimExtracted accepted.two status old new)
 
--- ---- the auditor's commands
+-- ---- the commands of an auditor, and those on claims
 
--- status 0 of a `verify` is that the reply is accepted. Every end says the verdict that holds of
--- the files, or which of them is missing or too long
-pub record Verifies (files : Files) (names : VerifyWords) (status : ℕ)
-    (old new : Option (List ℕ)) : Type 0 where
-  pub accepts : IsVerified files names status
-  pub tells : status ≢ 6 → status ≢ 9 → TellsVerdict files names status old new
-
--- status 7 of an `extract` is that both replies are accepted and the challenges don't differ. Every
--- end says what holds of the files: the bids, a clash, the verdict on a reply that isn't accepted,
--- or which file is missing or too long
-pub record Extracts (files : Files) (names : ExtractWords) (status : ℕ)
-    (old new : Option (List ℕ)) : Type 0 where
-  pub same : IsSame files names status
-  pub tells : status ≢ 6 → status ≢ 9 → TellsExtraction files names status old new
-
--- status 0 of a `confront` is that the secret has the board's seal of its seat, and that the
--- replies open just its halves. Where the seal is the secret's and they open another, two openings
--- of one commitment are put. Every end says what holds of the files; where the replies themselves
--- open a commitment with two values, that
-pub record Confronts (files : Files) (names : ConfrontWords) (status : ℕ)
-    (old new : Option (List ℕ)) : Type 0 where
-  pub binds : BindsSecret files names status old new
-  pub tells : status ≢ 6 → status ≢ 9 → TellsConfrontation files names status old new
-
--- status 0 of a `report` is that the file is a board whose price and winner may stand, and what it
--- publishes is put. Every end says that, or the first fault of the file
-pub record Reports (files : Files) (board : List ℕ) (status : ℕ)
-    (old new : Option (List ℕ)) : Type 0 where
-  pub reports : IsReported files board status old new
-  pub tells : status ≢ 6 → status ≢ 9 → TellsReport files board status old new
+-- what a command that reads files says with that status: what the status means, whichever it is;
+-- and at every end what holds of the files, or which of them is missing or too long
+pub record Says (status : ℕ) (Means Tells : Type 0) : Type 0 where
+  pub means : Means
+  pub tells : status ≢ 6 → status ≢ 9 → Tells
 
 pub record Audits (files : Files) (words : List (List ℕ)) (status : ℕ)
     (old new : Option (List ℕ)) : Type 0 where
+  -- status 0 is that the reply is accepted. Every end says the verdict that holds
   pub verify : (names : VerifyWords) → command_words words ≡ Some (Verify names)
-      → Verifies files names status old new
+      → Says status (IsVerified files names status) (TellsVerdict files names status old new)
+  -- status 7 is that both replies are accepted and the challenges don't differ. Every end says the
+  -- bids, a clash, or the verdict on a reply that isn't accepted
   pub extract : (names : ExtractWords) → command_words words ≡ Some (Extract names)
-      → Extracts files names status old new
+      → Says status (IsSame files names status) (TellsExtraction files names status old new)
+  -- status 0 is that the secret has the board's seal of its seat, and that the replies open just
+  -- its halves. Where the seal is the secret's and they open another, two openings of one
+  -- commitment are put. Every end says what holds; where the replies themselves open a commitment
+  -- with two values, that
   pub confront : (names : ConfrontWords) → command_words words ≡ Some (Confront names)
-      → Confronts files names status old new
+      → Says status (BindsSecret files names status old new)
+      (TellsConfrontation files names status old new)
+  -- status 0 is that the file is a board whose price and winner may stand, and what it publishes is
+  -- put. Every end says that, or the first fault of the file
   pub report : (board : List ℕ) → command_words words ≡ Some (Report board)
-      → Reports files board status old new
-
--- ---- the commands on claims
-
--- status 0 of a `claim-verify` is that the reply is accepted. Every end says the verdict that holds
--- of the files, or which of them is missing or too long
-pub record VerifiesClaim (files : Files) (names : VerifyWords) (status : ℕ)
-    (old new : Option (List ℕ)) : Type 0 where
-  pub accepts : IsClaimVerified files names status
-  pub tells : status ≢ 6 → status ≢ 9 → TellsClaimVerdict files names status old new
-
--- status 7 of a `claim-extract` is that both replies are accepted and the challenges don't differ.
--- Every end says what holds of the files: the values, a clash, the verdict on a reply that isn't
--- accepted, or which file is missing or too long
-pub record ExtractsClaim (files : Files) (names : ExtractWords) (status : ℕ)
-    (old new : Option (List ℕ)) : Type 0 where
-  pub same : IsSameClaim files names status
-  pub tells : status ≢ 6 → status ≢ 9 → TellsClaimExtraction files names status old new
+      → Says status (IsReported files board status old new)
+      (TellsReport files board status old new)
 
 pub record Claims (files : Files) (words : List (List ℕ)) (status : ℕ)
     (old new : Option (List ℕ)) : Type 0 where
+  -- status 0 is that the reply is accepted. Every end says the verdict that holds
   pub verify : (names : VerifyWords) → command_words words ≡ Some (ClaimVerify names)
-      → VerifiesClaim files names status old new
+      → Says status (IsClaimVerified files names status)
+      (TellsClaimVerdict files names status old new)
+  -- status 7 is that both replies are accepted and the challenges don't differ. Every end says the
+  -- values, a clash, or the verdict on a reply that isn't accepted
   pub extract : (names : ExtractWords) → command_words words ≡ Some (ClaimExtract names)
-      → ExtractsClaim files names status old new
+      → Says status (IsSameClaim files names status)
+      (TellsClaimExtraction files names status old new)
 
 -- which stable matching `claim-sample matching` publishes is free, and nothing else is. At its end
 -- it did all that one of them comes to; stopped, nothing changed, or it was stopped doing that

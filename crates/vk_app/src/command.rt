@@ -1,22 +1,22 @@
 //! The top call.
 
 ghost use Rattle.std.specs.Prelude.{◌≡◌, ◌≢◌, ◌⊎◌, ℕ, Option, IfSome, IfOk, Some, map, option_map, string_bytes};
-ghost use Rattle.vk_io.specs.Faults.{Causes, Rose};
+ghost use Rattle.vk_io.specs.Faults.{Rose};
 ghost use Rattle.vk_io.specs.Files.{Modelled};
 ghost use Rattle.vk_keeper.specs.Ledgers.{Ledger};
-ghost use Rattle.vk_words.specs.Commands.{AsksNoKeeper, ClaimSample, Coin, IsCommand, Seal, command_seen, command_words};
+ghost use Rattle.vk_words.specs.Commands.{ClaimSample, Coin, IsCommand, Seal, command_seen, command_words};
 ghost use Rattle.vk_words.specs.declared.claim.ClaimKind.TheVariants.{Matching};
 ghost use Rattle.vk_words.specs.Coins.{CoinWords};
 ghost use Rattle.vk_words.specs.Orders.{SealWords};
 ghost use Rattle.vk_effect.specs.Effects.{IsEnd, outside, stores};
-ghost use Rattle.vk_effect.specs.Ends.{Acts, Ends};
+ghost use Rattle.vk_effect.specs.Ends.{Acts};
 ghost use Rattle.vk_house.specs.Once.{KeepsAnswers};
 ghost use Rattle.vk_effect.specs.Counts.{CausesThree, CausesTwo};
 ghost use Rattle.vk_audit.specs.Audits.{audit_seen};
 ghost use Rattle.vk_claims.specs.Orders.{claim_order_seen};
 ghost use Rattle.vk_coins.specs.Meaning.{MakesChallenge};
-ghost use Rattle.vk_app.specs.Commands.{CommandActsFreely, CommandEndsFreely, DoesWork, EndsWork, StopsWork, audit_on, claim_on, command_effect, script_in, work_on};
-ghost use Rattle.vk_app.specs.Promises.{Audits, ClaimHeadline, Claims, CommandLeaves, Headline, HoldsCeremony, KeepsHouse, RunLeaves, SamplesMatching, TellsUsage};
+ghost use Rattle.vk_app.specs.Commands.{ActsOnFiles, CommandActsFreely, CommandEndsFreely, EndsWork, LeavesKeeper, RunIsDone, RunIsStopped, audit_on, claim_on, command_effect, script_in, work_on};
+ghost use Rattle.vk_app.specs.Promises.{Audits, ClaimHeadline, Claims, CommandLeaves, Headline, HoldsCeremony, KeepsHouse, OverFiles, RunLeaves, SamplesMatching, TellsUsage};
 ghost use Rattle.vk_app.specs.Sealing.{Seals};
 
 use crate::seal::seal;
@@ -36,12 +36,8 @@ use vk_words::{Command, command_of};
 
 /// Does an auditor's command, but for printing.
 fn read<S: Shelf>(alloc: Global, shelf: &mut S, order: &AuditOrder<'_>) -> Result<Said, OutsideErr>
-    ensures acts { (ledger : Option Ledger)
-        → IfSome (audit_on (S.held shelf.old) ledger (audit_seen order.now))
-        (λ effect. Acts result effect (stores (S.held shelf.old) ledger)
-        (stores (S.held shelf.new) ledger)) }
-    ensures causes { Causes OutsideErr.Failed result (S.Shelf.faults shelf.old)
-        (S.Shelf.faults shelf.new) }
+    ensures { ActsOnFiles S.held S.Shelf.faults
+        (λ files ledger. audit_on files ledger (audit_seen order.now)) result shelf.old shelf.new }
 {
     let said = audit(alloc, shelf, order);
     said
@@ -53,12 +49,9 @@ fn read_claim<S: Shelf>(
     shelf: &mut S,
     order: &ClaimOrder<'_>,
 ) -> Result<Said, OutsideErr>
-    ensures acts { (ledger : Option Ledger)
-        → IfSome (claim_on (S.held shelf.old) ledger (claim_order_seen order.now))
-        (λ effect. Acts result effect (stores (S.held shelf.old) ledger)
-        (stores (S.held shelf.new) ledger)) }
-    ensures causes { Causes OutsideErr.Failed result (S.Shelf.faults shelf.old)
-        (S.Shelf.faults shelf.new) }
+    ensures { ActsOnFiles S.held S.Shelf.faults
+        (λ files ledger. claim_on files ledger (claim_order_seen order.now)) result shelf.old
+        shelf.new }
 {
     let said = audit_claim(alloc, shelf, order);
     said
@@ -84,42 +77,20 @@ fn act<S: Shelf, K: Keeper + Drop>(
         (λ said. CommandLeaves (option_map command_seen command.entry) said.status
         (S.held shelf.old) (S.held shelf.new)) }
     ensures once { Modelled KeepsAnswers (K.ledger keeper.old) (K.ledger keeper.new) }
-    ensures keeper { AsksNoKeeper (option_map command_seen command.entry)
-        → (K.ledger keeper.new ≡ K.ledger keeper.old)
-        × (K.Keeper.faults keeper.new ≡ K.Keeper.faults keeper.old) }
+    ensures keeper { LeavesKeeper K.ledger K.Keeper.faults (option_map command_seen command.entry)
+        keeper.old keeper.new }
     ensures causes { CausesTwo OutsideErr.Failed result (S.Shelf.faults shelf.old)
         (S.Shelf.faults shelf.new)
         (K.Keeper.faults keeper.old) (K.Keeper.faults keeper.new) }
 {
     match command {
-        Some(Command::Seal(order)) => {
-            let said = seal(alloc, shelf, &order)?;
-            Ok(said)
-        }
-        Some(Command::House(order)) => {
-            let said = house_command(alloc, shelf, keeper, &order)?;
-            Ok(said)
-        }
-        Some(Command::Verify(names)) => {
-            let said = read(alloc, shelf, &AuditOrder::Verify(names))?;
-            Ok(said)
-        }
-        Some(Command::Extract(names)) => {
-            let said = read(alloc, shelf, &AuditOrder::Extract(names))?;
-            Ok(said)
-        }
-        Some(Command::Confront(names)) => {
-            let said = read(alloc, shelf, &AuditOrder::Confront(names))?;
-            Ok(said)
-        }
-        Some(Command::Report(board)) => {
-            let said = read(alloc, shelf, &AuditOrder::Report(board))?;
-            Ok(said)
-        }
-        Some(Command::Sample(number)) => {
-            let said = sample(alloc, shelf, number)?;
-            Ok(said)
-        }
+        Some(Command::Seal(order)) => Ok(seal(alloc, shelf, &order)?),
+        Some(Command::House(order)) => Ok(house_command(alloc, shelf, keeper, &order)?),
+        Some(Command::Verify(names)) => Ok(read(alloc, shelf, &AuditOrder::Verify(names))?),
+        Some(Command::Extract(names)) => Ok(read(alloc, shelf, &AuditOrder::Extract(names))?),
+        Some(Command::Confront(names)) => Ok(read(alloc, shelf, &AuditOrder::Confront(names))?),
+        Some(Command::Report(board)) => Ok(read(alloc, shelf, &AuditOrder::Report(board))?),
+        Some(Command::Sample(number)) => Ok(sample(alloc, shelf, number)?),
         Some(Command::ClaimVerify(names)) => {
             let said = read_claim(alloc, shelf, &ClaimOrder::Verify(names))?;
             Ok(said)
@@ -132,47 +103,9 @@ fn act<S: Shelf, K: Keeper + Drop>(
             let said = claim_sample(alloc, shelf, kind, number)?;
             Ok(said)
         }
-        Some(Command::Coin(order)) => {
-            let said = make_challenge(alloc, shelf, &order)?;
-            Ok(said)
-        }
+        Some(Command::Coin(order)) => Ok(make_challenge(alloc, shelf, &order)?),
         Some(Command::Ceremony(_)) | None => Ok(usage()),
     }
-}
-
-/// Does the command, prints at its end, and answers the status.
-fn answer<S: Shelf, K: Keeper + Drop, W: Sink>(
-    alloc: Global,
-    shelf: &mut S,
-    keeper: &mut K,
-    out: &mut W,
-    command: Option<Command<'_>>,
-) -> Result<u8, OutsideErr>
-    requires { IfSome command IsCommand }
-    ensures ends { IfSome (command_effect (S.held shelf.old) (K.ledger keeper.old)
-        (option_map command_seen command.entry))
-        (λ effect. Ends result effect
-        (outside (stores (S.held shelf.old) (K.ledger keeper.old)) (W.taken out.old))
-        (outside (stores (S.held shelf.new) (K.ledger keeper.new)) (W.taken out.new))) }
-    ensures free { CommandEndsFreely (option_map command_seen command.entry) result
-        (outside (stores (S.held shelf.old) (K.ledger keeper.old)) (W.taken out.old))
-        (outside (stores (S.held shelf.new) (K.ledger keeper.new)) (W.taken out.new)) }
-    ensures end { IfOk result IsEnd }
-    ensures files { IfOk result
-        (λ status. CommandLeaves (option_map command_seen command.entry) status (S.held shelf.old)
-        (S.held shelf.new)) }
-    ensures once { Modelled KeepsAnswers (K.ledger keeper.old) (K.ledger keeper.new) }
-    ensures keeper { AsksNoKeeper (option_map command_seen command.entry)
-        → (K.ledger keeper.new ≡ K.ledger keeper.old)
-        × (K.Keeper.faults keeper.new ≡ K.Keeper.faults keeper.old) }
-    ensures causes { CausesThree OutsideErr.Failed result (S.Shelf.faults shelf.old)
-        (S.Shelf.faults shelf.new)
-        (K.Keeper.faults keeper.old) (K.Keeper.faults keeper.new) (W.Sink.faults out.old)
-        (W.Sink.faults out.new) }
-{
-    let said = act(alloc, shelf, keeper, command)?;
-    said.print(out)?;
-    Ok(said.status())
 }
 
 /// The name of the script, where the command is a ceremony.
@@ -197,7 +130,7 @@ fn script_of<'a>(command: Option<Command<'a>>) -> Option<&'a str>
     }
 }
 
-/// Does what the words say, and answers the status.
+/// Does what the words say, prints at the end of a command, and answers the status.
 fn perform<S: Shelf, K: Keeper + Drop, W: Sink>(
     alloc: Global,
     words: &[String],
@@ -218,9 +151,8 @@ fn perform<S: Shelf, K: Keeper + Drop, W: Sink>(
         (λ status. RunLeaves (map string_bytes words.now) status (S.held shelf.old)
         (S.held shelf.new)) }
     ensures once { Modelled KeepsAnswers (K.ledger keeper.old) (K.ledger keeper.new) }
-    ensures keeper { AsksNoKeeper (command_words (map string_bytes words.now))
-        → (K.ledger keeper.new ≡ K.ledger keeper.old)
-        × (K.Keeper.faults keeper.new ≡ K.Keeper.faults keeper.old) }
+    ensures keeper { LeavesKeeper K.ledger K.Keeper.faults
+        (command_words (map string_bytes words.now)) keeper.old keeper.new }
     ensures causes { CausesThree OutsideErr.Failed result (S.Shelf.faults shelf.old)
         (S.Shelf.faults shelf.new)
         (K.Keeper.faults keeper.old) (K.Keeper.faults keeper.new) (W.Sink.faults out.old)
@@ -233,8 +165,9 @@ fn perform<S: Shelf, K: Keeper + Drop, W: Sink>(
             Ok(status)
         }
         None => {
-            let status = answer(alloc, shelf, keeper, out, command)?;
-            Ok(status)
+            let said = act(alloc, shelf, keeper, command)?;
+            said.print(out)?;
+            Ok(said.status())
         }
     }
 }
@@ -248,44 +181,34 @@ pub fn run<S: Shelf, K: Keeper + Drop, W: Sink>(
     keeper: &mut K,
     out: &mut W,
 ) -> u8
-    ensures done { IfSome (work_on (S.held shelf.old) (K.ledger keeper.old)
-        (map string_bytes words.now))
-        (λ work. result ≢ 6 → result ≢ 9
-        → DoesWork result work
+    ensures done { RunIsDone (map string_bytes words.now) result
         (outside (stores (S.held shelf.old) (K.ledger keeper.old)) (W.taken out.old))
-        (outside (stores (S.held shelf.new) (K.ledger keeper.new)) (W.taken out.new))) }
-    ensures stopped { IfSome (work_on (S.held shelf.old) (K.ledger keeper.old)
-        (map string_bytes words.now))
-        (λ work. (result ≡ 6) ⊎ (result ≡ 9)
-        → StopsWork work (outside (stores (S.held shelf.old) (K.ledger keeper.old))
-        (W.taken out.old))
-        (outside (stores (S.held shelf.new) (K.ledger keeper.new)) (W.taken out.new))) }
+        (outside (stores (S.held shelf.new) (K.ledger keeper.new)) (W.taken out.new)) }
+    ensures stopped { RunIsStopped (map string_bytes words.now) result
+        (outside (stores (S.held shelf.old) (K.ledger keeper.old)) (W.taken out.old))
+        (outside (stores (S.held shelf.new) (K.ledger keeper.new)) (W.taken out.new)) }
 
     // Of two replies that are accepted for different challenges, an `extract` puts the bids whose
     // outcome the board publishes, or two openings of one commitment; and it puts such of no
     // others.
-    ensures headline { IfSome (S.held shelf.old)
-        (λ files. Headline files (map string_bytes words.now) result (W.taken out.old)
-        (W.taken out.new)) }
+    ensures headline { OverFiles Headline (S.held shelf.old) (map string_bytes words.now) result
+        (W.taken out.old) (W.taken out.new) }
 
     // What each status of `verify`, `extract`, `confront` and `report` means, by the bytes of the
     // named files.
-    ensures audits { IfSome (S.held shelf.old)
-        (λ files. Audits files (map string_bytes words.now) result (W.taken out.old)
-        (W.taken out.new)) }
+    ensures audits { OverFiles Audits (S.held shelf.old) (map string_bytes words.now) result
+        (W.taken out.old) (W.taken out.new) }
 
     // Of two replies to a claim file that are accepted for different challenges, a `claim-extract`
     // puts values that open the seals and of which the file's claim holds, or two openings of one
     // commitment; and it puts such of no others.
-    ensures claim_headline { IfSome (S.held shelf.old)
-        (λ files. ClaimHeadline files (map string_bytes words.now) result (W.taken out.old)
-        (W.taken out.new)) }
+    ensures claim_headline { OverFiles ClaimHeadline (S.held shelf.old)
+        (map string_bytes words.now) result (W.taken out.old) (W.taken out.new) }
 
     // What each status of `claim-verify` and `claim-extract` means, by the bytes of the named
     // files.
-    ensures claims { IfSome (S.held shelf.old)
-        (λ files. Claims files (map string_bytes words.now) result (W.taken out.old)
-        (W.taken out.new)) }
+    ensures claims { OverFiles Claims (S.held shelf.old) (map string_bytes words.now) result
+        (W.taken out.old) (W.taken out.new) }
 
     // What each status of `seal` means, and which files it leaves.
     ensures seals { (order : SealWords)
@@ -333,9 +256,8 @@ pub fn run<S: Shelf, K: Keeper + Drop, W: Sink>(
     ensures once { Modelled KeepsAnswers (K.ledger keeper.old) (K.ledger keeper.new) }
 
     // A command that asks no keeper leaves it alone.
-    ensures keeper { AsksNoKeeper (command_words (map string_bytes words.now))
-        → (K.ledger keeper.new ≡ K.ledger keeper.old)
-        × (K.Keeper.faults keeper.new ≡ K.Keeper.faults keeper.old) }
+    ensures keeper { LeavesKeeper K.ledger K.Keeper.faults
+        (command_words (map string_bytes words.now)) keeper.old keeper.new }
 
     // Status 6 comes exactly where a count rose in this call.
     ensures fault { result ≡ 6 → Rose (S.Shelf.faults shelf.old) (S.Shelf.faults shelf.new)

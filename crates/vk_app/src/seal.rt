@@ -1,13 +1,10 @@
 //! `seal`: a bidder's secret and seal.
 
-ghost use Rattle.std.specs.Prelude.{◌≡◌, ◌≢◌, ◌++◌, Err, IfErr, IfOk, IfSome, IsErr, IsOk, Ok, Option, codes};
-ghost use Rattle.vk_io.specs.Faults.{Causes};
-ghost use Rattle.vk_keeper.specs.Ledgers.{Ledger};
+ghost use Rattle.std.specs.Prelude.{◌≡◌, ◌≢◌, ◌++◌, Err, IfErr, IfOk, IsErr, IsOk, Ok, codes};
 ghost use Rattle.vk_words.specs.Orders.{IsSealOrder, seal_seen};
 ghost use Rattle.vk_effect.specs.Dry.{bidder_dry_line};
-ghost use Rattle.vk_effect.specs.Effects.{stores};
-ghost use Rattle.vk_effect.specs.Ends.{Acts};
 ghost use Rattle.vk_effect.specs.Texts.{line_feed};
+ghost use Rattle.vk_app.specs.Commands.{ActsOnFiles};
 ghost use Rattle.vk_app.specs.Sealing.{made_deed, refused_said, seal_made, seal_on, sealed_line};
 
 use std::alloc::Global;
@@ -112,11 +109,8 @@ pub fn seal<S: Shelf>(
     order: &SealOrder<'_>,
 ) -> Result<Said, OutsideErr>
     requires { IsSealOrder (seal_seen order.now) }
-    ensures acts { (ledger : Option Ledger) → IfSome (seal_on ledger (seal_seen order.now))
-        (λ effect. Acts result effect (stores (S.held shelf.old) ledger)
-        (stores (S.held shelf.new) ledger)) }
-    ensures causes { Causes OutsideErr.Failed result (S.Shelf.faults shelf.old)
-        (S.Shelf.faults shelf.new) }
+    ensures { ActsOnFiles S.held S.Shelf.faults
+        (λ files ledger. seal_on ledger (seal_seen order.now)) result shelf.old shelf.new }
 {
     let deed = make(alloc, order)?;
     let said = deed.done(alloc, shelf)?;
