@@ -55,8 +55,7 @@ impl<'a, K: Keeper + Drop> House<'a, K> {
             (K.faults self.new.keeper.now) }
         ensures keeper { self.new.keeper.ghost_name ≡ self.old.keeper.ghost_name }
     {
-        let found = self.keeper.get(id)?;
-        let auction = decide_announce(alloc, found, id, width, lanes, None)?;
+        let auction = decide_announce(alloc, self.keeper.get(id)?, id, width, lanes, None)?;
         self.keeper.put(auction)?;
         Ok(())
     }
@@ -85,8 +84,8 @@ impl<'a, K: Keeper + Drop> House<'a, K> {
             (K.faults self.new.keeper.now) }
         ensures keeper { self.new.keeper.ghost_name ≡ self.old.keeper.ghost_name }
     {
-        let found = self.keeper.get(id)?;
-        let auction = decide_announce(alloc, found, id, width, lanes, Some(reserve))?;
+        let reserve = Some(reserve);
+        let auction = decide_announce(alloc, self.keeper.get(id)?, id, width, lanes, reserve)?;
         self.keeper.put(auction)?;
         Ok(())
     }
@@ -106,8 +105,7 @@ impl<'a, K: Keeper + Drop> House<'a, K> {
             (K.faults self.new.keeper.now) }
         ensures keeper { self.new.keeper.ghost_name ≡ self.old.keeper.ghost_name }
     {
-        let found = self.keeper.get(id)?;
-        let joined = decide_submit(found, seal, secret)?;
+        let joined = decide_submit(self.keeper.get(id)?, seal, secret)?;
         self.keeper.put(joined.auction)?;
         Ok(joined.position)
     }
@@ -128,8 +126,7 @@ impl<'a, K: Keeper + Drop> House<'a, K> {
             (K.faults self.new.keeper.now) }
         ensures keeper { self.new.keeper.ghost_name ≡ self.old.keeper.ghost_name }
     {
-        let found = self.keeper.get(id)?;
-        let proving = decide_prove(alloc, found, seed)?;
+        let proving = decide_prove(alloc, self.keeper.get(id)?, seed)?;
         keep(self.keeper, proving.kept)?;
         Ok(proving.job)
     }
@@ -158,8 +155,7 @@ impl<'a, K: Keeper + Drop> House<'a, K> {
         ensures answered { IfOk result
             (λ job. challenge_of job.auction.phase ≡ Some challenge.now) }
     {
-        let found = self.keeper.get(id)?;
-        let answering = decide_answer(alloc, found, challenge)?;
+        let answering = decide_answer(alloc, self.keeper.get(id)?, challenge)?;
         keep(self.keeper, answering.kept)?;
         Ok(answering.job)
     }
@@ -176,8 +172,7 @@ impl<'a, K: Keeper + Drop> House<'a, K> {
             (K.faults self.new.keeper.now) }
         ensures keeper { self.new.keeper.ghost_name ≡ self.old.keeper.ghost_name }
     {
-        let found = self.keeper.get(id)?;
-        let standing = decide_show(found)?;
+        let standing = decide_show(self.keeper.get(id)?)?;
         Ok(standing)
     }
 }
