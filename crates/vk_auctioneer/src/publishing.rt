@@ -49,8 +49,8 @@ pub fn prove<S: Shelf, K: Keeper + Drop>(
     ensures causes { CausesTwo OutsideErr.Failed result (S.Shelf.faults shelf.old)
         (S.Shelf.faults shelf.new) (K.faults keeper.old) (K.faults keeper.new) }
 {
-    let answer = House::over(keeper).prove(alloc, id, seed);
-    let said = proved(alloc, shelf, board, answer);
+    let mut house = House::over(keeper);
+    let said = proved(alloc, shelf, board, house.prove(alloc, id, seed));
     said
 }
 

@@ -7,25 +7,16 @@ pub returns-in_err-seal-clause-modelled : goal.returns-in_err-seal-clause-modell
 returns-in_err-seal-clause-modelled g c =
     let p = err_from_is_err_and c.from_residual-in_err-seal.result
     c.from_residual-in_err-seal.ensures.1 in
-    rw (p.1 ∙ ap Err p.2) (seal_refused (g.S.Shelf.held c.args.shelf.now)
-    (g.S.Shelf.held c.begin_named.new.shelf) (g.S.Shelf.held c.begin_named-2.new.shelf)
-    c.args.seal_name.now c.args.secret_name.now c.in_ok-seal_lines.seal_lines
-    c.in_ok-secret_lines.secret_lines c.read_seal-seal.new.lines c.read_seal-seal.result
-    c.in_err-seal.field-0.0
-    c.in_ok-seal_lines.ensures.shelf.held c.in_ok-secret_lines.ensures.shelf.held
-    c.in_ok-seal_lines.ensures.modelled c.in_ok-secret_lines.ensures.modelled
-    c.read_seal-seal.ensures.modelled c.in_err-seal.ensures.modelled)
+    rw (p.1 ∙ ap Err p.2) (seal_refused _ _ _ _ _ _ _ _ _ _ c.in_ok-seal_lines.ensures.shelf.held
+    c.in_ok-secret_lines.ensures.shelf.held c.in_ok-seal_lines.ensures.modelled
+    c.in_ok-secret_lines.ensures.modelled c.read_seal-seal.ensures.modelled
+    c.in_err-seal.ensures.modelled)
 
 pub returns-in_err-secret-clause-modelled : goal.returns-in_err-secret-clause-modelled
 returns-in_err-secret-clause-modelled g c =
     let p = err_from_is_err_and c.from_residual-in_err-secret.result
     c.from_residual-in_err-secret.ensures.1 in
-    rw (p.1 ∙ ap Err p.2) (secret_refused (g.S.Shelf.held c.args.shelf.now)
-    (g.S.Shelf.held c.begin_named.new.shelf) (g.S.Shelf.held c.begin_named-2.new.shelf)
-    (g.S.Shelf.held c.read_seal-seal.new.shelf) c.args.seal_name.now c.args.secret_name.now
-    c.in_ok-seal_lines.seal_lines c.in_ok-secret_lines.secret_lines c.read_seal-seal.new.lines
-    c.read_secret-secret.new.lines c.read_seal-seal.result c.in_ok-seal.seal
-    c.read_secret-secret.result c.in_err-secret.field-0.0
+    rw (p.1 ∙ ap Err p.2) (secret_refused _ _ _ _ _ _ _ _ _ _ _ _ _ _
     c.in_ok-seal_lines.ensures.shelf.held c.in_ok-secret_lines.ensures.shelf.held
     c.read_seal-seal.ensures.shelf.held c.in_ok-seal_lines.ensures.modelled
     c.in_ok-secret_lines.ensures.modelled c.read_seal-seal.ensures.modelled
