@@ -246,7 +246,7 @@ tells_confrontations files names taken = record {
 said_bound : {files : Files} {names : ConfrontWords} (confronts : ConfrontsFiles files names)
     (index : ℕ) (taken : Option (List ℕ))
     (confrontation : Confrontation)
-    → ClashOr confronts.two (λ found. HeldOrClash confronts.secret index found confrontation)
+    → ClashOr confronts.two (λ found. HeldOrClash confronts.last.secret index found confrontation)
     confrontation
     → let said = confrontation_said names confrontation in
     IsBound confronts index said.status taken (puts said.text taken)
@@ -265,15 +265,15 @@ said_bound {names} confronts index taken confrontation
       bids = bids;
       ends = inr (
         ap (λ c. (confrontation_said names c).status) clashes,
-        subst (λ c. Modelled (PutsSecretClash confronts.secret found) taken
+        subst (λ c. Modelled (PutsSecretClash confronts.last.secret found) taken
             (puts (confrontation_said names c).text taken)) (sym clashes)
-            (put_told (IsClashWith confronts.secret found) clash_text clash is taken),
+            (put_told (IsClashWith confronts.last.secret found) clash_text clash is taken),
       );
     }
 
 always_bound : (files : Files) (names : ConfrontWords) (taken : Option (List ℕ))
     (confronts : ConfrontsFiles files names) (index : ℕ)
-    → IsSealOf (front_in confronts.two.first) confronts.secret index
+    → IsSealOf (front_in confronts.two.first) confronts.last.secret index
     → let said = confront_said files names in
     IsBound confronts index said.status taken (puts said.text taken)
 always_bound files names taken confronts index seal =
@@ -281,11 +281,11 @@ always_bound files names taken confronts index seal =
     let P : Result Confrontation ConfrontErr → Type 0 = λ answer. let said =
     said_of files names answer in IsBound confronts index said.status taken
     (puts said.text taken) in
-    subst P (sym (answer_read files names held confronts.file confronts.file_is))
-    (said_bound confronts index taken (confrontation_of_held held confronts.file)
+    subst P (sym (answer_read files names held confronts.last.file confronts.last.file_is))
+    (said_bound confronts index taken (confrontation_of_held held confronts.last.file)
     (sealed_are_held_or_clash held.board_bytes held.first.challenge_bytes held.first.reply_bytes
-    held.second.challenge_bytes held.second.reply_bytes confronts.file
-    confronts.two confronts.secret index confronts.right confronts.text seal))
+    held.second.challenge_bytes held.second.reply_bytes confronts.last.file
+    confronts.two confronts.last.secret index confronts.last.right confronts.last.text seal))
 
 -- ---- only such files
 
@@ -315,12 +315,13 @@ only_held files names (Ok (Held seat)) holds zero_is =
         held = holds.held;
         two = comes.two;
         agree = comes.bids.agree;
-        file = holds.file;
-        file_is = holds.file_is;
-        secret = comes.secret;
-        right =
-            comes.right;
-        text = comes.text;
+        last = record {
+          file = holds.file;
+          file_is = holds.file_is;
+          secret = comes.secret;
+          right = comes.right;
+          text = comes.text;
+        };
       };
       found = comes.found;
       bids = comes.bids;

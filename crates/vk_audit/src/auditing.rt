@@ -1,11 +1,11 @@
 //! An auditor's command over a shelf of files.
 
-ghost use Rattle.std.specs.Prelude.{◌≡◌, IfSome, IfOk};
+ghost use Rattle.std.specs.Prelude.{◌≡◌, IfSome};
 ghost use Rattle.vk_io.specs.Reads.{OnlyReads};
 ghost use Rattle.vk_lines.specs.Gives.{Gives};
 ghost use Rattle.vk_bids.specs.Confrontation.{fault_of};
 ghost use Rattle.vk_words.specs.Names.{confront_seen, extract_seen, verify_seen};
-ghost use Rattle.vk_audit.specs.Audits.{audit_said, audit_seen};
+ghost use Rattle.vk_audit.specs.Audits.{Says, audit_said, audit_seen};
 ghost use Rattle.vk_audit.specs.Confrontations.{confrontation_in};
 ghost use Rattle.vk_audit.specs.Extractions.{replies_seen};
 ghost use Rattle.vk_audit.specs.Verdicts.{verified_words};
@@ -62,8 +62,8 @@ pub fn audit<S: Shelf>(
     shelf: &mut S,
     audit: &AuditOrder<'_>,
 ) -> Result<Said, OutsideErr>
-    ensures said { IfSome (S.held shelf.old)
-        (λ files. IfOk result (λ said. said ≡ audit_said files (audit_seen audit.now))) }
+    ensures said { Says (S.held shelf.old) result
+        (λ files. audit_said files (audit_seen audit.now)) }
     ensures shelf { OnlyReads S.held S.Shelf.faults OutsideErr.Failed result shelf.old shelf.new }
 {
     match audit {
