@@ -1,8 +1,8 @@
 //! A command on claims over a shelf of files.
 
-ghost use Rattle.std.specs.Prelude.{◌≡◌, IfOk, IfSome};
 ghost use Rattle.vk_io.specs.Reads.{OnlyReads};
 ghost use Rattle.vk_words.specs.Names.{extract_seen, verify_seen};
+ghost use Rattle.vk_audit.specs.Audits.{Says};
 ghost use Rattle.vk_claims.specs.Extractions.{claim_extract_said};
 ghost use Rattle.vk_claims.specs.Orders.{claim_order_seen, claim_said};
 ghost use Rattle.vk_claims.specs.Verdicts.{claim_verify_said};
@@ -15,6 +15,7 @@ use vk_audit::{replies_of, unread, verified_names};
 use vk_claim::{claim_verdict, extract_claim};
 use vk_effect::Said;
 use vk_io::{OutsideErr, Shelf};
+use vk_verifier::OneReply;
 use vk_words::{ExtractNames, VerifyNames};
 
 /// What is to be done with a claim file: the names of the files.
@@ -30,21 +31,18 @@ fn claim_verified<S: Shelf>(
     shelf: &mut S,
     names: VerifyNames<'_>,
 ) -> Result<Said, OutsideErr>
-    ensures said { IfSome (S.held shelf.old)
-        (λ files. IfOk result (λ said. said ≡ claim_verify_said files (verify_seen names.entry))) }
+    ensures said { Says (S.held shelf.old) result
+        (λ files. claim_verify_said files (verify_seen names.entry)) }
     ensures shelf { OnlyReads S.held S.Shelf.faults OutsideErr.Failed result shelf.old shelf.new }
 {
     let VerifyNames { board, attempt } = names;
     let names = verified_names(&names);
-    let circuits = ClaimCircuits;
-    let said = match claim_verdict(
-        alloc,
-        shelf,
-        &circuits,
-        board,
-        attempt.challenge,
-        attempt.reply,
-    ) {
+    let files = OneReply {
+        file: board,
+        challenge: attempt.challenge,
+        reply: attempt.reply,
+    };
+    let said = match claim_verdict(alloc, shelf, &ClaimCircuits, &files) {
         Ok(verdict) => claim_judged(alloc, &names, false, verdict)?,
         Err(fault) => unread(alloc, &names, fault)?,
     };
@@ -58,12 +56,10 @@ fn claim_answered<S: Shelf>(
     names: ExtractNames<'_>,
 ) -> Result<Said, OutsideErr>
     ensures shelf { OnlyReads S.held S.Shelf.faults OutsideErr.Failed result shelf.old shelf.new }
-    ensures said { IfSome (S.held shelf.old)
-        (λ files. IfOk result (λ said. said
-        ≡ claim_extract_said files (extract_seen names.entry))) }
+    ensures said { Says (S.held shelf.old) result
+        (λ files. claim_extract_said files (extract_seen names.entry)) }
 {
-    let circuits = ClaimCircuits;
-    let said = match extract_claim(alloc, shelf, &circuits, &replies_of(&names)) {
+    let said = match extract_claim(alloc, shelf, &ClaimCircuits, &replies_of(&names)) {
         Ok(extraction) => claim_extracted(alloc, &names, &extraction)?,
         Err(fault) => unread(alloc, &names, fault)?,
     };
@@ -77,8 +73,8 @@ pub fn audit_claim<S: Shelf>(
     order: &ClaimOrder<'_>,
 ) -> Result<Said, OutsideErr>
     ensures shelf { OnlyReads S.held S.Shelf.faults OutsideErr.Failed result shelf.old shelf.new }
-    ensures said { IfSome (S.held shelf.old)
-        (λ files. IfOk result (λ said. said ≡ claim_said files (claim_order_seen order.now))) }
+    ensures said { Says (S.held shelf.old) result
+        (λ files. claim_said files (claim_order_seen order.now)) }
 {
     match order {
         ClaimOrder::Verify(names) => {
