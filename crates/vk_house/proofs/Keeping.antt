@@ -1,14 +1,17 @@
 -- What was decided, and then kept, is the step of the command.
-use Rattle.std.proofs.Common.{◌≡◌, ℕ, List, Option, Some, None, IfSome, Ok, sym, ap, subst, ◌∙◌}
+use Rattle.std.proofs.Common.{◌≡◌, ℕ, List, Option, Some, None, IfSome, Ok, Err, sym, ap, subst, ◌∙◌}
 use Rattle.std.specs.FinMap.{get, insert}
 use Rattle.vk_io.specs.declared.errors.OutsideErr.{OutsideErr}
+use Rattle.vk_io.specs.declared.errors.OutsideErr.TheVariants as outside
+use Rattle.vk_io.specs.Faults.{told_as}
 use Rattle.vk_io.specs.Files.{Modelled}
 use Rattle.vk_keeper.specs.declared.auction.Auction.{Auction}
 use Rattle.vk_keeper.specs.Ledgers.{Ledger}
 use Rattle.vk_house.specs.Commands.{HouseCommand, id_of}
-use Rattle.vk_house.specs.Replies.{HouseReply}
+use Rattle.vk_house.specs.Replies.{HouseReply, Refused}
 use Rattle.vk_house.specs.declared.working.Decision.{Decision}
-use Rattle.vk_house.specs.Answers.{work_of}
+use Rattle.vk_house.specs.declared.errors.HouseErr.TheVariants as house
+use Rattle.vk_house.specs.Answers.{MakesCall, work_of}
 use Rattle.vk_house.specs.Deciding.{IsDecisionOn, KeepsAnew, step_of}
 use Rattle.vk_house.specs.Steps.{Step, step_at, ledger_after, house_step}
 
@@ -71,3 +74,26 @@ work_made command found decision old between new finds same decided own on keeps
     step_made command found decision.kept (work_of decision.job) old between new finds same decided
     (own_kept (id_of command) decision.job.auction decision.kept (on.id (id_of command) own)
     on.kept) keeps
+
+-- ---- where nothing could be kept
+
+unchanged : (kept : Option Auction) (refusal : OutsideErr) (old new : Option Ledger)
+    → Modelled (KeepsAnew kept (Err refusal)) old new
+    → Modelled (λ before after. after ≡ before) old new
+unchanged None refusal old new keeps = keeps
+unchanged (Some auction) refusal old new keeps = keeps
+
+refused_call : (command : HouseCommand) (refusal : OutsideErr) (old new : Option Ledger)
+    → Modelled (λ before after. after ≡ before) old new
+    → MakesCall command (Refused (told_as house.KeeperFailed house.NoMemory refusal)) old new
+refused_call command outside.Failed old new same = same
+refused_call command outside.NoMemory old new same = same
+
+-- nothing changed up to then, and the keeper failed or memory was wanting
+pub keep_failed : (command : HouseCommand) (kept : Option Auction) (refusal : OutsideErr)
+    (old between new : Option Ledger) → between ≡ old
+    → Modelled (KeepsAnew kept (Err refusal)) between new
+    → MakesCall command (Refused (told_as house.KeeperFailed house.NoMemory refusal)) old new
+keep_failed command kept refusal old between new same keeps =
+    refused_call command refusal old new (unchanged kept refusal old new
+    (subst (λ l. Modelled (KeepsAnew kept (Err refusal)) l new) same keeps))

@@ -1,5 +1,8 @@
+use Rattle.std.proofs.Common.{◌≡◌, Err, rules}
+use Rattle.vk_io.specs.Faults.{told_as}
 use Rattle.vk_house.specs.Commands.{Answer}
-use Rattle.vk_house.proofs.Keeping.{work_made}
+use Rattle.vk_house.specs.declared.errors.HouseErr.TheVariants as house
+use Rattle.vk_house.proofs.Keeping.{keep_failed, work_made}
 use Rattle.vk_house.proofs.house.House.answer.Goals as goal
 
 pub returns-clause-id : goal.returns-clause-id
@@ -11,3 +14,11 @@ returns-clause-call g c =
     c.in_ok-get.ensures.answer c.in_ok-get.ensures.kept
     (c.in_ok-answering.ensures.decided c.args.id.now) c.in_ok-get.ensures.id
     c.in_ok-answering.ensures.on c.in_ok-keep.ensures.put
+
+pub returns-in_err-keep-clause-call : goal.returns-in_err-keep-clause-call
+returns-in_err-keep-clause-call g c =
+    let refusal = c.in_err-keep.field-0.0 in
+    let is : c.from_residual-in_err-keep.result
+    ≡ Err (told_as house.KeeperFailed house.NoMemory refusal) = search rules in
+    rw is (keep_failed (Answer c.args.id.now c.args.challenge.now) _ refusal _ _ _
+    c.in_ok-found.ensures.kept c.in_err-keep.ensures.put)
