@@ -19,7 +19,7 @@ use Rattle.vk_row.specs.Lanes.{HasCounts, IsAcceptedLane, WireReads, RowHolds, n
 use Rattle.vk_row.specs.LaneTests.{checked_lane}
 use Rattle.vk_row.proofs.Whole.{accepted_ok}
 use Rattle.vk_prover.specs.Honest.{each_wire, com_of, shown_of, honest_coms, honest_posted, honest_lane, honest_case, honest_reply, honest_halves, masks, posted_on, no_tape}
-use Rattle.vk_prover.specs.Laws.{HonestLaneIsAccepted, AreChecked, ArePublished, InputsAreSealed, IsTapeOf, WhereHeld}
+use Rattle.vk_prover.specs.Laws.{HonestLaneIsAccepted, AreChecked, ArePublished, InputIsSealed, InputsAreSealed, IsTapeOf, WhereHeld}
 use Rattle.vk_prover.proofs.Wires.{get_or-each_wire, length-each_wire, drop-each_wire, inputs_within}
 use Rattle.vk_prover.proofs.Halves.{row_has_side, length-honest_halves, get_or-honest_halves}
 
@@ -146,13 +146,7 @@ place_at_seat auction lane seats w lt = grind (arith, common_steps, nat_tests)
 -- the commitments of an input
 pub inputs_sealed : (plan : PlanValue) (auction : List ℕ) (lane : ℕ) (seats values : List ℕ)
     (tape : List WireTape) (input : ℕ) → IsHonest plan seats values tape → input < plan.inputs
-    → slice_index_or (honest_case plan auction lane seats values tape).coms input no_digests
-    ≡ made_com Split (record {
-      auction = auction;
-      seat = slice_index seats input;
-      lane = lane;
-      slot = 0;
-    }) (slice_index values input) (slice_index_or tape input no_tape)
+    → InputIsSealed values plan values auction lane seats tape input
 inputs_sealed plan auction lane seats values tape input honest lt =
     let few : plan.inputs ≤ length plan.kinds = inputs_within plan honest.is_plan in
     let number : 0 + input ≡ input = zero-add input in

@@ -38,18 +38,24 @@ AreChecked plan values =
     → checked_lane plan (honest_case plan auction lane seats values tape) bit
     (honest_reply plan.kinds values tape bit) ≡ Ok (honest_halves values tape bit)
 
--- the commitments of each input are those of a split wire at its seat, with slot 0
-abbrev pub InputsAreSealed : List ℕ → PlanValue → List ℕ → Type 0
-InputsAreSealed inputs plan values =
-    (auction : List ℕ) (lane : ℕ) (seats : List ℕ) (tape : List WireTape) (input : ℕ)
-    → length seats ≡ plan.inputs → IsTapeOf plan tape → input < plan.inputs
-    → slice_index_or (honest_case plan auction lane seats values tape).coms input no_digests
+-- the commitments of an input are those of a split wire at its seat, with slot 0
+abbrev pub InputIsSealed : List ℕ → PlanValue → List ℕ → List ℕ → ℕ → List ℕ → List WireTape → ℕ
+    → Type 0
+InputIsSealed inputs plan values auction lane seats tape input =
+    slice_index_or (honest_case plan auction lane seats values tape).coms input no_digests
     ≡ made_com Split (record {
       auction = auction;
       seat = slice_index seats input;
       lane = lane;
       slot = 0;
     }) (slice_index inputs input) (slice_index_or tape input no_tape)
+
+-- and so of each input
+abbrev pub InputsAreSealed : List ℕ → PlanValue → List ℕ → Type 0
+InputsAreSealed inputs plan values =
+    (auction : List ℕ) (lane : ℕ) (seats : List ℕ) (tape : List WireTape) (input : ℕ)
+    → length seats ≡ plan.inputs → IsTapeOf plan tape → input < plan.inputs
+    → InputIsSealed inputs plan values auction lane seats tape input
 
 -- what is published of a lane is what is public of it but for the inputs' commitments
 abbrev pub ArePublished : PlanValue → List ℕ → Type 0

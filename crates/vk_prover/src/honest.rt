@@ -44,9 +44,9 @@ pub fn make_lane_with(
     values: &[Residue],
     tape: &LaneTape,
 ) -> Result<LaneLines, NoMemory>
+    requires table { table.now ≡ plan.now.rows }
     requires holds { Holds plan.now values.now }
     requires one_each { length tape.now.wires ≡ length plan.now.kinds }
-    requires table { table.now ≡ plan.now.rows }
     ensures { IfOk result
         (λ lines. lines ≡ honest_lane plan.now auction.now lane values.now tape.now.wires) }
 {
