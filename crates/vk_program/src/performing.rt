@@ -11,8 +11,8 @@ ghost use Rattle.vk_words.specs.Commands.{AsksNoKeeper, ClaimSample, Coin, Seal,
 ghost use Rattle.vk_words.specs.Orders.{SealWords};
 ghost use Rattle.vk_effect.specs.Effects.{outside, stores};
 ghost use Rattle.vk_coins.specs.Meaning.{MakesChallenge};
-ghost use Rattle.vk_app.specs.Commands.{DoesWork, StopsWork, work_on};
-ghost use Rattle.vk_app.specs.Promises.{Audits, ClaimHeadline, Claims, Headline, HoldsCeremony, KeepsHouse, RunLeaves, SamplesMatching, TellsUsage};
+ghost use Rattle.vk_app.specs.Commands.{LeavesKeeper, RunIsDone, RunIsStopped};
+ghost use Rattle.vk_app.specs.Promises.{Audits, ClaimHeadline, Claims, Headline, HoldsCeremony, KeepsHouse, OverFiles, RunLeaves, SamplesMatching, TellsUsage};
 ghost use Rattle.vk_app.specs.Sealing.{Seals};
 
 use crate::ending::{advise, end, explain, refuse, with_fault};
@@ -58,30 +58,20 @@ fn perform<R: Eprint + AllocGlobal, S: Shelf, K: Keeper + Drop, W: Sink>(
     keeper: &mut K,
     out: &mut W,
 ) -> ExitCode
-    ensures done { IfSome (work_on (S.held shelf.old) (K.ledger keeper.old)
-        (map string_bytes words.now))
-        (λ work. exit_status result ≢ 6 → exit_status result ≢ 9
-        → DoesWork (exit_status result) work
+    ensures done { RunIsDone (map string_bytes words.now) (exit_status result)
         (outside (stores (S.held shelf.old) (K.ledger keeper.old)) (W.taken out.old))
-        (outside (stores (S.held shelf.new) (K.ledger keeper.new)) (W.taken out.new))) }
-    ensures stopped { IfSome (work_on (S.held shelf.old) (K.ledger keeper.old)
-        (map string_bytes words.now))
-        (λ work. (exit_status result ≡ 6) ⊎ (exit_status result ≡ 9)
-        → StopsWork work (outside (stores (S.held shelf.old) (K.ledger keeper.old))
-        (W.taken out.old))
-        (outside (stores (S.held shelf.new) (K.ledger keeper.new)) (W.taken out.new))) }
-    ensures headline { IfSome (S.held shelf.old)
-        (λ files. Headline files (map string_bytes words.now) (exit_status result) (W.taken out.old)
-        (W.taken out.new)) }
-    ensures audits { IfSome (S.held shelf.old)
-        (λ files. Audits files (map string_bytes words.now) (exit_status result) (W.taken out.old)
-        (W.taken out.new)) }
-    ensures claim_headline { IfSome (S.held shelf.old)
-        (λ files. ClaimHeadline files (map string_bytes words.now) (exit_status result)
-        (W.taken out.old) (W.taken out.new)) }
-    ensures claims { IfSome (S.held shelf.old)
-        (λ files. Claims files (map string_bytes words.now) (exit_status result) (W.taken out.old)
-        (W.taken out.new)) }
+        (outside (stores (S.held shelf.new) (K.ledger keeper.new)) (W.taken out.new)) }
+    ensures stopped { RunIsStopped (map string_bytes words.now) (exit_status result)
+        (outside (stores (S.held shelf.old) (K.ledger keeper.old)) (W.taken out.old))
+        (outside (stores (S.held shelf.new) (K.ledger keeper.new)) (W.taken out.new)) }
+    ensures headline { OverFiles Headline (S.held shelf.old) (map string_bytes words.now)
+        (exit_status result) (W.taken out.old) (W.taken out.new) }
+    ensures audits { OverFiles Audits (S.held shelf.old) (map string_bytes words.now)
+        (exit_status result) (W.taken out.old) (W.taken out.new) }
+    ensures claim_headline { OverFiles ClaimHeadline (S.held shelf.old)
+        (map string_bytes words.now) (exit_status result) (W.taken out.old) (W.taken out.new) }
+    ensures claims { OverFiles Claims (S.held shelf.old) (map string_bytes words.now)
+        (exit_status result) (W.taken out.old) (W.taken out.new) }
     ensures matching { (number : ℕ)
         → command_words (map string_bytes words.now) ≡ Some (ClaimSample Matching number)
         → SamplesMatching number (exit_status result)
@@ -107,9 +97,8 @@ fn perform<R: Eprint + AllocGlobal, S: Shelf, K: Keeper + Drop, W: Sink>(
     ensures usage { IfSome (S.held shelf.old) (λ files. IfSome (K.ledger keeper.old) (λ ledger.
         TellsUsage (map string_bytes words.now) (exit_status result) (W.taken out.old) (W.taken out.new))) }
     ensures once { Modelled KeepsAnswers (K.ledger keeper.old) (K.ledger keeper.new) }
-    ensures keeper { AsksNoKeeper (command_words (map string_bytes words.now))
-        → (K.ledger keeper.new ≡ K.ledger keeper.old)
-        × (K.Keeper.faults keeper.new ≡ K.Keeper.faults keeper.old) }
+    ensures keeper { LeavesKeeper K.ledger K.Keeper.faults
+        (command_words (map string_bytes words.now)) keeper.old keeper.new }
     ensures fault { exit_status result ≡ 6
         → Rose (S.Shelf.faults shelf.old) (S.Shelf.faults shelf.new)
         ⊎ Rose (K.Keeper.faults keeper.old) (K.Keeper.faults keeper.new)
