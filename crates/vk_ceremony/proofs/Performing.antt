@@ -12,7 +12,7 @@ use Rattle.vk_effect.specs.Sequences.{StopsAmong, StopsClosing, done_all}
 use Rattle.vk_effect.proofs.Sequences.{are_one}
 use Rattle.vk_words.specs.Orders.{HouseWords}
 use Rattle.vk_auctioneer.specs.Effects.{house_effect}
-use Rattle.vk_ceremony.specs.Acts.{AreActs, GoOn, HouseAct, IsAct, PerformsAll, PerformsSome, StopsOrder}
+use Rattle.vk_ceremony.specs.Acts.{AreActs, GoOn, HouseAct, IsAct, Performs, PerformsAll, PerformsSome, StopsOrder}
 use Rattle.vk_ceremony.specs.Ceremonies.{Ceremony, EndsAll, ceremony_on}
 use Rattle.vk_ceremony.specs.Runs.{asked_in, orders_in}
 use Rattle.vk_ceremony.proofs.Following.{Follow, ceremony_follows, ledger_by, ledger_left, order_reaches, order_told, told_each}
@@ -20,7 +20,7 @@ use Rattle.vk_ceremony.proofs.Following.{Follow, ceremony_follows, ledger_by, le
 -- ---- one act
 
 -- what is done by an effect
-abbrev act_of : HouseWords → Files → Ledger → Effect → HouseAct
+abbrev pub act_of : HouseWords → Files → Ledger → Effect → HouseAct
 act_of order files ledger effect = record {
   order = order;
   files = files;
@@ -165,6 +165,19 @@ all_performed orders files ledger effects closing taken new follows is =
 
 -- ---- some of them were
 
+-- nothing more was left after these acts
+left_so : (orders later : List HouseWords) (files : Files) (ledger : Ledger) (acts : List HouseAct)
+    (left : Files) (kept : Ledger) → orders ≡ map (λ act. act.order) acts ++ later
+    → AreActs acts files ledger left kept → Performs orders files ledger acts left kept
+left_so orders later files ledger acts left kept orders_are done = record {
+  later = later;
+  orders_are = orders_are;
+  files_between = left;
+  ledger_between = kept;
+  done = done;
+  last = inl (refl, refl);
+}
+
 all_some : (orders : List HouseWords) (files : Files) (ledger : Ledger) (closing : List ℕ)
     (taken : Option (List ℕ)) (new : Outside) → PerformsAll orders files ledger closing taken new
     → PerformsSome orders files ledger new.files new.ledger
@@ -174,14 +187,9 @@ all_some orders files ledger closing taken new all = record {
   ledger_left = all.ledger_left;
   held_is = all.held_is;
   kept_is = all.kept_is;
-  performs = record {
-    later = all.later;
-    orders_are = all.orders_are;
-    files_between = all.files_left;
-    ledger_between = all.ledger_left;
-    done = all.done;
-    last = inl (refl, refl);
-  };
+  performs =
+      left_so orders all.later files ledger all.acts all.files_left all.ledger_left all.orders_are
+      all.done;
 }
 
 -- no order was done
@@ -193,14 +201,7 @@ none_done orders files ledger new holds = record {
   ledger_left = ledger;
   held_is = holds.held;
   kept_is = holds.kept;
-  performs = record {
-    later = orders;
-    orders_are = refl;
-    files_between = files;
-    ledger_between = ledger;
-    done = (refl, refl);
-    last = inl (refl, refl);
-  };
+  performs = left_so orders orders files ledger [] files ledger refl (refl, refl);
 }
 
 -- the first was stopped

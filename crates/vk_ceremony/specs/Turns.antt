@@ -1,9 +1,11 @@
 -- What the steps of a ceremony answer.
 use Rattle.std.specs.Prelude.{◌≡◌, ℕ, ◌+◌, ◌||◌, Bool, if◌then◌else◌, List, map, string_bytes, Option, Some, None, IfSome, option_and_then, Result, Ok, Err, IsSomeAnd}
 use Rattle.vk_io.specs.declared.errors.OutsideErr.{OutsideErr}
+use Rattle.vk_io.specs.declared.errors.OutsideErr.TheVariants.{Failed}
 use Rattle.vk_lines.specs.declared.step.Step.{Step}
 use Rattle.vk_lines.specs.declared.step.Step.TheVariants as step
 use Rattle.vk_lines.specs.Lines.{LinesValue, Rest, rest_of}
+use Rattle.vk_effect.specs.Counts.{CausesThree}
 use Rattle.vk_effect.specs.Effects.{Effect, IsEnd, Outside, Stores, done, stores}
 use Rattle.vk_words.specs.Orders.{HouseWords}
 use Rattle.vk_words.specs.Scripts.{script_words}
@@ -80,3 +82,13 @@ TurnsSome script lines left answer old new =
 abbrev pub EndsWell : Turn → Type 0
 EndsWell (Next refused) = Unit {0}
 EndsWell (Ended status) = IsEnd status
+
+-- ---- faults
+
+-- a call over a shelf, a keeper and a sink that answers a fault raised a count of theirs, and any
+-- other left all three as they were
+abbrev pub CausesAny : {S K W T : Type 0} → (S → ℕ) → (K → ℕ) → (W → ℕ) → Result T OutsideErr
+    → S → S → K → K → W → W → Type 0
+CausesAny shelf keeper out result old new before after first last =
+    CausesThree Failed result (shelf old) (shelf new) (keeper before) (keeper after) (out first)
+    (out last)

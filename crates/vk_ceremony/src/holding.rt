@@ -3,14 +3,13 @@
 ghost use Rattle.std.specs.Prelude.{◌≡◌, ◌≤◌, ◌+◌, ◌^◌, false, IfOk, IfSome};
 ghost use Rattle.vk_lines.specs.Lines.{KeepsFile};
 ghost use Rattle.vk_words.specs.Orders.{IsHouseOrder, house_seen};
-ghost use Rattle.vk_effect.specs.Counts.{CausesThree};
 ghost use Rattle.vk_effect.specs.Effects.{IsEnd, outside};
 ghost use Rattle.vk_effect.specs.Ends.{Ends};
 ghost use Rattle.vk_auctioneer.specs.Common.{KeepsAnswers, Modelled, stores};
 ghost use Rattle.vk_auctioneer.specs.Effects.{house_effect};
 ghost use Rattle.vk_ceremony.specs.Ceremonies.{EndsSome, ceremony_on};
 ghost use Rattle.vk_ceremony.specs.Leaving.{HoldLeaves, LeavesAnswered, OrderLeaves, TurnLeaves};
-ghost use Rattle.vk_ceremony.specs.Turns.{EndsWell, IsNextTurn, TurnsSome, left_of, turn_by};
+ghost use Rattle.vk_ceremony.specs.Turns.{CausesAny, EndsWell, IsNextTurn, TurnsSome, left_of, turn_by};
 
 use crate::closing::{close, say};
 use crate::reading::{Line, begin_script, behind_end, read_line};
@@ -49,10 +48,8 @@ pub fn ceremony<S: Shelf, K: Keeper + Drop, W: Sink>(
     ensures files { Modelled (LeavesAnswered script.now result) (S.held shelf.old)
         (S.held shelf.new) }
     ensures once { Modelled KeepsAnswers (K.ledger keeper.old) (K.ledger keeper.new) }
-    ensures causes { CausesThree OutsideErr.Failed result (S.Shelf.faults shelf.old)
-        (S.Shelf.faults shelf.new)
-        (K.faults keeper.old) (K.faults keeper.new) (W.Sink.faults out.old)
-        (W.Sink.faults out.new) }
+    ensures causes { CausesAny S.Shelf.faults K.faults W.Sink.faults result shelf.old shelf.new
+        keeper.old keeper.new out.old out.new }
 {
     match begin_script(alloc, shelf, script) {
         Ok(lines) => {
@@ -86,10 +83,8 @@ fn hold<S: Shelf, K: Keeper + Drop, W: Sink>(
     ensures files { Modelled (HoldLeaves script.now lines result) (S.held shelf.old)
         (S.held shelf.new) }
     ensures once { Modelled KeepsAnswers (K.ledger keeper.old) (K.ledger keeper.new) }
-    ensures causes { CausesThree OutsideErr.Failed result (S.Shelf.faults shelf.old)
-        (S.Shelf.faults shelf.new)
-        (K.faults keeper.old) (K.faults keeper.new) (W.Sink.faults out.old)
-        (W.Sink.faults out.new) }
+    ensures causes { CausesAny S.Shelf.faults K.faults W.Sink.faults result shelf.old shelf.new
+        keeper.old keeper.new out.old out.new }
 {
     let mut lines = lines;
     let mut refused = false;
@@ -125,10 +120,8 @@ fn next<S: Shelf, K: Keeper + Drop, W: Sink>(
         (λ turn. IsNextTurn turn → (lines.new.taken ≡ lines.old.taken + 1)
         × (lines.new.taken ≤ 2 ^ 30)) }
     ensures once { Modelled KeepsAnswers (K.ledger keeper.old) (K.ledger keeper.new) }
-    ensures causes { CausesThree OutsideErr.Failed result (S.Shelf.faults shelf.old)
-        (S.Shelf.faults shelf.new)
-        (K.faults keeper.old) (K.faults keeper.new) (W.Sink.faults out.old)
-        (W.Sink.faults out.new) }
+    ensures causes { CausesAny S.Shelf.faults K.faults W.Sink.faults result shelf.old shelf.new
+        keeper.old keeper.new out.old out.new }
 {
     match read_line(alloc, shelf, lines)? {
         Line::Words(words) => match script_order(words.as_slice(), script) {
@@ -186,10 +179,8 @@ fn command<S: Shelf, K: Keeper + Drop, W: Sink>(
     ensures files { Modelled (OrderLeaves (house_seen order.now) result) (S.held shelf.old)
         (S.held shelf.new) }
     ensures once { Modelled KeepsAnswers (K.ledger keeper.old) (K.ledger keeper.new) }
-    ensures causes { CausesThree OutsideErr.Failed result (S.Shelf.faults shelf.old)
-        (S.Shelf.faults shelf.new)
-        (K.faults keeper.old) (K.faults keeper.new) (W.Sink.faults out.old)
-        (W.Sink.faults out.new) }
+    ensures causes { CausesAny S.Shelf.faults K.faults W.Sink.faults result shelf.old shelf.new
+        keeper.old keeper.new out.old out.new }
 {
     let said = house_command(alloc, shelf, keeper, order)?;
     said.print(out)?;
