@@ -6,7 +6,8 @@ ghost use Rattle.vk_files.specs.Counting.{CountsOnce};
 ghost use Rattle.vk_files.specs.Moves.{GivesFrom};
 
 use crate::faults::FaultCount;
-use crate::moves::read_counted;
+use crate::moves::read_from;
+use crate::outcome::counted;
 use std::alloc::Global;
 use std::io::{Read, Seek};
 use std::marker::Model;
@@ -95,7 +96,7 @@ impl Ahead {
     {
         self.count = 0;
         self.from = at;
-        let count = read_counted(file, at, &mut self.bytes, faults)?;
+        let count = counted(read_from(file, at, &mut self.bytes), faults)?;
         self.count = count;
         Ok(())
     }
@@ -130,7 +131,7 @@ impl Ahead {
         ensures counted { CountsOnce result faults.old faults.new }
     {
         if into.len() > MOST_AHEAD {
-            let count = read_counted(file, at, into, faults)?;
+            let count = counted(read_from(file, at, into), faults)?;
             return Ok(count);
         }
         let count = self.copy(at, into);

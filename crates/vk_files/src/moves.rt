@@ -1,4 +1,4 @@
-//! Bytes moved to a writer and from a reader, where an error is counted as a fault.
+//! Bytes moved to a writer, where an error is counted as a fault, and from a place of a reader.
 
 ghost use Rattle.std.specs.Prelude.{◌≤◌, length, take, IfOk, OnOk};
 ghost use Rattle.std.specs.Io.KnownBytes.{Appends};
@@ -26,26 +26,8 @@ pub fn put_counted<W: Write>(
 }
 
 /// Fills `into` with what the reader gives from `at` on, as far as it gives any, and answers how
-/// many bytes that are. An error is counted, once.
-pub fn read_counted<F: Read + Seek>(
-    file: &mut F,
-    at: u64,
-    into: &mut [u8],
-    faults: &mut FaultCount,
-) -> Result<usize, OutsideErr>
-    ensures bound { IfOk result (λ n. n ≤ length into.old) }
-    ensures bytes { IfOk result
-        (λ n. GivesFrom F.stream_position F.remaining at (length into.old) (take n into.new)
-        file.old file.new) }
-    ensures counted { CountsOnce result faults.old faults.new }
-{
-    let count = counted(read_from(file, at, into), faults)?;
-    Ok(count)
-}
-
-/// Fills `into` with what the reader gives from `at` on, as far as it gives any, and answers how
 /// many bytes that are.
-fn read_from<F: Read + Seek>(file: &mut F, at: u64, into: &mut [u8]) -> io::Result<usize>
+pub fn read_from<F: Read + Seek>(file: &mut F, at: u64, into: &mut [u8]) -> io::Result<usize>
     ensures bound { IfOk result (λ n. n ≤ length into.old) }
     ensures bytes { IfOk result
         (λ n. GivesFrom F.stream_position F.remaining at (length into.old) (take n into.new)
