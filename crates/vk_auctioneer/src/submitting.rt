@@ -52,25 +52,19 @@ pub fn submit<S: Shelf, K: Keeper + Drop>(
 
 /// Reads the named seal and its secret.
 #[tactic(auto, unfolding(crate::specs::Inputs::row_in))]
-fn row<S: Shelf>(
-    alloc: Global,
-    shelf: &mut S,
-    seal_name: &str,
-    secret_name: &str,
-) -> Result<SealRow, Unread>
+fn row<S: Shelf>(alloc: Global, shelf: &mut S, seal: &str, secret: &str) -> Result<SealRow, Unread>
     ensures modelled { IfSome (S.held shelf.old)
-        (λ files. Gives said_of_unread (λ row. row) result
-        (row_in files seal_name.now secret_name.now)) }
+        (λ files. Gives said_of_unread (λ row. row) result (row_in files seal.now secret.now)) }
     ensures seal { IfOk result (λ row. IsSeal row.seal) }
     ensures secret { IfOk result (λ row. IsSecret row.secret) }
     ensures shelf { OnlyReads S.held S.Shelf.faults Unread.Failed result shelf.old shelf.new }
 {
-    let mut seal_lines = begin_named(alloc, shelf, seal_name)?;
-    let mut secret_lines = begin_named(alloc, shelf, secret_name)?;
-    let seal = read_seal(alloc, shelf, &mut seal_lines);
-    let seal = named_value(alloc, seal_name, seal)?;
-    let secret = read_secret(alloc, shelf, &mut secret_lines);
-    let secret = named_value(alloc, secret_name, secret)?;
+    let mut seal_lines = begin_named(alloc, shelf, seal)?;
+    let mut secret_lines = begin_named(alloc, shelf, secret)?;
+    let read = read_seal(alloc, shelf, &mut seal_lines);
+    let seal = named_value(alloc, seal, read)?;
+    let read = read_secret(alloc, shelf, &mut secret_lines);
+    let secret = named_value(alloc, secret, read)?;
     Ok(SealRow { seal, secret })
 }
 
