@@ -27,7 +27,7 @@ use Rattle.vk_auctioneer.specs.Laws.{AreHouseWords}
 use Rattle.vk_auctioneer.specs.Lines.{reply_said}
 use Rattle.vk_auctioneer.proofs.Reading.{reads_challenge, reads_row}
 use Rattle.vk_auctioneer.proofs.Words.{script_each, then_each}
-use Rattle.vk_ceremony.specs.Acts.{AreActs, HouseAct, IsAct, Performs, StopsNext}
+use Rattle.vk_ceremony.specs.Acts.{AreActs, HouseAct, IsAct, IsStepOf, Performs, StopsNext}
 use Rattle.vk_ceremony.specs.Runs.{asked_in, orders_behind, orders_in}
 use Rattle.vk_ceremony.specs.Scripts.{Order, Over, Script, ScriptLine, closes, line_then, order_line, over_from, pieces, script_at, script_begun, script_from, script_line}
 use Rattle.vk_ceremony.proofs.Following.{Reaches, ledger_by, ledger_left, order_reaches, refused_stays, step_call}
@@ -51,8 +51,7 @@ act_kept act is = kept_by_asking act.order act.files act.ledger act.kept is.effe
 -- it is a step of the house
 pub act_steps : (act : HouseAct) (command : HouseCommand) → IsAct act
     → asked_in act.files act.order ≡ Some command
-    → (act.kept ≡ (house_step act.ledger command).1)
-    × (act.said ≡ reply_said command (house_step act.ledger command).0)
+    → IsStepOf command act
 act_steps act command is asks =
     let reaches : Reaches (Some command) act.ledger is.effect =
     subst (λ asked. Reaches asked act.ledger is.effect) asks

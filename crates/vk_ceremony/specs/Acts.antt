@@ -4,9 +4,12 @@ use Rattle.std.specs.List.{flat_map}
 use Rattle.vk_io.specs.Files.{Files}
 use Rattle.vk_io.specs.Writing.{written, IsDivided}
 use Rattle.vk_keeper.specs.Ledgers.{Ledger}
+use Rattle.vk_house.specs.Commands.{HouseCommand}
+use Rattle.vk_house.specs.Steps.{house_step}
 use Rattle.vk_effect.specs.Effects.{Effect, Outside, SaidValue, puts, said_of}
 use Rattle.vk_words.specs.Orders.{HouseWords}
 use Rattle.vk_auctioneer.specs.Effects.{house_effect}
+use Rattle.vk_auctioneer.specs.Lines.{reply_said}
 use Rattle.vk_ceremony.specs.Ceremonies.{goes_on}
 
 -- ---- one command
@@ -28,6 +31,11 @@ pub record IsAct (act : HouseAct) : Type 0 where
   pub said_is : act.said ≡ said_of effect
   pub left_is : act.left ≡ written effect.writes act.files
   pub kept_is : effect.ledger ≡ Some act.kept
+
+-- it is the house's step of what it asked, and says its reply
+abbrev pub IsStepOf : HouseCommand → HouseAct → Type 0
+IsStepOf command act = (act.kept ≡ (house_step act.ledger command).1)
+    × (act.said ≡ reply_said command (house_step act.ledger command).0)
 
 -- a command that was stopped when the house had kept what it asked: the ledger is that of its
 -- effect, and its files are divided at one of them. Where its printing was stopped all of them are

@@ -8,7 +8,6 @@ ghost use Rattle.vk_lines.specs.Lines.{Rest, line_by};
 ghost use Rattle.vk_lines.specs.Tokens.{word_of};
 ghost use Rattle.vk_keeper.specs.Ledgers.{Ledger, IsLedger};
 ghost use Rattle.vk_house.specs.Commands.{HouseCommand};
-ghost use Rattle.vk_house.specs.Steps.{house_step};
 ghost use Rattle.vk_words.specs.Commands.{House, command_words};
 ghost use Rattle.vk_words.specs.Orders.{HouseWords};
 ghost use Rattle.vk_effect.specs.Effects.{Outside, outside, stores};
@@ -16,8 +15,7 @@ ghost use Rattle.vk_effect.specs.Ends.{Done, Ends};
 ghost use Rattle.vk_auctioneer.specs.Common.{Files, KeepsAnswers};
 ghost use Rattle.vk_auctioneer.specs.Effects.{house_effect};
 ghost use Rattle.vk_auctioneer.specs.Laws.{AreHouseWords};
-ghost use Rattle.vk_auctioneer.specs.Lines.{reply_said};
-ghost use Rattle.vk_ceremony.specs.Acts.{AreActs, HouseAct, IsAct, Performs, PerformsAll, PerformsSome};
+ghost use Rattle.vk_ceremony.specs.Acts.{AreActs, HouseAct, IsAct, IsStepOf, Performs, PerformsAll, PerformsSome};
 ghost use Rattle.vk_ceremony.specs.Ceremonies.{EndsAll, ceremony_effect, ceremony_on};
 ghost use Rattle.vk_ceremony.specs.Forms.{AreOrders, SaysOrders, fault_by, script_table, script_text};
 ghost use Rattle.vk_ceremony.specs.Runs.{IsRun, asked_in, orders_in};
@@ -91,9 +89,7 @@ pub fn a_ceremony_is_done_command_by_command()
 /// changed.
 pub fn an_act_is_a_step_of_the_house()
     ensures step { (act : HouseAct) (command : HouseCommand) → IsAct act
-        → asked_in act.files act.order ≡ Some command
-        → (act.kept ≡ (house_step act.ledger command).1)
-        × (act.said ≡ reply_said command (house_step act.ledger command).0) }
+        → asked_in act.files act.order ≡ Some command → IsStepOf command act }
     ensures status { (act : HouseAct) (command : HouseCommand) → IsAct act
         → asked_in act.files act.order ≡ Some command
         → (act.said.status ≡ 0) ⊎ (act.said.status ≡ 8) }
