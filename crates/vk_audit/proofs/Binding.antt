@@ -19,6 +19,7 @@ use Rattle.vk_bids.specs.declared.confrontation.Confrontation.TheVariants.{Refus
 use Rattle.vk_bids.specs.declared.confrontation.ConfrontErr.{ConfrontErr}
 use Rattle.vk_bids.specs.declared.confrontation.ConfrontErr.TheVariants.{Unread, MissingSecret, TooLongSecret}
 use Rattle.vk_bids.specs.Texts.{clash_text}
+use Rattle.vk_seal.specs.Texts.{secret_text}
 use Rattle.vk_bids.specs.Confrontation.{confrontation_of, confrontation_on, of_extraction, secret_begun, secret_in}
 use Rattle.vk_bids.specs.Headline.{IsExtractionClash, IsHeldFile, IsOf, LaneAgrees, TwoAccepted, differing_in, extraction_of_held}
 use Rattle.vk_bids.specs.Binding.{ClashOr, HeldOrClash, IsClashWith, IsSealOf, confrontation_of_held}
@@ -246,7 +247,7 @@ tells_confrontations files names taken = record {
 said_bound : {files : Files} {names : ConfrontWords} (confronts : ConfrontsFiles files names)
     (index : ℕ) (taken : Option (List ℕ))
     (confrontation : Confrontation)
-    → ClashOr confronts.two (λ found. HeldOrClash confronts.last.secret index found confrontation)
+    → ClashOr confronts.two (λ found. HeldOrClash confronts.secret index found confrontation)
     confrontation
     → let said = confrontation_said names confrontation in
     IsBound confronts index said.status taken (puts said.text taken)
@@ -265,15 +266,15 @@ said_bound {names} confronts index taken confrontation
       bids = bids;
       ends = inr (
         ap (λ c. (confrontation_said names c).status) clashes,
-        subst (λ c. Modelled (PutsSecretClash confronts.last.secret found) taken
+        subst (λ c. Modelled (PutsSecretClash confronts.secret found) taken
             (puts (confrontation_said names c).text taken)) (sym clashes)
-            (put_told (IsClashWith confronts.last.secret found) clash_text clash is taken),
+            (put_told (IsClashWith confronts.secret found) clash_text clash is taken),
       );
     }
 
 always_bound : (files : Files) (names : ConfrontWords) (taken : Option (List ℕ))
     (confronts : ConfrontsFiles files names) (index : ℕ)
-    → IsSealOf (front_in confronts.two.first) confronts.last.secret index
+    → IsSealOf (front_in confronts.two.first) confronts.secret index
     → let said = confront_said files names in
     IsBound confronts index said.status taken (puts said.text taken)
 always_bound files names taken confronts index seal =
@@ -281,11 +282,12 @@ always_bound files names taken confronts index seal =
     let P : Result Confrontation ConfrontErr → Type 0 = λ answer. let said =
     said_of files names answer in IsBound confronts index said.status taken
     (puts said.text taken) in
-    subst P (sym (answer_read files names held confronts.last.file confronts.last.file_is))
-    (said_bound confronts index taken (confrontation_of_held held confronts.last.file)
+    let file = secret_text confronts.secret in
+    subst P (sym (answer_read files names held file confronts.file_is))
+    (said_bound confronts index taken (confrontation_of_held held file)
     (sealed_are_held_or_clash held.board_bytes held.first.challenge_bytes held.first.reply_bytes
-    held.second.challenge_bytes held.second.reply_bytes confronts.last.file
-    confronts.two confronts.last.secret index confronts.last.right confronts.last.text seal))
+    held.second.challenge_bytes held.second.reply_bytes file
+    confronts.two confronts.secret index confronts.right refl seal))
 
 -- ---- only such files
 
@@ -315,13 +317,9 @@ only_held files names (Ok (Held seat)) holds zero_is =
         held = holds.held;
         two = comes.two;
         agree = comes.bids.agree;
-        last = record {
-          file = holds.file;
-          file_is = holds.file_is;
-          secret = comes.secret;
-          right = comes.right;
-          text = comes.text;
-        };
+        secret = comes.secret;
+        right = comes.right;
+        file_is = subst (IsHeldFile files names.secret) comes.text holds.file_is;
       };
       found = comes.found;
       bids = comes.bids;

@@ -105,14 +105,6 @@ IsExtracted two = PutsFound (PutsExtraction two) (PutsClash two)
 
 -- ---- `confront`
 
--- the named file is held, and is the text of a secret
-pub record IsOfSecret (files : Files) (name : List ℕ) : Type 0 where
-  pub file : List ℕ
-  pub file_is : IsHeldFile files name file
-  pub secret : Secret
-  pub right : IsSecret secret
-  pub text : file ≡ secret_text secret
-
 -- the named files are held. Both replies are accepted with the board, for challenges that differ,
 -- and open no commitment with two values in the lanes whose bits differ. The last file is the text
 -- of a secret
@@ -121,7 +113,9 @@ pub record ConfrontsFiles (files : Files) (names : ConfrontWords) : Type 0 where
   pub two : TwoAccepted held.board_bytes held.first.challenge_bytes held.first.reply_bytes
       held.second.challenge_bytes held.second.reply_bytes
   pub agree : All (LaneAgrees two) (differing_in two)
-  pub last : IsOfSecret files names.secret
+  pub secret : Secret
+  pub right : IsSecret secret
+  pub file_is : IsHeldFile files names.secret (secret_text secret)
 
 -- so it is, and the secret is held by the bids that the replies open: the board's seal of its seat
 -- is the secret's, and in every lane whose bits differ both halves of that seal's bid are the
@@ -130,7 +124,7 @@ pub record HoldsSecret (files : Files) (names : ConfrontWords) : Type 0 where
   pub confronts : ConfrontsFiles files names
   pub found : Extracted
   pub bids : IsExtraction confronts.two found
-  pub held : IsHeldBy confronts.last.secret found
+  pub held : IsHeldBy confronts.secret found
 
 -- what is put is the line of two openings of one commitment of the secret's seal: the secret's, and
 -- one that a reply shows in the first lane in which a half isn't the secret's
@@ -143,8 +137,8 @@ pub record IsBound {files : Files} {names : ConfrontWords} (confronts : Confront
     (index status : ℕ) (old new : Option (List ℕ)) : Type 0 where
   pub found : Extracted
   pub bids : IsExtraction confronts.two found
-  pub ends : ((status ≡ 0) × All (HoldsIn confronts.last.secret index) found.lanes)
-      ⊎ ((status ≡ 3) × Modelled (PutsSecretClash confronts.last.secret found) old new)
+  pub ends : ((status ≡ 0) × All (HoldsIn confronts.secret index) found.lanes)
+      ⊎ ((status ≡ 3) × Modelled (PutsSecretClash confronts.secret found) old new)
 
 -- status 0 comes only where the secret is held; and where the board's seal at an index is the
 -- secret's, every end of the command is one of these two
@@ -152,7 +146,7 @@ pub record BindsSecret (files : Files) (names : ConfrontWords) (status : ℕ)
     (old new : Option (List ℕ)) : Type 0 where
   pub only : status ≡ 0 → HoldsSecret files names
   pub always : (confronts : ConfrontsFiles files names) (index : ℕ)
-      → IsSealOf (front_in confronts.two.first) confronts.last.secret index
+      → IsSealOf (front_in confronts.two.first) confronts.secret index
       → status ≢ 6 → status ≢ 9 → IsBound confronts index status old new
 
 -- ---- `report`
