@@ -22,10 +22,6 @@ planned c = matching_plan (inputs_of c) (numbers_of c)
 abbrev pub claim_of : MatchingPlan → List ℕ → Type 0
 claim_of c = IsMatchingClaim (inputs_of c) (numbers_of c)
 
--- the values of all its wires, where that holds of the ranks
-abbrev pub values_of : MatchingPlan → List ℕ → List ℕ
-values_of c = matching_values (inputs_of c) (numbers_of c)
-
 module _ (c : MatchingPlan) where
   pub circuit_is_plan : IsPlan (planned c)
   circuit_is_plan = matching_is_plan (inputs_of c) (numbers_of c) c.in_limits
@@ -34,9 +30,9 @@ module _ (c : MatchingPlan) where
   inputs_are = matching_inputs (inputs_of c) (numbers_of c)
 
   pub circuit_begins : (ranks : List ℕ) → claim_of c ranks
-      → take (planned c).inputs (values_of c ranks) ≡ ranks
+      → take (planned c).inputs (matching_values (inputs_of c) (numbers_of c) ranks) ≡ ranks
   circuit_begins ranks claim =
-      ap (λ n. take n (values_of c ranks)) inputs_are
+      ap (λ n. take n (matching_values (inputs_of c) (numbers_of c) ranks)) inputs_are
       ∙ matching_begins (inputs_of c) (numbers_of c) c.in_limits ranks claim
 
   pub circuit_sound : (values : List ℕ) → Holds (planned c) values
@@ -45,5 +41,6 @@ module _ (c : MatchingPlan) where
       subst (λ n. claim_of c (take n values)) (sym inputs_are)
       (matching_sound (inputs_of c) (numbers_of c) c.in_limits values holds)
 
-  pub circuit_complete : (ranks : List ℕ) → claim_of c ranks → Holds (planned c) (values_of c ranks)
+  pub circuit_complete : (ranks : List ℕ) → claim_of c ranks
+      → Holds (planned c) (matching_values (inputs_of c) (numbers_of c) ranks)
   circuit_complete = matching_complete (inputs_of c) (numbers_of c) c.in_limits

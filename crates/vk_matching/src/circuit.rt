@@ -1,8 +1,8 @@
 ghost use Rattle.std.specs.Prelude.{◌≡◌, ◌<◌, ℕ, length, IfOk};
 ghost use Rattle.vk_matching.specs.Stability.{IsPerson, his_place, her_place, wife_of};
 ghost use Rattle.vk_matching.specs.Couples.{husband_of};
-ghost use Rattle.vk_matching.specs.MatchingPlans.{copy_at, either_at, man_at, matching_of, pair_count, rank_ranges, row_count, size_of, wire_count, woman_at};
-ghost use Rattle.vk_matching.specs.Circuits.{inputs_of, numbers_of, planned, claim_of, values_of, circuit_begins, circuit_complete, circuit_is_plan, circuit_sound};
+ghost use Rattle.vk_matching.specs.MatchingPlans.{copy_at, either_at, man_at, matching_of, matching_values, pair_count, rank_ranges, row_count, size_of, wire_count, woman_at};
+ghost use Rattle.vk_matching.specs.Circuits.{inputs_of, numbers_of, planned, claim_of, circuit_begins, circuit_complete, circuit_is_plan, circuit_sound};
 
 use crate::either::EitherAtLeast;
 use crate::plan::MatchingPlan;
@@ -19,7 +19,7 @@ impl Circuit for MatchingPlan {
 
     ghost claim = { claim_of };
 
-    ghost filled = { values_of };
+    ghost filled = { λ c ranks. matching_values (inputs_of c) (numbers_of c) ranks };
 
     ghost begins = { circuit_begins };
 
@@ -52,7 +52,8 @@ impl Circuit for MatchingPlan {
 
     fn fill(&self, alloc: Global, inputs: &[Residue]) -> Result<Vec<Residue>, NoMemory>
         requires { claim_of self.now inputs.now }
-        ensures { IfOk result (λ values. values.items ≡ values_of self.now inputs.now) }
+        ensures { IfOk result (λ values.
+            values.items ≡ matching_values (inputs_of self.now) (numbers_of self.now) inputs.now) }
     {
         let ranges = self.ranges(alloc)?;
         let mut values = ranged_values(alloc, inputs, &ranges)?;
