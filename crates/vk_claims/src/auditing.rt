@@ -3,9 +3,7 @@
 ghost use Rattle.vk_io.specs.Reads.{OnlyReads};
 ghost use Rattle.vk_words.specs.Names.{extract_seen, verify_seen};
 ghost use Rattle.vk_audit.specs.Audits.{Says};
-ghost use Rattle.vk_claims.specs.Extractions.{claim_extract_said};
-ghost use Rattle.vk_claims.specs.Orders.{claim_order_seen, claim_said};
-ghost use Rattle.vk_claims.specs.Verdicts.{claim_verify_said};
+ghost use Rattle.vk_claims.specs.Orders.{Extract, Verify, claim_order_seen, claim_said};
 
 use crate::circuits::ClaimCircuits;
 use crate::extractions::claim_extracted;
@@ -32,7 +30,7 @@ fn claim_verified<S: Shelf>(
     names: VerifyNames<'_>,
 ) -> Result<Said, OutsideErr>
     ensures said { Says (S.held shelf.old) result
-        (λ files. claim_verify_said files (verify_seen names.entry)) }
+        (λ files. claim_said files (Verify (verify_seen names.entry))) }
     ensures shelf { OnlyReads S.held S.Shelf.faults OutsideErr.Failed result shelf.old shelf.new }
 {
     let VerifyNames { board, attempt } = names;
@@ -57,7 +55,7 @@ fn claim_answered<S: Shelf>(
 ) -> Result<Said, OutsideErr>
     ensures shelf { OnlyReads S.held S.Shelf.faults OutsideErr.Failed result shelf.old shelf.new }
     ensures said { Says (S.held shelf.old) result
-        (λ files. claim_extract_said files (extract_seen names.entry)) }
+        (λ files. claim_said files (Extract (extract_seen names.entry))) }
 {
     let said = match extract_claim(alloc, shelf, &ClaimCircuits, &replies_of(&names)) {
         Ok(extraction) => claim_extracted(alloc, &names, &extraction)?,
