@@ -162,18 +162,18 @@ of_lane source lane =
     (length-map source.rows (λ row. wire_tape (tape_in row.secret lane)))
 
 -- the refusal for a lane is that for its first such wire
-pub lane_refusal : (source : TapeSource) (lane inputs : ℕ) (ahead : ℕ → ℕ)
+pub lane_refusal : (source : TapeSource) (lane inputs : ℕ) (ahead : ℕ → ℕ) (found : Option ℕ)
     → inputs ≡ length source.rows → ahead ≡ word_at source.seed source.id lane
-    → dry_refusal (option_map (λ wire. record { lane = lane; wire = wire })
-    (dry_wire inputs source.further ahead))
+    → found ≡ dry_wire inputs source.further ahead
+    → dry_refusal (option_map (λ wire. record { lane = lane; wire = wire }) found)
     ≡ dry_refusal (dry_or (drawn_in source lane) lane None)
-lane_refusal source lane inputs ahead inputs_are words =
-    ap (λ n. dry_refusal (option_map (λ wire. record { lane = lane; wire = wire })
-    (dry_wire n source.further ahead))) inputs_are
-    ∙ ap (λ w. dry_refusal (option_map (λ wire. record { lane = lane; wire = wire })
-    (dry_wire (length source.rows) source.further w))) words
-    ∙ ap dry_refusal (ap (option_map (λ wire. record { lane = lane; wire = wire }))
-    (sym (of_lane source lane)) ∙ sym (found_dry (drawn_in source lane) lane))
+lane_refusal source lane inputs ahead found inputs_are words is =
+    let dry : ℕ → Dry = λ wire. record { lane = lane; wire = wire } in
+    ap (λ f. dry_refusal (option_map dry f)) (is
+    ∙ ap (λ n. dry_wire n source.further ahead) inputs_are
+    ∙ ap (dry_wire (length source.rows) source.further) words
+    ∙ sym (of_lane source lane))
+    ∙ ap dry_refusal (sym (found_dry (drawn_in source lane) lane))
 
 -- ---- what is told of all lanes
 

@@ -5,7 +5,7 @@ use Rattle.std.proofs.lemmas.Bool.{cases_eq}
 use Rattle.std.proofs.lemmas.List.{length-map}
 use Rattle.std.proofs.lemmas.List.Elements.{All-map, All-weaker}
 use Rattle.vk_residue.specs.Residue.{IsResidue}
-use Rattle.vk_plan.specs.Plans.{PlanValue, IsPlan, Holds}
+use Rattle.vk_plan.specs.Plans.{IsPlan, Holds}
 use Rattle.vk_vickrey.specs.declared.sales.Sale.{Sale}
 use Rattle.vk_vickrey.specs.declared.sales.Sale.TheVariants.{Sold}
 use Rattle.vk_vickrey.specs.Sales.{IsSold, IsSale}
@@ -19,6 +19,7 @@ use Rattle.vk_keeper.specs.Auctions.{IsAuction, IsSealRow, seed_of}
 use Rattle.vk_job.specs.Outcome.{outcome_of, sale_of}
 use Rattle.vk_job.specs.declared.proof.Prepared.{Prepared}
 use Rattle.vk_job.specs.JobValues.{IsJob}
+use Rattle.vk_job.specs.Proofs as parts
 use Rattle.vk_job.specs.Proofs.{HasTapesFor, IsPrepared, IsProof, ProofValue, first_dry_in, prepared_proof, source_of, tapes_in}
 use Rattle.vk_job.specs.Jobs.{bids_of, numbers_in, plan_of, sale_in, values_of, proof_of, proof_with, seed_in, IsProvedAuction}
 use Rattle.vk_job.proofs.Drawing.{lanes_of}
@@ -216,22 +217,20 @@ proof_is auction proved = proof_where auction (seed_in auction) proved.right
     (has_seal auction proved) proved.tapes
 
 -- what a job keeps was prepared for it
-pub prepared_for : (auction : Auction) (sale : Sale) (made : Prepared) → IsJob auction sale made
-    → IsPrepared (prepared_proof auction.id auction.seals auction.lanes (seed_in auction) made) made
-prepared_for auction sale made is =
-    let of : PlanValue → List ℕ → ProofValue =
-    λ plan values. record {
-      id = auction.id;
-      rows = auction.seals;
-      lanes = auction.lanes;
-      seed = seed_in auction;
-      plan = plan;
-      values = values;
-    } in
-    let same : proof_of auction ≡ of made.plan made.values =
-    sym (ap (λ plan. of plan made.values) is.plan_is ∙ ap (of (plan_of auction)) is.values_are) in
-    record {
-      right = subst IsProof same (proof_is auction is.proved);
-      table = is.table_is;
-      tapes = is.tapes_are ∙ ap (λ proof. tapes_in (source_of proof)) same;
-    }
+module _ (auction : Auction) (sale : Sale) (made : Prepared) (is : IsJob auction sale made) where
+  abbrev pub of_job : ProofValue
+  of_job = prepared_proof auction.id auction.seals auction.lanes (seed_in auction) made
+
+  same_proof : proof_of auction ≡ of_job
+  same_proof =
+      let of = parts.proof_with auction.id auction.seals auction.lanes (seed_in auction) in
+      sym (ap (λ plan. of plan made.values) is.plan_is ∙ ap (of (plan_of auction)) is.values_are)
+
+  pub job_proof_is : IsProof of_job
+  job_proof_is = subst IsProof same_proof (proof_is auction is.proved)
+
+  pub job_is_prepared : IsPrepared of_job made
+  job_is_prepared = record {
+    table = is.table_is;
+    tapes = is.tapes_are ∙ ap (λ proof. tapes_in (source_of proof)) same_proof;
+  }

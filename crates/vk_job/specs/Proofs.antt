@@ -138,9 +138,8 @@ pub record IsProof (proof : ProofValue) : Type 0 where
 abbrev pub prepared_proof : List ℕ → List SealRow → ℕ → List ℕ → Prepared → ProofValue
 prepared_proof id rows lanes seed made = proof_with id rows lanes seed made.plan made.values
 
--- what was prepared serves for the proof, which is one
+-- what was prepared serves for the proof: a table of its circuit's rows, and the tapes of its lanes
 pub record IsPrepared (proof : ProofValue) (made : Prepared) : Type 0 where
-  pub right : IsProof proof
   pub table : made.table ≡ proof.plan.rows
   pub tapes : made.tapes ≡ tapes_in (source_of proof)
 

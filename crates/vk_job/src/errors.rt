@@ -1,7 +1,6 @@
 ghost use Rattle.std.specs.Prelude.{◌≡◌};
 ghost use Rattle.vk_job.specs.declared.errors.JobErr.TheVariants.{NoMemory as MemoryRefused};
 
-use std::alloc::AllocError;
 use vk_residue::NoMemory;
 
 /// Why an honest proof can't be made, and so no job of an auction.
@@ -18,14 +17,6 @@ impl From<NoMemory> for JobErr {
     ghost from_gives = { λ _ e. e ≡ MemoryRefused };
 
     fn from(_refused: NoMemory) -> JobErr {
-        JobErr::NoMemory
-    }
-}
-
-impl From<AllocError> for JobErr {
-    ghost from_gives = { λ _ e. e ≡ MemoryRefused };
-
-    fn from(_refused: AllocError) -> JobErr {
         JobErr::NoMemory
     }
 }

@@ -33,14 +33,15 @@ pub struct HonestProof<'a> {
 }
 
 impl<'a> Model for HonestProof<'a> {
-    ghost use Rattle.vk_job.specs.Proofs.{ProofValue, IsPrepared, prepared_proof};
+    ghost use Rattle.vk_job.specs.Proofs.{ProofValue, IsPrepared, IsProof, prepared_proof};
 
     ghost Value = { ProofValue };
 
     ghost view = { λ p. prepared_proof p.id.now p.rows.now p.lanes p.seed p.made.now };
 
-    ghost invariant = { λ p. IsPrepared
-        (prepared_proof p.id.now p.rows.now p.lanes p.seed p.made.now) p.made.now };
+    ghost invariant = { λ p. IsProof
+        (prepared_proof p.id.now p.rows.now p.lanes p.seed p.made.now)
+        × IsPrepared (prepared_proof p.id.now p.rows.now p.lanes p.seed p.made.now) p.made.now };
 }
 
 impl<'a> HonestProof<'a> {
@@ -54,7 +55,8 @@ impl<'a> HonestProof<'a> {
         seed: [u8; 32],
         made: &'a Prepared,
     ) -> HonestProof<'a>
-        requires { IsPrepared (prepared_proof id.now rows.now lanes seed made.now) made.now }
+        requires right { IsProof (prepared_proof id.now rows.now lanes seed made.now) }
+        requires prepared { IsPrepared (prepared_proof id.now rows.now lanes seed made.now) made.now }
         ensures { result ≡ prepared_proof id.now rows.now lanes seed made.now }
     {
         HonestProof {

@@ -1,7 +1,6 @@
 // The tapes of the lanes of a proof.
-ghost use Rattle.std.specs.Prelude.{◌≡◌, ◌⊎◌, ◌+◌, ◌^◌, ◌<◌, ◌≤◌, All, None, Ok, Err, length, option_map, IfErr, IfOk};
+ghost use Rattle.std.specs.Prelude.{◌≡◌, ◌⊎◌, ◌+◌, ◌^◌, ◌<◌, ◌≤◌, All, None, Ok, Err, [], length, vec_capacity, IfErr, IfOk};
 ghost use Rattle.vk_dice.specs.Stream.{word_at, words_ahead};
-ghost use Rattle.vk_prover.specs.Drawn.{dry_wire};
 ghost use Rattle.vk_job.specs.Answers.{TapesAnswer, TapesOr, dry_refusal};
 ghost use Rattle.vk_job.specs.Proofs.{HasTapesFor, drawn_in, dry_or, first_dry_in, given_in, source_with};
 ghost use Rattle.vk_job.specs.Sources.{source_seen};
@@ -64,12 +63,21 @@ fn draw_lanes(alloc: Global, source: &Source) -> Result<Seq<LaneTape>, JobErr>
     requires secrets { All (HasTapesFor source.now.lanes) source.now.rows.now }
     ensures { TapesOr (Unit {0}) result (source_seen source.now) }
 {
-    let mut tapes = Vec::with_capacity(alloc, source.lanes as usize)?;
+    let mut tapes = room(alloc, source.lanes)?;
     for before in 0..source.lanes {
         let tape = draw_lane(alloc, source, before + 1)?;
         tapes.push(tape).unwrap();
     }
     Ok(Seq::from_vec(tapes))
+}
+
+/// Room for so many tapes.
+fn room(alloc: Global, count: u32) -> Result<Vec<LaneTape>, NoMemory>
+    ensures none { IfOk result (λ tapes. tapes.items ≡ []) }
+    ensures room { IfOk result (λ tapes. count ≤ vec_capacity tapes) }
+{
+    let tapes = Vec::with_capacity(alloc, count as usize)?;
+    Ok(tapes)
 }
 
 /// The tape of the lane, counted from 1, or its first wire that is dry.
@@ -99,21 +107,19 @@ fn check_tapes(source: &Source) -> Result<(), JobErr>
     ensures { result ≡ dry_refusal (first_dry_in (source_seen source.now)) }
 {
     for before in 0..source.lanes {
-        let lane = before + 1;
-        let words = words_of(source.id, source.seed, lane);
-        check_tape(source.rows.len() as u32, source.further, words, lane)?;
+        check_lane(source, before + 1)?;
     }
     Ok(())
 }
 
-/// Errs where the lane has no tape: its words run dry for one of the wires further than the inputs.
-fn check_tape(inputs: u32, further: u32, mut words: ChaChaWords, lane: u32) -> Result<(), JobErr>
-    requires { inputs + further < 2 ^ 32 }
-    ensures { result ≡ dry_refusal
-        (option_map (λ wire. record { lane = lane; wire = wire })
-        (dry_wire inputs further (words_ahead words))) }
+/// Errs where the lane, counted from 1, has no tape, with its first wire that is dry.
+fn check_lane(source: &Source, lane: u32) -> Result<(), JobErr>
+    requires { length source.now.rows.now + source.now.further < 2 ^ 32 }
+    ensures { result ≡ dry_refusal (dry_or (drawn_in (source_seen source.now) lane) lane None) }
 {
-    match first_dry(inputs, further, &mut words) {
+    let inputs = source.rows.len() as u32;
+    let mut words = words_of(source.id, source.seed, lane);
+    match first_dry(inputs, source.further, &mut words) {
         Some(wire) => Err(JobErr::DrySeed { lane, wire }),
         None => Ok(()),
     }

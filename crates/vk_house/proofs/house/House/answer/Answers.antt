@@ -21,4 +21,4 @@ returns-in_err-keep-clause-call g c =
     let is : c.from_residual-in_err-keep.result
     ≡ Err (told_as house.KeeperFailed house.NoMemory refusal) = search rules in
     rw is (keep_failed (Answer c.args.id.now c.args.challenge.now) _ refusal _ _ _
-    c.in_ok-found.ensures.kept c.in_err-keep.ensures.put)
+    c.in_ok-get.ensures.kept c.in_err-keep.ensures.put)
