@@ -1,5 +1,4 @@
 pub mod Audited
-pub mod Ending
 pub mod Served
 mod Sealing
 mod Statuses
