@@ -11,7 +11,7 @@ use Rattle.std.proofs.lemmas.List.Splits.{join_with_byte-slice_split}
 use Rattle.std.proofs.lemmas.Slice.Eq.{bytes_eq-Decides}
 use Rattle.vk_residue.specs.Steps.{◌>>?◌}
 use Rattle.vk_lines.specs.Forms.{FaultsAllButTexts, IsPart, fault_after, fault_at, fault_from, fault_line, line, spaced}
-use Rattle.vk_lines.specs.Lines.{Rest, line_by}
+use Rattle.vk_lines.specs.Lines.{Rest}
 use Rattle.vk_lines.specs.Tokens.{fields_of, word_of}
 use Rattle.vk_lines.proofs.Faults.{line_follows}
 use Rattle.vk_lines.proofs.Parts.{line_part}
@@ -20,7 +20,7 @@ use Rattle.vk_words.specs.Commands.{command_words, house_words}
 use Rattle.vk_words.specs.Orders.{HouseWords}
 use Rattle.vk_words.specs.Scripts.{script_words}
 use Rattle.vk_words.specs.Table.{commands, row_of}
-use Rattle.vk_ceremony.specs.Scripts.{Order, Over, Script, ScriptLine, closes, heading, line_then, order_line, over_from, pieces, script_at, script_from, script_line, with_order}
+use Rattle.vk_ceremony.specs.Scripts.{Order, Over, Script, ScriptLine, closes, heading, heading_at, line_then, order_line, over_from, pieces, script_at, script_from, script_line, with_order}
 use Rattle.vk_ceremony.specs.Forms.{AreOrders, Commands, Ended, Heading, fault_by, is_apart, place_after, script_table, script_text}
 
 -- ---- the table
@@ -76,7 +76,7 @@ unfolding fault_at script_at
 commands_fault script rest = line_faults script rest.taken (pieces rest.left)
 
 first_fault : (script : List ℕ) (start : Rest) (read : Result (Unit × Rest) ℕ)
-    → line_by (word_of heading) start ≡ read
+    → heading_at start ≡ read
     → fault_at (script_table script) Heading start ≡ fault_by script read
 first_fault script start (Ok read) is =
     (line_follows (script_table script) Heading (word_of heading) (λ _. Commands) (λ text. refl)
@@ -88,7 +88,7 @@ first_fault script start (Err number) is =
 -- reading a script stops at its fault line
 pub script_fault : (script bytes : List ℕ)
     → fault_line (script_table script) bytes
-    ≡ fault_by script (line_by (word_of heading) (record { taken = 0; left = bytes }))
+    ≡ fault_by script (heading_at (record { taken = 0; left = bytes }))
 script_fault script bytes = first_fault script (record { taken = 0; left = bytes }) _ refl
 
 -- ---- words between spaces, and lines between line feeds
@@ -428,11 +428,11 @@ rest_body script rest none =
 
 -- ---- whole scripts
 
-heading_part : IsPart {X = Unit {0}} (λ _. Unit {0}) (λ _. line heading) (line_by (word_of heading))
+heading_part : IsPart {X = Unit {0}} (λ _. Unit {0}) (λ _. line heading) heading_at
 heading_part = line_part (fixed_line heading refl (omega arith))
 
 text_of_none : (script : List ℕ) (start : Rest) (read : Result (Unit × Rest) ℕ)
-    → line_by (word_of heading) start ≡ read → fault_by script read ≡ None
+    → heading_at start ≡ read → fault_by script read ≡ None
     → (orders : List (List (List ℕ))) × AreOrders script orders × (start.left ≡ script_text orders)
 unfolding script_text
 text_of_none script start (Err number) is none = cc
@@ -443,7 +443,7 @@ text_of_none script start (Ok read) is none =
 
 none_of_text : (script : List ℕ) (start : Rest) (orders : List (List (List ℕ)))
     → AreOrders script orders → start.left ≡ script_text orders
-    → fault_by script (line_by (word_of heading) start) ≡ None
+    → fault_by script (heading_at start) ≡ None
 unfolding script_text
 none_of_text script start orders are left =
     let found = heading_part.found start tt (body orders) tt left in
@@ -455,7 +455,7 @@ pub scripts_agree : (script : List ℕ)
     → FaultsAllButTexts (AreOrders script) script_text (script_table script)
 scripts_agree script bytes =
     let start : Rest = record { taken = 0; left = bytes } in (
-      λ none. text_of_none script start (line_by (word_of heading) start) refl
+      λ none. text_of_none script start (heading_at start) refl
           (sym (script_fault script bytes) ∙ none),
       λ given. script_fault script bytes ∙ none_of_text script start given.0 given.1 given.2,
     )
@@ -463,7 +463,7 @@ scripts_agree script bytes =
 -- and what is said behind the first line of that text is these commands
 pub script_says : (script : List ℕ) (orders : List (List (List ℕ))) (start : Rest)
     → AreOrders script orders → start.left ≡ script_text orders
-    → (rest : Rest) × (line_by (word_of heading) start ≡ Ok (tt, rest))
+    → (rest : Rest) × (heading_at start ≡ Ok (tt, rest))
     × ((script_at script rest).fault ≡ None)
     × (map Some (script_at script rest).orders ≡ map (script_words script) orders)
 unfolding script_text

@@ -12,8 +12,7 @@ use Rattle.vk_lines.specs.declared.errors.ReadErr.{ReadErr}
 use Rattle.vk_lines.specs.declared.step.Step.{Step}
 use Rattle.vk_lines.specs.declared.step.Step.TheVariants.{Text, End, Long, Cut}
 use Rattle.vk_lines.specs.Gives.{Refuses}
-use Rattle.vk_lines.specs.Lines.{IsNext, LinesValue, GivesReading, ReadsPart, Rest, line_by, feed_at, rest_in, rest_of, step_of, text_at, text_by}
-use Rattle.vk_lines.specs.Tokens.{word_of}
+use Rattle.vk_lines.specs.Lines.{IsNext, LinesValue, GivesReading, ReadsPart, Rest, feed_at, rest_in, rest_of, step_of, text_at, text_by}
 use Rattle.vk_lines.proofs.Parts.{ok_same}
 use Rattle.vk_lines.proofs.Pieces.{other_pieces, pieces_feed, pieces_none, text_tells}
 use Rattle.vk_lines.proofs.Words.{split_some}
@@ -24,7 +23,7 @@ use Rattle.vk_effect.specs.Effects.{SaidValue}
 use Rattle.vk_effect.specs.NamedFiles.{malformed_said}
 use Rattle.vk_effect.specs.Reading.{begun_in, said_of_unread, value_in}
 use Rattle.vk_effect.proofs.NamedFiles.{same_Err}
-use Rattle.vk_ceremony.specs.Scripts.{Order, behind_heading, closes, heading, line_then, order_line, over_at, over_from, pieces, script_at, script_begun, script_from, script_line}
+use Rattle.vk_ceremony.specs.Scripts.{Order, behind_heading, closes, heading_at, line_then, order_line, over_at, over_from, pieces, script_at, script_begun, script_from, script_line}
 use Rattle.vk_ceremony.specs.Turns.{order_then, over_by}
 
 -- ---- a line stands next
@@ -253,7 +252,7 @@ no_heading script (Some said) (Err number) is =
 pub heading_refused : (script : List ℕ) (held now : Option Files) (before after : LinesValue)
     (read : Result Unit ReadErr) (refusal : Unread) → now ≡ held
     → IfSome held (λ files. begun_in script (get files script) ≡ Ok (rest_of before files))
-    → ReadsPart (line_by (word_of heading)) now before after read
+    → ReadsPart heading_at now before after read
     → ((rest : Rest) (expected : Result (Unit × Rest) ℕ) → GivesReading (λ x. x) read rest expected
     → Refuses (said_of_unread refusal) (value_in script expected))
     → IfSome held (λ files. Refuses (said_of_unread refusal) (script_begun files script))
@@ -261,10 +260,10 @@ unfolding script_begun
 heading_refused script None now before after read refusal same begun reads refuses = tt
 heading_refused script (Some files) now before after read refusal same begun reads refuses =
     let here : GivesReading (λ x. x) read (rest_of after files)
-    (line_by (word_of heading) (rest_of before files)) =
-    subst (λ left. ReadsPart (line_by (word_of heading)) left before after read) same reads in
+    (heading_at (rest_of before files)) =
+    subst (λ left. ReadsPart heading_at left before after read) same reads in
     let said = no_heading script (said_of_unread refusal)
-    (line_by (word_of heading) (rest_of before files))
-    (refuses (rest_of after files) (line_by (word_of heading) (rest_of before files)) here) in
+    (heading_at (rest_of before files))
+    (refuses (rest_of after files) (heading_at (rest_of before files)) here) in
     subst (λ r. Refuses (said_of_unread refusal)
-    (◌>>=◌ r (λ file. behind_heading script (line_by (word_of heading) file)))) (sym begun) said
+    (◌>>=◌ r (λ file. behind_heading script (heading_at file)))) (sym begun) said

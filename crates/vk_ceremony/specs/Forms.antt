@@ -3,10 +3,10 @@ use Rattle.std.specs.Prelude.{◌≡◌, ℕ, ◌≤◌, ◌==◌, ◌&&◌, Boo
 use Rattle.std.specs.List.{AllByRecursion, flat_map, list_all}
 use Rattle.std.specs.Str.{is_utf8}
 use Rattle.vk_lines.specs.Forms.{Table, line, spaced}
-use Rattle.vk_lines.specs.Lines.{Rest, line_by}
+use Rattle.vk_lines.specs.Lines.{Rest}
 use Rattle.vk_lines.specs.Tokens.{word_of}
 use Rattle.vk_words.specs.Scripts.{script_words}
-use Rattle.vk_ceremony.specs.Scripts.{ScriptLine, Order, Over, heading, script_at, script_line}
+use Rattle.vk_ceremony.specs.Scripts.{ScriptLine, Order, Over, heading, heading_at, script_at, script_line}
 
 -- ---- its texts
 
@@ -62,6 +62,6 @@ fault_by script (Err number) = Some number
 -- a script is the text of these commands, and says them behind its first line
 abbrev pub SaysOrders : List ℕ → List (List (List ℕ)) → Rest → Type 0
 SaysOrders script orders start =
-    (rest : Rest) × (line_by (word_of heading) start ≡ Ok (tt, rest))
+    (rest : Rest) × (heading_at start ≡ Ok (tt, rest))
     × ((script_at script rest).fault ≡ None)
     × (map Some (script_at script rest).orders ≡ map (script_words script) orders)

@@ -13,9 +13,12 @@ use Rattle.vk_effect.specs.Effects.{SaidValue}
 use Rattle.vk_effect.specs.NamedFiles.{malformed_said}
 use Rattle.vk_effect.specs.Reading.{begun_in}
 
--- the first line of a script
+-- the first line of a script, and that line read
 abbrev pub heading : List ℕ
 heading = codes "vickrey-script 1"
+
+abbrev pub heading_at : Rest → Result (Unit × Rest) ℕ
+heading_at = line_by (word_of heading)
 
 -- a line behind the first: a command, or the last line
 pub data ScriptLine : Type 0 where
@@ -88,4 +91,4 @@ behind_heading script (Err number) = Err (malformed_said script number)
 -- or begins otherwise
 unfoldable pub script_begun : Files → List ℕ → Result Rest SaidValue
 script_begun files script = ◌>>=◌ (begun_in script (get files script))
-    (λ file. behind_heading script (line_by (word_of heading) file))
+    (λ file. behind_heading script (heading_at file))

@@ -4,8 +4,7 @@ ghost use Rattle.std.specs.Prelude.{◌≡◌, ◌≢◌, ◌⊎◌, ℕ, List, 
 ghost use Rattle.std.specs.List.{AllByRecursion};
 ghost use Rattle.vk_io.specs.declared.errors.OutsideErr.{OutsideErr};
 ghost use Rattle.vk_lines.specs.Forms.{FaultsAllButTexts, fault_line};
-ghost use Rattle.vk_lines.specs.Lines.{Rest, line_by};
-ghost use Rattle.vk_lines.specs.Tokens.{word_of};
+ghost use Rattle.vk_lines.specs.Lines.{Rest};
 ghost use Rattle.vk_keeper.specs.Ledgers.{Ledger, IsLedger};
 ghost use Rattle.vk_house.specs.Commands.{HouseCommand};
 ghost use Rattle.vk_words.specs.Commands.{House, command_words};
@@ -19,13 +18,13 @@ ghost use Rattle.vk_ceremony.specs.Acts.{AreActs, HouseAct, IsAct, IsStepOf, Per
 ghost use Rattle.vk_ceremony.specs.Ceremonies.{EndsAll, ceremony_effect, ceremony_on};
 ghost use Rattle.vk_ceremony.specs.Forms.{AreOrders, SaysOrders, fault_by, script_table, script_text};
 ghost use Rattle.vk_ceremony.specs.Runs.{IsRun, asked_in, orders_in};
-ghost use Rattle.vk_ceremony.specs.Scripts.{heading};
+ghost use Rattle.vk_ceremony.specs.Scripts.{heading_at};
 
 /// A law: where a file is no script of that name, reading stops at its fault line.
 pub fn reading_a_script_stops_at_the_fault_line()
     ensures { (script bytes : List ℕ)
         → fault_line (script_table script) bytes
-        ≡ fault_by script (line_by (word_of heading) (record { taken = 0; left = bytes })) }
+        ≡ fault_by script (heading_at (record { taken = 0; left = bytes })) }
 {}
 
 /// A law: a file has no fault line exactly where it is the text of commands that may stand in a
