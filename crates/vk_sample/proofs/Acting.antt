@@ -7,7 +7,6 @@ use Rattle.vk_io.specs.Writing.{IsDivided, WritesAll, written}
 use Rattle.vk_io.specs.declared.errors.OutsideErr.{OutsideErr}
 use Rattle.vk_lines.specs.Gives.{Refuses}
 use Rattle.vk_bids.specs.declared.extraction.Extraction.TheVariants.{Bids}
-use Rattle.vk_bids.specs.Extraction.{extraction_on}
 use Rattle.vk_keeper.specs.declared.auction.Auction.{Auction}
 use Rattle.vk_keeper.specs.Ledgers.{Ledger}
 use Rattle.vk_job.specs.Published.{head_of}
@@ -18,7 +17,7 @@ use Rattle.vk_effect.specs.Ends.{Acts}
 use Rattle.vk_sample.specs.Auctions.{DrySeed, auction_of}
 use Rattle.vk_sample.specs.Laws.{IsAuctionOf, SampleOpensAll, opened}
 use Rattle.vk_sample.specs.Samples.{effect_by, effect_unless_dry, sample_on, modelled_effect}
-use Rattle.vk_sample.specs.Texts.{dry_said, files_of, found_text, made_text, read_said, same_count, sample_names, summary_said}
+use Rattle.vk_sample.specs.Texts.{dry_said, files_of, found_text, made_text, read_said, same_count, sample_read, summary_said}
 
 -- what is answered is what is said
 pub same_said : {E : Type 0} (said other : SaidValue)
@@ -127,9 +126,8 @@ module _ (sample : SampleCase) (auction : Auction) (is : IsAuctionOf sample auct
 
   -- the files that were written are read back, and open every bid
   pub reads_back : (files : Files)
-      → read_said made (extraction_on (written (files_of sample auction) files) sample_names.board
-      sample_names.first.challenge sample_names.first.reply sample_names.second.challenge
-      sample_names.second.reply) ≡ summary_said number (head_of auction)
+      → read_said made (sample_read (written (files_of sample auction) files))
+      ≡ summary_said number (head_of auction)
   reads_back files = ap (read_said made) (opens.read files) ∙ summary
 
 -- ---- the whole

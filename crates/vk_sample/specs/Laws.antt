@@ -6,7 +6,6 @@ use Rattle.vk_reply.specs.Texts.{challenge_text}
 use Rattle.vk_verifier.specs.Acceptance.{Accepts}
 use Rattle.vk_bids.specs.declared.extraction.Extracted.{Extracted}
 use Rattle.vk_bids.specs.declared.extraction.Extraction.TheVariants.{Bids}
-use Rattle.vk_bids.specs.Extraction.{extraction_on}
 use Rattle.vk_keeper.specs.declared.auction.Auction.{Auction}
 use Rattle.vk_job.specs.Jobs.{IsProvedAuction, bids_of, seats_of}
 use Rattle.vk_job.specs.Published.{IsChallengeTo, board_of, reply_of}
@@ -15,7 +14,7 @@ use Rattle.vk_honest.specs.Sizes.{line_count}
 use Rattle.vk_report.specs.declared.sample.SampleCase.{SampleCase}
 use Rattle.vk_report.specs.Samples.{auction_sizes, sample_of}
 use Rattle.vk_sample.specs.Auctions.{auction_of}
-use Rattle.vk_sample.specs.Texts.{files_of, same_count, sample_names}
+use Rattle.vk_sample.specs.Texts.{files_of, same_count, sample_read}
 
 -- a law of every number none of whose seeds is dry
 abbrev pub OfEachSample : (SampleCase → Auction → Type 0) → Type 0
@@ -56,10 +55,8 @@ opened sample auction = sealed_bids auction sample.first sample.second
 -- read from files that hold what was written, both replies open the bids that were sealed: in every
 -- lane, and of every seal the same
 pub record SampleOpensAll (sample : SampleCase) (auction : Auction) : Type 0 where
-  pub read : (files : Files) → extraction_on (written (files_of sample auction) files)
-      sample_names.board
-      sample_names.first.challenge sample_names.first.reply sample_names.second.challenge
-      sample_names.second.reply ≡ Ok (Bids (opened sample auction))
+  pub read : (files : Files) → sample_read (written (files_of sample auction) files)
+      ≡ Ok (Bids (opened sample auction))
   pub all_lanes : length (opened sample auction).lanes ≡ auction_sizes.lanes
   pub all_seals : length (opened sample auction).front.seals ≡ auction_sizes.seals
   pub all_same : same_count (length (opened sample auction).front.seals)

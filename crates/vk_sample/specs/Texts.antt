@@ -2,10 +2,11 @@
 use Rattle.std.specs.Prelude.{ℕ, List, [], ◌∷◌, ◌++◌, length, codes, decimal, Result, Ok, Err}
 use Rattle.std.specs.List.{count_by, range_with_len}
 use Rattle.vk_board.specs.declared.board.Head.{Head}
+use Rattle.vk_io.specs.Files.{Files}
 use Rattle.vk_reply.specs.Texts.{challenge_text}
 use Rattle.vk_verifier.specs.declared.answers.VErr.{VErr}
 use Rattle.vk_bids.specs.declared.bids.LaneBids.{LaneBids}
-use Rattle.vk_bids.specs.Extraction.{Extraction}
+use Rattle.vk_bids.specs.Extraction.{Extraction, extraction_on}
 use Rattle.vk_bids.specs.declared.extraction.Extraction.TheVariants.{Refused, Same, Clash, Bids}
 use Rattle.vk_bids.specs.Texts.{has_one_bid, sale_line}
 use Rattle.vk_keeper.specs.declared.auction.Auction.{Auction}
@@ -29,6 +30,12 @@ sample_names = record {
   first = record { challenge = codes "sample-challenge-1"; reply = codes "sample-reply-1" };
   second = record { challenge = codes "sample-challenge-2"; reply = codes "sample-reply-2" };
 }
+
+-- what files of these names come to
+abbrev pub sample_read : Files → Result Extraction VErr
+sample_read files =
+    extraction_on files sample_names.board sample_names.first.challenge sample_names.first.reply
+    sample_names.second.challenge sample_names.second.reply
 
 -- those that are written, in order: the honest prover's board and its replies to both challenges
 abbrev pub files_of : SampleCase → Auction → List (List ℕ × List ℕ)

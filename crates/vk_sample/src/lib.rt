@@ -6,7 +6,6 @@ mod errors;
 mod files;
 mod laws;
 mod making;
-mod reading;
 mod sampling;
 mod summary;
 

@@ -7,8 +7,7 @@ ghost use Rattle.vk_sample.specs.Samples.{Acts, IsSampleCase, effect_by, sample_
 
 use crate::files::write_sample;
 use crate::making::make_job;
-use crate::reading::read_back;
-use crate::summary::made_lines;
+use crate::summary::{made_lines, read_back};
 use std::alloc::Global;
 use vk_effect::Said;
 use vk_io::{OutsideErr, Shelf};

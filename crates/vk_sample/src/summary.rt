@@ -1,19 +1,22 @@
 // What is said of a sample.
 ghost use Rattle.std.specs.Prelude.{◌≡◌, ◌++◌, IfOk, Ok, OnOk, length, string_bytes};
 ghost use Rattle.std.specs.List.{flat_map};
+ghost use Rattle.vk_io.specs.Reads.{OnlyReads};
 ghost use Rattle.vk_board.specs.Values.{IsHead};
 ghost use Rattle.vk_report.specs.Reports.{head_numbers};
 ghost use Rattle.vk_honest.specs.Sizes.{board_lines, reply_lines};
 ghost use Rattle.vk_commit.specs.Commitment.{TwoOpeningsSeen};
 ghost use Rattle.vk_bids.specs.Texts.{clash_text, sale_line};
-ghost use Rattle.vk_sample.specs.Texts.{accepted_text, counts_text, found_text, made_text, opened_said, opened_text, same_count, size_line};
+ghost use Rattle.vk_audit.specs.Audits.{Says};
+ghost use Rattle.vk_sample.specs.Texts.{accepted_text, counts_text, found_text, made_text, opened_said, opened_text, read_said, same_count, sample_read, size_line};
 
 use crate::files::sample_names;
 use std::alloc::Global;
-use vk_audit::extracted;
-use vk_bids::{Extracted, Extraction, LaneBids, has_one_bid, sale_line};
+use vk_audit::{extracted, replies_of, unread};
+use vk_bids::{Extracted, Extraction, LaneBids, extract, has_one_bid, sale_line};
 use vk_board::Head;
 use vk_effect::Said;
+use vk_io::{OutsideErr, Shelf};
 use vk_residue::NoMemory;
 use vk_vickrey::{row_count, wire_count};
 
@@ -177,7 +180,7 @@ fn push_opened(
 }
 
 /// What is said of what the replies come to as they were read back.
-pub fn opened(alloc: Global, made: Vec<String>, extraction: &Extraction) -> Result<Said, NoMemory>
+fn opened(alloc: Global, made: Vec<String>, extraction: &Extraction) -> Result<Said, NoMemory>
     ensures said { IfOk result
         (λ said. said ≡ opened_said (flat_map string_bytes made.items) extraction.now) }
     ensures clash { (two : TwoOpeningsSeen) → extraction.now ≡ Extraction.Clash two
@@ -189,4 +192,23 @@ pub fn opened(alloc: Global, made: Vec<String>, extraction: &Extraction) -> Resu
     };
     let lines = bids_lines(alloc, made, found)?;
     Ok(Said::of_lines(0, lines))
+}
+
+/// Reads the files back. Where both replies are accepted and open bids, the summary is said, behind
+/// these lines of the auction as it was made; else what `extract` says.
+pub fn read_back<S: Shelf>(
+    alloc: Global,
+    shelf: &mut S,
+    made: Vec<String>,
+) -> Result<Said, OutsideErr>
+    ensures said { Says (S.held shelf.old) result
+        (λ files. read_said (flat_map string_bytes made.items) (sample_read files)) }
+    ensures shelf { OnlyReads S.held S.Shelf.faults OutsideErr.Failed result shelf.old shelf.new }
+{
+    let names = sample_names();
+    let said = match extract(alloc, shelf, &replies_of(&names)) {
+        Ok(extraction) => opened(alloc, made, &extraction)?,
+        Err(fault) => unread(alloc, &names, fault)?,
+    };
+    Ok(said)
 }

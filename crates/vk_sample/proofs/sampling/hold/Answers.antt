@@ -2,13 +2,12 @@ use Rattle.std.proofs.Common.{ap, string_bytes, ◌∙◌}
 use Rattle.std.specs.List.{flat_map}
 use Rattle.std.proofs.lemmas.Result.{err_from_is_err_and}
 use Rattle.vk_board.specs.declared.board.Head.{Head}
-use Rattle.vk_bids.specs.Extraction.{extraction_on}
 use Rattle.vk_job.specs.Published.{head_of}
 use Rattle.vk_effect.specs.Effects.{stores}
 use Rattle.vk_sample.proofs.Acting.{holding_acts, reads_back, stopped_first, writing_stopped}
 use Rattle.vk_sample.proofs.Auctions.{auction_is}
 use Rattle.vk_sample.proofs.Opened.{opens_all}
-use Rattle.vk_sample.specs.Texts.{files_of, made_text, read_said, sample_names, summary_said}
+use Rattle.vk_sample.specs.Texts.{files_of, made_text, read_said, sample_read, summary_said}
 use Rattle.vk_sample.proofs.sampling.hold.Goals as goal
 
 pub returns-in_err-write_sample-clause-acts : goal.returns-in_err-write_sample-clause-acts
@@ -28,8 +27,7 @@ returns-clause-acts g c = λ ledger.
     let is = auction_is c.args.sample.now c.requires.right auction c.requires.made in
     holding_acts (files_of c.args.sample.now auction)
     (summary_said c.args.number (head_of auction)) ledger
-    (λ files. read_said made (extraction_on files sample_names.board sample_names.first.challenge
-    sample_names.first.reply sample_names.second.challenge sample_names.second.reply))
+    (λ files. read_said made (sample_read files))
     (reads_back c.args.sample.now auction is
     (opens_all c.args.sample.now c.requires.right auction is) c.args.number made
     (c.in_ok-made.ensures ∙ ap (made_text c.args.number) c.head.ensures.value))
