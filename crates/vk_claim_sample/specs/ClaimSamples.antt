@@ -74,5 +74,11 @@ abbrev pub ActsOn : ClaimKind → ℕ → Result SaidValue OutsideErr → Option
 ActsOn kind number answer old new =
     (ledger : Option Ledger) → ActsSo kind number answer (stores old ledger) (stores new ledger)
 
+-- the clause on what is free alone
+abbrev pub FreelyOn : ClaimKind → ℕ → Result SaidValue OutsideErr → Option Files → Option Files
+    → Type 0
+FreelyOn kind number answer old new =
+    (ledger : Option Ledger) → ActsFreely kind number answer (stores old ledger) (stores new ledger)
+
 abbrev pub EndsFreely : ClaimKind → ℕ → Result ℕ OutsideErr → Outside → Outside → Type 0
 EndsFreely kind number answer old new = Freely kind number old.files old.ledger Ends answer old new

@@ -5,7 +5,7 @@ use Rattle.std.proofs.Common.{arith}
 use Rattle.vk_residue.specs.Steps.{◌>>=◌}
 use Rattle.vk_keeper.specs.declared.auction.SealRow.{SealRow}
 use Rattle.vk_job.specs.Proofs as job
-use Rattle.vk_job.specs.Proofs.{ProofValue, first_dry_in, prepared_proof, source_of}
+use Rattle.vk_job.specs.Proofs.{IsPrepared, ProofValue, first_dry_in, prepared_proof, source_of}
 use Rattle.vk_uniform.specs.Outcomes.{IsUniformOutcome}
 use Rattle.vk_uniform.specs.OutcomeLaws.{outcome_exists}
 use Rattle.vk_uniform.specs.UniformPlans.{uniform_values}
@@ -135,3 +135,7 @@ proof_by kind case numbers = rows_onto case [] (length case.seats) >>= proof_unl
 -- what was made of the case, as that of its proof
 abbrev pub proof_in : SampleCase → Made → ProofValue
 proof_in case made = prepared_proof case.auction made.rows case.lanes case.seed made.prepared
+
+-- what serves for every lane of it is at hand
+abbrev pub IsReady : SampleCase → Made → Type 0
+IsReady case made = IsPrepared (proof_in case made) made.prepared

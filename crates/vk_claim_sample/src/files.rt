@@ -3,13 +3,13 @@ ghost use Rattle.std.specs.Prelude.{◌≡◌, ◌≤◌, length, IfOk};
 ghost use Rattle.vk_io.specs.Faults.{Causes};
 ghost use Rattle.vk_io.specs.Files.{Modelled};
 ghost use Rattle.vk_io.specs.Writing.{WritesAll};
-ghost use Rattle.vk_words.specs.Names.{extract_seen};
+ghost use Rattle.vk_job.specs.Proofs.{IsProof};
 ghost use Rattle.vk_claim.specs.Texts.{claim_head_text};
-ghost use Rattle.vk_job.specs.Proofs.{IsPrepared, IsProof};
-ghost use Rattle.vk_claim_sample.specs.Claims.{head_with, kind_in, proof_in};
-ghost use Rattle.vk_claim_sample.specs.Texts.{claim_names, files_of};
+ghost use Rattle.vk_claim_sample.specs.Claims.{IsReady, head_with, kind_in, proof_in};
+ghost use Rattle.vk_claim_sample.specs.Texts.{files_of};
 
 use crate::making::Made;
+use crate::names::claim_names;
 use std::alloc::Global;
 use vk_claim::{ClaimHead, Kind, claim_head_text};
 use vk_io::{OutsideErr, Shelf, write_files};
@@ -18,24 +18,7 @@ use vk_report::SampleCase;
 use vk_residue::NoMemory;
 use vk_sample::ProofFiles;
 use vk_seq::Seq;
-use vk_words::{AttemptNames, ClaimKind, ExtractNames};
-
-/// The names of the files.
-pub fn claim_names() -> ExtractNames<'static>
-    ensures { extract_seen result ≡ claim_names }
-{
-    ExtractNames {
-        board: "claim-board",
-        first: AttemptNames {
-            challenge: "claim-challenge-1",
-            reply: "claim-reply-1",
-        },
-        second: AttemptNames {
-            challenge: "claim-challenge-2",
-            reply: "claim-reply-2",
-        },
-    }
-}
+use vk_words::ClaimKind;
 
 /// The kind of the claim file.
 pub fn kind_in(kind: ClaimKind) -> Kind
@@ -81,7 +64,7 @@ pub fn write_claim<S: Shelf>(
 ) -> Result<(), OutsideErr>
     requires few { length case.now.seats ≤ 64 }
     requires right { IsProof (proof_in case.now made.now) }
-    requires prepared { IsPrepared (proof_in case.now made.now) made.now.prepared }
+    requires prepared { IsReady case.now made.now }
     requires first { length case.now.first.bits ≡ case.now.lanes }
     requires second { length case.now.second.bits ≡ case.now.lanes }
     ensures written { Modelled

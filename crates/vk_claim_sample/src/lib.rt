@@ -6,6 +6,7 @@
 mod files;
 mod laws;
 mod making;
+mod names;
 mod numbers;
 mod reading;
 mod sampling;

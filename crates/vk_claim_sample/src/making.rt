@@ -4,9 +4,8 @@ ghost use Rattle.vk_residue.specs.Residue.{IsResidue};
 ghost use Rattle.vk_lines.specs.Gives.{Gives};
 ghost use Rattle.vk_report.specs.Samples.{IsCaseOf};
 ghost use Rattle.vk_claims.specs.Circuits.{plan_of};
-ghost use Rattle.vk_job.specs.Proofs.{IsPrepared};
 ghost use Rattle.vk_sample.specs.Auctions.{dry_of};
-ghost use Rattle.vk_claim_sample.specs.Claims.{MayPublish, kind_in, proof_by, proof_in, sizes_of, values_of};
+ghost use Rattle.vk_claim_sample.specs.Claims.{IsReady, MayPublish, kind_in, proof_by, proof_in, sizes_of, values_of};
 
 use std::alloc::Global;
 use vk_job::{Prepared, draw_tapes};
@@ -46,7 +45,7 @@ pub fn make_claim(
     requires right { IsCaseOf (sizes_of kind) case.now }
     requires published { MayPublish kind case.now numbers.now }
     ensures proof { Gives dry_of (proof_in case.now) result (proof_by kind case.now numbers.now) }
-    ensures prepared { IfOk result (λ made. IsPrepared (proof_in case.now made) made.prepared) }
+    ensures prepared { IfOk result (λ made. IsReady case.now made) }
 {
     let rows = seal_rows(alloc, case)?;
     let filled = filled_by(alloc, kind, case, numbers)?;

@@ -4,7 +4,7 @@ ghost use Rattle.std.specs.List.{flat_map};
 ghost use Rattle.vk_io.specs.Reads.{OnlyReads};
 ghost use Rattle.vk_claim_sample.specs.Texts.{claim_read, read_said};
 
-use crate::files::claim_names;
+use crate::names::claim_names;
 use crate::summary::opened;
 use std::alloc::Global;
 use vk_audit::{replies_of, unread};

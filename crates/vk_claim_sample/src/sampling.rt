@@ -1,12 +1,9 @@
-ghost use Rattle.std.specs.Prelude.{◌≡◌, ℕ, IfSome, Ok, Option};
+ghost use Rattle.std.specs.Prelude.{◌≡◌, ℕ, Ok};
 ghost use Rattle.vk_io.specs.Faults.{Causes};
-ghost use Rattle.vk_keeper.specs.Ledgers.{Ledger};
-ghost use Rattle.vk_job.specs.Proofs.{IsPrepared};
 ghost use Rattle.vk_report.specs.Samples.{IsCaseOf};
-ghost use Rattle.vk_effect.specs.Effects.{stores};
-ghost use Rattle.vk_sample.specs.Samples.{Acts};
-ghost use Rattle.vk_claim_sample.specs.Claims.{MayPublish, proof_by, proof_in, sizes_of};
-ghost use Rattle.vk_claim_sample.specs.ClaimSamples.{ActsFreely, ActsOn, claim_sample_on, effect_by};
+ghost use Rattle.vk_sample.specs.Samples.{ActsAs};
+ghost use Rattle.vk_claim_sample.specs.Claims.{IsReady, MayPublish, proof_by, proof_in, sizes_of};
+ghost use Rattle.vk_claim_sample.specs.ClaimSamples.{ActsOn, FreelyOn, claim_sample_on, effect_by};
 
 use crate::files::write_claim;
 use crate::making::{Made, make_claim};
@@ -29,13 +26,9 @@ pub fn claim_sample<S: Shelf>(
     kind: ClaimKind,
     number: u64,
 ) -> Result<Said, OutsideErr>
-    ensures acts { (ledger : Option Ledger)
-        → IfSome (claim_sample_on (S.held shelf.old) ledger kind number)
-        (λ effect. Acts result effect (stores (S.held shelf.old) ledger)
-        (stores (S.held shelf.new) ledger)) }
-    ensures free { (ledger : Option Ledger)
-        → ActsFreely kind number result (stores (S.held shelf.old) ledger)
-        (stores (S.held shelf.new) ledger) }
+    ensures acts { ActsAs (λ ledger. claim_sample_on (S.held shelf.old) ledger kind number) result
+        (S.held shelf.old) (S.held shelf.new) }
+    ensures free { FreelyOn kind number result (S.held shelf.old) (S.held shelf.new) }
     ensures causes { Causes OutsideErr.Failed result (S.Shelf.faults shelf.old)
         (S.Shelf.faults shelf.new) }
 {
@@ -82,12 +75,11 @@ fn hold<S: Shelf>(
     requires right { IsCaseOf (sizes_of kind) case.now }
     requires published { MayPublish kind case.now numbers.now }
     requires made { proof_by kind case.now numbers.now ≡ Ok (proof_in case.now made.now) }
-    requires prepared { IsPrepared (proof_in case.now made.now) made.now.prepared }
-    ensures acts { (ledger : Option Ledger)
-        → IfSome (effect_by kind (S.held shelf.old) ledger number case.now numbers.now
+    requires prepared { IsReady case.now made.now }
+    ensures acts { ActsAs
+        (λ ledger. effect_by kind (S.held shelf.old) ledger number case.now numbers.now
         (Ok (proof_in case.now made.now)))
-        (λ effect. Acts result effect (stores (S.held shelf.old) ledger)
-        (stores (S.held shelf.new) ledger)) }
+        result (S.held shelf.old) (S.held shelf.new) }
     ensures causes { Causes OutsideErr.Failed result (S.Shelf.faults shelf.old)
         (S.Shelf.faults shelf.new) }
 {

@@ -6,7 +6,7 @@ ghost use Rattle.vk_claim.specs.Texts.{kind_word};
 ghost use Rattle.vk_claim_sample.specs.Claims.{kind_in};
 ghost use Rattle.vk_claim_sample.specs.Texts.{made_text, opened_said};
 
-use crate::files::claim_names;
+use crate::names::claim_names;
 use std::alloc::Global;
 use vk_bids::Extraction;
 use vk_claim::{ClaimExtraction, OpenedClaim};

@@ -1,16 +1,23 @@
 -- What `sample` does, where nothing outside fails and memory is given.
-use Rattle.std.specs.Prelude.{ℕ, List, Option, Some, option_map, Result, Ok, Err}
+use Rattle.std.specs.Prelude.{ℕ, List, Option, Some, IfSome, option_map, Result, Ok, Err}
 use Rattle.vk_io.specs.Files.{Files}
+use Rattle.vk_io.specs.declared.errors.OutsideErr.{OutsideErr}
 use Rattle.vk_keeper.specs.Ledgers.{Ledger}
 use Rattle.vk_keeper.specs.declared.auction.Auction.{Auction}
 use Rattle.vk_job.specs.Published.{head_of}
 use Rattle.vk_report.specs.declared.sample.SampleCase.{SampleCase}
 use Rattle.vk_report.specs.Samples.{sample_of}
-use Rattle.vk_effect.specs.Effects.{Effect, SaidValue, says, writes_and_says}
+use Rattle.vk_effect.specs.Effects.{Effect, SaidValue, says, stores, writes_and_says}
 use Rattle.vk_sample.specs.Auctions.{DrySeed, auction_of}
 use Rattle.vk_sample.specs.Texts.{dry_said, files_of, summary_said}
 pub use Rattle.vk_report.specs.Samples.{IsSampleCase}
 pub use Rattle.vk_effect.specs.Ends.{Acts}
+
+-- over files, with any ledger, it acted as the effect, where that is known
+abbrev pub ActsAs : (Option Ledger → Option Effect) → Result SaidValue OutsideErr → Option Files
+    → Option Files → Type 0
+ActsAs effect_over answer old new = (ledger : Option Ledger) → IfSome (effect_over ledger)
+    (λ effect. Acts answer effect (stores old ledger) (stores new ledger))
 
 -- over files that are modelled these are written, and this is said
 abbrev pub modelled_effect : Option Files → Option Ledger → List (List ℕ × List ℕ) → SaidValue

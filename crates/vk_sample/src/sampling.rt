@@ -1,9 +1,7 @@
-ghost use Rattle.std.specs.Prelude.{◌≡◌, ℕ, IfSome, Ok, Option};
+ghost use Rattle.std.specs.Prelude.{◌≡◌, ℕ, Ok};
 ghost use Rattle.vk_io.specs.Faults.{Causes};
-ghost use Rattle.vk_keeper.specs.Ledgers.{Ledger};
-ghost use Rattle.vk_effect.specs.Effects.{stores};
 ghost use Rattle.vk_sample.specs.Auctions.{auction_of};
-ghost use Rattle.vk_sample.specs.Samples.{Acts, IsSampleCase, effect_by, sample_on};
+ghost use Rattle.vk_sample.specs.Samples.{ActsAs, IsSampleCase, effect_by, sample_on};
 
 use crate::files::write_sample;
 use crate::making::make_job;
@@ -24,10 +22,9 @@ fn hold<S: Shelf>(
 ) -> Result<Said, OutsideErr>
     requires right { IsSampleCase sample.now }
     requires made { auction_of sample.now ≡ Ok job.now.auction }
-    ensures acts { (ledger : Option Ledger)
-        → IfSome (effect_by (S.held shelf.old) ledger number sample.now (Ok job.now.auction))
-        (λ effect. Acts result effect (stores (S.held shelf.old) ledger)
-        (stores (S.held shelf.new) ledger)) }
+    ensures acts { ActsAs
+        (λ ledger. effect_by (S.held shelf.old) ledger number sample.now (Ok job.now.auction))
+        result (S.held shelf.old) (S.held shelf.new) }
     ensures causes { Causes OutsideErr.Failed result (S.Shelf.faults shelf.old)
         (S.Shelf.faults shelf.new) }
 {
@@ -41,9 +38,8 @@ fn hold<S: Shelf>(
 /// says what they come to. Files that stand under their names are replaced; where a seed is dry
 /// none is written.
 pub fn sample<S: Shelf>(alloc: Global, shelf: &mut S, number: u64) -> Result<Said, OutsideErr>
-    ensures acts { (ledger : Option Ledger) → IfSome (sample_on (S.held shelf.old) ledger number)
-        (λ effect. Acts result effect (stores (S.held shelf.old) ledger)
-        (stores (S.held shelf.new) ledger)) }
+    ensures acts { ActsAs (λ ledger. sample_on (S.held shelf.old) ledger number) result
+        (S.held shelf.old) (S.held shelf.new) }
     ensures causes { Causes OutsideErr.Failed result (S.Shelf.faults shelf.old)
         (S.Shelf.faults shelf.new) }
 {

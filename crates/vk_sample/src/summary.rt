@@ -1,12 +1,11 @@
 // What is said of a sample.
-ghost use Rattle.std.specs.Prelude.{◌≡◌, ◌++◌, IfOk, Ok, OnOk, length, string_bytes};
-ghost use Rattle.std.specs.List.{flat_map};
+ghost use Rattle.std.specs.Prelude.{◌≡◌, ◌++◌, IfOk, Ok, OnOk, flat_map, length, string_bytes};
+ghost use Rattle.vk_commit.specs.Commitment.{TwoOpeningsSeen};
+ghost use Rattle.vk_bids.specs.Texts.{clash_text, sale_line};
 ghost use Rattle.vk_io.specs.Reads.{OnlyReads};
 ghost use Rattle.vk_board.specs.Values.{IsHead};
 ghost use Rattle.vk_report.specs.Reports.{head_numbers};
 ghost use Rattle.vk_honest.specs.Sizes.{board_lines, reply_lines};
-ghost use Rattle.vk_commit.specs.Commitment.{TwoOpeningsSeen};
-ghost use Rattle.vk_bids.specs.Texts.{clash_text, sale_line};
 ghost use Rattle.vk_audit.specs.Audits.{Says};
 ghost use Rattle.vk_sample.specs.Texts.{accepted_text, counts_text, found_text, made_text, opened_said, opened_text, read_said, same_count, sample_read, size_line};
 
