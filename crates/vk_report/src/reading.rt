@@ -1,5 +1,5 @@
 ghost use Rattle.std.specs.Prelude.{◌≡◌, IfSome, IfOk, Ok};
-ghost use Rattle.vk_lines.specs.Lines.{OnlyReads, ReadsPart, rest_of};
+ghost use Rattle.vk_lines.specs.Lines.{OnlyReads, ReadsPart};
 ghost use Rattle.vk_vickrey.specs.Sales.{sale_at};
 ghost use Rattle.vk_vickrey.specs.BoardPlans.{board_wire_count, board_row_count};
 ghost use Rattle.vk_board.specs.Values.{IsHead};
