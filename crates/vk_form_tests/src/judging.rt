@@ -1,4 +1,6 @@
 // What is judged and extracted of sum files.
+#![tactic(auto, using(crate::proofs::Opening::sum_begun, crate::proofs::Opening::sum_extraction_begun))]
+
 ghost use Rattle.std.specs.Prelude.{◌≡◌, IfOk, IfSome};
 ghost use Rattle.std.specs.FinMap as map;
 ghost use Rattle.vk_lines.specs.Gives.{Gives};
@@ -60,7 +62,6 @@ fn statement_of(alloc: Global, head: SumHead, seals: Seq<SealLines>) -> Result<S
 ///
 /// Errs where a file is missing or longer than 2^30 bytes, and names the first that is; where the
 /// shelf fails; and for want of memory.
-#[tactic(auto, using(crate::proofs::Opening::sum_begun))]
 pub fn judge<S: Shelf>(
     alloc: Global,
     shelf: &mut S,
@@ -95,7 +96,6 @@ fn judge_lines<S: Shelf>(alloc: Global, shelf: &mut S, attempt: Attempt) -> Resu
 ///
 /// Errs where a file is missing or longer than 2^30 bytes, and names the first that is, in the
 /// order of the names; where the shelf fails; and for want of memory.
-#[tactic(auto, using(crate::proofs::Opening::sum_extraction_begun))]
 pub fn extract<S: Shelf>(
     alloc: Global,
     shelf: &mut S,
