@@ -34,7 +34,7 @@ use Rattle.vk_ceremony.specs.Acts.{HouseAct, IsAct, Performs, PerformsSome}
 use Rattle.vk_ceremony.specs.Ceremonies.{Ceremony, EndsAll, ceremony_on}
 use Rattle.vk_ceremony.specs.Runs.{asked_in, orders_in}
 use Rattle.vk_ceremony.proofs.Following.{ledger_by, ledger_left, order_told}
-use Rattle.vk_ceremony.proofs.Performing.{ceremony_performs, command_performs}
+use Rattle.vk_ceremony.proofs.Performing.{act_of, ceremony_performs, command_performs}
 use Rattle.vk_ceremony.proofs.Standing.{act_same, act_steps, is_act_within, keeps_within, orders_are, performs_keeps, performs_right, right_within}
 use Rattle.vk_sample.specs.Auctions.{DrySeed, auction_of}
 use Rattle.vk_sample.specs.Samples.{effect_by, sample_on}
@@ -454,15 +454,7 @@ module _ (files : Files) (ledger : Ledger) (order : HouseWords) (status : ℕ) (
       → Ends (Ok status) effect (outside (stores (Some files) (Some ledger)) old) new
       → CommandIsDone order files ledger new.files new.ledger status old new.taken
   done_by effect is kept ends =
-      let act : HouseAct =
-      record {
-        order = order;
-        files = files;
-        ledger = ledger;
-        said = said_of effect;
-        left = written effect.writes files;
-        kept = ledger_by (asked_in files order) ledger;
-      } in
+      let act = act_of order files ledger effect in
       let is_act : IsAct act =
       record { effect = effect; effect_is = is; said_is = refl; left_is = refl; kept_is = kept }
       in

@@ -1,6 +1,7 @@
 pub mod Forms
 pub mod Faults
 pub mod Named
+pub mod Begun
 pub mod Opening
 pub mod Fronts
 pub mod Exact

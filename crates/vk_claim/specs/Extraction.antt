@@ -20,7 +20,6 @@ use Rattle.vk_claim.specs.declared.head.ClaimHead.{ClaimHead}
 use Rattle.vk_claim.specs.declared.verdict.ClaimVerdict.{ClaimVerdict}
 use Rattle.vk_claim.specs.Values.{Claims, Plans, claim_for, plan_for}
 use Rattle.vk_claim.specs.Verdicts.{IsOfHead, as_claim, claim_at}
-use Rattle.vk_claim.specs.Two.{by_names}
 
 -- what two replies to a claim file come to
 abbrev pub ClaimExtraction : Type 0
@@ -58,7 +57,9 @@ unfoldable pub claim_extraction_on : Plans → Files → List ℕ → List ℕ �
 claim_extraction_on plans = of_files (claim_extraction plans)
 
 abbrev pub claim_extraction_named : Plans → Files → TwoReplies → Result ClaimExtraction VErr
-claim_extraction_named plans files = by_names (claim_extraction_on plans files)
+claim_extraction_named plans files names =
+    claim_extraction_on plans files names.board.now names.challenge1.now names.reply1.now
+    names.challenge2.now names.reply2.now
 
 -- ---- values
 

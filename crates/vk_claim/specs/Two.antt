@@ -1,14 +1,14 @@
 -- Two replies to a claim file, side by side: the claim, and then what stands behind its front.
-use Rattle.std.specs.Prelude.{ℕ, false, List, Option, None, IfSome, option_map, Result, Ok, Err}
+use Rattle.std.specs.Prelude.{◌≡◌, ℕ, false, List, Option, Some, None, IsSome, IfOk, IfSome, option_map, Result, Ok, Err}
 use Rattle.vk_io.specs.Files.{Files}
 use Rattle.vk_lines.specs.Lines.{Rest}
 use Rattle.vk_verifier.specs.declared.answers.Fault.{Fault}
 use Rattle.vk_verifier.specs.declared.answers.VErr.{VErr}
-use Rattle.vk_verifier.specs.declared.named.TwoReplies.{TwoReplies}
 use Rattle.vk_verifier.specs.declared.stage.Base.{Base}
 use Rattle.vk_verifier.specs.declared.stage.Finding.{Finding}
 use Rattle.vk_verifier.specs.declared.stage.Finding.TheVariants.{Ready, Refused, Same}
-use Rattle.vk_verifier.specs.Two.{Ahead, IsStage, ahead_behind, ahead_of, base_behind, base_in, base_of, over}
+use Rattle.vk_verifier.specs.declared.stage.TwoLane.{TwoLane}
+use Rattle.vk_verifier.specs.Two.{Ahead, IsNextLane, IsStage, ahead_behind, ahead_of, base_behind, base_in, base_of, finding_of, given_of, over, with_lane}
 use Rattle.vk_verifier.specs.TwoBoards.{of_files}
 use Rattle.vk_claim.specs.declared.claim.Claim.{Claim}
 use Rattle.vk_claim.specs.declared.head.ClaimHead.{ClaimHead}
@@ -59,12 +59,6 @@ base_after_claim (Err verdict) challenge reply other second = None
 abbrev pub claim_base_at : Plans → Rest → Rest → Rest → Rest → Rest → Option ClaimBase
 claim_base_at plans file = base_after_claim (claim_at plans file)
 
--- what files come to, by their names
-abbrev pub by_names : {X : Type 0} → (List ℕ → List ℕ → List ℕ → List ℕ → List ℕ → X) → TwoReplies
-    → X
-by_names on names =
-    on names.board.now names.challenge1.now names.reply1.now names.challenge2.now names.reply2.now
-
 -- of the named files
 unfoldable pub two_claims_on : Plans → Files → List ℕ → List ℕ → List ℕ → List ℕ → List ℕ
     → Result (Ahead ClaimVerdict) VErr
@@ -74,21 +68,25 @@ unfoldable pub claim_base_on : Plans → Files → List ℕ → List ℕ → Lis
     → Result (Option ClaimBase) VErr
 claim_base_on plans = of_files (claim_base_at plans)
 
-abbrev pub two_claims_named : Plans → Files → TwoReplies → Result (Ahead ClaimVerdict) VErr
-two_claims_named plans files = by_names (two_claims_on plans files)
-
-abbrev pub claim_base_named : Plans → Files → TwoReplies → Result (Option ClaimBase) VErr
-claim_base_named plans files = by_names (claim_base_on plans files)
-
 -- ---- how far two replies to a claim file were read: lane by lane, or not past a fault before its first lane
 
 abbrev pub Checked : Type 0
 Checked = Result ClaimCourse ClaimVerdict
 
+-- what was found, where no lane is given any more
+abbrev pub claim_finding : Checked → Option (Finding ClaimVerdict)
+claim_finding (Ok course) = option_map as_claim_finding (finding_of course.lanes)
+claim_finding (Err verdict) = Some (Refused false verdict)
+
 -- what was read before the first lane, where there was no fault so far
 abbrev pub claim_base : Checked → Option ClaimBase
 claim_base (Ok course) = option_map (with_head course.head) (base_of course.lanes)
 claim_base (Err verdict) = None
+
+-- how many lanes were given
+abbrev pub claim_given : Checked → ℕ
+claim_given (Ok course) = given_of course.lanes
+claim_given (Err verdict) = 0
 
 -- what is still to be given and found of the files
 abbrev pub claim_ahead : Checked → Files → Ahead ClaimVerdict
@@ -99,3 +97,34 @@ claim_ahead (Err verdict) files = over (Refused false verdict)
 pub record IsClaimCourse (course : ClaimCourse) : Type 0 where
   pub lanes : IsStage course.lanes
   pub head : IfSome (base_of course.lanes) (λ base. IsOfHead course.head base.statement)
+
+abbrev pub IsChecked : Checked → Type 0
+IsChecked checked = IfOk checked IsClaimCourse
+
+-- the claim is known
+abbrev pub HasClaim : Checked → Type 0
+HasClaim checked = IsSome (claim_base checked)
+
+-- a lane is given, and then what is ahead of what was read further; or what is found
+abbrev pub ClaimGoesOn : Checked → Option TwoLane → Checked → Files → Type 0
+ClaimGoesOn old (Some lane) new files =
+    claim_ahead old files ≡ with_lane lane (claim_ahead new files)
+ClaimGoesOn old None new files =
+    (found : Finding ClaimVerdict) × (claim_finding new ≡ Some found)
+    × (claim_ahead old files ≡ over found)
+
+-- no lane is given any more
+abbrev pub IsClaimOver : Checked → Type 0
+IsClaimOver checked = IsSome (claim_finding checked)
+
+-- a lane that is given is the next one of the claim file's lanes
+abbrev pub IsNextOfClaim : Checked → Checked → TwoLane → Type 0
+IsNextOfClaim (Ok old) (Ok new) lane = IsNextLane old.lanes new.lanes lane
+IsNextOfClaim _ _ lane = ⊥
+
+-- one step: the next lane is given, or none, where no lane is given any more; what was read before
+-- the first lane stays
+pub record IsLaneStep (old : Checked) (lane : Option TwoLane) (new : Checked) : Type 0 where
+  pub next : IfSome lane (IsNextOfClaim old new)
+  pub none : lane ≡ None → IsClaimOver new × (claim_given new ≡ claim_given old)
+  pub base : claim_base new ≡ claim_base old

@@ -8,7 +8,6 @@ use Rattle.vk_verifier.specs.declared.answers.Part.TheVariants as part
 use Rattle.vk_verifier.specs.declared.answers.Fault.{Fault}
 use Rattle.vk_verifier.specs.declared.answers.Fault.TheVariants as behind
 use Rattle.vk_verifier.specs.declared.answers.VErr.{VErr}
-use Rattle.vk_verifier.specs.declared.named.OneReply.{OneReply}
 use Rattle.vk_verifier.specs.Statement.{StatementValue}
 use Rattle.vk_verifier.specs.Behind.{behind_judged, in_part}
 use Rattle.vk_verifier.specs.Verdicts.{from_start, of_attempt}
@@ -90,7 +89,3 @@ claim_verdict_of plans file challenge reply =
 unfoldable pub claim_verdict_on : Plans → Files → List ℕ → List ℕ → List ℕ
     → Result ClaimVerdict VErr
 claim_verdict_on plans = of_attempt (claim_judged plans)
-
-abbrev pub claim_verdict_named : Plans → Files → OneReply → Result ClaimVerdict VErr
-claim_verdict_named plans files names =
-    claim_verdict_on plans files names.file.now names.challenge.now names.reply.now

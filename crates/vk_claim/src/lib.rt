@@ -23,5 +23,5 @@ pub use laws::{
     claims_are_checked_by_both_verdicts,
 };
 pub use printing::claim_extraction_lines;
-pub use two::{ClaimCourse, ClaimFinding, as_claim_finding};
+pub use two::{ClaimChecker, ClaimCourse, ClaimFinding};
 pub use verdict::{ClaimVerdict, claim_verdict};

@@ -4,7 +4,7 @@ ghost use Rattle.vk_lines.specs.Gives.{Gives};
 ghost use Rattle.vk_lines.specs.Lines.{OnlyReads};
 ghost use Rattle.vk_verifier.specs.Behind.{behind_judged};
 ghost use Rattle.vk_verifier.specs.Verdicts.{of_begun, unread_file};
-ghost use Rattle.vk_claim.specs.Verdicts.{as_claim, claim_judged, claim_verdict_named, verdict_behind};
+ghost use Rattle.vk_claim.specs.Verdicts.{as_claim, claim_judged, claim_verdict_on, verdict_behind};
 
 use crate::circuits::Circuits;
 use crate::claim::read_claim;
@@ -66,13 +66,21 @@ pub fn claim_verdict<S: Shelf, Q: Circuits>(
     alloc: Global,
     shelf: &mut S,
     circuits: &Q,
-    names: &OneReply<'_>,
+    board: &str,
+    challenge: &str,
+    reply: &str,
 ) -> Result<ClaimVerdict, VErr>
+    ensures shelf { OnlyReads S.held S.Shelf.faults VErr.Failed result shelf.old shelf.new }
     ensures modelled { IfSome (S.held shelf.old) (λ files.
         Gives unread_file (λ verdict. verdict) result
-        (claim_verdict_named (Q.admitted circuits.now) files names.now)) }
-    ensures shelf { OnlyReads S.held S.Shelf.faults VErr.Failed result shelf.old shelf.new }
+        (claim_verdict_on (Q.admitted circuits.now) files board.now challenge.now reply.now)) }
 {
+    let file = board;
+    let names = OneReply {
+        file,
+        challenge,
+        reply,
+    };
     let mut attempt = names.begin(alloc, shelf)?;
     let verdict = judge_claim(alloc, shelf, circuits, &mut attempt)?;
     Ok(verdict)

@@ -13,8 +13,7 @@ use vk_audit::{replies_of, unread, verified_names};
 use vk_claim::{claim_verdict, extract_claim};
 use vk_effect::Said;
 use vk_io::{OutsideErr, Shelf};
-use vk_verifier::OneReply;
-use vk_words::{ExtractNames, VerifyNames};
+use vk_words::{AttemptNames, ExtractNames, VerifyNames};
 
 /// What is to be done with a claim file: the names of the files.
 #[derive(Clone, Copy, Debug)]
@@ -35,12 +34,8 @@ fn claim_verified<S: Shelf>(
 {
     let VerifyNames { board, attempt } = names;
     let names = verified_names(&names);
-    let files = OneReply {
-        file: board,
-        challenge: attempt.challenge,
-        reply: attempt.reply,
-    };
-    let said = match claim_verdict(alloc, shelf, &ClaimCircuits, &files) {
+    let AttemptNames { challenge, reply } = attempt;
+    let said = match claim_verdict(alloc, shelf, &ClaimCircuits, board, challenge, reply) {
         Ok(verdict) => claim_judged(alloc, &names, false, verdict)?,
         Err(fault) => unread(alloc, &names, fault)?,
     };
