@@ -1,0 +1,1 @@
+"""The parts of checks/edits.py, which tries bodies that the check has to refuse."""
