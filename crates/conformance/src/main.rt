@@ -4,6 +4,7 @@
 #![tactic(auto)]
 
 mod files;
+mod houses;
 mod runs;
 
 use std::alloc::Global;
@@ -19,8 +20,9 @@ enum Cases {
     /// words.
     Runs,
     /// `NAME | NAME=FILE .. | WORD .. | WORD ..`: the files that a house is given, and its
-    /// commands. `forget` stands for a house that knows nothing, and `fail N` has the call of that
-    /// number fail which is made of its keeper.
+    /// commands. `forget` stands for a house that knows nothing. `fail-shelf N`, `fail-keeper N`
+    /// and `fail-sink N` have the call of that number fail, from 1, which is made of its files, its
+    /// keeper or what it prints to.
     Houses,
 }
 
@@ -37,7 +39,7 @@ impl Form for Cases {
         match self {
             Cases::Files => files::fault_text(alloc, shelf, case),
             Cases::Runs => runs::run_text(alloc, shelf, case),
-            Cases::Houses => runs::house_text(alloc, shelf, case),
+            Cases::Houses => houses::house_text(alloc, shelf, case),
         }
     }
 }

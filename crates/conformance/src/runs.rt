@@ -1,11 +1,10 @@
 // Runs of the whole program over files in memory: its status, what it prints, and what it leaves.
-use sha2::{Digest, Sha256};
 use std::alloc::Global;
 use vk_app::run;
-use vk_cases::{Tried, Unreplayed, number_at, read_cases, text_of, words_of};
+use vk_cases::{Tried, Unreplayed, read_cases, text_of, words_of};
 use vk_io::{MemShelf, MemSink, Shelf};
 use vk_keeper::MemKeeper;
-use vk_lines::{end_line, push_decimal, push_hex, push_line, push_space};
+use vk_lines::{end_line, push_decimal, push_line};
 
 /// The parts of a case: its name, its files, its words, and the files that it leaves which no word
 /// names.
@@ -27,106 +26,21 @@ pub fn run_text<S: Shelf>(alloc: Global, shelf: &mut S, case: &[u8]) -> Tried<Ve
     let mut out = MemSink::new(alloc);
     let mut keeper = MemKeeper::new(alloc);
     let status = run(alloc, words.as_slice(), &mut files, &mut keeper, &mut out);
-    let mut text = end_text(alloc, parts.name, status, &out)?;
+    let mut text = Vec::new(alloc);
+    push_end(&mut text, parts.name, status, out.bytes())?;
     push_left(&mut text, words.as_slice(), 1, &given, &files)?;
     push_left(&mut text, left.as_slice(), 0, &given, &files)?;
     Ok(text)
 }
 
-/// The case, and what its commands come to, which a house does one after another.
-pub fn house_text<S: Shelf>(alloc: Global, shelf: &mut S, case: &[u8]) -> Tried<Vec<u8>> {
-    let mut parts = case.split(|byte| *byte == b'|');
-    let name = parts.next().ok_or(Unreplayed::NoCase)?;
-    let mut files = files_of(alloc, shelf, parts.next().ok_or(Unreplayed::NoCase)?)?;
-    let mut keeper = MemKeeper::new(alloc);
-    let mut text = Vec::new(alloc);
-    for part in parts {
-        let words = words_of(alloc, part)?;
-        match first_word(words.as_slice()) {
-            "forget" => keeper = MemKeeper::new(alloc),
-            "fail" => keeper.fail_at(number_at(part, 2, u64::MAX)?)?,
-            _ => {
-                let said = command_text(alloc, &mut files, &mut keeper, name, words.as_slice())?;
-                text.extend_from_slice(said.as_slice())?;
-            }
-        }
-    }
-    Ok(text)
-}
-
-/// The first word, empty where there is none.
-fn first_word(words: &[String]) -> &str {
-    match words.first() {
-        Some(word) => word.as_str(),
-        None => "",
-    }
-}
-
-/// What one command of a case comes to, over the files and the keeper of those before it.
-fn command_text(
-    alloc: Global,
-    files: &mut MemShelf,
-    keeper: &mut MemKeeper,
-    name: &[u8],
-    words: &[String],
-) -> Tried<Vec<u8>> {
-    let given = files_named(alloc, words, files)?;
-    let mut out = MemSink::new(alloc);
-    let status = run(alloc, words, files, keeper, &mut out);
-    let mut text = end_text(alloc, name, status, &out)?;
-    push_sums(&mut text, words, &given, files)?;
-    Ok(text)
-}
-
-/// The length and the SHA-256 of each file that a word behind the first names, and that isn't as it
-/// was given.
-fn push_sums(
-    text: &mut Vec<u8>,
-    words: &[String],
-    given: &MemShelf,
-    files: &MemShelf,
-) -> Tried<()> {
-    for word in words.iter().skip(1) {
-        if let Some(left) = files.file(word.as_str()) {
-            if !is_given(given, word.as_str(), left) {
-                push_sum(text, word.as_bytes(), left)?;
-            }
-        }
-    }
-    Ok(())
-}
-
-/// `left NAME LENGTH SHA-256`.
-fn push_sum(text: &mut Vec<u8>, name: &[u8], left: &[u8]) -> Tried<()> {
-    text.extend_from_slice(b"left ")?;
-    text.extend_from_slice(name)?;
-    push_space(text)?;
-    push_decimal(text, left.len() as u64)?;
-    push_space(text)?;
-    push_hex(text, &Sha256::digest(left))?;
-    end_line(text)?;
-    Ok(())
-}
-
-/// The files that the words name, as they are.
-fn files_named(alloc: Global, words: &[String], files: &MemShelf) -> Tried<MemShelf> {
-    let mut named = MemShelf::new(alloc);
-    for word in words {
-        if let Some(bytes) = files.file(word.as_str()) {
-            named.put_file(word.as_str(), bytes)?;
-        }
-    }
-    Ok(named)
-}
-
 /// The name of a case, the status of a run, and what it printed.
-fn end_text(alloc: Global, name: &[u8], status: u8, out: &MemSink) -> Tried<Vec<u8>> {
-    let mut text = Vec::from_slice(alloc, name)?;
+pub fn push_end(text: &mut Vec<u8>, name: &[u8], status: u8, printed: &[u8]) -> Tried<()> {
+    text.extend_from_slice(name)?;
     text.extend_from_slice(b"| ")?;
-    push_decimal(&mut text, u64::from(status))?;
-    end_line(&mut text)?;
-    text.extend_from_slice(out.bytes())?;
-    Ok(text)
+    push_decimal(text, u64::from(status))?;
+    end_line(text)?;
+    text.extend_from_slice(printed)?;
+    Ok(())
 }
 
 /// The parts of the case, which stand between bars.
@@ -204,7 +118,7 @@ fn push_left(
 }
 
 /// Whether the named file was given with these bytes.
-fn is_given(given: &MemShelf, name: &str, bytes: &[u8]) -> bool {
+pub fn is_given(given: &MemShelf, name: &str, bytes: &[u8]) -> bool {
     match given.file(name) {
         Some(held) => held == bytes,
         None => false,

@@ -53,8 +53,8 @@ impl Stage {
         self.shelf.file(name).unwrap_or(&[]).len() as u64
     }
 
-    /// Runs the command of these words, which prints there, and puts the changed lines back.
-    /// Answers its status.
+    /// Runs the command of these words, which prints there, and puts all back that was
+    /// changed. Answers its status.
     pub fn run(&mut self, line: &[u8], out: &mut MemSink) -> Tried<u8> {
         let words = words_of(self.alloc, line)?;
         self.shelf.watch(words.as_slice())?;
@@ -65,6 +65,7 @@ impl Stage {
             &mut self.keeper,
             out,
         );
+        self.shelf.have_too_long(false);
         put_back(&mut self.shelf, self.replaced.as_slice())?;
         self.replaced.clear();
         Ok(status)

@@ -13,6 +13,7 @@ use vk_lines::{end_line, push_decimal, push_line};
 /// - `forget`: the house knows nothing again.
 /// - `do WORD ..`: a command that is done.
 /// - `line NAME NUMBER TEXT`: this text in place of that line, until the next run is over.
+/// - `too-long`: every file has a byte more than it may have, until the next run is over.
 /// - `run WORD ..`: a command, its status, and what it printed.
 /// - `read NAME PLACE LENGTH`: whether the last command read that file to less than PLACE, and it
 ///   has more than LENGTH bytes.
@@ -34,6 +35,7 @@ pub fn step_text<S: Shelf>(
         }
         "do" => done(alloc, stage, rest),
         "line" => change(alloc, stage, step),
+        "too-long" => lengthen(alloc, stage, step),
         "run" => said(alloc, stage, rest),
         "read" => bounded(alloc, stage, step),
         "end" => ended(alloc, stage, rest),
@@ -87,6 +89,14 @@ fn change(alloc: Global, stage: &mut Stage, step: &[u8]) -> Tried<Vec<u8>> {
     let named = name.len().saturating_add(word_at(step, 2)?.len());
     let text = behind(step, named.saturating_add(LINE_AND_SPACES));
     stage.change(name, number, text)?;
+    let mut told = Vec::new(alloc);
+    push_line(&mut told, step)?;
+    Ok(told)
+}
+
+/// Has every file too long, and tells so.
+fn lengthen(alloc: Global, stage: &mut Stage, step: &[u8]) -> Tried<Vec<u8>> {
+    stage.shelf.have_too_long(true);
     let mut told = Vec::new(alloc);
     push_line(&mut told, step)?;
     Ok(told)

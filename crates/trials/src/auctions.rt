@@ -3,162 +3,68 @@ use crate::asked::Asked;
 use crate::honest::{Honest, Terms, seat_at};
 use std::alloc::Global;
 use vk_app::run;
-use vk_cases::{Tried, lines_in, words_of};
+use vk_cases::{Tried, lines_in, number_at, numbers_in, read_cases, word_at, words_of};
 use vk_io::{MemShelf, MemSink, PieceShelf, Shelf, Sink};
 use vk_keeper::MemKeeper;
 use vk_lines::{end_line, push_decimal, push_space};
 use vk_vickrey::Sale;
 
 /// The bids of an auction, how it is held, and the sale that it is known to come to.
-#[derive(Clone, Copy)]
+#[derive(Drop)]
 struct Auction {
-    bids: &'static [u64],
+    bids: Vec<u64>,
     terms: Terms,
     sale: Sale,
 }
 
-/// The greatest bid of all, by as many as there may be.
-const MOST: [u64; 64] = [1099511627775; 64];
-
-const AUCTIONS: [Auction; 10] = [
-    Auction {
-        bids: &MOST,
-        terms: Terms {
-            version: 1,
-            width: 40,
-            lanes: 2,
-            reserve: 0,
-        },
-        sale: Sale::Sold {
-            position: 1,
-            price: 1099511627775,
-        },
-    },
-    Auction {
-        bids: &[7, 9, 9, 4],
-        terms: Terms {
-            version: 1,
-            width: 4,
-            lanes: 3,
-            reserve: 0,
-        },
-        sale: Sale::Sold {
-            position: 2,
-            price: 9,
-        },
-    },
-    Auction {
-        bids: &[1],
-        terms: Terms {
-            version: 1,
-            width: 1,
-            lanes: 64,
-            reserve: 0,
-        },
-        sale: Sale::Sold {
-            position: 1,
-            price: 0,
-        },
-    },
-    Auction {
-        bids: &[13, 250, 0, 255, 250],
-        terms: Terms {
-            version: 1,
-            width: 8,
-            lanes: 1,
-            reserve: 0,
-        },
-        sale: Sale::Sold {
-            position: 4,
-            price: 250,
-        },
-    },
-    Auction {
-        bids: &[255, 0, 255, 13, 1],
-        terms: Terms {
-            version: 1,
-            width: 8,
-            lanes: 2,
-            reserve: 0,
-        },
-        sale: Sale::Sold {
-            position: 1,
-            price: 255,
-        },
-    },
-    Auction {
-        bids: &MOST,
-        terms: Terms {
-            version: 2,
-            width: 40,
-            lanes: 2,
-            reserve: 1099511627775,
-        },
-        sale: Sale::Sold {
-            position: 1,
-            price: 1099511627775,
-        },
-    },
-    Auction {
-        bids: &[13, 250, 0, 255, 250],
-        terms: Terms {
-            version: 2,
-            width: 8,
-            lanes: 2,
-            reserve: 251,
-        },
-        sale: Sale::Sold {
-            position: 4,
-            price: 251,
-        },
-    },
-    Auction {
-        bids: &[13, 250, 0, 255, 250],
-        terms: Terms {
-            version: 2,
-            width: 8,
-            lanes: 1,
-            reserve: 249,
-        },
-        sale: Sale::Sold {
-            position: 4,
-            price: 250,
-        },
-    },
-    Auction {
-        bids: &[7, 9, 9, 4],
-        terms: Terms {
-            version: 2,
-            width: 4,
-            lanes: 3,
-            reserve: 10,
-        },
-        sale: Sale::Unsold,
-    },
-    Auction {
-        bids: &[0],
-        terms: Terms {
-            version: 2,
-            width: 1,
-            lanes: 64,
-            reserve: 1,
-        },
-        sale: Sale::Unsold,
-    },
-];
-
-/// Makes each auction, and tells what its files come to.
-pub fn try_auctions<W: Sink>(alloc: Global, out: &mut W) -> Tried<()> {
-    for auction in &AUCTIONS {
-        let text = auction_text(alloc, auction)?;
-        out.put(text.as_slice())?;
+/// Makes each auction of the file `auctions`, one a line, and tells what its files come to.
+pub fn try_auctions<S: Shelf, W: Sink>(alloc: Global, shelf: &mut S, out: &mut W) -> Tried<()> {
+    let cases = read_cases(alloc, shelf, "auctions")?;
+    for case in cases.as_slice().split(|byte| *byte == b'\n') {
+        if !case.is_empty() {
+            let text = case_text(alloc, case)?;
+            out.put(text.as_slice())?;
+        }
     }
     Ok(())
 }
 
+/// What the files of a case come to, which is `VERSION WIDTH LANES RESERVE POSITION PRICE BID,BID`:
+/// the position, from 1, of the seal that wins, or 0 where nothing is sold.
+fn case_text(alloc: Global, case: &[u8]) -> Tried<Vec<u8>> {
+    let terms = terms_of(case)?;
+    let sale = known_sale(case)?;
+    let bids = numbers_in(alloc, word_at(case, 6)?)?;
+    let text = auction_text(alloc, &Auction { bids, terms, sale });
+    text
+}
+
+fn terms_of(case: &[u8]) -> Tried<Terms> {
+    let version = number_at(case, 0, 2)? as u32;
+    let width = number_at(case, 1, 40)? as u32;
+    let lanes = number_at(case, 2, 64)? as u16;
+    let reserve = number_at(case, 3, u64::MAX)?;
+    Ok(Terms {
+        version,
+        width,
+        lanes,
+        reserve,
+    })
+}
+
+fn known_sale(case: &[u8]) -> Tried<Sale> {
+    let position = number_at(case, 4, 64)? as u32;
+    let price = number_at(case, 5, u64::MAX)?;
+    Ok(if position == 0 {
+        Sale::Unsold
+    } else {
+        Sale::Sold { position, price }
+    })
+}
+
 /// How large the auction's files are, and what the program says of them.
 fn auction_text(alloc: Global, auction: &Auction) -> Tried<Vec<u8>> {
-    let honest = Honest::of(alloc, auction.bids, auction.terms)?;
+    let honest = Honest::of(alloc, auction.bids.as_slice(), auction.terms)?;
     let mut text = Vec::new(alloc);
     push_auction(alloc, &mut text, auction, &honest)?;
     Ok(text)
@@ -363,11 +269,11 @@ fn push_expected(alloc: Global, text: &mut Vec<u8>, auction: &Auction, asked: As
     let lanes = auction.terms.lanes;
     for lane in 1..=lanes {
         if asked.bit(u32::from(lane), u32::from(lanes)) {
-            push_values(alloc, text, lane, "bid", auction.bids)?;
+            push_values(alloc, text, lane, "bid", auction.bids.as_slice())?;
         }
     }
     text.extend_from_slice(sale_line(alloc, auction)?.as_bytes())?;
-    push_same(alloc, text, auction.bids)?;
+    push_same(alloc, text, auction.bids.as_slice())?;
     text.extend_from_slice(b"end\n")?;
     Ok(())
 }
@@ -463,7 +369,8 @@ fn push_report(text: &mut Vec<u8>, auction: &Auction, honest: &Honest) -> Tried<
     }
     push_number(text, b"wires", u64::from(honest.wires))?;
     push_number(text, b"rows", u64::from(honest.rows))?;
-    let commitments = 2 * u64::from(honest.wires) * u64::from(auction.terms.lanes);
+    let pairs = u64::from(honest.wires).saturating_mul(u64::from(auction.terms.lanes));
+    let commitments = pairs.saturating_mul(2);
     push_number(text, b"commitments", commitments)?;
     text.extend_from_slice(b"end\n")?;
     Ok(())

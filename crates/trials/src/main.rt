@@ -6,10 +6,10 @@
 mod asked;
 mod auctions;
 mod claims;
-mod dry;
 mod honest;
 mod proposals;
 mod samples;
+mod sayings;
 mod written;
 
 use std::alloc::Global;
@@ -22,11 +22,11 @@ struct Trials;
 
 impl Replay for Trials {
     fn replay<S: Shelf, W: Sink>(&self, alloc: Global, shelf: &mut S, out: &mut W) -> Replayed {
-        auctions::try_auctions(alloc, out)?;
+        auctions::try_auctions(alloc, shelf, out)?;
         proposals::try_proposals(alloc, out)?;
         claims::try_claims(alloc, out)?;
         samples::try_samples(alloc, shelf, out)?;
-        dry::try_dry(out)?;
+        sayings::try_sayings(alloc, out)?;
         Ok(())
     }
 }

@@ -1,4 +1,4 @@
-//! Keepers, jobs and the house against worked runs, calls that fail and ample memory.
+//! Keepers and jobs against worked runs, calls that fail and ample memory.
 #![tactic(auto)]
 
 #[cfg(test)]

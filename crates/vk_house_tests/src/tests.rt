@@ -1,4 +1,3 @@
 mod auctions;
-mod house;
 mod job;
 mod keeper;

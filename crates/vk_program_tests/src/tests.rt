@@ -1,8 +1,9 @@
 mod house;
+mod once;
 mod standing_in;
 mod statuses;
 
-use std::env::FillError;
+use std::env::{self, FillError};
 use std::process::ExitCode;
 use std::rt::Env;
 use vk_files::{FileShelf, OutSink};
@@ -44,5 +45,7 @@ fn status_of(rt: &HostRuntime, words: &[&str]) -> ExitCode {
     let env = (Words { words }, rt.alloc());
     let mut shelf = FileShelf::new(rt, rt.alloc(), STORE);
     let mut out = OutSink::new(rt);
-    program(&env, rt, &StoreHouse::of(rt), &mut shelf, &mut out)
+    let house = StoreHouse::of(rt);
+    let (code, _house) = program(env::args(&env), rt, house, &mut shelf, &mut out);
+    code
 }

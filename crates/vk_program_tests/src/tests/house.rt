@@ -3,6 +3,7 @@ use super::{ID, SEED, status_of};
 use std::fs::{self, Permissions};
 use std::os::unix::fs::{PermissionsExt, symlink};
 use std::process::{Abort, ExitCode};
+use std::rt::Files;
 use std::test::Fail;
 use vk_program::{HousePlace, StoreHouse};
 
@@ -49,24 +50,31 @@ fn the_house_is_kept_in_its_file(rt: HostRuntime) -> Result<(), Fail> {
     clear(&rt);
     nothing_is_made(&rt, &rt)?;
     others_may_read_no_store(&rt, &rt)?;
+    nothing_beside_lets_others_in(&rt, &rt)?;
     clear(&rt);
     fs::write(&rt, "first", "vickrey-challenge 1\nbits 01\nend\n")?;
     fs::write(&rt, "other", "vickrey-challenge 1\nbits 11\nend\n")?;
     proved(&rt, &rt)?;
     nothing_is_written_into_the_store(&rt, &rt)?;
     answered(&rt, &rt)?;
-    one_keeper_at_a_time(&rt, &rt, &StoreHouse::of(&rt))?;
+    one_keeper_at_a_time(&rt, &rt, &mut StoreHouse::of(&rt))?;
     clear(&rt);
     Ok(())
 }
 
-/// Words that are no command, a script that is missing, and a command whose files are missing make
-/// no store.
+/// Words that are no command, a script that is missing, a command whose files are missing, and what
+/// only asks make no store.
 fn nothing_is_made(stop: &impl Abort, rt: &HostRuntime) -> Result<(), Fail> {
-    let table: [(&[&str], u8); 3] = [
+    fs::write(rt, "first", "vickrey-challenge 1\nbits 01\nend\n")?;
+    write_script(rt, &["answer", ID, "first", "none"])?;
+    let table: [(&[&str], u8); 7] = [
         (&["announce", ID, "4"], 2),
         (&["ceremony", "none"], 5),
         (&["submit", ID, "none", "none"], 5),
+        (&["show", ID], 8),
+        (&["prove", ID, SEED, "none"], 8),
+        (&["answer", ID, "first", "none"], 8),
+        (&["ceremony", "script"], 8),
     ];
     for (words, status) in table {
         assert!(stop; status_of(rt, words) == ExitCode::from(status));
@@ -91,6 +99,29 @@ fn others_may_read_no_store(stop: &impl Abort, rt: &HostRuntime) -> Result<(), F
         assert!(stop; (metadata.len() == content.len() as u64) == (status == 6));
         assert!(stop; metadata.permissions().mode() & 0o777 == mode);
     }
+    Ok(())
+}
+
+/// No store is opened beside a file that others may use, nor one with a second name; without these
+/// it is.
+fn nothing_beside_lets_others_in(stop: &impl Abort, rt: &HostRuntime) -> Result<(), Fail> {
+    let show = ["show", ID];
+    for name in [
+        "house.sqlite-wal",
+        "house.sqlite-journal",
+        "house.sqlite-shm",
+    ] {
+        let _ = fs::remove_file(rt, name);
+        fs::write(rt, name, "")?;
+        for (mode, status) in [(0o640, 6), (0o602, 6), (0o600, 0)] {
+            fs::set_permissions(rt, name, Permissions::from_mode(mode))?;
+            assert!(stop; status_of(rt, &show) == ExitCode::from(status));
+        }
+    }
+    rt.hard_link("house.sqlite", "link")?;
+    assert!(stop; status_of(rt, &show) == ExitCode::from(6));
+    fs::remove_file(rt, "link")?;
+    assert!(stop; status_of(rt, &show) == ExitCode::from(0));
     Ok(())
 }
 
@@ -161,7 +192,7 @@ fn answered(stop: &impl Abort, rt: &HostRuntime) -> Result<(), Fail> {
 fn one_keeper_at_a_time<H: HousePlace>(
     stop: &impl Abort,
     rt: &HostRuntime,
-    house: &H,
+    house: &mut H,
 ) -> Result<(), Fail> {
     let Ok(keeper) = house.open() else {
         return Err(Fail::from("not opened"));

@@ -1,7 +1,11 @@
 // What stands in for the outside: a house in memory, files in memory, and standard error.
+ghost use Rattle.std.specs.Prelude.{◌≡◌, false, Err};
+ghost use Rattle.vk_io.specs.Faults.{Causes};
+
 use super::{ID, SEED, Words};
 use std::alloc::Global;
 use std::cell::{Cell, RefCell};
+use std::env;
 use std::fmt::{Display, Write};
 use std::io::{self, ErrorKind};
 use std::process::{Abort, ExitCode};
@@ -13,37 +17,69 @@ use vk_keeper_sql::OpenErr;
 use vk_program::{HousePlace, Settle, Unopened, end, program};
 
 /// A house in memory, which counts how often it is opened, may be refused then, and may fail as it
-/// is closed.
+/// is closed. What is kept in it is modelled where it isn't refused.
 #[derive(Drop)]
 struct MemHouse<'a> {
     alloc: Global,
-    is_made: bool,
+    kept: Option<MemKeeper>,
     refusal: Option<Unopened>,
+    is_made: bool,
     closing_fails: bool,
     opened: &'a Cell<u32>,
+    faults: u64,
+}
+
+/// Counts the refusal where it is a fault.
+fn count(faults: &mut u64, refusal: OutsideErr)
+    ensures { Causes {T = Unit} OutsideErr.Failed (Err refusal) faults.old faults.new }
+{
+    if matches!(refusal, OutsideErr::Failed) {
+        *faults = faults.saturating_add(1);
+    }
 }
 
 impl HousePlace for MemHouse<'_> {
+    ghost use Rattle.std.specs.Prelude.{None, Some};
+    ghost use Rattle.std.specs.FinMap.{empty};
+    ghost use Rattle.vk_program.specs.Houses.{told_by};
+
     type Kept = MemKeeper;
 
-    fn is_made(&self) -> Result<bool, Unopened> {
-        Ok(self.is_made)
+    ghost ledger = { λ house. told_by (λ _. None)
+        (told_by (λ keeper. Some keeper.ledger) (Some empty) house.kept) house.refusal };
+
+    ghost faults = { λ house. house.faults };
+
+    ghost unmade = { λ house. (house.is_made ≡ false) × (house.kept ≡ None) };
+
+    fn is_made(&mut self) -> Result<bool, Unopened> {
+        Ok(self.is_made || self.kept.is_some())
     }
 
-    fn open(&self) -> Result<MemKeeper, Unopened> {
+    fn open(&mut self) -> Result<MemKeeper, Unopened> {
         self.opened.set(self.opened.get().saturating_add(1));
-        match self.refusal {
-            Some(refusal) => Err(refusal),
+        if let Some(refusal) = self.refusal {
+            count(&mut self.faults, refusal.outside());
+            return Err(refusal);
+        }
+        match self.kept.take() {
+            Some(keeper) => Ok(keeper),
             None => Ok(MemKeeper::new(self.alloc)),
         }
     }
 
-    fn close(&self, _kept: MemKeeper) -> Result<(), OutsideErr> {
+    fn close(&mut self, kept: MemKeeper) -> Result<(), OutsideErr> {
+        self.kept = Some(kept);
+        self.refusal = None;
         if self.closing_fails {
-            Err(OutsideErr::Failed)
-        } else {
-            Ok(())
+            count(&mut self.faults, OutsideErr::Failed);
+            return Err(OutsideErr::Failed);
         }
+        Ok(())
+    }
+
+    fn count_fault(&mut self) {
+        self.faults = self.faults.saturating_add(1);
     }
 }
 
@@ -125,8 +161,9 @@ impl Settle for Vain {
 /// What stands in: what becomes of the house, whether settling fails, how often the house was
 /// opened, and what was said.
 #[derive(Drop)]
-struct Outside {
-    alloc: Global,
+pub(super) struct Outside {
+    pub(super) alloc: Global,
+    kept: Option<MemKeeper>,
     is_made: bool,
     refusal: Option<Unopened>,
     closing_fails: bool,
@@ -137,9 +174,10 @@ struct Outside {
 
 impl Outside {
     /// A house in which nothing is kept yet, and nothing fails.
-    fn new(alloc: Global) -> Outside {
+    pub(super) fn new(alloc: Global) -> Outside {
         Outside {
             alloc,
+            kept: None,
             is_made: false,
             refusal: None,
             closing_fails: false,
@@ -149,29 +187,39 @@ impl Outside {
         }
     }
 
-    /// With which status the program ends.
-    fn status_of(&self, words: &[&str]) -> ExitCode {
+    /// With which status the program ends over these files. What is kept stays for the next
+    /// command.
+    pub(super) fn ended<S: Settle>(&mut self, words: &[&str], files: &mut S) -> ExitCode {
         let house = MemHouse {
             alloc: self.alloc,
-            is_made: self.is_made,
+            kept: self.kept.take(),
             refusal: self.refusal,
+            is_made: self.is_made,
             closing_fails: self.closing_fails,
             opened: &self.opened,
-        };
-        let mut shelf = Vain {
-            fails: self.settling_fails,
             faults: 0,
         };
         let mut out = MemSink::new(self.alloc);
         let errors = (Errors { said: &self.said }, self.alloc);
         let env = (Words { words }, self.alloc);
-        program(&env, &errors, &house, &mut shelf, &mut out)
+        let (code, house) = program(env::args(&env), &errors, house, files, &mut out);
+        self.kept = house.kept;
+        code
+    }
+
+    /// With which status the program ends over files that may fail as they are settled.
+    fn status_of(&mut self, words: &[&str]) -> ExitCode {
+        let mut files = Vain {
+            fails: self.settling_fails,
+            faults: 0,
+        };
+        self.ended(words, &mut files)
     }
 }
 
 /// Tries one command after another, each with its status and with how often the house was opened
 /// then.
-fn try_each(stop: &impl Abort, outside: &Outside, table: &[(&[&str], u8, u32)]) {
+fn try_each(stop: &impl Abort, outside: &mut Outside, table: &[(&[&str], u8, u32)]) {
     for (words, status, opened) in table {
         assert!(stop; outside.status_of(words) == ExitCode::from(*status));
         assert!(stop; outside.opened.get() == *opened);
@@ -187,17 +235,24 @@ fn the_house_is_opened_where_it_is_asked(rt: HostRuntime) {
         (&["announce", ID, "4"], 2, 0),
         (&["ceremony", "script"], 5, 0),
         (&["answer", ID, "challenge", "reply"], 5, 0),
-        (&["show", ID], 8, 1),
-        (&["announce", ID, "4", "2"], 0, 2),
+        (&["show", ID], 8, 0),
+        (&["announce", ID, "4", "2"], 0, 1),
     ];
-    try_each(&rt, &outside, &unmade);
-    outside.is_made = true;
-    let made: [(&[&str], u8, u32); 3] = [
-        (&["report", "board"], 5, 2),
-        (&["ceremony", "script"], 5, 3),
-        (&["show", ID], 8, 4),
+    try_each(&rt, &mut outside, &unmade);
+    let made: [(&[&str], u8, u32); 4] = [
+        (&["report", "board"], 5, 1),
+        (&["ceremony", "script"], 5, 2),
+        (&["show", ID], 0, 3),
+        (&["announce", ID, "4", "2"], 8, 4),
     ];
-    try_each(&rt, &outside, &made);
+    try_each(&rt, &mut outside, &made);
+    let seal = [
+        "seal", ID, "7", "15", "4", "2", SEED, "secret", "seal", "10", "11",
+    ];
+    for words in [seal.get(..10), seal.get(..11)] {
+        let words = words.unwrap_or(&[]);
+        assert!(rt; outside.status_of(words) == ExitCode::from(2));
+    }
 }
 
 #[test]
@@ -207,9 +262,20 @@ fn a_fault_behind_a_command_is_told(rt: HostRuntime) {
     let seal = ["seal", ID, "7", "15", "4", "2", SEED, "secret", "seal"];
     assert!(rt; outside.status_of(&seal) == ExitCode::from(0));
     outside.closing_fails = true;
-    assert!(rt; outside.status_of(&announce) == ExitCode::from(6));
+    let asking: [&[&str]; 6] = [
+        &announce,
+        &announce,
+        &["show", ID],
+        &["announce", ID, "4"],
+        &["answer", ID, "challenge", "reply"],
+        &["ceremony", "script"],
+    ];
+    for words in asking {
+        assert!(rt; outside.status_of(words) == ExitCode::from(6));
+    }
     assert!(rt; outside.status_of(&["report", "board"]) == ExitCode::from(5));
     outside.closing_fails = false;
+    assert!(rt; outside.status_of(&["show", ID]) == ExitCode::from(0));
     outside.settling_fails = true;
     assert!(rt; outside.status_of(&seal) == ExitCode::from(6));
 }
@@ -227,6 +293,18 @@ outside fault
 house.sqlite: empty, and not its owner's alone
 outside fault
 house.sqlite: empty, and not its owner's alone
+outside fault
+house.sqlite: empty, and another user's
+outside fault
+house.sqlite: empty, and another user's
+outside fault
+house.sqlite: it has a second name (a hard link)
+outside fault
+house.sqlite: it has a second name (a hard link)
+outside fault
+house.sqlite: a file beside it is not its owner's alone
+outside fault
+house.sqlite: a file beside it is not its owner's alone
 no memory
 house.sqlite: no memory
 no memory
@@ -240,13 +318,16 @@ fn a_house_that_is_refused_is_told(rt: HostRuntime) -> Result<(), Fail> {
         (Unopened::Store(OpenErr::Version { rows: 1, number: 7 }), 6),
         (Unopened::Store(OpenErr::Refused), 6),
         (Unopened::Exposed, 6),
+        (Unopened::Anothers, 6),
+        (Unopened::Linked, 6),
+        (Unopened::Beside, 6),
         (Unopened::Store(OpenErr::NoMemory), 9),
     ];
     for (refusal, status) in refusals {
         outside.refusal = Some(refusal);
         for is_made in [true, false] {
             outside.is_made = is_made;
-            assert!(rt; outside.status_of(&["show", ID]) == ExitCode::from(status));
+            assert!(rt; outside.status_of(&["announce", ID, "4", "2"]) == ExitCode::from(status));
         }
     }
     let text = outside.said.try_borrow().map_err(|_| Fail::from("in use"))?;
@@ -293,7 +374,7 @@ fn what_a_person_can_mend_is_said(rt: HostRuntime) -> Result<(), Fail> {
         (&["answer", ID, "reply", "reply"], 2, 0),
         (&["announce", ID, "4", "2", "16"], 2, 0),
     ];
-    try_each(&rt, &outside, &wrong);
+    try_each(&rt, &mut outside, &wrong);
     outside.settling_fails = true;
     let seal = ["seal", ID, "7", "15", "4", "2", SEED, "secret", "seal"];
     assert!(rt; outside.status_of(&seal) == ExitCode::from(6));

@@ -1,18 +1,20 @@
-//! The files of the system, of whose calls one goes wrong.
-
-use crate::tests::plan::{Call, Plan};
+// The files of the system, of whose calls some go wrong.
+use crate::plan::{Call, Plan};
 use std::alloc::Allocator;
 use std::fs::{Metadata, OpenFile, OpenOptions};
 use std::io::{self, Read, Seek, SeekFrom, Write};
 use std::path::PathBuf;
 use std::rt::Files;
 
+/// The files that `rt` reaches. Each call is passed on to them, but those that are planned to go
+/// wrong.
 #[derive(Drop)]
 pub struct Faulty<'a, R: Files> {
     pub rt: &'a R,
     pub plan: &'a Plan,
 }
 
+/// An open file of theirs.
 #[derive(Drop)]
 pub struct FaultyFile<'a, F> {
     file: F,
@@ -124,5 +126,9 @@ impl<'a, R: Files> Files for Faulty<'a, R> {
     fn canonicalize<B: Allocator>(&self, alloc: B, path: &str) -> io::Result<PathBuf<B>> {
         self.plan.begin(Call::Look)?;
         self.rt.canonicalize(alloc, path)
+    }
+
+    fn read_link<B: Allocator>(&self, alloc: B, path: &str) -> io::Result<PathBuf<B>> {
+        self.rt.read_link(alloc, path)
     }
 }

@@ -1,0 +1,56 @@
+// Steps that look at files, beside the shelf.
+use crate::edge::Edge;
+use crate::room::done;
+use crate::steps::{push, push_bytes};
+use std::fs;
+use std::os::unix::fs::{MetadataExt, PermissionsExt};
+use vk_cases::{Tried, Unreplayed, word_at};
+
+/// Tells of the file that a step names.
+pub fn see(edge: &mut Edge<'_>, word: &str, step: &[u8], told: &mut Vec<u8>) -> Tried<()> {
+    let path = edge.room.path(word_at(step, 1)?)?;
+    let path = path.as_str();
+    match word {
+        "see" => see_bytes(edge, path, told),
+        "mode" => see_mode(edge, path, told),
+        "note" => note_time(edge, path, told),
+        "since" => see_time(edge, path, told),
+        _ => Err(Unreplayed::NoCase),
+    }
+}
+
+/// What the file holds.
+fn see_bytes(edge: &Edge<'_>, path: &str, told: &mut Vec<u8>) -> Tried<()> {
+    if !done(fs::exists(edge.room.rt, path))? {
+        return push(told, "nothing");
+    }
+    let bytes = done(fs::read(edge.room.rt, path))?;
+    push_bytes(told, bytes.as_slice())
+}
+
+/// Who may read and write the file, as the last nine bits of its mode.
+fn see_mode(edge: &Edge<'_>, path: &str, told: &mut Vec<u8>) -> Tried<()> {
+    let mode = done(fs::metadata(edge.room.rt, path))?.permissions().mode() & 0o777;
+    let text = format!(in edge.room.alloc; "{mode:o}")?;
+    push(told, text.as_str())
+}
+
+/// When the file was written last, in seconds and nanoseconds.
+fn time_of(edge: &Edge<'_>, path: &str) -> Tried<(i64, i64)> {
+    let metadata = done(fs::metadata(edge.room.rt, path))?;
+    Ok((metadata.mtime(), metadata.mtime_nsec()))
+}
+
+/// Notes when the file was written last.
+fn note_time(edge: &mut Edge<'_>, path: &str, told: &mut Vec<u8>) -> Tried<()> {
+    edge.noted = Some(time_of(edge, path)?);
+    push(told, "noted")
+}
+
+/// Whether the file was written since that was noted.
+fn see_time(edge: &Edge<'_>, path: &str, told: &mut Vec<u8>) -> Tried<()> {
+    if edge.noted == Some(time_of(edge, path)?) {
+        return push(told, "not written");
+    }
+    push(told, "written")
+}

@@ -1,0 +1,144 @@
+// Steps on the shelf.
+use crate::edge::Edge;
+use crate::steps::{push, push_answer, push_bytes};
+use std::alloc::Global;
+use vk_cases::{Tried, Unreplayed, number_at, word_at};
+use vk_io::{Content, Shelf, read_whole};
+use vk_lines::push_decimal;
+
+/// A run of bytes counts from 0 on, and begins again at this number.
+const TURN: u64 = 251;
+
+/// The most bytes of which each is told.
+const MOST_TOLD: u64 = 16;
+
+/// Has the shelf do what a step says of the file that it names.
+pub fn ask(edge: &mut Edge<'_>, word: &str, step: &[u8], told: &mut Vec<u8>) -> Tried<()> {
+    let alloc = edge.room.alloc;
+    let path = edge.room.path(word_at(step, 1)?)?;
+    let asked = ask_of(alloc, &mut edge.shelf, path.as_str(), word, step, told);
+    asked
+}
+
+fn ask_of<S: Shelf>(
+    alloc: Global,
+    shelf: &mut S,
+    path: &str,
+    word: &str,
+    step: &[u8],
+    told: &mut Vec<u8>,
+) -> Tried<()> {
+    match word {
+        "create" => push_answer(told, shelf.create(path)),
+        "append" => append(shelf, path, step, told),
+        "run" => append_run(alloc, shelf, path, step, told),
+        "length" => tell_length(shelf, path, told),
+        "read" => tell_part(alloc, shelf, path, step, told),
+        "whole" => tell_whole(alloc, shelf, path, step, told),
+        _ => Err(Unreplayed::NoCase),
+    }
+}
+
+/// Appends the text of a step.
+fn append<S: Shelf>(shelf: &mut S, path: &str, step: &[u8], told: &mut Vec<u8>) -> Tried<()> {
+    push_answer(told, shelf.append(path, word_at(step, 2)?))
+}
+
+/// Appends so many bytes as one piece, of which that of each place is the place modulo 251.
+fn append_run<S: Shelf>(
+    alloc: Global,
+    shelf: &mut S,
+    path: &str,
+    step: &[u8],
+    told: &mut Vec<u8>,
+) -> Tried<()> {
+    let mut piece = Vec::new(alloc);
+    for place in 0..number_at(step, 2, u64::MAX)? {
+        piece.push((place % TURN) as u8)?;
+    }
+    push_answer(told, shelf.append(path, piece.as_slice()))
+}
+
+/// The length that the shelf tells.
+fn tell_length<S: Shelf>(shelf: &mut S, path: &str, told: &mut Vec<u8>) -> Tried<()> {
+    match shelf.length(path) {
+        Ok(Some(length)) => Ok(push_decimal(told, length)?),
+        Ok(None) => push(told, "none"),
+        Err(refusal) => push_answer(told, Err(refusal)),
+    }
+}
+
+/// Reads from a place on into so many dots. Tells how many bytes were read, and all that stands
+/// there then; of many bytes, whether they are a run.
+fn tell_part<S: Shelf>(
+    alloc: Global,
+    shelf: &mut S,
+    path: &str,
+    step: &[u8],
+    told: &mut Vec<u8>,
+) -> Tried<()> {
+    let at = number_at(step, 2, u64::MAX)?;
+    let room = number_at(step, 3, 1 << 20)?;
+    let mut into = vec![in alloc; b'.'; room as usize]?;
+    match shelf.read_at(path, at, &mut into) {
+        Ok(count) => tell_bytes(told, count, into.as_slice()),
+        Err(refusal) => push_answer(told, Err(refusal)),
+    }
+}
+
+fn tell_bytes(told: &mut Vec<u8>, count: usize, bytes: &[u8]) -> Tried<()> {
+    push_decimal(told, count as u64)?;
+    push(told, " ")?;
+    if bytes.len() as u64 <= MOST_TOLD {
+        return push_bytes(told, bytes);
+    }
+    match bytes.get(..count) {
+        Some(read) => tell_run(told, read),
+        None => Err(Unreplayed::NoCase),
+    }
+}
+
+/// Whether each byte is one more than the one before it, modulo 251, and the first of them.
+fn tell_run(told: &mut Vec<u8>, bytes: &[u8]) -> Tried<()> {
+    let first = u64::from(*bytes.first().ok_or(Unreplayed::NoCase)?);
+    let mut next = first;
+    for byte in bytes {
+        if u64::from(*byte) != next {
+            return push(told, "other bytes");
+        }
+        next = next.saturating_add(1) % TURN;
+    }
+    push(told, "from ")?;
+    Ok(push_decimal(told, first)?)
+}
+
+/// The whole file, where it is no longer than a step says.
+fn tell_whole<S: Shelf>(
+    alloc: Global,
+    shelf: &mut S,
+    path: &str,
+    step: &[u8],
+    told: &mut Vec<u8>,
+) -> Tried<()> {
+    match read_whole(alloc, shelf, path, number_at(step, 2, u64::MAX)?) {
+        Ok(Content::Held(bytes)) => push_bytes(told, bytes.as_slice()),
+        Ok(Content::Missing) => push(told, "missing"),
+        Ok(Content::TooLong) => push(told, "too long"),
+        Err(refusal) => push_answer(told, Err(refusal)),
+    }
+}
+
+/// Settles the shelf.
+pub fn settle(edge: &mut Edge<'_>, told: &mut Vec<u8>) -> Tried<()> {
+    push_answer(told, edge.shelf.settle())
+}
+
+/// What went wrong last, where it was with the file that a step names.
+pub fn tell_fault(edge: &Edge<'_>, step: &[u8], told: &mut Vec<u8>) -> Tried<()> {
+    let path = edge.room.path(word_at(step, 1)?)?;
+    match edge.shelf.last_fault() {
+        None => push(told, "nothing"),
+        Some(fault) if fault.name == path.as_bytes() => push(told, fault.reason),
+        Some(_) => push(told, "another file"),
+    }
+}

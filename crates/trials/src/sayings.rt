@@ -1,0 +1,63 @@
+// What is said of seeds that are dry, which no sample has, and of verdicts on a second reply.
+use std::alloc::Global;
+use vk_app::dry_seed;
+use vk_audit::judged;
+use vk_cases::Tried;
+use vk_effect::{Said, bidder_dry_line, house_dry_line};
+use vk_io::Sink;
+use vk_verifier::BoardVerdict;
+use vk_wire::WireFault;
+use vk_words::{AttemptNames, ExtractNames};
+
+/// The files of an `extract`.
+const NAMES: ExtractNames<'static> = ExtractNames {
+    board: "board",
+    first: AttemptNames {
+        challenge: "challenge-0",
+        reply: "reply-0",
+    },
+    second: AttemptNames {
+        challenge: "challenge-1",
+        reply: "reply-1",
+    },
+};
+
+/// Verdicts on the second reply, each of which is a refusal.
+const REFUSALS: [BoardVerdict; 6] = [
+    BoardVerdict::Wire {
+        lane: 1,
+        wire: 1,
+        fault: WireFault::Digest { second: true },
+    },
+    BoardVerdict::Wire {
+        lane: 64,
+        wire: 10310,
+        fault: WireFault::NotASet,
+    },
+    BoardVerdict::Row { lane: 1, row: 1 },
+    BoardVerdict::Lanes,
+    BoardVerdict::Price,
+    BoardVerdict::Winner,
+];
+
+/// Tells what is said of a bidder's seed that is dry for lane 3, and of a house's for lane 1 and
+/// wire 20; and with its status, of a bidder's for lane 64, and of each refusal.
+pub fn try_sayings<W: Sink>(alloc: Global, out: &mut W) -> Tried<()> {
+    out.put(bidder_dry_line(3).as_bytes())?;
+    out.put(house_dry_line(1, 20).as_bytes())?;
+    tell(alloc, out, &dry_seed(64))?;
+    for verdict in REFUSALS {
+        let said = judged(alloc, &NAMES, true, verdict)?;
+        tell(alloc, out, &said)?;
+    }
+    Ok(())
+}
+
+/// Tells the status, and what is said.
+fn tell<W: Sink>(alloc: Global, out: &mut W, said: &Said) -> Tried<()> {
+    let status = said.status();
+    let line = format!(in alloc; "status {status}\n")?;
+    out.put(line.as_bytes())?;
+    said.print(out)?;
+    Ok(())
+}

@@ -1,6 +1,0 @@
-mod app;
-mod audit;
-mod ceremony;
-mod printing;
-mod smallest;
-mod words;
