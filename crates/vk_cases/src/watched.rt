@@ -5,6 +5,9 @@ use std::alloc::Global;
 use vk_io::{MemShelf, OutsideErr, PieceShelf, Shelf};
 use vk_residue::NoMemory;
 
+/// One byte more than a file may have that a command reads.
+const TOO_LONG: u64 = (1 << 30) + 1;
+
 /// The greatest place up to which a file was read.
 #[derive(Drop)]
 struct Reach {
@@ -13,11 +16,13 @@ struct Reach {
 }
 
 /// Files in memory that are read and written in pieces, and how far each was read. Where they are
-/// fixed they stay as they are, whatever is written. It isn't modelled.
+/// fixed they stay as they are, whatever is written, and where they are too long each is said to
+/// have a byte more than it may have. It isn't modelled.
 #[derive(Drop)]
 pub struct WatchedShelf {
     inner: PieceShelf,
     is_fixed: bool,
+    is_too_long: bool,
     reached: Vec<Reach>,
     alloc: Global,
 }
@@ -28,6 +33,7 @@ impl WatchedShelf {
         WatchedShelf {
             inner: PieceShelf::over(MemShelf::new(alloc)),
             is_fixed: false,
+            is_too_long: false,
             reached: Vec::new(alloc),
             alloc,
         }
@@ -38,6 +44,7 @@ impl WatchedShelf {
         WatchedShelf {
             inner: PieceShelf::over(files),
             is_fixed: true,
+            is_too_long: false,
             reached: Vec::new(alloc),
             alloc,
         }
@@ -46,6 +53,11 @@ impl WatchedShelf {
     /// What the named file holds. None where the name isn't held.
     pub fn file(&self, name: &str) -> Option<&[u8]> {
         self.inner.inner().file(name)
+    }
+
+    /// Has every file too long from now on, or as long as it is.
+    pub fn have_too_long(&mut self, is_too_long: bool) {
+        self.is_too_long = is_too_long;
     }
 
     /// Watches the files of these names from now on.
@@ -90,6 +102,9 @@ impl Shelf for WatchedShelf {
     ghost length_gives = { λ _ _ _ _. Unit {0} };
 
     fn length(&mut self, name: &str) -> Result<Option<u64>, OutsideErr> {
+        if self.is_too_long {
+            return Ok(Some(TOO_LONG));
+        }
         self.inner.length(name)
     }
 

@@ -1,111 +1,195 @@
-//! The challenge that is derived from a file's bytes.
+//! The challenge that is derived from a board's bytes.
 
-ghost use Rattle.std.specs.Prelude.{◌≡◌, ◌+◌, ◌<◌, ◌≤◌, ◌++◌, ◌^◌, length, option_map, take, Some, IfOk, IfErr, IfSome, IsSome};
-ghost use Rattle.std.specs.FinMap as map;
-ghost use Rattle.sha2.specs.Sha256.{sha256};
+ghost use Rattle.std.specs.Prelude.{◌≡◌, ◌++◌, IfOk, IfSome, OnOk};
+ghost use Rattle.std.specs.List.{flat_map};
 ghost use Rattle.vk_residue.specs.Limits.{IsLaneCount};
-ghost use Rattle.vk_report.specs.Bits.{leading_bits};
-ghost use Rattle.vk_reply.specs.Values.{IsChallenge};
-ghost use Rattle.vk_coin.specs.Derived.{cause_of, derived_message, derived_on};
-ghost use Rattle.vk_lines.specs.Gives.{Gives};
-ghost use Rattle.vk_lines.specs.Lines.{refusal_of};
 ghost use Rattle.vk_io.specs.Reads.{OnlyReads};
-ghost use Rattle.vk_io.specs.Files.{bytes_of};
-ghost use Rattle.vk_io.specs.Faults.{Causes, MayCause};
+ghost use Rattle.vk_lines.specs.Gives.{Gives};
+ghost use Rattle.vk_lines.specs.Lines.{ReadsPart};
+ghost use Rattle.vk_vickrey.specs.Sales.{sale_at};
+ghost use Rattle.vk_board.specs.Values.{IsHead};
+ghost use Rattle.vk_board.specs.Fronts.{IsFront, front_text};
+ghost use Rattle.vk_board.specs.Texts.{lane_text, seal_lines_text};
+ghost use Rattle.vk_report.specs.Bits.{leading_bits};
+ghost use Rattle.vk_report.specs.Meaning.{auction_shape};
+ghost use Rattle.vk_report.specs.Reports.{fault_of, lanes_passed, report_on, report_with};
+ghost use Rattle.vk_reply.specs.Values.{IsChallenge};
+ghost use Rattle.vk_coin.specs.Derived.{Hashes, HashesBoard, HashesLanes, IsOfOneText, derived_in};
 
 use sha2::{Digest, Sha256};
 use std::alloc::Global;
-use vk_io::{OutsideErr, Shelf};
+use vk_board::{
+    Front, FrontErr, Head, LaneLines, SealLines, head_text, lane_text, read_front, read_lane,
+    seal_lines_text,
+};
+use vk_io::Shelf;
+use vk_lines::{Lines, ReadErr};
 use vk_reply::Challenge;
-use vk_report::leading_bits;
+use vk_report::{ReportErr, leading_bits};
+use vk_residue::NoMemory;
+use vk_vickrey::{Sale, board_row_count, board_wire_count};
 
-/// Why no challenge was derived from a file: the causes for which its lines are not read.
-pub use vk_lines::StartErr as BoardErr;
-
-/// The most bytes of a file from which a challenge is derived.
-const MOST_BYTES: u64 = 1 << 30;
-
-/// How many bytes one call of `read_at` is asked for.
-const PIECE: usize = 4096;
-
-/// The challenge for 1 to 64 lanes that is derived from the named file: the first bits of SHA-256
-/// of `VKD1` and the file's bytes, the most significant of each byte first.
+/// The challenge for its lanes that is derived from the named board: the first bits of SHA-256 of
+/// `VKD1` and the file's bytes, the most significant of each byte first. The board is tested as
+/// [`vk_report::read_report`] tests it, and refused for the same faults.
 ///
-/// Errs where the file isn't held or has more than 2^30 bytes, where the shelf fails, and for want
-/// of memory. No more bytes are taken than `length` told, and where the file shrinks meanwhile,
-/// those that are there.
+/// The file is read once. What is hashed is the text of each part of the board that was read and
+/// tested, and a part is read from its text alone: so these are the file's bytes, and no others
+/// where the file is changed meanwhile.
+#[tactic(auto, unfolding(crate::specs::Derived::derived_in))]
 pub fn board_challenge<S: Shelf>(
     alloc: Global,
     shelf: &mut S,
     board: &str,
-    lanes: u32,
-) -> Result<Challenge, BoardErr>
-    requires { IsLaneCount lanes }
+) -> Result<Challenge, ReportErr>
     ensures modelled { IfSome (S.held shelf.old) (λ files.
-        Gives cause_of (λ challenge. challenge) result (derived_on files board.now lanes)) }
-    ensures free { IfSome (S.held shelf.old) (λ files.
-        IsSome (refusal_of (option_map length (map.get files board.now)))
-        → Causes BoardErr.NoMemory result (S.Shelf.wants shelf.old) (S.Shelf.wants shelf.new)) }
+        Gives fault_of (λ challenge. challenge) result (derived_in files board.now)) }
+    ensures one { IfOk result IsOfOneText }
     ensures right { IfOk result IsChallenge }
-    ensures lanes { IfOk result (λ challenge. length challenge.bits ≡ lanes) }
-    ensures shelf { OnlyReads S.held S.Shelf.faults BoardErr.Failed result shelf.old shelf.new }
-    ensures wants { MayCause BoardErr.NoMemory result (S.Shelf.wants shelf.old)
-        (S.Shelf.wants shelf.new) }
+    ensures shelf { OnlyReads S.held S.Shelf.faults ReportErr.Failed result shelf.old shelf.new }
 {
-    let told = shelf.length(board)?;
-    let size = taken_size(told)?;
-    let digest = digest_behind(shelf, board, size)?;
-    let challenge = challenge_of(alloc, &digest, lanes)?;
+    let mut hasher = Sha256::new_with_prefix(b"VKD1".as_slice());
+    let front = hash_board(alloc, shelf, board, &mut hasher)?;
+    let digest = hasher.finalize();
+    let Ok(challenge) = challenge_of(alloc, &digest, front.head.lanes) else {
+        return Err(ReportErr::NoMemory);
+    };
     Ok(challenge)
 }
 
-/// How many bytes of a file of this length are taken: all, if it has at most 2^30.
-fn taken_size(told: Option<u64>) -> Result<u64, BoardErr>
-    ensures taken { IfOk result (λ size. (told ≡ Some size) × (size ≤ 2 ^ 30)) }
-    ensures refused { IfErr result (λ refusal. refusal_of told ≡ Some refusal) }
+/// Reads the named board to its end, and hashes the text of what was read.
+#[tactic(auto, unfolding(vk_report::specs::Reports::report_on, vk_report::specs::Reports::report_at))]
+fn hash_board<S: Shelf>(
+    alloc: Global,
+    shelf: &mut S,
+    board: &str,
+    hasher: &mut Sha256,
+) -> Result<Front, ReportErr>
+    ensures modelled { IfSome (S.held shelf.old) (λ files.
+        Gives fault_of (λ front. report_with front) result (report_on files board.now)) }
+    ensures right { IfOk result IsFront }
+    ensures hashed { IfOk result
+        (λ front. HashesBoard (S.held shelf.old) board.now front hasher.old hasher.new) }
+    ensures shelf { OnlyReads S.held S.Shelf.faults ReportErr.Failed result shelf.old shelf.new }
 {
-    let size = told.ok_or(BoardErr::Missing)?;
-    if size > MOST_BYTES {
-        return Err(BoardErr::TooLong);
-    }
-    Ok(size)
+    let mut lines = Lines::start(alloc, shelf, board)?;
+    let front = read_front(alloc, shelf, &mut lines)?;
+    let Ok(text) = front_text(alloc, &front) else {
+        return Err(ReportErr::NoMemory);
+    };
+    hasher.update(text.as_slice());
+    let wires = wires_behind(&front.head);
+    let rows = rows_of(&front.head);
+    hash_lanes(alloc, shelf, &mut lines, &front, wires, rows, hasher).map_err(FrontErr::from)?;
+    lines.read_end(shelf).map_err(FrontErr::from)?;
+    hasher.update(b"end\n".as_slice());
+    Ok(front)
 }
 
-/// SHA-256 of `VKD1` and the first `size` bytes of the named file, or all where there are fewer.
-fn digest_behind<S: Shelf>(shelf: &mut S, name: &str, size: u64) -> Result<[u8; 32], OutsideErr>
-    ensures modelled { IfSome (S.held shelf.old) (λ files. IfOk result (λ digest.
-        digest ≡ sha256 (derived_message (take size (bytes_of files name.now))))) }
-    ensures size { IfOk result (λ digest. length digest ≡ 32) }
-    ensures shelf { OnlyReads S.held S.Shelf.faults OutsideErr.Failed result shelf.old shelf.new }
-    ensures wants { Causes OutsideErr.NoMemory result (S.Shelf.wants shelf.old)
-        (S.Shelf.wants shelf.new) }
+/// What stands on a board before its first lane, as text.
+fn front_text(alloc: Global, front: &Front) -> Result<Vec<u8>, NoMemory>
+    ensures { IfOk result (λ text. text.items ≡ front_text front.now) }
 {
-    let mut hasher = Sha256::new_with_prefix(b"VKD1".as_slice());
-    let mut piece = [0u8; PIECE];
-    let mut at = 0;
-    while at < size {
-        let room = (size - at).min(PIECE as u64) as usize;
-        let count = shelf.read_at(name, at, &mut piece[..room])?;
-        if count == 0 {
-            break;
-        }
-        hasher.update(&piece[..count]);
-        at += count as u64;
+    let mut text = head_text(alloc, &front.head)?;
+    push_seals(alloc, &mut text, front.seals.as_slice())?;
+    Ok(text)
+}
+
+/// Appends the texts of the seals.
+fn push_seals(alloc: Global, out: &mut Vec<u8>, seals: &[SealLines]) -> Result<(), NoMemory>
+    ensures { OnOk result (out.new.items
+        ≡ out.old.items ++ flat_map seal_lines_text seals.now) }
+{
+    for seal in seals {
+        push_seal(alloc, out, seal)?;
     }
-    Ok(hasher.finalize())
+    Ok(())
+}
+
+/// Appends the text of a seal.
+fn push_seal(alloc: Global, out: &mut Vec<u8>, seal: &SealLines) -> Result<(), NoMemory>
+    ensures { OnOk result (out.new.items ≡ out.old.items ++ seal_lines_text seal.now) }
+{
+    let text = seal_lines_text(alloc, seal)?;
+    out.extend_from_slice(text.as_slice())?;
+    Ok(())
+}
+
+/// How many wires each lane has behind its inputs, by the head.
+fn wires_behind(head: &Head) -> u32
+    requires { IsHead head.now }
+    ensures { result ≡ (auction_shape head.now).wires }
+{
+    let sale = sale_in(head);
+    board_wire_count(head.version, head.seals, head.width, head.reserve, sale) - head.seals
+}
+
+/// How many rows each lane has, by the head.
+fn rows_of(head: &Head) -> u32
+    requires { IsHead head.now }
+    ensures { result ≡ (auction_shape head.now).rows }
+{
+    let sale = sale_in(head);
+    board_row_count(head.version, head.seals, head.reserve, sale)
+}
+
+/// What the head tells of the sale. The counts don't ask where the winner's seal stands, so the
+/// seat stands for its place.
+fn sale_in(head: &Head) -> Sale
+    ensures { result ≡ sale_at head.now.winner head.now.price }
+{
+    Sale::at(head.winner.map(u32::from), head.price)
+}
+
+/// Reads the lanes of the board with this front, each of so many wires behind its inputs and so
+/// many rows, and hashes the text of each once it was read.
+fn hash_lanes<S: Shelf>(
+    alloc: Global,
+    shelf: &mut S,
+    lines: &mut Lines,
+    front: &Front,
+    wires: u32,
+    rows: u32,
+    hasher: &mut Sha256,
+) -> Result<(), ReadErr>
+    requires wires { wires ≡ (auction_shape front.now.head).wires }
+    requires rows { rows ≡ (auction_shape front.now.head).rows }
+    ensures modelled { ReadsPart (lanes_passed (report_with front.now)) (S.held shelf.old)
+        lines.old lines.new result }
+    ensures hashed { OnOk result (HashesLanes (S.held shelf.old) front.now.head.lanes
+        (auction_shape front.now.head) lines.old lines.new hasher.old hasher.new) }
+    ensures shelf { OnlyReads S.held S.Shelf.faults ReadErr.Failed result shelf.old shelf.new }
+{
+    for index in 0..front.head.lanes {
+        let lane = read_lane(alloc, shelf, lines, index + 1, wires, rows)?;
+        let Ok(()) = hash_lane(alloc, index + 1, &lane, hasher) else {
+            return Err(ReadErr::NoMemory);
+        };
+    }
+    Ok(())
+}
+
+/// Hashes the lane of that number, from 1.
+fn hash_lane(
+    alloc: Global,
+    number: u32,
+    lane: &LaneLines,
+    hasher: &mut Sha256,
+) -> Result<(), NoMemory>
+    ensures { OnOk result (Hashes (lane_text number lane.now) hasher.old hasher.new) }
+{
+    let text = lane_text(alloc, number, lane)?;
+    hasher.update(text.as_slice());
+    Ok(())
 }
 
 /// The challenge of the first bits of a digest.
-fn challenge_of(alloc: Global, digest: &[u8; 32], lanes: u32) -> Result<Challenge, BoardErr>
+fn challenge_of(alloc: Global, digest: &[u8; 32], lanes: u32) -> Result<Challenge, NoMemory>
     requires { IsLaneCount lanes }
     ensures bits { IfOk result
         (λ challenge. challenge ≡ record { bits = leading_bits lanes digest.now }) }
     ensures right { IfOk result IsChallenge }
-    ensures lanes { IfOk result (λ challenge. length challenge.bits ≡ lanes) }
-    ensures memory { IfErr result (λ refusal. refusal ≡ BoardErr.NoMemory) }
 {
-    let Ok(bits) = leading_bits(alloc, digest, lanes) else {
-        return Err(BoardErr::NoMemory);
-    };
+    let bits = leading_bits(alloc, digest, lanes)?;
     Ok(Challenge { bits })
 }

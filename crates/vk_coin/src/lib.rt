@@ -17,7 +17,7 @@ mod writing;
 pub use bits::{one_own_list_makes_the_joint_bits_wanted, own_bits};
 pub use coin::Coin;
 pub use commitment::share_commit;
-pub use derived::{BoardErr, board_challenge};
+pub use derived::board_challenge;
 pub use drawing::draw_share;
 pub use joining::{JointErr, joint};
 pub use laws::{

@@ -1,34 +1,30 @@
 -- How a `coin-board` ends, by what the named file is.
-use Rattle.std.proofs.Common.{◌≡◌, ℕ, ◌^◌, if◌then◌else◌, List, length, Result, Ok, Err, refl, sym, ap, subst, ◌∙◌, arith}
-use Rattle.std.proofs.lemmas.Bool.{le-ltb}
+use Rattle.std.proofs.Common.{◌≡◌, ℕ, List, [], length, unwrap_or, Result, Ok, Err, refl, ap, sym, subst, ◌∙◌, arith}
 use Rattle.sha2.specs.Sha256.{sha256}
 use Rattle.sha2.proofs.Facts256.{length-sha256}
 use Rattle.vk_residue.specs.Limits.{IsLaneCount}
 use Rattle.vk_residue.specs.Steps.{◌>>=◌}
-use Rattle.vk_io.specs.Files.{Files}
-use Rattle.vk_lines.specs.declared.errors.StartErr.{StartErr}
-use Rattle.vk_lines.specs.declared.errors.StartErr.TheVariants as start
+use Rattle.vk_io.specs.Files.{Files, bytes_of}
 use Rattle.vk_reply.specs.declared.challenge.Challenge.{Challenge}
 use Rattle.vk_reply.specs.Texts.{challenge_text}
 use Rattle.vk_report.specs.declared.report.Report.{Report}
 use Rattle.vk_report.specs.declared.report.ReportErr.{ReportErr}
 use Rattle.vk_report.specs.declared.report.ReportErr.TheVariants.{Missing, TooLong, Malformed, Price, Winner, Failed, NoMemory}
 use Rattle.vk_report.specs.Meaning.{IsReportOn}
-use Rattle.vk_report.specs.Reports.{in_start, report_on}
+use Rattle.vk_report.specs.Reports.{report_on}
 use Rattle.vk_report.proofs.Meaning.{is_reported, reported}
 use Rattle.vk_report.proofs.Refusals.{unreported_exactly}
 use Rattle.vk_audit.specs.Reports.{unreported_said}
 use Rattle.vk_words.specs.Coins.{ChallengeWords}
 use Rattle.vk_effect.specs.Effects.{writes_one}
-use Rattle.vk_coin.specs.Derived.{derived_bits, derived_by, derived_message, derived_on}
+use Rattle.vk_coin.specs.Derived.{derived_bits, derived_by, derived_in, derived_message}
 use Rattle.vk_coin.proofs.Deriving.{lane_bits}
-use Rattle.vk_coins.specs.Boards.{board_deed, derive_deed, derived_in, derived_said}
+use Rattle.vk_coins.specs.Boards.{board_deed, derive_deed, derived_said}
 use Rattle.vk_coins.specs.Meaning.{DerivesExactly}
 
 -- the challenge behind a report
 abbrev behind : Files → List ℕ → Report → Result Challenge ReportErr
-behind files board report = in_start (derived_on files board report.head.lanes) >>= λ challenge.
-    Ok challenge
+behind files board report = Ok (derived_by report.head.lanes (bytes_of files board))
 
 unfolded : (files : Files) (board : List ℕ)
     → derived_in files board ≡ (report_on files board >>= behind files board)
@@ -52,14 +48,9 @@ derived_length lanes bytes count =
 found : (files : Files) (board : List ℕ) (report : Report) (is : IsReportOn files board report)
     → derived_in files board ≡ Ok (record { bits = derived_bits report.head.lanes is.file })
 found files board report is =
-    let lanes = report.head.lanes in
-    let challenge : Result Challenge StartErr = Ok (record { bits = derived_bits lanes is.file }) in
-    let started : derived_on files board lanes ≡ challenge =
-    ap (derived_by lanes) is.held
-    ∙ ap (λ long. if long then Err start.TooLong else challenge)
-    (le-ltb (2 ^ 30) (length is.file) is.short) in
+    let bytes : bytes_of files board ≡ is.file = ap (λ held. unwrap_or held []) is.held in
     unfolded files board ∙ ap (λ r. r >>= behind files board) (is_reported files board report is)
-    ∙ ap (λ (c : Result Challenge StartErr). in_start c >>= λ x. Ok x) started
+    ∙ ap (λ text. Ok (derived_by report.head.lanes text)) bytes
 
 -- no fault has status 0
 refuses : (board : List ℕ) (fault : ReportErr) → (unreported_said board fault).status ≡ 0 → ⊥

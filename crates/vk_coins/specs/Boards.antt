@@ -1,23 +1,14 @@
 -- What `coin-board` does: it derives a challenge from a board.
 use Rattle.std.specs.Prelude.{ℕ, List, length, codes, decimal, Result, Ok, Err}
-use Rattle.vk_residue.specs.Steps.{◌>>=◌}
 use Rattle.vk_io.specs.Files.{Files}
 use Rattle.vk_reply.specs.declared.challenge.Challenge.{Challenge}
 use Rattle.vk_reply.specs.Texts.{challenge_text}
 use Rattle.vk_report.specs.declared.report.ReportErr.{ReportErr}
-use Rattle.vk_report.specs.Reports.{in_start, report_on}
 use Rattle.vk_audit.specs.Reports.{unreported_said}
 use Rattle.vk_words.specs.Coins.{ChallengeWords}
 use Rattle.vk_effect.specs.Effects.{DeedValue, SaidValue, only_says, writes_one}
 use Rattle.vk_effect.specs.Texts.{◌+++◌, line_feed}
-use Rattle.vk_coin.specs.Derived.{derived_on}
-
--- the challenge for the lanes of the named board, which may be reported on; or why it may not
-unfoldable pub derived_in : Files → List ℕ → Result Challenge ReportErr
-derived_in files board = do
-  report ← report_on files board
-  challenge ← in_start (derived_on files board report.head.lanes)
-  Ok challenge
+use Rattle.vk_coin.specs.Derived.{derived_in}
 
 -- what is said of a challenge of so many bits
 abbrev pub derived_said : ℕ → SaidValue

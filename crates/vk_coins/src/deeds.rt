@@ -9,11 +9,12 @@ ghost use Rattle.vk_io.specs.Faults.{Causes};
 ghost use Rattle.vk_io.specs.Reads.{OnlyReads};
 ghost use Rattle.std.specs.Prelude.{◌≡◌, IfOk, IfSome, Option};
 
-use crate::boards::{derived, named_board};
+use crate::boards::derived;
 use crate::drawing::part;
 use crate::joining::{joined, named_coin};
 use std::alloc::Global;
 use vk_audit::unreported;
+use vk_coin::board_challenge;
 use vk_effect::{Deed, Said};
 use vk_io::{OutsideErr, Shelf};
 use vk_words::CoinOrder;
@@ -58,7 +59,7 @@ fn deed<S: Shelf>(alloc: Global, shelf: &mut S, order: &CoinOrder<'_>) -> Result
             Ok(deed)
         }
         CoinOrder::Board(names) => {
-            let deed = match named_board(alloc, shelf, names.from) {
+            let deed = match board_challenge(alloc, shelf, names.from) {
                 Ok(challenge) => derived(alloc, names, &challenge)?,
                 Err(fault) => Deed::says(alloc, unreported(alloc, names.from, fault)?),
             };

@@ -1,21 +1,28 @@
-// The challenge of a file that its shelf gives in pieces of few bytes, and the bits of an auditor.
+// The challenge of a board that its shelf gives once, in pieces, and the bits of an auditor.
 ghost use Rattle.std.specs.Prelude.{◌≡◌, length, IfOk};
 
+use super::files::board;
 use std::alloc::Global;
 use std::test::Fail;
-use vk_coin::{BoardErr, board_challenge, own_bits};
+use vk_coin::{board_challenge, own_bits};
 use vk_io::{OutsideErr, Shelf};
 use vk_reply::Challenge;
+use vk_report::ReportErr;
 use vk_residue::NoMemory;
 use vk_seq::Seq;
 
-/// A shelf of one file of 10000 bytes, of which it gives at most so many at once.
+/// How many bytes the first line of the smallest board has.
+const FIRST_LINE: usize = 16;
+
+/// A shelf of the smallest board, of which it gives at most so many bytes at once. Once the last one
+/// was given, the first line is left, as where another program writes the file anew.
 #[derive(Drop)]
-struct Slow {
+struct Rewritten {
     most: usize,
+    left: &'static [u8],
 }
 
-impl Shelf for Slow {
+impl Shelf for Rewritten {
     ghost use Rattle.std.specs.Prelude.{None};
 
     ghost held = { λ _. None };
@@ -27,12 +34,18 @@ impl Shelf for Slow {
     ghost length_gives = { λ _ _ _ _. Unit {0} };
 
     fn length(&mut self, _name: &str) -> Result<Option<u64>, OutsideErr> {
-        Ok(Some(10000))
+        Ok(Some(board().len() as u64))
     }
 
     fn read_at(&mut self, _name: &str, at: u64, into: &mut [u8]) -> Result<usize, OutsideErr> {
-        let count = into.len().min(self.most);
-        fill(&mut into[..count], at);
+        let from = at.min(self.left.len() as u64) as usize;
+        let (_, rest) = self.left.split_at(from);
+        let count = rest.len().min(into.len()).min(self.most);
+        let (piece, behind) = rest.split_at(count);
+        into[..count].copy_from_slice(piece);
+        if behind.is_empty() {
+            self.left = &board()[..FIRST_LINE];
+        }
         Ok(count)
     }
 
@@ -45,38 +58,21 @@ impl Shelf for Slow {
     }
 }
 
-/// Puts the bytes of the file from a place on.
-fn fill(into: &mut [u8], at: u64) {
-    let mut behind = 0usize;
-    for byte in into.iter_mut() {
-        *byte = byte_at(at, behind);
-        behind = behind.wrapping_add(1);
-    }
-}
-
-/// The byte so many behind a place: 3 more than 7 times its own place modulo 251.
-fn byte_at(at: u64, behind: usize) -> u8 {
-    ((at % 251 + behind as u64 % 251) * 7 % 251 + 3) as u8
-}
-
 #[test]
-fn a_file_in_short_pieces_gives_one_challenge(rt: HostRuntime) -> Result<(), Fail> {
-    for most in [1, 63, 64, 65, 4096] {
-        // Worked out by another implementation of SHA-256.
-        assert!(rt; derived_number(rt.alloc(), most)? == 0x0e82a1a4b1d6d260);
+fn a_board_is_read_once_in_pieces(rt: HostRuntime) -> Result<(), Fail> {
+    for most in [256, 257, 300, 4096] {
+        // Worked out by another implementation of SHA-256. The first line alone gives 1.
+        assert!(rt; derived_bits(rt.alloc(), most)? == Some(false));
     }
     Ok(())
 }
 
-/// The challenge of 64 lanes as a number, the bit of lane 1 as the most significant.
-fn derived_number(alloc: Global, most: usize) -> Result<u64, BoardErr> {
-    let mut shelf = Slow { most };
-    let challenge = board_challenge(alloc, &mut shelf, "board", 64)?;
-    let mut number = 0;
-    for bit in challenge.bits.as_slice() {
-        number = number << 1 | u64::from(*bit);
-    }
-    Ok(number)
+/// The one bit of the challenge that is derived.
+fn derived_bits(alloc: Global, most: usize) -> Result<Option<bool>, ReportErr> {
+    let left = board();
+    let mut shelf = Rewritten { most, left };
+    let challenge = board_challenge(alloc, &mut shelf, "board")?;
+    Ok(challenge.bits.as_slice().first().copied())
 }
 
 #[test]
