@@ -3,8 +3,8 @@
 
 use std::alloc::Global;
 use std::fs::File;
-use std::io;
 use std::process::ExitCode;
+use std::{env, io};
 use vk_files::{FileShelf, OutSink};
 use vk_program::{STORE, StoreHouse, end, program};
 
@@ -37,7 +37,9 @@ fn main(rt: HostRuntime) -> ExitCode {
         Ok(_standing) => {
             let mut shelf = FileShelf::new(&rt, rt.alloc(), STORE);
             let mut out = OutSink::new(&rt);
-            program(&rt, &rt, &StoreHouse::of(&rt), &mut shelf, &mut out)
+            let house = StoreHouse::of(&rt);
+            let (code, _house) = program(env::args(&rt), &rt, house, &mut shelf, &mut out);
+            code
         }
         Err(_fault) => end(&rt, 6),
     }

@@ -52,7 +52,8 @@ use Rattle.vk_effect.proofs.NamedValues.{named_says}
 use Rattle.vk_coin.specs.declared.coin.Coin.{Coin}
 use Rattle.vk_coin.specs.Coins.{unmet_part}
 use Rattle.vk_coin.specs.Reading.{coin_at}
-use Rattle.vk_coins.specs.Boards.{derive_deed, derived_in}
+use Rattle.vk_coin.specs.Derived.{derived_in}
+use Rattle.vk_coins.specs.Boards.{derive_deed}
 use Rattle.vk_coins.specs.Deeds.{coin_on}
 use Rattle.vk_coins.specs.Joining.{coin_deed, coin_in, deed_by, joined_if}
 use Rattle.vk_reply.specs.declared.challenge.Challenge.{Challenge}

@@ -1,3 +1,4 @@
 pub mod AtOnce
+pub mod Inside
 pub mod Lists
 pub mod Shapes

@@ -1,7 +1,7 @@
 -- What is run on a store as it is opened.
 use Rattle.std.specs.Prelude.{◌≡◌, ℕ, pos, true, List, [], ◌∷◌}
 use Rattle.sqlite.specs.Store.{Ghosts}
-use Rattle.sqlite.specs.Tree.{Trees}
+use Rattle.sqlite.specs.Effect.{Database}
 use Rattle.sqlite.specs.Order.{Row}
 use Rattle.sqlite.specs.Values.{bound_value}
 use Rattle.sqlite.specs.Held.{Held, state}
@@ -68,8 +68,8 @@ module _ {S : Type 0} (g : Ghosts S) where
   PreparesFrom Other old new = ⊥
 
   -- what was made of a store in one transaction as it was opened, and nothing else
-  abbrev pub Prepares : Held S → Trees → Type 0
-  Prepares old trees =
+  abbrev pub Prepares : Held S → Database → Type 0
+  Prepares old whole =
       (layout : Layout) × HasLayout layout old.schema
       × ((last : Held S) × PreparesFrom layout (record old { in_transaction = true }) last
-      × (trees ≡ (state g last).now.trees))
+      × (whole ≡ (state g last).now))

@@ -18,15 +18,18 @@ ShowFound heads terms rows (Some auction) =
     × ShowsWhole head term rows auction
 
 module _ {S : Type 0} (g : Ghosts S) (id : List ℕ) where
-  -- the rows that stand under an id, which are asked for in one transaction
-  pub record Reads (old : Held S) (heads terms rows : List Row) : Type 0 where
+  -- the rows that stand under an id, in a transaction that has begun
+  pub record ReadsFrom (begun : Held S) (heads terms rows : List Row) : Type 0 where
     pub one : Held S
     pub two : Held S
     pub last : Held S
-    pub head : Answers g auction_query (Blob id ∷ []) (record old { in_transaction = true }) one
-        heads
+    pub head : Answers g auction_query (Blob id ∷ []) begun one heads
     pub term : Answers g terms_query (Blob id ∷ []) one two terms
     pub seals : Answers g seals_query (Blob id ∷ []) two last rows
+
+  -- the same, asked for in one transaction of their own
+  abbrev pub Reads : Held S → List Row → List Row → List Row → Type 0
+  Reads old heads terms rows = ReadsFrom (record old { in_transaction = true }) heads terms rows
 
   -- what was found under an id is what the rows of the store show
   pub record Finds (old : Held S) (found : Option Auction) : Type 0 where

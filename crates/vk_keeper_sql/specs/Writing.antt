@@ -1,7 +1,7 @@
 -- What is run on a store to keep an auction: row by row, the auction.
 use Rattle.std.specs.Prelude.{◌≡◌, ℕ, ◌+◌, ◌≤◌, pos, true, List, [], ◌∷◌, length, map, take, drop}
 use Rattle.sqlite.specs.Store.{Ghosts}
-use Rattle.sqlite.specs.Tree.{Trees}
+use Rattle.sqlite.specs.Effect.{Database}
 use Rattle.sqlite.specs.Order.{Row}
 use Rattle.sqlite.specs.Held.{Held, state}
 use Rattle.sqlite.specs.declared.types.Value.TheVariants.{Int, Blob}
@@ -41,7 +41,7 @@ module _ {S : Type 0} (g : Ghosts S) where
     pub seals : WritesSeals auction.id (map seal_texts auction.seals) two new
 
   -- what was made of a store by writing an auction in one transaction, and nothing else
-  abbrev pub Keeps : Auction → Held S → Trees → Type 0
-  Keeps auction old trees =
+  abbrev pub Keeps : Auction → Held S → Database → Type 0
+  Keeps auction old whole =
       (last : Held S) × WritesAuction auction (record old { in_transaction = true }) last
-      × (trees ≡ (state g last).now.trees)
+      × (whole ≡ (state g last).now)

@@ -4,12 +4,12 @@ ghost use Rattle.std.specs.Prelude.{◌≡◌, false, IfOk, IfSome};
 ghost use Rattle.sqlite.specs.Held.{state};
 ghost use Rattle.sqlite.specs.State.{HasCleanDisk};
 ghost use Rattle.vk_keeper.specs.Auctions.{IsAuction};
-ghost use Rattle.vk_keeper_sql.specs.Reading.{Finds, Reads, ShowFound};
-ghost use Rattle.vk_keeper_sql.specs.Transactions.{CommitsNothing};
+ghost use Rattle.vk_keeper_sql.specs.Reading.{Finds, Reads, ReadsFrom, ShowFound};
+ghost use Rattle.vk_keeper_sql.specs.Transactions.{ChangesNothing, CommitsNothing, LeavesDisk, Stays};
 
 use crate::rows::auction_from;
 use crate::statements::{AUCTION, SEALS, TERMS, rows_under};
-use sqlite::{Alter, Connection, Row};
+use sqlite::{Alter, Connection, Row, Transaction};
 use std::alloc::Global;
 use vk_io::OutsideErr;
 use vk_keeper::Auction;
@@ -26,6 +26,8 @@ pub fn find<S: Alter>(
     ensures shown { HasCleanDisk (state S.Store connection.new)
         → IfOk result (Finds S.Store id.now connection.old) }
     ensures crash { CommitsNothing (state S.Store connection.old) (state S.Store connection.new) }
+    ensures kept { HasCleanDisk (state S.Store connection.new)
+        → ChangesNothing (state S.Store connection.old) (state S.Store connection.new) }
 {
     if !connection.is_autocommit() {
         return Err(OutsideErr::Failed);
@@ -50,11 +52,29 @@ fn rows_of<S: Alter>(
     ensures read { HasCleanDisk (state S.Store connection.new) → IfOk result (λ rows.
         Reads S.Store id.now connection.old rows.0.items rows.1.items rows.2.items) }
     ensures crash { CommitsNothing (state S.Store connection.old) (state S.Store connection.new) }
+    ensures kept { HasCleanDisk (state S.Store connection.new)
+        → ChangesNothing (state S.Store connection.old) (state S.Store connection.new) }
 {
     let mut transaction = connection.transaction();
-    let heads = rows_under(&mut transaction, AUCTION, id)?;
-    let terms = rows_under(&mut transaction, TERMS, id)?;
-    let seals = rows_under(&mut transaction, SEALS, id)?;
+    let rows = rows_within(&mut transaction, id);
+    rows
+}
+
+/// The same within a transaction.
+fn rows_within<S: Alter>(
+    transaction: &mut Transaction<'_, S>,
+    id: &[u8; 16],
+) -> Result<(Vec<Row>, Vec<Row>, Vec<Row>), OutsideErr>
+    ensures same_reference { transaction.new.conn.ghost_name ≡ transaction.old.conn.ghost_name }
+    ensures read { HasCleanDisk (state S.Store transaction.new.conn.now)
+        → IfOk result (λ rows. ReadsFrom S.Store id.now transaction.old.conn.now rows.0.items
+        rows.1.items rows.2.items) }
+    ensures crash { LeavesDisk S.Store transaction.old.conn.now transaction.new.conn.now }
+    ensures stays { Stays S.Store transaction.old.conn.now transaction.new.conn.now result }
+{
+    let heads = rows_under(transaction, AUCTION, id)?;
+    let terms = rows_under(transaction, TERMS, id)?;
+    let seals = rows_under(transaction, SEALS, id)?;
     Ok((heads, terms, seals))
 }
 

@@ -6,7 +6,7 @@ ghost use Rattle.sqlite.specs.State.{HasCleanDisk};
 ghost use Rattle.sqlite.specs.Values.{bound};
 ghost use Rattle.vk_keeper.specs.Auctions.{IsAuction};
 ghost use Rattle.vk_keeper_sql.specs.Columns.{auction_row, bits_in, terms_row, texts_of};
-ghost use Rattle.vk_keeper_sql.specs.Transactions.{CommitsAtOnce, LeavesDisk};
+ghost use Rattle.vk_keeper_sql.specs.Transactions.{CommitsAtOnce, LeavesDisk, Stays};
 ghost use Rattle.vk_keeper_sql.specs.Writing.{Keeps, WritesAuction};
 
 use crate::errors::refused_statement;
@@ -35,10 +35,10 @@ pub fn replace<S: Alter>(
     ensures crash { CommitsAtOnce (Keeps S.Store auction.now connection.old)
         (state S.Store connection.old) (state S.Store connection.new) result }
 {
-    let texts = texts_of(alloc, auction)?;
     if !connection.is_autocommit() {
         return Err(OutsideErr::Failed);
     }
+    let texts = texts_of(alloc, auction)?;
     write_at_once(connection, auction, &texts)?;
     Ok(())
 }
@@ -77,6 +77,7 @@ fn write_rows<S: Alter>(
     ensures wrote { HasCleanDisk (state S.Store transaction.new.conn.now) → OnOk result
         (WritesAuction S.Store auction.now transaction.old.conn.now transaction.new.conn.now) }
     ensures crash { LeavesDisk S.Store transaction.old.conn.now transaction.new.conn.now }
+    ensures stays { Stays S.Store transaction.old.conn.now transaction.new.conn.now result }
 {
     let row = auction_columns(auction, &texts.bits);
     run(transaction, KEEP_AUCTION, &row)?;

@@ -3,7 +3,7 @@
 ghost use Rattle.std.specs.Prelude.{◌≡◌, IfOk, OnOk};
 ghost use Rattle.vk_keeper_sql.specs.Columns.{column};
 ghost use Rattle.vk_keeper_sql.specs.Statements.{keep_terms};
-ghost use Rattle.vk_keeper_sql.specs.Transactions.{LeavesDisk, Ran};
+ghost use Rattle.vk_keeper_sql.specs.Transactions.{LeavesDisk, Ran, Stays};
 ghost use Rattle.vk_keeper_sql.specs.Opening.{AddsTerms, LiftsTables, first_terms};
 ghost use Rattle.sqlite.specs.Held.{state};
 ghost use Rattle.sqlite.specs.State.{HasCleanDisk};
@@ -28,6 +28,7 @@ pub fn lift<S: Alter>(transaction: &mut Transaction<'_, S>) -> Result<(), Outsid
     ensures lifted { HasCleanDisk (state S.Store transaction.new.conn.now) → OnOk result
         (LiftsTables S.Store transaction.old.conn.now transaction.new.conn.now) }
     ensures crash { LeavesDisk S.Store transaction.old.conn.now transaction.new.conn.now }
+    ensures stays { Stays S.Store transaction.old.conn.now transaction.new.conn.now result }
 {
     run(transaction, MAKE_TERMS, &[])?;
     let ids = ask(transaction, IDS, &[])?;
@@ -42,6 +43,7 @@ fn add_terms<S: Alter>(transaction: &mut Transaction<'_, S>, ids: &[Row]) -> Res
     ensures added { HasCleanDisk (state S.Store transaction.new.conn.now) → OnOk result
         (AddsTerms S.Store ids.now transaction.old.conn.now transaction.new.conn.now) }
     ensures crash { LeavesDisk S.Store transaction.old.conn.now transaction.new.conn.now }
+    ensures stays { Stays S.Store transaction.old.conn.now transaction.new.conn.now result }
 {
     for row in ids {
         add_first_terms(transaction, row)?;
@@ -59,6 +61,7 @@ fn add_first_terms<S: Alter>(
         (Ran S.Store keep_terms (first_terms (column row.now 0)) transaction.old.conn.now
         transaction.new.conn.now) }
     ensures crash { LeavesDisk S.Store transaction.old.conn.now transaction.new.conn.now }
+    ensures stays { Stays S.Store transaction.old.conn.now transaction.new.conn.now result }
 {
     let id = row.get_ref(0).map_err(refused_statement)?;
     let columns = first_columns(id);

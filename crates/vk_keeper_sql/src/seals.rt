@@ -7,7 +7,7 @@ ghost use Rattle.sqlite.specs.Values.{bound};
 ghost use Rattle.sqlite.specs.declared.types.Value.TheVariants.{Int, Blob};
 ghost use Rattle.vk_keeper_sql.specs.Columns.{ShowSeals, ShowsSeal, seal_row};
 ghost use Rattle.vk_keeper_sql.specs.Statements.{drop_seals, keep_seal};
-ghost use Rattle.vk_keeper_sql.specs.Transactions.{LeavesDisk, Ran};
+ghost use Rattle.vk_keeper_sql.specs.Transactions.{LeavesDisk, Ran, Stays};
 ghost use Rattle.vk_keeper_sql.specs.Writing.{AddsSeals, WritesSeals};
 
 use crate::columns::{number_at, text_at};
@@ -34,6 +34,7 @@ pub fn write_seals<S: Alter>(
     ensures wrote { HasCleanDisk (state S.Store transaction.new.conn.now) → OnOk result
         (WritesSeals S.Store id.now seals.now transaction.old.conn.now transaction.new.conn.now) }
     ensures crash { LeavesDisk S.Store transaction.old.conn.now transaction.new.conn.now }
+    ensures stays { Stays S.Store transaction.old.conn.now transaction.new.conn.now result }
 {
     let held = rows_under(transaction, SEALS, id)?;
     let standing = count_standing(held.as_slice(), seals);
@@ -82,6 +83,7 @@ fn clear_seals<S: Alter>(
         (Ran S.Store drop_seals (Blob id.now ∷ Int (pos standing) ∷ []) transaction.old.conn.now
         transaction.new.conn.now) }
     ensures crash { LeavesDisk S.Store transaction.old.conn.now transaction.new.conn.now }
+    ensures stays { Stays S.Store transaction.old.conn.now transaction.new.conn.now result }
 {
     let columns = clear_columns(id, standing);
     run(transaction, DROP_SEALS, &columns)?;
@@ -111,6 +113,7 @@ fn add_seals<S: Alter>(
         (AddsSeals S.Store id.now before seals.now transaction.old.conn.now
         transaction.new.conn.now) }
     ensures crash { LeavesDisk S.Store transaction.old.conn.now transaction.new.conn.now }
+    ensures stays { Stays S.Store transaction.old.conn.now transaction.new.conn.now result }
 {
     for (i, seal) in seals.iter().enumerate() {
         add_seal(transaction, id, before + i as u32 + 1, seal)?;
@@ -130,6 +133,7 @@ fn add_seal<S: Alter>(
         (Ran S.Store keep_seal (seal_row id.now position seal.now) transaction.old.conn.now
         transaction.new.conn.now) }
     ensures crash { LeavesDisk S.Store transaction.old.conn.now transaction.new.conn.now }
+    ensures stays { Stays S.Store transaction.old.conn.now transaction.new.conn.now result }
 {
     let columns = seal_columns(id, position, seal);
     run(transaction, KEEP_SEAL, &columns)?;

@@ -8,7 +8,7 @@ ghost use Rattle.vk_keeper.specs.Auctions.{IsAuction};
 ghost use Rattle.vk_keeper.specs.Turns.{AfterGet, AfterPut};
 ghost use Rattle.vk_keeper_sql.specs.Opening.{Prepares};
 ghost use Rattle.vk_keeper_sql.specs.Reading.{Finds};
-ghost use Rattle.vk_keeper_sql.specs.Transactions.{CommitsNothing, CommitsAtOnce};
+ghost use Rattle.vk_keeper_sql.specs.Transactions.{ChangesNothing, CommitsNothing, CommitsAtOnce};
 ghost use Rattle.vk_keeper_sql.specs.declared.errors.OpenErr.{OpenErr as Refusal};
 ghost use Rattle.vk_keeper_sql.specs.Writing.{Keeps};
 
@@ -96,6 +96,9 @@ impl<S: Alter> Keeper for SqlKeeper<S> {
         ensures shown { HasCleanDisk (state S.Store self.new.connection)
             → IfOk result (Finds S.Store id.now self.old.connection) }
         ensures crash { CommitsNothing (state S.Store self.old.connection)
+            (state S.Store self.new.connection) }
+        ensures kept { HasCleanDisk (state S.Store self.new.connection)
+            → ChangesNothing (state S.Store self.old.connection)
             (state S.Store self.new.connection) }
         ensures turn { AfterGet self.old.turns self.new.turns }
         ensures causes { Causes OutsideErr.Failed result self.old.faults self.new.faults }

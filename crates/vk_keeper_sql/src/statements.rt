@@ -5,7 +5,7 @@ ghost use Rattle.sqlite.specs.Held.{state};
 ghost use Rattle.sqlite.specs.State.{HasCleanDisk};
 ghost use Rattle.sqlite.specs.Values.{bound};
 ghost use Rattle.sqlite.specs.declared.types.Value.TheVariants.{Blob};
-ghost use Rattle.vk_keeper_sql.specs.Transactions.{Answers, LeavesDisk, Ran};
+ghost use Rattle.vk_keeper_sql.specs.Transactions.{Answers, LeavesDisk, Ran, Stays};
 
 use crate::errors::refused_statement;
 use sqlite::types::ValueRef;
@@ -38,6 +38,7 @@ pub fn rows_under<S: Alter>(
     ensures rows { HasCleanDisk (state S.Store transaction.new.conn.now) → IfOk result (λ rows.
         Answers S.Store query.now (Blob id.now ∷ []) transaction.old.conn.now transaction.new.conn.now rows.items) }
     ensures crash { LeavesDisk S.Store transaction.old.conn.now transaction.new.conn.now }
+    ensures stays { Stays S.Store transaction.old.conn.now transaction.new.conn.now result }
 {
     let rows = ask(transaction, query, &[ValueRef::Blob(id.as_slice())])?;
     Ok(rows)
@@ -53,11 +54,12 @@ pub fn ask<S: Alter>(
     ensures rows { HasCleanDisk (state S.Store transaction.new.conn.now) → IfOk result (λ rows.
         Answers S.Store query.now (bound columns.now) transaction.old.conn.now transaction.new.conn.now rows.items) }
     ensures crash { LeavesDisk S.Store transaction.old.conn.now transaction.new.conn.now }
+    ensures stays { Stays S.Store transaction.old.conn.now transaction.new.conn.now result }
 {
-    let rows = transaction
-        .query_all(query, columns)
-        .map_err(refused_statement)?;
-    Ok(rows)
+    match transaction.query_all(query, columns) {
+        Ok(rows) => Ok(rows),
+        Err(refusal) => Err(refused_statement(refusal)),
+    }
 }
 
 /// Runs a statement.
@@ -71,6 +73,7 @@ pub fn run<S: Alter>(
         (Ran S.Store statement.now (bound columns.now) transaction.old.conn.now
         transaction.new.conn.now) }
     ensures crash { LeavesDisk S.Store transaction.old.conn.now transaction.new.conn.now }
+    ensures stays { Stays S.Store transaction.old.conn.now transaction.new.conn.now result }
 {
     match transaction.execute(statement, columns) {
         Ok(_) => Ok(()),

@@ -6,7 +6,7 @@ ghost use Rattle.sqlite.specs.State.{HasCleanDisk};
 ghost use Rattle.sqlite.specs.declared.types.Value.TheVariants.{Int};
 ghost use Rattle.vk_keeper_sql.specs.Layouts.{HasLayout};
 ghost use Rattle.vk_keeper_sql.specs.Opening.{IsNumbered, MakesTables, Prepares, PreparesFrom, ShowNumber};
-ghost use Rattle.vk_keeper_sql.specs.Transactions.{CommitsAtOnce, LeavesDisk};
+ghost use Rattle.vk_keeper_sql.specs.Transactions.{CommitsAtOnce, LeavesDisk, Stays};
 ghost use Rattle.vk_keeper_sql.specs.Versions.{version_of};
 
 use crate::columns::{amount_at, count_at};
@@ -77,6 +77,7 @@ fn prepare_within<S: Alter>(
     ensures prepared { HasCleanDisk (state S.Store transaction.new.conn.now) → OnOk result
         (PreparesFrom S.Store layout transaction.old.conn.now transaction.new.conn.now) }
     ensures crash { LeavesDisk S.Store transaction.old.conn.now transaction.new.conn.now }
+    ensures stays { Stays S.Store transaction.old.conn.now transaction.new.conn.now result }
 {
     match layout {
         Layout::Blank => make_tables(transaction)?,
@@ -99,6 +100,7 @@ fn check_number<S: Alter>(transaction: &mut Transaction<'_, S>, number: u32) -> 
     ensures numbered { HasCleanDisk (state S.Store transaction.new.conn.now) → OnOk result
         (IsNumbered S.Store number transaction.old.conn.now transaction.new.conn.now) }
     ensures crash { LeavesDisk S.Store transaction.old.conn.now transaction.new.conn.now }
+    ensures stays { Stays S.Store transaction.old.conn.now transaction.new.conn.now result }
 {
     if number_in(transaction)? != number {
         return Err(OpenErr::Refused);
@@ -113,6 +115,7 @@ fn number_in<S: Alter>(transaction: &mut Transaction<'_, S>) -> Result<u32, Open
         → IfOk result (λ number.
         IsNumbered S.Store number transaction.old.conn.now transaction.new.conn.now) }
     ensures crash { LeavesDisk S.Store transaction.old.conn.now transaction.new.conn.now }
+    ensures stays { Stays S.Store transaction.old.conn.now transaction.new.conn.now result }
 {
     let rows = ask(transaction, NUMBER, &[])?;
     let number = number_from(rows.as_slice())?;
@@ -149,6 +152,7 @@ fn make_tables<S: Alter>(transaction: &mut Transaction<'_, S>) -> Result<(), Out
     ensures made { HasCleanDisk (state S.Store transaction.new.conn.now) → OnOk result
         (MakesTables S.Store transaction.old.conn.now transaction.new.conn.now) }
     ensures crash { LeavesDisk S.Store transaction.old.conn.now transaction.new.conn.now }
+    ensures stays { Stays S.Store transaction.old.conn.now transaction.new.conn.now result }
 {
     run(transaction, MAKE_ABOUT, &[])?;
     run(transaction, MAKE_AUCTIONS, &[])?;

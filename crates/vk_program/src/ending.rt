@@ -1,14 +1,16 @@
 //! With which status the program ends, and what it says on standard error.
 
-ghost use Rattle.std.specs.Prelude.{◌≡◌, ◌⊎◌, IsFalse, IsTrue};
+ghost use Rattle.std.specs.Prelude.{◌≡◌};
 ghost use Rattle.std.specs.Process.{exit_status};
 ghost use Rattle.vk_program.specs.Refusals.{stopped_status, unopened_outside};
+ghost use Rattle.vk_program.specs.Statuses.{status_behind};
 
 use crate::house::Unopened;
 use crate::store::STORE;
 use std::process::ExitCode;
 use std::str::from_utf8;
 use vk_files::NamedFault;
+use vk_io::OutsideErr;
 use vk_keeper_sql::OpenErr;
 use vk_words::{hint_line, hint_of};
 
@@ -24,15 +26,17 @@ pub fn end<R: Eprint>(rt: &R, status: u8) -> ExitCode
     ExitCode::from(status)
 }
 
-/// The code, or that of a fault of the outside which comes after it, told once.
-pub fn with_fault<R: Eprint>(rt: &R, code: ExitCode, is_faulty: bool) -> ExitCode
-    ensures kept { IsFalse is_faulty → result ≡ code }
-    ensures told { IsTrue is_faulty → (exit_status result ≡ 6) ⊎ (exit_status result ≡ 9) }
+/// The code, or that of what was refused behind it, told once.
+pub fn with_refusal<R: Eprint>(rt: &R, code: ExitCode, behind: Result<(), OutsideErr>) -> ExitCode
+    ensures { exit_status result ≡ status_behind behind (exit_status code) }
 {
-    if is_faulty && code != ExitCode::from(6) && code != ExitCode::from(9) {
-        end(rt, 6)
-    } else {
-        code
+    if code == ExitCode::from(6) || code == ExitCode::from(9) {
+        return code;
+    }
+    match behind {
+        Ok(()) => code,
+        Err(OutsideErr::Failed) => end(rt, 6),
+        Err(OutsideErr::NoMemory) => end(rt, 9),
     }
 }
 

@@ -1,42 +1,46 @@
 //! The keeper of a house that is opened no sooner than it is asked.
 
-ghost use Rattle.std.specs.Prelude.{◌≡◌, None, Some, IfErr, IfOk, IfSome};
+ghost use Rattle.std.specs.Prelude.{◌≡◌, None, IfOk, IfSome, IsSome, OnErr};
+ghost use Rattle.std.specs.FinMap as map;
 ghost use Rattle.vk_io.specs.Faults.{Causes};
+ghost use Rattle.vk_io.specs.Files.{Modelled};
 ghost use Rattle.vk_keeper.specs.Auctions.{IsAuction};
+ghost use Rattle.vk_keeper.specs.Ledgers.{IsLedger, Keeps};
+ghost use Rattle.vk_keeper.specs.Turns.{AfterGet};
+ghost use Rattle.vk_program.specs.Houses.{CausesUnopened, OpenOrNone, told_by};
 
 use crate::house::{HousePlace, Unopened};
 use vk_io::OutsideErr;
 use vk_keeper::{Auction, Keeper, TurnCount};
 
-/// The keeper of a house, which is opened where the keeper is asked for the first time: so what
-/// asks nothing leaves no store. Its ledger isn't modelled. What is opened stands in the place that
-/// it was given, to be closed by whom the place belongs to.
-#[derive(Drop)]
-pub struct LateKeeper<'a, H: HousePlace> {
-    house: &'a H,
-    kept: &'a mut Option<H::Kept>,
+/// The keeper of a house, which is opened where the keeper is asked for the first time, and
+/// something is kept in it or is to be: so what only asks leaves no store. Its auctions are those
+/// of the keeper that is open, or else of the house.
+pub struct LateKeeper<H: HousePlace> {
+    house: H,
+    kept: Option<H::Kept>,
     refusal: Option<Unopened>,
-    faults: u64,
+    /// Whether a call was answered by the house not being made, and nothing was kept since.
+    was_unmade: bool,
     turns: TurnCount,
 }
 
-impl<'a, H: HousePlace> LateKeeper<'a, H> {
-    /// The keeper of that house, which is not opened yet. There are no faults.
-    pub fn over(house: &'a H, kept: &'a mut Option<H::Kept>) -> LateKeeper<'a, H>
+impl<H: HousePlace> LateKeeper<H> {
+    /// The keeper of that house, which is not opened yet.
+    pub fn over(house: H) -> LateKeeper<H>
+        ensures house { result.house ≡ house }
+        ensures kept { result.kept ≡ None }
         ensures refusal { result.refusal ≡ None }
-        ensures faults { result.faults ≡ 0 }
     {
         LateKeeper {
             house,
-            kept,
+            kept: None,
             refusal: None,
-            faults: 0,
+            was_unmade: false,
             turns: TurnCount::new(),
         }
     }
-}
 
-impl<H: HousePlace> LateKeeper<'_, H> {
     /// Why the house was not opened, if it was refused.
     pub fn refusal(&self) -> Option<Unopened>
         ensures { result ≡ self.now.refusal }
@@ -45,9 +49,13 @@ impl<H: HousePlace> LateKeeper<'_, H> {
     }
 
     /// Opens the house, where it isn't open.
-    pub fn open(&mut self) -> Result<(), Unopened>
-        ensures refusal { IfErr result (λ refusal. self.new.refusal ≡ Some refusal) }
-        ensures faults { self.new.faults ≡ self.old.faults }
+    fn open(&mut self) -> Result<(), Unopened>
+        ensures open { IfOk result (λ _. IsSome self.new.kept) }
+        ensures right { OnErr result (IfSome (told_by H.Kept.ledger (H.ledger self.old.house)
+            self.old.kept) IsLedger) }
+        ensures ledger { told_by H.Kept.ledger (H.ledger self.new.house) self.new.kept
+            ≡ told_by H.Kept.ledger (H.ledger self.old.house) self.old.kept }
+        ensures causes { CausesUnopened result (H.faults self.old.house) (H.faults self.new.house) }
         ensures turns { self.new.turns ≡ self.old.turns }
     {
         if self.kept.is_some() {
@@ -65,9 +73,11 @@ impl<H: HousePlace> LateKeeper<'_, H> {
         }
     }
 
-    /// Puts what was opened into its place. What stood there is closed.
+    /// Puts what was opened into its place, in which nothing stands.
     fn take_in(&mut self, kept: H::Kept)
-        ensures faults { self.new.faults ≡ self.old.faults }
+        requires { self.old.kept ≡ None }
+        ensures kept { self.new.kept ≡ Some kept }
+        ensures house { self.new.house ≡ self.old.house }
         ensures turns { self.new.turns ≡ self.old.turns }
     {
         if let Some(other) = self.kept.replace(kept) {
@@ -75,81 +85,245 @@ impl<H: HousePlace> LateKeeper<'_, H> {
         }
     }
 
-    /// The auction of that id, by the keeper of the house.
-    fn find(&mut self, id: &[u8; 16]) -> Result<Option<Auction>, OutsideErr>
-        ensures id { IfOk result (λ found. IfSome found (λ auction. auction.id ≡ id.now)) }
-        ensures right { IfOk result (λ found. IfSome found IsAuction) }
-        ensures faults { self.new.faults ≡ self.old.faults }
+    /// Opens the house, where something is kept in it already, and answers whether it is open.
+    pub fn open_made(&mut self) -> Result<bool, Unopened>
+        ensures open { OpenOrNone result self.new.kept
+            (told_by H.Kept.ledger (H.ledger self.old.house) self.old.kept) }
+        ensures ledger { told_by H.Kept.ledger (H.ledger self.new.house) self.new.kept
+            ≡ told_by H.Kept.ledger (H.ledger self.old.house) self.old.kept }
+        ensures unmade { H.unmade self.old.house → self.old.kept ≡ None
+            → H.unmade self.new.house × (self.new.kept ≡ None) }
+        ensures causes { CausesUnopened result (H.faults self.old.house) (H.faults self.new.house) }
         ensures turns { self.new.turns ≡ self.old.turns }
     {
-        self.open().map_err(Unopened::outside)?;
-        let found = found_in(self.kept, id)?;
-        Ok(found)
-    }
-
-    /// Keeps the auction, by the keeper of the house.
-    fn replace(&mut self, auction: Auction) -> Result<(), OutsideErr>
-        requires { IsAuction auction }
-        ensures faults { self.new.faults ≡ self.old.faults }
-        ensures turns { self.new.turns ≡ self.old.turns }
-    {
-        self.open().map_err(Unopened::outside)?;
-        put_into(self.kept, auction)?;
-        Ok(())
+        if self.kept.is_some() {
+            return Ok(true);
+        }
+        match self.house.is_made() {
+            Ok(true) => {
+                self.open()?;
+                Ok(true)
+            }
+            Ok(false) => Ok(false),
+            Err(refusal) => {
+                self.refusal = Some(refusal);
+                Err(refusal)
+            }
+        }
     }
 
     /// Counts the answer where it is a fault, and hands it on.
     fn counted<T>(&mut self, answer: Result<T, OutsideErr>) -> Result<T, OutsideErr>
         ensures same { result ≡ answer }
+        ensures kept { self.new.kept ≡ self.old.kept }
+        ensures ledger { H.ledger self.new.house ≡ H.ledger self.old.house }
+        ensures causes { Causes OutsideErr.Failed result (H.faults self.old.house)
+            (H.faults self.new.house) }
         ensures turns { self.new.turns ≡ self.old.turns }
-        ensures causes { Causes OutsideErr.Failed result self.old.faults self.new.faults }
     {
         if matches!(answer, Err(OutsideErr::Failed)) {
-            self.faults = self.faults.saturating_add(1);
+            self.house.count_fault();
         }
         answer
+    }
+
+    /// The auction of that id, by the keeper that is open.
+    fn ask(&mut self, id: &[u8; 16]) -> Result<Option<Auction>, OutsideErr>
+        requires { IsSome self.old.kept }
+        ensures answer { IfSome (told_by H.Kept.ledger (H.ledger self.old.house) self.old.kept)
+            (λ ledger. IfOk result (λ found. found ≡ map.get ledger id.now)) }
+        ensures id { IfOk result (λ found. IfSome found (λ auction. auction.id ≡ id.now)) }
+        ensures right { IfOk result (λ found. IfSome found IsAuction) }
+        ensures ledger { IfSome (told_by H.Kept.ledger (H.ledger self.old.house) self.old.kept)
+            IsLedger }
+        ensures open { IsSome self.new.kept }
+        ensures kept { told_by H.Kept.ledger (H.ledger self.new.house) self.new.kept
+            ≡ told_by H.Kept.ledger (H.ledger self.old.house) self.old.kept }
+        ensures causes { Causes OutsideErr.Failed result (H.faults self.old.house)
+            (H.faults self.new.house) }
+        ensures turns { self.new.turns ≡ self.old.turns }
+    {
+        let found = found_in(&mut self.kept, id);
+        self.counted(found)
+    }
+
+    /// The auction of that id, by the keeper of the house. In a house that isn't made there is
+    /// none, and it stays so.
+    #[tactic(auto, using(crate::proofs::Nothing::nothing_found, crate::proofs::Nothing::nothing_kept))]
+    fn find(&mut self, id: &[u8; 16]) -> Result<Option<Auction>, OutsideErr>
+        ensures answer { IfSome (told_by H.Kept.ledger (H.ledger self.old.house) self.old.kept)
+            (λ ledger. IfOk result (λ found. found ≡ map.get ledger id.now)) }
+        ensures id { IfOk result (λ found. IfSome found (λ auction. auction.id ≡ id.now)) }
+        ensures right { IfOk result (λ found. IfSome found IsAuction) }
+        ensures ledger { IfSome (told_by H.Kept.ledger (H.ledger self.old.house) self.old.kept)
+            IsLedger }
+        ensures kept { told_by H.Kept.ledger (H.ledger self.new.house) self.new.kept
+            ≡ told_by H.Kept.ledger (H.ledger self.old.house) self.old.kept }
+        ensures unmade { H.unmade self.old.house → self.old.kept ≡ None
+            → H.unmade self.new.house × (self.new.kept ≡ None) }
+        ensures causes { Causes OutsideErr.Failed result (H.faults self.old.house)
+            (H.faults self.new.house) }
+        ensures turns { self.new.turns ≡ self.old.turns }
+    {
+        match self.open_made() {
+            Ok(true) => self.ask(id),
+            Ok(false) => {
+                self.was_unmade = true;
+                Ok(None)
+            }
+            Err(refusal) => Err(refusal.outside()),
+        }
+    }
+
+    /// Errs where an auction of that id is kept by now: another program announced it after this one
+    /// was told that there is none, and what it keeps isn't to be lost.
+    fn refuse_known(&mut self, id: &[u8; 16]) -> Result<(), OutsideErr>
+        requires { IsSome self.old.kept }
+        ensures ledger { IfSome (told_by H.Kept.ledger (H.ledger self.old.house) self.old.kept)
+            IsLedger }
+        ensures open { IsSome self.new.kept }
+        ensures kept { told_by H.Kept.ledger (H.ledger self.new.house) self.new.kept
+            ≡ told_by H.Kept.ledger (H.ledger self.old.house) self.old.kept }
+        ensures causes { Causes OutsideErr.Failed result (H.faults self.old.house)
+            (H.faults self.new.house) }
+        ensures turns { self.new.turns ≡ self.old.turns }
+    {
+        if self.ask(id)?.is_some() {
+            self.refusal = Some(Unopened::Meanwhile);
+            return self.counted(Err(OutsideErr::Failed));
+        }
+        Ok(())
+    }
+
+    /// Keeps the auction, by the keeper that is open.
+    fn keep(&mut self, auction: Auction) -> Result<(), OutsideErr>
+        requires right { IsAuction auction }
+        requires open { IsSome self.old.kept }
+        ensures ledger { IfSome (told_by H.Kept.ledger (H.ledger self.old.house) self.old.kept)
+            IsLedger }
+        ensures put { Modelled (Keeps auction result)
+            (told_by H.Kept.ledger (H.ledger self.old.house) self.old.kept)
+            (told_by H.Kept.ledger (H.ledger self.new.house) self.new.kept) }
+        ensures causes { Causes OutsideErr.Failed result (H.faults self.old.house)
+            (H.faults self.new.house) }
+        ensures turns { self.new.turns ≡ self.old.turns }
+    {
+        if self.was_unmade {
+            self.refuse_known(&auction.id)?;
+            self.was_unmade = false;
+        }
+        let kept = put_into(&mut self.kept, auction);
+        self.counted(kept)
+    }
+
+    /// Keeps the auction, by the keeper of the house.
+    fn replace(&mut self, auction: Auction) -> Result<(), OutsideErr>
+        requires { IsAuction auction }
+        ensures ledger { IfSome (told_by H.Kept.ledger (H.ledger self.old.house) self.old.kept)
+            IsLedger }
+        ensures put { Modelled (Keeps auction result)
+            (told_by H.Kept.ledger (H.ledger self.old.house) self.old.kept)
+            (told_by H.Kept.ledger (H.ledger self.new.house) self.new.kept) }
+        ensures causes { Causes OutsideErr.Failed result (H.faults self.old.house)
+            (H.faults self.new.house) }
+        ensures turns { self.new.turns ≡ self.old.turns }
+    {
+        match self.open() {
+            Ok(()) => self.keep(auction),
+            Err(refusal) => Err(refusal.outside()),
+        }
+    }
+
+    /// Closes what was opened, and gives the house back.
+    pub fn close(self) -> (H, Result<(), OutsideErr>)
+        ensures ledger { H.ledger result.0 ≡ told_by H.Kept.ledger (H.ledger self.house) self.kept }
+        ensures causes { Causes OutsideErr.Failed result.1 (H.faults self.house)
+            (H.faults result.0) }
+    {
+        let LateKeeper {
+            mut house,
+            kept,
+            refusal: _,
+            was_unmade: _,
+            turns: _,
+        } = self;
+        match kept {
+            Some(kept) => {
+                let closed = house.close(kept);
+                (house, closed)
+            }
+            None => (house, Ok(())),
+        }
+    }
+}
+
+impl<H: HousePlace> Drop for LateKeeper<H> {
+    fn drop(self) {
+        let (_house, _closed) = self.close();
     }
 }
 
 /// The auction of that id, by what was opened.
 fn found_in<K: Keeper>(kept: &mut Option<K>, id: &[u8; 16]) -> Result<Option<Auction>, OutsideErr>
+    requires { IsSome kept.old }
+    ensures answer { IfSome (told_by K.ledger None kept.old)
+        (λ ledger. IfOk result (λ found. found ≡ map.get ledger id.now)) }
     ensures id { IfOk result (λ found. IfSome found (λ auction. auction.id ≡ id.now)) }
     ensures right { IfOk result (λ found. IfSome found IsAuction) }
+    ensures ledger { IfSome (told_by K.ledger None kept.old) IsLedger }
+    ensures open { IsSome kept.new }
+    ensures kept { told_by K.ledger None kept.new ≡ told_by K.ledger None kept.old }
 {
     match kept {
         Some(keeper) => keeper.get(id),
-        None => Err(OutsideErr::Failed),
+        None => unreachable!(),
     }
 }
 
 /// Keeps the auction, by what was opened.
 fn put_into<K: Keeper>(kept: &mut Option<K>, auction: Auction) -> Result<(), OutsideErr>
-    requires { IsAuction auction }
+    requires right { IsAuction auction }
+    requires open { IsSome kept.old }
+    ensures ledger { IfSome (told_by K.ledger None kept.old) IsLedger }
+    ensures put { Modelled (Keeps auction result) (told_by K.ledger None kept.old)
+        (told_by K.ledger None kept.new) }
+    ensures open { IsSome kept.new }
 {
     match kept {
         Some(keeper) => keeper.put(auction),
-        None => Err(OutsideErr::Failed),
+        None => unreachable!(),
     }
 }
 
-impl<H: HousePlace> Keeper for LateKeeper<'_, H> {
-    ghost use Rattle.std.specs.Prelude.{None};
+impl<H: HousePlace> Keeper for LateKeeper<H> {
+    ghost ledger = { λ keeper. told_by H.Kept.ledger (H.ledger keeper.house) keeper.kept };
 
-    ghost ledger = { λ _. None };
-
-    ghost faults = { λ keeper. keeper.faults };
+    ghost faults = { λ keeper. H.faults keeper.house };
 
     ghost turns = { λ keeper. keeper.turns };
 
-    fn get(&mut self, id: &[u8; 16]) -> Result<Option<Auction>, OutsideErr> {
+    /// In a house that isn't made nothing is found, and nothing is made.
+    fn get(&mut self, id: &[u8; 16]) -> Result<Option<Auction>, OutsideErr>
+        ensures answer { IfSome (told_by H.Kept.ledger (H.ledger self.old.house) self.old.kept)
+            (λ ledger. IfOk result (λ found. found ≡ map.get ledger id.now)) }
+        ensures id { IfOk result (λ found. IfSome found (λ auction. auction.id ≡ id.now)) }
+        ensures right { IfOk result (λ found. IfSome found IsAuction) }
+        ensures ledger { IfSome (told_by H.Kept.ledger (H.ledger self.old.house) self.old.kept)
+            IsLedger }
+        ensures kept { told_by H.Kept.ledger (H.ledger self.new.house) self.new.kept
+            ≡ told_by H.Kept.ledger (H.ledger self.old.house) self.old.kept }
+        ensures turn { AfterGet self.old.turns self.new.turns }
+        ensures unmade { H.unmade self.old.house → self.old.kept ≡ None
+            → H.unmade self.new.house × (self.new.kept ≡ None) }
+        ensures causes { Causes OutsideErr.Failed result (H.faults self.old.house)
+            (H.faults self.new.house) }
+    {
         self.turns.count_get();
-        let found = self.find(id);
-        self.counted(found)
+        self.find(id)
     }
 
     fn put(&mut self, auction: Auction) -> Result<(), OutsideErr> {
         self.turns.count_put();
-        let kept = self.replace(auction);
-        self.counted(kept)
+        self.replace(auction)
     }
 }

@@ -1,51 +1,52 @@
 //! What the words of a command line do, over a house, files and an output.
 
-ghost use Rattle.std.specs.Prelude.{◌≡◌, ◌≢◌, ◌⊎◌, ℕ, IfSome, Some, map, string_bytes};
+ghost use Rattle.std.specs.Prelude.{◌≡◌, ◌⊎◌, ℕ, List, drop, map, string_bytes, IfOk};
 ghost use Rattle.std.specs.Process.{exit_status};
-ghost use Rattle.vk_io.specs.Faults.{Rose};
-ghost use Rattle.vk_io.specs.Files.{Modelled};
-ghost use Rattle.vk_words.specs.declared.claim.ClaimKind.TheVariants.{Matching};
-ghost use Rattle.vk_house.specs.Once.{KeepsAnswers};
-ghost use Rattle.vk_words.specs.Coins.{CoinWords};
-ghost use Rattle.vk_words.specs.Commands.{AsksNoKeeper, ClaimSample, Coin, Seal, command_words};
-ghost use Rattle.vk_words.specs.Orders.{SealWords};
-ghost use Rattle.vk_effect.specs.Effects.{outside, stores};
-ghost use Rattle.vk_coins.specs.Meaning.{MakesChallenge};
-ghost use Rattle.vk_app.specs.Commands.{LeavesKeeper, RunIsDone, RunIsStopped};
-ghost use Rattle.vk_app.specs.Promises.{Audits, ClaimHeadline, Claims, Headline, HoldsCeremony, KeepsHouse, OverFiles, RunLeaves, SamplesMatching, TellsUsage};
-ghost use Rattle.vk_app.specs.Sealing.{Seals};
+ghost use Rattle.std.specs.Vec.Iter.{into_iter_steps};
+ghost use Rattle.vk_program.specs.Houses.{CausesUnopened, told_by};
+ghost use Rattle.vk_program.specs.Runs.{IsRefused, ProgramKeeps, RunKeeps, SettledKeeps, met};
+ghost use Rattle.vk_program.specs.Words.{AreWordsBehind, AreYielded};
 
-use crate::ending::{advise, end, explain, refuse, with_fault};
+use crate::ending::{advise, end, explain, refuse, with_refusal};
 use crate::house::{HousePlace, Unopened};
 use crate::late::LateKeeper;
 use crate::settling::Settle;
-use std::env;
-use std::io::ErrorKind;
+use std::alloc::Global;
+use std::env::Args;
+use std::io::{self, ErrorKind};
 use std::process::ExitCode;
-use std::rt::Env;
 use vk_app::run;
 use vk_io::{Shelf, Sink};
-use vk_keeper::{Keeper, MemKeeper};
+use vk_keeper::Keeper;
 use vk_residue::NoMemory;
 use vk_words::may_ask_house;
 
-/// The words behind the program's own name. None where one of them is not UTF-8.
-fn words_of<E: Env + AllocGlobal>(env: &E) -> Result<Vec<String>, NoMemory> {
-    let mut words = Vec::new(env.alloc());
-    match env::args(env) {
-        Ok(mut args) => {
-            let _name = args.next();
-            for word in args {
-                words.push(word)?;
-            }
+/// All words that were handed in, the program's own name first. There are none where one of them is
+/// not UTF-8. Errs for want of memory alone.
+fn words_of(alloc: Global, args: io::Result<Args>) -> Result<Vec<String>, NoMemory>
+    ensures { IfOk result (λ words. AreYielded into_iter_steps args words.items) }
+{
+    match args {
+        Ok(args) => {
+            let words = Vec::from_iter(alloc, args)?;
             Ok(words)
         }
         Err(error) => {
             if error.kind() == ErrorKind::OutOfMemory {
                 return Err(NoMemory);
             }
-            Ok(words)
+            Ok(Vec::new(alloc))
         }
+    }
+}
+
+/// The words behind the first.
+fn behind_first(words: &[String]) -> &[String]
+    ensures { result.now ≡ drop 1 words.now }
+{
+    match words {
+        [_first, behind @ ..] => behind,
+        [] => words,
     }
 }
 
@@ -58,55 +59,11 @@ fn perform<R: Eprint + AllocGlobal, S: Shelf, K: Keeper + Drop, W: Sink>(
     keeper: &mut K,
     out: &mut W,
 ) -> ExitCode
-    ensures done { RunIsDone (map string_bytes words.now) (exit_status result)
-        (outside (stores (S.held shelf.old) (K.ledger keeper.old)) (W.taken out.old))
-        (outside (stores (S.held shelf.new) (K.ledger keeper.new)) (W.taken out.new)) }
-    ensures stopped { RunIsStopped (map string_bytes words.now) (exit_status result)
-        (outside (stores (S.held shelf.old) (K.ledger keeper.old)) (W.taken out.old))
-        (outside (stores (S.held shelf.new) (K.ledger keeper.new)) (W.taken out.new)) }
-    ensures headline { OverFiles Headline (S.held shelf.old) (map string_bytes words.now)
-        (exit_status result) (W.taken out.old) (W.taken out.new) }
-    ensures audits { OverFiles Audits (S.held shelf.old) (map string_bytes words.now)
-        (exit_status result) (W.taken out.old) (W.taken out.new) }
-    ensures claim_headline { OverFiles ClaimHeadline (S.held shelf.old)
-        (map string_bytes words.now) (exit_status result) (W.taken out.old) (W.taken out.new) }
-    ensures claims { OverFiles Claims (S.held shelf.old) (map string_bytes words.now)
-        (exit_status result) (W.taken out.old) (W.taken out.new) }
-    ensures matching { (number : ℕ)
-        → command_words (map string_bytes words.now) ≡ Some (ClaimSample Matching number)
-        → SamplesMatching number (exit_status result)
-        (outside (stores (S.held shelf.old) (K.ledger keeper.old)) (W.taken out.old))
-        (outside (stores (S.held shelf.new) (K.ledger keeper.new)) (W.taken out.new)) }
-    ensures coins { (order : CoinWords)
-        → command_words (map string_bytes words.now) ≡ Some (Coin order) → exit_status result ≢ 6
-        → exit_status result ≢ 9
-        → MakesChallenge order (S.held shelf.old) (S.held shelf.new) (exit_status result)
-        (W.taken out.old) (W.taken out.new) }
-    ensures seals { (order : SealWords)
-        → command_words (map string_bytes words.now) ≡ Some (Seal order) → exit_status result ≢ 6
-        → exit_status result ≢ 9
-        → Seals order (S.held shelf.old) (S.held shelf.new) (exit_status result) (W.taken out.old)
-        (W.taken out.new) }
-    ensures house { IfSome (S.held shelf.old) (λ files. IfSome (K.ledger keeper.old) (λ ledger.
-        KeepsHouse files ledger (map string_bytes words.now) (exit_status result) (S.held shelf.new) (K.ledger keeper.new) (W.taken out.old) (W.taken out.new))) }
-    ensures ceremony { IfSome (S.held shelf.old) (λ files. IfSome (K.ledger keeper.old) (λ ledger.
-        HoldsCeremony files ledger (map string_bytes words.now) (exit_status result) (S.held shelf.new) (K.ledger keeper.new) (W.taken out.old) (W.taken out.new))) }
-    ensures files { exit_status result ≢ 6 → exit_status result ≢ 9
-        → RunLeaves (map string_bytes words.now) (exit_status result) (S.held shelf.old)
-        (S.held shelf.new) }
-    ensures usage { IfSome (S.held shelf.old) (λ files. IfSome (K.ledger keeper.old) (λ ledger.
-        TellsUsage (map string_bytes words.now) (exit_status result) (W.taken out.old) (W.taken out.new))) }
-    ensures once { Modelled KeepsAnswers (K.ledger keeper.old) (K.ledger keeper.new) }
-    ensures keeper { LeavesKeeper K.ledger K.Keeper.faults
-        (command_words (map string_bytes words.now)) keeper.old keeper.new }
-    ensures fault { exit_status result ≡ 6
-        → Rose (S.Shelf.faults shelf.old) (S.Shelf.faults shelf.new)
-        ⊎ Rose (K.Keeper.faults keeper.old) (K.Keeper.faults keeper.new)
-        ⊎ Rose (W.Sink.faults out.old) (W.Sink.faults out.new) }
-    ensures no_fault { exit_status result ≢ 6
-        → (S.Shelf.faults shelf.new ≡ S.Shelf.faults shelf.old)
-        × (K.Keeper.faults keeper.new ≡ K.Keeper.faults keeper.old)
-        × (W.Sink.faults out.new ≡ W.Sink.faults out.old) }
+    ensures { RunKeeps (map string_bytes words.now) (exit_status result)
+        (met (S.held shelf.old) (S.Shelf.faults shelf.old) (K.ledger keeper.old)
+        (K.Keeper.faults keeper.old) (W.taken out.old) (W.Sink.faults out.old))
+        (met (S.held shelf.new) (S.Shelf.faults shelf.new) (K.ledger keeper.new)
+        (K.Keeper.faults keeper.new) (W.taken out.new) (W.Sink.faults out.new)) }
 {
     let status = run(rt.alloc(), words, shelf, keeper, out);
     end(rt, status)
@@ -121,104 +78,100 @@ fn perform_settled<R: Eprint + AllocGlobal, S: Settle, K: Keeper + Drop, W: Sink
     keeper: &mut K,
     out: &mut W,
 ) -> ExitCode
-    ensures no_fault { exit_status result ≢ 6 → exit_status result ≢ 9
-        → (S.Shelf.faults files.new ≡ S.Shelf.faults files.old)
-        × (K.Keeper.faults keeper.new ≡ K.Keeper.faults keeper.old)
-        × (W.Sink.faults out.new ≡ W.Sink.faults out.old) }
+    ensures { SettledKeeps (map string_bytes words.now) (exit_status result)
+        (met (S.held files.old) (S.Shelf.faults files.old) (K.ledger keeper.old)
+        (K.Keeper.faults keeper.old) (W.taken out.old) (W.Sink.faults out.old))
+        (met (S.held files.new) (S.Shelf.faults files.new) (K.ledger keeper.new)
+        (K.Keeper.faults keeper.new) (W.taken out.new) (W.Sink.faults out.new)) }
 {
-    let code = perform(rt, words, files, keeper, out);
-    let is_faulty = files.settle().is_err();
-    let code = with_fault(rt, code, is_faulty);
+    let ran = perform(rt, words, files, keeper, out);
+    let settled = files.settle();
+    let code = with_refusal(rt, ran, settled);
     advise(rt, code, words, files.last_fault());
     code
 }
 
-/// Does what words say that ask no keeper, so that an empty one is as good as any.
-fn perform_alone<R: Eprint + AllocGlobal, S: Settle, W: Sink>(
-    rt: &R,
-    words: &[String],
-    shelf: &mut S,
-    out: &mut W,
-) -> ExitCode
-    requires { AsksNoKeeper (command_words (map string_bytes words.now)) }
-    ensures no_fault { exit_status result ≢ 6 → exit_status result ≢ 9
-        → (S.Shelf.faults shelf.new ≡ S.Shelf.faults shelf.old)
-        × (W.Sink.faults out.new ≡ W.Sink.faults out.old) }
+/// Opens the house, where the words may ask it and something is kept in it already.
+fn open_asked<H: HousePlace>(words: &[String], keeper: &mut LateKeeper<H>) -> Result<(), Unopened>
+    ensures ledger { told_by H.Kept.ledger (H.ledger keeper.new.house) keeper.new.kept
+        ≡ told_by H.Kept.ledger (H.ledger keeper.old.house) keeper.old.kept }
+    ensures causes { CausesUnopened result (H.faults keeper.old.house) (H.faults keeper.new.house) }
 {
-    perform_settled(rt, words, shelf, &mut MemKeeper::new(rt.alloc()), out)
-}
-
-/// Does what the words say over the auctions of the house, which is closed behind it where it was
-/// opened.
-fn perform_in<R: Eprint + AllocGlobal, H: HousePlace, S: Settle, W: Sink>(
-    rt: &R,
-    words: &[String],
-    house: &H,
-    shelf: &mut S,
-    out: &mut W,
-) -> ExitCode {
-    let mut kept = None;
-    let mut keeper = LateKeeper::over(house, &mut kept);
-    let code = perform_asking(rt, words, house, shelf, &mut keeper, out);
-    match kept {
-        Some(kept) => {
-            let is_faulty = house.close(kept).is_err();
-            with_fault(rt, code, is_faulty)
-        }
-        None => code,
-    }
-}
-
-/// Opens the house, where something is kept in it already.
-fn open_made<H: HousePlace>(house: &H, keeper: &mut LateKeeper<'_, H>) -> Result<(), Unopened>
-    ensures faults { keeper.new.faults ≡ keeper.old.faults }
-    ensures turns { keeper.new.turns ≡ keeper.old.turns }
-{
-    if house.is_made()? {
-        keeper.open()?;
+    if may_ask_house(words) {
+        let _is_open = keeper.open_made()?;
     }
     Ok(())
 }
 
 /// Does what the words say over the keeper of the house. A house in which something is kept is
-/// opened before, and no other one unless the keeper is asked: so words that are no command, and
-/// files that are missing, leave no store.
+/// opened before, and no other one unless the keeper is to keep something: so words that are no
+/// command, files that are missing, and what only asks leave no store.
 fn perform_asking<R: Eprint + AllocGlobal, H: HousePlace, S: Settle, W: Sink>(
     rt: &R,
     words: &[String],
-    house: &H,
-    shelf: &mut S,
-    keeper: &mut LateKeeper<'_, H>,
+    files: &mut S,
+    keeper: &mut LateKeeper<H>,
     out: &mut W,
-) -> ExitCode {
-    if let Err(refusal) = open_made(house, keeper) {
+) -> ExitCode
+    ensures { let before = met (S.held files.old) (S.Shelf.faults files.old)
+        (told_by H.Kept.ledger (H.ledger keeper.old.house) keeper.old.kept)
+        (H.faults keeper.old.house) (W.taken out.old) (W.Sink.faults out.old) in
+        let after = met (S.held files.new) (S.Shelf.faults files.new)
+        (told_by H.Kept.ledger (H.ledger keeper.new.house) keeper.new.kept)
+        (H.faults keeper.new.house) (W.taken out.new) (W.Sink.faults out.new) in
+        SettledKeeps (map string_bytes words.now) (exit_status result) before after
+        ⊎ IsRefused (exit_status result) before after }
+{
+    if let Err(refusal) = open_asked(words, keeper) {
         return refuse(rt, refusal);
     }
-    let code = perform_settled(rt, words, shelf, keeper, out);
+    let code = perform_settled(rt, words, files, keeper, out);
     if let Some(refusal) = keeper.refusal() {
         explain(rt, refusal);
     }
     code
 }
 
-/// Does what the words of `env` say. Where they may ask the house its keeper is theirs, and else an
-/// empty one.
-pub fn program<E: Env + AllocGlobal, R: Eprint + AllocGlobal, H: HousePlace, S: Settle, W: Sink>(
-    env: &E,
+/// Does what the words say over the auctions of the house, which is closed behind it where it was
+/// opened, and gives the house back.
+fn perform_in<R: Eprint + AllocGlobal, H: HousePlace, S: Settle, W: Sink>(
     rt: &R,
-    house: &H,
-    shelf: &mut S,
+    words: &[String],
+    house: H,
+    files: &mut S,
     out: &mut W,
-) -> ExitCode {
-    match words_of(env) {
-        Ok(words) => {
-            let words = words.as_slice();
-            if may_ask_house(words) {
-                perform_in(rt, words, house, shelf, out)
-            } else {
-                perform_alone(rt, words, shelf, out)
-            }
-        }
-        Err(NoMemory) => end(rt, 9),
+) -> (ExitCode, H)
+    ensures { ProgramKeeps (map string_bytes words.now) (exit_status result.0)
+        (met (S.held files.old) (S.Shelf.faults files.old) (H.ledger house)
+        (H.faults house) (W.taken out.old) (W.Sink.faults out.old))
+        (met (S.held files.new) (S.Shelf.faults files.new) (H.ledger result.1)
+        (H.faults result.1) (W.taken out.new) (W.Sink.faults out.new)) }
+{
+    let mut keeper = LateKeeper::over(house);
+    let asked = perform_asking(rt, words, files, &mut keeper, out);
+    let (house, closed) = keeper.close();
+    (with_refusal(rt, asked, closed), house)
+}
+
+/// Does what the words say, which are those of `args` behind the program's own name, over the
+/// auctions of the house, and gives the house back. With 9 nothing may have been done at all.
+pub fn program<R: Eprint + AllocGlobal, H: HousePlace, S: Settle, W: Sink>(
+    args: io::Result<Args>,
+    rt: &R,
+    house: H,
+    files: &mut S,
+    out: &mut W,
+) -> (ExitCode, H)
+    ensures { let before = met (S.held files.old) (S.Shelf.faults files.old) (H.ledger house)
+        (H.faults house) (W.taken out.old) (W.Sink.faults out.old) in
+        let after = met (S.held files.new) (S.Shelf.faults files.new) (H.ledger result.1)
+        (H.faults result.1) (W.taken out.new) (W.Sink.faults out.new) in
+        ((words : List (List ℕ)) × AreWordsBehind into_iter_steps args words
+        × ProgramKeeps words (exit_status result.0) before after)
+        ⊎ ((exit_status result.0 ≡ 9) × (after ≡ before)) }
+{
+    match words_of(rt.alloc(), args) {
+        Ok(words) => perform_in(rt, behind_first(&words), house, files, out),
+        Err(NoMemory) => (end(rt, 9), house),
     }
 }

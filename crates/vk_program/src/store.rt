@@ -1,13 +1,15 @@
 //! Where the auctions of the house are kept: the file `house.sqlite` in the current folder.
 
 ghost use Rattle.std.specs.Prelude.{◌≡◌};
-ghost use Rattle.vk_program.specs.Stores.{is_exposed};
+ghost use Rattle.vk_program.specs.Houses.{CausesUnopened};
+ghost use Rattle.vk_program.specs.Stores.{is_exposed, lets_in};
 
 use crate::house::{HousePlace, Unopened};
 use sqlite::{Connection, File, FileStore};
-use std::fs::{self, OpenOptions};
+use std::alloc::Global;
+use std::fs::{self, Metadata, OpenOptions};
 use std::io::{self, ErrorKind};
-use std::os::unix::fs::{OpenOptionsExt, PermissionsExt};
+use std::os::unix::fs::{MetadataExt, OpenOptionsExt};
 use std::rt::Files;
 use vk_io::OutsideErr;
 use vk_keeper_sql::SqlKeeper;
@@ -21,46 +23,89 @@ pub const STORE: &str = "house.sqlite";
 /// anything keeps what it has.
 const OWNER_ALONE: u32 = 0o600;
 
+/// What the name of a file ends with that SQLite may find beside a store.
+const SIDES: [&str; 3] = ["-wal", "-journal", "-shm"];
+
 /// The part of a mode that says what others than the owner may do.
 const OTHERS: u32 = 0o077;
 
-/// The house whose auctions are in the store of the current folder.
+/// What the system tells of the process that looks at it. Who runs the program owns it.
+const PROCESS: &str = "/proc/self";
+
+/// The house whose auctions are in the store of the current folder. They aren't modelled.
 #[derive(Drop)]
 pub struct StoreHouse<'a> {
     rt: &'a HostRuntime,
+    faults: u64,
 }
 
 impl StoreHouse<'_> {
-    /// The house in the current folder.
-    pub fn of(rt: &HostRuntime) -> StoreHouse<'_> {
-        StoreHouse { rt }
+    /// The house in the current folder. There are no faults yet.
+    pub fn of(rt: &HostRuntime) -> StoreHouse<'_>
+        ensures { result.faults ≡ 0 }
+    {
+        StoreHouse { rt, faults: 0 }
     }
+}
+
+/// Counts the answer where it is a fault, and hands it on.
+fn counted<T>(faults: &mut u64, answer: Result<T, Unopened>) -> Result<T, Unopened>
+    ensures same { result ≡ answer }
+    ensures causes { CausesUnopened result faults.old faults.new }
+{
+    if let Err(refusal) = &answer {
+        if matches!(refusal.outside(), OutsideErr::Failed) {
+            *faults = faults.saturating_add(1);
+        }
+    }
+    answer
 }
 
 impl HousePlace for StoreHouse<'_> {
     type Kept = SqlKeeper<FileStore<File>>;
 
+    ghost use Rattle.std.specs.Prelude.{None};
+
+    ghost ledger = { λ _. None };
+
+    ghost faults = { λ house. house.faults };
+
+    ghost unmade = { λ _. ⊥ };
+
     /// Whether anything has the store's name.
-    fn is_made(&self) -> Result<bool, Unopened> {
-        has_name(self.rt)
+    fn is_made(&mut self) -> Result<bool, Unopened> {
+        let is_made = has_name(self.rt);
+        counted(&mut self.faults, is_made)
     }
 
     /// The store is made where there is none.
-    fn open(&self) -> Result<SqlKeeper<FileStore<File>>, Unopened> {
-        make_file(self.rt)?;
-        match Connection::open(self.rt, STORE) {
-            Ok(connection) => keeper_over(self.rt, connection),
-            Err(error) => Err(Unopened::Database(error)),
-        }
+    fn open(&mut self) -> Result<SqlKeeper<FileStore<File>>, Unopened> {
+        let opened = open_store(self.rt);
+        counted(&mut self.faults, opened)
     }
 
     /// What is kept in the log beside the store is copied into it. Where that fails nothing is
     /// lost, since the next opening finds the log; but the fault is told.
-    fn close(&self, kept: SqlKeeper<FileStore<File>>) -> Result<(), OutsideErr> {
-        match kept.close().close() {
+    fn close(&mut self, kept: SqlKeeper<FileStore<File>>) -> Result<(), OutsideErr> {
+        let closed = kept.close().close().map_err(Unopened::Database);
+        match counted(&mut self.faults, closed) {
             Ok(()) => Ok(()),
-            Err(_) => Err(OutsideErr::Failed),
+            Err(refusal) => Err(refusal.outside()),
         }
+    }
+
+    fn count_fault(&mut self) {
+        self.faults = self.faults.saturating_add(1);
+    }
+}
+
+/// The keeper over the store, which is made where there is none.
+fn open_store(rt: &HostRuntime) -> Result<SqlKeeper<FileStore<File>>, Unopened> {
+    let is_new = make_file(rt)?;
+    admit(rt, rt.alloc(), is_new)?;
+    match Connection::open(rt, STORE) {
+        Ok(connection) => keeper_over(rt, connection),
+        Err(error) => Err(Unopened::Database(error)),
     }
 }
 
@@ -87,30 +132,73 @@ fn has_name<R: Files>(rt: &R) -> Result<bool, Unopened> {
     }
 }
 
-/// Makes the empty file of the store, where nothing has its name, and refuses one that is there and
-/// exposed.
-fn make_file<R: Files>(rt: &R) -> Result<(), Unopened> {
+/// Makes the empty file of the store, where nothing has its name. Whether it was made.
+fn make_file<R: Files>(rt: &R) -> Result<bool, Unopened> {
     let made = OpenOptions::new()
         .write(true)
         .create_new(true)
         .mode(OWNER_ALONE)
         .open(rt, STORE);
     match made {
-        Ok(_) => Ok(()),
-        Err(error) if error.kind() == ErrorKind::AlreadyExists => admit(rt),
+        Ok(_) => Ok(true),
+        Err(error) if error.kind() == ErrorKind::AlreadyExists => Ok(false),
         Err(error) => Err(Unopened::File(error.kind())),
     }
 }
 
-/// Refuses a file that is exposed, and a link to nothing, at whose end SQLite would make such a
-/// one.
-fn admit<R: Files>(rt: &R) -> Result<(), Unopened> {
-    match fs::metadata(rt, STORE) {
-        Ok(metadata) if is_exposed(metadata.len(), metadata.permissions().mode()) => {
-            Err(Unopened::Exposed)
-        }
+/// Refuses a store that lets others in: a file that is empty, and exposed or, if it isn't new,
+/// another user's; one beside which a file lets others in; one with a second name, which SQLite
+/// doesn't open; and a link to nothing, at whose end SQLite would make a file that is exposed.
+fn admit<R: Files>(rt: &R, alloc: Global, is_new: bool) -> Result<(), Unopened> {
+    let store = match fs::metadata(rt, STORE) {
+        Ok(store) => store,
+        Err(error) => return Err(Unopened::File(error.kind())),
+    };
+    if is_exposed(store.len(), store.mode()) {
+        return Err(Unopened::Exposed);
+    }
+    if !is_new && is_anothers(rt, &store)? {
+        return Err(Unopened::Anothers);
+    }
+    if store.nlink() > 1 {
+        return Err(Unopened::Linked);
+    }
+    for end in SIDES {
+        admit_beside(rt, alloc, end, access_of(&store))?;
+    }
+    Ok(())
+}
+
+/// Refuses a store with a file beside it that lets others in. Where the store is a link, these are
+/// beside the file that it leads to.
+fn admit_beside<R: Files>(rt: &R, alloc: Global, end: &str, store: Access) -> Result<(), Unopened> {
+    let path = match rt.canonicalize(alloc, STORE) {
+        Ok(path) => path,
+        Err(error) => return Err(Unopened::File(error.kind())),
+    };
+    let Ok(name) = format!(in alloc; "{}{end}", path.as_str()) else {
+        return Err(Unopened::File(ErrorKind::OutOfMemory));
+    };
+    match rt.symlink_metadata(name.as_str()) {
+        Ok(side) if lets_in(access_of(&side), store) => Err(Unopened::Beside),
         Ok(_) => Ok(()),
+        Err(error) if error.kind() == ErrorKind::NotFound => Ok(()),
         Err(error) => Err(Unopened::File(error.kind())),
+    }
+}
+
+/// Who may use a file.
+#[derive(Clone, Copy)]
+struct Access {
+    mode: u32,
+    owner: u32,
+}
+
+/// Who may use a file of these metadata.
+fn access_of(file: &Metadata) -> Access {
+    Access {
+        mode: file.mode(),
+        owner: file.uid(),
     }
 }
 
@@ -121,4 +209,26 @@ fn is_exposed(length: u64, mode: u32) -> bool
     ensures { result ≡ is_exposed length mode }
 {
     length < 2 && mode & OTHERS != 0
+}
+
+/// Whether the file, which SQLite takes for empty, is another user's than who runs the program. Its
+/// owner could read what is written into it, whatever its mode is. Errs where the system doesn't
+/// tell who runs the program.
+fn is_anothers<R: Files>(rt: &R, store: &Metadata) -> Result<bool, Unopened> {
+    if store.len() >= 2 {
+        return Ok(false);
+    }
+    match fs::metadata(rt, PROCESS) {
+        Ok(process) => Ok(process.uid() != store.uid()),
+        Err(error) => Err(Unopened::File(error.kind())),
+    }
+}
+
+/// Whether a file beside a store lets in whom the store doesn't: its mode allows others more; or
+/// the store is its owner's alone, and the file is another user's.
+fn lets_in(side: Access, store: Access) -> bool
+    ensures { result ≡ lets_in side store }
+{
+    let open = store.mode & OTHERS;
+    (side.mode & OTHERS) | open != open || (open == 0 && side.owner != store.owner)
 }

@@ -123,10 +123,11 @@ module _ {S : Type 0} (g : Ghosts S) (auction : Auction) (old new : Held S) (sto
 
 -- what was made of a store by keeping an auction: it stands there, and the rows of other ids are as
 -- they were
-pub kept_stands : {S : Type 0} (g : Ghosts S) (auction : Auction) (old : Held S) (trees : Trees)
-    → IsStore (state g old).now → length auction.seals ≤ 64 → Keeps g auction old trees
-    → (last : Database) × (trees ≡ last.trees) × IsStoreStep auction.id (state g old).now last
-    × Stands trees auction
-kept_stands g auction old trees store few it =
-    let made = written_stands g auction old it.0 store few it.1 in
-    ((state g it.0).now, it.2, made.0, subst (λ t. Stands t auction) (sym it.2) made.1)
+pub kept_stands : {S : Type 0} (g : Ghosts S) (auction : Auction) (old : Held S) (whole : Database)
+    → IsStore (state g old).now → length auction.seals ≤ 64 → Keeps g auction old whole
+    → IsStoreStep auction.id (state g old).now whole × Stands whole.trees auction
+kept_stands g auction old whole store few it =
+    let made = written_stands g auction old it.0 store few it.1 in (
+      subst (IsStoreStep auction.id (state g old).now) (sym it.2) made.0,
+      subst (λ (d : Database). Stands d.trees auction) (sym it.2) made.1,
+    )

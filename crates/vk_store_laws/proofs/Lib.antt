@@ -16,3 +16,4 @@ pub mod Making
 pub mod Marks
 pub mod Lifting
 pub mod Opening
+pub mod Runs

@@ -250,22 +250,21 @@ prepared_from g old new firsts store tells it =
     )
 
 -- nothing else can be made of it: the tables of a new store, and those of the number 2, are others
-pub prepared_tells : {S : Type 0} (g : Ghosts S) (old : Held S) (trees : Trees)
+pub prepared_tells : {S : Type 0} (g : Ghosts S) (old : Held S) (whole : Database)
     (firsts : FirstLedger) → IsFirstStore (state g old).now
     → TellsFirst (state g old).now.trees firsts
-    → Prepares g old trees → ((last : Database) × (trees ≡ last.trees) × IsStore last)
-    × TablesTell trees (lifted_ledger firsts)
-prepared_tells g old trees firsts store tells (Blank, has, it) =
+    → Prepares g old whole → IsStore whole × TablesTell whole.trees (lifted_ledger firsts)
+prepared_tells g old whole firsts store tells (Blank, has, it) =
     absurd (let e : ◌≡◌ {A = ℕ} 3 0 =
     count_is old.schema first_store_schema 0 store.schema (ap length has.0) in omega (arith, e))
-prepared_tells g old trees firsts store tells (First, has, it) =
+prepared_tells g old whole firsts store tells (First, has, it) =
     let last = it.0 in
     let made = prepared_from g (record old { in_transaction = true }) last firsts store tells it.1
     in (
-      ((state g last).now, it.2, made.0),
-      subst (λ t. TablesTell t (lifted_ledger firsts)) (sym it.2) made.1,
+      subst IsStore (sym it.2) made.0,
+      subst (λ (d : Database). TablesTell d.trees (lifted_ledger firsts)) (sym it.2) made.1,
     )
-prepared_tells g old trees firsts store tells (Second, has, it) =
+prepared_tells g old whole firsts store tells (Second, has, it) =
     absurd (let e : ◌≡◌ {A = ℕ} 3 4 =
     count_is old.schema first_store_schema 4 store.schema has.tables in omega (arith, e))
-prepared_tells g old trees firsts store tells (Other, has, it) = absurd it.1
+prepared_tells g old whole firsts store tells (Other, has, it) = absurd it.1

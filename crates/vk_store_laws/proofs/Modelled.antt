@@ -1,5 +1,5 @@
 -- A store whose tables tell a ledger answers and keeps as the ledger says.
-use Rattle.std.proofs.Common.{◌≡◌, ◌≢◌, ℕ, List, [], ◌∷◌, cond, map, refl, ap, sym, subst, ◌∙◌, inl, inr, Option, Some, None, is_eq, nat_cmp}
+use Rattle.std.proofs.Common.{◌≡◌, ◌≢◌, ◌⊎◌, ℕ, List, [], ◌∷◌, cond, map, refl, ap, sym, subst, ◌∙◌, inl, inr, Option, Some, None, is_eq, nat_cmp}
 use Rattle.std.specs.Prelude.{IfSome, IsPermutation}
 use Rattle.std.specs.FinMap.{empty, get, insert, get-empty, get-insert}
 use Rattle.std.specs.Cmp.Lexicographic.{slice_cmp}
@@ -73,6 +73,20 @@ held_still old new id other (Some auction) apart keeps (same, stands) =
             stands.seals;
       },
     )
+
+-- what a ledger with one more auction has under an id
+pub held_at : (ledger : Ledger) (auction : Auction) (id : List ℕ)
+    → ((id ≡ auction.id) × (get (insert ledger auction.id auction) id ≡ Some auction))
+    ⊎ (get (insert ledger auction.id auction) id ≡ get ledger id)
+held_at ledger auction id =
+    let is = get-insert nat_list_cmp_total ledger auction.id auction id in
+    elim (cases_Bool (is_eq (slice_cmp nat_cmp id auction.id))) [
+      | inl same ↦ inl (
+        (bytes_eq-Decides id auction.id).0 (sym (is_eq-slice_cmp id auction.id) ∙ same),
+        is ∙ ap (λ b. cond b (Some auction) (get ledger id)) same,
+      )
+      | inr differs ↦ inr (is ∙ ap (λ b. cond b (Some auction) (get ledger id)) differs)
+    ]
 
 -- once an auction is kept the tables tell the ledger with it
 pub kept_is_told : (old new : Trees) (ledger : Ledger) (auction : Auction) → IsAuction auction

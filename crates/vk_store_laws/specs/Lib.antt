@@ -3,3 +3,4 @@ pub mod Rows
 pub mod Holding
 pub mod Telling
 pub mod Former
+pub mod Runs

@@ -8,7 +8,8 @@ ghost use Rattle.sqlite.specs.State.{HasCleanDisk};
 ghost use Rattle.sqlite.specs.Tree.{Trees};
 ghost use Rattle.vk_io.specs.declared.errors.OutsideErr.{OutsideErr};
 ghost use Rattle.vk_commit.specs.Values.{AreBytes};
-ghost use Rattle.vk_keeper.specs.Auctions.{IsAuction};
+ghost use Rattle.vk_reply.specs.declared.challenge.Challenge.{Challenge};
+ghost use Rattle.vk_keeper.specs.Auctions.{IsAuction, challenge_of};
 ghost use Rattle.vk_keeper.specs.First.{FirstLedger, lifted_ledger};
 ghost use Rattle.vk_keeper.specs.Ledgers.{Ledger};
 ghost use Rattle.vk_keeper.specs.declared.auction.Auction.{Auction};
@@ -19,6 +20,7 @@ ghost use Rattle.vk_keeper_sql.specs.Writing.{Keeps};
 ghost use Rattle.vk_keeper_sql.specs.declared.errors.OpenErr.{OpenErr};
 ghost use Rattle.vk_store_laws.specs.Former.{IsFirstStore, TellsFirst};
 ghost use Rattle.vk_store_laws.specs.Holding.{IsStore, Stands};
+ghost use Rattle.vk_store_laws.specs.Runs.{Act, AllSpare, HasFound, LeadOn, Runs, Tells};
 ghost use Rattle.vk_store_laws.specs.Tables.{no_schema};
 ghost use Rattle.vk_store_laws.specs.Telling.{TablesTell};
 
@@ -42,12 +44,11 @@ pub fn what_is_answered_is_what_the_ledger_has<S: Alter>()
 /// A law: what is made of a store that tells a ledger by keeping an auction is a store that tells
 /// the ledger with the auction.
 pub fn what_is_kept_is_in_the_ledger<S: Alter>()
-    ensures { (old : Held S) (auction : Auction) (trees : Trees) (ledger : Ledger)
+    ensures { (old : Held S) (auction : Auction) (whole : Database) (ledger : Ledger)
         → IsAuction auction
         → IsStore (state S.Store old).now → TablesTell (state S.Store old).now.trees ledger
-        → Keeps S.Store auction old trees
-        → ((last : Database) × (trees ≡ last.trees) × IsStore last)
-        × TablesTell trees (insert ledger auction.id auction) }
+        → Keeps S.Store auction old whole
+        → IsStore whole × TablesTell whole.trees (insert ledger auction.id auction) }
 {}
 
 /// A law: what is made of an empty store as it is opened is a store that tells the ledger without
@@ -94,11 +95,10 @@ pub fn a_crash_leaves_the_ledger_of_before_or_after<S: Alter>()
 /// other, if what a crash could leave before told the first; and where the opening was not refused
 /// the store tells the second.
 pub fn a_store_from_before_tells_its_ledger_lifted<S: Alter>()
-    ensures lifted { (old : Held S) (trees : Trees) (firsts : FirstLedger)
+    ensures lifted { (old : Held S) (whole : Database) (firsts : FirstLedger)
         → IsFirstStore (state S.Store old).now → TellsFirst (state S.Store old).now.trees firsts
-        → Prepares S.Store old trees
-        → ((last : Database) × (trees ≡ last.trees) × IsStore last)
-        × TablesTell trees (lifted_ledger firsts) }
+        → Prepares S.Store old whole
+        → IsStore whole × TablesTell whole.trees (lifted_ledger firsts) }
     ensures crash { (old : Held S) (new : Held S) (firsts : FirstLedger)
         (result : Result Unit OpenErr)
         → IsFirstStore (state S.Store old).now → TellsFirst (state S.Store old).now.trees firsts
@@ -113,9 +113,9 @@ pub fn a_store_from_before_tells_its_ledger_lifted<S: Alter>()
 /// A law: a store that told a ledger tells it once it was opened again, and whatever a crash leaves
 /// of it does so, if what a crash could leave before did.
 pub fn a_store_that_is_opened_again_tells_its_ledger<S: Alter>()
-    ensures same { (old : Held S) (trees : Trees) → IsStore (state S.Store old).now
-        → Prepares S.Store old trees
-        → trees ≡ (state S.Store old).now.trees }
+    ensures same { (old : Held S) (whole : Database) → IsStore (state S.Store old).now
+        → Prepares S.Store old whole
+        → whole ≡ (state S.Store old).now }
     ensures crash { (old : Held S) (new : Held S) (ledger : Ledger) (result : Result Unit OpenErr)
         → IsStore (state S.Store old).now → TablesTell (state S.Store old).now.trees ledger
         → ((trees : Trees) → (state S.Store old).may_leave trees → TablesTell trees ledger)
@@ -123,4 +123,30 @@ pub fn a_store_that_is_opened_again_tells_its_ledger<S: Alter>()
         → HasCleanDisk (state S.Store new)
         → ((trees : Trees) → (state S.Store new).may_leave trees → TablesTell trees ledger)
         × OnOk result (TablesTell (state S.Store new).committed.trees ledger) }
+{}
+
+/// A law: behind any list of calls, crashes and openings a store that told a ledger tells the one
+/// that the list leads to: what was found is what the ledger had, what was kept is in it, and of
+/// what was stopped nothing is in it, or all. Where a crash left tables, they are read back as they
+/// were made.
+pub fn a_store_tells_the_ledger_of_its_calls<S: Alter>()
+    ensures begun { (old : Held S) (new : Held S) → (state S.Store old).now.schema ≡ no_schema
+        → HasCleanDisk (state S.Store new)
+        → CommitsAtOnce {E = OpenErr} (Prepares S.Store old) (state S.Store old)
+        (state S.Store new) (Ok tt)
+        → Tells S.Store new empty }
+    ensures run { (acts : List Act) (old : Held S) (new : Held S) (ledger : Ledger)
+        → Runs S.Store acts old new → Tells S.Store old ledger
+        → (after : Ledger) × LeadOn acts ledger after × Tells S.Store new after }
+{}
+
+/// A law: an auction whose challenge is answered is the one that is found under its id behind any
+/// list of calls, crashes and openings, where no call is asked to put another one in its place.
+pub fn what_is_answered_is_found_for_ever<S: Alter>()
+    ensures { (acts : List Act) (old : Held S) (new : Held S) (last : Held S) (ledger : Ledger)
+        (id : List ℕ) (held : Auction) (challenge : Challenge) (answer : Option Auction)
+        → Tells S.Store old ledger → get ledger id ≡ Some held
+        → challenge_of held.phase ≡ Some challenge
+        → AllSpare acts ledger → Runs S.Store acts old new → HasFound S.Store id answer new last
+        → answer ≡ Some held }
 {}

@@ -1,7 +1,10 @@
 use Rattle.std.proofs.Common.{◌∙◌, arith}
 use Rattle.sqlite.specs.Held.{state}
 use Rattle.sqlite.specs.State.{HasCleanDisk}
+use Rattle.sqlite.proofs.InsideLemmas.{keeps_then}
 use Rattle.sqlite.proofs.StateLemmas.{survives_then}
+use Rattle.vk_keeper_sql.proofs.AtOnce.{was_clean}
+use Rattle.vk_keeper_sql.proofs.Inside.{stops_then}
 use Rattle.vk_keeper_sql.proofs.Lists.{terms_next}
 use Rattle.vk_keeper_sql.proofs.lifting.add_terms.Goals as goal
 
@@ -22,4 +25,22 @@ loop-row-preserved g c =
       crash = survives_then (state g.S.Store first) (state g.S.Store mid) (state g.S.Store last) _ _
           _ (λ _ db no. no) (λ _ db no. no) c.loop-row.invariant.crash
           c.add_first_terms.ensures.crash;
+      stays = λ clean inside.
+          let was : HasCleanDisk (state g.S.Store mid) =
+          omega (arith, c.add_first_terms.ensures.crash.clean) in
+          let before = c.loop-row.invariant.stays was inside in
+          let step = c.in_ok-add_first_terms.ensures.stays clean before.1 in
+          (keeps_then _ _ _ before.0 step.kept, step.inside);
     }
+
+pub returns-in_err-add_first_terms-clause-stays : goal.returns-in_err-add_first_terms-clause-stays
+returns-in_err-add_first_terms-clause-stays g c clean inside =
+    let was = was_clean _ _ c.add_first_terms.ensures.crash clean in
+    let before = c.loop-row.invariant.stays was inside in
+    stops_then _ _ _ c.add_first_terms.result c.from_residual.result c.from_residual.ensures.0 before.0
+    (c.add_first_terms.ensures.stays clean before.1)
+
+pub returns-clause-stays : goal.returns-clause-stays
+returns-clause-stays g c clean inside =
+    let kept = c.loop-row.invariant.stays clean inside in
+    record { kept = kept.0; inside = kept.1 }

@@ -1,7 +1,10 @@
 use Rattle.std.proofs.Common.{◌∙◌, arith}
 use Rattle.sqlite.specs.Held.{state}
 use Rattle.sqlite.specs.State.{HasCleanDisk}
+use Rattle.sqlite.proofs.InsideLemmas.{keeps_then}
 use Rattle.sqlite.proofs.StateLemmas.{survives_then}
+use Rattle.vk_keeper_sql.proofs.AtOnce.{was_clean}
+use Rattle.vk_keeper_sql.proofs.Inside.{stops_then}
 use Rattle.vk_keeper_sql.proofs.Lists.{add_next}
 use Rattle.vk_keeper_sql.proofs.seals.add_seals.Goals as goal
 
@@ -20,4 +23,22 @@ loop-i-preserved g c =
           (c.loop-i.invariant.added was) (c.in_ok-add_seal.ensures.ran clean);
       crash = survives_then (store first) (store mid) (store last) _ _ _ (λ _ db no. no)
           (λ _ db no. no) c.loop-i.invariant.crash c.add_seal.ensures.crash;
+      stays = λ clean inside.
+          let was : HasCleanDisk (state g.S.Store mid) =
+          omega (arith, c.add_seal.ensures.crash.clean) in
+          let before = c.loop-i.invariant.stays was inside in
+          let step = c.in_ok-add_seal.ensures.stays clean before.1 in
+          (keeps_then _ _ _ before.0 step.kept, step.inside);
     }
+
+pub returns-in_err-add_seal-clause-stays : goal.returns-in_err-add_seal-clause-stays
+returns-in_err-add_seal-clause-stays g c clean inside =
+    let was = was_clean _ _ c.add_seal.ensures.crash clean in
+    let before = c.loop-i.invariant.stays was inside in
+    stops_then _ _ _ c.add_seal.result c.from_residual.result c.from_residual.ensures.0 before.0
+    (c.add_seal.ensures.stays clean before.1)
+
+pub returns-clause-stays : goal.returns-clause-stays
+returns-clause-stays g c clean inside =
+    let kept = c.loop-i.invariant.stays clean inside in
+    record { kept = kept.0; inside = kept.1 }

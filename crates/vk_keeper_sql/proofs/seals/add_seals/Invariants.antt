@@ -1,6 +1,6 @@
-use Rattle.std.proofs.Common.{◌≡◌, take}
+use Rattle.std.proofs.Common.{◌≡◌, take, IsTrue}
 use Rattle.sqlite.specs.Held.{state}
-use Rattle.sqlite.specs.State.{HasCleanDisk}
+use Rattle.sqlite.specs.State.{HasCleanDisk, KeepsCommit}
 use Rattle.vk_keeper_sql.specs.Transactions.{CommitsNothing}
 use Rattle.vk_keeper_sql.specs.Writing.{AddsSeals}
 use Rattle.vk_keeper_sql.proofs.seals.add_seals.Given as goal
@@ -14,4 +14,9 @@ invariant-loop-i g l = record {
       l.transaction.conn.now;
   crash : CommitsNothing (state g.S.Store l.fn.transaction.conn.now)
       (state g.S.Store l.transaction.conn.now);
+  stays : HasCleanDisk (state g.S.Store l.transaction.conn.now)
+      → IsTrue l.fn.transaction.conn.now.in_transaction
+      → KeepsCommit (state g.S.Store l.fn.transaction.conn.now)
+      (state g.S.Store l.transaction.conn.now)
+      × IsTrue l.transaction.conn.now.in_transaction;
 }

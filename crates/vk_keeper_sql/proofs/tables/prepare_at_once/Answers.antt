@@ -1,5 +1,4 @@
-use Rattle.std.proofs.Common.{◌≡◌, true, Ok, Err, refl, ap, subst, rules}
-use Rattle.sqlite.specs.Effect.{Database}
+use Rattle.std.proofs.Common.{◌≡◌, true, Ok, Err, refl, subst, rules}
 use Rattle.sqlite.specs.Store.{Ghosts}
 use Rattle.sqlite.specs.Held.{Held, state}
 use Rattle.sqlite.specs.State.{HasCleanDisk}
@@ -7,64 +6,72 @@ use Rattle.vk_keeper_sql.specs.Transactions.{CommitsAtOnce}
 use Rattle.vk_keeper_sql.specs.declared.layout.Layout.{Layout}
 use Rattle.vk_keeper_sql.specs.Layouts.{HasLayout}
 use Rattle.vk_keeper_sql.specs.Opening.{Prepares, PreparesFrom}
-use Rattle.vk_keeper_sql.proofs.AtOnce.{rolled_back_at_once, committed_at_once}
+use Rattle.vk_keeper_sql.proofs.AtOnce.{rolled_back, rolled_back_at_once, commit_done, commit_failed, committed_at_once, late_clean, was_clean}
 use Rattle.vk_keeper_sql.proofs.tables.prepare_at_once.Goals as goal
 
 -- what is made in the transaction is made as the store is prepared
 prepared : {S : Type 0} (g : Ghosts S) (old begun last : Held S) (layout : Layout)
     → HasLayout layout old.schema → begun ≡ record old { in_transaction = true }
-    → PreparesFrom g layout begun last → Prepares g old (state g last).now.trees
+    → PreparesFrom g layout begun last → Prepares g old (state g last).now
 prepared g old begun last layout has is made = (layout, has, (last, rw is at made, refl))
 
 pub returns-in_err-prepare_within : goal.returns-in_err-prepare_within
 returns-in_err-prepare_within g c =
+    let store = state g.S.Store in
     let old = c.args.connection.now in
-    let Makes = Prepares g.S.Store old in
-    let mid = state g.S.Store c.prepare_within.new.transaction.conn.now in
     let last = c.drop-transaction.new.self.0 in
+    let Makes = Prepares g.S.Store old in
+    let mid = store c.prepare_within.new.transaction.conn.now in
     let inside = rw c.transaction-transaction.ensures.begun at c.prepare_within.ensures.crash in
-    let whole = rolled_back_at_once g.S.Store old mid (state g.S.Store last) inside Makes
-    c.from_residual.result c.from_residual.ensures.0 c.drop-transaction.ensures.survives in
+    let stays = rw c.transaction-transaction.ensures.begun at c.prepare_within.ensures.stays in
+    let end = c.drop-transaction.ensures in
+    let whole = rolled_back_at_once g.S.Store old mid (store last) inside Makes
+    c.from_residual.result c.from_residual.ensures.0 end.survives
+    (λ clean. rolled_back g.S.Store old mid (store last)
+    (stays (was_clean _ _ end.survives clean) refl).kept (end.undone clean)) in
     let same : last ≡ c.connection-1.given.0 = search rules in
     record {
-      crash = subst (λ h. CommitsAtOnce Makes (state g.S.Store old) (state g.S.Store h)
-          c.from_residual.result) same whole;
+      crash = subst (λ h. CommitsAtOnce Makes (store old) (store h) c.from_residual.result)
+          same whole;
     }
 
 pub returns-in-Err : goal.returns-in-Err
 returns-in-Err g c =
+    let store = state g.S.Store in
     let old = c.args.connection.now in
-    let Makes = Prepares g.S.Store old in
-    let mid = state g.S.Store c.prepare_within.new.transaction.conn.now in
     let last = c.commit.new.self.0 in
-    let refused = Err c.from.result in
+    let Makes = Prepares g.S.Store old in
+    let mid = store c.prepare_within.new.transaction.conn.now in
     let inside = rw c.transaction-transaction.ensures.begun at c.prepare_within.ensures.crash in
-    let made : HasCleanDisk mid → Makes mid.now.trees = λ clean.
+    let stays = rw c.transaction-transaction.ensures.begun at c.in_ok-prepare_within.ensures.stays in
+    let refused = Err c.from.result in
+    let end = c.commit.ensures in
+    let made : HasCleanDisk mid → Makes mid.now = λ clean.
     prepared g.S.Store old _ _ c.args.layout c.requires.layout
     c.transaction-transaction.ensures.begun (c.in_ok-prepare_within.ensures.prepared clean) in
-    let whole = committed_at_once g.S.Store old mid (state g.S.Store last) inside Makes refused made
-    c.commit.ensures.survives (λ clean. tt) in
+    let whole = committed_at_once g.S.Store old mid (store last) inside Makes refused made
+    end.survives (λ clean. tt) (λ clean. tt)
+    (λ clean.
+    let step = stays (late_clean _ _ _ end.survives clean) refl in
+    commit_failed g.S.Store old mid (store last) c.in-Err.error step.kept step.inside
+    (c.in-Err.ensures.err clean)) in
     let same : last ≡ c.connection-2-1.given.0 = search rules in
-    record {
-      crash = subst (λ h. CommitsAtOnce Makes (state g.S.Store old) (state g.S.Store h)
-          refused) same whole;
-    }
+    record { crash = subst (λ h. CommitsAtOnce Makes (store old) (store h) refused) same whole }
 
 pub returns-in-Ok : goal.returns-in-Ok
 returns-in-Ok g c =
+    let store = state g.S.Store in
     let old = c.args.connection.now in
     let last = c.commit.new.self.0 in
     let Makes = Prepares g.S.Store old in
-    let mid = state g.S.Store c.prepare_within.new.transaction.conn.now in
+    let mid = store c.prepare_within.new.transaction.conn.now in
     let inside = rw c.transaction-transaction.ensures.begun at c.prepare_within.ensures.crash in
-    let made : HasCleanDisk mid → Makes mid.now.trees = λ clean.
+    let end = c.commit.ensures in
+    let made : HasCleanDisk mid → Makes mid.now = λ clean.
     prepared g.S.Store old _ _ c.args.layout c.requires.layout
     c.transaction-transaction.ensures.begun (c.in_ok-prepare_within.ensures.prepared clean) in
-    let whole = committed_at_once g.S.Store old mid (state g.S.Store last) inside Makes (Ok tt) made
-    c.commit.ensures.survives
-    (λ clean. ap (λ (d : Database). d.trees) (c.in-Ok.ensures.ok clean).1.committed_is) in
+    let whole = committed_at_once g.S.Store old mid (store last) inside Makes (Ok tt) made
+    end.survives (λ clean. (c.in-Ok.ensures.ok clean).1.committed_is)
+    (λ clean. commit_done mid (store last) (c.in-Ok.ensures.ok clean).1) (λ clean. tt) in
     let same : last ≡ c.connection-2-1.given.0 = search rules in
-    record {
-      crash = subst (λ h. CommitsAtOnce Makes (state g.S.Store old) (state g.S.Store h)
-          (Ok tt)) same whole;
-    }
+    record { crash = subst (λ h. CommitsAtOnce Makes (store old) (store h) (Ok tt)) same whole }

@@ -1,4 +1,24 @@
 use Rattle.vk_program.proofs.performing.perform.Goals as goal
 
 pub returns : goal.returns
-returns g c = rw c.end.ensures assumption c.run-status.ensures
+returns g c =
+    let run = c.run-status.ensures in
+    rw c.end.ensures record {
+      done = run.done;
+      stopped = run.stopped;
+      headline = run.headline;
+      audits = run.audits;
+      claim_headline = run.claim_headline;
+      claims = run.claims;
+      matching = run.matching;
+      coins = run.coins;
+      seals = run.seals;
+      house = run.house;
+      ceremony = run.ceremony;
+      leaves = run.files;
+      usage = run.usage;
+      once = run.once;
+      keeper = run.keeper;
+      fault = run.fault;
+      no_fault = run.no_fault;
+    }

@@ -16,5 +16,5 @@ returns g c = record {
   crash = λ old new result blank.
       at_once_alike (Prepares g.S.Store old) (λ trees. TablesTell trees empty) (state g.S.Store old)
       (state g.S.Store new) result
-      (λ trees. prepared_new g.S.Store old trees blank);
+      (λ whole makes. (prepared_new g.S.Store old whole blank makes).1);
 }

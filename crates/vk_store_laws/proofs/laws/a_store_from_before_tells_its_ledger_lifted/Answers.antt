@@ -14,6 +14,6 @@ returns g c = record {
       at_once (Prepares g.S.Store old) (λ trees. TellsFirst trees firsts)
       (λ trees. TablesTell trees (lifted_ledger firsts)) (state g.S.Store old)
       (state g.S.Store new) result
-      (λ trees made. (prepared_tells g.S.Store old trees firsts store tells made).1) before once
+      (λ whole made. (prepared_tells g.S.Store old whole firsts store tells made).1) before once
       clean;
 }

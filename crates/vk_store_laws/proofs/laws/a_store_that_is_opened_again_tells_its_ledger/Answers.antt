@@ -1,4 +1,5 @@
 use Rattle.std.proofs.Common.{subst, sym}
+use Rattle.sqlite.specs.Effect.{Database}
 use Rattle.sqlite.specs.Held.{state}
 use Rattle.vk_keeper_sql.specs.Opening.{Prepares}
 use Rattle.vk_store_laws.specs.Telling.{TablesTell}
@@ -12,6 +13,6 @@ returns g c = record {
   crash = λ old new ledger result store tells.
       at_once_alike (Prepares g.S.Store old) (λ trees. TablesTell trees ledger)
       (state g.S.Store old) (state g.S.Store new) result
-      (λ trees made. subst (λ t. TablesTell t ledger)
-      (sym (prepared_stays g.S.Store old trees store made)) tells);
+      (λ whole made. subst (λ (d : Database). TablesTell d.trees ledger)
+      (sym (prepared_stays g.S.Store old whole store made)) tells);
 }

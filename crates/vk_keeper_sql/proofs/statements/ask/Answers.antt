@@ -1,0 +1,13 @@
+use Rattle.vk_keeper_sql.proofs.Inside.{shown_stays, unanswered_keeps}
+use Rattle.vk_keeper_sql.proofs.statements.ask.Goals as goal
+
+pub returns-in-Ok-clause-stays : goal.returns-in-Ok-clause-stays
+returns-in-Ok-clause-stays g c clean inside =
+    let both = shown_stays _ _ _ _ _ inside (c.in-Ok.ensures.ok clean) in
+    record { kept = both.0; inside = both.1 }
+
+pub returns-in-Err-clause-stays : goal.returns-in-Err-clause-stays
+returns-in-Err-clause-stays g c clean inside = record {
+  kept = unanswered_keeps _ _ _ _ _ (c.in-Err.ensures.err clean);
+  inside = tt;
+}
