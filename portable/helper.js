@@ -1,0 +1,79 @@
+// portable/helper.js: the two calls of the system that node has none for, made by a helper on a file
+// that it is handed as its standard input.
+//
+// The lock of an open file (F_OFD_SETLK) belongs to the open file and not to a process: so the helper
+// takes it, and ends, and it stays until this process closes the file, or ends, however that ends.
+// The built program and sqlite3 see it as any other. And whoever has a file open can tell the system
+// to drop its copies of the file's pages (posix_fadvise).
+//
+// Any tool that can make a call of the system will do; these two are nearly everywhere. There is no
+// other way round: without them nothing is locked, and it is said.
+"use strict";
+
+const SET_LOCK = 37; // F_OFD_SETLK
+const ADVISE = process.arch === "x64" ? 221 : 223; // the number of the call fadvise64
+
+// A helper is given the call and its words. It ends with 0 where the call did, with the number of
+// the system's error where it failed, and with 255 where the helper can't make it.
+const PERL = `
+my ($call, @words) = @ARGV;
+my $done = eval {
+  $call eq "lock" ? fcntl(STDIN, ${SET_LOCK}, pack("s2x4q2lx4", $words[0], 0, @words[1, 2], 0))
+                  : syscall(${ADVISE}, 0, map { $_ + 0 } @words) == 0;
+};
+exit($@ ? 255 : $done ? 0 : $! + 0);
+`;
+const PYTHON = `
+import fcntl, os, struct, sys
+words = [int(word) for word in sys.argv[2:]]
+try:
+    if sys.argv[1] == "lock":
+        fcntl.fcntl(0, ${SET_LOCK}, struct.pack("=hh4xqql4x", words[0], 0, *words[1:], 0))
+    else:
+        os.posix_fadvise(0, *words)
+except OSError as error:
+    sys.exit(error.errno)
+except BaseException:
+    sys.exit(255)
+`;
+const HELPERS = [
+  ["perl", ["-e", PERL]],
+  ["python3", ["-I", "-S", "-c", PYTHON]],
+];
+
+const NO_CALL = 38; // ENOSYS
+
+// How a helper is started: with nothing of the environment but where programs are.
+function surroundings(file) {
+  const { PATH } = process.env;
+  return { stdio: [file, "ignore", "ignore"], env: PATH === undefined ? {} : { PATH } };
+}
+
+// Whether a helper that ended so made the call.
+const hasTried = (ended) => !ended.error && ended.signal === null && ended.status < 128;
+
+// Makes the call on the open file, and answers 0, or the number of an error.
+function callOn(file, words, say) {
+  const { spawnSync } = require("child_process"); // which few commands want
+  for (const [name, before] of HELPERS) {
+    const ended = spawnSync(name, [...before, ...words.map(String)], surroundings(file));
+    if (hasTried(ended)) {
+      return ended.status;
+    }
+  }
+  const names = HELPERS.map(([name]) => name).join(" nor ");
+  say(`vickrey: a store can't be locked here: there is neither ${names} to ask Linux for the lock`);
+  return NO_CALL;
+}
+
+// Locks so many bytes of the open file from a start on, shares them, or gives them up, by its kind.
+function lockRange(file, kind, start, length, say) {
+  return callOn(file, ["lock", kind, start, length], say);
+}
+
+// Tells the system what the open file will be read like.
+function advise(file, start, length, advice, say) {
+  return callOn(file, ["advise", start, length, advice], say);
+}
+
+module.exports = { advise, lockRange };

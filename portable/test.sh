@@ -1,0 +1,142 @@
+#!/usr/bin/env bash
+# portable/test.sh PROGRAM VECTORS [PART..]: tries the program on node, portable/vickrey.js, beside
+# the built program. It wants Linux, root, the kit, gcc, node, python3 and sqlite3. The parts:
+#   calls     each call of the system beside the system's own (trials/calls.sh)
+#   vectors   the cases of all folders of VECTORS, with their runner `run-cases`
+#   program   checks/program.sh, checks/house.sh, and KILLS (20) kills a kind of checks/kill.py
+#   turns     checks/house.sh and the cases of a house, by the built program and node in turns
+#   two       two processes on one store (trials/two.py)
+#   hostile   checks/hostile.py where each call of the system fails, is interrupted or moves little,
+#             is a kill; full disks and outputs, odd names, places that can't be written; then the
+#             kills again, with the built program going on behind. QUICK= (yes) tries whole tables
+#   refused   what is refused: no helper for a lock, a damaged module, another system
+# Where none is named, all of them. The status is 0 where nothing fails.
+set -u
+[ $# -ge 2 ] || { sed -n '2,14s/^# //p' "$0"; exit 2; }
+here=$(realpath "$(dirname "$0")")
+top=$(dirname "$here")
+program=$(realpath "$1")
+vectors=$(realpath "$2")
+shift 2
+[ $# -gt 0 ] || set -- calls vectors program turns two hostile refused
+node=$(command -v node)
+work=$(mktemp -d)
+trap 'rm -rf "$work"' EXIT
+chmod 755 "$work"
+failed=0
+
+# wrapper NAME COMMAND..: a program of that name that is this command
+wrapper() {
+  local name=$1
+  shift
+  printf '#!/bin/sh\nexec %s"$@"\n' "$(printf '%q ' "$@")" >"$work/$name"
+  chmod 755 "$work/$name"
+}
+
+# note WHAT COMMAND..: a fault is counted, and it goes on
+note() {
+  local what=$1 last
+  shift
+  if ! "$@" >"$work/said" 2>&1; then
+    failed=$((failed + 1))
+    echo "FAILED: $what"
+    grep -v '^$' "$work/said" | tail -n 40
+  fi
+  last=$(tail -n 1 "$work/said")
+  echo "$what: ${last:-as it has to be}"
+}
+
+calls() { note 'calls of the system' "$here/trials/calls.sh"; }
+
+# cases COMMAND FOLDER..: their cases
+cases() {
+  local command=$1 folder
+  shift
+  for folder; do
+    note "cases of $folder" python3 "$vectors/run-cases" "$command" "$vectors/$folder"
+  done
+}
+
+vectors() {
+  local folder folders=()
+  for folder in "$vectors"/*/cases; do folders+=("$(basename "$(dirname "$folder")")"); done
+  cases "$work/portable" "${folders[@]}"
+}
+
+program() {
+  note 'checks/program.sh' "$top/checks/program.sh" "$work/portable"
+  note 'checks/house.sh' "$top/checks/house.sh" "$work/portable"
+  note 'checks/kill.py' python3 "$top/checks/kill.py" "$work/portable" "${KILLS:-20}"
+}
+
+turns() {
+  note 'checks/house.sh in turns' "$top/checks/house.sh" "$work/turns"
+  cases "$work/turns" house ledger
+}
+
+two() { note 'two processes on one store' python3 "$here/trials/two.py" "$program"; }
+
+# launcher NAME OTHER: the program on node whose calls fail as the settings say; where there are no
+# such settings, the program OTHER. It is linked statically, so that nothing is loaded before it
+launcher() {
+  gcc -static -O1 "-DNODE=\"$node\"" "-DSCRIPT=\"$here/trials/faults.js\"" "-DOTHER=\"$2\"" \
+    "$here/trials/launch.c" -o "$work/$1"
+}
+
+hostile() {
+  local table quick=()
+  [ "${QUICK-yes}" != yes ] || quick=(--quick)
+  launcher faulty "$work/portable"
+  for table in calls interrupted killed disk output places spellings; do
+    note "hostile: $table" python3 "$top/checks/hostile.py" "$work/faulty" "${quick[@]}" \
+      --no-closed --only $table
+  done
+  launcher before-program "$program"
+  note 'hostile: killed, and then the built program' python3 "$top/checks/hostile.py" \
+    "$work/before-program" "${quick[@]}" --only killed
+}
+
+# refusal STATUS TEXT COMMAND..: it ends so and says the text, and leaves no file but those of a store
+refusal() {
+  local status=$1 text=$2 got
+  shift 2
+  rm -rf "$work/place"
+  mkdir "$work/place"
+  (cd "$work/place" && "$@" >"$work/out" 2>"$work/err")
+  got=$?
+  if [ $got -ne "$status" ] || ! grep -qF -- "$text" "$work/err"; then
+    echo "status $got, not $status; said $(cat "$work/err")"
+    return 1
+  fi
+  [ "$(find "$work/place" -type f -size +0 | wc -l)" -eq 0 ]
+}
+
+refused() {
+  local id=000102030405060708090a0b0c0d0e0f
+  mkdir "$work/bin" "$work/copy"
+  ln -s "$node" "$work/bin/node"
+  note 'no helper for a lock' refusal 6 'neither perl nor python3' \
+    env "PATH=$work/bin" node "$here/vickrey.js" announce $id 4 2
+  cp "$here"/*.js "$here"/vickrey.wasm.* "$work/copy"
+  truncate -s -1000 "$work/copy/vickrey.wasm.gz"
+  note 'a damaged module' refusal 69 'unexpected end of file' node "$work/copy/vickrey.js" show $id
+  printf 'Object.defineProperty(process, "platform", { value: "win32" });' >"$work/windows.js"
+  note 'another system' refusal 69 'it runs under Linux alone' \
+    node -r "$work/windows.js" "$here/vickrey.js" show $id
+  printf 'Object.defineProperty(process, "arch", { value: "arm" });' >"$work/arm.js"
+  note 'a processor of 32 bits' refusal 69 'processors of 64 bits' \
+    node -r "$work/arm.js" "$here/vickrey.js" show $id
+}
+
+wrapper portable "$node" "$here/vickrey.js"
+: >"$work/counter"
+chmod 666 "$work/counter"
+wrapper turns "$here/trials/turns.sh" "$work/counter" "$program"
+for part; do
+  case $part in
+    calls | vectors | program | turns | two | hostile | refused) $part ;;
+    *) echo "test.sh: no part $part"; exit 2 ;;
+  esac
+done
+echo "$failed failed"
+[ $failed -eq 0 ]

@@ -1,0 +1,101 @@
+#!/usr/bin/env node
+// portable/vickrey.js WORD..: the program `vickrey` on node, 18 or later, under Linux: the same words,
+// files, texts, statuses and store as the built program's. What is behind it is in README.md.
+"use strict";
+
+const fs = require("fs");
+const path = require("path");
+const v8 = require("v8");
+const zlib = require("zlib");
+const { Host } = require("./host.js");
+
+// Statuses that no command has: it can't run here, and the program itself stopped, a fault of ours.
+const NOT_HERE = 69;
+const STOPPED = 70;
+
+const OLDEST_NODE = 18;
+// Processors on which Linux's numbers of errors, flags and locks are those of x86-64.
+const PROCESSORS = ["x64", "arm64", "riscv64", "loong64"];
+const MODULE = path.join(__dirname, "vickrey.wasm.gz");
+const UNPACKED = 4 * 1024 * 1024; // room for it in one piece
+
+// When V8 compiles, which changes no answer: a function is looked at where it is first called, and
+// compiled well only once it was busy. Of versions that nobody tried none is set.
+const WHEN = ["--wasm-lazy-compilation", "--wasm-lazy-validation", "--wasm-tiering-budget=10000000"];
+const TRIED = [18, 20];
+
+class NotHere extends Error {}
+
+function say(line) {
+  fs.writeSync(2, `${line}\n`);
+}
+
+// What isn't known to keep a store and its secrets safe is refused.
+function admitMachine() {
+  if (process.platform !== "linux") {
+    throw new NotHere(
+      `it runs under Linux alone, and this is ${process.platform}: nobody has tried whether files ` +
+        "are synced, locked and kept to their owner here. page/vickrey.html seals, checks and " +
+        "audits in any browser",
+    );
+  }
+  if (!PROCESSORS.includes(process.arch)) {
+    throw new NotHere(`it is for processors of 64 bits (${PROCESSORS.join(", ")}), and this is ${process.arch}`);
+  }
+  if (version() < OLDEST_NODE) {
+    throw new NotHere(`it needs node ${OLDEST_NODE} or later, and this is ${process.version}`);
+  }
+}
+
+const version = () => Number(process.versions.node.split(".")[0]);
+
+// The bytes of the module. A file that was damaged doesn't unpack.
+function moduleBytes() {
+  try {
+    return zlib.gunzipSync(fs.readFileSync(MODULE), { chunkSize: UNPACKED });
+  } catch (error) {
+    throw new NotHere(`${MODULE}: ${error.message}`);
+  }
+}
+
+// The module, compiled as far as that is done beforehand.
+function moduleHere() {
+  if (TRIED.includes(version())) {
+    WHEN.forEach((flag) => v8.setFlagsFromString(flag));
+  }
+  return new WebAssembly.Module(moduleBytes());
+}
+
+// The words in their bytes, the program's own name first. node reads them as UTF-8, and would lose
+// what isn't.
+function wordsGiven() {
+  const line = fs.readFileSync("/proc/self/cmdline");
+  const words = [];
+  for (let at = 0, end; (end = line.indexOf(0, at)) >= 0; at = end + 1) {
+    words.push(line.subarray(at, end));
+  }
+  return words.slice(words.length - (process.argv.length - 1));
+}
+
+// Runs the program of the module on these words, and answers its status.
+function run(module, host) {
+  const { exports } = new WebAssembly.Instance(module, { host: host.calls() });
+  host.memory.attach(exports);
+  return exports.program_start() & 0xff;
+}
+
+function main() {
+  try {
+    admitMachine();
+    process.exitCode = run(moduleHere(), new Host(wordsGiven(), say));
+  } catch (error) {
+    say(`vickrey: ${error instanceof NotHere ? error.message : `stopped: ${error.stack}`}`);
+    process.exitCode = error instanceof NotHere ? NOT_HERE : STOPPED;
+  }
+}
+
+if (require.main === module) {
+  main();
+}
+
+module.exports = { moduleHere, run, wordsGiven };
