@@ -2,7 +2,7 @@
 # checker/compare.sh PROGRAM: runs `verify` of the program and of checker/check.py on auctions that the program makes, with and
 # without a reserve, on boards with a reserve that bench/make_board.py makes, and on damaged copies of their files, and compares
 # status and text; in the same way `claim-verify` on claim files of each kind; and `seal`, `coin-part`, `coin-join` and
-# `coin-board`, with what they write. The last line says how many of the runs agree.
+# `coin-board`, with what they write. Before all it runs the checker's own tests. The last line says how many of the runs agree.
 set -u
 [ $# -eq 1 ] || { sed -n '2,5p' "$0"; exit 2; }
 program=$(realpath "$1")
@@ -291,6 +291,8 @@ joined() {
   done
 }
 
+case='the tests of the second checker'
+agree OK "$(cd "$(dirname "$checker")" && "$python" -m unittest discover -s tests -t . 2>&1 | tail -n 1)"
 sealed
 joined
 auction 1 1 1 0

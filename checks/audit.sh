@@ -1,11 +1,14 @@
 #!/usr/bin/env bash
 # checks/audit.sh PROGRAM: tries demo/audit.sh on an honest auction, and on others where one thing each is wrong: what it says
-# is FAILED has to be just that. It wants python3, and is no part of the gate. The last line says how many cases passed and failed.
+# is FAILED has to be just that; and that `checker/check.py audit`, with an announcement and Python alone, says the same of each. Then
+# demo/take.sh, on a secret that is sent wrong at first. It wants python3, and is no part of the gate. The last line says how many
+# cases passed and failed.
 set -u
-[ $# -eq 1 ] || { sed -n '2,3p' "$0"; exit 2; }
+[ $# -eq 1 ] || { sed -n '2,5p' "$0"; exit 2; }
 program=$(realpath "$1")
 here=$(realpath "$(dirname "$0")")
 audit=$here/../demo/audit.sh
+checker=$here/../checker/check.py
 folder=$(mktemp -d)
 trap 'rm -rf "$folder"' EXIT
 cd "$folder" || exit 1
@@ -34,7 +37,36 @@ tried() {
     grep -q "^FAILED  .*$failure" said || { failed_case "$name: no line of '$failure': $(cat said errors)"; return; }
   done
   if [ "$status" != 2 ] && [ -s errors ]; then failed_case "$name: $(cat errors)"; return; fi
+  if [ "$status" != 2 ] && ! alone "$where" "${each[@]}"; then failed_case "$name, with Python alone: $(diff with alone)"; return; fi
   passed=$((passed + 1))
+}
+
+# announce ID WIDTH LANES SEATS [RESERVE [AUDITORS]]: the announcement of these words
+announce() {
+  local each seat
+  IFS=, read -ra each <<<"$4"
+  printf 'vickrey-announcement 1\nauction %s\nkind vickrey\nwidth %s\nlanes %s\nreserve %s\nunit EUR\ndecimals 2\nauditors %s\n' \
+    "$1" "$2" "$3" "${5:-none}" "${6:-0}"
+  printf '%s none\n' seals secrets board draw reply key
+  printf 'place here\nseats %s\n' ${#each[@]}
+  for seat in "${each[@]}"; do echo "seat $seat Somebody"; done
+  echo end
+}
+
+# alone FOLDER DIGEST ID WIDTH LANES SEATS BITS [SECRET]: whether check.py says ok and FAILED of the same by an announcement. What
+# it doesn't have is what the program says
+alone() {
+  local where=$1 digest=$2 id=$3 width=$4 lanes=$5 seats=$6 bits=$7 reserve='' parts='' more=()
+  [ $# -lt 8 ] || more+=(--secret "$8")
+  case ${options[0]:-} in
+    --reserve) reserve=${options[1]} ;;
+    --parts) parts=$(wc -l <"$where/${options[1]}") more+=(--parts "${options[1]}") ;;
+  esac
+  announce "$id" "$width" "$lanes" "$seats" "$reserve" "$parts" >announcement
+  (cd "$where" && python3 "$checker" audit ../announcement "$digest" . --bits "$bits" "${more[@]}") >told 2>&1
+  grep '^ok \|^FAILED' said | grep -v '  the program ' >with
+  grep '^ok \|^FAILED' told >alone
+  cmp -s with alone
 }
 
 # run STATUS WORD..: the program ends so
@@ -235,6 +267,27 @@ tried 'a secret that is none' honest 1 "$words board" 'my bid'
 tried 'a secret that is not there' honest 1 "$words nowhere" 'my bid'
 sed "s/^seat 9$/seat 10/" secret-9 >stranger
 tried 'a secret of another seat' honest 1 "$words ../stranger" 'my bid'
+
+# a secret that is wrong at first: nothing is taken, and then all are in the announced order; never in another one
+mkdir handed intake taken
+cp seal-7 seal-9 seal-300 secret-7 secret-9 secret-300 handed
+run 0 seal $id 9 2 4 "$lanes" "$two" handed/secret-9 other-seal
+announce $id 4 "$lanes" 7,9,300 >terms
+(cd intake && "$here/../demo/take.sh" ../terms ../handed "$program") >said 2>&1
+if [ $? = 1 ] && grep -q '^seat 9 .*not taken: .*ask Somebody' said && [ -z "$(ls -A intake)" ]; then
+  passed=$((passed + 1))
+else
+  failed_case "a wrong secret at first: $(cat said)"
+fi
+cp secret-9 handed
+(cd intake && "$here/../demo/take.sh" ../terms ../handed "$program") >said 2>&1 || failed_case "all secrets are right: $(cat said)"
+cd intake || exit 1
+run 0 prove $id "$one" ../taken/board
+printf 'vickrey-challenge 1\nbits %s\nend\n' $bits >../taken/challenge
+run 0 answer $id ../taken/challenge ../taken/reply
+cd ..
+cp seal-7 seal-9 seal-300 taken
+tried 'a secret that is wrong at first' taken 0 "$(digest taken) $id 4 $lanes 7,9,300 $bits ../secret-9"
 
 # a checker that says nothing, and words of another form
 honest_program=$program

@@ -66,7 +66,7 @@ def digest_of(paths):
 
 def scripts():
     """The files that decide what is drawn and what is to be said of it."""
-    parts = ["changes", "circuits", "defined", "drawn", "mutations", "reference", "remembered",
+    parts = ["announced", "changes", "circuits", "defined", "drawn", "mutations", "reference", "remembered",
              "runs", "stores", "subjects"]
     data = os.path.join(TOP, "crates", "vickrey", "data")
     found = [os.path.join(HERE, "attack", f"{part}.py") for part in parts]
@@ -149,7 +149,8 @@ def write_page(progress, seed):
     said = f"""`checks/changed.py PROGRAM` of the seed {seed}: {progress.cases():,} cases, {differ}.
 A case is a command over files of which one is changed in one to three places, or two are; or its
 words are. Compared are the status, the text, what is written, and the rows of the store. Shares and
-lists of parts are read as the coin that is made of them.
+lists of parts are read as the coin that is made of them. Announcements are read by the second
+checker, and compared are their fault lines.
 """
     with open(PAGE, "w", encoding="utf-8") as file:
         file.write(f"{text[:before]}{HEADING}\n{said}\n{table(progress)}{text[after:]}")

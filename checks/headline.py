@@ -8,6 +8,7 @@ which --write writes anew; without it the list there has to be this one.
 import os
 import re
 import sys
+import textwrap
 
 TOP = os.path.join(os.path.dirname(os.path.abspath(__file__)), "..")
 PAGE = os.path.join(TOP, "docs", "DEFINITIONS.md")
@@ -98,8 +99,9 @@ def closure():
                     if home is None:
                         kits.add(f"{module}.{first}")
                     elif "/declared/" in home:
-                        crate, _, source, kind = (home.split("/") + [first])[:1] + ["", home.split("/declared/")[1].split("/")[0], home.split("/declared/")[1].split("/")[1] if "/" in home.split("/declared/")[1] else first]
-                        declared.setdefault(f"{crate}/src/{source}.rt", set()).add(kind)
+                        inner = home.split("/declared/")[1].split("/")
+                        kind = inner[1] if len(inner) > 1 else first
+                        declared.setdefault(f"{home.split('/')[0]}/src/{inner[0]}.rt", set()).add(kind)
                     elif first:
                         todo.append((home, first))
     return needed, declared, kits
@@ -108,9 +110,11 @@ def closure():
 def section(needed, declared, kits):
     count, lines = sum(map(len, needed.values())), sum(sum(names.values()) for names in needed.values())
     types = sum(map(len, declared.values()))
-    rows = [f"What the headline says is `Headline` of `vk_app/specs/Promises`. It names definitions, and these name others: {count} of {lines} lines in",
-            f"{len(needed)} files, and {types} types that the code declares; beneath them {len(kits)} of the kit, of numbers, lists, maps and SHA-256. Who reads these",
-            "knows what is promised, and has to believe nothing else of the repository. `checks/headline.py` finds and counts them.", "",
+    said = (f"What the headline says is `Headline` of `vk_app/specs/Promises`. It names definitions, and these name others: {count} of "
+            f"{lines} lines in {len(needed)} files, and {types} types that the code declares; beneath them {len(kits)} of the kit, of "
+            "numbers, lists, maps and SHA-256. Who reads these knows what is promised, and has to believe nothing else of the "
+            "repository. `checks/headline.py` finds and counts them.")
+    rows = [*textwrap.wrap(said, 100, break_long_words=False, break_on_hyphens=False), "",
             "| File | Definitions |", "|---|---|"]
     for place in sorted(needed):
         rows.append(f"| `{place}` | {', '.join(f'`{name}`' for name in needed[place])} |")
@@ -130,7 +134,8 @@ def main(words):
             file.write(head + HEADING + made + text[behind:])
         return 0
     same = begin >= 0 and text[begin + len(HEADING):behind] == made
-    print(f"{sum(map(len, closure()[0].values()))} definitions, as docs/DEFINITIONS.md has them" if same else "docs/DEFINITIONS.md begins with another list: checks/headline.py --write")
+    print(f"{sum(map(len, closure()[0].values()))} definitions, as docs/DEFINITIONS.md has them" if same
+          else "docs/DEFINITIONS.md begins with another list: checks/headline.py --write")
     return 0 if same else 1
 
 

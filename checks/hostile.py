@@ -1,5 +1,5 @@
 #!/usr/bin/env python3
-"""hostile.py PROGRAM [--seed WORD] [--quick] [--only TABLE] [--workers N] [--keep FOLDER]
+"""hostile.py PROGRAM [--seed WORD] [--quick] [--only TABLE] [--no-closed] [--workers N] [--keep FOLDER]
 
 Attacks the built program: hostile files, hostile places, and a fault of the outside at each of its
 calls. After each run it asks for one of these, and for nothing else:
@@ -16,7 +16,8 @@ calls. After each run it asks for one of these, and for nothing else:
 It prints a table, and what differs from what is defined. What files are and what is said of them
 stands, once more, in checks/attack/reference.py. It is no part of the gate; it wants Linux, gcc and
 Python 3. The seed decides all that is drawn. --quick takes a sample of each table, and --only one
-table; --keep keeps the changed files that show a difference.
+table; --no-closed leaves out closed standard streams, in the place of which node opens /dev/null;
+--keep keeps the changed files that show a difference.
 """
 import argparse
 import concurrent.futures
@@ -85,7 +86,7 @@ def say_skipped(attack):
 
 def attack_all(arguments, folder):
     made = set_out(arguments, folder)
-    attack = Attack(made, attacked(made), random.Random(), arguments.quick)
+    attack = Attack(made, attacked(made), random.Random(), arguments.quick, arguments.no_closed)
     how = "a sample of each table" if arguments.quick else "whole tables"
     print(f"seed {arguments.seed}, {how}")
     print(f"{'table':<12} {'cases':>8} {'differ':>8}   statuses")
@@ -112,6 +113,7 @@ def main():
     parser.add_argument("--seed", default="1")
     parser.add_argument("--quick", action="store_true")
     parser.add_argument("--only", choices=[table.__name__ for table in TABLES])
+    parser.add_argument("--no-closed", action="store_true")
     parser.add_argument("--workers", type=int, default=2)
     parser.add_argument("--keep")
     arguments = parser.parse_args()

@@ -44,6 +44,12 @@ holds() {
 
 # a store is kept only where a command asks for it
 case_of 5 'missing board' '' report board
+case_of 8 'house unknown' '' show $id
+printf 'vickrey-script 1\nanswer %s challenge reply\nend\n' $id >script
+printf 'vickrey-challenge 1\nbits 01\nend\n' >challenge
+case_of 8 'house unknown' '' answer $id challenge reply
+case_of 8 $'house unknown\nend' '' ceremony script
+rm script challenge
 holds '' find . -name 'house*'
 umask 000
 
@@ -177,6 +183,40 @@ case_of 0 'answered' '' answer $id challenge reply-3
 holds '' cmp reply reply-3
 case_of 0 'proved winner 103 price 60' '' prove $id "$seed" board-3
 holds '' cmp board board-3
+
+# a store is opened beside no file that lets others in, nor where it has a second name
+rm -f house.sqlite*
+cp sound.sqlite house.sqlite
+chmod 600 house.sqlite
+for side in wal journal shm; do
+  rm -f house.sqlite-*
+  : >house.sqlite-$side
+  chmod 640 house.sqlite-$side
+  case_of 6 '' 'outside fault' show $id
+  holds "house.sqlite: a file beside it is not its owner's alone" sed -n 2p err
+  chmod 600 house.sqlite-$side
+  case_of 0 "auction $id width 8 lanes 4 seals 3 phase answered" '' show $id
+done
+ln house.sqlite second
+case_of 6 '' 'outside fault' show $id
+holds 'house.sqlite: it has a second name (a hard link)' sed -n 2p err
+rm -f second house.sqlite-*
+if [ "$(id -u)" = 0 ]; then
+  : >house.sqlite-wal
+  chmod 600 house.sqlite-wal
+  chown 65534 house.sqlite-wal
+  case_of 6 '' 'outside fault' show $id
+  holds "house.sqlite: a file beside it is not its owner's alone" sed -n 2p err
+  rm house.sqlite-wal
+  chown 65534 house.sqlite
+  case_of 0 "auction $id width 8 lanes 4 seals 3 phase answered" '' show $id
+  rm -f house.sqlite*
+  : >house.sqlite
+  chmod 600 house.sqlite
+  chown 65534 house.sqlite
+  case_of 6 '' 'outside fault' show $id
+  holds "house.sqlite: empty, and another user's" sed -n 2p err
+fi
 
 # another number
 while read -r change; do

@@ -78,7 +78,9 @@ vickrey answer "$(sed -n 's/^auction //p' board)" other other-reply || [ $? = 8 
 END
 
 begin AUCTION
-page docs/AUCTION.md "$system" 'joined auditors 3 bits 40' '24 ok, 0 FAILED' 'proved unsold' '12 ok, 0 FAILED' 'taken seat 3 position 1' < <(blocks docs/AUCTION.md)
+page docs/AUCTION.md "$system" 'joined auditors 3 bits 40' 'Seat 7 wins and pays 97.50 EUR. All 23 checks hold.' \
+  'Seat 7 wins and pays 97.50 EUR. All 20 checks hold.' '24 ok, 0 FAILED' 'proved unsold' '12 ok, 0 FAILED' 'taken seat 3 position 1' \
+  < <(blocks docs/AUCTION.md)
 begin CLAIMS
 page docs/CLAIMS.md "$system" 'claim-sample uniform 1' 'inputs 10 lanes 8 wires 747 rows 56' accepted 'refused claim-reply-1 lane 2 row 41' \
   'refused turned public' < <(blocks docs/CLAIMS.md)
@@ -86,7 +88,7 @@ begin MATCHING
 page docs/MATCHING.md "$system" 'claim-sample matching 2' 'inputs 32 lanes 8 wires 548 rows 88' accepted 'refused claim-reply-1 lane 1 row 64' \
   'refused doubled public' < <(blocks docs/MATCHING.md)
 begin MANY
-page docs/MANY.md "$system" '     20 accepted' '     20 width 16 lanes 40 seals 3 phase answered' < <(blocks docs/MANY.md)
+page docs/MANY.md "$system" '     20 accepted' '     20 width 16 lanes 40 seals 3 phase answered' 20 < <(blocks docs/MANY.md)
 begin METHOD
 page docs/METHOD.md "$system" coin.svg crates.svg < <(blocks docs/METHOD.md)
 begin manual

@@ -1,5 +1,5 @@
 #!/usr/bin/env python3
-"""checks/tests.py [--write]: counts the tests of the gate, and says if docs/TESTING.md has other numbers.
+"""checks/tests.py [--write]: counts the tests of the gate, and the must-fail edits outside of it, and says if docs/TESTING.md has other numbers.
 
 The page begins with the table of them, which --write writes anew.
 """
@@ -43,6 +43,10 @@ def edits(crate):
     return sum(name.endswith(".edit") for name, _ in below("crates", crate, "must-fail"))
 
 
+def edits_outside(crate):
+    return sum(name.endswith(".edit") for name, _ in below("checks", "edits", crate))
+
+
 def tests(crate):
     return sum(len(TEST.findall(text)) for name, text in below("crates", crate, "src") if name.endswith(".rt"))
 
@@ -57,6 +61,13 @@ def data(program, name):
         return [re.split(r" \|(?: |$)", line.rstrip("\n")) for line in file]
 
 
+def trials(program):
+    """How many trials a file of steps has, each of which begins with `#`, and how many steps that aren't said for a reader alone."""
+    with open(os.path.join(TOP, "crates", program, "data", "steps"), encoding="utf-8") as file:
+        heads = Counter(line[:1] for line in file)
+    return f"{heads['#']} trials with {sum(heads.values()) - heads['#'] - heads['-']} steps; "
+
+
 def by_command(runs):
     """How many runs there are of each command, the most first, and of words that name none."""
     counts = Counter(run[2].split(" ")[0] for run in runs)
@@ -65,31 +76,41 @@ def by_command(runs):
                      ) + f", {len(runs) - sum(count for count, _ in named)} of words that name none"
 
 
+def by_house(houses):
+    """How many houses there are, with how many commands, and how many of their calls are to fail."""
+    parts = [part.split(" ")[0] for house in houses for part in house[2:]]
+    fail = sum(part.startswith("fail-") for part in parts)
+    return f"{len(houses)} houses with {len(parts) - fail - parts.count('forget')} commands, {fail} of them over a call that fails"
+
+
 def rows():
     yield ("Must-fail edits: a change of the code, or of a definition, that the check has to refuse, named for what it breaks",
            by_crate(edits), "`rt must-fail NAME..`")
+    yield "Must-fail edits that the gate leaves out, in `checks/edits`", by_crate(edits_outside), "`checks/edits.py NAME..`"
     yield "Tests (`#[test]`)", by_crate(tests), "`rt test` in the crate"
     parts = cases("vectors", streams="streams of words", lists="lists of draws", wires="wires", fours="times four wires", bids="outcomes",
                   sales="sales", rows="plans with their rows", units="sales of several equal units",
                   tables="tables of ranks with all stable matchings", eithers="relations of matchings", shares="shares of auditors",
                   coins="lists of their bits", views="views of wires", lanes="views of auctions")
-    runs, houses = data("conformance", "runs"), data("conformance", "houses")
+    runs = data("conformance", "runs")
     wholes = (f"{cases('conformance', files='seals and secrets')}, {len(runs)} runs of the program ({by_command(runs)}), "
-              f"{len(houses)} houses with {sum(len(house) - 2 for house in houses)} commands")
+              f"{by_house(data('conformance', 'houses'))}")
     for program, what in (("vectors", parts), ("conformance", wholes)):
         yield (f"`{program}`, a program that replays what independent implementations worked out",
                f"{what}; {lines(program, 'stdout')} lines", "`rt run` in the crate")
-    for program, what in (("trials", "whole auctions and claims, matchings, and samples over files that stay as they are"),
-                          ("fault_trials", "cut files, and a fault at each call"),
-                          ("far_trials", "the largest files, and damage at far places")):
-        yield f"`{program}`, a program that tries {what}", f"{lines(program, 'stdout')} lines", "`rt run` in the crate"
+    for program, what, data_of in (("trials", "whole auctions and claims, matchings, and samples over files that stay as they are", ""),
+                                   ("fault_trials", "cut files, and a fault at each call", ""),
+                                   ("far_trials", "the largest files, and damage at far places", ""),
+                                   ("edge_trials", "the real files and an output, and calls to the system that go wrong", trials("edge_trials"))):
+        yield f"`{program}`, a program that tries {what}", f"{data_of}{lines(program, 'stdout')} lines", "`rt run` in the crate"
     with open(os.path.join(TOP, "crates", "vickrey", "args"), encoding="utf-8") as file:
         words = " ".join(file.read().split())
     yield f"`vickrey {words}`, the program itself", f"{lines('vickrey', 'stdout')} lines", f"`rt run -- {words}` in the crate"
 
 
 def section():
-    head = ["", "`rt ci` runs all of these, and ends with `N passed, 0 failed`. Of a program each line that it prints is compared.", "",
+    head = ["", "`rt ci` runs all of these but the second, and ends with `N passed, 0 failed`. Of a program each line that it prints is",
+            "compared.", "",
             "| Kind | How many | Alone |", "|---|---|---|"]
     return "\n".join(head + [f"| {' | '.join(row)} |" for row in rows()]) + "\n"
 
@@ -106,8 +127,8 @@ def main(words):
             file.write(text[:before] + HEADING + section() + text[after:])
         return 0
     same = text[before + len(HEADING):after] == section()
-    print(f"must-fail edits {by_crate(edits)}, tests {by_crate(tests)}, as docs/TESTING.md has them" if same
-          else "docs/TESTING.md begins with other numbers: checks/tests.py --write")
+    print(f"must-fail edits {by_crate(edits)} and outside of the gate {by_crate(edits_outside)}, tests {by_crate(tests)}, "
+          "as docs/TESTING.md has them" if same else "docs/TESTING.md begins with other numbers: checks/tests.py --write")
     return 0 if same else 1
 
 

@@ -8,6 +8,7 @@ import re
 import sys
 
 from attack import reference
+from attack.announced import fault_line
 from attack.subjects import joined, smallest_files
 
 HERE = os.path.dirname(os.path.abspath(__file__))
@@ -93,6 +94,18 @@ def verdicts():
     yield files["derived"] == files["challenge-0"]
 
 
+def announcements(text):
+    """The announcement on the page and each changed one have the fault lines that stand there."""
+    found = re.search(r"(?m)^    vickrey-announcement 1\n(?:    .*\n)+", text)
+    lines = re.sub(r"(?m)^    ", "", found[0]).splitlines()
+    data = "".join(f"{line}\n" for line in lines).encode()
+    yield fault_line(data) == 0 and hashlib.sha256(data).hexdigest() in text
+    rows = re.findall(r"(?m)^\| (\d+) \| `(.+?)` \| (\d+) \|", text[found.end() :])
+    for number, line, fault in rows:
+        changed = [*lines[: int(number) - 1], line, *lines[int(number) :]]
+        yield fault_line("".join(f"{line}\n" for line in changed).encode()) == int(fault)
+
+
 def main():
     text, missing = page(), []
     worked = list(blocks())
@@ -102,7 +115,7 @@ def main():
             missing.append(name)
     told = list(words_of_the_page())
     missing += [name for name, word in told if word not in text]
-    judged = list(verdicts())
+    judged = [*verdicts(), *announcements(text)]
     missing += [f"verdict {number}" for number, is_so in enumerate(judged, 1) if not is_so]
     for name in missing:
         print(f"docs/FORMATS.md has another one: {name}")

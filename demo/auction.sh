@@ -1,13 +1,47 @@
 #!/usr/bin/env bash
-# demo/auction.sh PROGRAM: a whole auction with a reserve in a new folder, every command shown before it runs. Three bidders
+# demo/auction.sh [PROGRAM]: a whole auction with a reserve in a new folder, every command shown before it runs. Three bidders
 # seal and publish their seals, and then hand in their secrets; the auctioneer proves the outcome and publishes the board's
-# digest, three auditors draw a challenge together, which is answered, and demo/audit.sh checks all. It takes a few seconds, and
-# wants python3. The status is the audit's.
+# digest, three auditors draw a challenge together, which is answered, and demo/audit.sh checks all. It takes a few seconds.
+# Where no PROGRAM is named it takes the one that was built here; or the prebuilt one, on x86-64 Linux; or node, 18 or later.
+# It says which. The second checker wants python3, and is left out where there is none. The status is the audit's.
 set -u
-[ $# -eq 1 ] || { sed -n '2,5p' "$0"; exit 2; }
-program=$(realpath "$1")
-audit=$(realpath "$(dirname "$0")/audit.sh")
+if [ $# -gt 1 ] || [[ ${1-} == -* ]]; then
+  sed -n '2,6s/^# //p' "$0"
+  exit 2
+fi
+top=$(realpath "$(dirname "$0")/..")
+audit=$top/demo/audit.sh
+
+# choose [PROGRAM]: sets `program` to what runs, and `how` to what that is
+choose() {
+  program=${1-}
+  if [ -n "$program" ]; then
+    how='the one that was named'
+    program=$(command -v -- "$program") || { echo "auction.sh: no program $1" >&2; exit 2; }
+    program=$(realpath "$program")
+  elif [ -x "$top/crates/vickrey/out/vickrey" ]; then
+    how='the one that was built here'
+    program=$top/crates/vickrey/out/vickrey
+  elif "$top/dist/unpack.sh" "$folder/vickrey" 2>/dev/null; then
+    how='the prebuilt one of dist/'
+    program=$folder/vickrey
+  elif node "$top/portable/vickrey.js" show 2>/dev/null | grep -q '^usage: '; then
+    how="that of portable/, by node $(node --version)"
+    program=$top/portable/vickrey.js
+  else
+    cat >&2 <<'END'
+auction.sh: there is no program that runs here. Any of these is enough:
+  x86-64 Linux with the C library 2.34 or newer, for the prebuilt program: dist/unpack.sh OUT says what it lacks
+  node 18 or later under Linux, for portable/vickrey.js: node portable/vickrey.js says what it lacks
+  the Rattle kit, to build it: README.md, "Build it"
+page/vickrey.html seals, checks and audits in any browser.
+END
+    exit 2
+  fi
+}
+
 folder=$(mktemp -d "${TMPDIR:-/tmp}/vickrey-auction.XXXXXX")
+choose "$@"
 cd "$folder" || exit 1
 umask 077
 width=4
@@ -39,6 +73,7 @@ seed() { od -An -v -tx1 -N32 /dev/urandom | tr -d ' \n'; }
 # write_challenge FILE BITS
 write_challenge() { printf 'vickrey-challenge 1\nbits %s\nend\n' "$2" >"$1"; }
 
+echo "# The program is $how."
 say "The auction has an id of 32 digits. A bid is below 2^$width = $((1 << width)), there are $lanes lanes, and below $reserve nothing is sold."
 id=$(seed | head -c 32)
 vickrey 0 announce "$id" $width $lanes $reserve
@@ -103,9 +138,16 @@ vickrey 0 sample 1
 shown "$program extract sample-board sample-challenge-1 sample-reply-1 sample-challenge-2 sample-reply-2 >revealed"
 shown "head -n 3 revealed | cut -d ' ' -f 1-6"
 
-say 'The whole audit, with a second checker and what no checker of a reply can see. Here seat 9 makes it, with its own secret.'
-shown "$(printf '%q --reserve %s --parts parts %q' "$audit" $reserve "$program") $digest $id $width $lanes 7,9,300 $bits secret-9"
-audited=$?
+audited=0
+checkers='The program, which alone was asked, accepts'
+if command -v python3 >/dev/null; then
+  say 'The whole audit, with a second checker and what no checker of a reply can see. Here seat 9 makes it, with its own secret.'
+  shown "$(printf '%q ' "$audit" --reserve $reserve --parts parts "$program") $digest $id $width $lanes 7,9,300 $bits secret-9"
+  audited=$?
+  checkers='Both checkers accept'
+else
+  say 'There is no python3 here, which the second checker and the whole audit want.'
+fi
 
 say "Look at the files, in $folder:"
 cat <<END
@@ -116,4 +158,11 @@ secret-7, seal-7    a bidder's secret, with its bid, and the seal that stands on
 house.sqlite        what the auctioneer keeps; it has all bids
 revealed            the bids of the sample, each with its two openings
 END
+
+if [ $audited -eq 0 ]; then
+  winner=$(sed -n 's/^winner //p;/^seal /q' board)
+  price=$(sed -n 's/^price //p;/^seal /q' board)
+  say "Seat $winner won, and pays $price. $checkers the proof of it. Of the bids nothing else was shown:" \
+    "the reply opened one half of each number, and the other halves stay closed for ever."
+fi
 exit $audited

@@ -1,6 +1,7 @@
 """The commands whose files and words are changed at random, against the reference."""
 from functools import partial
 
+from attack.announced import ReadAnnouncement
 from attack.mutations import Forgery, Subject, forge_coin, forge_replies, forge_seal, forge_share
 from attack.subjects import (
     AUCTION, BOARDS, CLAIMS, REPLIES, answered_twice, auctions, coin_of, joined, published, seed_of,
@@ -22,7 +23,7 @@ def changed_subjects(made):
         subjects += on_boards(files, REPLIES)
     subjects += on_claims(claims, boards["no reserve"]["board"])
     subjects += on_coins(boards["at the reserve"]["board"])
-    return [*subjects, *on_bids(), *on_auctions(made)]
+    return [*subjects, *on_bids(), *on_auctions(made), ReadAnnouncement()]
 
 
 def replies(published, names):

@@ -88,7 +88,6 @@ class Scenario:
                 return True
         return False
 
-
     def store_fault(self, folder, text, files):
         """None, or how the store in the folder is none that may stand there: it is as after a step,
         no earlier than the last one of which something was printed or written."""

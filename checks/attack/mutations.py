@@ -365,6 +365,10 @@ class Subject:
         if draw.randrange(400) == 0:
             del files[name]
 
+    def difference(self, bench, words, files):
+        """The status of a run, and None or how it differs from the reference."""
+        return difference(bench, self, words, files)
+
     def expected(self, words, files):
         """The status and the text, the files after it, and the auctions that are kept then."""
         after = texts_of(files)
@@ -539,7 +543,7 @@ def run_batch(program, folder, subjects, seed, count):
             form = draw.choice(forms)
             subject = draw.choice(having[form])
             words, files = subject.changed(draw, form)
-            status, why = difference(bench, subject, words, files)
+            status, why = subject.difference(bench, words, files)
             statuses[form, status] += 1
             if why:
                 said = b" ".join(words).decode(errors="backslashreplace")

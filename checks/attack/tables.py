@@ -43,6 +43,7 @@ class Attack:
     on: Attacked
     draw: random.Random
     quick: bool
+    no_closed: bool = False  # closed standard streams aren't tried
 
     def some(self, cases, most):
         """All cases, or so many of them, in their order."""
@@ -222,8 +223,9 @@ def output(attack):
     """Standard output is full, has lost its reader, isn't there, or takes so many bytes."""
     kinds = {"full": "is full", "pipe": "has lost its reader",
              "ignored pipe": "has lost its reader, SIGPIPE being ignored"}
-    kinds |= {"output": "is closed", "output and errors": "and error are closed",
-              "all": ", input and error are closed"}
+    if not attack.no_closed:
+        kinds |= {"output": "is closed", "output and errors": "and error are closed",
+                  "all": ", input and error are closed"}
     for scenario in [*attack.on.small(), *attack.on.samples[1:]]:
         for kind, name in kinds.items():
             yield Output(scenario, f"standard output {name}", (6,), kind)

@@ -1,0 +1,132 @@
+"""Files of lines: how they are read and written, and what a command ends with."""
+import os
+import stat
+
+from fields import values_of
+
+LONGEST_FILE = 2**30
+LONGEST_LINE = 256
+STORE = "house.sqlite"  # of an auctioneer, with the files that a database keeps beside it
+STORE_ENDS = ("", "-wal", "-shm", "-journal")
+
+
+class Verdict(Exception):
+    """A status with the line that is printed, and more for people, which goes to standard error."""
+
+    def __init__(self, status, line, more=""):
+        super().__init__(line)
+        self.status, self.line, self.more = status, line, more
+
+
+def size_of(name):
+    """How many bytes a file has that is to be read."""
+    try:
+        about = os.stat(name)
+    except (FileNotFoundError, NotADirectoryError):
+        raise Verdict(5, b"missing " + name) from None
+    if not stat.S_ISREG(about.st_mode):
+        raise OSError("not a regular file")
+    if about.st_size > LONGEST_FILE:
+        raise Verdict(4, b"too long " + name)
+    return about.st_size
+
+
+class Lines:
+    """A file that is read line by line, once. What is read goes through a hash, where there is
+    one: then no other program can put another file there in between."""
+
+    def __init__(self, name, hashed=None):
+        self.name, self.number, self.file, self.hashed = name, 0, None, hashed
+        self.left = size_of(name)
+
+    def __enter__(self):
+        return self
+
+    def __exit__(self, *_):
+        if self.file:
+            self.file.close()
+
+    def malformed(self, more=""):
+        return Verdict(4, b"malformed %s line %d" % (self.name, self.number), more)
+
+    def next(self, *kinds):
+        """The fields of the next line, each by its kind: a word that has to stand there, or a
+        reader of a field. In the last one a text may have spaces."""
+        return self.next_of(kinds)
+
+    def next_of(self, *forms):
+        """The fields of the next line by the first of these lists of kinds that it fits."""
+        self.number += 1
+        self.file = self.file or open(self.name, "rb")
+        line = self.file.readline(min(LONGEST_LINE, self.left))
+        self.left -= len(line)
+        if self.hashed:
+            self.hashed.update(line)
+        for kinds in forms if line.endswith(b"\n") else ():
+            said = values_of(kinds, line[:-1].split(b" ", len(kinds) - 1))
+            if said is not None:
+                return said
+        raise self.malformed()
+
+    def end(self):
+        """The line `end`, behind which no byte stands."""
+        self.next(b"end")
+        self.number += 1
+        if self.left > 0 and self.file.read(1):
+            raise self.malformed("nothing may stand behind the line `end`")
+
+
+def same_file(name, other):
+    """Whether both names lead to one file, whether it is there or not."""
+    try:
+        return os.path.samefile(name, other)
+    except OSError:
+        return os.path.realpath(name) == os.path.realpath(other)
+
+
+def write(name, lines, others=()):
+    """Writes a file, for its owner alone where it is new. A store is left as it is, and so are the
+    other files of this run."""
+    stores = (store + end for store in (STORE, os.path.realpath(STORE)) for end in STORE_ENDS)
+    kept = [*others, *map(os.fsencode, stores)]
+    # A device has no bytes that can be lost.
+    is_device = os.path.exists(name) and not os.path.isfile(name)
+    if not is_device and any(same_file(name, other) for other in kept):
+        raise OSError("may not be written")
+    with open(os.open(name, os.O_WRONLY | os.O_CREAT | os.O_TRUNC, 0o600), "wb") as file:
+        file.writelines(line + b"\n" for line in lines)
+
+
+def digest_of(name, hashed, told=lambda done: None):
+    """Puts a file's bytes through a hash, piece by piece."""
+    with open(name, "rb") as file:
+        for piece in iter(lambda: file.read(2**20), b""):
+            hashed.update(piece)
+            told(len(piece))
+    return hashed
+
+
+def write_new(name, lines):
+    """Writes a file that isn't there yet, for its owner alone: whole, or not at all."""
+    draft = f"{name}.{os.urandom(8).hex()}.part"
+    try:
+        with open(os.open(draft, os.O_WRONLY | os.O_CREAT | os.O_EXCL, 0o600), "wb") as file:
+            file.writelines(line + b"\n" for line in lines)
+            file.flush()
+            os.fsync(file.fileno())
+        give_name(draft, name)
+    finally:
+        if os.path.lexists(draft):
+            os.unlink(draft)
+
+
+def give_name(draft, name):
+    """Gives a draft its name, which nothing may have; also where a disk has no second names."""
+    try:
+        os.link(draft, name)
+    except FileExistsError:
+        raise
+    except OSError:
+        if os.path.lexists(name):
+            raise FileExistsError(name) from None
+        os.rename(draft, name)
