@@ -1,5 +1,5 @@
 -- The challenge that is derived from a board is that of its bytes, and of the text that was tested.
-use Rattle.std.proofs.Common.{◌≡◌, ℕ, ◌≤◌, Bool, true, is_ok, List, ◌++◌, length, codes, append_assoc, Option, Some, None, Result, Ok, Err, IfSome, OnOk, arith, refl, ap, sym, subst, ◌∙◌}
+use Rattle.std.proofs.Common.{◌≡◌, ℕ, Bool, true, is_ok, List, ◌++◌, length, codes, append_assoc, Option, Some, None, Result, Ok, Err, IfSome, OnOk, arith, refl, ap, sym, subst, ◌∙◌}
 use Rattle.std.specs.List.{flat_map}
 use Rattle.sha2.specs.Sha256.{sha256}
 use Rattle.sha2.specs.declared.Sha256.{Sha256}
@@ -15,18 +15,18 @@ use Rattle.vk_board.specs.declared.board.LaneLines.{LaneLines}
 use Rattle.vk_board.specs.declared.front.Front.{Front}
 use Rattle.vk_board.specs.Fronts.{IsFront, front_at, front_text}
 use Rattle.vk_board.specs.Reading.{lane_lines_at}
-use Rattle.vk_board.specs.Texts.{board_text, head_text, lane_text, lanes_text, seal_lines_text}
+use Rattle.vk_board.specs.Texts.{board_text, head_text, lanes_text, seal_lines_text}
 use Rattle.vk_board.proofs.Forms.{lane_is_part}
 use Rattle.vk_board.proofs.FrontLaws.{fronts_read}
 use Rattle.vk_reply.specs.declared.challenge.Challenge.{Challenge}
 use Rattle.vk_report.specs.Bits.{leading_bits}
-use Rattle.vk_report.specs.Meaning.{Publishes, auction_shape}
+use Rattle.vk_report.specs.Meaning.{auction_shape}
 use Rattle.vk_report.specs.Reports.{report_on, report_with}
 use Rattle.vk_report.specs.declared.report.Report.{Report}
 use Rattle.vk_report.specs.declared.report.ReportErr.{ReportErr}
 use Rattle.vk_report.proofs.BitCounts.{leading_count}
 use Rattle.vk_report.proofs.Winner.{winner_is}
-use Rattle.vk_coin.specs.Derived.{AreLanes, Hashes, HashesBoard, HashesLanes, IsOfOneText, derived_bits, derived_by, derived_in, derived_message, text_with}
+use Rattle.vk_coin.specs.Derived.{Hashes, HashesBoard, HashesLanes, IsOfOneText, derived_bits, derived_by, derived_in, derived_message, text_with}
 use Rattle.vk_coin.proofs.Hashing.{hashes_then}
 
 -- one bit for each lane

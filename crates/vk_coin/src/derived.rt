@@ -6,8 +6,6 @@ ghost use Rattle.vk_residue.specs.Limits.{IsLaneCount};
 ghost use Rattle.vk_io.specs.Reads.{OnlyReads};
 ghost use Rattle.vk_lines.specs.Gives.{Gives};
 ghost use Rattle.vk_lines.specs.Lines.{ReadsPart};
-ghost use Rattle.vk_vickrey.specs.Sales.{sale_at};
-ghost use Rattle.vk_board.specs.Values.{IsHead};
 ghost use Rattle.vk_board.specs.Fronts.{IsFront, front_text};
 ghost use Rattle.vk_board.specs.Texts.{lane_text, seal_lines_text};
 ghost use Rattle.vk_report.specs.Bits.{leading_bits};
@@ -19,15 +17,14 @@ ghost use Rattle.vk_coin.specs.Derived.{Hashes, HashesBoard, HashesLanes, IsOfOn
 use sha2::{Digest, Sha256};
 use std::alloc::Global;
 use vk_board::{
-    Front, FrontErr, Head, LaneLines, SealLines, head_text, lane_text, read_front, read_lane,
+    Front, FrontErr, LaneLines, SealLines, head_text, lane_text, read_front, read_lane,
     seal_lines_text,
 };
 use vk_io::Shelf;
 use vk_lines::{Lines, ReadErr};
 use vk_reply::Challenge;
-use vk_report::{ReportErr, leading_bits};
+use vk_report::{ReportErr, leading_bits, row_count_of, wire_count_of};
 use vk_residue::NoMemory;
-use vk_vickrey::{Sale, board_row_count, board_wire_count};
 
 /// The challenge for its lanes that is derived from the named board: the first bits of SHA-256 of
 /// `VKD1` and the file's bytes, the most significant of each byte first. The board is tested as
@@ -78,8 +75,8 @@ fn hash_board<S: Shelf>(
         return Err(ReportErr::NoMemory);
     };
     hasher.update(text.as_slice());
-    let wires = wires_behind(&front.head);
-    let rows = rows_of(&front.head);
+    let wires = wire_count_of(&front.head) - front.head.seals;
+    let rows = row_count_of(&front.head);
     hash_lanes(alloc, shelf, &mut lines, &front, wires, rows, hasher).map_err(FrontErr::from)?;
     lines.read_end(shelf).map_err(FrontErr::from)?;
     hasher.update(b"end\n".as_slice());
@@ -113,32 +110,6 @@ fn push_seal(alloc: Global, out: &mut Vec<u8>, seal: &SealLines) -> Result<(), N
     let text = seal_lines_text(alloc, seal)?;
     out.extend_from_slice(text.as_slice())?;
     Ok(())
-}
-
-/// How many wires each lane has behind its inputs, by the head.
-fn wires_behind(head: &Head) -> u32
-    requires { IsHead head.now }
-    ensures { result ≡ (auction_shape head.now).wires }
-{
-    let sale = sale_in(head);
-    board_wire_count(head.version, head.seals, head.width, head.reserve, sale) - head.seals
-}
-
-/// How many rows each lane has, by the head.
-fn rows_of(head: &Head) -> u32
-    requires { IsHead head.now }
-    ensures { result ≡ (auction_shape head.now).rows }
-{
-    let sale = sale_in(head);
-    board_row_count(head.version, head.seals, head.reserve, sale)
-}
-
-/// What the head tells of the sale. The counts don't ask where the winner's seal stands, so the
-/// seat stands for its place.
-fn sale_in(head: &Head) -> Sale
-    ensures { result ≡ sale_at head.now.winner head.now.price }
-{
-    Sale::at(head.winner.map(u32::from), head.price)
 }
 
 /// Reads the lanes of the board with this front, each of so many wires behind its inputs and so

@@ -7,6 +7,7 @@ mod laws;
 mod reading;
 mod report;
 mod sample;
+mod shape;
 mod writing;
 
 pub use bits::leading_bits;
@@ -17,4 +18,5 @@ pub use laws::{
 pub use reading::read_report;
 pub use report::{Report, ReportErr};
 pub use sample::{SampleCase, Sizes, case_of, digest_at, sample_case};
+pub use shape::{row_count_of, wire_count_of};
 pub use writing::{report_lines, report_text};

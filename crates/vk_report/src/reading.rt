@@ -1,19 +1,16 @@
 ghost use Rattle.std.specs.Prelude.{◌≡◌, IfSome, IfOk, Ok};
 ghost use Rattle.vk_lines.specs.Lines.{OnlyReads, ReadsPart};
-ghost use Rattle.vk_vickrey.specs.Sales.{sale_at};
-ghost use Rattle.vk_vickrey.specs.BoardPlans.{board_wire_count, board_row_count};
-ghost use Rattle.vk_board.specs.Values.{IsHead};
 ghost use Rattle.vk_board.specs.Fronts.{IsFront};
 ghost use Rattle.vk_lines.specs.Gives.{Gives};
-ghost use Rattle.vk_report.specs.Reports.{IsReport, head_numbers, fault_of, report_with, lanes_passed, report_at, report_on};
+ghost use Rattle.vk_report.specs.Reports.{IsReport, fault_of, report_with, lanes_passed, report_at, report_on};
 
 use crate::report::{Report, ReportErr};
+use crate::shape::{row_count_of, wire_count_of};
 use std::alloc::Global;
-use vk_board::{Front, FrontErr, Head, read_front, read_lane, seats_of};
+use vk_board::{Front, FrontErr, read_front, read_lane, seats_of};
 use vk_io::Shelf;
 use vk_lines::{Lines, ReadErr};
 use vk_residue::NoMemory;
-use vk_vickrey::{Sale, board_row_count, board_wire_count};
 
 /// The report of a board with this front.
 fn report_from(alloc: Global, front: &Front) -> Result<Report, NoMemory>
@@ -25,35 +22,9 @@ fn report_from(alloc: Global, front: &Front) -> Result<Report, NoMemory>
     Ok(Report {
         head: front.head,
         seats,
-        wires: wires_of(&front.head),
-        rows: rows_of(&front.head),
+        wires: wire_count_of(&front.head),
+        rows: row_count_of(&front.head),
     })
-}
-
-/// How many wires each lane has by the head.
-fn wires_of(head: &Head) -> u32
-    requires { IsHead head.now }
-    ensures { result ≡ board_wire_count (head_numbers head.now) }
-{
-    let sale = sale_in(head);
-    board_wire_count(head.version, head.seals, head.width, head.reserve, sale)
-}
-
-/// How many rows each lane has by the head.
-fn rows_of(head: &Head) -> u32
-    requires { IsHead head.now }
-    ensures { result ≡ board_row_count (head_numbers head.now) }
-{
-    let sale = sale_in(head);
-    board_row_count(head.version, head.seals, head.reserve, sale)
-}
-
-/// What the head tells of the sale. The counts don't ask where the winner's seal stands, so the
-/// seat stands for its place.
-fn sale_in(head: &Head) -> Sale
-    ensures { result ≡ sale_at head.now.winner head.now.price }
-{
-    Sale::at(head.winner.map(u32::from), head.price)
 }
 
 /// Reads the lanes of the board, and keeps nothing of them.

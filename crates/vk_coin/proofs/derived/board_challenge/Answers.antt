@@ -1,7 +1,6 @@
-use Rattle.std.proofs.Common.{◌≡◌, ◌++◌, codes, subst}
+use Rattle.std.proofs.Common.{codes, subst}
 use Rattle.sha2.specs.Hashers.{Holds256}
-use Rattle.sha2.specs.Sha256.{sha256}
-use Rattle.vk_coin.specs.Derived.{HashesBoard, derived_by, derived_message, text_with}
+use Rattle.vk_coin.specs.Derived.{HashesBoard, derived_message, text_with}
 use Rattle.vk_coin.proofs.Deriving.{challenge_is, derived_found, of_one_text}
 use Rattle.vk_coin.proofs.derived.board_challenge.Goals as goal
 

@@ -1,7 +1,6 @@
-use Rattle.std.proofs.Common.{◌≡◌, ◌-◌, ◌+◌, Ok, arith, rules, ◌∙◌, subst}
+use Rattle.std.proofs.Common.{◌-◌, ◌+◌, Ok, arith, rules, ◌∙◌, subst}
 use Rattle.vk_lines.specs.Lines.{ReadsPart, rest_of}
 use Rattle.vk_board.specs.Reading.{lane_lines_at}
-use Rattle.vk_board.specs.Values.{Shape}
 use Rattle.vk_report.proofs.Lanes.{passed_stop, passed_done}
 use Rattle.vk_coin.specs.Derived.{HashesLanes, lanes_gone}
 use Rattle.vk_coin.proofs.Hashing.{shape_by, same_shape, as_passed, lanes_none, lanes_turn, lanes_done}

@@ -13,6 +13,6 @@ returns-clause-right c = record {
   seats = ap length c.in_ok-seats.ensures
       ∙ rw c.as_slice.ensures (length-map c.args.front.now.seals (λ seal. seal.seat)
       ∙ c.requires.seals.count);
-  wires = c.wires_of.ensures;
-  rows = c.rows_of.ensures;
+  wires = c.wire_count_of.ensures.count;
+  rows = c.row_count_of.ensures;
 }

@@ -1,6 +1,6 @@
 use Rattle.std.proofs.Common.{◌∙◌, ap}
 use Rattle.vk_vickrey.specs.BoardPlans.{board_numbers, board_row_count}
-use Rattle.vk_report.proofs.reading.rows_of.Goals as goal
+use Rattle.vk_report.proofs.shape.row_count_of.Goals as goal
 
 pub returns : goal.returns
 returns c =
