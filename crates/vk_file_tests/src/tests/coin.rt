@@ -11,8 +11,10 @@ use vk_report::ReportErr;
 use vk_residue::NoMemory;
 use vk_seq::Seq;
 
-/// How many bytes the first line of the smallest board has.
-const FIRST_LINE: usize = 16;
+/// The first line of the smallest board.
+fn first_line() -> &'static [u8] {
+    b"vickrey-board 1\n"
+}
 
 /// A shelf of the smallest board, of which it gives at most so many bytes at once. Once the last one
 /// was given, the first line is left, as where another program writes the file anew.
@@ -44,7 +46,7 @@ impl Shelf for Rewritten {
         let (piece, behind) = rest.split_at(count);
         into[..count].copy_from_slice(piece);
         if behind.is_empty() {
-            self.left = &board()[..FIRST_LINE];
+            self.left = first_line();
         }
         Ok(count)
     }
