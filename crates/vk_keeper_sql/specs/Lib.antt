@@ -1,5 +1,4 @@
 pub mod Refusals
-pub mod Columns
 pub mod Versions
 pub mod Statements
 pub mod Transactions

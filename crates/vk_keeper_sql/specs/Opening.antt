@@ -2,14 +2,13 @@
 use Rattle.std.specs.Prelude.{◌≡◌, ℕ, pos, true, List, [], ◌∷◌}
 use Rattle.sqlite.specs.Store.{Ghosts}
 use Rattle.sqlite.specs.Effect.{Database}
-use Rattle.sqlite.specs.Order.{Row}
+use Rattle.sqlite.specs.Order.{Row, column}
 use Rattle.sqlite.specs.Values.{bound_value}
 use Rattle.sqlite.specs.Held.{Held, state}
 use Rattle.sqlite.specs.declared.types.Value.{Value}
 use Rattle.sqlite.specs.declared.types.Value.TheVariants.{Int}
 use Rattle.vk_keeper_sql.specs.declared.layout.Layout.{Layout}
 use Rattle.vk_keeper_sql.specs.declared.layout.Layout.TheVariants.{Blank, First, Second, Other}
-use Rattle.vk_keeper_sql.specs.Columns.{column}
 use Rattle.vk_keeper_sql.specs.Layouts.{HasLayout}
 use Rattle.vk_keeper_sql.specs.Statements.{make_about, make_auctions, make_seals, make_terms, first_number, next_number, number_query, ids_query, keep_terms}
 use Rattle.vk_keeper_sql.specs.Transactions.{Ran, Answers}

@@ -1,21 +1,13 @@
 -- What a keeper answers is what the rows of its store show.
-use Rattle.std.specs.Prelude.{◌≡◌, ℕ, true, List, [], ◌∷◌, Option, Some, None}
+use Rattle.std.specs.Prelude.{ℕ, true, List, [], ◌∷◌, Option}
 use Rattle.sqlite.specs.Store.{Ghosts}
 use Rattle.sqlite.specs.Order.{Row}
 use Rattle.sqlite.specs.Held.{Held}
 use Rattle.sqlite.specs.declared.types.Value.TheVariants.{Blob}
 use Rattle.vk_keeper.specs.declared.auction.Auction.{Auction}
-use Rattle.vk_keeper_sql.specs.Columns.{ShowsWhole}
+use Rattle.vk_rows.specs.Columns.{ShowFound}
 use Rattle.vk_keeper_sql.specs.Statements.{auction_query, terms_query, seals_query}
 use Rattle.vk_keeper_sql.specs.Transactions.{Answers}
-
--- one row shows an auction with one of its terms and those of its seals, and no rows show that
--- there is none
-abbrev pub ShowFound : List Row → List Row → List Row → Option Auction → Type 0
-ShowFound heads terms rows None = (heads ≡ []) × (terms ≡ []) × (rows ≡ [])
-ShowFound heads terms rows (Some auction) =
-    (head : Row) × (term : Row) × (heads ≡ head ∷ []) × (terms ≡ term ∷ [])
-    × ShowsWhole head term rows auction
 
 module _ {S : Type 0} (g : Ghosts S) (id : List ℕ) where
   -- the rows that stand under an id, in a transaction that has begun

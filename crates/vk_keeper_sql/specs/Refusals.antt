@@ -1,32 +1,9 @@
--- What a refusal from below is to the caller of a keeper: want of memory is told as that, and all
--- else is a fault of the store.
-use Rattle.sqlite.specs.declared.error.Error.{Error}
-use Rattle.sqlite.specs.declared.error.Error.TheVariants.{SqliteFailure}
-use Rattle.sqlite.specs.declared.error.ErrorCode.TheVariants.{OutOfMemory}
+-- What a refusal is as a store is opened.
 use Rattle.vk_io.specs.declared.errors.OutsideErr.{OutsideErr}
 use Rattle.vk_io.specs.declared.errors.OutsideErr.TheVariants.{Failed, NoMemory}
-use Rattle.vk_lines.specs.declared.errors.ReadErr.{ReadErr}
-use Rattle.vk_lines.specs.declared.errors.ReadErr.TheVariants as text
-use Rattle.vk_lines.specs.declared.errors.StartErr.{StartErr}
-use Rattle.vk_lines.specs.declared.errors.StartErr.TheVariants as start
 use Rattle.vk_keeper_sql.specs.declared.errors.OpenErr.{OpenErr}
 use Rattle.vk_keeper_sql.specs.declared.errors.OpenErr.TheVariants as opening
 
--- of a statement, or of a column
-abbrev pub statement_refusal : Error → OutsideErr
-statement_refusal (SqliteFailure OutOfMemory) = NoMemory
-statement_refusal _ = Failed
-
--- of a stored text, before its first line and in it
-abbrev pub start_refusal : StartErr → OutsideErr
-start_refusal start.NoMemory = NoMemory
-start_refusal _ = Failed
-
-abbrev pub text_refusal : ReadErr → OutsideErr
-text_refusal text.NoMemory = NoMemory
-text_refusal _ = Failed
-
--- as a store is opened
 abbrev pub open_refusal : OutsideErr → OpenErr
 open_refusal Failed = opening.Refused
 open_refusal NoMemory = opening.NoMemory

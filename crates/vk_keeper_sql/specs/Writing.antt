@@ -6,8 +6,8 @@ use Rattle.sqlite.specs.Order.{Row}
 use Rattle.sqlite.specs.Held.{Held, state}
 use Rattle.sqlite.specs.declared.types.Value.TheVariants.{Int, Blob}
 use Rattle.vk_keeper.specs.declared.auction.Auction.{Auction}
-use Rattle.vk_keeper_sql.specs.declared.texts.SealTexts.{SealTexts}
-use Rattle.vk_keeper_sql.specs.Columns.{ShowSeals, auction_row, terms_row, seal_row, seal_texts}
+use Rattle.vk_rows.specs.declared.texts.SealTexts.{SealTexts}
+use Rattle.vk_rows.specs.Columns.{ShowSeals, auction_row, terms_row, seal_row, seal_texts}
 use Rattle.vk_keeper_sql.specs.Statements.{seals_query, keep_auction, keep_terms, drop_seals, keep_seal}
 use Rattle.vk_keeper_sql.specs.Transactions.{Ran, Answers}
 

@@ -4,15 +4,15 @@ ghost use Rattle.std.specs.Prelude.{◌≡◌, false, IfOk, IfSome};
 ghost use Rattle.sqlite.specs.Held.{state};
 ghost use Rattle.sqlite.specs.State.{HasCleanDisk};
 ghost use Rattle.vk_keeper.specs.Auctions.{IsAuction};
-ghost use Rattle.vk_keeper_sql.specs.Reading.{Finds, Reads, ReadsFrom, ShowFound};
+ghost use Rattle.vk_keeper_sql.specs.Reading.{Finds, Reads, ReadsFrom};
 ghost use Rattle.vk_keeper_sql.specs.Transactions.{ChangesNothing, CommitsNothing, LeavesDisk, Stays};
 
-use crate::rows::auction_from;
 use crate::statements::{AUCTION, SEALS, TERMS, rows_under};
 use sqlite::{Alter, Connection, Row, Transaction};
 use std::alloc::Global;
 use vk_io::OutsideErr;
 use vk_keeper::Auction;
+use vk_rows::found_in;
 
 /// The auction of that id, read in a transaction that is rolled back. None where the store has no
 /// row of it. Errs where its rows aren't an auction.
@@ -76,26 +76,4 @@ fn rows_within<S: Alter>(
     let terms = rows_under(transaction, TERMS, id)?;
     let seals = rows_under(transaction, SEALS, id)?;
     Ok((heads, terms, seals))
-}
-
-/// The auction that the rows are, or none where there are no rows.
-fn found_in(
-    alloc: Global,
-    id: &[u8; 16],
-    heads: &[Row],
-    terms: &[Row],
-    seals: &[Row],
-) -> Result<Option<Auction>, OutsideErr>
-    ensures id { IfOk result (λ found. IfSome found (λ auction. auction.id ≡ id.now)) }
-    ensures right { IfOk result (λ found. IfSome found IsAuction) }
-    ensures shown { IfOk result (ShowFound heads.now terms.now seals.now) }
-{
-    match (heads, terms) {
-        ([], []) if seals.is_empty() => Ok(None),
-        ([head], [terms]) => {
-            let auction = auction_from(alloc, id, head, terms, seals)?;
-            Ok(Some(auction))
-        }
-        _ => Err(OutsideErr::Failed),
-    }
 }

@@ -5,19 +5,18 @@ ghost use Rattle.sqlite.specs.Held.{state};
 ghost use Rattle.sqlite.specs.State.{HasCleanDisk};
 ghost use Rattle.sqlite.specs.Values.{bound};
 ghost use Rattle.vk_keeper.specs.Auctions.{IsAuction};
-ghost use Rattle.vk_keeper_sql.specs.Columns.{auction_row, bits_in, terms_row, texts_of};
+ghost use Rattle.vk_rows.specs.Columns.{auction_row, bits_in, terms_row, texts_of};
 ghost use Rattle.vk_keeper_sql.specs.Transactions.{CommitsAtOnce, LeavesDisk, Stays};
 ghost use Rattle.vk_keeper_sql.specs.Writing.{Keeps, WritesAuction};
 
-use crate::errors::refused_statement;
 use crate::seals::write_seals;
 use crate::statements::{KEEP_TERMS, run};
-use crate::texts::{Texts, texts_of};
 use sqlite::types::ValueRef;
 use sqlite::{Alter, Connection, Transaction};
 use std::alloc::Global;
 use vk_io::OutsideErr;
 use vk_keeper::{Auction, Phase};
+use vk_rows::{Texts, refused_statement, texts_of};
 use vk_seq::Seq;
 
 const KEEP_AUCTION: &str =

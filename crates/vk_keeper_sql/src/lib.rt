@@ -2,18 +2,15 @@
 //! answers an auction or says that the store is at fault.
 #![tactic(auto)]
 
-mod columns;
 mod errors;
 mod finding;
 mod keeping;
 mod layout;
 mod lifting;
-mod rows;
 mod seals;
 mod sql_keeper;
 mod statements;
 mod tables;
-mod texts;
 
 pub use errors::OpenErr;
 pub use sql_keeper::SqlKeeper;

@@ -1,7 +1,7 @@
 //! Gives auctions that were kept before auctions had terms those of version 1.
 
 ghost use Rattle.std.specs.Prelude.{◌≡◌, IfOk, OnOk};
-ghost use Rattle.vk_keeper_sql.specs.Columns.{column};
+ghost use Rattle.sqlite.specs.Order.{column};
 ghost use Rattle.vk_keeper_sql.specs.Statements.{keep_terms};
 ghost use Rattle.vk_keeper_sql.specs.Transactions.{LeavesDisk, Ran, Stays};
 ghost use Rattle.vk_keeper_sql.specs.Opening.{AddsTerms, LiftsTables, first_terms};
@@ -10,12 +10,12 @@ ghost use Rattle.sqlite.specs.State.{HasCleanDisk};
 ghost use Rattle.sqlite.specs.Value.{owned};
 ghost use Rattle.sqlite.specs.Values.{bound};
 
-use crate::errors::refused_statement;
 use crate::statements::{KEEP_TERMS, ask, run};
 use crate::tables::{MAKE_TERMS, VERSION};
 use sqlite::types::ValueRef;
 use sqlite::{Alter, Row, Transaction};
 use vk_io::OutsideErr;
+use vk_rows::refused_statement;
 
 const IDS: &str = "SELECT id FROM auction";
 

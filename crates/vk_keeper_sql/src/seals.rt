@@ -1,21 +1,20 @@
 //! Keeps the seals of an auction in the store.
 
-ghost use Rattle.std.specs.Prelude.{◌≡◌, ◌+◌, ◌≤◌, pos, [], ◌∷◌, length, take, IsTrue, OnOk};
+ghost use Rattle.std.specs.Prelude.{◌≡◌, ◌+◌, ◌≤◌, pos, [], ◌∷◌, length, OnOk};
 ghost use Rattle.sqlite.specs.Held.{state};
 ghost use Rattle.sqlite.specs.State.{HasCleanDisk};
 ghost use Rattle.sqlite.specs.Values.{bound};
 ghost use Rattle.sqlite.specs.declared.types.Value.TheVariants.{Int, Blob};
-ghost use Rattle.vk_keeper_sql.specs.Columns.{ShowSeals, ShowsSeal, seal_row};
+ghost use Rattle.vk_rows.specs.Columns.{seal_row};
 ghost use Rattle.vk_keeper_sql.specs.Statements.{drop_seals, keep_seal};
 ghost use Rattle.vk_keeper_sql.specs.Transactions.{LeavesDisk, Ran, Stays};
 ghost use Rattle.vk_keeper_sql.specs.Writing.{AddsSeals, WritesSeals};
 
-use crate::columns::{number_at, text_at};
 use crate::statements::{SEALS, rows_under, run};
-use crate::texts::SealTexts;
 use sqlite::types::ValueRef;
-use sqlite::{Alter, Row, Transaction};
+use sqlite::{Alter, Transaction};
 use vk_io::OutsideErr;
+use vk_rows::{SealTexts, count_standing};
 
 const DROP_SEALS: &str = "DELETE FROM seal WHERE id = ?1 AND position NOT BETWEEN 1 AND ?2";
 
@@ -42,34 +41,6 @@ pub fn write_seals<S: Alter>(
     let (_, more) = seals.split_at(standing);
     add_seals(transaction, id, standing as u32, more)?;
     Ok(())
-}
-
-/// How many rows from the first on are those of the seals at the same places.
-fn count_standing(held: &[Row], seals: &[SealTexts]) -> usize
-    requires { length seals.now ≤ 64 }
-    ensures within { result ≤ length seals.now }
-    ensures stand { ShowSeals 0 (take result held.now) (take result seals.now) }
-{
-    for (i, seal) in seals.iter().enumerate() {
-        let stands = match held.get(i) {
-            Some(row) => is_row_of(row, i as u32 + 1, seal),
-            None => false,
-        };
-        if !stands {
-            return i;
-        }
-    }
-    seals.len()
-}
-
-/// Whether a row is that of the seal at this position.
-fn is_row_of(row: &Row, position: u32, seal: &SealTexts) -> bool
-    ensures { IsTrue result → ShowsSeal row.now position seal.now }
-{
-    number_at(row, 0) == Ok(position)
-        && number_at(row, 1) == Ok(u32::from(seal.seat))
-        && text_at(row, 2) == Ok(seal.seal.as_slice())
-        && text_at(row, 3) == Ok(seal.secret.as_slice())
 }
 
 /// Drops the rows of the seals but for so many from the first position on.

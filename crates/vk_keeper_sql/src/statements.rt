@@ -7,10 +7,10 @@ ghost use Rattle.sqlite.specs.Values.{bound};
 ghost use Rattle.sqlite.specs.declared.types.Value.TheVariants.{Blob};
 ghost use Rattle.vk_keeper_sql.specs.Transactions.{Answers, LeavesDisk, Ran, Stays};
 
-use crate::errors::refused_statement;
 use sqlite::types::ValueRef;
 use sqlite::{Alter, Row, Transaction};
 use vk_io::OutsideErr;
+use vk_rows::refused_statement;
 
 /// The row of an auction. A second one is asked for, so that it is seen.
 pub const AUCTION: &str =

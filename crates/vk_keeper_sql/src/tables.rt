@@ -9,14 +9,14 @@ ghost use Rattle.vk_keeper_sql.specs.Opening.{IsNumbered, MakesTables, Prepares,
 ghost use Rattle.vk_keeper_sql.specs.Transactions.{CommitsAtOnce, LeavesDisk, Stays};
 ghost use Rattle.vk_keeper_sql.specs.Versions.{version_of};
 
-use crate::columns::{amount_at, count_at};
-use crate::errors::{OpenErr, refused_statement};
+use crate::errors::OpenErr;
 use crate::layout::{Layout, layout_of};
 use crate::lifting::lift;
 use crate::statements::{ask, run};
 use sqlite::types::ValueRef;
 use sqlite::{Alter, Connection, Row, Transaction};
 use vk_io::OutsideErr;
+use vk_rows::{amount_at, count_at, refused_statement};
 
 const MAKE_ABOUT: &str = "CREATE TABLE about (version INTEGER NOT NULL)";
 

@@ -21,8 +21,8 @@ use Rattle.sqlite_sql.specs.declared.ops.CompareOp.TheVariants.{Ge, Le}
 use Rattle.sqlite_sql.specs.declared.ops.UnaryOp.TheVariants.{ToNumeric, Not}
 use Rattle.sqlite_rules.proofs.ListLemmas.{all_has, all_from, has_filtered}
 use Rattle.sqlite_catalog.proofs.ListFacts.{filter_swap}
-use Rattle.vk_keeper_sql.specs.declared.texts.SealTexts.{SealTexts}
-use Rattle.vk_keeper_sql.specs.Columns.{ShowSeals}
+use Rattle.vk_rows.specs.declared.texts.SealTexts.{SealTexts}
+use Rattle.vk_rows.specs.Columns.{ShowSeals}
 use Rattle.vk_store_laws.specs.Rows.{has_id, under, seal_columns}
 use Rattle.vk_store_laws.proofs.Selects.{is_id}
 use Rattle.vk_store_laws.proofs.Finds.{NotBelow}

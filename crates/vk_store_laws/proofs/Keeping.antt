@@ -26,8 +26,8 @@ use Rattle.sqlite.specs.State.{Runs}
 use Rattle.sqlite.specs.Listing.{understood}
 use Rattle.sqlite.proofs.Callers.{statement_of, runs_as}
 use Rattle.vk_keeper.specs.declared.auction.Auction.{Auction}
-use Rattle.vk_keeper_sql.specs.declared.texts.SealTexts.{SealTexts}
-use Rattle.vk_keeper_sql.specs.Columns.{auction_row, terms_row, seal_row, bits_in}
+use Rattle.vk_rows.specs.declared.texts.SealTexts.{SealTexts}
+use Rattle.vk_rows.specs.Columns.{auction_row, terms_row, seal_row, bits_in}
 use Rattle.vk_keeper_sql.specs.Statements.{keep_auction, keep_terms, drop_seals, keep_seal}
 use Rattle.vk_keeper_sql.specs.Transactions.{Ran}
 use Rattle.vk_keeper_sql.specs.Writing.{AddsSeals}

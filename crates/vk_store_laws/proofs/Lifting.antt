@@ -30,7 +30,7 @@ use Rattle.vk_keeper.specs.First.{FirstLedger, lifted, lifted_ledger}
 use Rattle.vk_keeper.specs.Ledgers.{IsKeptUnder}
 use Rattle.vk_keeper.proofs.Firsts.{lifted_right, get_lifted}
 use Rattle.vk_keeper_sql.specs.declared.layout.Layout.TheVariants.{Blank, First, Second, Other}
-use Rattle.vk_keeper_sql.specs.Columns.{seal_texts}
+use Rattle.vk_rows.specs.Columns.{seal_texts}
 use Rattle.vk_keeper_sql.specs.Statements.{make_terms, next_number, number_query, ids_query}
 use Rattle.vk_keeper_sql.specs.Transactions.{Ran}
 use Rattle.vk_keeper_sql.specs.Opening.{LiftsTables, Prepares, PreparesFrom}

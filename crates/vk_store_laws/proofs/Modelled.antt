@@ -14,7 +14,7 @@ use Rattle.vk_keeper.specs.declared.auction.Auction.{Auction}
 use Rattle.vk_keeper.specs.Auctions.{IsAuction}
 use Rattle.vk_keeper.specs.Ledgers.{Ledger, IsKeptUnder}
 use Rattle.vk_keeper.proofs.Places.{ledger_with}
-use Rattle.vk_keeper_sql.specs.Columns.{seal_texts}
+use Rattle.vk_rows.specs.Columns.{seal_texts}
 use Rattle.vk_store_laws.specs.Rows.{under, head_columns, term_columns, seal_columns}
 use Rattle.vk_store_laws.specs.Holding.{KeepsOthers, Stands, IsAbsent, Holds, head_row, seal_rows}
 use Rattle.vk_store_laws.specs.Telling.{TablesTell}

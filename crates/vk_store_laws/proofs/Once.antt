@@ -23,8 +23,8 @@ use Rattle.vk_keeper.specs.declared.auction.Phase.TheVariants.{Taking, Proved, A
 use Rattle.vk_keeper.specs.declared.auction.SealRow.{SealRow}
 use Rattle.vk_keeper.specs.declared.auction.Auction.{Auction}
 use Rattle.vk_keeper.specs.Auctions.{IsAuction, IsSealRow, seed_of, challenge_of}
-use Rattle.vk_keeper_sql.specs.declared.texts.SealTexts.{SealTexts}
-use Rattle.vk_keeper_sql.specs.Columns.{phase_number, bits_in, seal_texts}
+use Rattle.vk_rows.specs.declared.texts.SealTexts.{SealTexts}
+use Rattle.vk_rows.specs.Columns.{phase_number, bits_in, seal_texts}
 use Rattle.vk_store_laws.specs.Rows.{under, head_columns, term_columns, seal_columns}
 use Rattle.vk_store_laws.specs.Holding.{head_row, term_row, columns_of, seal_rows, Stands}
 use Rattle.vk_store_laws.proofs.Removes.{has_permuted}

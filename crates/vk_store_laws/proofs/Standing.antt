@@ -18,9 +18,9 @@ use Rattle.vk_reply.specs.declared.challenge.Challenge.{Challenge}
 use Rattle.vk_reply.specs.Texts.{bits_text}
 use Rattle.vk_keeper.specs.declared.auction.Auction.{Auction}
 use Rattle.vk_keeper.specs.Auctions.{IsAuction, challenge_of}
-use Rattle.vk_keeper_sql.specs.declared.texts.SealTexts.{SealTexts}
-use Rattle.vk_keeper_sql.specs.Columns.{ShowsAuction, ShowsTerms, ShowSeals, bits_value, seal_texts}
-use Rattle.vk_keeper_sql.specs.Reading.{Finds, Reads, ShowFound}
+use Rattle.vk_rows.specs.declared.texts.SealTexts.{SealTexts}
+use Rattle.vk_rows.specs.Columns.{ShowsAuction, ShowsTerms, ShowSeals, ShowFound, bits_value, seal_texts}
+use Rattle.vk_keeper_sql.specs.Reading.{Finds, Reads}
 use Rattle.vk_store_laws.specs.Tables.{store_schema}
 use Rattle.vk_store_laws.specs.Rows.{under, head_columns, term_columns, seal_columns}
 use Rattle.vk_store_laws.specs.Holding.{head_row, term_row, seal_rows, Holds}

@@ -6,7 +6,7 @@ use Rattle.sqlite.specs.Effect.{Database}
 use Rattle.vk_commit.specs.Values.{AreBytes}
 use Rattle.vk_keeper.specs.declared.auction.FirstAuction.{FirstAuction}
 use Rattle.vk_keeper.specs.First.{IsFirstAuction, FirstLedger, lifted}
-use Rattle.vk_keeper_sql.specs.Columns.{seal_texts}
+use Rattle.vk_rows.specs.Columns.{seal_texts}
 use Rattle.vk_store_laws.specs.Tables.{first_store_schema}
 use Rattle.vk_store_laws.specs.Rows.{IsTableOfRows, under, head_columns, seal_columns}
 use Rattle.vk_store_laws.specs.Holding.{head_row, seal_rows}

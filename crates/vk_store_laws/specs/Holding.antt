@@ -7,8 +7,8 @@ use Rattle.sqlite.specs.declared.types.Value.TheVariants.{Int, Text, Blob}
 use Rattle.sqlite.specs.Values.{or_null}
 use Rattle.vk_keeper.specs.declared.auction.Auction.{Auction}
 use Rattle.vk_keeper.specs.Auctions.{seed_of}
-use Rattle.vk_keeper_sql.specs.declared.texts.SealTexts.{SealTexts}
-use Rattle.vk_keeper_sql.specs.Columns.{phase_number, bits_in, seal_texts}
+use Rattle.vk_rows.specs.declared.texts.SealTexts.{SealTexts}
+use Rattle.vk_rows.specs.Columns.{phase_number, bits_in, seal_texts}
 use Rattle.vk_store_laws.specs.Tables.{store_schema}
 use Rattle.vk_store_laws.specs.Rows.{IsTableOfRows, under, head_columns, term_columns, seal_columns}
 

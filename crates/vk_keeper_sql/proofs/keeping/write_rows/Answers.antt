@@ -1,7 +1,7 @@
 use Rattle.std.proofs.Common.{◌≡◌, ◌∙◌, map, ap}
-use Rattle.vk_keeper_sql.specs.Columns.{seal_texts}
+use Rattle.vk_rows.specs.Columns.{seal_texts}
 use Rattle.vk_keeper_sql.specs.Statements.{keep_auction, keep_terms}
-use Rattle.vk_keeper_sql.specs.declared.texts.Texts.{Texts}
+use Rattle.vk_rows.specs.declared.texts.Texts.{Texts}
 use Rattle.vk_keeper_sql.proofs.AtOnce.{was_clean}
 use Rattle.vk_keeper_sql.proofs.keeping.write_rows.Goals as goal
 

@@ -1,6 +1,6 @@
 use Rattle.std.proofs.Common.{◌≡◌, rules}
 use Rattle.sqlite.specs.Value.{owned}
-use Rattle.vk_keeper_sql.specs.Columns.{column}
+use Rattle.sqlite.specs.Order.{column}
 use Rattle.vk_keeper_sql.specs.Statements.{keep_terms}
 use Rattle.vk_keeper_sql.proofs.lifting.add_first_terms.Goals as goal
 

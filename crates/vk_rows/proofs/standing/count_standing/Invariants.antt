@@ -1,6 +1,6 @@
 use Rattle.std.proofs.Common.{take}
-use Rattle.vk_keeper_sql.specs.Columns.{ShowSeals}
-use Rattle.vk_keeper_sql.proofs.seals.count_standing.Given as goal
+use Rattle.vk_rows.specs.Columns.{ShowSeals}
+use Rattle.vk_rows.proofs.standing.count_standing.Given as goal
 
 -- the rows so far are those of the seals
 abbrev pub invariant-loop-i : goal.invariant-loop-i

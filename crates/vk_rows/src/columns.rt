@@ -5,9 +5,9 @@ ghost use Rattle.sqlite.specs.declared.types.Value.TheVariants.{Int, Text, Blob}
 ghost use Rattle.vk_commit.specs.Values.{AreBytes};
 ghost use Rattle.vk_reply.specs.Texts.{bits_text};
 ghost use Rattle.vk_reply.specs.Values.{IsChallenge};
-ghost use Rattle.vk_keeper_sql.specs.Columns.{bits_value, column, or_null};
+ghost use Rattle.vk_rows.specs.Columns.{bits_value, column, or_null};
 
-use crate::errors::{refused_statement, refused_text};
+use crate::refusals::{refused_statement, refused_text};
 use sqlite::Row;
 use sqlite::types::ValueRef;
 use std::alloc::Global;

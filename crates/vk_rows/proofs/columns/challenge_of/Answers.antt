@@ -1,7 +1,7 @@
 use Rattle.std.proofs.Common.{rules, ◌≡◌, Some}
 use Rattle.vk_reply.specs.Tokens.{bits_of}
 use Rattle.vk_reply.proofs.Lines.{bits_token}
-use Rattle.vk_keeper_sql.proofs.columns.challenge_of.Goals as goal
+use Rattle.vk_rows.proofs.columns.challenge_of.Goals as goal
 
 pub returns-clause-value : goal.returns-clause-value
 returns-clause-value c =

@@ -5,7 +5,7 @@ use Rattle.vk_seal.specs.Texts.{seal_text, secret_text}
 use Rattle.vk_seal.specs.Tables.{seal_table, secret_table}
 use Rattle.vk_seal.specs.declared.secret.Seal.{Seal}
 use Rattle.vk_seal.specs.declared.secret.Secret.{Secret}
-use Rattle.vk_keeper_sql.proofs.rows.read_texts.Goals as goal
+use Rattle.vk_rows.proofs.stored.read_texts.Goals as goal
 
 pub returns-clause-seal_text : goal.returns-clause-seal_text
 returns-clause-seal_text c =

@@ -2,7 +2,7 @@ use Rattle.std.proofs.Common.{rules, ◌≡◌, ◌∙◌, ap, codes}
 use Rattle.vk_io.specs.Files.{bytes_of}
 use Rattle.vk_io.proofs.Finite.{get_own}
 use Rattle.vk_lines.specs.Lines.{StartsIn}
-use Rattle.vk_keeper_sql.proofs.rows.lines_of.Goals as goal
+use Rattle.vk_rows.proofs.stored.lines_of.Goals as goal
 
 pub returns : goal.returns
 returns c =

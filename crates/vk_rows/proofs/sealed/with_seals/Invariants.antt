@@ -1,7 +1,7 @@
 use Rattle.std.proofs.Common.{◌≡◌, map, take}
 use Rattle.vk_keeper.specs.Auctions.{IsAuction}
-use Rattle.vk_keeper_sql.specs.Columns.{ShowSeals, seal_texts}
-use Rattle.vk_keeper_sql.proofs.rows.with_seals.Given as goal
+use Rattle.vk_rows.specs.Columns.{ShowSeals, seal_texts}
+use Rattle.vk_rows.proofs.sealed.with_seals.Given as goal
 
 -- it stays an auction, and gets the seals of the rows so far
 abbrev pub invariant-loop-row : goal.invariant-loop-row

@@ -1,7 +1,7 @@
 //! What stands in the rows of an auction, beside what it has itself.
 
 ghost use Rattle.std.specs.Prelude.{◌≡◌, map, IfOk};
-ghost use Rattle.vk_keeper_sql.specs.Columns.{bits_in, seal_texts, texts_of};
+ghost use Rattle.vk_rows.specs.Columns.{bits_in, seal_texts, texts_of};
 
 use std::alloc::Global;
 use vk_keeper::{Auction, Phase, SealRow};

@@ -1,7 +1,7 @@
 use Rattle.std.proofs.Common.{◌∙◌, ◌<◌, length, sym, tests, rules}
-use Rattle.vk_keeper_sql.proofs.Lists.{show_next}
-use Rattle.vk_keeper_sql.proofs.seals.count_standing.Goals as goal
-use Rattle.vk_keeper_sql.proofs.seals.count_standing.Goals.{in-Some, in-None}
+use Rattle.vk_rows.proofs.Lists.{show_next}
+use Rattle.vk_rows.proofs.standing.count_standing.Goals as goal
+use Rattle.vk_rows.proofs.standing.count_standing.Goals.{in-Some, in-None}
 
 pub loop-i-preserved : goal.loop-i-preserved
 loop-i-preserved c = elim c.match-get.branch [

@@ -1,7 +1,7 @@
 use Rattle.std.proofs.Common.{◌≡◌, rules}
 use Rattle.vk_keeper.specs.Joining.{with_last}
-use Rattle.vk_keeper_sql.proofs.Lists.{show_read}
-use Rattle.vk_keeper_sql.proofs.rows.with_seals.Goals as goal
+use Rattle.vk_rows.proofs.Lists.{show_read}
+use Rattle.vk_rows.proofs.sealed.with_seals.Goals as goal
 
 pub loop-row-preserved : goal.loop-row-preserved
 loop-row-preserved c =

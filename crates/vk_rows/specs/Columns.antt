@@ -11,8 +11,8 @@ use Rattle.vk_keeper.specs.declared.auction.Phase.TheVariants.{Taking, Proved, A
 use Rattle.vk_keeper.specs.declared.auction.SealRow.{SealRow}
 use Rattle.vk_keeper.specs.declared.auction.Auction.{Auction}
 use Rattle.vk_keeper.specs.Auctions.{seed_of, challenge_of}
-use Rattle.vk_keeper_sql.specs.declared.texts.SealTexts.{SealTexts}
-use Rattle.vk_keeper_sql.specs.declared.texts.Texts.{Texts}
+use Rattle.vk_rows.specs.declared.texts.SealTexts.{SealTexts}
+use Rattle.vk_rows.specs.declared.texts.Texts.{Texts}
 pub use Rattle.sqlite.specs.Order.{column}
 pub use Rattle.sqlite.specs.Values.{or_null}
 
@@ -96,6 +96,14 @@ pub record ShowsWhole (row terms_row : Row) (rows : List Row) (auction : Auction
   pub head : ShowsAuction row auction
   pub terms : ShowsTerms terms_row auction
   pub seals : ShowSeals 0 rows (map seal_texts auction.seals)
+
+-- one row shows an auction with one of its terms and those of its seals, and no rows show that
+-- there is none
+abbrev pub ShowFound : List Row → List Row → List Row → Option Auction → Type 0
+ShowFound heads terms rows None = (heads ≡ []) × (terms ≡ []) × (rows ≡ [])
+ShowFound heads terms rows (Some auction) =
+    (head : Row) × (term : Row) × (heads ≡ head ∷ []) × (terms ≡ term ∷ [])
+    × ShowsWhole head term rows auction
 
 -- what stands in the rows of an auction beside what it has itself
 abbrev pub texts_of : Auction → Texts
