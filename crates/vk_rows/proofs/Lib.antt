@@ -1,1 +1,6 @@
 pub mod Lists
+pub mod Misses
+pub mod Same
+pub mod Joins
+pub mod Exact
+pub mod Readable

@@ -1,11 +1,14 @@
 -- An auction as rows: one of the table `auction`, and one of the table `seal` for each seal.
-use Rattle.std.specs.Prelude.{◌≡◌, ◌==◌, if◌then◌else◌, ℕ, ◌+◌, pos, List, [], ◌∷◌, map, Option, Some, None, option_map}
+use Rattle.std.specs.Prelude.{◌≡◌, ◌==◌, if◌then◌else◌, ℕ, ◌+◌, pos, List, [], ◌∷◌, map, Option, Some, None, option_map, IfSome}
 use Rattle.sqlite.specs.Order.{Row}
 use Rattle.sqlite.specs.declared.types.Value.{Value}
 use Rattle.sqlite.specs.declared.types.Value.TheVariants.{Int, Text, Blob}
+use Rattle.vk_commit.specs.Values.{AreBytes}
 use Rattle.vk_reply.specs.declared.challenge.Challenge.{Challenge}
+use Rattle.vk_reply.specs.Values.{IsChallenge}
 use Rattle.vk_reply.specs.Texts.{bits_text}
 use Rattle.vk_seal.specs.Texts.{seal_text, secret_text}
+use Rattle.vk_seal.specs.Values.{IsSeal, IsSecret}
 use Rattle.vk_keeper.specs.declared.auction.Phase.{Phase}
 use Rattle.vk_keeper.specs.declared.auction.Phase.TheVariants.{Taking, Proved, Answered}
 use Rattle.vk_keeper.specs.declared.auction.SealRow.{SealRow}
@@ -62,13 +65,30 @@ abbrev pub seal_row : List ℕ → ℕ → SealTexts → Row
 seal_row id position texts =
     Blob id ∷ Int (pos position) ∷ Int (pos texts.seat) ∷ Text texts.seal ∷ Text texts.secret ∷ []
 
--- a row that was read shows an auction, but for its id, its terms and its seals
-pub record ShowsAuction (row : Row) (auction : Auction) : Type 0 where
+-- a phase whose seed has 32 bytes, and whose challenge is one
+pub record IsPhase (phase : Phase) : Type 0 where
+  pub seed : IfSome (seed_of phase) (AreBytes 32)
+  pub challenge : IfSome (challenge_of phase) IsChallenge
+
+-- a seal and a secret, of whatever bidder
+abbrev pub IsStored : SealRow → Type 0
+IsStored row = IsSeal row.seal × IsSecret row.secret
+
+-- a row that was read shows the width and the number of lanes of an auction
+pub record ShowsSize (row : Row) (auction : Auction) : Type 0 where
   pub width : column row 0 ≡ Int (pos auction.width)
   pub lanes : column row 1 ≡ Int (pos auction.lanes)
-  pub phase : column row 2 ≡ Int (pos (phase_number auction.phase))
-  pub seed : column row 3 ≡ or_null Blob (seed_of auction.phase)
-  pub bits : column row 4 ≡ or_null bits_value (challenge_of auction.phase)
+
+-- a row that was read shows a phase, with what is kept in it
+pub record ShowsPhase (row : Row) (phase : Phase) : Type 0 where
+  pub number : column row 2 ≡ Int (pos (phase_number phase))
+  pub seed : column row 3 ≡ or_null Blob (seed_of phase)
+  pub bits : column row 4 ≡ or_null bits_value (challenge_of phase)
+
+-- a row that was read shows an auction, but for its id, its terms and its seals
+pub record ShowsAuction (row : Row) (auction : Auction) : Type 0 where
+  pub size : ShowsSize row auction
+  pub phase : ShowsPhase row auction.phase
 
 -- a row that was read shows the terms of an auction
 pub record ShowsTerms (row : Row) (auction : Auction) : Type 0 where

@@ -4,6 +4,7 @@
 
 mod columns;
 mod heads;
+mod quiet;
 mod refusals;
 mod rows;
 mod sealed;

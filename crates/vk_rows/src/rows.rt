@@ -1,8 +1,11 @@
 //! Rows as an auction, where they are one.
 
-ghost use Rattle.std.specs.Prelude.{◌≡◌, IfOk, IfSome};
+ghost use Rattle.std.specs.Prelude.{◌≡◌, Option, IfOk, IfSome};
 ghost use Rattle.vk_keeper.specs.Auctions.{IsAuction};
+ghost use Rattle.vk_keeper.specs.Ledgers.{IsKeptUnder};
+ghost use Rattle.vk_keeper.specs.declared.auction.Auction.{Auction as AnyAuction};
 ghost use Rattle.vk_rows.specs.Columns.{ShowFound, ShowsWhole};
+ghost use Rattle.vk_rows.specs.Refusals.{MissesNone};
 
 use crate::heads::{in_phase, phase_from, taking_from};
 use crate::sealed::with_seals;
@@ -23,6 +26,8 @@ pub fn found_in(
     ensures id { IfOk result (λ found. IfSome found (λ auction. auction.id ≡ id.now)) }
     ensures right { IfOk result (λ found. IfSome found IsAuction) }
     ensures shown { IfOk result (ShowFound heads.now terms.now seals.now) }
+    ensures exact { MissesNone (λ (found : Option AnyAuction). IfSome found (IsKeptUnder id.now)
+        × ShowFound heads.now terms.now seals.now found) result }
 {
     match (heads, terms) {
         ([], []) if seals.is_empty() => Ok(None),
@@ -46,6 +51,8 @@ fn auction_from(
     ensures id { IfOk result (λ auction. auction.id ≡ id.now) }
     ensures shown { IfOk result (ShowsWhole head.now terms.now seals.now) }
     ensures right { IfOk result IsAuction }
+    ensures exact { MissesNone (λ (auction : AnyAuction). IsKeptUnder id.now auction
+        × ShowsWhole head.now terms.now seals.now auction) result }
 {
     let taking = taking_from(alloc, id, head, terms)?;
     let phase = phase_from(alloc, head)?;

@@ -1,10 +1,13 @@
 //! The rows of an auction's seals.
 
-ghost use Rattle.std.specs.Prelude.{◌≡◌, [], map, IfOk, OnOk};
+ghost use Rattle.std.specs.Prelude.{◌≡◌, ◌≤◌, List, [], map, IfOk, IsErrOf, OnOk};
 ghost use Rattle.vk_seal.specs.Values.{IsSeal, IsSecret};
 ghost use Rattle.vk_keeper.specs.Auctions.{IsAuction};
 ghost use Rattle.vk_keeper.specs.Joining.{with_last};
-ghost use Rattle.vk_rows.specs.Columns.{ShowSeals, ShowsSeal, seal_texts};
+ghost use Rattle.vk_keeper.specs.declared.auction.Phase.TheVariants.{Taking};
+ghost use Rattle.vk_keeper.specs.declared.auction.SealRow.{SealRow as AnySeal};
+ghost use Rattle.vk_rows.specs.Columns.{IsStored, ShowSeals, ShowsSeal, seal_texts};
+ghost use Rattle.vk_rows.specs.Refusals.{MissesNone};
 
 use crate::columns::{number_at, text_at};
 use crate::stored::read_texts;
@@ -17,10 +20,14 @@ use vk_keeper::{Auction, SealRow};
 /// may not join.
 pub fn with_seals(alloc: Global, mut auction: Auction, rows: &[Row]) -> Result<Auction, OutsideErr>
     requires auction { IsAuction auction }
+    requires taking { auction.phase ≡ Taking }
     requires none { auction.seals ≡ [] }
     ensures shown { IfOk result (λ joined. ShowSeals 0 rows.now (map seal_texts joined.seals)) }
     ensures same { IfOk result (λ joined. joined ≡ record auction { seals = joined.seals }) }
     ensures right { IfOk result IsAuction }
+    ensures exact { MissesNone (λ (seals : List AnySeal).
+        IsAuction (record auction { seals = seals })
+        × ShowSeals 0 rows.now (map seal_texts seals)) result }
 {
     for row in rows {
         let position = auction.seals.len() + 1;
@@ -30,13 +37,14 @@ pub fn with_seals(alloc: Global, mut auction: Auction, rows: &[Row]) -> Result<A
     Ok(auction)
 }
 
-/// Puts a seal and its secret last. Errs where they may not join.
+/// Puts a seal and its secret last. Errs where they may not join, and for want of memory.
 fn join(auction: &mut Auction, row: SealRow) -> Result<(), OutsideErr>
     requires auction { IsAuction auction.old }
     requires seal { IsSeal row.seal }
     requires secret { IsSecret row.secret }
     ensures joined { OnOk result (auction.new ≡ with_last auction.old row) }
     ensures right { IsAuction auction.new }
+    ensures exact { IsErrOf result OutsideErr.Failed → ¬ IsAuction (with_last auction.old row) }
 {
     if auction.refusal(&row.seal, &row.secret).is_some() {
         return Err(OutsideErr::Failed);
@@ -48,9 +56,11 @@ fn join(auction: &mut Auction, row: SealRow) -> Result<(), OutsideErr>
 /// The seal of a row and its secret. Errs where the row isn't that of the position, or of another
 /// seat.
 fn seal_row_from(alloc: Global, row: &Row, position: usize) -> Result<SealRow, OutsideErr>
+    requires { position ≤ 65 }
     ensures shown { IfOk result (λ kept. ShowsSeal row.now position (seal_texts kept)) }
-    ensures seal { IfOk result (λ row. IsSeal row.seal) }
-    ensures secret { IfOk result (λ row. IsSecret row.secret) }
+    ensures right { IfOk result IsStored }
+    ensures exact { MissesNone (λ (kept : AnySeal).
+        IsStored kept × ShowsSeal row.now position (seal_texts kept)) result }
 {
     let stands_at = number_at(row, 0)?;
     let seat = number_at(row, 1)?;
