@@ -1,10 +1,10 @@
 -- Steps inside a transaction: each keeps what was committed.
-use Rattle.std.proofs.Common.{◌≡◌, ◌∙◌, ◌⊎◌, refl, sym, ap, subst, inl, inr, false, cond, List, Option, Some, None, ℕ, Result, Ok, Err, IsErr, IsTrue, OnOk}
+use Rattle.std.proofs.Common.{◌∙◌, ◌⊎◌, ap, inl, inr, cond, List, Option, Some, None, ℕ, Result, Ok, Err, IsErr, IsTrue, OnOk}
 use Rattle.sqlite.specs.Order.{Row}
-use Rattle.sqlite.specs.State.{State, KeepsCommit, IsUnchanged, IsRolledBack, IsNotRun, IsTooLate, ShowsRows, FailsToShow, FailsToQuery, Shown, ExecutesInside}
+use Rattle.sqlite.specs.State.{State, KeepsCommit, IsNotRun, IsTooLate, ShowsRows, FailsToShow, FailsToQuery, Shown}
 use Rattle.sqlite_schema.specs.declared.command.Returning.{Returning}
 use Rattle.sqlite.specs.declared.error.Error.{Error}
-use Rattle.sqlite.proofs.InsideLemmas.{keeps_then, unchanged_keeps, inside_keeps}
+use Rattle.sqlite.proofs.InsideLemmas.{keeps_then, unchanged_keeps}
 use Rattle.vk_keeper_sql.specs.Transactions.{StaysInside}
 
 shown_part : (old new : State) (sql : List ℕ) (c : _) (params : Row) (rows : List Row)

@@ -1,10 +1,10 @@
 //! Finds an auction in the store.
 
-ghost use Rattle.std.specs.Prelude.{◌≡◌, false, IfOk, IfSome};
+ghost use Rattle.std.specs.Prelude.{◌≡◌, true, false, IfOk, IfSome, IsErrOf};
 ghost use Rattle.sqlite.specs.Held.{state};
 ghost use Rattle.sqlite.specs.State.{HasCleanDisk};
 ghost use Rattle.vk_keeper.specs.Auctions.{IsAuction};
-ghost use Rattle.vk_keeper_sql.specs.Reading.{Finds, Reads, ReadsFrom};
+ghost use Rattle.vk_keeper_sql.specs.Reading.{FailsToRead, Finds, FindsNothing, Reads, ReadsFrom};
 ghost use Rattle.vk_keeper_sql.specs.Transactions.{ChangesNothing, CommitsNothing, LeavesDisk, Stays};
 
 use crate::statements::{AUCTION, SEALS, TERMS, rows_under};
@@ -15,7 +15,8 @@ use vk_keeper::Auction;
 use vk_rows::found_in;
 
 /// The auction of that id, read in a transaction that is rolled back. None where the store has no
-/// row of it. Errs where its rows aren't an auction.
+/// row of it. Errs where its rows aren't an auction, where a query is refused, and for want of
+/// memory.
 pub fn find<S: Alter>(
     alloc: Global,
     connection: &mut Connection<S>,
@@ -25,6 +26,8 @@ pub fn find<S: Alter>(
     ensures right { IfOk result (λ found. IfSome found IsAuction) }
     ensures shown { HasCleanDisk (state S.Store connection.new)
         → IfOk result (Finds S.Store id.now connection.old) }
+    ensures refused { HasCleanDisk (state S.Store connection.new)
+        → IsErrOf result OutsideErr.Failed → FindsNothing S.Store id.now connection.old }
     ensures crash { CommitsNothing (state S.Store connection.old) (state S.Store connection.new) }
     ensures kept { HasCleanDisk (state S.Store connection.new)
         → ChangesNothing (state S.Store connection.old) (state S.Store connection.new) }
@@ -51,6 +54,9 @@ fn rows_of<S: Alter>(
     requires { connection.old.in_transaction ≡ false }
     ensures read { HasCleanDisk (state S.Store connection.new) → IfOk result (λ rows.
         Reads S.Store id.now connection.old rows.0.items rows.1.items rows.2.items) }
+    ensures refused { HasCleanDisk (state S.Store connection.new)
+        → IsErrOf result OutsideErr.Failed
+        → FailsToRead S.Store id.now (record connection.old { in_transaction = true }) }
     ensures crash { CommitsNothing (state S.Store connection.old) (state S.Store connection.new) }
     ensures kept { HasCleanDisk (state S.Store connection.new)
         → ChangesNothing (state S.Store connection.old) (state S.Store connection.new) }
@@ -69,6 +75,9 @@ fn rows_within<S: Alter>(
     ensures read { HasCleanDisk (state S.Store transaction.new.conn.now)
         → IfOk result (λ rows. ReadsFrom S.Store id.now transaction.old.conn.now rows.0.items
         rows.1.items rows.2.items) }
+    ensures refused { HasCleanDisk (state S.Store transaction.new.conn.now)
+        → IsErrOf result OutsideErr.Failed
+        → FailsToRead S.Store id.now transaction.old.conn.now }
     ensures crash { LeavesDisk S.Store transaction.old.conn.now transaction.new.conn.now }
     ensures stays { Stays S.Store transaction.old.conn.now transaction.new.conn.now result }
 {

@@ -15,7 +15,7 @@ use crate::tables::{MAKE_TERMS, VERSION};
 use sqlite::types::ValueRef;
 use sqlite::{Alter, Row, Transaction};
 use vk_io::OutsideErr;
-use vk_rows::refused_statement;
+use vk_rows::value_at;
 
 const IDS: &str = "SELECT id FROM auction";
 
@@ -63,7 +63,7 @@ fn add_first_terms<S: Alter>(
     ensures crash { LeavesDisk S.Store transaction.old.conn.now transaction.new.conn.now }
     ensures stays { Stays S.Store transaction.old.conn.now transaction.new.conn.now result }
 {
-    let id = row.get_ref(0).map_err(refused_statement)?;
+    let id = value_at(row, 0);
     let columns = first_columns(id);
     run(transaction, KEEP_TERMS, &columns)?;
     Ok(())

@@ -1,13 +1,13 @@
 //! A keeper over an SQLite store.
 
-ghost use Rattle.std.specs.Prelude.{◌≡◌, IfOk, IfSome, MatchResult};
+ghost use Rattle.std.specs.Prelude.{◌≡◌, IfOk, IfSome, IsErrOf, MatchResult};
 ghost use Rattle.sqlite.specs.Held.{state};
 ghost use Rattle.sqlite.specs.State.{HasCleanDisk};
 ghost use Rattle.vk_io.specs.Faults.{Causes};
 ghost use Rattle.vk_keeper.specs.Auctions.{IsAuction};
 ghost use Rattle.vk_keeper.specs.Turns.{AfterGet, AfterPut};
 ghost use Rattle.vk_keeper_sql.specs.Opening.{Prepares};
-ghost use Rattle.vk_keeper_sql.specs.Reading.{Finds};
+ghost use Rattle.vk_keeper_sql.specs.Reading.{Finds, FindsNothing};
 ghost use Rattle.vk_keeper_sql.specs.Transactions.{ChangesNothing, CommitsNothing, CommitsAtOnce};
 ghost use Rattle.vk_keeper_sql.specs.declared.errors.OpenErr.{OpenErr as Refusal};
 ghost use Rattle.vk_keeper_sql.specs.Writing.{Keeps};
@@ -95,6 +95,8 @@ impl<S: Alter> Keeper for SqlKeeper<S> {
         ensures right { IfOk result (λ found. IfSome found IsAuction) }
         ensures shown { HasCleanDisk (state S.Store self.new.connection)
             → IfOk result (Finds S.Store id.now self.old.connection) }
+        ensures refused { HasCleanDisk (state S.Store self.new.connection)
+            → IsErrOf result OutsideErr.Failed → FindsNothing S.Store id.now self.old.connection }
         ensures crash { CommitsNothing (state S.Store self.old.connection)
             (state S.Store self.new.connection) }
         ensures kept { HasCleanDisk (state S.Store self.new.connection)

@@ -18,7 +18,7 @@ use vk_io::OutsideErr;
 use vk_reply::{Challenge, bits_of};
 
 /// The value of a column, and NULL where the row has no such column.
-fn value_at(row: &Row, at: usize) -> ValueRef<'_>
+pub fn value_at(row: &Row, at: usize) -> ValueRef<'_>
     ensures { owned result ≡ column row.now at }
 {
     match row.get_ref(at) {

@@ -22,7 +22,12 @@ use vk_reply::Challenge;
 use vk_seq::Seq;
 
 /// The auction of that id, width and number of lanes, on its terms, before it has a seal.
-pub fn taking_from(alloc: Global, id: &[u8; 16], head: &Row, terms: &Row) -> Result<Auction, OutsideErr>
+pub fn taking_from(
+    alloc: Global,
+    id: &[u8; 16],
+    head: &Row,
+    terms: &Row,
+) -> Result<Auction, OutsideErr>
     ensures id { IfOk result (λ auction. auction.id ≡ id.now) }
     ensures size { IfOk result (ShowsSize head.now) }
     ensures terms { IfOk result (ShowsTerms terms.now) }

@@ -22,7 +22,11 @@ use vk_seal::{Seal, Secret, read_seal, read_secret};
 const STORED: &str = "stored";
 
 /// The seal and the secret of their stored texts.
-pub fn read_texts(alloc: Global, seal_text: &[u8], secret_text: &[u8]) -> Result<SealRow, OutsideErr>
+pub fn read_texts(
+    alloc: Global,
+    seal_text: &[u8],
+    secret_text: &[u8],
+) -> Result<SealRow, OutsideErr>
     ensures seal_text { IfOk result (λ row. seal_text.now ≡ form.seal_text row.seal) }
     ensures secret_text { IfOk result (λ row. secret_text.now ≡ form.secret_text row.secret) }
     ensures right { IfOk result IsStored }

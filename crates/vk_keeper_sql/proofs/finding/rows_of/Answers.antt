@@ -20,3 +20,9 @@ returns-clause-kept g c clean =
     (state g.S.Store c.drop-transaction.new.self.0) (stays last refl).kept
     (c.drop-transaction.ensures.undone late) in
     search (rules, changes)
+
+pub returns-clause-refused : goal.returns-clause-refused
+returns-clause-refused g c clean failed =
+    let late : HasCleanDisk (state g.S.Store c.drop-transaction.new.self.0) = search rules in
+    let last = was_clean _ _ c.drop-transaction.ensures.survives late in
+    rw c.transaction-transaction.ensures.begun at (c.rows_within-rows.ensures.refused last failed)

@@ -1,3 +1,4 @@
+use Rattle.std.proofs.Common.{inl, inr, rules}
 use Rattle.vk_keeper_sql.specs.Statements.{auction_query, terms_query, seals_query}
 use Rattle.vk_keeper_sql.proofs.AtOnce.{was_clean}
 use Rattle.vk_keeper_sql.proofs.finding.rows_within.Goals as goal
@@ -14,3 +15,47 @@ returns-clause-read g c clean =
       term = c.in_ok-terms.ensures.rows two;
       seals = c.in_ok-seals.ensures.rows clean;
     }
+
+pub returns-in_err-heads-clause-refused : goal.returns-in_err-heads-clause-refused
+unfolding auction_query
+returns-in_err-heads-clause-refused g c clean failed = (
+  c.rows_under.new.transaction.conn.now,
+  inl (c.rows_under.ensures.refused clean (search (rules, failed))),
+)
+
+pub returns-in_err-terms-clause-refused : goal.returns-in_err-terms-clause-refused
+unfolding auction_query terms_query
+returns-in_err-terms-clause-refused g c clean failed =
+    let one = was_clean _ _ c.rows_under-2.ensures.crash clean in (
+      c.rows_under.new.transaction.conn.now,
+      inr (
+        c.in_ok-heads.heads.items,
+        c.in_ok-heads.ensures.rows one,
+        (
+          c.rows_under-2.new.transaction.conn.now,
+          inl (c.rows_under-2.ensures.refused clean (search (rules, failed))),
+        ),
+      ),
+    )
+
+pub returns-in_err-seals-clause-refused : goal.returns-in_err-seals-clause-refused
+unfolding auction_query terms_query seals_query
+returns-in_err-seals-clause-refused g c clean failed =
+    let two = was_clean _ _ c.rows_under-3.ensures.crash clean in (
+      c.rows_under.new.transaction.conn.now,
+      inr (
+        c.in_ok-heads.heads.items,
+        c.in_ok-heads.ensures.rows (was_clean _ _ c.rows_under-2.ensures.crash two),
+        (
+          c.rows_under-2.new.transaction.conn.now,
+          inr (
+            c.in_ok-terms.terms.items,
+            c.in_ok-terms.ensures.rows two,
+            (
+              c.rows_under-3.new.transaction.conn.now,
+              c.rows_under-3.ensures.refused clean (search (rules, failed)),
+            ),
+          ),
+        ),
+      ),
+    )
