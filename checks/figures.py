@@ -346,7 +346,7 @@ def crates(_auction):
         "circuit": (395, 312, 115, 98, "circuits", "vk_vickrey,|vk_uniform,|vk_matching,|vk_range"),
         "wire": (270, 420, 240, 44, "wire; plan", "vk_wire; vk_plan"),
         "house": (530, 175, 230, 62, "house", "vk_house, vk_honest,|vk_job, vk_views"),
-        "keeper": (640, 270, 120, 80, "keeper", "vk_keeper,|vk_keeper_sql,|vk_store_laws"),
+        "keeper": (640, 270, 120, 98, "keeper", "vk_keeper,|vk_rows,|vk_keeper_sql,|vk_store_laws"),
         "prover": (530, 270, 100, 44, "prover", "vk_prover"),
         "dice": (530, 420, 230, 44, "words of a seed", "vk_dice"),
         "commit": (270, 496, 240, 44, "commitment", "vk_commit, vk_digests"),

@@ -116,7 +116,7 @@ first_stay before (suc n) k is (x ∷ order) (text ∷ texts) full up past low s
     (omega (arith, low)) shown.1 in
     rw here (ap (λ more. x ∷ more) rest)
 
-strict : (order : List Row) → IsAscending NotBelow order → IsDistinct same_position order
+pub strict : (order : List Row) → IsAscending NotBelow order → IsDistinct same_position order
     → IsAscending Above order
 unfolding IsDistinct
 strict [] up apart = tt
@@ -136,7 +136,7 @@ strict (x ∷ order) up apart = (
         go Greater e = absurd (let f =
             ap is_lt (value_cmp_total.antisymm w v ∙ ap ordering_reverse e) in cc)
 
-flips : (a b : Row) → same_position a b ≡ same_position b a
+pub flips : (a b : Row) → same_position a b ≡ same_position b a
 flips a b = Rattle.std.specs.Cmp.both_ways _ _
     (λ h. ap is_eq (tied_back value_cmp_total _ _ (Rattle.vk_store_laws.proofs.Under.equal_is _ h)))
     (λ h. ap is_eq (tied_back value_cmp_total _ _ (Rattle.vk_store_laws.proofs.Under.equal_is _ h)))

@@ -5,6 +5,7 @@ pub mod Tables
 pub mod Under
 pub mod Finds
 pub mod Standing
+pub mod Shown
 pub mod Keeping
 pub mod Distinct
 pub mod Clearing

@@ -1,6 +1,6 @@
 -- What the tables hold under an id is one auction.
-use Rattle.std.proofs.Common.{◌≡◌, ℕ, ◌+◌, ◌<◌, ◌≤◌, pos, List, [], ◌∷◌, map, refl, ap, sym, subst, ◌∙◌, inl, inr, arith, Option, Some, Result, Less, int_cmp}
-use Rattle.std.specs.Prelude.{IsPermutation, IfSome, slice_index_or}
+use Rattle.std.proofs.Common.{◌≡◌, ℕ, ◌+◌, ◌<◌, ◌≤◌, pos, List, [], ◌∷◌, map, refl, ap, sym, subst, ◌∙◌, inl, inr, arith, Less, int_cmp}
+use Rattle.std.specs.Prelude.{IsPermutation, slice_index_or}
 use Rattle.std.proofs.lemmas.Bool.Decides.{nat_tests}
 use Rattle.std.proofs.lemmas.List.Sorted.{IsPermutation-trans, IsPermutation-sym}
 use Rattle.std.proofs.lemmas.Cmp.{tied_itself}
@@ -9,36 +9,16 @@ use Rattle.sqlite_value.proofs.OrderLemmas.{value_cmp_total, value_cmp-Int}
 use Rattle.sqlite_trees.specs.Tree.{Trees, IsTable}
 use Rattle.sqlite_rules.specs.Lists.{Has}
 use Rattle.sqlite_rules.proofs.ListLemmas.{all_has, all_from}
-use Rattle.sqlite.specs.declared.types.Value.TheVariants.{Int, Text, Blob}
-use Rattle.sqlite.specs.Values.{or_null}
-use Rattle.vk_lines.specs.Forms.{IsWhole}
-use Rattle.vk_lines.specs.Lines.{Rest}
-use Rattle.vk_reply.specs.declared.challenge.Challenge.{Challenge}
-use Rattle.vk_reply.specs.Values.{IsChallenge}
-use Rattle.vk_reply.specs.Texts.{bits_text}
-use Rattle.vk_reply.proofs.Lines.{bits_token}
-use Rattle.vk_seal.proofs.Forms.{seal_is_whole, secret_is_whole}
-use Rattle.vk_keeper.specs.declared.auction.Phase.{Phase}
-use Rattle.vk_keeper.specs.declared.auction.Phase.TheVariants.{Taking, Proved, Answered}
-use Rattle.vk_keeper.specs.declared.auction.SealRow.{SealRow}
+use Rattle.sqlite.specs.declared.types.Value.TheVariants.{Int}
 use Rattle.vk_keeper.specs.declared.auction.Auction.{Auction}
-use Rattle.vk_keeper.specs.Auctions.{IsAuction, IsSealRow, seed_of, challenge_of}
+use Rattle.vk_keeper.specs.Auctions.{IsAuction, challenge_of}
 use Rattle.vk_rows.specs.declared.texts.SealTexts.{SealTexts}
-use Rattle.vk_rows.specs.Columns.{phase_number, bits_in, seal_texts}
+use Rattle.vk_rows.specs.Columns.{phase_number, seal_texts}
+use Rattle.vk_rows.proofs.Joins.{are_stored}
+use Rattle.vk_rows.proofs.Same.{bits_as, one_list, one_phase}
 use Rattle.vk_store_laws.specs.Rows.{under, head_columns, term_columns, seal_columns}
 use Rattle.vk_store_laws.specs.Holding.{head_row, term_row, columns_of, seal_rows, Stands}
 use Rattle.vk_store_laws.proofs.Removes.{has_permuted}
-use Rattle.vk_store_laws.proofs.Tables.{same_value}
-
--- two values with one text are one
-one_text : {X : Type 0} {IsValue : X → Type 0} {text : X → List ℕ}
-    {read : Rest → Result (X × Rest) ℕ} → IsWhole IsValue text read → (a b : X) → IsValue a
-    → IsValue b → text a ≡ text b → a ≡ b
-one_text {X} {IsValue} {text} {read} whole a b is also same =
-    let rest : Rest = record { taken = 0; left = text a } in
-    let first = whole.found rest a is refl in
-    let second = whole.found rest b also same in
-    ap (λ (p : X × Rest). p.0) (same_value (sym first.1 ∙ second.1))
 
 lower : (a b : ℕ) → a < b → value_cmp (Int (pos a)) (Int (pos b)) ≡ Less
 lower a b low = value_cmp-Int (pos a) (pos b) ∙ below a b low
@@ -47,7 +27,7 @@ lower a b low = value_cmp-Int (pos a) (pos b) ∙ below a b low
     below a b low = grind (arith, nat_tests, low)
 
 -- the rows of seals rise by their positions
-rows_rise : (before : ℕ) (texts : List SealTexts) → IsTable (seal_rows before texts)
+pub rows_rise : (before : ℕ) (texts : List SealTexts) → IsTable (seal_rows before texts)
 rows_rise before [] = tt
 rows_rise before (text ∷ texts) = (
   all_from _ (seal_rows (before + 1) texts)
@@ -74,7 +54,7 @@ not_itself : (a : Row) → value_cmp (column a 0) (column a 0) ≡ Less → ⊥
 not_itself a p = absurd (let e = sym p ∙ tied_itself value_cmp_total (column a 0) in cc)
 
 -- two tables with the same rows are one
-same_tables : (xs ys : List Row) → IsTable xs → IsTable ys → ((r : Row) → Has xs r → Has ys r)
+pub same_tables : (xs ys : List Row) → IsTable xs → IsTable ys → ((r : Row) → Has xs r → Has ys r)
     → ((r : Row) → Has ys r → Has xs r) → xs ≡ ys
 same_tables [] [] p q a b = refl
 same_tables [] (y ∷ ys) p q a b = absurd (b y (inl refl))
@@ -120,59 +100,6 @@ texts_from before (x ∷ a) (y ∷ b) is =
         let secret : x.secret ≡ y.secret = cc in
         rw (seat, seal, secret) refl
 
--- seals with the same texts are the same
-seals_from : (id : List ℕ) (width lanes : ℕ) (a b : List SealRow)
-    → ((r : SealRow) → Has a r → IsSealRow id width lanes r)
-    → ((r : SealRow) → Has b r → IsSealRow id width lanes r) → map seal_texts a ≡ map seal_texts b
-    → a ≡ b
-seals_from id width lanes [] [] p q is = refl
-seals_from id width lanes [] (y ∷ b) p q is = absurd (let e = is in cc)
-seals_from id width lanes (x ∷ a) [] p q is = absurd (let e = is in cc)
-seals_from id width lanes (x ∷ a) (y ∷ b) p q is =
-    let first : seal_texts x ≡ seal_texts y = cc in
-    let rest = seals_from id width lanes a b (λ r h. p r (inr h)) (λ r h. q r (inr h))
-    (let e = is in cc) in
-    let seal = one_text seal_is_whole x.seal y.seal (p x (inl refl)).seal (q y (inl refl)).seal
-    (ap (λ (t : SealTexts). t.seal) first) in
-    let secret = one_text secret_is_whole x.secret y.secret (p x (inl refl)).secret
-    (q y (inl refl)).secret (ap (λ (t : SealTexts). t.secret) first) in
-    let same : x ≡ y = rw (seal, secret) refl in
-    rw (same, rest) refl
-
-one_challenge : (a b : Challenge) → IsChallenge a → IsChallenge b
-    → bits_text a.bits ≡ bits_text b.bits → a ≡ b
-one_challenge a b p q same =
-    let first = bits_token.found a.bits (p.some_bit, p.few_bits) in
-    let second = bits_token.found b.bits (q.some_bit, q.few_bits) in
-    let both : ◌≡◌ {A = Option (List _)} (Some a.bits) (Some b.bits) =
-    sym first ∙ (ap Rattle.vk_reply.specs.Tokens.bits_of same ∙ second) in
-    let bits : a.bits ≡ b.bits = cc in
-    rw bits refl
-
--- the columns of a phase are those of no other
-phases : (a b : Phase) → IfSome (challenge_of a) IsChallenge → IfSome (challenge_of b) IsChallenge
-    → phase_number a ≡ phase_number b → or_null Blob (seed_of a) ≡ or_null Blob (seed_of b)
-    → or_null Text (bits_in a) ≡ or_null Text (bits_in b) → a ≡ b
-phases Taking Taking p q number seed bits = refl
-phases Taking (Proved t) p q number seed bits = absurd (let e = number in cc)
-phases Taking (Answered t c) p q number seed bits = absurd (let e = number in cc)
-phases (Proved s) Taking p q number seed bits = absurd (let e = number in cc)
-phases (Proved s) (Proved t) p q number seed bits = let same : s ≡ t = cc in rw same refl
-phases (Proved s) (Answered t c) p q number seed bits = absurd (let e = number in cc)
-phases (Answered s c) Taking p q number seed bits = absurd (let e = number in cc)
-phases (Answered s c) (Proved t) p q number seed bits = absurd (let e = number in cc)
-phases (Answered s c) (Answered t d) p q number seed bits =
-    let same : s ≡ t = cc in
-    let texts : bits_text c.bits ≡ bits_text d.bits = cc in
-    let challenge = one_challenge c d p q texts in
-    rw (same, challenge) refl
-
-sealed : (auction : Auction) → IsAuction auction → (r : SealRow) → Has auction.seals r
-    → IsSealRow auction.id auction.width auction.lanes r
-sealed auction right r h = all_has _ auction.seals r
-    (Rattle.std.proofs.lemmas.List.Elements.recursion_from_All
-    (IsSealRow auction.id auction.width auction.lanes) auction.seals right.held.rows) h
-
 pub stands_one : (trees : Trees) (a b : Auction) → IsAuction a → IsAuction b → a.id ≡ b.id
     → Stands trees a → Stands trees b → a ≡ b
 stands_one trees a b p q id one two =
@@ -194,8 +121,10 @@ stands_one trees a b p q id one two =
     column_at (head_row a) (head_row b) 2 heads (phase_number a.phase) (phase_number b.phase)
     refl refl in
     let seed = ap (λ rows. column (slice_index_or rows 0 []) 3) heads in
-    let bits = ap (λ rows. column (slice_index_or rows 0 []) 4) heads in
-    let phase = phases a.phase b.phase p.held.challenge q.held.challenge number seed bits in
+    let bits = bits_as (challenge_of a.phase)
+    ∙ (ap (λ rows. column (slice_index_or rows 0 []) 4) heads
+    ∙ sym (bits_as (challenge_of b.phase))) in
+    let phase = one_phase a.phase b.phase p.held.challenge q.held.challenge number seed bits in
     let terms : term_row a ∷ [] ≡ term_row b ∷ [] =
     sym (subst (λ i. map term_columns (under i (trees 6)) ≡ term_row a ∷ []) id one.terms)
     ∙ two.terms in
@@ -211,10 +140,7 @@ stands_one trees a b p q id one two =
     (λ r h. has_permuted _ _ r (IsPermutation-sym _ _ same) h)
     (λ r h. has_permuted _ _ r same h) in
     let texts = texts_from 0 (map seal_texts a.seals) (map seal_texts b.seals) rows in
-    let seals = seals_from a.id a.width a.lanes a.seals b.seals (sealed a p)
-    (λ r h. subst (λ i. IsSealRow i a.width a.lanes r) (sym id)
-    (subst (λ w. IsSealRow b.id w a.lanes r) (sym width)
-    (subst (λ l. IsSealRow b.id b.width l r) (sym lanes) (sealed b q r h)))) texts in
+    let seals = one_list a.seals b.seals (are_stored a p) (are_stored b q) texts in
     same_parts a b id version width lanes reserve phase seals
   where
     column_at : (x y : Row) (at : ℕ) → x ∷ [] ≡ y ∷ [] → (m n : ℕ) → column x at ≡ Int (pos m)

@@ -1,31 +1,31 @@
 -- What is found under an id stands in the tables.
-use Rattle.std.proofs.Common.{◌≡◌, true, ℕ, zero, suc, ◌+◌, ◌<◌, pos, List, [], ◌∷◌, map, take, length, refl, ap, sym, subst, ◌∙◌, arith, Option, Some, None, option_map}
+use Rattle.std.proofs.Common.{◌≡◌, true, ℕ, zero, suc, ◌+◌, ◌<◌, pos, List, [], ◌∷◌, map, take, length, refl, ap, sym, subst, ◌∙◌, arith, Option, Some, None}
 use Rattle.std.specs.Prelude.{IsPermutation, IfSome}
 use Rattle.std.specs.List.{AllByRecursion}
 use Rattle.std.proofs.lemmas.List.{length-map}
 use Rattle.std.proofs.lemmas.List.Sorted.{IsPermutation-sym, length_permutation}
 use Rattle.sqlite_value.specs.Order.{Row, column}
 use Rattle.sqlite_trees.proofs.ListLemmas.{all-permutation}
+use Rattle.sqlite_trees.specs.Tree.{IsAscending}
 use Rattle.sqlite.specs.declared.types.Value.TheVariants.{Int, Text}
-use Rattle.sqlite.specs.Values.{or_null}
 use Rattle.sqlite.specs.Effect.{Database}
 use Rattle.sqlite.specs.Store.{Ghosts}
 use Rattle.sqlite.specs.Held.{Held, state}
 use Rattle.sqlite_rules.proofs.ListLemmas.{all_from}
 use Rattle.sqlite_rules.proofs.ProbeLemmas.{has_mapped}
 use Rattle.sqlite.proofs.Callers.{one_permutation}
-use Rattle.vk_reply.specs.declared.challenge.Challenge.{Challenge}
-use Rattle.vk_reply.specs.Texts.{bits_text}
 use Rattle.vk_keeper.specs.declared.auction.Auction.{Auction}
 use Rattle.vk_keeper.specs.Auctions.{IsAuction, challenge_of}
 use Rattle.vk_rows.specs.declared.texts.SealTexts.{SealTexts}
-use Rattle.vk_rows.specs.Columns.{ShowsAuction, ShowsTerms, ShowSeals, ShowFound, bits_value, seal_texts}
+use Rattle.vk_rows.specs.Columns.{ShowsAuction, ShowsTerms, ShowSeals, ShowFound, seal_texts}
+use Rattle.vk_rows.proofs.Exact.{count_of}
+use Rattle.vk_rows.proofs.Same.{bits_as}
 use Rattle.vk_keeper_sql.specs.Reading.{Finds, Reads}
 use Rattle.vk_store_laws.specs.Tables.{store_schema}
 use Rattle.vk_store_laws.specs.Rows.{under, head_columns, term_columns, seal_columns}
 use Rattle.vk_store_laws.specs.Holding.{head_row, term_row, seal_rows, Holds}
 use Rattle.vk_store_laws.proofs.Texts.{find_auction_is, find_terms_is}
-use Rattle.vk_store_laws.proofs.Finds.{finds_heads, finds_terms, finds_seals, shown_leaves}
+use Rattle.vk_store_laws.proofs.Finds.{NotBelow, finds_heads, finds_terms, finds_seals, shown_leaves}
 
 abbrev pub IsFour : Row → Type 0
 IsFour row = row ≡ column row 0 ∷ column row 1 ∷ column row 2 ∷ column row 3 ∷ []
@@ -53,19 +53,6 @@ rows_are before (row ∷ rows) (seal ∷ seals) four shown =
     four.0 ∙ rw (shown.0.position, shown.0.seat, shown.0.seal, shown.0.secret) refl in
     rw (first, rows_are (before + 1) rows seals four.1 shown.1) refl
 
-pub count_of : (before : ℕ) (rows : List Row) (seals : List SealTexts) → ShowSeals before rows seals
-    → length rows ≡ length seals
-count_of before [] [] shown = refl
-count_of before [] (seal ∷ seals) shown = absurd shown
-count_of before (row ∷ rows) [] shown = absurd shown
-count_of before (row ∷ rows) (seal ∷ seals) shown =
-    ap suc (count_of (before + 1) rows seals shown.1)
-
-bits_as : (challenge : Option Challenge)
-    → or_null bits_value challenge ≡ or_null Text (option_map (λ c. bits_text c.bits) challenge)
-bits_as None = refl
-bits_as (Some challenge) = refl
-
 pub four_columns : (rows order : List Row) → IsPermutation (map seal_columns rows) order
     → AllByRecursion IsFour order
 four_columns rows order same =
@@ -88,11 +75,11 @@ head_is : (rows : List Row) (head : Row) (auction : Auction) → map head_column
 head_is rows head auction =
     one_is head_columns (λ row. ShowsAuction row auction) (head_row auction)
     (λ r shows. rw (
-      shows.width,
-      shows.lanes,
-      shows.phase,
-      shows.seed,
-      shows.bits,
+      shows.size.width,
+      shows.size.lanes,
+      shows.phase.number,
+      shows.phase.seed,
+      shows.phase.bits,
       bits_as (challenge_of auction.phase),
     ) refl) rows head
 
@@ -100,13 +87,13 @@ none_mapped : (f : Row → Row) (rows : List Row) → map f rows ≡ [] → rows
 none_mapped f [] is = refl
 none_mapped f (r ∷ rows) is = absurd (let e = is in cc)
 
-none_permuted : (rows order : List Row) → IsPermutation rows order → order ≡ [] → rows ≡ []
+pub none_permuted : (rows order : List Row) → IsPermutation rows order → order ≡ [] → rows ≡ []
 none_permuted [] order same is = refl
 none_permuted (r ∷ rows) order same is =
     absurd (let len = length_permutation (r ∷ rows) order same in let none = ap length is in
     omega (arith, len, none))
 
-one_permuted : (rows order : List Row) (row : Row) → IsPermutation rows order → order ≡ row ∷ []
+pub one_permuted : (rows order : List Row) (row : Row) → IsPermutation rows order → order ≡ row ∷ []
     → rows ≡ row ∷ []
 one_permuted rows order row same is =
     one_permutation row rows (subst (λ xs. IsPermutation xs rows) is
@@ -134,6 +121,7 @@ module _ {S : Type 0} (g : Ghosts S) (id : List ℕ) (old : Held S) (has : (stat
     pub seals_in : IsPermutation (map seal_columns (under id ((state g old).now.trees 3)))
         seal_order
     pub seals_are : rows ≡ take 65 seal_order
+    pub seals_rise : IsAscending NotBelow seal_order
 
   pub are_found : AreFound
   are_found =
@@ -161,6 +149,7 @@ module _ {S : Type 0} (g : Ghosts S) (id : List ℕ) (old : Held S) (has : (stat
         seals_in = subst (λ (d : Database). IsPermutation (map seal_columns (under id (d.trees 3)))
             third.0) left_two third.1;
         seals_are = third.2;
+        seals_rise = third.3;
       }
 
   pub stands_as_found : (found : Option Auction)

@@ -14,7 +14,7 @@ ghost use Rattle.vk_keeper.specs.First.{FirstLedger, lifted_ledger};
 ghost use Rattle.vk_keeper.specs.Ledgers.{Ledger};
 ghost use Rattle.vk_keeper.specs.declared.auction.Auction.{Auction};
 ghost use Rattle.vk_keeper_sql.specs.Opening.{MakesTables, Prepares};
-ghost use Rattle.vk_keeper_sql.specs.Reading.{Finds};
+ghost use Rattle.vk_keeper_sql.specs.Reading.{Finds, ShowsNeither};
 ghost use Rattle.vk_keeper_sql.specs.Transactions.{CommitsAtOnce};
 ghost use Rattle.vk_keeper_sql.specs.Writing.{Keeps};
 ghost use Rattle.vk_keeper_sql.specs.declared.errors.OpenErr.{OpenErr};
@@ -39,6 +39,14 @@ pub fn what_is_answered_is_what_the_ledger_has<S: Alter>()
         → IsStore (state S.Store old).now → TablesTell (state S.Store old).now.trees ledger
         → IfSome found (λ auction. auction.id ≡ id) → IfSome found IsAuction
         → Finds S.Store id old found → found ≡ get ledger id }
+{}
+
+/// A law: in a store that tells a ledger no answer is refused for the rows: they show what the
+/// ledger has.
+pub fn the_rows_show_what_the_ledger_has<S: Alter>()
+    ensures { (old : Held S) (id : List ℕ) (ledger : Ledger) → AreBytes 16 id
+        → IsStore (state S.Store old).now → TablesTell (state S.Store old).now.trees ledger
+        → ¬ ShowsNeither S.Store id old }
 {}
 
 /// A law: what is made of a store that tells a ledger by keeping an auction is a store that tells
