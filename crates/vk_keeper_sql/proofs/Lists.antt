@@ -1,16 +1,18 @@
 -- One more row at the end of those that were written.
-use Rattle.std.proofs.Common.{◌≡◌, ℕ, ◌+◌, ◌<◌, List, [], ◌∷◌, ◌++◌, length, take, get_or, refl, sym, subst, arith}
-use Rattle.std.proofs.lemmas.List.{length-take-le}
+use Rattle.std.proofs.Common.{◌≡◌, ◌∙◌, ℕ, ◌+◌, ◌<◌, List, [], ◌∷◌, ◌++◌, length, take, drop, get_or, inl, inr, refl, sym, ap, subst, arith}
+use Rattle.std.proofs.lemmas.List.{length-take-le, drop_more, take-append-drop}
 use Rattle.sqlite.specs.Store.{Ghosts}
 use Rattle.sqlite.specs.Order.{Row}
 use Rattle.sqlite.specs.Held.{Held}
+use Rattle.vk_io.specs.declared.errors.OutsideErr.{OutsideErr}
 use Rattle.vk_rows.specs.declared.texts.SealTexts.{SealTexts}
 use Rattle.sqlite.specs.Order.{column}
 use Rattle.vk_rows.specs.Columns.{seal_row}
 use Rattle.vk_rows.proofs.Lists.{next_one}
 use Rattle.vk_keeper_sql.specs.Statements.{keep_seal, keep_terms}
 use Rattle.vk_keeper_sql.specs.Opening.{AddsTerms, first_terms}
-use Rattle.vk_keeper_sql.specs.Transactions.{Ran}
+use Rattle.vk_keeper_sql.specs.Transactions.{Ran, RefusesRun}
+use Rattle.vk_keeper_sql.specs.Unopened.{StopsAmong, filling}
 use Rattle.vk_keeper_sql.specs.Writing.{AddsSeals}
 
 module _ {S : Type 0} (g : Ghosts S) (id : List ℕ) where
@@ -62,3 +64,25 @@ module _ {S : Type 0} (g : Ghosts S) where
   terms_next rows i row old mid new within is added last =
       subst (λ all. AddsTerms g all old new) (sym (next_one rows i row within is))
       (terms_more (take i rows) row old mid new added last)
+
+  stop_behind : (front : List Row) (row : Row) (back : List Row) (old mid new : Held S)
+      (told : OutsideErr) → AddsTerms g front old mid
+      → RefusesRun g keep_terms (first_terms (column row 0)) mid new told
+      → StopsAmong g (filling (front ++ row ∷ back)) old new told
+  stop_behind [] row back old mid new told added last =
+      inl (subst (λ h. RefusesRun g keep_terms (first_terms (column row 0)) h new told) added last)
+  stop_behind (one ∷ front) row back old mid new told added last =
+      inr (added.0, added.1, stop_behind front row back added.0 mid new told added.2 last)
+
+  -- the terms for the next id are refused
+  pub terms_stop : (rows : List Row) (i : ℕ) (row : Row) (old mid new : Held S) (told : OutsideErr)
+      → i < length rows → row ≡ get_or rows i row → AddsTerms g (take i rows) old mid
+      → RefusesRun g keep_terms (first_terms (column row 0)) mid new told
+      → StopsAmong g (filling rows) old new told
+  terms_stop rows i row old mid new told within is added last =
+      let next : take i rows ++ row ∷ drop (i + 1) rows ≡ rows =
+      ap (λ x. take i rows ++ x ∷ drop (i + 1) rows) is
+      ∙ (ap (λ back. take i rows ++ back) (sym (drop_more rows i row within))
+      ∙ take-append-drop i rows) in
+      subst (λ all. StopsAmong g (filling all) old new told) next
+      (stop_behind (take i rows) row (drop (i + 1) rows) old mid new told added last)

@@ -7,6 +7,8 @@ use Rattle.sqlite_schema.specs.declared.schema.Table.{Table}
 use Rattle.sqlite_schema.specs.declared.schema.Schema.{Schema}
 use Rattle.vk_keeper_sql.specs.declared.layout.Layout.{Layout}
 use Rattle.vk_keeper_sql.specs.declared.layout.Layout.TheVariants.{Blank, First, Second, Other}
+use Rattle.vk_keeper_sql.specs.declared.layout.TableName.{TableName}
+use Rattle.vk_keeper_sql.specs.declared.layout.TableName.TheVariants.{About, Auction, Seal, Terms}
 
 -- a column by its name and type, and whether it takes no NULL
 pub record ColumnShape : Type 0 where
@@ -69,14 +71,25 @@ terms_shape = record {
   keys = (1 ∷ []) ∷ [];
 }
 
--- a table of that shape, with no other rule
-pub record HasShape (shape : TableShape) (table : Table) : Type 0 where
-  pub name : table.name ≡ shape.name
-  pub columns : map shape_of table.columns ≡ shape.columns
-  pub keys : table.uniques ≡ shape.keys
+-- a table of that name, with no rule but its columns and keys
+pub record IsPlain (wanted : List ℕ) (table : Table) : Type 0 where
+  pub name : table.name ≡ wanted
   pub rowid : table.key ≡ None
   pub checks : table.checks ≡ []
   pub references : table.references ≡ []
+
+-- a table of that shape, with no other rule
+pub record HasShape (shape : TableShape) (table : Table) : Type 0 where
+  pub plain : IsPlain shape.name table
+  pub columns : map shape_of table.columns ≡ shape.columns
+  pub keys : table.uniques ≡ shape.keys
+
+-- a keeper's table by its name
+abbrev pub shape_named : TableName → TableShape
+shape_named About = about_shape
+shape_named Auction = auction_shape
+shape_named Seal = seal_shape
+shape_named Terms = terms_shape
 
 abbrev pub Has : TableShape → List Table → Type 0
 Has shape tables = (table : Table) × Contains tables table × HasShape shape table
@@ -86,6 +99,10 @@ pub record AreFirst (tables : List Table) : Type 0 where
   pub about : Has about_shape tables
   pub auction : Has auction_shape tables
   pub seal : Has seal_shape tables
+
+-- nothing is there that SQL reaches
+abbrev pub IsBlank : Schema → Type 0
+IsBlank schema = (schema.tables ≡ []) × (schema.views ≡ [])
 
 -- no table, index or view is there but these; each key has an index
 pub record IsFirst (schema : Schema) : Type 0 where
@@ -102,8 +119,14 @@ pub record IsSecond (schema : Schema) : Type 0 where
   pub indexes : length schema.indexes ≡ 4
   pub views : schema.views ≡ []
 
+-- it is none of these: each is refuted
+pub record IsOther (schema : Schema) : Type 0 where
+  pub blank : ¬ IsBlank schema
+  pub first : ¬ IsFirst schema
+  pub second : ¬ IsSecond schema
+
 abbrev pub HasLayout : Layout → Schema → Type 0
-HasLayout Blank schema = (schema.tables ≡ []) × (schema.views ≡ [])
+HasLayout Blank schema = IsBlank schema
 HasLayout First schema = IsFirst schema
 HasLayout Second schema = IsSecond schema
-HasLayout Other schema = Unit {0}
+HasLayout Other schema = IsOther schema

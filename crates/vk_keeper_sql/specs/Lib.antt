@@ -4,5 +4,6 @@ pub mod Statements
 pub mod Transactions
 pub mod Layouts
 pub mod Opening
+pub mod Unopened
 pub mod Reading
 pub mod Writing

@@ -1,5 +1,5 @@
 -- What is run on a store as it is opened.
-use Rattle.std.specs.Prelude.{◌≡◌, ℕ, pos, true, List, [], ◌∷◌}
+use Rattle.std.specs.Prelude.{◌≡◌, ℕ, pos, true, List, [], ◌∷◌, Ok}
 use Rattle.sqlite.specs.Store.{Ghosts}
 use Rattle.sqlite.specs.Effect.{Database}
 use Rattle.sqlite.specs.Order.{Row, column}
@@ -12,11 +12,7 @@ use Rattle.vk_keeper_sql.specs.declared.layout.Layout.TheVariants.{Blank, First,
 use Rattle.vk_keeper_sql.specs.Layouts.{HasLayout}
 use Rattle.vk_keeper_sql.specs.Statements.{make_about, make_auctions, make_seals, make_terms, first_number, next_number, number_query, ids_query, keep_terms}
 use Rattle.vk_keeper_sql.specs.Transactions.{Ran, Answers}
-
--- the table `about` shows one row, with that number
-abbrev pub ShowNumber : List Row → ℕ → Type 0
-ShowNumber [] number = ⊥
-ShowNumber (row ∷ rows) number = (column row 0 ≡ Int (pos 1)) × (column row 1 ≡ Int (pos number))
+use Rattle.vk_keeper_sql.specs.Versions.{number_of}
 
 -- the terms of an auction that was kept before auctions had any, by the id that is stored: version
 -- 1, which names no reserve
@@ -28,7 +24,7 @@ module _ {S : Type 0} (g : Ghosts S) where
   pub record IsNumbered (number : ℕ) (old new : Held S) : Type 0 where
     pub rows : List Row
     pub query : Answers g number_query [] old new rows
-    pub shown : ShowNumber rows number
+    pub shown : number_of rows ≡ Ok number
 
   -- the tables were made, and numbered 2
   pub record MakesTables (old new : Held S) : Type 0 where

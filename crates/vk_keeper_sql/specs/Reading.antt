@@ -4,11 +4,12 @@ use Rattle.sqlite.specs.Store.{Ghosts}
 use Rattle.sqlite.specs.Order.{Row}
 use Rattle.sqlite.specs.Held.{Held}
 use Rattle.sqlite.specs.declared.types.Value.TheVariants.{Blob}
+use Rattle.vk_io.specs.declared.errors.OutsideErr.TheVariants.{Failed}
 use Rattle.vk_keeper.specs.declared.auction.Auction.{Auction}
 use Rattle.vk_keeper.specs.Ledgers.{IsKeptUnder}
 use Rattle.vk_rows.specs.Columns.{ShowFound}
 use Rattle.vk_keeper_sql.specs.Statements.{auction_query, terms_query, seals_query}
-use Rattle.vk_keeper_sql.specs.Transactions.{Answers, IsRefused}
+use Rattle.vk_keeper_sql.specs.Transactions.{Answers, RefusesQuery}
 
 module _ {S : Type 0} (g : Ghosts S) (id : List ℕ) where
   -- the rows that stand under an id, in a transaction that has begun
@@ -35,11 +36,11 @@ module _ {S : Type 0} (g : Ghosts S) (id : List ℕ) where
   -- one of the three queries was refused, behind those that were answered, and not for want of
   -- memory
   abbrev pub FailsToRead : Held S → Type 0
-  FailsToRead begun = (one : Held S) × (IsRefused g auction_query (Blob id ∷ []) begun one
+  FailsToRead begun = (one : Held S) × (RefusesQuery g auction_query (Blob id ∷ []) begun one Failed
       ⊎ ((heads : List Row) × Answers g auction_query (Blob id ∷ []) begun one heads
-      × ((two : Held S) × (IsRefused g terms_query (Blob id ∷ []) one two
+      × ((two : Held S) × (RefusesQuery g terms_query (Blob id ∷ []) one two Failed
       ⊎ ((terms : List Row) × Answers g terms_query (Blob id ∷ []) one two terms
-      × ((last : Held S) × IsRefused g seals_query (Blob id ∷ []) two last))))))
+      × ((last : Held S) × RefusesQuery g seals_query (Blob id ∷ []) two last Failed))))))
 
   -- the rows of the store show neither an auction of that id nor that there is none
   pub record ShowsNeither (old : Held S) : Type 0 where

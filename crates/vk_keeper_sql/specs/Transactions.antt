@@ -1,12 +1,12 @@
 -- Calls over a store, the statements that they run, and what a crash at any moment leaves of it.
-use Rattle.std.specs.Prelude.{◌≡◌, ◌⊎◌, false, ℕ, List, Result, Ok, IsTrue, OnOk, OnErr}
+use Rattle.std.specs.Prelude.{◌≡◌, ◌⊎◌, false, ℕ, List, Result, Ok, Err, IsTrue, OnOk, OnErr}
 use Rattle.sqlite.specs.Effect.{Database}
 use Rattle.sqlite.specs.Store.{Ghosts}
 use Rattle.sqlite.specs.Order.{Row}
 use Rattle.sqlite.specs.State.{State, HasCleanDisk, KeepsCommit, Survives, ExecutesInside, Shown, FailsToQuery, IsTooLate}
 use Rattle.sqlite.specs.Held.{Held, state}
 use Rattle.sqlite.specs.declared.error.Error.{Error}
-use Rattle.vk_io.specs.declared.errors.OutsideErr.TheVariants.{Failed}
+use Rattle.vk_io.specs.declared.errors.OutsideErr.{OutsideErr}
 use Rattle.vk_rows.specs.Refusals.{statement_refusal}
 
 -- nothing is committed: a crash leaves what it could leave before the call
@@ -62,9 +62,17 @@ module _ {S : Type 0} (g : Ghosts S) where
   abbrev pub Answers : List ℕ → Row → Held S → Held S → List Row → Type 0
   Answers query columns old new rows = Shown query columns (state g old) (state g new) rows
 
-  -- a query with these parameters was refused inside a transaction, and not for want of memory
-  pub record IsRefused (query : List ℕ) (columns : Row) (old new : Held S) : Type 0 where
+  -- a statement was refused inside a transaction, and is told so
+  pub record RefusesRun (statement : List ℕ) (columns : Row) (old new : Held S)
+      (told : OutsideErr) : Type 0 where
     pub error : Error
-    pub failed : statement_refusal error ≡ Failed
-    pub cause : FailsToQuery query columns (state g old) (state g new) error
+    pub step : ExecutesInside 0 statement columns (state g old) (state g new) (Err error)
+    pub is : told ≡ statement_refusal error
+
+  -- a query was refused inside a transaction, and is told so
+  pub record RefusesQuery (query : List ℕ) (columns : Row) (old new : Held S)
+      (told : OutsideErr) : Type 0 where
+    pub error : Error
+    pub step : FailsToQuery query columns (state g old) (state g new) error
         ⊎ IsTooLate query columns (state g old) (state g new) error
+    pub is : told ≡ statement_refusal error

@@ -1,7 +1,7 @@
 //! Whether the tables of a store are a keeper's, by their names, columns, types and keys.
 
-ghost use Rattle.std.specs.Prelude.{◌≡◌, None, false, [], ◌∷◌, map, Contains, IsTrue, IfSome};
-ghost use Rattle.vk_keeper_sql.specs.Layouts.{AreFirst, Has, HasLayout, HasShape, about_shape, auction_shape, seal_shape, shape_of, terms_shape};
+ghost use Rattle.std.specs.Prelude.{◌≡◌, ◌↔◌, false, [], ◌∷◌, map, IsTrue};
+ghost use Rattle.vk_keeper_sql.specs.Layouts.{AreFirst, Has, HasLayout, HasShape, IsPlain, about_shape, auction_shape, seal_shape, terms_shape, shape_named, shape_of};
 
 use sqlite_schema::schema::{Column, Kind, Schema, Table};
 
@@ -14,7 +14,17 @@ pub enum Layout {
     First,
     /// Those of the number 2, which has terms beside.
     Second,
+    /// None of these.
     Other,
+}
+
+/// A table of a keeper.
+#[derive(Clone, Copy)]
+pub enum TableName {
+    About,
+    Auction,
+    Seal,
+    Terms,
 }
 
 /// Which tables are there. Indexes and views of others count as other tables.
@@ -28,51 +38,51 @@ pub fn layout_of(schema: &Schema) -> Layout
     match (tables.len(), schema.indexes.len()) {
         (0, _) => Layout::Blank,
         (3, 3) if are_first(tables) => Layout::First,
-        (4, 4) if are_first(tables) && has_terms(tables) => Layout::Second,
+        (4, 4) if are_second(tables) => Layout::Second,
         _ => Layout::Other,
     }
 }
 
 /// Whether the tables of the number 1 are there.
 fn are_first(tables: &[Table]) -> bool
-    ensures { IsTrue result → AreFirst tables.now }
+    ensures { IsTrue result ↔ AreFirst tables.now }
 {
-    match (
-        named(tables, "about"),
-        named(tables, "auction"),
-        named(tables, "seal"),
-    ) {
-        (Some(about), Some(auction), Some(seal)) => {
-            is_about(about) && is_auction(auction) && is_seal(seal)
-        }
-        _ => false,
-    }
+    has(tables, TableName::About) && has(tables, TableName::Auction) && has(tables, TableName::Seal)
 }
 
-/// Whether the terms of auctions are there.
-fn has_terms(tables: &[Table]) -> bool
-    ensures { IsTrue result → Has terms_shape tables.now }
+/// Whether those of the number 2 are.
+fn are_second(tables: &[Table]) -> bool
+    ensures { IsTrue result ↔ AreFirst tables.now × Has terms_shape tables.now }
 {
-    match named(tables, "terms") {
-        Some(terms) => is_terms(terms),
-        None => false,
-    }
+    are_first(tables) && has(tables, TableName::Terms)
 }
 
-/// The first table of that name.
-fn named<'a>(tables: &'a [Table], name: &str) -> Option<&'a Table>
-    ensures { IfSome result (λ table. Contains tables.now table.now) }
+/// Whether a keeper's table of that name is among these.
+fn has(tables: &[Table], name: TableName) -> bool
+    ensures { IsTrue result ↔ Has (shape_named name) tables.now }
 {
     for table in tables {
-        if table.name.as_slice() == name.as_bytes() {
-            return Some(table);
+        if is_table(table, name) {
+            return true;
         }
     }
-    None
+    false
+}
+
+/// Whether this is the keeper's table of that name.
+fn is_table(table: &Table, name: TableName) -> bool
+    ensures { IsTrue result ↔ HasShape (shape_named name) table.now }
+{
+    match name {
+        TableName::About => is_about(table),
+        TableName::Auction => is_auction(table),
+        TableName::Seal => is_seal(table),
+        TableName::Terms => is_terms(table),
+    }
 }
 
 fn is_about(table: &Table) -> bool
-    ensures { IsTrue result → HasShape about_shape table.now }
+    ensures { IsTrue result ↔ HasShape about_shape table.now }
 {
     let columns = [("version", Kind::Integer, true)];
     is_plain(table, "about")
@@ -81,7 +91,7 @@ fn is_about(table: &Table) -> bool
 }
 
 fn is_auction(table: &Table) -> bool
-    ensures { IsTrue result → HasShape auction_shape table.now }
+    ensures { IsTrue result ↔ HasShape auction_shape table.now }
 {
     let columns = [
         ("id", Kind::Any, true),
@@ -95,7 +105,7 @@ fn is_auction(table: &Table) -> bool
 }
 
 fn is_seal(table: &Table) -> bool
-    ensures { IsTrue result → HasShape seal_shape table.now }
+    ensures { IsTrue result ↔ HasShape seal_shape table.now }
 {
     let columns = [
         ("id", Kind::Any, true),
@@ -108,7 +118,7 @@ fn is_seal(table: &Table) -> bool
 }
 
 fn is_terms(table: &Table) -> bool
-    ensures { IsTrue result → HasShape terms_shape table.now }
+    ensures { IsTrue result ↔ HasShape terms_shape table.now }
 {
     let columns = [
         ("id", Kind::Any, true),
@@ -120,20 +130,20 @@ fn is_terms(table: &Table) -> bool
 
 /// Whether the table has that name, and no rule but its columns and keys.
 fn is_plain(table: &Table, name: &str) -> bool
-    ensures name { IsTrue result → table.now.name ≡ name.now }
-    ensures rowid { IsTrue result → table.now.key ≡ None }
-    ensures checks { IsTrue result → table.now.checks ≡ [] }
-    ensures references { IsTrue result → table.now.references ≡ [] }
+    ensures { IsTrue result ↔ IsPlain name.now table.now }
 {
-    table.name.as_slice() == name.as_bytes()
-        && table.key.is_none()
-        && table.checks.roots.is_empty()
-        && table.references.is_empty()
+    if table.name.as_slice() != name.as_bytes() {
+        return false;
+    }
+    if table.key.is_some() {
+        return false;
+    }
+    table.checks.roots.is_empty() && table.references.is_empty()
 }
 
 /// Whether the one key is the first column.
 fn is_by_id(table: &Table) -> bool
-    ensures { IsTrue result → table.now.uniques ≡ (1 ∷ []) ∷ [] }
+    ensures { IsTrue result ↔ table.now.uniques ≡ (1 ∷ []) ∷ [] }
 {
     match table.uniques.as_slice() {
         [id] => are(id.as_slice(), &[1]),
@@ -143,7 +153,7 @@ fn is_by_id(table: &Table) -> bool
 
 /// Whether the keys are the first column with the second, and with the third.
 fn is_by_place(table: &Table) -> bool
-    ensures { IsTrue result → table.now.uniques ≡ (1 ∷ 2 ∷ []) ∷ (1 ∷ 3 ∷ []) ∷ [] }
+    ensures { IsTrue result ↔ table.now.uniques ≡ (1 ∷ 2 ∷ []) ∷ (1 ∷ 3 ∷ []) ∷ [] }
 {
     match table.uniques.as_slice() {
         [position, seat] => are(position.as_slice(), &[1, 2]) && are(seat.as_slice(), &[1, 3]),
@@ -153,14 +163,14 @@ fn is_by_place(table: &Table) -> bool
 
 /// Whether these are the places.
 fn are(places: &[usize], wanted: &[usize]) -> bool
-    ensures { IsTrue result → places.now ≡ wanted.now }
+    ensures { IsTrue result ↔ places.now ≡ wanted.now }
 {
     places == wanted
 }
 
 /// Whether these are the columns, each by its name and type, and whether it takes no NULL.
 fn are_columns(columns: &[Column], wanted: &[(&str, Kind, bool)]) -> bool
-    ensures { IsTrue result → map shape_of columns.now
+    ensures { IsTrue result ↔ map shape_of columns.now
         ≡ map (λ w. record { name = w.0.now; kind = w.1; not_null = w.2; is_strict = false })
         wanted.now }
 {
@@ -176,7 +186,7 @@ fn are_columns(columns: &[Column], wanted: &[(&str, Kind, bool)]) -> bool
 }
 
 fn is_column(column: &Column, wanted: &(&str, Kind, bool)) -> bool
-    ensures { IsTrue result → shape_of column.now
+    ensures { IsTrue result ↔ shape_of column.now
         ≡ record {
           name = wanted.now.0.now;
           kind = wanted.now.1;

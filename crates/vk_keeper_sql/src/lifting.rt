@@ -1,10 +1,11 @@
 //! Gives auctions that were kept before auctions had terms those of version 1.
 
-ghost use Rattle.std.specs.Prelude.{◌≡◌, IfOk, OnOk};
+ghost use Rattle.std.specs.Prelude.{◌≡◌, IfErr, IsTrue, OnOk};
 ghost use Rattle.sqlite.specs.Order.{column};
 ghost use Rattle.vk_keeper_sql.specs.Statements.{keep_terms};
-ghost use Rattle.vk_keeper_sql.specs.Transactions.{LeavesDisk, Ran, Stays};
+ghost use Rattle.vk_keeper_sql.specs.Transactions.{LeavesDisk, Ran, RefusesRun, Stays};
 ghost use Rattle.vk_keeper_sql.specs.Opening.{AddsTerms, LiftsTables, first_terms};
+ghost use Rattle.vk_keeper_sql.specs.Unopened.{StopsAmong, StopsLifting, filling};
 ghost use Rattle.sqlite.specs.Held.{state};
 ghost use Rattle.sqlite.specs.State.{HasCleanDisk};
 ghost use Rattle.sqlite.specs.Value.{owned};
@@ -27,6 +28,9 @@ pub fn lift<S: Alter>(transaction: &mut Transaction<'_, S>) -> Result<(), Outsid
     ensures same_reference { transaction.new.conn.ghost_name ≡ transaction.old.conn.ghost_name }
     ensures lifted { HasCleanDisk (state S.Store transaction.new.conn.now) → OnOk result
         (LiftsTables S.Store transaction.old.conn.now transaction.new.conn.now) }
+    ensures refused { HasCleanDisk (state S.Store transaction.new.conn.now)
+        → IsTrue transaction.old.conn.now.in_transaction → IfErr result
+        (StopsLifting S.Store transaction.old.conn.now transaction.new.conn.now) }
     ensures crash { LeavesDisk S.Store transaction.old.conn.now transaction.new.conn.now }
     ensures stays { Stays S.Store transaction.old.conn.now transaction.new.conn.now result }
 {
@@ -42,6 +46,9 @@ fn add_terms<S: Alter>(transaction: &mut Transaction<'_, S>, ids: &[Row]) -> Res
     ensures same_reference { transaction.new.conn.ghost_name ≡ transaction.old.conn.ghost_name }
     ensures added { HasCleanDisk (state S.Store transaction.new.conn.now) → OnOk result
         (AddsTerms S.Store ids.now transaction.old.conn.now transaction.new.conn.now) }
+    ensures refused { HasCleanDisk (state S.Store transaction.new.conn.now)
+        → IsTrue transaction.old.conn.now.in_transaction → IfErr result
+        (StopsAmong S.Store (filling ids.now) transaction.old.conn.now transaction.new.conn.now) }
     ensures crash { LeavesDisk S.Store transaction.old.conn.now transaction.new.conn.now }
     ensures stays { Stays S.Store transaction.old.conn.now transaction.new.conn.now result }
 {
@@ -59,6 +66,10 @@ fn add_first_terms<S: Alter>(
     ensures same_reference { transaction.new.conn.ghost_name ≡ transaction.old.conn.ghost_name }
     ensures ran { HasCleanDisk (state S.Store transaction.new.conn.now) → OnOk result
         (Ran S.Store keep_terms (first_terms (column row.now 0)) transaction.old.conn.now
+        transaction.new.conn.now) }
+    ensures refused { HasCleanDisk (state S.Store transaction.new.conn.now)
+        → IsTrue transaction.old.conn.now.in_transaction → IfErr result
+        (RefusesRun S.Store keep_terms (first_terms (column row.now 0)) transaction.old.conn.now
         transaction.new.conn.now) }
     ensures crash { LeavesDisk S.Store transaction.old.conn.now transaction.new.conn.now }
     ensures stays { Stays S.Store transaction.old.conn.now transaction.new.conn.now result }

@@ -1,6 +1,6 @@
 //! A keeper over an SQLite store.
 
-ghost use Rattle.std.specs.Prelude.{◌≡◌, IfOk, IfSome, IsErrOf, MatchResult};
+ghost use Rattle.std.specs.Prelude.{◌≡◌, Err, IfErr, IfOk, IfSome, IsErrOf, IsTrue, MatchResult};
 ghost use Rattle.sqlite.specs.Held.{state};
 ghost use Rattle.sqlite.specs.State.{HasCleanDisk};
 ghost use Rattle.vk_io.specs.Faults.{Causes};
@@ -10,6 +10,7 @@ ghost use Rattle.vk_keeper_sql.specs.Opening.{Prepares};
 ghost use Rattle.vk_keeper_sql.specs.Reading.{Finds, FindsNothing};
 ghost use Rattle.vk_keeper_sql.specs.Transactions.{ChangesNothing, CommitsNothing, CommitsAtOnce};
 ghost use Rattle.vk_keeper_sql.specs.declared.errors.OpenErr.{OpenErr as Refusal};
+ghost use Rattle.vk_keeper_sql.specs.Unopened.{IsRefusedFor};
 ghost use Rattle.vk_keeper_sql.specs.Writing.{Keeps};
 
 use crate::errors::OpenErr;
@@ -44,6 +45,10 @@ impl<S: Alter> SqlKeeper<S> {
             (state S.Store connection) (state S.Store keeper.connection) (Ok tt))
             (λ refused. CommitsAtOnce (Prepares S.Store connection) (state S.Store connection)
             (state S.Store refused.1) (Err refused.0)) }
+        ensures causes { IfErr result (λ refused. HasCleanDisk (state S.Store refused.1)
+            → IsRefusedFor S.Store connection refused.1 refused.0) }
+        ensures inside { IsTrue connection.in_transaction
+            → result ≡ Err (OpenErr.Refused, connection) }
     {
         match prepare(&mut connection) {
             Ok(()) => Ok(SqlKeeper {

@@ -1,11 +1,11 @@
 //! What is asked of the tables and run on them, within a transaction.
 
-ghost use Rattle.std.specs.Prelude.{◌≡◌, [], ◌∷◌, IfOk, IsErrOf, OnOk};
+ghost use Rattle.std.specs.Prelude.{◌≡◌, [], ◌∷◌, IfErr, IfOk, IsErrOf, IsTrue, OnOk};
 ghost use Rattle.sqlite.specs.Held.{state};
 ghost use Rattle.sqlite.specs.State.{HasCleanDisk};
 ghost use Rattle.sqlite.specs.Values.{bound};
 ghost use Rattle.sqlite.specs.declared.types.Value.TheVariants.{Blob};
-ghost use Rattle.vk_keeper_sql.specs.Transactions.{Answers, IsRefused, LeavesDisk, Ran, Stays};
+ghost use Rattle.vk_keeper_sql.specs.Transactions.{Answers, LeavesDisk, Ran, RefusesQuery, RefusesRun, Stays};
 
 use sqlite::types::ValueRef;
 use sqlite::{Alter, Row, Transaction};
@@ -38,8 +38,8 @@ pub fn rows_under<S: Alter>(
     ensures rows { HasCleanDisk (state S.Store transaction.new.conn.now) → IfOk result (λ rows.
         Answers S.Store query.now (Blob id.now ∷ []) transaction.old.conn.now transaction.new.conn.now rows.items) }
     ensures refused { HasCleanDisk (state S.Store transaction.new.conn.now)
-        → IsErrOf result OutsideErr.Failed → IsRefused S.Store query.now (Blob id.now ∷ [])
-        transaction.old.conn.now transaction.new.conn.now }
+        → IsErrOf result OutsideErr.Failed → RefusesQuery S.Store query.now (Blob id.now ∷ [])
+        transaction.old.conn.now transaction.new.conn.now OutsideErr.Failed }
     ensures crash { LeavesDisk S.Store transaction.old.conn.now transaction.new.conn.now }
     ensures stays { Stays S.Store transaction.old.conn.now transaction.new.conn.now result }
 {
@@ -56,9 +56,9 @@ pub fn ask<S: Alter>(
     ensures same_reference { transaction.new.conn.ghost_name ≡ transaction.old.conn.ghost_name }
     ensures rows { HasCleanDisk (state S.Store transaction.new.conn.now) → IfOk result (λ rows.
         Answers S.Store query.now (bound columns.now) transaction.old.conn.now transaction.new.conn.now rows.items) }
-    ensures refused { HasCleanDisk (state S.Store transaction.new.conn.now)
-        → IsErrOf result OutsideErr.Failed → IsRefused S.Store query.now (bound columns.now)
-        transaction.old.conn.now transaction.new.conn.now }
+    ensures refused { HasCleanDisk (state S.Store transaction.new.conn.now) → IfErr result
+        (RefusesQuery S.Store query.now (bound columns.now) transaction.old.conn.now
+        transaction.new.conn.now) }
     ensures crash { LeavesDisk S.Store transaction.old.conn.now transaction.new.conn.now }
     ensures stays { Stays S.Store transaction.old.conn.now transaction.new.conn.now result }
 {
@@ -77,6 +77,10 @@ pub fn run<S: Alter>(
     ensures same_reference { transaction.new.conn.ghost_name ≡ transaction.old.conn.ghost_name }
     ensures ran { HasCleanDisk (state S.Store transaction.new.conn.now) → OnOk result
         (Ran S.Store statement.now (bound columns.now) transaction.old.conn.now
+        transaction.new.conn.now) }
+    ensures refused { HasCleanDisk (state S.Store transaction.new.conn.now)
+        → IsTrue transaction.old.conn.now.in_transaction → IfErr result
+        (RefusesRun S.Store statement.now (bound columns.now) transaction.old.conn.now
         transaction.new.conn.now) }
     ensures crash { LeavesDisk S.Store transaction.old.conn.now transaction.new.conn.now }
     ensures stays { Stays S.Store transaction.old.conn.now transaction.new.conn.now result }

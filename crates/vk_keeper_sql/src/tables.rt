@@ -1,13 +1,14 @@
 //! The tables of a store as it is opened, and the number of their version.
 
-ghost use Rattle.std.specs.Prelude.{◌≡◌, pos, false, [], ◌∷◌, IfOk, OnOk};
+ghost use Rattle.std.specs.Prelude.{◌≡◌, false, [], ◌∷◌, Err, IfErr, IfOk, IsTrue, OnOk};
 ghost use Rattle.sqlite.specs.Held.{state};
 ghost use Rattle.sqlite.specs.State.{HasCleanDisk};
-ghost use Rattle.sqlite.specs.declared.types.Value.TheVariants.{Int};
+ghost use Rattle.sqlite.specs.Order.{column};
 ghost use Rattle.vk_keeper_sql.specs.Layouts.{HasLayout};
-ghost use Rattle.vk_keeper_sql.specs.Opening.{IsNumbered, MakesTables, Prepares, PreparesFrom, ShowNumber};
+ghost use Rattle.vk_keeper_sql.specs.Opening.{IsNumbered, MakesTables, Prepares, PreparesFrom};
 ghost use Rattle.vk_keeper_sql.specs.Transactions.{CommitsAtOnce, LeavesDisk, Stays};
-ghost use Rattle.vk_keeper_sql.specs.Versions.{version_of};
+ghost use Rattle.vk_keeper_sql.specs.Unopened.{IsRefusedFor, StopsAmong, StopsCheck, StopsFrom, StopsNumber, making};
+ghost use Rattle.vk_keeper_sql.specs.Versions.{int_of, number_by, number_of, version_of};
 
 use crate::errors::OpenErr;
 use crate::layout::{Layout, layout_of};
@@ -39,11 +40,16 @@ const NUMBER: &str = "SELECT (SELECT count(*) FROM about), version FROM about LI
 pub const VERSION: i64 = 2;
 
 /// Makes the tables where the store has none, and gives those of the number 1 what they lack, in
-/// one transaction. Errs where they are of another version, or aren't those of their number.
+/// one transaction. Errs where they are of another version, or aren't those of their number; where
+/// a statement is refused; and in a transaction.
 #[tactic(auto, using(crate::proofs::AtOnce::untouched_at_once))]
 pub fn prepare<S: Alter>(connection: &mut Connection<S>) -> Result<(), OpenErr>
     ensures crash { CommitsAtOnce (Prepares S.Store connection.old)
         (state S.Store connection.old) (state S.Store connection.new) result }
+    ensures causes { HasCleanDisk (state S.Store connection.new) → IfErr result
+        (IsRefusedFor S.Store connection.old connection.new) }
+    ensures inside { IsTrue connection.old.in_transaction
+        → (result ≡ Err OpenErr.Refused) × (connection.new ≡ connection.old) }
 {
     if !connection.is_autocommit() {
         return Err(OpenErr::Refused);
@@ -59,6 +65,8 @@ fn prepare_at_once<S: Alter>(connection: &mut Connection<S>, layout: Layout) -> 
     requires layout { HasLayout layout connection.old.schema }
     ensures crash { CommitsAtOnce (Prepares S.Store connection.old)
         (state S.Store connection.old) (state S.Store connection.new) result }
+    ensures causes { HasCleanDisk (state S.Store connection.new) → IfErr result
+        (IsRefusedFor S.Store connection.old connection.new) }
 {
     let mut transaction = connection.transaction();
     prepare_within(&mut transaction, layout)?;
@@ -76,6 +84,10 @@ fn prepare_within<S: Alter>(
     ensures same_reference { transaction.new.conn.ghost_name ≡ transaction.old.conn.ghost_name }
     ensures prepared { HasCleanDisk (state S.Store transaction.new.conn.now) → OnOk result
         (PreparesFrom S.Store layout transaction.old.conn.now transaction.new.conn.now) }
+    ensures refused { HasCleanDisk (state S.Store transaction.new.conn.now)
+        → IsTrue transaction.old.conn.now.in_transaction → IfErr result
+        (λ refusal. StopsFrom S.Store transaction.old.conn.now
+        transaction.new.conn.now refusal layout) }
     ensures crash { LeavesDisk S.Store transaction.old.conn.now transaction.new.conn.now }
     ensures stays { Stays S.Store transaction.old.conn.now transaction.new.conn.now result }
 {
@@ -99,6 +111,8 @@ fn check_number<S: Alter>(transaction: &mut Transaction<'_, S>, number: u32) -> 
     ensures same_reference { transaction.new.conn.ghost_name ≡ transaction.old.conn.ghost_name }
     ensures numbered { HasCleanDisk (state S.Store transaction.new.conn.now) → OnOk result
         (IsNumbered S.Store number transaction.old.conn.now transaction.new.conn.now) }
+    ensures refused { HasCleanDisk (state S.Store transaction.new.conn.now) → IfErr result
+        (StopsCheck S.Store number transaction.old.conn.now transaction.new.conn.now) }
     ensures crash { LeavesDisk S.Store transaction.old.conn.now transaction.new.conn.now }
     ensures stays { Stays S.Store transaction.old.conn.now transaction.new.conn.now result }
 {
@@ -114,6 +128,8 @@ fn number_in<S: Alter>(transaction: &mut Transaction<'_, S>) -> Result<u32, Open
     ensures numbered { HasCleanDisk (state S.Store transaction.new.conn.now)
         → IfOk result (λ number.
         IsNumbered S.Store number transaction.old.conn.now transaction.new.conn.now) }
+    ensures refused { HasCleanDisk (state S.Store transaction.new.conn.now) → IfErr result
+        (StopsNumber S.Store transaction.old.conn.now transaction.new.conn.now) }
     ensures crash { LeavesDisk S.Store transaction.old.conn.now transaction.new.conn.now }
     ensures stays { Stays S.Store transaction.old.conn.now transaction.new.conn.now result }
 {
@@ -124,15 +140,37 @@ fn number_in<S: Alter>(transaction: &mut Transaction<'_, S>) -> Result<u32, Open
 
 /// The number that the table `about` shows. Errs unless it has one row, with the number 1 or 2.
 fn number_from(rows: &[Row]) -> Result<u32, OpenErr>
-    ensures { IfOk result (ShowNumber rows.now) }
+    ensures { result ≡ number_of rows.now }
 {
     let Some(row) = rows.first() else {
         return Err(OpenErr::Version { rows: 0, number: 0 });
     };
-    let count = amount_at(row, 0)?;
-    let number = count_at(row, 1)?;
-    let number = version_of(count, number)?;
+    let number = number_by(int_at(row, 0), int_at(row, 1))?;
     Ok(number)
+}
+
+/// The number by how many rows there are and what the first of them holds.
+fn number_by(rows: Option<i64>, number: Option<i64>) -> Result<u32, OpenErr>
+    ensures { result ≡ number_by rows number }
+{
+    match (rows, number) {
+        (Some(rows), Some(number)) if rows >= 0 => {
+            let number = version_of(rows as u64, number)?;
+            Ok(number)
+        }
+        _ => Err(OpenErr::Refused),
+    }
+}
+
+/// The integer in a column, where it is one.
+fn int_at(row: &Row, at: usize) -> Option<i64>
+    ensures { result ≡ int_of (column row.now at) }
+{
+    match row.get_ref(at) {
+        Ok(ValueRef::Int(number)) => Some(number),
+        Ok(_) => None,
+        Err(_) => None,
+    }
 }
 
 /// The number, where it is 1 or 2 and stands in one row.
@@ -151,6 +189,9 @@ fn make_tables<S: Alter>(transaction: &mut Transaction<'_, S>) -> Result<(), Out
     ensures same_reference { transaction.new.conn.ghost_name ≡ transaction.old.conn.ghost_name }
     ensures made { HasCleanDisk (state S.Store transaction.new.conn.now) → OnOk result
         (MakesTables S.Store transaction.old.conn.now transaction.new.conn.now) }
+    ensures refused { HasCleanDisk (state S.Store transaction.new.conn.now)
+        → IsTrue transaction.old.conn.now.in_transaction → IfErr result
+        (StopsAmong S.Store making transaction.old.conn.now transaction.new.conn.now) }
     ensures crash { LeavesDisk S.Store transaction.old.conn.now transaction.new.conn.now }
     ensures stays { Stays S.Store transaction.old.conn.now transaction.new.conn.now result }
 {

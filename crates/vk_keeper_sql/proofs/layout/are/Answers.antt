@@ -3,5 +3,5 @@ use Rattle.std.proofs.lemmas.Slice.Eq.{slice_eq-Decides}
 use Rattle.vk_keeper_sql.proofs.layout.are.Goals as goal
 
 pub returns : goal.returns
-returns c = (slice_eq-Decides Decides-eqb c.args.places.now c.args.wanted.now c.eq.result
-    c.eq.ensures).0
+returns c = slice_eq-Decides Decides-eqb c.args.places.now c.args.wanted.now c.eq.result
+    c.eq.ensures

@@ -1,11 +1,11 @@
-use Rattle.std.proofs.Common.{◌∙◌, arith}
+use Rattle.std.proofs.Common.{◌≡◌, ◌∙◌, Err, arith, rules}
 use Rattle.sqlite.specs.Held.{state}
 use Rattle.sqlite.specs.State.{HasCleanDisk}
 use Rattle.sqlite.proofs.InsideLemmas.{keeps_then}
 use Rattle.sqlite.proofs.StateLemmas.{survives_then}
 use Rattle.vk_keeper_sql.proofs.AtOnce.{was_clean}
 use Rattle.vk_keeper_sql.proofs.Inside.{stops_then}
-use Rattle.vk_keeper_sql.proofs.Lists.{terms_next}
+use Rattle.vk_keeper_sql.proofs.Lists.{terms_next, terms_stop}
 use Rattle.vk_keeper_sql.proofs.lifting.add_terms.Goals as goal
 
 pub loop-row-preserved : goal.loop-row-preserved
@@ -44,3 +44,13 @@ pub returns-clause-stays : goal.returns-clause-stays
 returns-clause-stays g c clean inside =
     let kept = c.loop-row.invariant.stays clean inside in
     record { kept = kept.0; inside = kept.1 }
+
+pub returns-in_err-add_first_terms-clause-refused :
+    goal.returns-in_err-add_first_terms-clause-refused
+returns-in_err-add_first_terms-clause-refused g c clean inside =
+    let is : c.from_residual.result ≡ Err c.in_err-add_first_terms.field-0.0 = search rules in
+    let was = was_clean _ _ c.add_first_terms.ensures.crash clean in
+    let before = c.loop-row.invariant.stays was inside in
+    rw is (terms_stop g.S.Store c.args.ids.now c.loop-row.row-index c.row-item.result _ _ _ _
+    c.loop-row-test.true c.row-item.is (c.loop-row.invariant.added was)
+    (c.in_err-add_first_terms.ensures.refused clean before.1))

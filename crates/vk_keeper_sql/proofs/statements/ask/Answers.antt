@@ -11,3 +11,10 @@ returns-in-Err-clause-stays g c clean inside = record {
   kept = unanswered_keeps _ _ _ _ _ (c.in-Err.ensures.err clean);
   inside = tt;
 }
+
+pub returns-in-Err-clause-refused : goal.returns-in-Err-clause-refused
+returns-in-Err-clause-refused g c clean = record {
+  error = c.in-Err.refusal;
+  step = c.in-Err.ensures.err clean;
+  is = c.refused_statement.ensures;
+}

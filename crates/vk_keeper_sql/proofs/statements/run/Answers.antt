@@ -13,3 +13,10 @@ returns-in-Ok-clause-ran g c clean = (
   c.in-Ok.ensures.runs clean
       (is_inside _ (λ outside. let refused = (c.in-Ok.ensures.ended outside).0 in cc)),
 )
+
+pub returns-in-Err-clause-refused : goal.returns-in-Err-clause-refused
+returns-in-Err-clause-refused g c clean inside = record {
+  error = c.in-Err.error;
+  step = c.in-Err.ensures.runs clean inside;
+  is = c.refused_statement.ensures;
+}

@@ -1,4 +1,4 @@
-use Rattle.std.proofs.Common.{◌≡◌, true, Ok, Err, refl, subst, rules}
+use Rattle.std.proofs.Common.{◌≡◌, ◌∙◌, true, Ok, Err, ap, refl, subst, rules}
 use Rattle.sqlite.specs.Store.{Ghosts}
 use Rattle.sqlite.specs.Held.{Held, state}
 use Rattle.sqlite.specs.State.{HasCleanDisk}
@@ -6,6 +6,8 @@ use Rattle.vk_keeper_sql.specs.Transactions.{CommitsAtOnce}
 use Rattle.vk_keeper_sql.specs.declared.layout.Layout.{Layout}
 use Rattle.vk_keeper_sql.specs.Layouts.{HasLayout}
 use Rattle.vk_keeper_sql.specs.Opening.{Prepares, PreparesFrom}
+use Rattle.vk_keeper_sql.specs.Refusals.{open_refusal}
+use Rattle.vk_keeper_sql.specs.Unopened.{IsRefusedFor, not_prepared, not_committed}
 use Rattle.vk_keeper_sql.proofs.AtOnce.{rolled_back, rolled_back_at_once, commit_done, commit_failed, committed_at_once, late_clean, was_clean}
 use Rattle.vk_keeper_sql.proofs.tables.prepare_at_once.Goals as goal
 
@@ -30,9 +32,18 @@ returns-in_err-prepare_within g c =
     (λ clean. rolled_back g.S.Store old mid (store last)
     (stays (was_clean _ _ end.survives clean) refl).kept (end.undone clean)) in
     let same : last ≡ c.connection-1.given.0 = search rules in
+    let refusal = c.in_err-prepare_within.field-0.0 in
+    let is : c.from_residual.result ≡ Err refusal = search rules in
+    let stops = rw c.transaction-transaction.ensures.begun at
+    c.in_err-prepare_within.ensures.refused in
+    let for : HasCleanDisk (store last) → IsRefusedFor g.S.Store old last refusal = λ clean.
+    not_prepared c.args.layout c.prepare_within.new.transaction.conn.now c.requires.layout
+    (stops (was_clean _ _ end.survives clean) refl) (end.undone clean) in
     record {
       crash = subst (λ h. CommitsAtOnce Makes (store old) (store h) c.from_residual.result)
           same whole;
+      causes = rw is (subst (λ h. HasCleanDisk (store h) → IsRefusedFor g.S.Store old h refusal)
+          same for);
     }
 
 pub returns-in-Err : goal.returns-in-Err
@@ -56,7 +67,18 @@ returns-in-Err g c =
     commit_failed g.S.Store old mid (store last) c.in-Err.error step.kept step.inside
     (c.in-Err.ensures.err clean)) in
     let same : last ≡ c.connection-2-1.given.0 = search rules in
-    record { crash = subst (λ h. CommitsAtOnce Makes (store old) (store h) refused) same whole }
+    let for : HasCleanDisk (store last) → IsRefusedFor g.S.Store old last c.from.result = λ clean.
+    not_committed c.args.layout c.prepare_within.new.transaction.conn.now c.in-Err.error
+    c.requires.layout
+    (rw c.transaction-transaction.ensures.begun at
+    (c.in_ok-prepare_within.ensures.prepared (late_clean _ _ _ end.survives clean)))
+    (c.in-Err.ensures.err clean)
+    (c.from.ensures ∙ ap open_refusal c.refused_statement.ensures) in
+    record {
+      crash = subst (λ h. CommitsAtOnce Makes (store old) (store h) refused) same whole;
+      causes = subst (λ h. HasCleanDisk (store h) → IsRefusedFor g.S.Store old h c.from.result)
+          same for;
+    }
 
 pub returns-in-Ok : goal.returns-in-Ok
 returns-in-Ok g c =
@@ -74,4 +96,7 @@ returns-in-Ok g c =
     end.survives (λ clean. (c.in-Ok.ensures.ok clean).1.committed_is)
     (λ clean. commit_done mid (store last) (c.in-Ok.ensures.ok clean).1) (λ clean. tt) in
     let same : last ≡ c.connection-2-1.given.0 = search rules in
-    record { crash = subst (λ h. CommitsAtOnce Makes (store old) (store h) (Ok tt)) same whole }
+    record {
+      crash = subst (λ h. CommitsAtOnce Makes (store old) (store h) (Ok tt)) same whole;
+      causes = λ clean. tt;
+    }
