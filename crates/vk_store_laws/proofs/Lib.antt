@@ -17,4 +17,5 @@ pub mod Making
 pub mod Marks
 pub mod Lifting
 pub mod Opening
+pub mod Refused
 pub mod Runs

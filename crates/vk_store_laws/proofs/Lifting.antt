@@ -57,7 +57,7 @@ lifted_schema : created first_store_schema terms ≡ store_schema
 unfolding digits
 lifted_schema = refl
 
-number_plain : IsPlain (understood first_store_schema number_query)
+pub number_plain : IsPlain (understood first_store_schema number_query)
 unfolding understood everything number_query
 number_plain = (refl, refl)
 

@@ -18,7 +18,7 @@ use Rattle.vk_store_laws.proofs.Finds.{shown_leaves}
 use Rattle.vk_store_laws.proofs.Making.{count_is, made_is_store}
 use Rattle.vk_store_laws.proofs.Modelled.{nothing_is_told}
 
-number_plain : IsPlain (understood store_schema number_query)
+pub number_plain : IsPlain (understood store_schema number_query)
 unfolding understood everything number_query
 number_plain = (refl, refl)
 

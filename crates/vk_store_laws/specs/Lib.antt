@@ -3,4 +3,5 @@ pub mod Rows
 pub mod Holding
 pub mod Telling
 pub mod Former
+pub mod Refused
 pub mod Runs

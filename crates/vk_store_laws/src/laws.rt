@@ -1,11 +1,13 @@
 //! What holds of all stores.
 
-ghost use Rattle.std.specs.Prelude.{◌≡◌, ◌⊎◌, ℕ, List, [], Option, Result, IfSome, OnOk};
+ghost use Rattle.std.specs.Prelude.{◌≡◌, ◌⊎◌, ℕ, pos, false, List, [], ◌∷◌, Option, Result, IfSome, OnOk};
 ghost use Rattle.std.specs.FinMap.{empty, get, insert};
 ghost use Rattle.sqlite.specs.Effect.{Database};
 ghost use Rattle.sqlite.specs.Held.{Held, state};
 ghost use Rattle.sqlite.specs.State.{HasCleanDisk};
 ghost use Rattle.sqlite.specs.Tree.{Trees};
+ghost use Rattle.sqlite.specs.declared.types.Value.{Value};
+ghost use Rattle.sqlite.specs.declared.types.Value.TheVariants.{Int};
 ghost use Rattle.vk_io.specs.declared.errors.OutsideErr.{OutsideErr};
 ghost use Rattle.vk_commit.specs.Values.{AreBytes};
 ghost use Rattle.vk_reply.specs.declared.challenge.Challenge.{Challenge};
@@ -16,10 +18,12 @@ ghost use Rattle.vk_keeper.specs.declared.auction.Auction.{Auction};
 ghost use Rattle.vk_keeper_sql.specs.Opening.{MakesTables, Prepares};
 ghost use Rattle.vk_keeper_sql.specs.Reading.{Finds, ShowsNeither};
 ghost use Rattle.vk_keeper_sql.specs.Transactions.{CommitsAtOnce};
+ghost use Rattle.vk_keeper_sql.specs.Unopened.{IsRefusedFor};
 ghost use Rattle.vk_keeper_sql.specs.Writing.{Keeps};
 ghost use Rattle.vk_keeper_sql.specs.declared.errors.OpenErr.{OpenErr};
 ghost use Rattle.vk_store_laws.specs.Former.{IsFirstStore, TellsFirst};
 ghost use Rattle.vk_store_laws.specs.Holding.{IsStore, Stands};
+ghost use Rattle.vk_store_laws.specs.Refused.{IsOfConnection};
 ghost use Rattle.vk_store_laws.specs.Runs.{Act, AllSpare, HasFound, LeadOn, Runs, Tells};
 ghost use Rattle.vk_store_laws.specs.Tables.{no_schema};
 ghost use Rattle.vk_store_laws.specs.Telling.{TablesTell};
@@ -116,6 +120,23 @@ pub fn a_store_from_before_tells_its_ledger_lifted<S: Alter>()
         → ((trees : Trees) → (state S.Store new).may_leave trees → TellsFirst trees firsts
         ⊎ TablesTell trees (lifted_ledger firsts))
         × OnOk result (TablesTell (state S.Store new).committed.trees (lifted_ledger firsts)) }
+{}
+
+/// A law: a store without tables, and one with those of the number 1 or 2, where the one row of
+/// `about` has that number, isn't refused for its tables nor for its number, whatever ledger it
+/// tells: outside of a transaction its connection alone refuses it.
+pub fn a_sound_store_is_refused_by_its_connection_alone<S: Alter>()
+    ensures unmade { (old : Held S) (new : Held S) (refusal : OpenErr)
+        → old.in_transaction ≡ false → (state S.Store old).now.schema ≡ no_schema
+        → IsRefusedFor S.Store old new refusal → IsOfConnection S.Store refusal }
+    ensures former { (old : Held S) (new : Held S) (refusal : OpenErr) (rowid : Value)
+        → old.in_transaction ≡ false → IsFirstStore (state S.Store old).now
+        → (state S.Store old).now.trees 0 ≡ (rowid ∷ Int (pos 1) ∷ []) ∷ []
+        → IsRefusedFor S.Store old new refusal → IsOfConnection S.Store refusal }
+    ensures own { (old : Held S) (new : Held S) (refusal : OpenErr) (rowid : Value)
+        → old.in_transaction ≡ false → IsStore (state S.Store old).now
+        → (state S.Store old).now.trees 0 ≡ (rowid ∷ Int (pos 2) ∷ []) ∷ []
+        → IsRefusedFor S.Store old new refusal → IsOfConnection S.Store refusal }
 {}
 
 /// A law: a store that told a ledger tells it once it was opened again, and whatever a crash leaves
