@@ -39,24 +39,24 @@ module _ {S : Type 0} (g : Ghosts S) where
   -- of these statements one was refused, behind those before it
   abbrev pub StopsAmong : List Step → Held S → Held S → OutsideErr → Type 0
   StopsAmong [] old new told = ⊥
-  StopsAmong (next ∷ rest) old new told = RefusesRun next.0 next.1 old new told
+  StopsAmong (next ∷ rest) old new told = RefusesRun g next.0 next.1 old new told
       ⊎ ((mid : Held S) × Ran g next.0 next.1 old mid × StopsAmong rest mid new told)
 
   -- tables of the number 1 weren't lifted: a statement was refused, or the query for the ids
   pub data StopsLifting (old new : Held S) (told : OutsideErr) : Type 0 where
-    make_refused : RefusesRun make_terms [] old new told → StopsLifting old new told
+    make_refused : RefusesRun g make_terms [] old new told → StopsLifting old new told
     ids_refused : (made : Held S) → Ran g make_terms [] old made
-        → RefusesQuery ids_query [] made new told → StopsLifting old new told
+        → RefusesQuery g ids_query [] made new told → StopsLifting old new told
     terms_refused : (made asked : Held S) (ids : List Row) → Ran g make_terms [] old made
         → Answers g ids_query [] made asked ids
         → StopsAmong (filling ids) asked new told → StopsLifting old new told
     number_refused : (made asked filled : Held S) (ids : List Row) → Ran g make_terms [] old made
         → Answers g ids_query [] made asked ids → AddsTerms g ids asked filled
-        → RefusesRun next_number (Int (pos 2) ∷ []) filled new told → StopsLifting old new told
+        → RefusesRun g next_number (Int (pos 2) ∷ []) filled new told → StopsLifting old new told
 
   -- no number was read from the table `about`: the query was refused, or its rows show none
   pub data StopsNumber (old new : Held S) (refusal : OpenErr) : Type 0 where
-    query_refused : (told : OutsideErr) → RefusesQuery number_query [] old new told
+    query_refused : (told : OutsideErr) → RefusesQuery g number_query [] old new told
         → refusal ≡ open_refusal told → StopsNumber old new refusal
     other_number : (rows : List Row) → Answers g number_query [] old new rows
         → number_of rows ≡ Err refusal → StopsNumber old new refusal
