@@ -1,6 +1,7 @@
 -- What the tables hold under an id is what the rows show that `get` reads there.
-use Rattle.std.proofs.Common.{◌≡◌, false, ℕ, suc, ◌+◌, List, [], ◌∷◌, map, take, length, refl, ap, sym, subst, ◌∙◌, arith, is_eq, Option, Some, None}
+use Rattle.std.proofs.Common.{◌≡◌, true, false, ℕ, suc, ◌+◌, List, [], ◌∷◌, map, take, length, refl, ap, sym, subst, ◌∙◌, arith, is_eq, inl, inr, Option, Some, None}
 use Rattle.std.specs.Prelude.{IsPermutation, IfSome}
+use Rattle.std.specs.FinMap.{get}
 use Rattle.std.specs.List.{IsDistinct}
 use Rattle.std.proofs.lemmas.List.{length-map, take_all}
 use Rattle.std.proofs.lemmas.List.Sorted.{IsPermutation-sym, IsPermutation-trans}
@@ -10,21 +11,24 @@ use Rattle.sqlite_trees.specs.Tree.{IsTable}
 use Rattle.sqlite_rules.proofs.ListLemmas.{all_has, all_from}
 use Rattle.sqlite.specs.Store.{Ghosts}
 use Rattle.sqlite.specs.Held.{Held, state}
+use Rattle.vk_commit.specs.Values.{AreBytes}
 use Rattle.vk_keeper.specs.declared.auction.Auction.{Auction}
 use Rattle.vk_keeper.specs.Auctions.{challenge_of}
-use Rattle.vk_keeper.specs.Ledgers.{IsKeptUnder}
+use Rattle.vk_keeper.specs.Ledgers.{IsKeptUnder, Ledger}
 use Rattle.vk_rows.specs.declared.texts.SealTexts.{SealTexts}
 use Rattle.vk_rows.specs.Columns.{ShowFound, ShowSeals, ShowsAuction, ShowsTerms, seal_texts}
 use Rattle.vk_rows.proofs.Same.{bits_as}
-use Rattle.vk_keeper_sql.specs.Reading.{Reads}
+use Rattle.vk_keeper_sql.specs.Reading.{FailsToRead, FindsNothing, Reads, ShowsNeither}
 use Rattle.vk_store_laws.specs.Tables.{store_schema}
 use Rattle.vk_store_laws.specs.Rows.{under, head_columns, term_columns, seal_columns}
-use Rattle.vk_store_laws.specs.Holding.{Holds, head_row, term_row, seal_rows}
+use Rattle.vk_store_laws.specs.Runs.{Tells}
+use Rattle.vk_store_laws.specs.Telling.{TablesTell}
+use Rattle.vk_store_laws.specs.Holding.{Holds, IsStore, head_row, term_row, seal_rows}
 use Rattle.vk_store_laws.proofs.Clearing.{flips, strict}
 use Rattle.vk_store_laws.proofs.Distinct.{same_position}
 use Rattle.vk_store_laws.proofs.Once.{rows_rise, same_tables}
 use Rattle.vk_store_laws.proofs.Removes.{has_permuted}
-use Rattle.vk_store_laws.proofs.Standing.{AreFound, none_permuted, one_permuted}
+use Rattle.vk_store_laws.proofs.Standing.{AreFound, are_found, none_permuted, one_permuted}
 
 -- ---- the rows of an auction show it
 
@@ -113,3 +117,20 @@ shown_as_held g id old has heads terms rows it (Some auction) right (own, stands
         seals = subst (λ all. ShowSeals 0 all texts) (sym rows_are) (rows_show 0 texts);
       },
     )
+
+module _ {S : Type 0} (g : Ghosts S) (id : List ℕ) (old : Held S) (ledger : Ledger) (bytes : AreBytes 16 id) where
+  -- the rows show what the ledger has
+  pub not_neither : IsStore (state g old).now → TablesTell (state g old).now.trees ledger
+      → ¬ ShowsNeither g id old
+  not_neither store tells neither =
+      neither.shown (get ledger id) (tells.right id)
+      (shown_as_held g id old store.schema neither.heads neither.terms neither.rows neither.read
+      (get ledger id) (tells.right id) (tells.held id bytes)
+      (are_found g id old store.schema neither.heads neither.terms neither.rows neither.read))
+
+  -- so nothing but a query is refused
+  pub only_a_query : Tells g old ledger → FindsNothing g id old
+      → FailsToRead g id (record old { in_transaction = true })
+  only_a_query tells (inl busy) = absurd (let e = sym busy ∙ tells.seen.ended in cc)
+  only_a_query tells (inr (inl fails)) = fails
+  only_a_query tells (inr (inr neither)) = absurd (not_neither tells.store tells.told neither)

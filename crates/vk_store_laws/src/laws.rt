@@ -1,6 +1,6 @@
 //! What holds of all stores.
 
-ghost use Rattle.std.specs.Prelude.{◌≡◌, ◌⊎◌, ℕ, pos, false, List, [], ◌∷◌, Option, Result, IfSome, OnOk};
+ghost use Rattle.std.specs.Prelude.{◌≡◌, ◌⊎◌, true, false, ℕ, pos, List, [], ◌∷◌, Option, Result, IfSome, OnOk};
 ghost use Rattle.std.specs.FinMap.{empty, get, insert};
 ghost use Rattle.sqlite.specs.Effect.{Database};
 ghost use Rattle.sqlite.specs.Held.{Held, state};
@@ -16,7 +16,7 @@ ghost use Rattle.vk_keeper.specs.First.{FirstLedger, lifted_ledger};
 ghost use Rattle.vk_keeper.specs.Ledgers.{Ledger};
 ghost use Rattle.vk_keeper.specs.declared.auction.Auction.{Auction};
 ghost use Rattle.vk_keeper_sql.specs.Opening.{MakesTables, Prepares};
-ghost use Rattle.vk_keeper_sql.specs.Reading.{Finds, ShowsNeither};
+ghost use Rattle.vk_keeper_sql.specs.Reading.{FailsToRead, Finds, FindsNothing, ShowsNeither};
 ghost use Rattle.vk_keeper_sql.specs.Transactions.{CommitsAtOnce};
 ghost use Rattle.vk_keeper_sql.specs.Unopened.{IsRefusedFor};
 ghost use Rattle.vk_keeper_sql.specs.Writing.{Keeps};
@@ -46,11 +46,15 @@ pub fn what_is_answered_is_what_the_ledger_has<S: Alter>()
 {}
 
 /// A law: in a store that tells a ledger no answer is refused for the rows: they show what the
-/// ledger has.
+/// ledger has. So what a keeper refuses there, and not for want of memory, is a query that was
+/// refused.
 pub fn the_rows_show_what_the_ledger_has<S: Alter>()
-    ensures { (old : Held S) (id : List ℕ) (ledger : Ledger) → AreBytes 16 id
+    ensures rows { (old : Held S) (id : List ℕ) (ledger : Ledger) → AreBytes 16 id
         → IsStore (state S.Store old).now → TablesTell (state S.Store old).now.trees ledger
         → ¬ ShowsNeither S.Store id old }
+    ensures refused { (old : Held S) (id : List ℕ) (ledger : Ledger) → AreBytes 16 id
+        → Tells S.Store old ledger → FindsNothing S.Store id old
+        → FailsToRead S.Store id (record old { in_transaction = true }) }
 {}
 
 /// A law: what is made of a store that tells a ledger by keeping an auction is a store that tells
