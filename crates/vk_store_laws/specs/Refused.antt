@@ -7,8 +7,9 @@ use Rattle.sqlite.specs.Steps.{FailsToCommit}
 use Rattle.sqlite.specs.declared.error.Error.{Error}
 use Rattle.vk_io.specs.declared.errors.OutsideErr.{OutsideErr}
 use Rattle.vk_keeper_sql.specs.declared.errors.OpenErr.{OpenErr}
-use Rattle.vk_keeper_sql.specs.Refusals.{open_refusal, statement_refusal}
-use Rattle.vk_keeper_sql.specs.Unopened.{RefusesQuery, RefusesRun}
+use Rattle.vk_rows.specs.Refusals.{statement_refusal}
+use Rattle.vk_keeper_sql.specs.Refusals.{open_refusal}
+use Rattle.vk_keeper_sql.specs.Transactions.{RefusesQuery, RefusesRun}
 
 module _ {S : Type 0} (g : Ghosts S) where
   -- its connection refused a statement, a query or a commit, and that is what was told
