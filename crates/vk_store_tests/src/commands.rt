@@ -13,7 +13,7 @@ use vk_keeper::{Auction, Keeper, MemKeeper};
 use vk_reply::{Challenge, bits_of};
 use vk_seal::make_seal;
 
-/// The auction that all commands are of.
+/// The auction that commands are of which name none.
 const ID: [u8; 16] = [0, 1, 2, 3, 4, 5, 6, 7, 8, 9, 10, 11, 12, 13, 14, 15];
 
 /// The seed of the auctioneer and of all bidders.
@@ -28,7 +28,7 @@ pub enum Task<'a> {
     Find,
     /// `announce WIDTH LANES`, `announce WIDTH LANES RESERVE`, `submit SEAT BID`, `prove`, `answer
     /// BITS`, `find`; or `keep COMMAND, ..`, which keeps the auction that these make in the place
-    /// of the one that is kept.
+    /// of the one that is kept. `of N COMMAND` is of the auction whose id ends with the byte N.
     Command(&'a [u8]),
 }
 
@@ -56,11 +56,28 @@ fn kept_anew<K: Keeper + Drop>(alloc: Global, keeper: &mut K) -> Tried<String> {
     Ok(before)
 }
 
+/// What is answered to a command, of the auction that it names.
 fn commanded<K: Keeper + Drop>(alloc: Global, keeper: &mut K, command: &[u8]) -> Tried<String> {
-    if word_at(command, 0)? != b"keep".as_slice() {
-        return housed(alloc, keeper, command);
+    if word_at(command, 0)? != b"of".as_slice() {
+        return answered(alloc, keeper, &ID, command);
     }
-    let auction = made(alloc, behind_word(command))?;
+    let mut id = ID;
+    id[15] = number_at(command, 1, 255)? as u8;
+    let behind = behind_word(behind_word(command).trim_ascii());
+    answered(alloc, keeper, &id, behind.trim_ascii())
+}
+
+/// What is answered to a command of that auction.
+fn answered<K: Keeper + Drop>(
+    alloc: Global,
+    keeper: &mut K,
+    id: &[u8; 16],
+    command: &[u8],
+) -> Tried<String> {
+    if word_at(command, 0)? != b"keep".as_slice() {
+        return housed(alloc, keeper, id, command);
+    }
+    let auction = made(alloc, id, behind_word(command))?;
     let text = match keeper.put(auction) {
         Ok(()) => "kept",
         Err(_) => "fault",
@@ -69,7 +86,7 @@ fn commanded<K: Keeper + Drop>(alloc: Global, keeper: &mut K, command: &[u8]) ->
 }
 
 /// What stands behind the first word.
-fn behind_word(command: &[u8]) -> &[u8] {
+pub fn behind_word(command: &[u8]) -> &[u8] {
     for (i, byte) in command.iter().enumerate() {
         if *byte == b' ' {
             let (_word, behind) = command.split_at(i);
@@ -80,37 +97,47 @@ fn behind_word(command: &[u8]) -> &[u8] {
 }
 
 /// The auction that these commands, with commas between them, make in memory.
-fn made(alloc: Global, commands: &[u8]) -> Tried<Auction>
+fn made(alloc: Global, id: &[u8; 16], commands: &[u8]) -> Tried<Auction>
     ensures { IfOk result IsAuction }
 {
     let mut keeper = MemKeeper::new(alloc);
     for command in commands.split(|byte| *byte == b',') {
-        let _said = housed(alloc, &mut keeper, command.trim_ascii())?;
+        let _said = housed(alloc, &mut keeper, id, command.trim_ascii())?;
     }
-    let made = keeper.get(&ID)?.ok_or(Unreplayed::NoCase)?;
+    let made = keeper.get(id)?.ok_or(Unreplayed::NoCase)?;
     Ok(made)
 }
 
 /// What a house answers to a command.
-fn housed<K: Keeper + Drop>(alloc: Global, keeper: &mut K, command: &[u8]) -> Tried<String> {
+fn housed<K: Keeper + Drop>(
+    alloc: Global,
+    keeper: &mut K,
+    id: &[u8; 16],
+    command: &[u8],
+) -> Tried<String> {
     match word_at(command, 0)? {
-        b"announce" => announced(alloc, keeper, command),
-        b"submit" => submitted(alloc, keeper, command),
+        b"announce" => announced(alloc, keeper, id, command),
+        b"submit" => submitted(alloc, keeper, id, command),
         b"prove" => {
-            let proved = House::over(keeper).prove(alloc, &ID, &SEED);
+            let proved = House::over(keeper).prove(alloc, id, &SEED);
             proved_text(alloc, &proved)
         }
         b"answer" => {
             let challenge = challenge_of(alloc, word_at(command, 1)?)?;
-            let answered = House::over(keeper).answer(alloc, &ID, &challenge);
+            let answered = House::over(keeper).answer(alloc, id, &challenge);
             answered_text(alloc, &answered)
         }
-        b"find" => found_text(alloc, &keeper.get(&ID)),
+        b"find" => found_text(alloc, &keeper.get(id)),
         _ => Err(Unreplayed::NoCase),
     }
 }
 
-fn announced<K: Keeper + Drop>(alloc: Global, keeper: &mut K, command: &[u8]) -> Tried<String> {
+fn announced<K: Keeper + Drop>(
+    alloc: Global,
+    keeper: &mut K,
+    id: &[u8; 16],
+    command: &[u8],
+) -> Tried<String> {
     let width = number_at(command, 1, 40)? as u32;
     let lanes = number_at(command, 2, 64)? as u32;
     if width == 0 || lanes == 0 {
@@ -118,10 +145,10 @@ fn announced<K: Keeper + Drop>(alloc: Global, keeper: &mut K, command: &[u8]) ->
     }
     let mut house = House::over(keeper);
     let announced = if word_at(command, 3).is_err() {
-        house.announce(alloc, &ID, width, lanes)
+        house.announce(alloc, id, width, lanes)
     } else {
         let reserve = number_at(command, 3, (1 << width) - 1)?;
-        house.announce_reserve(alloc, &ID, width, lanes, reserve)
+        house.announce_reserve(alloc, id, width, lanes, reserve)
     };
     match announced {
         Ok(()) => Ok(String::from_str(alloc, "announced")?),
@@ -130,27 +157,32 @@ fn announced<K: Keeper + Drop>(alloc: Global, keeper: &mut K, command: &[u8]) ->
 }
 
 /// The seal of the seat and its secret, made for the auction that is kept, are handed in.
-fn submitted<K: Keeper + Drop>(alloc: Global, keeper: &mut K, command: &[u8]) -> Tried<String> {
+fn submitted<K: Keeper + Drop>(
+    alloc: Global,
+    keeper: &mut K,
+    id: &[u8; 16],
+    command: &[u8],
+) -> Tried<String> {
     let seat = number_at(command, 1, 65535)? as u16;
     let bid = number_at(command, 2, u64::MAX)?;
-    let (width, lanes) = size_of(keeper)?;
+    let (width, lanes) = size_of(keeper, id)?;
     if seat == 0 {
         return Err(Unreplayed::NoCase);
     }
-    let mut words = ChaChaWords::of(&SEED, &ID, 65536 + u64::from(seat));
-    let made = make_seal(alloc, bid, seat, &ID, width, lanes, &mut words);
+    let mut words = ChaChaWords::of(&SEED, id, 65536 + u64::from(seat));
+    let made = make_seal(alloc, bid, seat, id, width, lanes, &mut words);
     let (secret, seal) = made.map_err(|_refused| Unreplayed::NoCase)?;
-    match House::over(keeper).submit(&ID, seal, secret) {
+    match House::over(keeper).submit(id, seal, secret) {
         Ok(position) => Ok(format!(in alloc; "position {position}")?),
         Err(refusal) => refused_text(alloc, &refusal),
     }
 }
 
 /// The width and the number of lanes of the auction that is kept.
-fn size_of<K: Keeper + Drop>(keeper: &mut K) -> Tried<(u32, u32)>
+fn size_of<K: Keeper + Drop>(keeper: &mut K, id: &[u8; 16]) -> Tried<(u32, u32)>
     ensures { IfOk result (λ size. IsSize size.0 size.1) }
 {
-    let auction = keeper.get(&ID)?.ok_or(Unreplayed::NoCase)?;
+    let auction = keeper.get(id)?.ok_or(Unreplayed::NoCase)?;
     Ok((auction.width, auction.lanes))
 }
 

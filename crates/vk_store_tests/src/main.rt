@@ -17,6 +17,7 @@ use vk_io::Shelf;
 /// What a file of cases has, one case a line.
 enum Cases {
     /// `COMMAND | COMMAND ..`, over a store that is closed and opened again between all of them.
+    /// Among them `seals COUNT`, and `run STATEMENT; ..`, which change the store.
     Houses,
     /// `STATEMENT; ..`, which change a store of an auction that was answered. Then it is opened and
     /// the auction found, kept anew, and found again.

@@ -1,5 +1,5 @@
 // Stores that are closed and opened again, changed, and made by other programs.
-use crate::commands::Task;
+use crate::commands::{Task, behind_word};
 use crate::stores::Image;
 use std::alloc::Global;
 use vk_cases::{Tried, Unreplayed, number_at, text_of, word_at};
@@ -17,15 +17,23 @@ pub fn house_text(alloc: Global, case: &[u8]) -> Tried<Vec<u8>> {
     let mut image = Image::of(alloc, Vec::new(alloc));
     for part in case.split(|byte| *byte == b'|') {
         let command = part.trim_ascii();
-        if word_at(command, 0)? == b"seals".as_slice() {
-            image = with_seals(alloc, image, number_at(command, 1, 64)?)?;
-        } else {
-            let session = image.whole_session(alloc, &Task::Command(command))?;
-            push_said(&mut text, command, session.text.as_str())?;
-            image = session.image;
-        }
+        image = after(alloc, &mut text, image, command)?;
     }
     Ok(text)
+}
+
+/// The store behind a part of a case: `run STATEMENTS`, `seals COUNT`, or a command, of which it is
+/// told what came.
+fn after(alloc: Global, text: &mut Vec<u8>, image: Image, command: &[u8]) -> Tried<Image> {
+    match word_at(command, 0)? {
+        b"run" => changed_by(alloc, &image, behind_word(command).trim_ascii()),
+        b"seals" => with_seals(alloc, image, number_at(command, 1, 64)?),
+        _ => {
+            let session = image.whole_session(alloc, &Task::Command(command))?;
+            push_said(text, command, session.text.as_str())?;
+            Ok(session.image)
+        }
+    }
 }
 
 /// So many seals are handed in, each at its place as its seat and with it as its bid, and the store
