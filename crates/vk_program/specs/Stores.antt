@@ -1,6 +1,9 @@
 -- Which files become no store, and beside which none is opened.
-use Rattle.std.specs.Prelude.{ℕ, ◌==◌, ◌&&◌, ◌||◌, not, bit_and, bit_or, nat_lt, Bool}
+use Rattle.std.specs.Prelude.{ℕ, ◌==◌, ◌&&◌, ◌||◌, not, bit_and, bit_or, nat_lt, if◌then◌else◌, Bool, false, Option, Some, None, Result, Ok, Err}
+use Rattle.vk_program.specs.declared.house.Unopened.{Unopened}
+use Rattle.vk_program.specs.declared.house.Unopened.TheVariants.{Exposed, Anothers, Linked}
 use Rattle.vk_program.specs.declared.store.Access.{Access}
+use Rattle.vk_program.specs.declared.store.OwnFile.{OwnFile}
 
 -- what others than the owner may do by a mode: its last six bits
 abbrev pub others : ℕ → ℕ
@@ -10,6 +13,18 @@ others mode = bit_and mode 63
 -- owner may read, write or run
 abbrev pub is_exposed : (length mode : ℕ) → Bool
 is_exposed length mode = nat_lt length 2 && not (others mode == 0)
+
+-- such a file that another user owns than who runs the program, where it was there before
+abbrev pub is_anothers : OwnFile → Option ℕ → Bool
+is_anothers file None = false
+is_anothers file (Some runner) = nat_lt file.length 2 && not (file.access.owner == runner)
+
+-- why the store's own file is refused: by the first of these that holds, and by nothing else
+abbrev pub own_refusal : OwnFile → Option ℕ → Result Unit Unopened
+own_refusal file runner =
+    if is_exposed file.length file.access.mode then Err Exposed
+    else (if is_anothers file runner then Err Anothers
+    else (if nat_lt 1 file.names then Err Linked else Ok tt))
 
 -- a file beside a store lets in whom the store doesn't: others may do more by its mode; or they may
 -- do nothing by the store's, and the file is another user's

@@ -2,7 +2,7 @@
 
 ghost use Rattle.std.specs.Prelude.{◌≡◌};
 ghost use Rattle.vk_program.specs.Houses.{CausesUnopened};
-ghost use Rattle.vk_program.specs.Stores.{is_exposed, lets_in};
+ghost use Rattle.vk_program.specs.Stores.{is_anothers, is_exposed, lets_in, own_refusal};
 
 use crate::house::{HousePlace, Unopened};
 use sqlite::{Connection, File, FileStore};
@@ -146,25 +146,64 @@ fn make_file<R: Files>(rt: &R) -> Result<bool, Unopened> {
     }
 }
 
-/// Refuses a store that lets others in: a file that is empty, and exposed or, if it isn't new,
-/// another user's; one beside which a file lets others in; one with a second name, which SQLite
-/// doesn't open; and a link to nothing, at whose end SQLite would make a file that is exposed.
+/// Refuses a store whose own file is refused, or that has a file beside it which lets others in; and
+/// a link to nothing, at whose end SQLite would make a file that is exposed.
 fn admit<R: Files>(rt: &R, alloc: Global, is_new: bool) -> Result<(), Unopened> {
-    let store = match fs::metadata(rt, STORE) {
-        Ok(store) => store,
+    let file = match fs::metadata(rt, STORE) {
+        Ok(store) => own_file(&store),
         Err(error) => return Err(Unopened::File(error.kind())),
     };
-    if is_exposed(store.len(), store.mode()) {
+    let runner = runner_for(rt, file, is_new)?;
+    admit_own(file, runner)?;
+    for end in SIDES {
+        admit_beside(rt, alloc, end, file.access)?;
+    }
+    Ok(())
+}
+
+/// What the system tells of the store's own file.
+#[derive(Clone, Copy)]
+struct OwnFile {
+    length: u64,
+    /// How many names it has, as hard links.
+    names: u64,
+    access: Access,
+}
+
+/// The file of these metadata.
+fn own_file(store: &Metadata) -> OwnFile {
+    OwnFile {
+        length: store.len(),
+        names: store.nlink(),
+        access: access_of(store),
+    }
+}
+
+/// Who runs the program, where the file was there and that decides whether it is refused. Errs
+/// where the system doesn't tell.
+fn runner_for<R: Files>(rt: &R, file: OwnFile, is_new: bool) -> Result<Option<u32>, Unopened> {
+    if is_new || file.length >= 2 || is_exposed(file.length, file.access.mode) {
+        return Ok(None);
+    }
+    match fs::metadata(rt, PROCESS) {
+        Ok(process) => Ok(Some(process.uid())),
+        Err(error) => Err(Unopened::File(error.kind())),
+    }
+}
+
+/// Refuses a file that is empty, and exposed or another user's than who runs the program; and one
+/// with a second name, which SQLite doesn't open.
+fn admit_own(file: OwnFile, runner: Option<u32>) -> Result<(), Unopened>
+    ensures { result ≡ own_refusal file runner }
+{
+    if is_exposed(file.length, file.access.mode) {
         return Err(Unopened::Exposed);
     }
-    if !is_new && is_anothers(rt, &store)? {
+    if is_anothers(file, runner) {
         return Err(Unopened::Anothers);
     }
-    if store.nlink() > 1 {
+    if file.names > 1 {
         return Err(Unopened::Linked);
-    }
-    for end in SIDES {
-        admit_beside(rt, alloc, end, access_of(&store))?;
     }
     Ok(())
 }
@@ -212,15 +251,13 @@ fn is_exposed(length: u64, mode: u32) -> bool
 }
 
 /// Whether the file, which SQLite takes for empty, is another user's than who runs the program. Its
-/// owner could read what is written into it, whatever its mode is. Errs where the system doesn't
-/// tell who runs the program.
-fn is_anothers<R: Files>(rt: &R, store: &Metadata) -> Result<bool, Unopened> {
-    if store.len() >= 2 {
-        return Ok(false);
-    }
-    match fs::metadata(rt, PROCESS) {
-        Ok(process) => Ok(process.uid() != store.uid()),
-        Err(error) => Err(Unopened::File(error.kind())),
+/// owner could read what is written into it, whatever its mode is.
+fn is_anothers(file: OwnFile, runner: Option<u32>) -> bool
+    ensures { result ≡ is_anothers file runner }
+{
+    match runner {
+        Some(runner) => file.length < 2 && file.access.owner != runner,
+        None => false,
     }
 }
 
