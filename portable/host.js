@@ -8,7 +8,7 @@
 
 const fs = require("fs");
 const { NUMBERS, answerOf } = require("./errors.js");
-const { advise, lockRange } = require("./helper.js");
+const { advise, DROP_COPIES, lockRange } = require("./helper.js");
 
 const HERE = -100; // AT_FDCWD
 const EMPTY_PATH = 0x1000; // AT_EMPTY_PATH
@@ -16,7 +16,7 @@ const NO_FOLLOW = 0x100; // AT_SYMLINK_NOFOLLOW
 const UNCHANGED = 0xffffffff; // an owner or a group that stays
 const MOST_PRECISE = BigInt(Number.MAX_SAFE_INTEGER);
 const ACCESS = 3;
-const DROP_COPIES = 4; // POSIX_FADV_DONTNEED
+const RANDOM = { path: "/dev/urandom", device: 0x109n }; // the system's generator
 
 // Linux's flags of `open`, and the names that every system has for them. Those that decide whether a
 // file is made or cut must not be lost: a flag without a name here is refused.
@@ -83,11 +83,14 @@ class Memory {
 }
 
 // A file that the program opened. `at` is where the next `read` or `write` of a regular file begins.
+// `isFresh` is whether the system's copies of its pages were dropped, and nothing was written or
+// failed to be synced since: so what is read of it is what is on the disk, once it was synced.
 class Opened {
   constructor(isRegular, appends) {
     this.at = 0;
     this.isRegular = isRegular;
     this.appends = appends;
+    this.isFresh = false;
   }
 }
 
@@ -104,15 +107,15 @@ class Host {
   // The calls by their names, for the module: errors of node become numbers there.
   calls() {
     const named = {};
-    for (const name of Object.keys(CALLS)) {
-      named[name] = (...given) => {
+    for (const [name, call] of Object.entries(CALLS)) {
+      named[name] = WITH_WORDS[call.length]((...given) => {
         try {
-          return CALLS[name].apply(this, given);
+          return call.apply(this, given);
         } catch (error) {
           const answer = answerOf(error);
           return WIDE.includes(name) ? BigInt(answer) : answer;
         }
-      };
+      });
     }
     return named;
   }
@@ -120,10 +123,57 @@ class Host {
   opened(file) {
     return this.files.get(file);
   }
+
+  // What is written through one number may be of a file that has another too.
+  noneIsFresh() {
+    this.files.forEach((opened) => {
+      opened.isFresh = false;
+    });
+  }
+
+  // Makes a sync, and forgets of all files that they are fresh where it fails.
+  synced(sync) {
+    try {
+      sync();
+    } catch (error) {
+      this.noneIsFresh();
+      throw error;
+    }
+    return 0;
+  }
+}
+
+// Fills the bytes from the system's generator, and answers whether it could: node's own way to it
+// takes longer to load than most commands run.
+function filledByDevice(bytes) {
+  let file;
+  try {
+    file = fs.openSync(RANDOM.path, "r");
+    const found = fs.fstatSync(file, { bigint: true });
+    const isDevice = found.isCharacterDevice() && found.rdev === RANDOM.device;
+    return isDevice && fs.readSync(file, bytes) === bytes.length;
+  } catch {
+    return false;
+  } finally {
+    if (file !== undefined) {
+      fs.closeSync(file);
+    }
+  }
 }
 
 // Those whose answers have 64 bits.
 const WIDE = ["seek", "time"];
+
+// By their number: the same function as one of exactly so many words. Of any other, V8 compiles
+// another way to call it as the program starts.
+const WITH_WORDS = [
+  (call) => () => call(),
+  (call) => (a) => call(a),
+  (call) => (a, b) => call(a, b),
+  (call) => (a, b, c) => call(a, b, c),
+  (call) => (a, b, c, d) => call(a, b, c, d),
+  (call) => (a, b, c, d, e) => call(a, b, c, d, e),
+];
 
 // A place in a file: node's numbers are exact up to 2^53, and a place above is none of a file.
 function placeOf(at) {
@@ -178,6 +228,7 @@ const CALLS = {
   // system's.
   write(file, from, count) {
     const opened = this.opened(file);
+    this.noneIsFresh();
     const at = opened?.isRegular && !opened.appends ? opened.at : null;
     const put = fs.writeSync(file, this.memory.bytes(from, count), 0, count, at);
     if (opened) {
@@ -188,6 +239,7 @@ const CALLS = {
 
   // The same at that place: the store's pages and its log. It moves nothing.
   pwrite(file, from, count, at) {
+    this.noneIsFresh();
     return fs.writeSync(file, this.memory.bytes(from, count), 0, count, placeOf(at));
   },
 
@@ -207,6 +259,7 @@ const CALLS = {
 
   // Cuts the file, or adds zeros, and leaves the place of the next call.
   resize(file, length) {
+    this.noneIsFresh();
     fs.ftruncateSync(file, placeOf(length));
     return 0;
   },
@@ -214,14 +267,12 @@ const CALLS = {
   // Once it answers 0, what was written is on the disk, the length and the entry of a folder too.
   // The order of the log and of the store rests on this. An error is never passed over.
   sync(file) {
-    fs.fsyncSync(file);
-    return 0;
+    return this.synced(() => fs.fsyncSync(file));
   },
 
   // The same, but for times. An error is never passed over.
   sync_data(file) {
-    fs.fdatasyncSync(file);
-    return 0;
+    return this.synced(() => fs.fdatasyncSync(file));
   },
 
   // The very mode: the store and its log are their owner's alone.
@@ -277,23 +328,34 @@ const CALLS = {
   // 0 only where nobody else, the built program and sqlite3 among them, can have that range of the
   // file until it is closed here; and it must end with this process, however that ends.
   lock(file, kind, start, length) {
-    const isOpen = this.files.has(file);
-    return -(isOpen ? lockRange(file, kind, start, length, this.say) : NUMBERS.EBADF);
+    const opened = this.opened(file);
+    if (!opened) {
+      return -NUMBERS.EBADF;
+    }
+    const { error, hasDropped } = lockRange(file, kind, start, length, this.say);
+    opened.isFresh = hasDropped;
+    return -error;
   },
 
   // What is read next is what is on the disk, and no copy that an earlier sync failed to write: so
-  // the one advice that asks for this is handed on. All others are of speed alone.
+  // the one advice that asks for this is handed on, but where the lock did as much. A page that
+  // couldn't be dropped then, since it was still to be written, has been written by the sync that
+  // stands before this call, or the sync has failed. All other advice is of speed alone.
   advise(file, start, length, advice) {
-    const isOpen = this.files.has(file);
-    if (isOpen && advice !== DROP_COPIES) {
-      return 0;
+    const opened = this.opened(file);
+    if (!opened) {
+      return -NUMBERS.EBADF;
     }
-    return -(isOpen ? advise(file, start, length, advice, this.say) : NUMBERS.EBADF);
+    const isDone = advice !== DROP_COPIES || opened.isFresh;
+    return isDone ? 0 : -advise(file, start, length, advice, this.say);
   },
 
   // Random bytes, of the system's generator.
   random(into, count) {
-    require("crypto").randomFillSync(this.memory.bytes(into, count));
+    const bytes = this.memory.bytes(into, count);
+    if (!filledByDevice(bytes)) {
+      require("crypto").randomFillSync(bytes);
+    }
     return 0;
   },
 

@@ -6,6 +6,7 @@
 #   program   checks/program.sh, checks/house.sh, and KILLS (20) kills a kind of checks/kill.py
 #   turns     checks/house.sh and the cases of a house, by the built program and node in turns
 #   two       two processes on one store (trials/two.py)
+#   helpers   when a helper is started, be it perl or python3 (trials/helpers.js)
 #   hostile   checks/hostile.py where each call of the system fails, is interrupted or moves little,
 #             is a kill; full disks and outputs, odd names, places that can't be written; then the
 #             kills again, with the built program going on behind. QUICK= (yes) tries whole tables
@@ -18,7 +19,7 @@ top=$(dirname "$here")
 program=$(realpath "$1")
 vectors=$(realpath "$2")
 shift 2
-[ $# -gt 0 ] || set -- calls vectors program turns two hostile refused
+[ $# -gt 0 ] || set -- calls vectors program turns two helpers hostile refused
 node=$(command -v node)
 work=$(mktemp -d)
 trap 'rm -rf "$work"' EXIT
@@ -75,6 +76,15 @@ turns() {
 }
 
 two() { note 'two processes on one store' python3 "$here/trials/two.py" "$program"; }
+
+helpers() {
+  local helper
+  for helper in perl python3; do
+    mkdir "$work/$helper"
+    ln -s "$(command -v $helper)" "$work/$helper/$helper"
+    note "helpers, $helper" env "PATH=$work/$helper" "$node" "$here/trials/helpers.js" "$work/locked"
+  done
+}
 
 # launcher NAME OTHER: the program on node whose calls fail as the settings say; where there are no
 # such settings, the program OTHER. It is linked statically, so that nothing is loaded before it
@@ -134,7 +144,7 @@ chmod 666 "$work/counter"
 wrapper turns "$here/trials/turns.sh" "$work/counter" "$program"
 for part; do
   case $part in
-    calls | vectors | program | turns | two | hostile | refused) $part ;;
+    calls | vectors | program | turns | two | helpers | hostile | refused) $part ;;
     *) echo "test.sh: no part $part"; exit 2 ;;
   esac
 done
