@@ -3,12 +3,16 @@
 beside the built program.
 
 It measures `verify` of `sample 1`, 27 MB, and small commands: no command at all, `verify` of the
-smallest board, a seal, and the auctioneer's commands over a store of three seals. All take turns,
-and the best of ROUNDS (5) counts, from start to end. The last lines say whether `verify` takes at
-most 2.0 times the program's time, and each small command at most 150 ms; the status is 1 where one
-of them takes more. It wants node and python3.
+smallest board, a seal, and the auctioneer's commands over a store of three seals; and node alone,
+which runs nothing. All take turns, and the best of ROUNDS (9) counts, from start to end: by the
+clock, and in brackets of processor time, with that of all that a command starts. Nothing of the
+environment is handed on but PATH: where NODE_EXTRA_CA_CERTS is set, node reads certificates for
+60 to 110 ms before it begins. The last lines say whether `verify` takes at most 2.0 times the
+program's time, and each small command at most 150 ms; the status is 1 where one of them takes more.
+It wants node and python3.
 """
 import os
+import resource
 import shutil
 import subprocess
 import sys
@@ -36,15 +40,25 @@ SMALL = [
 ]
 
 
+ALONE = "node alone"
+
+
+def processor():
+    """Seconds of processor time of all commands so far."""
+    used = resource.getrusage(resource.RUSAGE_CHILDREN)
+    return used.ru_utime + used.ru_stime
+
+
 def run(command, words, folder):
-    """Seconds of one run, and its status."""
-    begun = time.perf_counter()
-    done = subprocess.run([*command, *words.split(" ")], cwd=folder, capture_output=True, check=False)
-    return time.perf_counter() - begun, done.returncode
+    """Seconds of one run, by the clock and of processor time, and its status."""
+    environment = {"PATH": os.environ["PATH"]}
+    begun, used = time.perf_counter(), processor()
+    done = subprocess.run([*command, *words.split(" ")], cwd=folder, env=environment, capture_output=True, check=False)
+    return (time.perf_counter() - begun, processor() - used), done.returncode
 
 
 def small(command, folder):
-    """Seconds of each small command, in a folder of its own."""
+    """Seconds of each small command, in a folder of its own, as `run` gives them."""
     shutil.copytree(DATA, folder)
     for seal in SEALS[1:]:
         run(command, seal, folder)
@@ -57,17 +71,26 @@ def small(command, folder):
 
 
 def measure(commands, rounds, folder):
-    """The best seconds by command and words."""
+    """The best seconds by command and words, by the clock and of processor time."""
     best = {name: {} for name in commands}
     subprocess.run([*commands["program"], "sample", "1"], cwd=folder, check=True, capture_output=True)
     for number in range(rounds):
         for name, command in commands.items():
             place = os.path.join(folder, f"{name}-{number}")
             taken = {SAMPLE: run(command, SAMPLE, folder)[0], **small(command, place)}
+            if name == "node":
+                taken[ALONE] = run(["node"], "-e 0", folder)[0]
             for words, seconds in taken.items():
-                best[name][words] = min(seconds, best[name].get(words, seconds))
+                best[name][words] = tuple(map(min, seconds, best[name].get(words, seconds)))
             shutil.rmtree(place)
     return best
+
+
+def row(words, best):
+    """A line of the table."""
+    cells = (best[name].get(words) for name in best)
+    texts = ("{:7.1f} ({:5.1f})".format(*(1000 * each for each in cell)) if cell else "" for cell in cells)
+    return "".join(f"{text:>18}" for text in texts) + f"  {words[:60]}"
 
 
 def main():
@@ -75,17 +98,16 @@ def main():
         sys.exit(__doc__)
     script = os.path.join(TOP, "portable", "vickrey.js")
     commands = {"program": [os.path.realpath(sys.argv[1])], "node": ["node", script]}
-    rounds = int(sys.argv[2]) if len(sys.argv) == 3 else 5
+    rounds = int(sys.argv[2]) if len(sys.argv) == 3 else 9
     with tempfile.TemporaryDirectory() as folder:
         best = measure(commands, rounds, folder)
     version = subprocess.run(["node", "--version"], capture_output=True, check=True).stdout.decode()
     print(f"best of {rounds} rounds, node {version.strip()}")
-    print(f"{'ms':>8} {'program':>8} {'node':>8}")
+    print("".join(f"{name + ', ms':>18}" for name in commands))
     for words in best["node"]:
-        times = (best[name][words] * 1000 for name in commands)
-        print(f"{'':>8} " + " ".join(f"{ms:8.1f}" for ms in times) + f"  {words[:60]}")
-    ratio = best["node"][SAMPLE] / best["program"][SAMPLE]
-    slowest = max(best["node"][words] for words in SMALL)
+        print(row(words, best))
+    ratio = best["node"][SAMPLE][0] / best["program"][SAMPLE][0]
+    slowest = max(best["node"][words][0] for words in SMALL)
     print(f"verify of sample 1: node / program {ratio:.2f}, at most {MOST_RATIO}")
     print(f"the slowest small command: {slowest * 1000:.0f} ms, at most {MOST_SECONDS * 1000:.0f}")
     return 1 if ratio > MOST_RATIO or slowest > MOST_SECONDS else 0

@@ -1,6 +1,6 @@
 #!/usr/bin/env bash
-# dist/check.sh: builds the program as `rt run` does, and says whether dist/ has the same, byte for
-#   byte.
+# dist/check.sh: builds the program as `rt run` does, by build.py, and says whether dist/ has the
+#   same, byte for byte.
 # dist/check.sh --write: builds it, and writes it to dist/, for a new version.
 # It wants the kit; where the program isn't proved yet it takes as long as the proofs.
 set -eu
@@ -13,7 +13,7 @@ built=$crate/out/vickrey
 
 build() {
   command -v rt >/dev/null || fail 'there is no rt: install the kit'
-  (cd "$crate" && rt run -- verify data/board data/challenge-0 data/reply-0) | tail -n 1 |
+  (cd "$crate" && ../../build.py verify data/board data/challenge-0 data/reply-0) | tail -n 1 |
     grep -qx accepted || fail 'the program is not built, or does not run'
 }
 

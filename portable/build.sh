@@ -16,25 +16,28 @@ top=$(dirname "$here")
 # shellcheck source=page/lowering.sh
 . "$top/page/lowering.sh"
 
-# code: the intermediate code of the crate `vickrey`, proved, as $work/module.bc. The compiler is
-# given the words that `rt run` has for this crate, by `rt` itself. It hands clang intermediate code
-# only once the crate is proved, and no more of it is wanted: so that clang keeps it, and fails
+# code: the intermediate code of the crate `vickrey`, proved, as $work/module.bc. What is below it is
+# proved by build.py, several crates at a time, where it isn't yet. The compiler is given the words
+# that `rt run` has for this crate, by `rt` itself. It hands clang intermediate code only once the
+# crate is proved, and no more of it is wanted: so that clang keeps it, and fails
 code() {
   toolchain false
   cd "$top/crates/vickrey"
   mkdir -p out
-  python3 -B - "$kit" "$work" >"$work/said" 2>&1 <<'WORDS' || true
+  python3 -B - "$top" "$work" >"$work/said" 2>&1 <<'WORDS' || true
 import os
 import sys
 
-kit, work = sys.argv[1:]
-sys.path.insert(0, f"{kit}/bin")
-import rtlib
+top, work = sys.argv[1:]
+sys.path.insert(0, top)
+import build
 
+fault = build.prove(build.crates_below(build.PROGRAM), build.most_jobs())
+if fault:
+    sys.exit(fault)
+rtlib = build.kit().rtlib
 crate = rtlib.Crate(os.getcwd(), rtlib.root_above(os.getcwd()), {})
 crate.held = rtlib.lock([*crate.below(), crate])
-if any(below.build_rlib([], anew=False) for below in crate.below()):
-    sys.exit(1)
 words = [*crate.words([]), "--toolchain", f"{work}/toolchain", "--backend", "llvm", *rtlib.KEPT]
 sys.exit(crate.call(rtlib.RATTLE, "build", *words, "-o", f"{work}/same.o"))
 WORDS

@@ -53,11 +53,20 @@ function numbersOf(found) {
   ];
 }
 
-// The program's memory. It moves as it grows, so no view of it is kept.
+// The program's memory. It moves as it grows, so a view of it is kept until then alone.
 class Memory {
   // `exports` are the module's, once it is there.
   attach(exports) {
     this.exports = exports;
+    this.view = new Uint8Array(0);
+  }
+
+  all() {
+    const { buffer } = this.exports.memory;
+    if (this.view.buffer !== buffer) {
+      this.view = new Uint8Array(buffer);
+    }
+    return this.view;
   }
 
   bytes(place, count) {
@@ -183,6 +192,20 @@ function placeOf(at) {
   return Number(at);
 }
 
+// Where a seek counts from: the start, here, or the end; null where it is none of these.
+function startOf(file, opened, from) {
+  switch (from) {
+    case 0:
+      return 0;
+    case 1:
+      return opened.at;
+    case 2:
+      return fs.fstatSync(file).size;
+    default:
+      return null;
+  }
+}
+
 const CALLS = {
   // A file is made only where the flags ask for it, and under O_EXCL only where nothing has the
   // name, no link either; then with this mode, narrowed by the umask and never widened. Nothing is
@@ -211,7 +234,7 @@ const CALLS = {
   read(file, into, count) {
     const opened = this.opened(file);
     const at = opened?.isRegular ? opened.at : null;
-    const got = fs.readSync(file, this.memory.bytes(into, count), 0, count, at);
+    const got = fs.readSync(file, this.memory.all(), into >>> 0, count >>> 0, at);
     if (opened) {
       opened.at += got;
     }
@@ -220,7 +243,7 @@ const CALLS = {
 
   // Bytes from that place on; 0 behind the end alone. It moves nothing.
   pread(file, into, count, at) {
-    return fs.readSync(file, this.memory.bytes(into, count), 0, count, placeOf(at));
+    return fs.readSync(file, this.memory.all(), into >>> 0, count >>> 0, placeOf(at));
   },
 
   // It says how many bytes were taken, and never more than were. Of a file that appends they land
@@ -230,7 +253,7 @@ const CALLS = {
     const opened = this.opened(file);
     this.noneIsFresh();
     const at = opened?.isRegular && !opened.appends ? opened.at : null;
-    const put = fs.writeSync(file, this.memory.bytes(from, count), 0, count, at);
+    const put = fs.writeSync(file, this.memory.all(), from >>> 0, count >>> 0, at);
     if (opened) {
       opened.at += put;
     }
@@ -240,7 +263,7 @@ const CALLS = {
   // The same at that place: the store's pages and its log. It moves nothing.
   pwrite(file, from, count, at) {
     this.noneIsFresh();
-    return fs.writeSync(file, this.memory.bytes(from, count), 0, count, placeOf(at));
+    return fs.writeSync(file, this.memory.all(), from >>> 0, count >>> 0, placeOf(at));
   },
 
   // Where the next `read` or `write` begins: from the start, from here, or from the end.
@@ -249,11 +272,11 @@ const CALLS = {
     if (!opened?.isRegular) {
       return BigInt(-(opened ? NUMBERS.ESPIPE : NUMBERS.EBADF));
     }
-    const starts = [() => 0, () => opened.at, () => fs.fstatSync(file).size];
-    if (!(from in starts)) {
+    const start = startOf(file, opened, from);
+    if (start === null) {
       return BigInt(-NUMBERS.EINVAL);
     }
-    opened.at = placeOf(BigInt(starts[from]()) + by);
+    opened.at = placeOf(BigInt(start) + by);
     return BigInt(opened.at);
   },
 
