@@ -84,18 +84,20 @@ function run(module, host) {
   return exports.program_start() & 0xff;
 }
 
-function main() {
+// The status of the program, or why there is none.
+function statusHere() {
   try {
     admitMachine();
-    process.exitCode = run(moduleHere(), new Host(wordsGiven(), say));
+    return run(moduleHere(), new Host(wordsGiven(), say));
   } catch (error) {
     say(`vickrey: ${error instanceof NotHere ? error.message : `stopped: ${error.stack}`}`);
-    process.exitCode = error instanceof NotHere ? NOT_HERE : STOPPED;
+    return error instanceof NotHere ? NOT_HERE : STOPPED;
   }
 }
 
+// All that was printed is written, so node need not take itself apart before it ends.
 if (require.main === module) {
-  main();
+  process.exit(statusHere());
 }
 
 module.exports = { moduleHere, run, wordsGiven };
