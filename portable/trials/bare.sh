@@ -3,9 +3,12 @@
 # roots of Debian 12 with what every system has (debootstrap's minbase), of which one has node too.
 # Each gets the files of the last commit. In the first the prebuilt program has to run, and
 # install.sh; in the second, of which dist/ is taken away, node; and in the first without dist/ it is
-# said what to do. The roots are made in FOLDER, and kept there. It wants root and debootstrap.
+# said what to do. Two more roots have what the second checker and the pages want besides, python3 and
+# sqlite3, and one of them node: there the commands of all pages are run (checks/pages.sh), by the
+# program that install.sh put. The roots are made in FOLDER, and kept there. It wants root and
+# debootstrap.
 set -eu
-[ $# -eq 1 ] || { sed -n '2,6s/^# //p' "$0"; exit 2; }
+[ $# -eq 1 ] || { sed -n '2,9s/^# //p' "$0"; exit 2; }
 top=$(realpath "$(dirname "$0")/../..")
 mkdir -p "$1"
 folder=$(realpath "$1")
@@ -60,5 +63,12 @@ case_of node 0 'Seat 7 won, and pays 9.' demo/auction.sh
 case_of node 0 'The program is that of portable/, by node' 'demo/auction.sh | head -n 1'
 case_of node 0 accepted 'node portable/vickrey.js verify crates/vickrey/data/board crates/vickrey/data/challenge-0 crates/vickrey/data/reply-0'
 case_of node 0 accepted './install.sh --node /tmp/here >/tmp/said && cd crates/vickrey/data && /tmp/here/bin/vickrey verify board challenge-0 reply-0'
+
+pages='&& checks/pages.sh /tmp/here/bin/vickrey'
+root pages python3,sqlite3
+case_of pages 0 ' passed, 0 failed' "./install.sh --prebuilt /tmp/here >/tmp/said $pages"
+root pages-node nodejs,python3,sqlite3
+rm "$folder"/pages-node/vickrey/dist/*.gz
+case_of pages-node 0 ' passed, 0 failed' "./install.sh --node /tmp/here >/tmp/said $pages"
 echo "$failed failed"
 [ $failed -eq 0 ]
