@@ -128,10 +128,12 @@ case_of 0 'answered' '' answer $id challenge reply-2
 holds '' cmp reply reply-2
 
 # a store that is in use: refused, and nothing is lost
-sqlite3 house.sqlite 'BEGIN EXCLUSIVE' '.shell sleep 2' >held &
-sleep 0.5
+sqlite3 house.sqlite 'BEGIN EXCLUSIVE' '.shell touch held; until [ -e released ]; do sleep 0.1; done' &
+until [ -e held ] || ! kill -0 $! 2>/dev/null; do sleep 0.1; done
 case_of 6 '' 'outside fault' show $id
+touch released
 wait
+rm held released
 case_of 0 "auction $id width 8 lanes 4 seals 3 phase answered" '' show $id
 
 # a damaged row is a fault, and never another answer
