@@ -50,7 +50,7 @@ code() {
   # shellcheck disable=SC2119
   toolchain
   cd "$top/crates/page"
-  rt lib >"$work/said" 2>&1 || { tail -n 20 "$work/said" >&2; fail "the crate page isn't proved"; }
+  "$top/build.py" --rt lib >"$work/said" 2>&1 || { tail -n 20 "$work/said" >&2; fail "the crate page isn't proved"; }
   mapfile -t words < <(dependencies page)
   "$kit/bin/rattle" build --crate-name page src/lib.rt "${words[@]}" --links page= \
     --antt-project "$kit/rattle/logic/antt-project.json" --logic-built "$kit/logic_built" \
