@@ -17,7 +17,7 @@ use crate::statements::{ask, run};
 use sqlite::types::ValueRef;
 use sqlite::{Alter, Connection, Row, Transaction};
 use vk_io::OutsideErr;
-use vk_rows::{amount_at, count_at, refused_statement};
+use vk_rows::refused_statement;
 
 const MAKE_ABOUT: &str = "CREATE TABLE about (version INTEGER NOT NULL)";
 

@@ -12,7 +12,7 @@ mod standing;
 mod stored;
 mod texts;
 
-pub use columns::{amount_at, count_at, value_at};
+pub use columns::value_at;
 pub use refusals::refused_statement;
 pub use rows::found_in;
 pub use standing::count_standing;
