@@ -1,6 +1,8 @@
 #!/usr/bin/env python3
 """page/assemble.py MODULE OUT: puts the one page together, from page.html, page.css, the scripts and
 the module.
+page/assemble.py --again OUT: the same with the module of the page that is there, page/vickrey.html:
+for whoever changes a script alone.
 
 page.html has each of these tokens once. Each is replaced by its text, byte for byte:
 
@@ -18,6 +20,7 @@ SCRIPTS = ("module", "work", "sentences", "fields", "parts", "check", "bid", "au
 HERE = os.path.dirname(os.path.abspath(__file__))
 # What would end the element that a text stands in, or be read as another text than the digest's
 ODD = re.compile(rb"</|<!--|\r|\0")
+HELD = re.compile(rb'<script type="application/wasm" id="module">([^<]*)</script>')
 
 
 def read(path):
@@ -56,12 +59,32 @@ def page_of(template, replaced):
     return b"".join(replaced.get(part, part) for part in parts)
 
 
+def module_of(page):
+    """The module that a page holds."""
+    found = HELD.search(page)
+    if not found:
+        sys.exit("assemble: page/vickrey.html holds no module")
+    return base64.b64decode(found[1], validate=True)
+
+
+def assemble(module, path):
+    page = page_of(own("page.html"), texts(module))
+    with open(path, "wb") as file:
+        file.write(page)
+
+
+def assemble_again(path):
+    """With the module of the page that is there."""
+    assemble(module_of(own("vickrey.html")), path)
+
+
 def main():
     if len(sys.argv) != 3:
         sys.exit(__doc__)
-    page = page_of(own("page.html"), texts(read(sys.argv[1])))
-    with open(sys.argv[2], "wb") as file:
-        file.write(page)
+    if sys.argv[1] == "--again":
+        assemble_again(sys.argv[2])
+    else:
+        assemble(read(sys.argv[1]), sys.argv[2])
 
 
 if __name__ == "__main__":

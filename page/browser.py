@@ -19,8 +19,8 @@ import tempfile
 import time
 
 # Seconds that are waited for what a page should do, and for any answer of a browser
-PATIENCE = 300
-LONG_PATIENCE = 900
+PATIENCE = 120
+LONG_PATIENCE = 300
 
 
 class BrowserError(Exception):
@@ -479,7 +479,7 @@ class Firefox(Browser):
             "WebDriver:NewSession",
             capabilities={"alwaysMatch": {"unhandledPromptBehavior": "accept"}},
         )
-        self.ask("WebDriver:SetTimeouts", script=600_000, pageLoad=PATIENCE * 1000)
+        self.ask("WebDriver:SetTimeouts", script=PATIENCE * 1000, pageLoad=PATIENCE * 1000)
 
     def message(self):
         """The next message: its length in digits, a colon, and so many bytes."""

@@ -1,5 +1,5 @@
 #!/usr/bin/env python3
-"""page/test.py PROGRAM [--page FILE] [--pictures FOLDER] [--only BROWSER] [--trial NAME]
+"""page/test.py PROGRAM [--page FILE | --again] [--pictures FOLDER] [--only BROWSER] [--trial NAME]
 
 Uses the built page in Chromium and Firefox, without a window, as a seller, a bidder and an auditor
 would, and wrongly on purpose. All files are made by the built program PROGRAM, and what the page
@@ -7,11 +7,13 @@ says of them has to be what the program says, status and lines. It is no part of
 wants Debian's packages chromium and firefox-esr, and Python's standard library.
 
   --page      the page, if not page/vickrey.html
+  --again     the page of the scripts as they are now, with the module of page/vickrey.html
   --pictures  a folder for a picture of each tab: in light, in dark, and on a phone
   --only      chromium or firefox alone
   --trial     only the trials whose names have this in them
 
-It prints a line for each trial, and ends with status 0 only if none failed.
+Each trial has a browser of its own, with a new profile. It prints a line for each trial, and ends
+with status 0 only if none failed.
 """
 import argparse
 import os
@@ -21,6 +23,7 @@ import tempfile
 import time
 import traceback
 
+from assemble import assemble_again
 from browser import BROWSERS, Chromium, Firefox
 from trials.desk import Desk
 from trials.hostile import HOSTILE, Listener
@@ -87,15 +90,24 @@ def without_a_secure_context(kind, table, page, made):
         listener.close()
 
 
+def at_desk(kind, address, made, trial):
+    """A trial in a browser that nobody used before."""
+
+    def trial_of(*words):
+        with kind() as browser:
+            browser.resize(1100, 900)
+            trial(Desk(browser, address, made), *words)
+
+    trial_of.__name__ = trial.__name__
+    return trial_of
+
+
 def try_browser(kind, table, page, made, pictures):
     address = f"file://{page}"
-    with kind() as browser:
-        browser.resize(1100, 900)
-        desk = Desk(browser, address, made)
-        for trial in [*USE, digests_without_the_browser, *REACH, *HOSTILE, *WORKERS]:
-            table.row(kind.name, trial, desk)
-        if pictures:
-            table.row(kind.name, take_pictures, desk, pictures)
+    for trial in [*USE, digests_without_the_browser, *REACH, *HOSTILE, *WORKERS]:
+        table.row(kind.name, at_desk(kind, address, made, trial))
+    if pictures:
+        table.row(kind.name, at_desk(kind, address, made, take_pictures), pictures)
     without_a_secure_context(kind, table, page, made)
     for trial in [*POOR, practice_gives_way]:
         table.row(kind.name, trial, kind, address, made)
@@ -105,6 +117,7 @@ def main():
     parser = argparse.ArgumentParser(usage=__doc__)
     parser.add_argument("program")
     parser.add_argument("--page", default=os.path.join(HERE, "vickrey.html"))
+    parser.add_argument("--again", action="store_true")
     parser.add_argument("--pictures")
     parser.add_argument("--only", choices=sorted(BROWSERS))
     parser.add_argument("--trial", default="")
@@ -116,9 +129,13 @@ def main():
     table = Table(words.trial)
     try:
         made = Made(words.program, folder)
+        page = os.path.realpath(words.page)
+        if words.again:
+            page = os.path.join(folder, "vickrey.html")
+            assemble_again(page)
         for name, kind in BROWSERS.items():
             if words.only in (None, name):
-                try_browser(kind, table, os.path.realpath(words.page), made, pictures)
+                try_browser(kind, table, page, made, pictures)
     finally:
         shutil.rmtree(folder, ignore_errors=True)
     print(f"{table.passed} passed, {table.failed} failed")
