@@ -16,7 +16,9 @@ import os
 import re
 import sys
 
-SCRIPTS = ("module", "work", "sentences", "fields", "parts", "check", "bid", "audit", "page")
+SCRIPTS = (
+    "module", "work", "sentences", "kinds", "amounts", "fields", "announcement", "announced", "parts",
+    "keep", "way", "outcome", "points", "look", "check", "bid", "audit", "page")
 HERE = os.path.dirname(os.path.abspath(__file__))
 # What would end the element that a text stands in, or be read as another text than the digest's
 ODD = re.compile(rb"</|<!--|\r|\0")

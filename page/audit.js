@@ -1,4 +1,4 @@
-// page/audit.js: the tab Audit. Challenges of several auditors, claim files, two replies, samples.
+// page/audit.js: the tab Audit. Challenges of several auditors, two replies, samples.
 const Audit = (() => {
   const { find, make, typed, given, give } = Fields;
   const { bad } = Sentences;
@@ -25,13 +25,14 @@ const Audit = (() => {
     ];
     const save = place.secretLink(`share-${auditor}`, answer.files.share);
     const list = make("ol", {}, ...steps.map(step));
-    Parts.show(place, answer, [code(publish), line(save), list]);
+    const published = Keep.publish(publish, "your part");
+    Parts.show(place, answer, [published, line(save), list]);
   }
 
   function part(place) {
     const seed = typed("part-seed") || Bid.drawnSeed();
     const numbers = ["id", "auditor", "lanes"].map((name) => typed(`part-${name}`));
-    const more = { wanted: ["share"], secret: seed };
+    const more = { wanted: ["share"], hidden: { 4: "(seed)" } };
     const then = (answer) => drawn(place, answer);
     Parts.command(place, "Drawing", ["coin-part", ...numbers, seed, "share"], {}, more, then);
   }
@@ -58,7 +59,7 @@ const Audit = (() => {
   const SHOW_OF_SHARE = /\nauditor \d+\nshow ([0-9a-f]{64}) ([01]{1,64})\nend\n$/;
 
   async function shareOf(file) {
-    const text = await Fields.headOf(file, 512);
+    const text = await Kinds.headOf(file, 512);
     const head = HEAD_OF_SHARE.exec(text);
     const show = SHOW_OF_SHARE.exec(text);
     if (!head || !show || text.split("\n").length !== 6) {
@@ -87,7 +88,7 @@ const Audit = (() => {
       throw new Unfit(`There are ${shares.length} shares, and ${parts.length} parts.`);
     }
     if (shares.some(({ auction }) => auction !== first.auction)) {
-      throw new Unfit("The shares are of several auctions.");
+      throw new Unfit("You chose shares of several auctions. No challenge comes of these.");
     }
     return [...lines, "end", ""].join("\n");
   }
@@ -148,47 +149,6 @@ const Audit = (() => {
     Parts.command(place, "Deriving", words, files, { wanted: ["challenge"] }, then);
   }
 
-  // ---- Claim files
-
-  const CLAIMED =
-    "What it claims, by its own first lines. The numbers n of the kind uniform are the width, " +
-    "the price and the places of the winners; of the kind matching the width, and the woman of " +
-    "each man. Compare them, the id, the lanes and the seats with what was announced.";
-
-  // The first lines of a claim file, before its seals: what it says.
-  const claimed = (head) => head.slice(0, Math.max(0, head.search(/^seal /m)));
-
-  async function claimJudged(place, box, answer, challenge) {
-    const list = [box.item(answer.digest), await Parts.challengeItem("claim", challenge)];
-    const parts = [Parts.checklist(list)];
-    let sentence = Parts.sentenceOf(answer);
-    if (answer.status === 0) {
-      parts.push(...Parts.paragraphs([CLAIMED]), code(claimed(answer.head)));
-      sentence = Parts.weighed(list, sentence);
-    }
-    Parts.show(place, answer, parts, sentence);
-  }
-
-  async function claim(place, box) {
-    const { turn } = place;
-    const challenge = await Parts.challengeOf("claim");
-    if (turn !== place.turn) {
-      return;
-    }
-    if (!challenge) {
-      place.tell(bad("There is no challenge."));
-      return;
-    }
-    const files = {
-      claim: { file: given("claim-claim") },
-      challenge,
-      reply: { file: given("claim-reply") },
-    };
-    const words = ["claim-verify", "claim", "challenge", "reply"];
-    const then = (answer) => claimJudged(place, box, answer, challenge);
-    Parts.command(place, "Checking", words, files, {}, then);
-  }
-
   // ---- Two replies
 
   // What was opened, seat by seat: the value of the first lane, and whether all lanes have it.
@@ -215,7 +175,7 @@ const Audit = (() => {
   async function extract(place) {
     const file = given("extract-board");
     const { turn } = place;
-    const kind = await Fields.kindOf(file).catch(() => "");
+    const { kind } = await Kinds.look(file);
     if (turn !== place.turn) {
       return;
     }
@@ -245,25 +205,24 @@ const Audit = (() => {
 
   // What can be done with a sample at once: the button's words, the tab, and which of its files, by
   // the end of their names, go into which fields there.
-  function usesOf(kind) {
-    const tool = kind === "board" ? "check" : "claim";
+  function usesOf() {
     const one = {
-      [kind === "board" ? "check-board" : "claim-claim"]: "board",
-      [`${tool}-challenge`]: "challenge-1",
-      [`${tool}-reply`]: "reply-1",
+      "check-board": "board",
+      "check-challenge": "challenge-1",
+      "check-reply": "reply-1",
     };
     const two = { "extract-board": "board" };
     REST.forEach((name) => {
       two[`extract-${name}`] = name;
     });
     return [
-      ["Use these to check a reply", kind === "board" ? "check" : "audit", one],
+      ["Use these to check a reply", "check", one],
       ["Use these to extract", "audit", two],
     ];
   }
 
-  function useButtons(kind, start, files) {
-    return usesOf(kind).map(([words, tab, fields]) => {
+  function useButtons(start, files) {
+    return usesOf().map(([words, tab, fields]) => {
       const button = Parts.smallButton(words);
       button.addEventListener("click", () => {
         const given = Object.entries(fields).map(([field, end]) => {
@@ -276,14 +235,14 @@ const Audit = (() => {
     });
   }
 
-  function sampled(place, kind, start, answer) {
+  function sampled(place, start, answer) {
     if (answer.status !== 0) {
       Parts.show(place, answer);
       return;
     }
     const links = Object.entries(answer.files).map(([name, bytes]) => place.link(name, bytes));
     const apart = (elements) => elements.flatMap((element) => [element, " "]);
-    const buttons = useButtons(kind, start, answer.files);
+    const buttons = useButtons(start, answer.files);
     Parts.show(place, answer, [line(...apart(buttons)), line(...apart(links))]);
   }
 
@@ -293,15 +252,13 @@ const Audit = (() => {
     const words = kind === "board" ? ["sample", number] : ["claim-sample", kind, number];
     const start = kind === "board" ? "sample" : "claim";
     const wanted = ["board", ...REST].map((name) => `${start}-${name}`);
-    const then = (answer) => sampled(place, kind, start, answer);
+    const then = (answer) => sampled(place, start, answer);
     Parts.command(place, "Making", words, {}, { wanted, roomSize: ROOM }, then);
   }
 
   function begin() {
-    const box = new Parts.DigestBox("claim", "claim", "the claim file");
     Parts.beginTool("part", part, true);
     Parts.beginTool("join", join);
-    Parts.beginTool("claim", (place) => claim(place, box));
     Parts.beginTool("extract", extract);
     Parts.beginTool("derive", derive);
     Parts.beginTool("sample", sample);

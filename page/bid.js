@@ -1,143 +1,229 @@
-// page/bid.js: the tab Bid. A bid is sealed, and looked for on the board.
+// page/bid.js: a bid is typed, reviewed and sealed; what is made of it is kept. And the bid of two
+// replies is held against its secret.
 const Bid = (() => {
-  const { make, typed, given } = Fields;
-  const { bad, good } = Sentences;
+  const { find, make, typed, given, give, mark, goTo } = Fields;
+  const { odd, bad } = Sentences;
 
   // 64 secret digits of the browser's own generator.
   const drawnSeed = () => Work.digits(crypto.getRandomValues(new Uint8Array(32)));
 
-  const step = (textContent) => make("li", { textContent });
+  // The place below the files that were made, and what is still to be saved of them
+  let kept = null;
+  const waiting = new Set();
 
-  // The two files of a seal, with what is done with each.
-  function sealFiles(place, seat, { secret, seal }) {
-    const links = make("p", { className: "doing" });
-    links.append(place.secretLink(`secret-${seat}`, secret), " ", place.link(`seal-${seat}`, seal));
-    const steps = [
-      `secret-${seat} is yours: it has your bid. Save it now. Show it to nobody but the ` +
-        "auctioneer, and hand it over only when all seals are public: in person, or encrypted to " +
-        "the key that was announced.",
-      `seal-${seat} is for everybody: it shows nothing of your bid. Publish it where the ` +
-        "announcement says, signed or in person, so that all know that it is yours.",
-      "When the board is public, look whether your seal stands on it, below.",
-      "The seed would make both files again. You need it no more once they are saved. Whoever " +
-        "has it knows your bid.",
+  // ---- The review
+
+  // What is sealed: the words of the command, and the highest bid that the auction takes.
+  function reviewed() {
+    const [id, seat, width, lanes] = ["id", "seat", "width", "lanes"].map((name) =>
+      typed(`seal-${name}`),
+    );
+    const { unit } = Amounts.setting;
+    const bid = unit.number(typed("seal-bid"));
+    const most = 2n ** BigInt(width) - 1n;
+    return { id, seat, width, lanes, bid, most, unit };
+  }
+
+  function reviewLines({ seat, bid, most, unit }) {
+    const announced = Announced.now();
+    const name = Announced.nameOf(seat);
+    const lines = [
+      `You bid ${unit.amount(bid)} at seat ${seat}${name && `, ${name}`}. The highest bid that ` +
+        `this auction takes is ${unit.amount(most)}.`,
+      `In words: ${unit.words(bid)}.`,
     ];
-    return [links, make("ol", {}, ...steps.map(step))];
-  }
-
-  function sealed(place, answer) {
-    const done = answer.status === 0;
-    Parts.show(place, answer, done ? sealFiles(place, answer.words[2], answer.files) : []);
-  }
-
-  function seal(place) {
-    const numbers = ["id", "seat", "bid", "width", "lanes"].map((name) => typed(`seal-${name}`));
-    const seed = typed("seal-seed") || drawnSeed();
-    const words = ["seal", ...numbers, seed, "secret", "seal"];
-    const more = { wanted: ["secret", "seal"], secret: seed };
-    Parts.command(place, "Sealing", words, {}, more, (answer) => sealed(place, answer));
-  }
-
-  // ---- Is my seal on the board?
-
-  // The first four lines of a secret
-  const SECRET =
-    /^vickrey-secret 1\nauction ([0-9a-f]{32})\nseat ([1-9]\d{0,4})\nbid (0|[1-9]\d{0,12})\n/;
-
-  // Whether the outcome can be right for a secret's bid: an item of a list. The bid isn't shown.
-  function bidItem(facts, secret) {
-    const what = "my bid and the price";
-    const found = SECRET.exec(secret);
-    if (!found || found[1] !== facts.auction || !facts.seats.includes(found[2])) {
-      return ["wrong", what, "the secret isn't one of this auction and of a seat on the board"];
+    if (announced && announced.reserve !== null && bid < announced.reserve) {
+      const reserve = unit.amount(announced.reserve);
+      lines.push(`It is below the reserve of ${reserve}, so it can't win.`);
     }
-    const [bid, price] = [BigInt(found[3]), BigInt(facts.price)];
-    if (facts.winner === null) {
-      const below = bid < BigInt(facts.reserve);
-      return [below ? "ok" : "wrong", "nothing was sold, and my bid is below the reserve"];
-    }
-    if (found[2] === facts.winner) {
-      return [price <= bid ? "ok" : "wrong", "I won, and the price isn't above my bid"];
-    }
-    return [bid <= price ? "ok" : "wrong", "my bid isn't above the price"];
+    return lines;
   }
 
-  // What the auctioneer's command says of the secret and the seal, in a house of its own.
-  function openedItem({ status, text }) {
-    const line = text.split("\n").find((found) => /^(house|malformed|too long)/.test(found)) || "";
-    return [status === 0 ? "ok" : "wrong", "my secret opens my seal", line];
-  }
+  const hideReview = () => {
+    find("seal-review").hidden = true;
+    find("seal-run").hidden = false;
+  };
 
-  function lookedAt(place, report, list, opened) {
-    const all = opened ? [...list, openedItem(opened)] : list;
-    const wrong = all.some(([state]) => state === "wrong");
-    const sentence = wrong
-      ? bad(
-          "Something isn't as it should be: see the list.",
-          "Complain now, in public, before the challenge is drawn.",
-        )
-      : good(
-          "Your seal stands on the board, unchanged.",
-          "Write the board's digest down before the challenge is drawn.",
-        );
-    const parts = [Parts.checklist(all)];
-    if (opened) {
-      parts.push(Parts.said(place, opened));
-    }
-    Parts.show(place, report, parts, sentence);
-  }
-
-  // Hands seal and secret to the auctioneer's command `submit`, in a house that ends with the call.
-  function openSeal(place, facts, seal, secret, then) {
-    const script =
-      `vickrey-script 1\nannounce ${facts.auction} ${facts.width} ${facts.lanes}\nsubmit ` +
-      `${facts.auction} seal secret\nend\n`;
-    const files = {
-      script: Parts.textFile(script, "made here, of the board's id, width and lanes"),
-      seal: { file: seal },
-      secret: { file: secret },
-    };
-    Parts.command(place, "Opening the seal", ["ceremony", "script"], files, {}, then);
-  }
-
-  async function compare(place, report, seal, secret) {
-    if (report.status !== 0) {
-      Parts.show(place, report);
+  function review(place) {
+    const found = reviewed();
+    if (Announced.now() && found.bid > found.most) {
+      mark(find("seal-bid"), `A bid is at most ${found.unit.amount(found.most)}.`);
+      goTo(find("seal-bid"));
+      place.tell(bad("The bid is higher than this auction takes."));
       return;
     }
-    const facts = Parts.factsOf(report.text);
-    const { item } = await Parts.sealItem(report.head, seal);
-    if (secret) {
-      const list = [item, bidItem(facts, await Fields.headOf(secret, 256))];
-      const then = (opened) => lookedAt(place, report, list, opened);
-      openSeal(place, facts, seal, secret, then);
+    const lines = reviewLines(found).map((textContent) => make("p", { textContent }));
+    find("seal-review-lines").replaceChildren(...lines);
+    find("seal-review").hidden = false;
+    find("seal-run").hidden = true;
+    place.tell(odd("Look whether this is your bid. Nothing is sealed yet."));
+    find("seal-sure").focus();
+  }
+
+  // ---- Sealing, and what is kept
+
+  const step = (textContent) => make("li", { textContent });
+
+  // What is to be done with the two files, with what the announcement says of it.
+  function nextSteps(seat) {
+    const now = Announced.now();
+    const until = (name) =>
+      now && now.deadlines[name] ? ` by ${Announcement.timeSaid(now.deadlines[name])}` : "";
+    const place = now ? `: ${now.place}` : ", where the announcement says";
+    const isKey = now && now.key !== null;
+    const key = isKey ? `encrypted to the key ${now.key}` : "in person, or encrypted";
+    return [
+      `Publish seal-${seat}${until("seals")}${place}, signed or in person, so that all know ` +
+        "that it is yours. It shows nothing of your bid.",
+      `When all seals are public, hand secret-${seat} to the auctioneer, and to nobody else, ` +
+        `${key}${until("secrets")}.`,
+      "When the board is public, look whether your seal stands on it: that is the next step.",
+    ];
+  }
+
+  const isSaved = () => waiting.size === 0;
+
+  function tellKept(mood, textContent) {
+    Object.assign(find("keep-told"), { className: `told ${mood}`, textContent });
+  }
+
+  function saved(name) {
+    waiting.delete(name);
+    tellKept(isSaved() ? "good" : "odd", isSaved() ? "Both files are saved: go on." : holdsBack());
+  }
+
+  // Why one can't go on yet.
+  const holdsBack = () => `Save ${[...waiting].join(" and ")} before you go on.`;
+
+  // Hands the two files on to the steps behind.
+  function handOn(seat, { secret, seal }) {
+    give(find("mine-seal"), [new File([seal], `seal-${seat}`)]);
+    give(find("mine-secret"), [new File([secret], `secret-${seat}`)]);
+  }
+
+  async function sealed(place, answer) {
+    if (answer.status !== 0) {
+      Parts.show(place, answer);
+      return;
+    }
+    const seat = answer.words[2];
+    const { secret, seal } = answer.files;
+    const names = [`secret-${seat}`, `seal-${seat}`];
+    names.forEach((name) => waiting.add(name));
+    const cards = await Promise.all([
+      Keep.card(place, names[0], secret, SECRET, () => saved(names[0])),
+      Keep.card(place, names[1], seal, SEAL, () => saved(names[1])),
+    ]);
+    const list = make("ol", { className: "hanging" }, ...nextSteps(seat).map(step));
+    Parts.show(place, answer, [make("div", { className: "pair" }, ...cards), list]);
+    tellKept("odd", holdsBack());
+    handOn(seat, answer.files);
+  }
+
+  const SECRET = "Yours alone: it has your bid, and opens the seal. It can't be had again.";
+  const SEAL = "For everybody: it fixes your bid, and shows nothing of it.";
+
+  // Two secrets that aren't saved would be one too many.
+  function isFree() {
+    if (!isSaved()) {
+      tellKept("bad", `${holdsBack()} Or press 'Throw these files away'.`);
+      find("keep-away").hidden = false;
+    }
+    return isSaved();
+  }
+
+  function seal() {
+    const { id, seat, width, lanes, bid } = reviewed();
+    hideReview();
+    Way.go("keep");
+    if (!isFree()) {
+      return;
+    }
+    kept.clear();
+    tellKept("", "");
+    const seed = typed("seal-seed") || drawnSeed();
+    const words = ["seal", id, seat, String(bid), width, lanes, seed, "secret", "seal"];
+    const more = { wanted: ["secret", "seal"], hidden: { 3: "(bid)", 6: "(seed)" } };
+    Parts.command(kept, "Sealing", words, {}, more, (answer) => sealed(kept, answer));
+  }
+
+  function throwAway() {
+    kept.clear();
+    waiting.clear();
+    Parts.unsaved.clear();
+    ["seal", "secret"].forEach((name) => give(find(`mine-${name}`), []));
+    find("keep-away").hidden = true;
+    tellKept("", "");
+    Way.go("bid");
+  }
+
+  function goOn() {
+    if (isSaved()) {
+      Way.go("look");
     } else {
-      lookedAt(place, report, [item], null);
+      tellKept("bad", holdsBack());
     }
   }
 
-  async function mine(place) {
+  // ---- The seats of the announcement
+
+  // Where seats were announced, one of them is chosen, and not typed.
+  function showSeats(announced) {
+    const chosen = find("seal-seat-of");
+    find("seal-seat-typed").hidden = announced !== null;
+    find("seal-seat-chosen").hidden = announced === null;
+    const seats = announced ? [...announced.seats] : [];
+    const options = seats.map(([seat, name]) => make("option", { value: seat }, `${seat} ${name}`));
+    chosen.replaceChildren(make("option", { value: "" }, "Choose your seat"), ...options);
+    find("seal-seat").value = "";
+    find("seal-unit").textContent = announced ? `, in ${announced.unit.name}` : ", a whole number";
+    hideReview();
+    find("announcement-on").textContent = announced ? "Go on" : "Go on without a file";
+  }
+
+  // ---- Is my bid held?
+
+  async function confront(place) {
     const { turn } = place;
-    const seal = await Fields.copied(given("mine-seal"));
-    const secret = given("mine-secret") && (await Fields.copied(given("mine-secret")));
-    if (turn === place.turn) {
-      const files = { board: { file: given("mine-board") } };
-      const then = (report) => compare(place, report, seal, secret);
-      Parts.command(place, "Reading the board", ["report", "board"], files, {}, then);
-    }
-  }
-
-  function confront(place) {
     const names = ["board", "challenge-1", "reply-1", "challenge-2", "reply-2", "secret"];
     const handed = names.map((name) => [name, { file: given(`confront-${name}`) }]);
+    const look = async ([name, { file }]) => [Sentences.named(name), await Kinds.look(file)];
+    const other = Kinds.apart("auction", await Promise.all([handed[0], handed[5]].map(look)));
+    if (turn !== place.turn) {
+      return;
+    }
+    if (other) {
+      place.tell(odd(other));
+      return;
+    }
     const then = (answer) => Parts.show(place, answer);
     const words = ["confront", ...names];
     Parts.command(place, "Confronting", words, Object.fromEntries(handed), {}, then);
   }
 
   function begin() {
-    Parts.beginTool("seal", seal, true);
-    Parts.beginTool("mine", mine);
+    const place = Parts.beginTool("seal", review);
+    find("seal").addEventListener("input", hideReview);
+    find("seal-sure").addEventListener("click", () => {
+      place.clear();
+      seal();
+    });
+    find("seal-change").addEventListener("click", () => {
+      hideReview();
+      place.clear();
+      find("seal-bid").focus();
+    });
+    find("seal-seat-of").addEventListener("change", ({ target }) => {
+      find("seal-seat").value = target.value;
+    });
+    kept = new Parts.Place(find("keep-work"));
+    find("keep-on").addEventListener("click", goOn);
+    find("keep-away").addEventListener("click", throwAway);
+    Way.guards.keep = () => {
+      tellKept(isSaved() ? "" : "bad", isSaved() ? "" : holdsBack());
+      return isSaved() ? "" : holdsBack();
+    };
+    Announced.onChange(showSeats);
     Parts.beginTool("confront", confront);
   }
 

@@ -51,6 +51,8 @@ class Browser:
     """A browser that runs, with one page open. A method answers when the browser has done it."""
 
     name = ""
+    # Whether a file was saved since it began
+    has_saved = False
 
     def __init__(self, command, environment=()):
         self.folder = tempfile.mkdtemp(prefix="browser-")
@@ -130,6 +132,7 @@ class Browser:
 
     def downloaded(self, name, patience=PATIENCE):
         """The bytes of a file of that name which the page has handed out. It is removed."""
+        self.has_saved = True
         path = os.path.join(self.downloads, name)
         parts = (".part", ".crdownload")
         whole = lambda: os.path.exists(path) and not any(
@@ -418,6 +421,18 @@ ELEMENT = "element-6066-11e4-a52e-4f735466cecf"
 
 FIREFOX_SETTINGS = {
     "marionette.port": 0,
+    "fission.autostart": False,
+    "dom.ipc.processCount": 1,
+    "dom.ipc.processPrelaunch.enabled": False,
+    "extensions.webextensions.remote": False,
+    "browser.newtabpage.enabled": False,
+    "browser.safebrowsing.malware.enabled": False,
+    "browser.safebrowsing.phishing.enabled": False,
+    "browser.region.update.enabled": False,
+    "media.rdd-process.enabled": False,
+    "media.gmp-manager.updateEnabled": False,
+    "network.process.enabled": False,
+    "services.settings.server": "data:,",
     "browser.shell.checkDefaultBrowser": False,
     "browser.startup.page": 0,
     "datareporting.policy.dataSubmissionEnabled": False,
@@ -532,6 +547,8 @@ class Firefox(Browser):
         return self.ask("WebDriver:FindElement", using="css selector", value=selector)[ELEMENT]
 
     def choose(self, selector, *paths):
+        # Marionette adds to the files of a field that takes several.
+        self.run("document.querySelector(arguments[0]).value = ''", selector)
         self.ask("WebDriver:ElementSendKeys", id=self.element(selector), text="\n".join(paths))
 
     def press(self, *keys):

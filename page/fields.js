@@ -39,6 +39,13 @@ const Fields = (() => {
   const within = (least, most) => (text) => decimal(text) && +text >= least && +text <= most;
   const below64 = (text) => decimal(text) && BigInt(text) < 2n ** 64n;
 
+  // A bid is an amount of the announced unit, or a whole number where none is announced.
+  const isPlain = () => Amounts.setting.unit === Amounts.PLAIN;
+  const isBid = (text) =>
+    isPlain() ? below64(text) : Amounts.setting.unit.number(text) !== null && text.length <= 30;
+  const PLAIN_BID = "a whole number, with no point in it and no 0 in front";
+  const bidForm = () => (isPlain() ? PLAIN_BID : Amounts.setting.unit.form());
+
   // What may stand in a field, and how that is said.
   const FORMS = {
     id: [(text) => /^[0-9a-f]{32}$/.test(text), "32 digits, 0 to 9 and a to f"],
@@ -47,7 +54,7 @@ const Fields = (() => {
     width: [within(1, 40), "a whole number from 1 to 40"],
     lanes: [within(1, 64), "a whole number from 1 to 64"],
     auditor: [within(1, 16), "a whole number from 1 to 16"],
-    bid: [below64, "a whole number, with no point in it and no 0 in front"],
+    bid: [isBid, bidForm],
     number: [below64, "a whole number below 2^64"],
     reserve: [(text) => text === "none" || below64(text), "a whole number, or the word none"],
     bits: [(text) => /^[01]{1,64}$/.test(text), "1 to 64 characters, each 0 or 1"],
@@ -105,7 +112,8 @@ const Fields = (() => {
       return needed ? "This is needed." : "";
     }
     const [holds, form] = FORMS[field.dataset.form] || [() => true, ""];
-    return holds(text) ? "" : `This has to be ${form}.`;
+    const said = typeof form === "function" ? form() : form;
+    return holds(text) ? "" : `This has to be ${said}.`;
   }
 
   // Gives a field the focus, where it may be in a part that is closed.
@@ -117,25 +125,26 @@ const Fields = (() => {
     field.focus();
   }
 
+  // The field that people see in the place of one, where that is another.
+  function seen(field) {
+    const other = find(field.dataset.shownAs);
+    return other && !other.closest("[hidden]") ? other : field;
+  }
+
   // Whether all fields of a form may stand. If not, the first that may not gets the focus.
   function mayRun(form) {
     const faulty = [...form.querySelectorAll("input, textarea")].filter((field) => {
       const fault = faultOf(field);
-      mark(field, fault);
+      mark(seen(field), fault);
       return fault;
     });
     if (faulty.length) {
-      goTo(faulty[0]);
+      goTo(seen(faulty[0]));
     }
     return faulty.length === 0;
   }
 
   // ---- Files that are chosen or dropped
-
-  // The first bytes of a file as a text of one letter for each byte, whatever they are.
-  async function headOf(file, most) {
-    return new TextDecoder("latin1").decode(await file.slice(0, most).arrayBuffer());
-  }
 
   const SMALL = 1024 * 1024;
 
@@ -144,42 +153,47 @@ const Fields = (() => {
     return file.size > SMALL ? file : new File([await file.arrayBuffer()], file.name);
   }
 
-  // What a file says that it is, by its first line: a word, or nothing.
-  async function kindOf(file) {
-    const found = /^vickrey-([a-z]{4,9}) [1-9]/.exec(await headOf(file, 40));
-    return found ? found[1] : "";
-  }
-
   const kindsOf = (field) => field.dataset.kind.split(" ");
 
-  // What there is to say against a file in a field; nothing if its first line suits.
-  async function against(file, wanted) {
-    const kind = await kindOf(file).catch(() => null);
-    if (kind === null) {
-      return "It can't be read: it is gone, or it is a folder.";
-    }
-    if (wanted.includes(kind)) {
-      return "";
-    }
-    const list = wanted.map((name) => `a ${name}`).join(" or ");
-    return kind
-      ? `Its first line says that it is a ${kind}, and not ${list}.`
-      : `Its first line doesn't say that it is ${list}.`;
+  // What belongs in a field for files, for people: by the end of its name, as the program has it.
+  function placeOf(field) {
+    const own = Sentences.named(field.id.replace(/^[a-z]+-/, ""));
+    return kindsOf(field).includes("claim") ? "the board or claim file" : own;
   }
 
-  // Says below a field which files are in it, and what there is against them.
+  // What the files of a field are; of each whether it belongs there, and what is said of it.
+  async function looked(field) {
+    const found = await Promise.all([...field.files].map(Kinds.look));
+    return found.map((look) => ({ look, ...Kinds.told(look, kindsOf(field), placeOf(field)) }));
+  }
+
+  // Says below a field what the files in it are.
   async function tellFiles(field) {
     const told = find(`${field.id}-told`);
     const files = [...field.files];
     field.parentElement.classList.toggle("held", files.length > 0);
-    told.className = "told";
-    const shown = files.flatMap((file) => [quoted(file.name), `, ${sized(file.size)}. `]);
-    told.replaceChildren(...shown);
-    const faults = await Promise.all(files.map((file) => against(file, kindsOf(field))));
-    if (field.files[0] === files[0] && faults.some(Boolean)) {
-      told.append([...new Set(faults)].join(" "));
-      told.classList.add("bad");
+    const found = await looked(field);
+    if (field.files.length !== files.length || field.files[0] !== files[0]) {
+      return;
     }
+    const fits = found.every((each) => each.fits);
+    told.className = fits ? "told" : "told odd";
+    const line = (file, { text }) => [quoted(file.name), `, ${sized(file.size)}. ${text} `];
+    told.replaceChildren(...files.flatMap((file, place) => line(file, found[place])));
+  }
+
+  // The sentence where a form has another file than belongs there; its field gets the focus.
+  async function otherFile(form) {
+    for (const field of form.querySelectorAll("input[type=file]")) {
+      for (const { look } of await looked(field)) {
+        const text = Kinds.other(look, kindsOf(field), placeOf(field));
+        if (text) {
+          goTo(field);
+          return text;
+        }
+      }
+    }
+    return null;
   }
 
   function give(field, files) {
@@ -215,14 +229,24 @@ const Fields = (() => {
     return fitting.find((field) => field.files.length === 0) || fitting[0];
   }
 
+  // Whether a seal can be one's own, where one's seat is known.
+  function isOwn(seat) {
+    const own = find("seal-seat").value;
+    return own === "" || own === seat;
+  }
+
+  // The field of the announcement, which stands above all tools.
+  const above = () => find("announced-announcement");
+
   // Gives dropped files to the fields of a form, by their first lines, in the order of their names.
   async function share(form, files) {
     const order = new Intl.Collator("en", { numeric: true });
     const taken = new Map();
     const left = [];
     for (const file of files.sort((one, other) => order.compare(one.name, other.name))) {
-      const field = fieldFor(form, await kindOf(file).catch(() => ""), taken);
-      if (field) {
+      const { kind, seat } = await Kinds.look(file);
+      const field = kind === "announcement" ? above() : form && fieldFor(form, kind, taken);
+      if (field && (kind !== "seal" || field.multiple || isOwn(seat))) {
         taken.set(field, [...(taken.get(field) || []), file]);
       } else {
         left.push(plain(file.name));
@@ -230,7 +254,8 @@ const Fields = (() => {
     }
     taken.forEach((held, field) => give(field, held));
     const names = left.slice(0, 5).join(", ");
-    const rest = left.length ? ` Not taken, by their first lines: ${names}.` : "";
+    const why = form ? "by their first lines" : "since they belong on a tool of this page";
+    const rest = left.length ? ` Not taken, ${why}: ${names}.` : "";
     notice(`Taken: ${files.length - left.length} of ${files.length} files.${rest}`, rest && "bad");
   }
 
@@ -238,7 +263,8 @@ const Fields = (() => {
 
   // The form that something was dropped on: where a tab has one alone, that one.
   function formAt(target) {
-    const forms = document.querySelectorAll("[role=tabpanel]:not([hidden]) form.tool");
+    const all = document.querySelectorAll("[role=tabpanel]:not([hidden]) form.tool");
+    const forms = [...all].filter((form) => form.getClientRects().length);
     return target.closest("form.tool") || (forms.length === 1 ? forms[0] : null);
   }
 
@@ -252,8 +278,6 @@ const Fields = (() => {
       notice("A folder can't be taken: drop the files that are in it.", "bad");
     } else if (files.length === 0) {
       notice("Nothing was taken: what was dropped is no file.", "bad");
-    } else if (!form) {
-      notice("Nothing was taken: drop the files on the part of the page that they are for.", "bad");
     } else if (box && files.length === 1) {
       notice("");
       give(box.querySelector("input"), files);
@@ -279,7 +303,7 @@ const Fields = (() => {
   }
 
   return {
-    find, make, sized, quoted, notice, typed, given, mark, goTo, mayRun, headOf, copied, kindOf,
-    give, beginFile, beginDrops, isTooLong: (file) => file.size > MOST_BYTES,
+    find, make, sized, quoted, notice, typed, given, mark, goTo, mayRun, copied, otherFile, give,
+    tellFiles, beginFile, beginDrops, isTooLong: (file) => file.size > MOST_BYTES,
   };
 })();

@@ -12,6 +12,7 @@ const Page = (() => {
       tab.tabIndex = chosen ? 0 : -1;
       find(tab.getAttribute("aria-controls")).hidden = !chosen;
     });
+    Way.chosen(name);
     notice("");
   }
 
@@ -78,8 +79,9 @@ const Page = (() => {
     Parts.setting.queue = new Work.Queue(workerAddress(script));
     document.querySelectorAll(".file").forEach(Fields.beginFile);
     Fields.beginDrops();
-    [Check, Bid, Audit].forEach((part) => part.begin());
+    [Announced, Check, Bid, Look, Audit].forEach((part) => part.begin());
     beginTabs();
+    Way.begin();
     askBeforeLeaving();
     tryModule();
   }

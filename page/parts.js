@@ -2,8 +2,9 @@
 //
 // Texts go in by textContent alone; the policy refuses any other way.
 const Parts = (() => {
-  const { find, make, sized, quoted, typed, given, mark, mayRun, headOf, isTooLong } = Fields;
-  const { good, bad, odd } = Sentences;
+  const { find, make, sized, quoted, typed, given, mark, mayRun, isTooLong } = Fields;
+  const { headOf } = Kinds;
+  const { bad, odd } = Sentences;
   const SHOWN_LINES = 400;
 
   // ---- Work in a Worker, and how it goes
@@ -44,6 +45,7 @@ const Parts = (() => {
       this.form = element.closest("form");
       this.jobs = [];
       this.addresses = [];
+      this.secrets = [];
       this.turn = 0;
       this.stop.addEventListener("click", () => this.stopped());
     }
@@ -65,7 +67,7 @@ const Parts = (() => {
 
     stopped() {
       this.cease("Stopped. Nothing was found out.");
-      this.form.querySelector("button[type=submit]").focus();
+      this.form?.querySelector("button[type=submit]").focus();
     }
 
     // Stops what runs or waits here, and says why; false if nothing did.
@@ -83,7 +85,18 @@ const Parts = (() => {
       this.cease("");
       this.tell({ mood: "", title: "" });
       this.addresses.splice(0).forEach((address) => URL.revokeObjectURL(address));
+      this.secrets.splice(0).forEach((link) => unsaved.delete(link));
       this.result.replaceChildren();
+    }
+
+    // Takes away what is shown, but for what has a secret that isn't saved.
+    tidy() {
+      this.cease("");
+      for (const shown of [...this.result.children]) {
+        if (![...unsaved].some((link) => shown.contains(link))) {
+          shown.remove();
+        }
+      }
     }
 
     // A link that saves bytes as a file of that name.
@@ -95,8 +108,9 @@ const Parts = (() => {
     }
 
     // The same of a secret: who leaves the page without it is asked whether that is meant.
-    secretLink(name, bytes) {
-      const link = this.link(name, bytes);
+    secretLink(name, bytes, text) {
+      const link = this.link(name, bytes, text);
+      this.secrets.push(link);
       unsaved.add(link);
       link.addEventListener("click", () => unsaved.delete(link));
       return link;
@@ -184,13 +198,13 @@ const Parts = (() => {
   // with its `file`, and `from` where that was made on this page. Of the first the answer has the
   // digest and the head too.
   function command(place, doing, words, files, more, then) {
-    const { wanted = [], roomSize = 16 * 1024 * 1024, secret = null } = more;
+    const { wanted = [], roomSize = 16 * 1024 * 1024, hidden = {} } = more;
     const held = Object.entries(files).map(([name, { file }]) => [name, file]);
     const size = held.reduce((sum, [, file]) => sum + file.size, 0);
     const main = held.length ? held[0][0] : null;
     const message = commandMessage({ words, files: held, main, wanted, roomSize });
     const { turn } = place;
-    const tell = (answer) => then({ ...answer, words, handed: files, secret, turn });
+    const tell = (answer) => then({ ...answer, words, handed: files, hidden, turn });
     return new Job(place, doing, message, size, tell);
   }
 
@@ -253,21 +267,24 @@ const Parts = (() => {
     return make("li", {}, ...parts);
   }
 
-  // The words of a command. One that is secret is shown when that is asked for.
-  function wordsShown(words, secret) {
+  // The words of a command. Those that are secret, by their places, are shown when that is asked
+  // for.
+  function wordsShown(words, hidden) {
     const line = (hides) => {
-      const shown = words.map((word) => (hides && word === secret ? "(seed)" : word));
+      const shown = words.map((word, place) => (hides && hidden[place]) || word);
       return `vickrey ${shown.join(" ")}`;
     };
     const code = make("code", { className: "words", textContent: line(true) });
-    if (!secret) {
+    const names = Object.values(hidden).map((name) => name.slice(1, -1));
+    if (!names.length) {
       return [code];
     }
-    const button = smallButton("Show the seed");
+    const what = names.map((name) => `the ${name}`).join(" and ");
+    const button = smallButton(`Show ${what}`);
     button.addEventListener("click", () => {
       const hides = code.textContent === line(false);
       code.textContent = line(hides);
-      button.textContent = hides ? "Show the seed" : "Hide the seed";
+      button.textContent = `${hides ? "Show" : "Hide"} ${what}`;
     });
     return [code, " ", button];
   }
@@ -294,11 +311,10 @@ const Parts = (() => {
   }
 
   // The words, the status and the lines of an answer, as they are.
-  function said(place, { words, status, text, handed, secret, digest }) {
+  function said(place, { words, status, text, handed, hidden, digest }) {
     const shown = make("strong", { className: "status", textContent: Sentences.status(status) });
     const parts = [
-      make("h3", { textContent: "What the program said" }),
-      make("p", {}, "Words: ", ...wordsShown(words, secret)),
+      make("p", {}, "Words: ", ...wordsShown(words, hidden)),
       make("p", {}, "Status: ", shown),
     ];
     const files = Object.entries(handed);
@@ -313,18 +329,22 @@ const Parts = (() => {
 
   const sentenceOf = ({ words, status, text }) => Sentences.explain(words[0], status, text);
 
-  // Shows an answer: its sentence, more parts if there are any, and what the program said.
-  function show(place, answer, parts = [], sentence = sentenceOf(answer)) {
+  // Shows an answer: its sentence, more parts if there are any, and folded away what the program
+  // said of it and of `others`.
+  function show(place, answer, parts = [], sentence = sentenceOf(answer), others = []) {
     if (answer.turn !== place.turn) {
       return;
     }
     place.tell(sentence);
     const head = place.keeps ? [make("h3", { textContent: sentence.title })] : [];
-    const all = [...head, ...paragraphs(sentence.more), ...parts, said(place, answer)];
+    const summary = make("summary", { textContent: "What the program said" });
+    const answers = [answer, ...others].map((each) => said(place, each));
+    const exact = make("details", {}, summary, ...answers);
+    const all = [...head, ...paragraphs(sentence.more), ...parts, exact];
     place.result.prepend(make("div", { className: "result" }, ...all));
   }
 
-  const STATES = { ok: "ok", wrong: "FAILED", open: "not compared" };
+  const STATES = { ok: "ok", wrong: "FAILED", open: "not compared", missing: "not here" };
 
   // A list of what was compared: each item has a state, what it is about, and perhaps a note.
   function checklist(items) {
@@ -333,20 +353,6 @@ const Parts = (() => {
       return make("li", { className: state }, shown, ` ${what}`, note ? `: ${note}` : "");
     });
     return make("ul", { className: "checklist" }, ...rows);
-  }
-
-  // The sentence for what is accepted: what was compared beside it counts as much.
-  function weighed(list, sentence) {
-    const number = (state) => list.filter(([found]) => found === state).length;
-    const [wrong, open] = [number("wrong"), number("open")];
-    if (wrong) {
-      return bad(`The reply is accepted, but don't rely on it: ${wrong} FAILED in the list below.`);
-    }
-    if (open) {
-      const title = `The reply is accepted. Of the list below, ${open} are not compared.`;
-      return odd(title, ...sentence.more);
-    }
-    return good("The reply is accepted, and all that was announced agrees.", ...sentence.more);
   }
 
   function table(caption, heads, rows) {
@@ -370,6 +376,20 @@ const Parts = (() => {
 
   const CHANGED = "Something here was changed since. Press the button again.";
 
+  // Runs a tool, unless one of its files is another one than belongs there.
+  async function runWith(place, run) {
+    const { turn } = place;
+    const other = await Fields.otherFile(place.form);
+    if (turn !== place.turn) {
+      return;
+    }
+    if (other) {
+      place.tell(odd(other));
+    } else {
+      await run(place);
+    }
+  }
+
   // A tool is a form with a place below it. What it showed goes when something in it is changed,
   // but not where it `keeps` what it made.
   function beginTool(id, run, keeps = false) {
@@ -378,12 +398,12 @@ const Parts = (() => {
     form.addEventListener("submit", (event) => {
       event.preventDefault();
       if (keeps) {
-        place.cease("");
+        place.tidy();
       } else {
         place.clear();
       }
       if (mayRun(form)) {
-        place.follow(() => run(place));
+        place.follow(() => runWith(place, run));
       } else {
         place.tell(bad("Something above is missing, or isn't of its form."));
       }
@@ -418,20 +438,6 @@ const Parts = (() => {
     mark(find(`${id}-bits`), "Type the bits, or choose the challenge as a file.");
     Fields.goTo(find(`${id}-bits`));
     return null;
-  }
-
-  // Whether the bits that were typed are those of the challenge: an item of a list.
-  async function challengeItem(id, { file, from }) {
-    const what = "the challenge is the one that the challenger published";
-    const bits = typed(`${id}-bits`);
-    if (!bits) {
-      return ["open", what, "type the bits, as they were published"];
-    }
-    if (from) {
-      return ["ok", what, "as you typed it"];
-    }
-    const same = (await headOf(file, 256)) === challengeText(bits);
-    return same ? ["ok", what] : ["wrong", what, "the file has other bits than you typed"];
   }
 
   // ---- Digests
@@ -471,22 +477,8 @@ const Parts = (() => {
     show(file, digest) {
       this.found = digest;
       const shown = make("code", { className: "digest", textContent: digest });
-      const text = `SHA-256 digest of ${this.what}'s ${file.size.toLocaleString("en")} bytes: `;
-      this.place.result.prepend(make("p", {}, text, shown));
+      this.place.result.prepend(make("p", {}, "SHA-256 digest of these bytes: ", shown));
       this.compare();
-    }
-
-    // Whether the digest of the bytes that were judged is the published one: an item of a list.
-    item(judged) {
-      const what = `${this.what}'s digest is the one that was public before the draw`;
-      const { text, digest } = publishedDigest(`${this.id}-digest`);
-      if (!text) {
-        return ["open", what, "type the published digest"];
-      }
-      if (!digest) {
-        return ["wrong", what, "what is typed is no digest of 64 digits"];
-      }
-      return digest === judged ? ["ok", what] : ["wrong", what, `this one is ${judged}`];
     }
 
     compare() {
@@ -539,27 +531,39 @@ const Parts = (() => {
     return [...first, ...digests, "end", ""].join("\n");
   }
 
-  // Whether the seal in a file stands in the head of a board: an item of a list, and its seat.
-  async function sealItem(head, file) {
-    const text = await headOf(file, SEAL_BYTES);
-    const found = /^vickrey-seal 1\nauction [0-9a-f]{32}\nseat ([1-9][0-9]{0,4})\n/.exec(text);
-    if (!found) {
-      const item = ["wrong", "my seal stands on the board", "the file isn't a seal"];
-      return { seat: null, item };
-    }
-    const seat = found[1];
+  // Whether the seal of this text stands in the head of a board: an item of a list.
+  function sealItem(head, text) {
+    const seat = /\nseat ([1-9][0-9]{0,4})\n/.exec(text)[1];
     const what = `the seal of seat ${seat} stands on the board`;
     const onBoard = sealOnBoard(head, seat);
     if (onBoard === null) {
-      return { seat, item: ["wrong", what, "the board has none at that seat"] };
+      return ["wrong", what, "the board has none at that seat"];
     }
-    const same = onBoard === text && file.size <= SEAL_BYTES;
-    return { seat, item: same ? ["ok", what] : ["wrong", what, "the board has another one there"] };
+    return onBoard === text ? ["ok", what] : ["wrong", what, "the board has another one there"];
+  }
+
+  // The text of a seal's file, and why that is no whole seal, or null.
+  async function sealOf(file) {
+    const text = await headOf(file, SEAL_BYTES);
+    const fault = Kinds.faultOfSeal(text);
+    const damaged =
+      `You chose a damaged seal: line ${fault} isn't what it has to be. Get it again as a file. ` +
+      Kinds.NOTHING;
+    return { text, fault, other: fault ? damaged : null };
+  }
+
+  // The seals of a board, each as a link that saves it as a file.
+  function sealsOf(place, head) {
+    const links = head.seats.map((seat) => {
+      const bytes = new TextEncoder().encode(head.sealText(seat));
+      return place.link(`seal-${seat}-on-board`, bytes, `Save the seal of seat ${seat}`);
+    });
+    return [make("p", { className: "doing" }, ...links.flatMap((link) => [link, " "]))];
   }
 
   return {
     Place, DigestBox, setting, unsaved, paragraphs, smallButton, command, moduleJob, show, said,
-    sentenceOf, checklist, weighed, table, beginTool, textFile, challengeOf, challengeItem, factsOf,
-    sealOnBoard, sealItem,
+    sentenceOf, checklist, table, beginTool, textFile, challengeOf, publishedDigest, factsOf,
+    sealItem, sealOf, sealsOf,
   };
 })();

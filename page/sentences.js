@@ -22,6 +22,7 @@ const Sentences = (() => {
 
   // The names that the page gives to files, in the words of people.
   const NAMES = {
+    announcement: "the announcement",
     board: "the board",
     claim: "the claim file",
     challenge: "the challenge",
@@ -31,6 +32,10 @@ const Sentences = (() => {
     "reply-1": "the first reply",
     "reply-2": "the second reply",
     secret: "the secret",
+    seal: "the seal",
+    seals: "a seal",
+    share: "a share",
+    shares: "a share",
     coin: "the coin",
   };
 
@@ -154,9 +159,8 @@ const Sentences = (() => {
 
   // What a command says that was done, by its name and its lines.
   const DONE = {
-    verify: () => good("Accepted: the reply fits the board and the challenge.", FORESEEN),
-    "claim-verify": () =>
-      good("Accepted: the reply fits the claim file and the challenge.", FORESEEN),
+    verify: () => good("Accepted: the reply fits the board and the challenge."),
+    "claim-verify": () => good("Accepted: the reply fits the claim file and the challenge."),
     report: () => good("The file is a whole board."),
     seal: ([line]) =>
       good(
@@ -276,5 +280,5 @@ const Sentences = (() => {
 
   const status = (number) => `${number} (${STATUSES[number] || "unknown"})`;
 
-  return { explain, fault, status, named, good, bad, odd };
+  return { explain, fault, status, named, good, bad, odd, FORESEEN };
 })();

@@ -10,9 +10,9 @@ wants Debian's packages chromium and firefox-esr, and Python's standard library.
   --again     the page of the scripts as they are now, with the module of page/vickrey.html
   --pictures  a folder for a picture of each tab: in light, in dark, and on a phone
   --only      chromium or firefox alone
-  --trial     only the trials whose names have this in them
+  --trial     only the trials whose names have this in them, or one of several with commas
 
-Each trial has a browser of its own, with a new profile. It prints a line for each trial, and ends
+A trial that saves files has a browser of its own, with a new profile. It prints a line for each trial, and ends
 with status 0 only if none failed.
 """
 import argparse
@@ -25,12 +25,16 @@ import traceback
 
 from assemble import assemble_again
 from browser import BROWSERS, Chromium, Firefox
+from trials.announced import ANNOUNCED
+from trials.audit import AUDIT
 from trials.desk import Desk
 from trials.hostile import HOSTILE, Listener
+from trials.kinds import KINDS
 from trials.made import Made
 from trials.poor import POOR
 from trials.reach import REACH, take_pictures
 from trials.use import USE, digests_without_the_browser
+from trials.way import WAY
 from trials.workers import WORKERS, practice_gives_way
 
 HERE = os.path.dirname(os.path.abspath(__file__))
@@ -44,7 +48,7 @@ class Table:
         self.passed = self.failed = 0
 
     def row(self, browser, trial, *words):
-        if self.wanted not in trial.__name__:
+        if not any(word in trial.__name__ for word in self.wanted):
             return
         began = time.monotonic()
         try:
@@ -90,24 +94,50 @@ def without_a_secure_context(kind, table, page, made):
         listener.close()
 
 
-def at_desk(kind, address, made, trial):
-    """A trial in a browser that nobody used before."""
+class Desks:
+    """A desk for each trial. A browser serves the next one too, unless it saved files or a trial
+    failed in it: then what is left of that could hold up what follows."""
 
-    def trial_of(*words):
-        with kind() as browser:
-            browser.resize(1100, 900)
-            trial(Desk(browser, address, made), *words)
+    def __init__(self, kind, address, made):
+        self.kind, self.address, self.made = kind, address, made
+        self.browser = None
 
-    trial_of.__name__ = trial.__name__
-    return trial_of
+    def __enter__(self):
+        return self
+
+    def __exit__(self, *fault):
+        self.leave()
+
+    def leave(self):
+        if self.browser:
+            self.browser.close()
+        self.browser = None
+
+    def row(self, table, trial, *words):
+        def trial_of():
+            self.browser = self.browser or self.kind()
+            self.browser.resize(1100, 900)
+            try:
+                trial(Desk(self.browser, self.address, self.made), *words)
+            except BaseException:
+                self.leave()
+                raise
+            if self.browser.has_saved:
+                self.leave()
+
+        trial_of.__name__ = trial.__name__
+        table.row(self.kind.name, trial_of)
 
 
 def try_browser(kind, table, page, made, pictures):
     address = f"file://{page}"
-    for trial in [*USE, digests_without_the_browser, *REACH, *HOSTILE, *WORKERS]:
-        table.row(kind.name, at_desk(kind, address, made, trial))
-    if pictures:
-        table.row(kind.name, at_desk(kind, address, made, take_pictures), pictures)
+    with Desks(kind, address, made) as desks:
+        for trial in [*USE, digests_without_the_browser, *KINDS, *ANNOUNCED]:
+            desks.row(table, trial)
+        for trial in [*WAY, *AUDIT, *REACH, *HOSTILE, *WORKERS]:
+            desks.row(table, trial)
+        if pictures:
+            desks.row(table, take_pictures, pictures)
     without_a_secure_context(kind, table, page, made)
     for trial in [*POOR, practice_gives_way]:
         table.row(kind.name, trial, kind, address, made)
@@ -126,7 +156,7 @@ def main():
     if pictures:
         os.makedirs(pictures, exist_ok=True)
     folder = tempfile.mkdtemp(prefix="page-")
-    table = Table(words.trial)
+    table = Table(words.trial.split(","))
     try:
         made = Made(words.program, folder)
         page = os.path.realpath(words.page)

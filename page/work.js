@@ -417,5 +417,5 @@ const Work = (() => {
     }
   }
 
-  return { serve, Queue, digits };
+  return { serve, Queue, digits, digestOf };
 })();

@@ -56,7 +56,7 @@ class Desk:
     def open(self, tab="check"):
         """Loads the page anew, and goes to a tab of it."""
         self.browser.open("about:blank")
-        self.browser.open(self.address if tab == "check" else f"{self.address}#{tab}")
+        self.browser.open(f"{self.address}#{tab}")
         self.browser.wait(
             "return document.getElementById('module-digest')?.textContent.length === 64"
         )
@@ -79,6 +79,19 @@ class Desk:
         self.fill(tool, **fields)
         self.browser.click(f"#{tool}-run")
         return self.shown(tool)
+
+    def seal(self, **fields):
+        """Fills the step Bid, reviews the bid, and seals it: what is shown then."""
+        self.browser.click("#way-bid")
+        shown = self.use("seal", **fields)
+        if not shown.title.startswith("Look whether"):
+            return shown
+        self.browser.click("#seal-sure")
+        return self.shown("keep")
+
+    def keep(self, seat):
+        """Saves the two files of a bid, and answers their bytes."""
+        return [self.save("keep", f"{name}-{seat}") for name in ("secret", "seal")]
 
     def stop_sample(self, before=lambda: None):
         """Stops a sample: what `before` said, what was noted as it was stopped, and what is shown.

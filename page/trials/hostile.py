@@ -105,14 +105,14 @@ def workers_ask_for_nothing(desk):
     listener, other = Listener(), Listener()
     automatic = dict(waitForDebuggerOnStart=True, flatten=True)
     try:
-        desk.open("bid").fill("seal", id=ID, seat=7, bid=1, width=6, lanes=LANES)
+        desk.open("step-bid").use("seal", id=ID, seat=7, bid=1, width=6, lanes=LANES)
         desk.browser.wait("return Boolean(Parts.setting.queue.spare)")
         desk.browser.ask("Target.setAutoAttach", autoAttach=True, **automatic)
         in_the_worker(desk.browser, listener.port)
-        desk.browser.click("#seal-run")
+        desk.browser.click("#seal-sure")
         assert not asked(listener, 1), listener.asked
-        desk.run("document.querySelector('#seal-work .row button').click()")
-        assert desk.shown("seal").title.startswith("Stopped")
+        desk.run("document.querySelector('#keep-work .row button').click()")
+        assert desk.shown("keep").title.startswith("Stopped")
         open_bare(desk)
         desk.run(
             "const script = new Blob(['globalThis.Work = {}']);"
@@ -175,7 +175,8 @@ def names_are_texts(desk):
 
 
 def odd_files_are_refused(desk):
-    """No file, whatever is in it, is taken for what it isn't, and none hangs the page."""
+    """No file, whatever is in it, is taken for what it isn't, and none hangs the page. Where the page
+    says that it is another file, the program would refuse it too."""
     for name in ("empty", "noise", "text", "only-end", "seal-7", "challenge-0110"):
         desk.open()
         for place in ("board", "reply", "challenge"):
@@ -183,14 +184,17 @@ def odd_files_are_refused(desk):
             if (place, name) == ("challenge", "challenge-0110"):
                 continue
             shown = desk.use("check", **fields)
-            assert shown.said.status == 4 and shown.mood == "bad", (name, place, shown)
-            desk.agrees(shown, **named(fields))
+            assert shown.mood == "odd" and shown.said is None, (name, place, shown)
+            assert shown.title.startswith("You chose another file in the place of"), shown
+            words = ["verify", "board", "challenge", "reply"]
+            assert desk.made.said(words, named(fields)).status == 4, (name, place)
             told = desk.browser.text(f"#check-{place}-told")
-            assert "Its first line" in told, told
+            assert "You chose another file" in told, told
 
 
 def long_files_are_told(desk):
-    """100 MB of noise, 100 MB that begin as a board, and more than any file may have."""
+    """100 MB of noise below the first line of the kind, 100 MB that begin as a board, and more than
+    any file may have."""
     made = desk.made
     start = made.bytes("board").decode()
     lane = start[start.index("lane 1\n") :].encode()
@@ -200,12 +204,13 @@ def long_files_are_told(desk):
     }
     cases["long-board"] += lane * (HUNDRED_MB // len(lane))
     for name, data in cases.items():
-        made.put(name, data)
+        made.put(name, b"vickrey-board 1\n" + data if name == "long-noise" else data)
         fields = dict(ACCEPTED, board=[name])
         shown = desk.open().use("check", **fields)
         desk.agrees(shown, **named(fields))
         assert shown.mood == "bad" and shown.said.status == 4, shown
         assert made.digest(name) in desk.browser.text("#check-board-work")
+        made.put(name, b"vickrey-reply 1\n" + data)
         fields = dict(ACCEPTED, reply=[name])
         shown = desk.open().use("check", **fields)
         desk.agrees(shown, **named(fields))
@@ -243,7 +248,7 @@ def files_may_change(desk):
     shown = desk.use("check")
     assert shown.mood == "bad", shown
     if shown.said:
-        assert shown.item("digest") == "wrong" and shown.item("was chosen") == "wrong", shown.list
+        assert shown.item("digest is") == "wrong", shown.list
     else:
         assert "can't be read" in shown.title, shown
 
@@ -268,11 +273,13 @@ def drops_find_their_fields(desk):
         ["challenge-0110"],
         ["reply-0110"],
         ["seal-9"],
+        [],
+        [],
     ]
     assert desk.use("check").said.status == 0
     drop(desk, "#check-board", ["text"])
     desk.browser.wait(
-        "return document.getElementById('check-board-told').textContent.includes('first line')"
+        "return document.getElementById('check-board-told').textContent.includes('another file')"
     )
     desk.browser.click("#tab-audit")
     drop(
@@ -289,7 +296,7 @@ def drops_find_their_fields(desk):
     drop(desk, "#join", [], "no file")
     assert "is no file" in desk.run(notice)
     drop(desk, "footer", ["board"])
-    assert "part of the page" in desk.run(notice)
+    desk.browser.wait(f"{notice}.includes('belong on a tool')")
 
 
 def real_drops_are_taken(desk):
@@ -309,7 +316,7 @@ def real_drops_are_taken(desk):
     desk.browser.wait(f"{notice}.startsWith('Taken: 1 of 1')")
     desk.browser.click("#tab-audit")
     desk.browser.drop("footer", paths[0])
-    desk.browser.wait(f"{notice}.startsWith('Nothing was taken')")
+    desk.browser.wait(f"{notice}.startsWith('Taken: 0 of 1')")
     assert desk.run("return location.href").startswith(desk.address), "the page is still there"
 
 
@@ -373,11 +380,11 @@ def leaving_is_asked(desk):
     )
     desk.open("bid")
     assert not desk.run(leave)
-    desk.use("seal", id=ID, seat=7, bid=1, width=6, lanes=LANES)
+    desk.seal(id=ID, seat=7, bid=1, width=6, lanes=LANES)
     assert desk.run(leave)
-    desk.save("seal", "seal-7")
+    desk.save("keep", "seal-7")
     assert desk.run(leave)
-    desk.save("seal", "secret-7")
+    desk.save("keep", "secret-7")
     assert not desk.run(leave)
 
 

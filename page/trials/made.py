@@ -10,6 +10,7 @@ from collections import namedtuple
 Said = namedtuple("Said", "status text")
 
 ID = "000102030405060708090a0b0c0d0e0f"
+OTHER_ID = "f" * 32
 WIDTH, LANES = 6, 4
 # Seats in their order, with their bids. Seat 300 wins, and pays 33.
 BIDS = {7: 20, 9: 33, 300: 50}
@@ -23,7 +24,14 @@ class Made:
         self.program = os.path.realpath(program)
         self.folder = folder
         self.random = random.Random("page")
-        for make in (self.auction, self.reserved, self.claims, self.coin, self.damaged):
+        for make in (
+            self.auction,
+            self.reserved,
+            self.claims,
+            self.coin,
+            self.damaged,
+            self.others,
+        ):
             make()
 
     def path(self, name):
@@ -84,9 +92,10 @@ class Made:
     def auction(self):
         for bits in ("0110", "1100"):
             self.put(f"challenge-{bits}", f"vickrey-challenge 1\nbits {bits}\nend\n")
+        self.seeds = {seat: self.seed() for seat in BIDS}
         for seat, bid in BIDS.items():
-            words = (ID, seat, bid, WIDTH, LANES, self.seed(), f"secret-{seat}", f"seal-{seat}")
-            self.must("seal", *words)
+            files = f"secret-{seat}", f"seal-{seat}"
+            self.must("seal", ID, seat, bid, WIDTH, LANES, self.seeds[seat], *files)
         self.house("", "0110")
         os.rename(self.path("board"), self.path("board-once"))
         # A second answer, from a store that was made again. It gives every bid away.
@@ -124,6 +133,9 @@ class Made:
         self.put("board-cut", "\n".join(lines[:20]) + "\n")
         self.put("board-price", board.replace("price 33\n", "price 34\n"))
         self.put("board-high", board.replace("price 33\n", "price 64\n"))
+        self.put("board-low", board.replace("price 33\n", "price 32\n"))
+        self.put("board-line", board.replace("\nauction ", "\nnumber ", 1))
+        self.put("challenge-line", "vickrey-challenge 1\nbit 0110\nend\n")
         self.put("board-winner", board.replace("winner 300\n", "winner 8\n"))
         reply = self.bytes("reply-0110").decode()
         wrong = reply.replace("\nh ", "\nh 0", 1)
@@ -142,3 +154,55 @@ class Made:
         self.put("noise", random.Random("noise").randbytes(300_000))
         self.put("text", "<script>document.title = 'taken'</script>\n" * 10)
         self.put("only-end", "end\n")
+
+    def others(self):
+        """Files of another auction, and files that are none of the page's."""
+        for name in ("board", "seal-7", "secret-7", "share-1", "coin"):
+            self.put(f"other-{name}", self.bytes(name).replace(ID.encode(), OTHER_ID.encode()))
+        self.must("coin-join", "coin", "challenge-coin")
+        drawn = self.bytes("challenge-coin").decode().split("\n")[1].removeprefix("bits ")
+        self.put(f"challenge-{drawn}", self.bytes("challenge-coin"))
+        self.house("-coin", drawn)
+        os.rename(self.path(f"reply-coin-{drawn}"), self.path("reply-coin"))
+        self.put("script", "vickrey-script 1\nend\n")
+        self.put("parts", "".join(self.parts).replace(" commit ", " "))
+        lines = self.bytes("parts").decode().split("\n")
+        self.put("parts-other", "\n".join([lines[0], f"part 2 {'0' * 64}", *lines[2:]]))
+        self.put("announcement", announcement())
+        self.put("locked", b"age-encryption.org/v1\n-> X25519 abc\n")
+        self.put("signature", "-----BEGIN SSH SIGNATURE-----\nU1NIU0lH\n")
+        self.put("packed", b"PK\x03\x04\x14\0\0\0")
+        self.put("web-page", "<!doctype html><title>board</title>")
+        self.put("secret-7-line", self.bytes("secret-7").replace(b"\nbid ", b"\nbids "))
+        self.put("seal-7-mailed", self.bytes("seal-7").replace(b"\n", b"\r\n"))
+        self.put("seal-7-cut", b"".join(self.bytes("seal-7").splitlines(True)[:-2]))
+        store = self.path("store-of-house")
+        os.mkdir(store)
+        self.must("announce", ID, WIDTH, LANES, folder=store)
+        os.rename(os.path.join(store, "house.sqlite"), self.path("store"))
+
+
+def announcement(**changed):
+    """An announcement of the auction of these trials, line by line."""
+    lines = {
+        "auction": ID,
+        "kind": "vickrey",
+        "width": WIDTH,
+        "lanes": LANES,
+        "reserve": "none",
+        "unit": "EUR",
+        "decimals": 2,
+        "auditors": 3,
+        "seals": "2096-12-01T12:00:00Z",
+        "secrets": "2096-12-02T12:00:00Z",
+        "board": "2096-12-03T12:00:00Z",
+        "draw": "2096-12-04T12:00:00Z",
+        "reply": "2096-12-05T12:00:00Z",
+        "key": "none",
+        "place": "the notice board",
+    }
+    lines.update(changed)
+    seats = lines.pop("seats", {7: "Ann", 9: "Bo", 300: "Zoë Müller"})
+    text = "".join(f"{word} {said}\n" for word, said in lines.items())
+    named = "".join(f"seat {seat} {name}\n" for seat, name in seats.items())
+    return f"vickrey-announcement 1\n{text}seats {len(seats)}\n{named}end\n"

@@ -5,16 +5,22 @@ from .use import ACCEPTED, TWO, announced
 from .desk import script
 from .made import ID, LANES, WIDTH
 
-TABS = ("check", "bid", "audit")
+TABS = ("bid", "check", "audit")
+# The steps of the tab Bid that have something of their own
+STEPS = ("announcement", "bid", "keep", "look")
 
 
 def fill_all(desk):
     """Each tab with something in it: good, bad and neither."""
+    desk.browser.click("#tab-check")
     desk.use("check", **ACCEPTED, **announced(desk.made, width=7, digest=""))
     desk.browser.click("#tab-bid")
-    desk.use("seal", id=ID, seat=7, bid=20, width=WIDTH, lanes=LANES)
-    desk.save("seal", "secret-7")
+    desk.seal(id=ID, seat=7, bid=20, width=WIDTH, lanes=LANES)
+    desk.keep(7)
+    desk.browser.click("#way-bid")
     desk.use("seal", bid="15.50")
+    desk.use("seal", bid="15")
+    desk.browser.click("#way-look")
     desk.use("mine", board=["board"], seal=["seal-7"], secret=["secret-7"])
     desk.use("confront", board=["board"], **TWO, secret=["secret-7-other"])
     desk.browser.click("#tab-audit")
@@ -23,10 +29,20 @@ def fill_all(desk):
     desk.use("join", parts="".join(desk.made.parts), shares=["share-1", "share-2", "share-3"])
     desk.use("extract", board=["board"], **TWO)
     desk.use("derive", board=["board"])
-    claim = {name: [f"uniform-{name}-1"] for name in ("challenge", "reply")}
-    desk.use("claim", claim=["uniform-board"], **claim)
     desk.use("sample", kind="matching", number=1)
     desk.browser.click("#tab-check")
+
+
+def looks(desk):
+    """Each tab, and each step of the first one, one after another."""
+    for step in STEPS:
+        desk.browser.click("#tab-bid")
+        desk.browser.click(f"#way-{step}")
+        yield f"step-{step}"
+    desk.run("for (const part of document.querySelectorAll('details')) part.open = true")
+    for tab in TABS:
+        desk.browser.click(f"#tab-{tab}")
+        yield tab
 
 
 def all_is_named(desk):
@@ -44,8 +60,7 @@ def all_can_be_read(desk):
     try:
         for dark in (False, True):
             desk.browser.paint(dark)
-            for tab in TABS:
-                desk.browser.click(f"#tab-{tab}")
+            for tab in looks(desk):
                 seen, faint = desk.run(script("faint"))
                 assert seen > 30 and not faint, (dark, tab, seen, faint)
     finally:
@@ -53,15 +68,16 @@ def all_can_be_read(desk):
 
 
 def fits_a_phone(desk):
-    """At 360 pixels nothing is wider than the page but what scrolls by itself."""
+    """At 360 pixels and at 320 nothing is wider than the page but what scrolls by itself."""
     desk.open()
     desk.browser.resize(360, 740)
     try:
         fill_all(desk)
-        for tab in TABS:
-            desk.browser.click(f"#tab-{tab}")
-            inner, width, most, out = desk.run(script("wide"))
-            assert inner == 360 and width <= most and not out, (tab, inner, width, most, out)
+        for width in (320, 360):
+            desk.browser.resize(width, 740)
+            for tab in looks(desk):
+                inner, whole, most, out = desk.run(script("wide"))
+                assert inner == width and whole <= most and not out, (tab, inner, whole, most, out)
     finally:
         desk.browser.resize(1100, 900)
 
@@ -69,25 +85,27 @@ def fits_a_phone(desk):
 def tabs_go_by_keys(desk):
     """Arrows, Home and End go from tab to tab; Tab goes into the chosen one."""
     desk.open()
-    desk.run("document.getElementById('tab-check').focus()")
+    desk.run("document.getElementById('tab-bid').click()")
+    desk.run("document.getElementById('tab-bid').focus()")
     chosen = (
         "const shown = document.querySelectorAll('[role=tabpanel]:not([hidden])');"
         "const tab = document.querySelector('[role=tab][aria-selected=true]');"
         "return [document.activeElement.id, tab.id, [...shown].map((panel) => panel.id).join()]"
     )
     keys = [
-        ("ArrowRight", "bid"),
-        ("ArrowRight", "audit"),
         ("ArrowRight", "check"),
+        ("ArrowRight", "audit"),
+        ("ArrowRight", "bid"),
         ("ArrowLeft", "audit"),
+        ("ArrowLeft", "check"),
     ]
-    for key, tab in [*keys, ("Home", "check"), ("End", "audit")]:
+    for key, tab in [*keys, ("Home", "bid"), ("End", "audit")]:
         desk.browser.press(key)
         assert desk.run(chosen) == [f"tab-{tab}", f"tab-{tab}", f"panel-{tab}"], (
             key,
             desk.run(chosen),
         )
-    desk.browser.press("Home", "Tab")
+    desk.browser.press("Home", "ArrowRight", "Tab")
     assert desk.run("return document.activeElement.id") == "panel-check"
     desk.browser.press("Tab")
     assert desk.run("return document.activeElement.id") == "check-board"
@@ -95,20 +113,30 @@ def tabs_go_by_keys(desk):
 
 def all_goes_by_keys(desk):
     """A bid is sealed with the keyboard alone, from the first Tab on."""
-    desk.open()
-    desk.browser.press("Tab", "ArrowRight", "Tab")
+    desk.open("bid")
     focus = "return document.activeElement.id || document.activeElement.textContent"
+    # The announcement stands in front of the tabs, and the way behind them.
+    desk.browser.press("Tab", "Tab", "Tab")
+    assert desk.run(focus) == "tab-bid", desk.run(focus)
+    desk.browser.press("Tab", "Tab", "Enter")
+    assert desk.run(focus) == "way-bid", desk.run(focus)
+    desk.browser.press("Tab", "Tab", "Tab", "Tab")
     assert desk.run(focus) == "panel-bid", desk.run(focus)
-    for name, text in dict(id=ID, seat="9", width="6", lanes="4", bid="33").items():
+    for name, text in dict(id=ID, width="6", lanes="4", seat="9", bid="33").items():
         desk.browser.press("Tab")
         assert desk.run(focus) == f"seal-{name}", desk.run(focus)
         desk.browser.press(*text)
     desk.browser.press("Enter")
-    shown = desk.shown("seal")
+    desk.browser.wait(f"return (() => {{ {focus} }})() === 'seal-sure'")
+    assert "You bid 33 at seat 9." in desk.browser.text("#seal-review")
+    desk.browser.press("Enter")
+    shown = desk.shown("keep")
     assert shown.said.text == "sealed seat 9 lanes 4\n", shown
-    assert desk.run(focus) == "seal-bid", desk.run(focus)
-    desk.browser.press("Tab", "Tab", "Tab")
-    assert desk.run(focus).startswith("Save secret-9"), desk.run(focus)
+    assert desk.run(focus) == "way-keep", desk.run(focus)
+    for _ in range(12):
+        desk.browser.press("Tab")
+        if desk.run("return document.activeElement.download") == "secret-9":
+            break
     desk.browser.press("Enter")
     assert desk.browser.downloaded("secret-9").startswith(b"vickrey-secret 1\n")
 
@@ -119,7 +147,7 @@ def answers_are_told(desk):
     desk.open().run(f"window.region = {region}")
     desk.use("check", **ACCEPTED)
     same, text = desk.run(f"return [window.region === {region}, window.region.textContent]")
-    assert same and text.startswith("The reply is accepted"), text
+    assert same and text.startswith("By itself this says nothing"), text
 
 
 def take_pictures(desk, folder):
@@ -131,8 +159,7 @@ def take_pictures(desk, folder):
     for look, dark, width in (("light", False, 1100), ("dark", True, 1100), ("phone", False, 360)):
         desk.browser.resize(width, 900 if width > 400 else 740)
         desk.browser.paint(dark)
-        for tab in TABS:
-            desk.browser.click(f"#tab-{tab}")
+        for tab in looks(desk):
             desk.run("document.activeElement.blur(); scrollTo(0, 0)")
             desk.browser.picture(os.path.join(folder, f"{name}-{look}-{tab}.png"), whole=True)
     desk.browser.paint(False)
