@@ -17,8 +17,10 @@ import re
 import sys
 
 SCRIPTS = (
-    "module", "work", "sentences", "kinds", "amounts", "fields", "announcement", "announced", "parts",
-    "keep", "way", "outcome", "points", "look", "check", "bid", "audit", "page")
+    "module", "work", "sentences", "kinds", "amounts", "fields", "announcement", "announced", "parts", "asked", "terms",
+    "archive", "keep", "way", "outcome", "points", "look", "check", "bid", "audit",
+    "sell_house", "sell_guard", "sell_intake", "sell_view", "sell_terms", "sell_forms", "sell", "page",
+)
 HERE = os.path.dirname(os.path.abspath(__file__))
 # What would end the element that a text stands in, or be read as another text than the digest's
 ODD = re.compile(rb"</|<!--|\r|\0")

@@ -264,5 +264,5 @@ const Audit = (() => {
     Parts.beginTool("sample", sample);
   }
 
-  return { begin };
+  return { begin, Unfit, partsOf, shareOf, coinText };
 })();

@@ -84,6 +84,7 @@ const Page = (() => {
     Way.begin();
     askBeforeLeaving();
     tryModule();
+    Sell.begin();
   }
 
   return { begin, choose };
