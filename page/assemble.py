@@ -19,7 +19,8 @@ import sys
 SCRIPTS = (
     "module", "work", "sentences", "kinds", "amounts", "fields", "announcement", "announced", "parts", "asked", "terms",
     "archive", "keep", "way", "outcome", "points", "look", "check", "bid", "audit",
-    "sell_house", "sell_guard", "sell_intake", "sell_view", "sell_terms", "sell_forms", "sell", "page",
+    "sell_house", "sell_guard", "sell_intake", "sell_view", "sell_terms", "sell_forms", "sell",
+    "rehearsal_auction", "rehearsal_checks", "rehearsal_cheats", "rehearsal_find", "rehearsal", "page",
 )
 HERE = os.path.dirname(os.path.abspath(__file__))
 # What would end the element that a text stands in, or be read as another text than the digest's

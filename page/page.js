@@ -84,7 +84,7 @@ const Page = (() => {
     Way.begin();
     askBeforeLeaving();
     tryModule();
-    Sell.begin();
+    [Sell, Rehearsal].forEach((part) => part.begin());
   }
 
   return { begin, choose };
