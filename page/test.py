@@ -33,6 +33,7 @@ from trials.kinds import KINDS
 from trials.made import Made
 from trials.poor import POOR
 from trials.reach import REACH, take_pictures
+from trials.sell import SELL
 from trials.use import USE, digests_without_the_browser
 from trials.way import WAY
 from trials.workers import WORKERS, practice_gives_way
@@ -134,7 +135,7 @@ def try_browser(kind, table, page, made, pictures):
     with Desks(kind, address, made) as desks:
         for trial in [*USE, digests_without_the_browser, *KINDS, *ANNOUNCED]:
             desks.row(table, trial)
-        for trial in [*WAY, *AUDIT, *REACH, *HOSTILE, *WORKERS]:
+        for trial in [*WAY, *AUDIT, *REACH, *HOSTILE, *WORKERS, *SELL]:
             desks.row(table, trial)
         if pictures:
             desks.row(table, take_pictures, pictures)

@@ -5,7 +5,7 @@ from .use import ACCEPTED, TWO, announced
 from .desk import script
 from .made import ID, LANES, WIDTH
 
-TABS = ("bid", "check", "audit")
+TABS = ("bid", "check", "audit", "sell")
 # The steps of the tab Bid that have something of their own
 STEPS = ("announcement", "bid", "keep", "look")
 
@@ -95,11 +95,11 @@ def tabs_go_by_keys(desk):
     keys = [
         ("ArrowRight", "check"),
         ("ArrowRight", "audit"),
+        ("ArrowRight", "sell"),
         ("ArrowRight", "bid"),
-        ("ArrowLeft", "audit"),
-        ("ArrowLeft", "check"),
+        ("ArrowLeft", "sell"),
     ]
-    for key, tab in [*keys, ("Home", "bid"), ("End", "audit")]:
+    for key, tab in [*keys, ("Home", "bid"), ("End", "sell")]:
         desk.browser.press(key)
         assert desk.run(chosen) == [f"tab-{tab}", f"tab-{tab}", f"panel-{tab}"], (
             key,
@@ -115,8 +115,8 @@ def all_goes_by_keys(desk):
     """A bid is sealed with the keyboard alone, from the first Tab on."""
     desk.open("bid")
     focus = "return document.activeElement.id || document.activeElement.textContent"
-    # The announcement stands in front of the tabs, and the way behind them.
-    desk.browser.press("Tab", "Tab", "Tab")
+    # The rehearsal and the announcement stand in front of the tabs, and the way behind them.
+    desk.browser.press("Tab", "Tab", "Tab", "Tab")
     assert desk.run(focus) == "tab-bid", desk.run(focus)
     desk.browser.press("Tab", "Tab", "Enter")
     assert desk.run(focus) == "way-bid", desk.run(focus)
