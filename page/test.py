@@ -33,7 +33,9 @@ from trials.kinds import KINDS
 from trials.made import Made
 from trials.poor import POOR
 from trials.reach import REACH, take_pictures
+from trials.rehearse import REHEARSE
 from trials.sell import SELL
+from trials.sell_hostile import SELL_HOSTILE
 from trials.use import USE, digests_without_the_browser
 from trials.way import WAY
 from trials.workers import WORKERS, practice_gives_way
@@ -135,7 +137,9 @@ def try_browser(kind, table, page, made, pictures):
     with Desks(kind, address, made) as desks:
         for trial in [*USE, digests_without_the_browser, *KINDS, *ANNOUNCED]:
             desks.row(table, trial)
-        for trial in [*WAY, *AUDIT, *REACH, *HOSTILE, *WORKERS, *SELL]:
+        for trial in [*WAY, *AUDIT, *REACH, *HOSTILE, *WORKERS]:
+            desks.row(table, trial)
+        for trial in [*SELL, *SELL_HOSTILE, *REHEARSE]:
             desks.row(table, trial)
         if pictures:
             desks.row(table, take_pictures, pictures)
