@@ -7,7 +7,7 @@ import sys
 import tarfile
 
 from .made import Said
-from .seller import BIDS, LANES, NAMES, Seller
+from .seller import LANES, NAMES, Seller
 
 HERE = os.path.dirname(os.path.abspath(__file__))
 CHECKER = os.path.join(HERE, "..", "..", "checker", "check.py")

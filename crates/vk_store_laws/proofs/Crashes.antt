@@ -1,5 +1,5 @@
 -- What a crash leaves of a store on which one transaction is run.
-use Rattle.std.proofs.Common.{◌≡◌, ◌⊎◌, inl, inr, subst, sym, Result, Ok, Err}
+use Rattle.std.proofs.Common.{◌⊎◌, inl, inr, subst, sym, Result, Ok, Err}
 use Rattle.std.specs.Prelude.{OnOk}
 use Rattle.sqlite.specs.Tree.{Trees}
 use Rattle.sqlite.specs.Effect.{Database}

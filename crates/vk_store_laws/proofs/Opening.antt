@@ -1,7 +1,6 @@
 -- A store that is opened, for the first time or again.
 use Rattle.std.proofs.Common.{◌≡◌, ℕ, true, arith, length, refl, ap, sym, subst, ◌∙◌}
 use Rattle.std.specs.FinMap.{empty}
-use Rattle.sqlite_trees.specs.Tree.{Trees}
 use Rattle.sqlite.specs.Effect.{Database}
 use Rattle.sqlite.specs.Store.{Ghosts}
 use Rattle.sqlite.specs.Held.{Held, state}

@@ -1,11 +1,11 @@
 -- A store over a list of calls tells the ledger that the list leads to, and that keeps what is
 -- answered.
-use Rattle.std.proofs.Common.{◌≡◌, ◌∙◌, ◌⊎◌, ℕ, refl, sym, ap, subst, inl, inr, List, [], ◌∷◌, Option, Some, Ok, Result, IsTrue}
+use Rattle.std.proofs.Common.{◌≡◌, ◌∙◌, ℕ, refl, sym, ap, subst, inl, inr, List, [], ◌∷◌, Option, Some, Ok, IsTrue}
 use Rattle.std.specs.FinMap.{empty, get, insert}
 use Rattle.sqlite.specs.Tree.{Trees}
 use Rattle.sqlite.specs.Effect.{Database}
 use Rattle.sqlite.specs.Store.{Ghosts}
-use Rattle.sqlite.specs.State.{State, HasCleanDisk}
+use Rattle.sqlite.specs.State.{HasCleanDisk}
 use Rattle.sqlite.specs.Held.{Held, state}
 use Rattle.vk_reply.specs.declared.challenge.Challenge.{Challenge}
 use Rattle.vk_keeper.specs.declared.auction.Auction.{Auction}
@@ -18,7 +18,7 @@ use Rattle.vk_keeper_sql.specs.Writing.{Keeps}
 use Rattle.vk_store_laws.specs.Holding.{IsStore}
 use Rattle.vk_store_laws.specs.Tables.{no_schema}
 use Rattle.vk_store_laws.specs.Telling.{TablesTell}
-use Rattle.vk_store_laws.specs.Runs.{Act, found, kept, refused, opened, stopped, Leads, LeadOn, Spares, SparesAnswered, AllSpare, Tells, Does, Runs, HasFound, HasKept, HasRefused, IsOpenedAgain, IsStopped}
+use Rattle.vk_store_laws.specs.Runs.{Act, found, kept, refused, opened, stopped, Leads, LeadOn, Spares, SparesAnswered, AllSpare, Tells, Does, Runs, HasFound, HasKept, IsOpenedAgain, IsStopped}
 use Rattle.vk_store_laws.proofs.Crashes.{seen_at_once, at_once}
 use Rattle.vk_store_laws.proofs.Kept.{kept_stands}
 use Rattle.vk_store_laws.proofs.Modelled.{kept_is_told, found_is_told, held_at}

@@ -1,7 +1,6 @@
 -- A store over a list of calls, crashes and openings, and the ledger that it tells.
 use Rattle.std.specs.Prelude.{◌≡◌, ◌⊎◌, ℕ, List, [], ◌∷◌, Option, Some, Result, Ok, IfSome, IsTrue}
 use Rattle.std.specs.FinMap.{get, insert}
-use Rattle.sqlite.specs.Tree.{Trees}
 use Rattle.sqlite.specs.Store.{Ghosts}
 use Rattle.sqlite.specs.State.{HasCleanDisk}
 use Rattle.sqlite.specs.Held.{Held, state}
