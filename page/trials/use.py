@@ -41,7 +41,9 @@ def module_is_named(desk):
     """The digest of the module is that of the bytes in the page."""
     page = desk.open().run("return document.getElementById('module').textContent")
     wanted = hashlib.sha256(base64.b64decode(page)).hexdigest()
-    assert desk.browser.text("#module-digest") == wanted
+    desk.run("document.getElementById('trust').open = true")
+    shown = desk.browser.text("#module-digest")
+    assert shown == wanted, shown
 
 
 def board_is_told(desk):
