@@ -47,17 +47,21 @@ const Parts = (() => {
       this.addresses = [];
       this.secrets = [];
       this.turn = 0;
+      this.following = 0;
       this.stop.addEventListener("click", () => this.stopped());
     }
 
     // Does something that may read files here, and says where that fails.
     async follow(doing) {
+      this.following++;
       try {
         await doing();
       } catch (error) {
         const unread = error instanceof DOMException;
         const about = unread ? "one of the files" : String(error);
         this.tell(Sentences.fault(unread ? "unreadable" : "page", about));
+      } finally {
+        this.following--;
       }
     }
 
@@ -409,7 +413,8 @@ const Parts = (() => {
       }
     });
     const changed = () => {
-      const had = place.result.hasChildNodes();
+      // What was pressed and still looks at its files would judge some of before and some of now.
+      const had = place.following > 0 || place.result.hasChildNodes();
       if (!keeps && (place.cease(CHANGED) || had)) {
         place.clear();
         place.tell(odd(CHANGED));

@@ -51,8 +51,8 @@ HONEST = {
 }
 
 
-def compared(desk, said="", digest="", secret="", parts="parts", **changed):
-    """The page says of a case what check.py says of it."""
+def compared(desk, said="", digest="", secret="", parts="parts", title="", **changed):
+    """The page says of a case what check.py says of it, with this title where it has one of its own."""
     made = desk.made
     said = said or announcement()
     files = {name: source for name, source in {**HONEST, **changed}.items() if source}
@@ -77,11 +77,17 @@ def compared(desk, said="", digest="", secret="", parts="parts", **changed):
         for state, text in shown.list
         if state != "missing"
     ]
-    assert sorted(found) == sorted(wanted), (changed, shown, found, wanted)
-    assert shown.title.split(" All ")[0].split(": of ")[0] == sentence.split(" All ")[0].split(
-        ": of "
-    )[0], (shown.title, sentence)
+    assert sorted(found) == sorted(wanted), (changed, {*found} ^ {*wanted})
+    verdict = shown.title.split(" All ")[0].split(": of ")[0]
+    wanted = title or sentence.split(" All ")[0].split(": of ")[0]
+    assert verdict == wanted, (shown.title, sentence)
     return shown
+
+
+# What is said of a reply that belongs to another challenge than the one that was given
+OTHER_CHALLENGE = (
+    "The reply can't be read as one to this challenge: line 10 isn't what it has to be."
+)
 
 
 def honest_auctions_are_audited(desk):
@@ -106,12 +112,13 @@ def what_is_wrong_is_found(desk):
         dict(board="board-low", secret="secret-9"),
         dict(board="board-reserve"),
         dict(reply="reply-key"),
-        dict(challenge="challenge-0110"),
+        dict(challenge="challenge-1100", title=OTHER_CHALLENGE),
         dict(parts="parts-other"),
     ]
     for case in cases:
         shown = compared(desk, **case)
-        assert "wrong" in shown.states() and shown.mood == "bad", (case, shown.list)
+        others = [line for line in shown.list if line[0] != "ok"]
+        assert "wrong" in shown.states() and shown.mood == "bad", (case, shown.mood, others)
 
 
 def the_report_is_saved(desk):

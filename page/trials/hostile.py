@@ -209,7 +209,10 @@ def long_files_are_told(desk):
         shown = desk.open().use("check", **fields)
         desk.agrees(shown, **named(fields))
         assert shown.mood == "bad" and shown.said.status == 4, shown
-        assert made.digest(name) in desk.browser.text("#check-board-work")
+        # What stands below the field is folded away once there is a verdict.
+        assert made.digest(name) in desk.run(
+            "return document.getElementById('check-board-work').textContent"
+        )
         made.put(name, b"vickrey-reply 1\n" + data)
         fields = dict(ACCEPTED, reply=[name])
         shown = desk.open().use("check", **fields)
@@ -323,6 +326,7 @@ def real_drops_are_taken(desk):
 def work_can_be_stopped(desk):
     """What runs is stopped at once, and the next piece of work goes on."""
     desk.open("audit").fill("sample", kind="board", number=3)
+    desk.run("document.getElementById('sample-run').closest('details').open = true")
     _, noted, shown = desk.stop_sample()
     value, most = noted["bar"]
     assert 0 <= value <= 0.97 and most == 1, noted
@@ -347,7 +351,7 @@ def what_changes_is_not_told(desk):
     assert shown.title.startswith("Something here was changed") and not shown.said, shown
     shown = desk.use("check")
     assert shown.said.text.startswith("refused reply lane 1 wire 0"), shown
-    text = desk.browser.text("#check-board-work")
+    text = desk.run("return document.getElementById('check-board-work').textContent")
     assert made.digest("board") in text and made.digest("sample-board") not in text, text
     # A verdict goes when what it was of is changed.
     desk.fill("check", bits="0")

@@ -107,7 +107,8 @@ def tabs_go_by_keys(desk):
         )
     desk.browser.press("Home", "ArrowRight", "Tab")
     assert desk.run("return document.activeElement.id") == "panel-check"
-    desk.browser.press("Tab")
+    # The line that folds the files away, and the first of them.
+    desk.browser.press("Tab", "Tab")
     assert desk.run("return document.activeElement.id") == "check-board"
 
 
