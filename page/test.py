@@ -24,7 +24,7 @@ import time
 import traceback
 
 from assemble import assemble_again
-from browser import BROWSERS, Chromium, Firefox
+from browser import BROWSERS, BrowserError, Chromium, Firefox
 from trials.announced import ANNOUNCED
 from trials.audit import AUDIT
 from trials.desk import Desk
@@ -116,10 +116,21 @@ class Desks:
             self.browser.close()
         self.browser = None
 
+    def open(self):
+        """A browser of the desk's size: a new one where the one that is there can't have it, as with a
+        bar of the browser's own above the page."""
+        if self.browser:
+            try:
+                self.browser.resize(1100, 900)
+                return
+            except BrowserError:
+                self.leave()
+        self.browser = self.kind()
+        self.browser.resize(1100, 900)
+
     def row(self, table, trial, *words):
         def trial_of():
-            self.browser = self.browser or self.kind()
-            self.browser.resize(1100, 900)
+            self.open()
             try:
                 trial(Desk(self.browser, self.address, self.made), *words)
             except BaseException:
