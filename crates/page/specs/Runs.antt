@@ -12,7 +12,7 @@ use Rattle.vk_words.specs.Orders.{SealWords}
 use Rattle.vk_effect.specs.Effects.{Effect, Outside, outside, stores}
 use Rattle.vk_coins.specs.Meaning.{MakesChallenge}
 use Rattle.vk_app.specs.Commands.{DoesWork, StopsWork, Work, work_on}
-use Rattle.vk_app.specs.Promises.{Audits, ClaimHeadline, Claims, Headline, HoldsCeremony, KeepsHouse, RunLeaves, SamplesMatching, TellsUsage}
+use Rattle.vk_app.specs.Promises.{Audits, ClaimExtractIsComplete, ClaimExtractIsSound, ClaimHeadline, Claims, ExtractIsComplete, ExtractIsSound, Headline, HoldsCeremony, KeepsHouse, RunLeaves, SamplesMatching, TellsUsage}
 use Rattle.vk_app.specs.Sealing.{Seals}
 use Rattle.page.specs.declared.room.WantedName.{WantedName}
 use Rattle.page.specs.Shown.{BeginsWith, shown_bytes}
@@ -47,7 +47,11 @@ pub record IsPageRun (words : List (List ℕ)) (files : Files) (status : ℕ) (l
       (λ work. (status ≡ 6) ⊎ (status ≡ 9)
       → StopsWork work (outside_before files) (outside_after left kept text))
   -- what two accepted replies come to
+  pub sound : ExtractIsSound files words status (Some []) (Some text)
+  pub complete : ExtractIsComplete files words status (Some []) (Some text)
   pub headline : Headline files words status (Some []) (Some text)
+  pub claim_sound : ClaimExtractIsSound files words status (Some []) (Some text)
+  pub claim_complete : ClaimExtractIsComplete files words status (Some []) (Some text)
   pub claim_headline : ClaimHeadline files words status (Some []) (Some text)
   -- what the statuses of each family of commands mean
   pub audits : Audits files words status (Some []) (Some text)

@@ -123,7 +123,7 @@ module _ (files : Files) (ledger : Option Ledger) (words : List (List ℕ)) (sta
 -- ---- as far as the files are modelled
 
 -- so it is said of the files where they are modelled
-abbrev TellsOf : (Files → List (List ℕ) → ℕ → Option (List ℕ) → Option (List ℕ) → Type 0) → Type 0
+abbrev pub TellsOf : (Files → List (List ℕ) → ℕ → Option (List ℕ) → Option (List ℕ) → Type 0) → Type 0
 TellsOf P = (held : Option Files) (ledger : Option Ledger) (words : List (List ℕ)) (status : ℕ)
     (old : Option (List ℕ)) (new : Outside)
     → IfSome (work_on held ledger words)
@@ -133,7 +133,7 @@ TellsOf P = (held : Option Files) (ledger : Option Ledger) (words : List (List �
 module _ (P : Files → List (List ℕ) → ℕ → Option (List ℕ) → Option (List ℕ) → Type 0)
     (ended : (files : Files) (ledger : Option Ledger) (words : List (List ℕ)) (status : ℕ) (old : Option (List ℕ)) (new : Outside)
     → IfSome (work_on (Some files) ledger words) (λ work. DoesWork status work (outside (stores (Some files) ledger) old) new) → P files words status old new.taken) where
-  told_of : TellsOf P
+  pub told_of : TellsOf P
   told_of None ledger words status old new is = tt
   told_of (Some files) ledger words status old new is = ended files ledger words status old new is
 

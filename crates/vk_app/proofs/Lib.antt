@@ -1,4 +1,5 @@
 pub mod Audited
+pub mod Sound
 pub mod Served
 mod Sealing
 mod Statuses

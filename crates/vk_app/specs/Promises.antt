@@ -1,19 +1,28 @@
 -- What `run` promises, one record for each family of commands, over files and a ledger that are
 -- modelled.
-use Rattle.std.specs.Prelude.{◌≡◌, ◌≢◌, ◌⊎◌, ℕ, ◌^◌, ◌<◌, ◌≤◌, Bool, List, [], length, Option, Some, None, IfSome}
+use Rattle.std.specs.Prelude.{◌≡◌, ◌≢◌, ◌⊎◌, ℕ, ◌^◌, ◌<◌, ◌≤◌, Bool, true, List, [], ◌∷◌, ◌++◌, codes, length, Option, Some, None, IfSome}
 use Rattle.std.specs.FinMap.{get}
+use Rattle.std.specs.List.{AllByRecursion}
 use Rattle.vk_io.specs.Files.{Files, Modelled}
 use Rattle.vk_keeper.specs.Ledgers.{Ledger}
 use Rattle.vk_words.specs.Commands.{CommandWords, ClaimExtract, ClaimVerify, Confront, Extract, House, Report, Verify, command_words}
 use Rattle.vk_words.specs.Commands as commands
-use Rattle.vk_words.specs.Names.{ConfrontWords, ExtractWords, VerifyWords}
+use Rattle.vk_words.specs.Names.{ConfrontWords, ExtractWords, VerifyWords, is_name}
 use Rattle.vk_words.specs.Orders.{HouseWords}
 use Rattle.vk_effect.specs.Effects.{IsSaid, Outside, outside, stores}
 use Rattle.vk_effect.specs.Ends.{Done, Stopped}
 use Rattle.vk_effect.specs.NamedFiles.{missing_said, too_long_said}
+use Rattle.vk_board.specs.declared.front.Front.{Front}
+use Rattle.vk_reply.specs.declared.challenge.Challenge.{Challenge}
+use Rattle.vk_reply.specs.Texts.{challenge_text}
+use Rattle.vk_bids.specs.Headline.{differing}
+use Rattle.vk_bids.specs.Soundness.{BeginsWithFront, TellsBids, TellsTwoOpenings}
+use Rattle.vk_audit.specs.Inputs.{extract_inputs}
 use Rattle.vk_audit.specs.Answers.{TellsConfrontation, TellsExtraction, TellsReport, TellsVerdict}
 use Rattle.vk_audit.specs.Statuses.{AcceptsTwoFiles, BindsSecret, IsExtracted, IsReported, IsSame, IsVerified}
 use Rattle.vk_claims.specs.Statuses.{AcceptsTwoClaims, IsClaimExtracted, IsClaimVerified, IsSameClaim, TellsClaimExtraction, TellsClaimVerdict}
+use Rattle.vk_claim.specs.declared.front.ClaimFront.{ClaimFront}
+use Rattle.vk_claims.specs.Soundness.{BeginsWithClaim, TellsValues}
 use Rattle.vk_claim_sample.specs.ClaimSamples.{OfSomeMatching}
 use Rattle.vk_auctioneer.specs.Leaving.{LeavesFiles}
 use Rattle.vk_ceremony.specs.Acts.{PerformsAll}
@@ -33,6 +42,80 @@ OverFiles Promised held words status old new =
     IfSome held (λ files. Promised files words status old new)
 
 -- ---- the headline
+
+-- what was printed, after what was there before, is such a text
+abbrev pub Prints : (List ℕ → Type 0) → (old new : Option (List ℕ)) → Type 0
+Prints IsSuch = Modelled (λ before after. (text : List ℕ) × (after ≡ before ++ text) × IsSuch text)
+
+-- the file of a board begins with this front, and two other files are challenges. With status 0,
+-- what was printed is bids of just the lanes whose bits in the challenges differ: they are below
+-- 2^width, their printed halves open the board's digests in that lane, and the sale that they make
+-- under the board's reserve is the one that it publishes. With status 3 it is two openings of one
+-- commitment of the auction, whose digest stands in the board's file
+pub record PrintsBidsOf (files : Files) (board challenge other : List ℕ) (status : ℕ)
+    (old new : Option (List ℕ)) : Type 0 where
+  pub file : List ℕ
+  pub front : Front
+  pub first : Challenge
+  pub second : Challenge
+  pub board_is : get files board ≡ Some file
+  pub begins : BeginsWithFront file front
+  pub first_is : get files challenge ≡ Some (challenge_text first)
+  pub second_is : get files other ≡ Some (challenge_text second)
+  pub bids : status ≡ 0 → Prints (TellsBids front (differing 1 first.bits second.bits)) old new
+  pub clash : status ≡ 3 → Prints (TellsTwoOpenings file front.head.auction) old new
+
+-- soundness: where `extract` ends with status 0 or 3, whatever the files are and whoever made them,
+-- what it printed is true of the board
+abbrev pub ExtractIsSound : Files → List (List ℕ) → ℕ → Option (List ℕ) → Option (List ℕ) → Type 0
+ExtractIsSound files words status old new =
+    (board challenge reply other second : List ℕ)
+    → words ≡ codes "extract" ∷ board ∷ challenge ∷ reply ∷ other ∷ second ∷ []
+    → (status ≡ 0) ⊎ (status ≡ 3)
+    → PrintsBidsOf files board challenge other status old new
+
+-- completeness: where the words are this one and five names, each of 1 to 255 bytes, and both
+-- replies are accepted for different challenges, the status is 0 or 3
+abbrev pub EndsWhereAccepted : (verb : List ℕ) → (ExtractWords → Type 0) → List (List ℕ)
+    → (status : ℕ) → Type 0
+EndsWhereAccepted verb Accepts words status =
+    (names : ExtractWords) → words ≡ verb ∷ extract_inputs names
+    → AllByRecursion (λ name. is_name name ≡ true) (extract_inputs names)
+    → Accepts names → status ≢ 6 → status ≢ 9 → (status ≡ 0) ⊎ (status ≡ 3)
+
+abbrev pub ExtractIsComplete : Files → List (List ℕ) → (status : ℕ) → (old new : Option (List ℕ))
+    → Type 0
+ExtractIsComplete files words status old new =
+    EndsWhereAccepted (codes "extract") (AcceptsTwoFiles files) words status
+
+-- the same of a claim file: with status 0, what was printed is values of just the lanes whose bits
+-- differ, whose printed halves open the file's digests in that lane, and of which its claim holds
+pub record PrintsValuesOf (files : Files) (claim challenge other : List ℕ) (status : ℕ)
+    (old new : Option (List ℕ)) : Type 0 where
+  pub file : List ℕ
+  pub front : ClaimFront
+  pub first : Challenge
+  pub second : Challenge
+  pub claim_is : get files claim ≡ Some file
+  pub begins : BeginsWithClaim file front
+  pub first_is : get files challenge ≡ Some (challenge_text first)
+  pub second_is : get files other ≡ Some (challenge_text second)
+  pub values : status ≡ 0
+      → Prints (TellsValues front (differing 1 first.bits second.bits)) old new
+  pub clash : status ≡ 3 → Prints (TellsTwoOpenings file front.head.auction) old new
+
+abbrev pub ClaimExtractIsSound : Files → List (List ℕ) → (status : ℕ)
+    → (old new : Option (List ℕ)) → Type 0
+ClaimExtractIsSound files words status old new =
+    (claim challenge reply other second : List ℕ)
+    → words ≡ codes "claim-extract" ∷ claim ∷ challenge ∷ reply ∷ other ∷ second ∷ []
+    → (status ≡ 0) ⊎ (status ≡ 3)
+    → PrintsValuesOf files claim challenge other status old new
+
+abbrev pub ClaimExtractIsComplete : Files → List (List ℕ) → (status : ℕ)
+    → (old new : Option (List ℕ)) → Type 0
+ClaimExtractIsComplete files words status old new =
+    EndsWhereAccepted (codes "claim-extract") (AcceptsTwoClaims files) words status
 
 -- of two replies that are accepted, a command that extracts puts what is extracted of them; and it
 -- puts such of no others

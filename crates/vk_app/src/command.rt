@@ -16,7 +16,7 @@ ghost use Rattle.vk_audit.specs.Audits.{audit_seen};
 ghost use Rattle.vk_claims.specs.Orders.{claim_order_seen};
 ghost use Rattle.vk_coins.specs.Meaning.{MakesChallenge};
 ghost use Rattle.vk_app.specs.Commands.{ActsOnFiles, CommandActsFreely, CommandEndsFreely, EndsWork, LeavesKeeper, RunIsDone, RunIsStopped, audit_on, claim_on, command_effect, script_in, work_on};
-ghost use Rattle.vk_app.specs.Promises.{Audits, ClaimHeadline, Claims, CommandLeaves, Headline, HoldsCeremony, KeepsHouse, OverFiles, RunLeaves, SamplesMatching, TellsUsage};
+ghost use Rattle.vk_app.specs.Promises.{Audits, ClaimExtractIsComplete, ClaimExtractIsSound, ClaimHeadline, Claims, CommandLeaves, ExtractIsComplete, ExtractIsSound, Headline, HoldsCeremony, KeepsHouse, OverFiles, RunLeaves, SamplesMatching, TellsUsage};
 ghost use Rattle.vk_app.specs.Sealing.{Seals};
 
 use crate::seal::seal;
@@ -188,8 +188,17 @@ pub fn run<S: Shelf, K: Keeper + Drop, W: Sink>(
         (outside (stores (S.held shelf.old) (K.ledger keeper.old)) (W.taken out.old))
         (outside (stores (S.held shelf.new) (K.ledger keeper.new)) (W.taken out.new)) }
 
-    // Of two replies that are accepted for different challenges, an `extract` puts the bids whose
-    // outcome the board publishes, or two openings of one commitment; and it puts such of no
+    // Whatever the files are, what `extract` prints with status 0 or 3 is true of the board: bids
+    // that open its seals and make the sale that it publishes, or two openings of one commitment.
+    ensures sound { OverFiles ExtractIsSound (S.held shelf.old) (map string_bytes words.now) result
+        (W.taken out.old) (W.taken out.new) }
+
+    // Where both replies are accepted for different challenges, the status is 0 or 3.
+    ensures complete { OverFiles ExtractIsComplete (S.held shelf.old) (map string_bytes words.now)
+        result (W.taken out.old) (W.taken out.new) }
+
+    // Both at once: of two replies that are accepted for different challenges, an `extract` puts the
+    // bids that they open, or the first commitment that they open twice; and it puts such of no
     // others.
     ensures headline { OverFiles Headline (S.held shelf.old) (map string_bytes words.now) result
         (W.taken out.old) (W.taken out.new) }
@@ -198,6 +207,13 @@ pub fn run<S: Shelf, K: Keeper + Drop, W: Sink>(
     // named files.
     ensures audits { OverFiles Audits (S.held shelf.old) (map string_bytes words.now) result
         (W.taken out.old) (W.taken out.new) }
+
+    // The same two of `claim-extract`: values that open the seals of the claim file, and of which
+    // its claim holds.
+    ensures claim_sound { OverFiles ClaimExtractIsSound (S.held shelf.old)
+        (map string_bytes words.now) result (W.taken out.old) (W.taken out.new) }
+    ensures claim_complete { OverFiles ClaimExtractIsComplete (S.held shelf.old)
+        (map string_bytes words.now) result (W.taken out.old) (W.taken out.new) }
 
     // Of two replies to a claim file that are accepted for different challenges, a `claim-extract`
     // puts values that open the seals and of which the file's claim holds, or two openings of one

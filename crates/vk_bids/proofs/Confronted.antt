@@ -18,7 +18,6 @@ use Rattle.vk_board.specs.Values.{IsSealAfter}
 use Rattle.vk_board.specs.declared.board.SealLines.{SealLines}
 use Rattle.vk_board.specs.declared.front.Front.{Front}
 use Rattle.vk_extractor.specs.Clash.{or_else}
-use Rattle.vk_verifier.specs.Verdicts.{statement_of}
 use Rattle.vk_extractor.specs.Confronting.{no_tape, secret_com, tape_in}
 use Rattle.vk_bids.specs.declared.bids.LaneBids.{LaneBids}
 use Rattle.vk_bids.specs.declared.bids.OpenedBid.{OpenedBid}
@@ -116,7 +115,7 @@ opens_as place other digest same opening places digests opens =
 
 place_as : (front : Front) (secret : Secret) (seat number slot : ℕ)
     → front.head.auction ≡ secret.auction → seat ≡ secret.seat
-    → seal_place (statement_of front) seat number slot
+    → seal_place front.head.auction seat number slot
     ≡ record { auction = secret.auction; seat = secret.seat; lane = number; slot = slot }
 place_as front secret seat number slot auctions seats =
     let of : List ℕ → ℕ → Place =
@@ -126,7 +125,7 @@ place_as front secret seat number slot auctions seats =
 -- the digests of a matching seal in a lane are the secret's commitments in it
 pub digests_are : (front : Front) (secret : Secret) (index number : ℕ) (bid : OpenedBid)
     → board_seal front.head front.seals index ≡ seal_of secret
-    → (opens : OpensSeal (statement_of front) number index bid)
+    → (opens : OpensSeal front.head.auction front.seals number index bid)
     → (number ≤ length secret.lanes) × (opens.digests ≡ secret_com secret number)
 digests_are front secret index number bid same opens =
     let lines : slice_index_or front.seals index no_seal ≡ opens.seal =
@@ -146,7 +145,7 @@ digests_are front secret index number bid same opens =
 -- where the secret matches the seal, a bid that opens the seal opens the secret's commitments
 pub opens_bid : (front : Front) (secret : Secret) (index number : ℕ) (bid : OpenedBid)
     → board_seal front.head front.seals index ≡ seal_of secret
-    → OpensSeal (statement_of front) number index bid → OpensSecretBid secret number bid
+    → OpensSeal front.head.auction front.seals number index bid → OpensSecretBid secret number bid
 opens_bid front secret index number bid same opens =
     let lines : slice_index_or front.seals index no_seal ≡ opens.seal =
     get_or_from_slice_get front.seals index opens.seal no_seal opens.on_board in

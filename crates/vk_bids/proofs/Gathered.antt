@@ -81,13 +81,13 @@ pub record IsLane (s : StatementValue) (number : ℕ) (lane : TwoLane) : Type 0 
   pub second : IsAccepted s.plan lane.case lane.second_bit lane.second
 
 -- the number of a lane whose bits these are, where they differ
-abbrev number_here : ℕ → Bool → Bool → List ℕ
+abbrev pub number_here : ℕ → Bool → Bool → List ℕ
 number_here number false false = []
 number_here number true true = []
 number_here number false true = number ∷ []
 number_here number true false = number ∷ []
 
-differing_first : (number : ℕ) (first_bit second_bit : Bool) (first second : List Bool)
+pub differing_first : (number : ℕ) (first_bit second_bit : Bool) (first second : List Bool)
     → differing number (first_bit ∷ first) (second_bit ∷ second)
     ≡ number_here number first_bit second_bit ++ differing (number + 1) first second
 differing_first number false false first second = refl
@@ -95,7 +95,7 @@ differing_first number true true first second = refl
 differing_first number false true first second = refl
 differing_first number true false first second = refl
 
-none_differ : (number : ℕ) (first_bit : Bool) (first : List Bool)
+pub none_differ : (number : ℕ) (first_bit : Bool) (first : List Bool)
     → differing number (first_bit ∷ first) [] ≡ []
 none_differ number false first = refl
 none_differ number true first = refl
@@ -110,7 +110,7 @@ here_from number true false = All-cons (λ n. number ≤ n) number [] (omega ari
     (All-nil (λ n. number ≤ n))
 
 -- these are of the lanes from that number on
-later_lanes : (number : ℕ) (first second : List Bool)
+pub later_lanes : (number : ℕ) (first second : List Bool)
     → All (λ n. number ≤ n) (differing number first second)
 later_lanes number [] second = All-nil (λ n. number ≤ n)
 later_lanes number (first_bit ∷ first) [] =

@@ -14,3 +14,5 @@ pub mod Opening
 pub mod Seals
 pub mod Showing
 pub mod Shown
+pub mod Soundness
+pub mod Standing

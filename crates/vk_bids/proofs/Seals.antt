@@ -49,7 +49,7 @@ seals_within s number lines shown counts =
       inputs,
     )
 
-no_seal : SealLines
+pub no_seal : SealLines
 no_seal = record { seat = 0; coms = [] }
 
 -- what is shown of a seal in a lane is a half that opens it
@@ -60,22 +60,22 @@ pub record OpensHalf (s : StatementValue) (number index : ℕ) (shown : Shown) (
   pub on_board : slice_get s.seals index ≡ Some seal
   pub in_lane : slice_get seal.coms (number - 1) ≡ Some digests
   pub seat : slice_index (seats_of s.seals) index ≡ seal.seat
-  pub is_half : IsHalf (seal_place s seal.seat number 0) digests shown bit half
+  pub is_half : IsHalf (seal_place s.auction seal.seat number 0) digests shown bit half
 
 seal_stands : (s : StatementValue) (number index : ℕ) (lines : LaneLines) → index < length s.seals
     → place_in (case_of s number lines) index
-    ≡ seal_place s (get_or s.seals index no_seal).seat number 0
+    ≡ seal_place s.auction (get_or s.seals index no_seal).seat number 0
 seal_stands s number index lines lt =
     let seats : length (seats_of s.seals) ≡ length s.seals = length-map s.seals _ in
-    let at_seat : Place = seal_place s (slice_index (seats_of s.seals) index) number 0 in
+    let at_seat : Place = seal_place s.auction (slice_index (seats_of s.seals) index) number 0 in
     let at_none : Place = record { auction = s.auction; seat = 0; lane = number; slot = 2 * index }
     in
     ap (λ b. if b then at_seat else at_none)
     (lt-ltb index (length (seats_of s.seals)) (omega arith))
-    ∙ ap (λ seat. seal_place s seat number 0)
+    ∙ ap (λ seat. seal_place s.auction seat number 0)
     (get_or-map (λ (seal : SealLines). seal.seat) s.seals index no_seal 0 lt)
 
-seal_commits : (s : StatementValue) (number index : ℕ) (lines : LaneLines) → index < length s.seals
+pub seal_commits : (s : StatementValue) (number index : ℕ) (lines : LaneLines) → index < length s.seals
     → slice_index_or (case_of s number lines).coms index no_digests
     ≡ get_or (get_or s.seals index no_seal).coms (number - 1) no_digests
 seal_commits s number index lines lt =
@@ -112,7 +112,7 @@ seal_opens s number index lines bit shown halves is some last lt accepted =
     Reads Split place (slice_index_or (case_of s number lines).coms index no_digests) one bit
     half in
     let R : WireCom → Type 0 =
-    λ com_digests. Reads Split (seal_place s seal.seat number 0) com_digests one bit half in
+    λ com_digests. Reads Split (seal_place s.auction seal.seat number 0) com_digests one bit half in
     let reads = subst R (seal_commits s number index lines lt)
     (subst Q (seal_stands s number index lines lt)
     (subst P split (accepted.wires.each index within))) in
@@ -122,5 +122,5 @@ seal_opens s number index lines bit shown halves is some last lt accepted =
       on_board = slice_get-get_or s.seals index no_seal lt;
       in_lane = slice_get-get_or seal.coms (number - 1) no_digests has;
       seat = get_or-map (λ (seal : SealLines). seal.seat) s.seals index no_seal 0 lt;
-      is_half = split_half (seal_place s seal.seat number 0) digests one bit half reads;
+      is_half = split_half (seal_place s.auction seal.seat number 0) digests one bit half reads;
     }

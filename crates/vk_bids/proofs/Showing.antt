@@ -45,7 +45,7 @@ opens_seal : (s : StatementValue) (number index : ℕ) (zero_shown one_shown : S
     → 1 ≤ number → OpensHalf s number index zero_shown false first_half
     → OpensHalf s number index one_shown true second_half
     → opened_bid (slice_index (seats_of s.seals) index) zero_shown one_shown ≡ Some bid
-    → OpensSeal s number index bid
+    → OpensSeal s.auction s.seals number index bid
 opens_seal s number index zero_shown one_shown first_half second_half bid some first second opened =
     let seat = slice_index (seats_of s.seals) index in
     let made = from_halves seat first.is_half.opening second.is_half.opening in
@@ -59,12 +59,12 @@ opens_seal s number index zero_shown one_shown first_half second_half bid some f
     (sym second.in_lane ∙ ap (λ (seal : SealLines). slice_get seal.coms (number - 1)) seal_same
     ∙ first.in_lane) in
     let P : SealLines → Type 0 =
-    λ seal. Opens (seal_place s seal.seat number 1) second.digests.second second.is_half.opening
+    λ seal. Opens (seal_place s.auction seal.seat number 1) second.digests.second second.is_half.opening
     in
     let Q : WireCom → Type 0 =
-    λ digests. Opens (seal_place s first.seal.seat number 1) digests.second
+    λ digests. Opens (seal_place s.auction first.seal.seat number 1) digests.second
     second.is_half.opening in
-    let whole : OpensSeal s number index made = record {
+    let whole : OpensSeal s.auction s.seals number index made = record {
       numbered = some;
       seal = first.seal;
       digests = first.digests;
@@ -75,7 +75,7 @@ opens_seal s number index zero_shown one_shown first_half second_half bid some f
       second_opens = subst Q digests_same (subst P seal_same second.is_half.opens);
       is_sum = refl;
     } in
-    subst (OpensSeal s number index) is whole
+    subst (OpensSeal s.auction s.seals number index) is whole
 
 -- the wires of the seals show halves
 shows_halves : (s : StatementValue) (number index : ℕ) (zero_shown one_shown : List Shown)

@@ -7,6 +7,7 @@ pub mod Extractions
 pub mod LaneExtraction
 pub mod Extraction
 pub mod Headline
+pub mod Soundness
 pub mod Laws
 pub mod Confrontation
 pub mod ConfrontTexts

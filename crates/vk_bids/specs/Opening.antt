@@ -26,21 +26,22 @@ abbrev pub IsCaseOf : StatementValue → ℕ → LaneCase → Type 0
 IsCaseOf s number case = (lines : LaneLines) × (case ≡ case_of s number lines)
 
 -- where a commitment of a seal stands: its first at slot 0, its second at slot 1
-abbrev pub seal_place : StatementValue → ℕ → ℕ → ℕ → Place
-seal_place s seat number slot =
-    record { auction = s.auction; seat = seat; lane = number; slot = slot }
+abbrev pub seal_place : (auction : List ℕ) → (seat lane slot : ℕ) → Place
+seal_place auction seat lane slot =
+    record { auction = auction; seat = seat; lane = lane; slot = slot }
 
--- the bid is the sum of two halves that open, in the lane of that number from 1, the seal at that
--- index from 0
-pub record OpensSeal (s : StatementValue) (number index : ℕ) (bid : OpenedBid) : Type 0 where
+-- of these seals of an auction: the bid is the sum of two halves that open, in the lane of that
+-- number from 1, the seal at that index from 0
+pub record OpensSeal (auction : List ℕ) (seals : List SealLines) (number index : ℕ)
+    (bid : OpenedBid) : Type 0 where
   pub numbered : 1 ≤ number
   pub seal : SealLines
   pub digests : WireCom
-  pub on_board : slice_get s.seals index ≡ Some seal
+  pub on_board : slice_get seals index ≡ Some seal
   pub in_lane : slice_get seal.coms (number - 1) ≡ Some digests
   pub seat : bid.seat ≡ seal.seat
-  pub first_opens : Opens (seal_place s seal.seat number 0) digests.first bid.first
-  pub second_opens : Opens (seal_place s seal.seat number 1) digests.second bid.second
+  pub first_opens : Opens (seal_place auction seal.seat number 0) digests.first bid.first
+  pub second_opens : Opens (seal_place auction seal.seat number 1) digests.second bid.second
   pub is_sum : bid.bid ≡ sum bid.first.value bid.second.value
 
 -- the openings of the bids, in the order of the seals, are those that are shown for bit 0 and for
@@ -57,7 +58,7 @@ AreShownIn zero one bids =
 pub record OpensValues (s : StatementValue) (number : ℕ) (bids : List OpenedBid) : Type 0 where
   pub one_each : map (λ bid. bid.seat) bids ≡ seats_of s.seals
   pub opened : (index : ℕ) (bid : OpenedBid) → slice_get bids index ≡ Some bid
-      → OpensSeal s number index bid
+      → OpensSeal s.auction s.seals number index bid
   pub values : List ℕ
   pub holds : Holds s.plan values
   pub inputs : take s.plan.inputs values ≡ map (λ bid. bid.bid) bids

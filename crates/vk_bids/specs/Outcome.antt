@@ -3,7 +3,6 @@ use Rattle.std.specs.Prelude.{◌≡◌, ℕ, ◌^◌, ◌<◌, All, List, map, 
 use Rattle.vk_board.specs.declared.front.Front.{Front}
 use Rattle.vk_board.specs.Reading.{seats_of}
 use Rattle.vk_vickrey.specs.Sales.{IsSale, sale_at}
-use Rattle.vk_verifier.specs.Verdicts.{statement_of}
 use Rattle.vk_bids.specs.declared.bids.LaneBids.{LaneBids}
 use Rattle.vk_bids.specs.declared.bids.OpenedBid.{OpenedBid}
 use Rattle.vk_bids.specs.Opening.{OpensSeal}
@@ -14,7 +13,7 @@ use Rattle.vk_bids.specs.Opening.{OpensSeal}
 pub record ShowsOutcome (front : Front) (number : ℕ) (bids : List OpenedBid) : Type 0 where
   pub one_each : map (λ bid. bid.seat) bids ≡ seats_of front.seals
   pub opened : (index : ℕ) (bid : OpenedBid) → slice_get bids index ≡ Some bid
-      → OpensSeal (statement_of front) number index bid
+      → OpensSeal front.head.auction front.seals number index bid
   pub within_width : All (λ bid. bid < 2 ^ front.head.width) (map (λ bid. bid.bid) bids)
   pub sale : IsSale (map (λ bid. bid.bid) bids) front.head.reserve
       (sale_at front.position front.head.price)

@@ -23,13 +23,9 @@ opened_line word number opened =
     ∷ decimal opened.bid
     ∷ codes "u" ∷ opening_text opened.first ∷ codes "v" ∷ opening_text opened.second ∷ []))
 
--- a bid of the lane of that number
-abbrev pub bid_line : ℕ → OpenedBid → List ℕ
-bid_line = opened_line (codes "bid")
-
 -- the bids of a lane, one line for each seal in order
 abbrev pub lane_bids_text : LaneBids → List ℕ
-lane_bids_text lane = flat_map (bid_line lane.number) lane.bids
+lane_bids_text lane = flat_map (opened_line (codes "bid") lane.number) lane.bids
 
 -- where a commitment stands in its auction
 unfoldable pub place_text : Place → List ℕ

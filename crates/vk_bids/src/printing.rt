@@ -1,7 +1,7 @@
 // What is printed of the bids that two replies give.
-ghost use Rattle.std.specs.Prelude.{◌≡◌, ◌++◌, IfOk, OnOk, string_bytes};
+ghost use Rattle.std.specs.Prelude.{◌≡◌, ◌++◌, IfOk, OnOk, codes, string_bytes};
 ghost use Rattle.std.specs.List.{flat_map};
-ghost use Rattle.vk_bids.specs.Texts.{agreement, agreements_text, bid_in, bid_line, extraction_text, first_bid, has_one_bid, lane_bids_text, opening_text, sale_line, sold_line};
+ghost use Rattle.vk_bids.specs.Texts.{agreement, agreements_text, bid_in, extraction_text, first_bid, has_one_bid, lane_bids_text, opened_line, opening_text, sale_line, sold_line};
 
 use crate::bids::{LaneBids, OpenedBid};
 use crate::extraction::Extracted;
@@ -24,7 +24,7 @@ fn lane_bids_lines(alloc: Global, lane: &LaneBids) -> Result<Vec<String>, NoMemo
 
 /// The line of one bid of the lane.
 fn bid_line(alloc: Global, number: u32, bid: &OpenedBid) -> Result<String, NoMemory>
-    ensures { IfOk result (λ line. string_bytes line ≡ bid_line number bid.now) }
+    ensures { IfOk result (λ line. string_bytes line ≡ opened_line (codes "bid") number bid.now) }
 {
     let seat = bid.seat;
     let sum = bid.bid.get();

@@ -5,3 +5,4 @@ pub mod Extractions
 pub mod Orders
 pub mod Findings
 pub mod Statuses
+pub mod Soundness

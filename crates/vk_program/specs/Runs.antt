@@ -13,7 +13,7 @@ use Rattle.vk_words.specs.Orders.{SealWords}
 use Rattle.vk_effect.specs.Effects.{Outside, outside, stores}
 use Rattle.vk_coins.specs.Meaning.{MakesChallenge}
 use Rattle.vk_app.specs.Commands.{LeavesKeeper, RunIsDone, RunIsStopped}
-use Rattle.vk_app.specs.Promises.{Audits, ClaimHeadline, Claims, Headline, HoldsCeremony, KeepsHouse, OverFiles, RunLeaves, SamplesMatching, TellsUsage}
+use Rattle.vk_app.specs.Promises.{Audits, ClaimExtractIsComplete, ClaimExtractIsSound, ClaimHeadline, Claims, ExtractIsComplete, ExtractIsSound, Headline, HoldsCeremony, KeepsHouse, OverFiles, RunLeaves, SamplesMatching, TellsUsage}
 use Rattle.vk_app.specs.Sealing.{Seals}
 use Rattle.vk_program.specs.Refusals.{stopped_status}
 use Rattle.vk_program.specs.Statuses.{status_behind}
@@ -46,8 +46,12 @@ outside_of all = outside (stores all.files all.ledger) all.taken
 pub record RunKeeps (words : List (List ℕ)) (status : ℕ) (old new : Met) : Type 0 where
   pub done : RunIsDone words status (outside_of old) (outside_of new)
   pub stopped : RunIsStopped words status (outside_of old) (outside_of new)
+  pub sound : OverFiles ExtractIsSound old.files words status old.taken new.taken
+  pub complete : OverFiles ExtractIsComplete old.files words status old.taken new.taken
   pub headline : OverFiles Headline old.files words status old.taken new.taken
   pub audits : OverFiles Audits old.files words status old.taken new.taken
+  pub claim_sound : OverFiles ClaimExtractIsSound old.files words status old.taken new.taken
+  pub claim_complete : OverFiles ClaimExtractIsComplete old.files words status old.taken new.taken
   pub claim_headline : OverFiles ClaimHeadline old.files words status old.taken new.taken
   pub claims : OverFiles Claims old.files words status old.taken new.taken
   pub matching : (number : ℕ) → command_words words ≡ Some (ClaimSample Matching number)

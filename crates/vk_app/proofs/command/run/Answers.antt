@@ -6,6 +6,7 @@ use Rattle.vk_app.specs.Commands.{DoesWork, work_on}
 use Rattle.vk_app.proofs.Audited.{told_audits, told_claim_headline, told_claims, told_headline}
 use Rattle.vk_app.proofs.Freely.{sampled_done, sampled_stopped}
 use Rattle.vk_app.proofs.Kept.{AlsoFree, told_ceremony, told_coin, told_house, told_seal, told_usage, unended_house}
+use Rattle.vk_app.proofs.Sound.{told_claim_complete, told_claim_sound, told_complete, told_sound}
 use Rattle.vk_app.proofs.command.run.Given.{Over}
 use Rattle.vk_app.proofs.command.run.Goals.{In-Ok}
 use Rattle.vk_app.proofs.command.run.Goals as goal
@@ -40,6 +41,22 @@ by_free_end g c follows = follows _ _ _ _ _ _ (c.in-Ok.ensures.ends, c.in-Ok.ens
 pub returns-in-Ok-clause-headline : goal.returns-in-Ok-clause-headline
 returns-in-Ok-clause-headline g c =
     by_end g (goal.at.returns-in-Ok-clause-headline g c).In-Ok told_headline
+
+pub returns-in-Ok-clause-sound : goal.returns-in-Ok-clause-sound
+returns-in-Ok-clause-sound g c =
+    by_end g (goal.at.returns-in-Ok-clause-sound g c).In-Ok told_sound
+
+pub returns-in-Ok-clause-complete : goal.returns-in-Ok-clause-complete
+returns-in-Ok-clause-complete g c =
+    by_end g (goal.at.returns-in-Ok-clause-complete g c).In-Ok told_complete
+
+pub returns-in-Ok-clause-claim_sound : goal.returns-in-Ok-clause-claim_sound
+returns-in-Ok-clause-claim_sound g c =
+    by_end g (goal.at.returns-in-Ok-clause-claim_sound g c).In-Ok told_claim_sound
+
+pub returns-in-Ok-clause-claim_complete : goal.returns-in-Ok-clause-claim_complete
+returns-in-Ok-clause-claim_complete g c =
+    by_end g (goal.at.returns-in-Ok-clause-claim_complete g c).In-Ok told_claim_complete
 
 pub returns-in-Ok-clause-audits : goal.returns-in-Ok-clause-audits
 returns-in-Ok-clause-audits g c =

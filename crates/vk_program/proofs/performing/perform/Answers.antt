@@ -6,8 +6,12 @@ returns g c =
     rw c.end.ensures record {
       done = run.done;
       stopped = run.stopped;
+      sound = run.sound;
+      complete = run.complete;
       headline = run.headline;
       audits = run.audits;
+      claim_sound = run.claim_sound;
+      claim_complete = run.claim_complete;
       claim_headline = run.claim_headline;
       claims = run.claims;
       matching = run.matching;
