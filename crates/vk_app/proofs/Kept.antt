@@ -36,7 +36,6 @@ use Rattle.vk_app.specs.Promises.{CeremonyIsDone, HoldsCeremony, KeepsHouse, Tel
 use Rattle.vk_app.specs.Sealing.{Seals, seal_effect, seal_on}
 use Rattle.vk_app.proofs.Sealing.{seals}
 use Rattle.vk_app.proofs.Served.{command_done, serves}
-use Rattle.vk_app.proofs.Statuses.{no_command}
 
 pub neither : (P : Type 0) (status : ℕ) → (status ≡ 6) ⊎ (status ≡ 9) → status ≢ 6 → status ≢ 9 → P
 neither P status (inl failed) no_fault no_want = absurd (no_fault failed)
@@ -171,15 +170,6 @@ module _ (files : Files) (ledger : Ledger) (words : List (List ℕ)) (status : �
       (subst (EndsSo (Ok status)) is ends)
       (ceremony_performs_all files ledger script old status new)
 
-  pub ended_usage : EndsSo (Ok status) (command_words words) → EndsFree (Ok status)
-      → TellsUsage words status old new.taken
-  ended_usage ends free = record {
-    only = no_command files ledger status old new (command_words words) ends free;
-    always = λ is _ _. (let done : Done status (says (Some ledger) usage_said)
-        (outside (stores (Some files) (Some ledger)) old) new = subst (EndsSo (Ok status)) is ends
-        in (done.status_is, done.taken_is));
-  }
-
   -- ---- after a stop
 
   pub stopped_house : (stop : OutsideErr) → EndsSo (Err stop) (command_words words)
@@ -225,11 +215,17 @@ module _ (held : Option Files) (ledger : Option Ledger) (words : List (List ℕ)
       new.ledger old new.taken) (Ends (Ok status))
       (λ files kept. ended_ceremony files kept words status old new) held ledger
 
-  pub told_usage : AlsoFree (Ok status) held ledger
-      → IfSome held (λ files. IfSome ledger (λ kept. TellsUsage words status old new.taken))
-  told_usage = told_both (λ files kept. TellsUsage words status old new.taken)
-      (AlsoFree (Ok status)) (λ files kept ends. ended_usage files kept words status old new ends.0
-      ends.1) held ledger
+  -- where the status is that of words of no form only where the words are of none
+  pub told_usage : Ends (Ok status) held ledger → (status ≡ 2 → command_words words ≡ None)
+      → TellsUsage words status old new.taken
+  told_usage ends only = record {
+    only = only;
+    always = λ is _ _. (let done : Done status (says ledger usage_said)
+        (outside (stores held ledger) old) new =
+        subst (λ command. IfSome (work_of held ledger command)
+        (λ work. EndsWork (Ok status) work (outside (stores held ledger) old) new)) is ends
+        in (done.status_is, done.taken_is));
+  }
 
   pub unended_house : (stop : OutsideErr) → (status ≡ 6) ⊎ (status ≡ 9)
       → AlsoFree (Err stop) held ledger

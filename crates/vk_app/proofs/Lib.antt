@@ -2,7 +2,6 @@ pub mod Audited
 pub mod Sound
 pub mod Served
 mod Sealing
-mod Statuses
 pub mod Kept
 mod Freely
 pub mod Answering

@@ -1,6 +1,6 @@
 //! The top call.
 
-ghost use Rattle.std.specs.Prelude.{◌≡◌, ◌≢◌, ◌⊎◌, ℕ, Option, IfSome, IfOk, Some, map, option_map, string_bytes};
+ghost use Rattle.std.specs.Prelude.{◌≡◌, ◌≢◌, ◌⊎◌, ℕ, None, IfSome, IfOk, Some, map, option_map, string_bytes};
 ghost use Rattle.vk_io.specs.Faults.{Rose};
 ghost use Rattle.vk_io.specs.Files.{Modelled};
 ghost use Rattle.vk_keeper.specs.Ledgers.{Ledger};
@@ -8,15 +8,15 @@ ghost use Rattle.vk_words.specs.Commands.{ClaimSample, Coin, IsCommand, Seal, co
 ghost use Rattle.vk_words.specs.declared.claim.ClaimKind.TheVariants.{Matching};
 ghost use Rattle.vk_words.specs.Coins.{CoinWords};
 ghost use Rattle.vk_words.specs.Orders.{SealWords};
-ghost use Rattle.vk_effect.specs.Effects.{IsEnd, outside, stores};
+ghost use Rattle.vk_effect.specs.Effects.{IsCommandEnd, IsEnd, outside, stores};
 ghost use Rattle.vk_effect.specs.Ends.{Acts};
 ghost use Rattle.vk_house.specs.Once.{KeepsAnswers};
 ghost use Rattle.vk_effect.specs.Counts.{CausesThree, CausesTwo};
 ghost use Rattle.vk_audit.specs.Audits.{audit_seen};
 ghost use Rattle.vk_claims.specs.Orders.{claim_order_seen};
 ghost use Rattle.vk_coins.specs.Meaning.{MakesChallenge};
-ghost use Rattle.vk_app.specs.Commands.{ActsOnFiles, CommandActsFreely, CommandEndsFreely, EndsWork, LeavesKeeper, RunIsDone, RunIsStopped, audit_on, claim_on, command_effect, script_in, work_on};
-ghost use Rattle.vk_app.specs.Promises.{Audits, ClaimExtractIsComplete, ClaimExtractIsSound, ClaimHeadline, Claims, CommandLeaves, ExtractIsComplete, ExtractIsSound, Headline, HoldsCeremony, KeepsHouse, OverFiles, RunLeaves, SamplesMatching, TellsUsage};
+ghost use Rattle.vk_app.specs.Commands.{ActsOnFiles, CommandActsFreely, CommandEndsFreely, EndsWork, LeavesKeeper, RunIsDone, RunIsStopped, audit_on, claim_on, command_effect, script_in, work_of, work_on};
+ghost use Rattle.vk_app.specs.Promises.{Audits, ClaimExtractIsComplete, ClaimExtractIsSound, ClaimHeadline, Claims, CommandLeaves, ExtractIsComplete, ExtractIsSound, Headline, HoldsCeremony, KeepsHouse, LeavesBy, OverFiles, RunLeaves, SamplesMatching, TellsUsage};
 ghost use Rattle.vk_app.specs.Sealing.{Seals};
 
 use crate::seal::seal;
@@ -57,80 +57,121 @@ fn read_claim<S: Shelf>(
     said
 }
 
-/// Does the command, but for printing.
+/// Does the command, but for printing; a ceremony is none of these.
 #[tactic(auto, using(vk_ceremony::proofs::Leading::keeps_told))]
 fn act<S: Shelf, K: Keeper + Drop>(
     alloc: Global,
     shelf: &mut S,
     keeper: &mut K,
-    command: Option<Command<'_>>,
+    command: Command<'_>,
 ) -> Result<Said, OutsideErr>
-    requires { IfSome command IsCommand }
+    requires right { IsCommand command }
+    requires single { script_in (Some (command_seen command)) ≡ None }
     ensures acts { IfSome (command_effect (S.held shelf.old) (K.ledger keeper.old)
-        (option_map command_seen command.entry))
+        (Some (command_seen command)))
         (λ effect. Acts result effect (stores (S.held shelf.old) (K.ledger keeper.old))
         (stores (S.held shelf.new) (K.ledger keeper.new))) }
-    ensures free { CommandActsFreely (option_map command_seen command.entry) result
+    ensures free { CommandActsFreely (Some (command_seen command)) result
         (stores (S.held shelf.old) (K.ledger keeper.old))
         (stores (S.held shelf.new) (K.ledger keeper.new)) }
     ensures files { IfOk result
-        (λ said. CommandLeaves (option_map command_seen command.entry) said.status
-        (S.held shelf.old) (S.held shelf.new)) }
+        (λ said. CommandLeaves (Some (command_seen command)) said.status (S.held shelf.old)
+        (S.held shelf.new)) }
     ensures once { Modelled KeepsAnswers (K.ledger keeper.old) (K.ledger keeper.new) }
-    ensures keeper { LeavesKeeper K.ledger K.Keeper.faults (option_map command_seen command.entry)
-        keeper.old keeper.new }
+    ensures keeper { LeavesKeeper K.ledger K.Keeper.faults (Some (command_seen command)) keeper.old
+        keeper.new }
     ensures causes { CausesTwo OutsideErr.Failed result (S.Shelf.faults shelf.old)
         (S.Shelf.faults shelf.new)
         (K.Keeper.faults keeper.old) (K.Keeper.faults keeper.new) }
 {
     match command {
-        Some(Command::Seal(order)) => Ok(seal(alloc, shelf, &order)?),
-        Some(Command::House(order)) => Ok(house_command(alloc, shelf, keeper, &order)?),
-        Some(Command::Verify(names)) => Ok(read(alloc, shelf, &AuditOrder::Verify(names))?),
-        Some(Command::Extract(names)) => Ok(read(alloc, shelf, &AuditOrder::Extract(names))?),
-        Some(Command::Confront(names)) => Ok(read(alloc, shelf, &AuditOrder::Confront(names))?),
-        Some(Command::Report(board)) => Ok(read(alloc, shelf, &AuditOrder::Report(board))?),
-        Some(Command::Sample(number)) => Ok(sample(alloc, shelf, number)?),
-        Some(Command::ClaimVerify(names)) => {
+        Command::Seal(order) => Ok(seal(alloc, shelf, &order)?),
+        Command::House(order) => Ok(house_command(alloc, shelf, keeper, &order)?),
+        Command::Verify(names) => Ok(read(alloc, shelf, &AuditOrder::Verify(names))?),
+        Command::Extract(names) => Ok(read(alloc, shelf, &AuditOrder::Extract(names))?),
+        Command::Confront(names) => Ok(read(alloc, shelf, &AuditOrder::Confront(names))?),
+        Command::Report(board) => Ok(read(alloc, shelf, &AuditOrder::Report(board))?),
+        Command::Sample(number) => Ok(sample(alloc, shelf, number)?),
+        Command::ClaimVerify(names) => {
             let said = read_claim(alloc, shelf, &ClaimOrder::Verify(names))?;
             Ok(said)
         }
-        Some(Command::ClaimExtract(names)) => {
+        Command::ClaimExtract(names) => {
             let said = read_claim(alloc, shelf, &ClaimOrder::Extract(names))?;
             Ok(said)
         }
-        Some(Command::ClaimSample { kind, number }) => {
+        Command::ClaimSample { kind, number } => {
             let said = claim_sample(alloc, shelf, kind, number)?;
             Ok(said)
         }
-        Some(Command::Coin(order)) => Ok(make_challenge(alloc, shelf, &order)?),
-        Some(Command::Ceremony(_)) | None => Ok(usage()),
+        Command::Coin(order) => Ok(make_challenge(alloc, shelf, &order)?),
+        Command::Ceremony(_) => unreachable!(),
     }
 }
 
 /// The name of the script, where the command is a ceremony.
-fn script_of<'a>(command: Option<Command<'a>>) -> Option<&'a str>
-    ensures { option_map (λ name. name.now) result
-        ≡ script_in (option_map command_seen command.entry) }
+fn script_of(command: Command<'_>) -> Option<&str>
+    ensures { option_map (λ name. name.now) result ≡ script_in (Some (command_seen command)) }
 {
     match command {
-        Some(Command::Ceremony(script)) => Some(script),
-        Some(Command::Seal(_))
-        | Some(Command::House(_))
-        | Some(Command::Verify(_))
-        | Some(Command::Extract(_))
-        | Some(Command::Confront(_))
-        | Some(Command::Report(_))
-        | Some(Command::Sample(_))
-        | Some(Command::ClaimVerify(_))
-        | Some(Command::ClaimExtract(_))
-        | Some(Command::ClaimSample { .. })
-        | Some(Command::Coin(_))
-        | None => None,
+        Command::Ceremony(script) => Some(script),
+        Command::Seal(_)
+        | Command::House(_)
+        | Command::Verify(_)
+        | Command::Extract(_)
+        | Command::Confront(_)
+        | Command::Report(_)
+        | Command::Sample(_)
+        | Command::ClaimVerify(_)
+        | Command::ClaimExtract(_)
+        | Command::ClaimSample { .. }
+        | Command::Coin(_) => None,
     }
 }
 
-/// Does what the words say, prints at the end of a command, and answers the status.
+/// Does the command, or what a script says, prints at the end of a command, and answers the status.
+fn perform_command<S: Shelf, K: Keeper + Drop, W: Sink>(
+    alloc: Global,
+    command: Command<'_>,
+    shelf: &mut S,
+    keeper: &mut K,
+    out: &mut W,
+) -> Result<u8, OutsideErr>
+    requires { IsCommand command }
+    ensures ends { IfSome (work_of (S.held shelf.old) (K.ledger keeper.old)
+        (Some (command_seen command)))
+        (λ work. EndsWork result work
+        (outside (stores (S.held shelf.old) (K.ledger keeper.old)) (W.taken out.old))
+        (outside (stores (S.held shelf.new) (K.ledger keeper.new)) (W.taken out.new))) }
+    ensures free { CommandEndsFreely (Some (command_seen command)) result
+        (outside (stores (S.held shelf.old) (K.ledger keeper.old)) (W.taken out.old))
+        (outside (stores (S.held shelf.new) (K.ledger keeper.new)) (W.taken out.new)) }
+    ensures end { IfOk result IsCommandEnd }
+    ensures files { IfOk result
+        (λ status. LeavesBy (script_in (Some (command_seen command))) (Some (command_seen command))
+        status (S.held shelf.old) (S.held shelf.new)) }
+    ensures once { Modelled KeepsAnswers (K.ledger keeper.old) (K.ledger keeper.new) }
+    ensures keeper { LeavesKeeper K.ledger K.Keeper.faults (Some (command_seen command)) keeper.old
+        keeper.new }
+    ensures causes { CausesThree OutsideErr.Failed result (S.Shelf.faults shelf.old)
+        (S.Shelf.faults shelf.new)
+        (K.Keeper.faults keeper.old) (K.Keeper.faults keeper.new) (W.Sink.faults out.old)
+        (W.Sink.faults out.new) }
+{
+    match script_of(command) {
+        Some(script) => {
+            let status = ceremony(alloc, shelf, keeper, out, script)?;
+            Ok(status)
+        }
+        None => {
+            let said = act(alloc, shelf, keeper, command)?;
+            said.print(out)?;
+            Ok(said.status())
+        }
+    }
+}
+
+/// Does what the words say, and answers the status.
 fn perform<S: Shelf, K: Keeper + Drop, W: Sink>(
     alloc: Global,
     words: &[String],
@@ -147,6 +188,8 @@ fn perform<S: Shelf, K: Keeper + Drop, W: Sink>(
         (outside (stores (S.held shelf.old) (K.ledger keeper.old)) (W.taken out.old))
         (outside (stores (S.held shelf.new) (K.ledger keeper.new)) (W.taken out.new)) }
     ensures end { IfOk result IsEnd }
+    ensures usage { IfOk result
+        (λ status. status ≡ 2 → command_words (map string_bytes words.now) ≡ None) }
     ensures files { IfOk result
         (λ status. RunLeaves (map string_bytes words.now) status (S.held shelf.old)
         (S.held shelf.new)) }
@@ -158,16 +201,14 @@ fn perform<S: Shelf, K: Keeper + Drop, W: Sink>(
         (K.Keeper.faults keeper.old) (K.Keeper.faults keeper.new) (W.Sink.faults out.old)
         (W.Sink.faults out.new) }
 {
-    let command = command_of(words);
-    match script_of(command) {
-        Some(script) => {
-            let status = ceremony(alloc, shelf, keeper, out, script)?;
+    match command_of(words) {
+        Some(command) => {
+            let status = perform_command(alloc, command, shelf, keeper, out)?;
             Ok(status)
         }
         None => {
-            let said = act(alloc, shelf, keeper, command)?;
-            said.print(out)?;
-            Ok(said.status())
+            let status = usage(out)?;
+            Ok(status)
         }
     }
 }
@@ -264,8 +305,8 @@ pub fn run<S: Shelf, K: Keeper + Drop, W: Sink>(
         → RunLeaves (map string_bytes words.now) result (S.held shelf.old) (S.held shelf.new) }
 
     // Status 2 is that the words are no command.
-    ensures usage { IfSome (S.held shelf.old) (λ files. IfSome (K.ledger keeper.old) (λ ledger.
-        TellsUsage (map string_bytes words.now) result (W.taken out.old) (W.taken out.new))) }
+    ensures usage { TellsUsage (map string_bytes words.now) result (W.taken out.old)
+        (W.taken out.new) }
 
     // Whatever the words and the status, an auction that was answered is the same after, and one
     // that was proved has its seed and its seals.

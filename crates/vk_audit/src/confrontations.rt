@@ -12,7 +12,7 @@ ghost use Rattle.vk_bids.specs.Confrontation.{fault_of};
 ghost use Rattle.vk_bids.specs.ConfrontTexts.{confrontation_text};
 ghost use Rattle.vk_bids.specs.Texts.{clash_text};
 ghost use Rattle.vk_words.specs.Names.{confront_seen};
-ghost use Rattle.vk_effect.specs.Effects.{IsEnd};
+ghost use Rattle.vk_effect.specs.Effects.{IsCommandEnd};
 
 use crate::verdicts::{judged, same_challenge, unread};
 use std::alloc::Global;
@@ -25,7 +25,7 @@ use vk_words::ConfrontNames;
 
 /// The line of a confrontation, with that status.
 fn printed(status: u8, confrontation: &Confrontation) -> Said
-    requires { IsEnd status }
+    requires { IsCommandEnd status }
     ensures { result ≡ record { status = status; text = confrontation_text confrontation.now } }
 {
     Said::of_short(status, confrontation_line(confrontation))

@@ -6,7 +6,7 @@ use Rattle.vk_lines.specs.declared.step.Step.{Step}
 use Rattle.vk_lines.specs.declared.step.Step.TheVariants as step
 use Rattle.vk_lines.specs.Lines.{LinesValue, Rest, rest_of}
 use Rattle.vk_effect.specs.Counts.{CausesThree}
-use Rattle.vk_effect.specs.Effects.{Effect, IsEnd, Outside, Stores, done, stores}
+use Rattle.vk_effect.specs.Effects.{Effect, IsCommandEnd, Outside, Stores, done, stores}
 use Rattle.vk_words.specs.Orders.{HouseWords}
 use Rattle.vk_words.specs.Scripts.{script_words}
 use Rattle.vk_ceremony.specs.declared.reading.Line.{Line}
@@ -81,7 +81,7 @@ TurnsSome script lines left answer old new =
 -- the status at the end is none of a ceremony that was stopped
 abbrev pub EndsWell : Turn → Type 0
 EndsWell (Next refused) = Unit {0}
-EndsWell (Ended status) = IsEnd status
+EndsWell (Ended status) = IsCommandEnd status
 
 -- ---- faults
 

@@ -2,7 +2,7 @@
 
 ghost use Rattle.std.specs.Prelude.{◌≡◌, IfOk};
 ghost use Rattle.vk_io.specs.Faults.{Causes};
-ghost use Rattle.vk_effect.specs.Effects.{IsEnd};
+ghost use Rattle.vk_effect.specs.Effects.{IsCommandEnd};
 ghost use Rattle.vk_ceremony.specs.Ceremonies.{EndsSaying, closing_said, end_said};
 
 use std::alloc::Global;
@@ -21,7 +21,7 @@ pub fn close<W: Sink>(
 ) -> Result<u8, OutsideErr>
     ensures ends { EndsSaying (closing_said script.now fault refused) result (W.taken out.old)
         (W.taken out.new) }
-    ensures end { IfOk result IsEnd }
+    ensures end { IfOk result IsCommandEnd }
     ensures causes { Causes OutsideErr.Failed result (W.Sink.faults out.old)
         (W.Sink.faults out.new) }
 {
@@ -57,7 +57,7 @@ fn end(alloc: Global, refused: bool) -> Result<Said, NoMemory>
 /// Prints what is said, and answers its status.
 pub fn say<W: Sink>(out: &mut W, said: &Said) -> Result<u8, OutsideErr>
     ensures ends { EndsSaying said.now result (W.taken out.old) (W.taken out.new) }
-    ensures end { IfOk result IsEnd }
+    ensures end { IfOk result IsCommandEnd }
     ensures causes { Causes OutsideErr.Failed result (W.Sink.faults out.old)
         (W.Sink.faults out.new) }
 {

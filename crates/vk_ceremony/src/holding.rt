@@ -3,7 +3,7 @@
 ghost use Rattle.std.specs.Prelude.{◌≡◌, ◌≤◌, ◌+◌, ◌^◌, false, IfOk, IfSome};
 ghost use Rattle.vk_lines.specs.Lines.{KeepsFile};
 ghost use Rattle.vk_words.specs.Orders.{IsHouseOrder, house_seen};
-ghost use Rattle.vk_effect.specs.Effects.{IsEnd, outside};
+ghost use Rattle.vk_effect.specs.Effects.{IsCommandEnd, outside};
 ghost use Rattle.vk_effect.specs.Ends.{Ends};
 ghost use Rattle.vk_auctioneer.specs.Common.{KeepsAnswers, Modelled, stores};
 ghost use Rattle.vk_auctioneer.specs.Effects.{house_effect};
@@ -44,7 +44,7 @@ pub fn ceremony<S: Shelf, K: Keeper + Drop, W: Sink>(
     ensures ends { EndsSome (ceremony_on (S.held shelf.old) (K.ledger keeper.old) script.now) result
         (outside (stores (S.held shelf.old) (K.ledger keeper.old)) (W.taken out.old))
         (outside (stores (S.held shelf.new) (K.ledger keeper.new)) (W.taken out.new)) }
-    ensures end { IfOk result IsEnd }
+    ensures end { IfOk result IsCommandEnd }
     ensures files { Modelled (LeavesAnswered script.now result) (S.held shelf.old)
         (S.held shelf.new) }
     ensures once { Modelled KeepsAnswers (K.ledger keeper.old) (K.ledger keeper.new) }
@@ -79,7 +79,7 @@ fn hold<S: Shelf, K: Keeper + Drop, W: Sink>(
         (stores (S.held shelf.old) (K.ledger keeper.old))) result
         (outside (stores (S.held shelf.old) (K.ledger keeper.old)) (W.taken out.old))
         (outside (stores (S.held shelf.new) (K.ledger keeper.new)) (W.taken out.new)) }
-    ensures end { IfOk result IsEnd }
+    ensures end { IfOk result IsCommandEnd }
     ensures files { Modelled (HoldLeaves script.now lines result) (S.held shelf.old)
         (S.held shelf.new) }
     ensures once { Modelled KeepsAnswers (K.ledger keeper.old) (K.ledger keeper.new) }
@@ -148,7 +148,7 @@ fn next<S: Shelf, K: Keeper + Drop, W: Sink>(
 
 /// Where a ceremony stands after a command of that status.
 fn turn_by(refused: bool, status: u8) -> Turn
-    requires { IsEnd status }
+    requires { IsCommandEnd status }
     ensures value { result ≡ turn_by refused status }
     ensures end { EndsWell result }
 {
@@ -170,7 +170,7 @@ fn command<S: Shelf, K: Keeper + Drop, W: Sink>(
     order: &HouseOrder<'_>,
 ) -> Result<u8, OutsideErr>
     requires { IsHouseOrder order.now }
-    ensures end { IfOk result IsEnd }
+    ensures end { IfOk result IsCommandEnd }
     ensures ends { IfSome (house_effect (S.held shelf.old) (K.ledger keeper.old)
         (house_seen order.now))
         (λ effect. Ends result effect

@@ -72,6 +72,10 @@ does ledger deed = writes_and_says ledger deed.writes deed.said
 abbrev pub IsEnd : ℕ → Type 0
 IsEnd status = (status ≢ 6) × (status ≢ 9)
 
+-- nor that of words that are no command
+abbrev pub IsCommandEnd : ℕ → Type 0
+IsCommandEnd status = (status ≢ 2) × (status ≢ 6) × (status ≢ 9)
+
 -- ---- what is left
 
 -- the stores after all of the effect but its text

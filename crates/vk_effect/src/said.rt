@@ -4,7 +4,7 @@ ghost use Rattle.std.specs.Prelude.{◌≡◌, IfOk, string_bytes};
 ghost use Rattle.std.specs.List.{flat_map};
 ghost use Rattle.vk_io.specs.Faults.{Causes};
 ghost use Rattle.vk_io.specs.Files.{Modelled, Takes};
-ghost use Rattle.vk_effect.specs.Effects.{IsEnd};
+ghost use Rattle.vk_effect.specs.Effects.{IsCommandEnd};
 
 use crate::printing::print;
 use std::alloc::Global;
@@ -22,7 +22,8 @@ enum SaidText {
     Short(ShortText),
 }
 
-/// The status of a command, neither 6 nor 9, and the lines that it prints, each with its line feed.
+/// The status of a command, none of 2, 6 and 9, and the lines that it prints, each with its line
+/// feed.
 #[derive(Drop)]
 pub struct Said {
     status: u8,
@@ -30,20 +31,20 @@ pub struct Said {
 }
 
 impl Model for Said {
-    ghost use Rattle.vk_effect.specs.Effects.{SaidValue, IsEnd};
+    ghost use Rattle.vk_effect.specs.Effects.{SaidValue, IsCommandEnd};
     ghost use Rattle.vk_effect.specs.SaidTexts.{said_text};
 
     ghost Value = { SaidValue };
 
     ghost view = { λ s. record { status = s.status; text = said_text s.text } };
 
-    ghost invariant = { λ s. IsEnd s.status };
+    ghost invariant = { λ s. IsCommandEnd s.status };
 }
 
 impl Said {
-    /// The status, which is neither 6 nor 9, and the lines one after another.
+    /// The status, which is none of 2, 6 and 9, and the lines one after another.
     pub fn of_lines(status: u8, lines: Vec<String>) -> Said
-        requires { IsEnd status }
+        requires { IsCommandEnd status }
         ensures { result ≡ record { status = status; text = flat_map string_bytes lines.items } }
     {
         Said {
@@ -54,7 +55,7 @@ impl Said {
 
     /// Takes no memory.
     pub fn of_short(status: u8, line: ShortText) -> Said
-        requires { IsEnd status }
+        requires { IsCommandEnd status }
         ensures { result ≡ record { status = status; text = line } }
     {
         Said {
@@ -63,9 +64,9 @@ impl Said {
         }
     }
 
-    /// The status, which is neither 6 nor 9, and one line. Errs for want of memory alone.
+    /// The status, which is none of 2, 6 and 9, and one line. Errs for want of memory alone.
     pub fn of_line(alloc: Global, status: u8, line: &str) -> Result<Said, NoMemory>
-        requires { IsEnd status }
+        requires { IsCommandEnd status }
         ensures { IfOk result (λ said. said ≡ record { status = status; text = line.now }) }
     {
         let mut lines = Vec::new(alloc);
@@ -74,10 +75,10 @@ impl Said {
         Ok(Said::of_lines(status, lines))
     }
 
-    /// The status that the command ends with, which is neither 6 nor 9.
+    /// The status that the command ends with, which is none of 2, 6 and 9.
     pub fn status(&self) -> u8
         ensures value { result ≡ self.now.status }
-        ensures end { IsEnd result }
+        ensures end { IsCommandEnd result }
     {
         self.status
     }

@@ -65,8 +65,7 @@ pub record RunKeeps (words : List (List ℕ)) (status : ℕ) (old new : Met) : T
   pub ceremony : IfSome old.files (λ files. IfSome old.ledger
       (λ ledger. HoldsCeremony files ledger words status new.files new.ledger old.taken new.taken))
   pub leaves : status ≢ 6 → status ≢ 9 → RunLeaves words status old.files new.files
-  pub usage : IfSome old.files (λ files. IfSome old.ledger
-      (λ ledger. TellsUsage words status old.taken new.taken))
+  pub usage : TellsUsage words status old.taken new.taken
   pub once : Modelled KeepsAnswers old.ledger new.ledger
   pub keeper : LeavesKeeper (λ all. all.ledger) (λ all. all.house_faults) (command_words words) old
       new

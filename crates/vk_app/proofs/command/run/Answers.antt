@@ -86,7 +86,10 @@ returns-in-Ok-clause-ceremony g c =
 
 pub returns-in-Ok-clause-usage : goal.returns-in-Ok-clause-usage
 returns-in-Ok-clause-usage g c =
-    by_free_end g (goal.at.returns-in-Ok-clause-usage g c).In-Ok told_usage
+    told_usage (g.S.Shelf.held c.args.shelf.now) (g.K.Keeper.ledger c.args.keeper.now)
+    (map string_bytes c.args.words.now) c.in-Ok.status (g.W.Sink.taken c.args.out.now)
+    (outside (stores (g.S.Shelf.held c.perform.new.shelf) (g.K.Keeper.ledger c.perform.new.keeper))
+    (g.W.Sink.taken c.perform.new.out)) c.in-Ok.ensures.ends c.in-Ok.ensures.usage
 
 pub returns-in-Err-Failed-clause-house : goal.returns-in-Err-Failed-clause-house
 returns-in-Err-Failed-clause-house g c =
