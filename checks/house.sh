@@ -209,7 +209,12 @@ if [ "$(id -u)" = 0 ]; then
   chown 65534 house.sqlite-wal
   case_of 6 '' 'outside fault' show $id
   holds "house.sqlite: a file beside it is not its owner's alone" sed -n 2p err
-  rm house.sqlite-wal
+  chmod 640 house.sqlite
+  case_of 6 '' 'outside fault' show $id
+  chmod 660 house.sqlite house.sqlite-wal
+  case_of 0 "auction $id width 8 lanes 4 seals 3 phase answered" '' show $id
+  chmod 600 house.sqlite
+  rm -f house.sqlite-wal
   chown 65534 house.sqlite
   case_of 0 "auction $id width 8 lanes 4 seals 3 phase answered" '' show $id
   rm -f house.sqlite*

@@ -9,6 +9,10 @@ use Rattle.vk_program.specs.declared.store.OwnFile.{OwnFile}
 abbrev pub others : ℕ → ℕ
 others mode = bit_and mode 63
 
+-- who else may write: two of these bits
+abbrev pub writers : ℕ → ℕ
+writers mode = bit_and mode 18
+
 -- a file that is empty, or of one byte, which SQLite takes for empty, and that others than its
 -- owner may read, write or run
 abbrev pub is_exposed : (length mode : ℕ) → Bool
@@ -26,9 +30,9 @@ own_refusal file runner =
     else (if is_anothers file runner then Err Anothers
     else (if nat_lt 1 file.names then Err Linked else Ok tt))
 
--- a file beside a store lets in whom the store doesn't: others may do more by its mode; or they may
--- do nothing by the store's, and the file is another user's
+-- a file beside a store lets in whom the store doesn't: others may do more by its mode; or nobody
+-- but its owner may write into the store, and the file is another user's
 abbrev pub lets_in : (side store : Access) → Bool
 lets_in side store =
     not (bit_or (others side.mode) (others store.mode) == others store.mode)
-    || (others store.mode == 0 && not (side.owner == store.owner))
+    || (writers store.mode == 0 && not (side.owner == store.owner))

@@ -29,6 +29,9 @@ const SIDES: [&str; 3] = ["-wal", "-journal", "-shm"];
 /// The part of a mode that says what others than the owner may do.
 const OTHERS: u32 = 0o077;
 
+/// The part that says whether others may write.
+const WRITERS: u32 = 0o022;
+
 /// What the system tells of the process that looks at it. Who runs the program owns it.
 const PROCESS: &str = "/proc/self";
 
@@ -262,10 +265,11 @@ fn is_anothers(file: OwnFile, runner: Option<u32>) -> bool
 }
 
 /// Whether a file beside a store lets in whom the store doesn't: its mode allows others more; or
-/// the store is its owner's alone, and the file is another user's.
+/// nobody but its owner may write into the store, and the file is another user's.
 fn lets_in(side: Access, store: Access) -> bool
     ensures { result ≡ lets_in side store }
 {
     let open = store.mode & OTHERS;
-    (side.mode & OTHERS) | open != open || (open == 0 && side.owner != store.owner)
+    let is_shared = store.mode & WRITERS != 0;
+    (side.mode & OTHERS) | open != open || (!is_shared && side.owner != store.owner)
 }
