@@ -25,6 +25,9 @@ WIDTH, MOST_DEFINITIONS, MOST_LINES = 100, 70, 230
 RUN = "vk_app/src/command.rt"
 CLAUSES = ("sound", "complete", "headline", "claim_sound", "claim_complete", "claim_headline")
 
+# The pages that tell how much soundness rests on, beside this one.
+TELLING = ("README.md", "docs/PROVED.md")
+
 # What soundness names nothing of: acceptance, circuits, the words of all commands.
 FOREIGN = ("vk_verifier/", "vk_row/", "vk_plan/", "vk_range/", "vk_words/")
 
@@ -252,6 +255,10 @@ def count(clause):
                  len(kit))
 
 
+def numbers_of(found):
+    return f"{found.definitions} definitions of {found.lines} lines"
+
+
 def wrapped(text):
     return textwrap.fill(text, WIDTH, break_long_words=False, break_on_hyphens=False)
 
@@ -283,12 +290,11 @@ def soundness():
     yield wrapped(
         "What is true of what `extract` prints with status 0 or 3, whatever the files are and "
         "whoever made them: that is the clause `sound` of `run`, and its text comes first. It "
-        f"names definitions, and these name others: {found.definitions} definitions of "
-        f"{found.lines} lines in {found.files} files, {found.types} types that the code declares, "
-        f"and {found.members} members of traits. All of them stand here, from the clause down, "
-        "each with what the sources say of it. None is of accepted replies, of a circuit, or of "
-        "how words are read. Whoever reads this part has read all that soundness says, and has to "
-        "believe nothing else of the repository for it.")
+        f"names definitions, and these name others: {numbers_of(found)} in {found.files} files, "
+        f"{found.types} types that the code declares, and {found.members} members of traits. All "
+        "of them stand here, from the clause down, each with what the sources say of it. None is "
+        "of accepted replies, of a circuit, or of how words are read. Whoever reads this part has "
+        "read all that soundness says, and has to believe nothing else of the repository for it.")
     yield wrapped(
         "`checks/headline.py` finds and counts them, writes this part, and fails where there are "
         f"more than {MOST_DEFINITIONS} definitions or {MOST_LINES} lines.")
@@ -309,9 +315,8 @@ def completeness():
         "Where the words are `extract` and five names, and both replies are accepted with the board "
         "for different challenges, the status is 0 or 3, unless the command is stopped. That is "
         "the clause `complete` of `run`. What an accepted reply is takes more words: the clause "
-        f"rests on {found.definitions} definitions of {found.lines} lines in {found.files} files, "
-        f"and on {found.types} types. These {new} definitions are not among those above, nor are "
-        "the types in files of the code:")
+        f"rests on {numbers_of(found)} in {found.files} files, and on {found.types} types. These "
+        f"{new} definitions are not among those above, nor are the types in files of the code:")
     yield "\n".join(["| File | Definitions |", "|---|---|", *(
         f"| `{place}` | {', '.join(f'`{name}`' for name in names)} |"
         for place, names in sorted(more.items()))])
@@ -340,8 +345,12 @@ def faults(before):
     """What soundness has too much of, and what the page or this script leaves unsaid of it."""
     (needed, kit), found = closure("sound"), count("sound")
     spans = set(" ".join(re.findall(r"`([^`]+)`", before)).split())
+    for page in TELLING:
+        with open(os.path.join(TOP, page), encoding="utf-8") as file:
+            if numbers_of(found) not in " ".join(file.read().split()):
+                yield f"{page} doesn't have the numbers: {numbers_of(found)}"
     if found.definitions > MOST_DEFINITIONS or found.lines > MOST_LINES:
-        yield f"soundness rests on {found.definitions} definitions of {found.lines} lines"
+        yield f"soundness rests on {numbers_of(found)}"
     for place, name in needed:
         if place.startswith(FOREIGN):
             yield f"soundness rests on {name} of {place}"
@@ -373,9 +382,8 @@ def main(words):
     wrong = list(faults(before))
     if old != made:
         wrong.append("docs/DEFINITIONS.md has another part: checks/headline.py --write")
-    found = count("sound")
-    print("\n".join(wrong or [f"{found.definitions} definitions of {found.lines} lines, "
-                              "as docs/DEFINITIONS.md has them"]))
+    print("\n".join(wrong or [f"soundness rests on {numbers_of(count('sound'))}, and the page has "
+                              "them"]))
     return 1 if wrong else 0
 
 
