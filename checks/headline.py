@@ -312,9 +312,9 @@ def completeness():
     new = sum(len(names) for place, names in more.items() if not place.endswith(".rt"))
     yield "## What completeness names besides"
     yield wrapped(
-        "Where the words are `extract` and five names, and both replies are accepted with the board "
-        "for different challenges, the status is 0 or 3, unless the command is stopped. That is "
-        "the clause `complete` of `run`. What an accepted reply is takes more words: the clause "
+        "Where the words are `extract` and five names, and both replies are accepted with the "
+        "board for different challenges, the status is 0 or 3, unless the command is stopped. "
+        "That is the clause `complete` of `run`. What an accepted reply is takes more: the clause "
         f"rests on {numbers_of(found)} in {found.files} files, and on {found.types} types. These "
         f"{new} definitions are not among those above, nor are the types in files of the code:")
     yield "\n".join(["| File | Definitions |", "|---|---|", *(
