@@ -29,6 +29,8 @@ QUESTIONS = (
      "the half of a bit; `shown_wire` above it is all that is shown"),
     ("How wide may bids be, and how many lanes may there be?", "vk_residue/specs/Limits.antt", "width ≤ 40",
      "every limit of a width and of lanes"),
+    ("What is true of the bids that `extract` prints?", "vk_app/specs/Promises.antt", "abbrev pub ExtractIsSound",
+     "the promise; `sound` in `vk_app/src/command.rt` is the clause of `run`"),
     ("What does the promise say of two accepted replies?", "vk_app/specs/Promises.antt", "abbrev pub Headline",
      "the promise; `headline` in `vk_app/src/command.rt` is the clause of `run`"),
     ("Why is a second challenge refused?", "vk_house/specs/Tests.antt", "abbrev pub other_challenge",
