@@ -32,6 +32,8 @@ pub begins_with_front : {board challenge reply : List ℕ}
 begins_with_front accepted = record {
   behind = lanes_text 1 accepted.behind.lines ++ line (codes "end");
   file_is = accepted.behind.file_is.0;
+  counted = accepted.right.seals.count;
+  unnamed = accepted.right.head.reserve.unnamed;
   winner = accepted.right.winner;
 }
 

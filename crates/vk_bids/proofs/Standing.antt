@@ -1,6 +1,6 @@
 -- A digest of a wire of a lane stands in the file: in the lines of a seal, or of the lane.
 use Rattle.std.proofs.Common.{◌≡◌, ℕ, zero, suc, ◌+◌, ◌-◌, ◌<◌, ◌≤◌, Bool, true, false, All, List, [], ◌∷◌, ◌++◌, length, get_or, refl, sym, ap, subst, ◌∙◌, arith, length-append}
-use Rattle.std.specs.Prelude.{◌⊎◌, codes, slice_index_or}
+use Rattle.std.specs.Prelude.{◌⊎◌, codes, decimal, slice_index_or}
 use Rattle.std.specs.List.{flat_map}
 use Rattle.std.proofs.lemmas.List.{append_assoc, append-nil, get_or_append_left, get_or-append_right, length-map}
 use Rattle.std.proofs.lemmas.Bool.{cases_lt}
@@ -8,7 +8,7 @@ use Rattle.std.proofs.lemmas.List.Elements.{All-append, All-cons, All-contains, 
 use mathlib.Core.Logic.{⊎_elim}
 use Rattle.vk_commit.specs.Commitment.{TwoOpeningsSeen}
 use Rattle.vk_commit.specs.declared.place.Place.{Place}
-use Rattle.vk_lines.specs.Forms.{line, numbered_text}
+use Rattle.vk_lines.specs.Forms.{line, numbered_text, spaced}
 use Rattle.vk_lines.specs.Tokens.{hex_text}
 use Rattle.vk_wire.specs.Reads.{entry_digest}
 use Rattle.vk_wire.specs.declared.wire.WireCom.{WireCom}
@@ -19,7 +19,7 @@ use Rattle.vk_row.specs.Lanes.{no_digests, nothing_shown, place_in}
 use Rattle.vk_extractor.specs.FirstClash.{IsClash}
 use Rattle.vk_board.specs.declared.board.SealLines.{SealLines}
 use Rattle.vk_board.specs.declared.board.LaneLines.{LaneLines}
-use Rattle.vk_board.specs.Texts.{com_text, lane_text, lanes_text, seal_lines_text}
+use Rattle.vk_board.specs.Texts.{com_text, lane_text, lanes_text, posted_text, seal_lines_text}
 use Rattle.vk_verifier.specs.Statement.{StatementValue, IsStatement}
 use Rattle.vk_verifier.specs.declared.stage.TwoLane.{TwoLane}
 use Rattle.vk_verifier.specs.Acceptance.{AcceptsBehind, file_text, no_lines}
@@ -121,7 +121,9 @@ seal_stands : (seal : SealLines) (index : ℕ) (second : Bool) → index < lengt
     → StandsInFile (digest_text (get_or seal.coms index no_digests) second) (seal_lines_text seal)
 unfolding seal_lines_text
 seal_stands seal index second within =
-    stands_behind (digest_text (get_or seal.coms index no_digests) second) _ _
+    stands_behind (digest_text (get_or seal.coms index no_digests) second)
+    (line (spaced (codes "seal" ∷ decimal seal.seat ∷ [])))
+    (flat_map (λ digests. line (com_text (codes "x") digests)) seal.coms)
     (coms_stand (codes "x") seal.coms index second within)
 
 lane_stands : (number : ℕ) (lines : LaneLines) (wire : ℕ) (second : Bool)
@@ -130,8 +132,10 @@ lane_stands : (number : ℕ) (lines : LaneLines) (wire : ℕ) (second : Bool)
 unfolding lane_text
 lane_stands number lines wire second within =
     let part = digest_text (get_or lines.coms wire no_digests) second in
-    stands_behind part _ _
-    (stands_before part _ _ (coms_stand (codes "w") lines.coms wire second within))
+    let coms = flat_map (λ digests. line (com_text (codes "w") digests)) lines.coms in
+    let posted = flat_map (λ number. line (posted_text number)) lines.posted in
+    stands_behind part (line (spaced (codes "lane" ∷ decimal number ∷ []))) (coms ++ posted)
+    (stands_before part coms posted (coms_stand (codes "w") lines.coms wire second within))
 
 -- ---- a lane of a file
 

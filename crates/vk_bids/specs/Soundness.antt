@@ -1,6 +1,6 @@
 -- What is true of what `extract` prints, whoever made the files: bids that open seals of the board
 -- and make the sale that it publishes, or two openings of one of its commitments.
-use Rattle.std.specs.Prelude.{◌≡◌, ℕ, Bool, All, List, [], ◌∷◌, ◌++◌, codes, map}
+use Rattle.std.specs.Prelude.{◌≡◌, ◌≢◌, ℕ, Bool, All, List, [], ◌∷◌, ◌++◌, codes, length, map}
 use Rattle.std.specs.List.{flat_map}
 use Rattle.vk_commit.specs.Commitment.{AreTwoOpenings}
 use Rattle.vk_commit.specs.declared.place.Opening.{Opening}
@@ -14,11 +14,14 @@ use Rattle.vk_bids.specs.declared.bids.LaneBids.{LaneBids}
 use Rattle.vk_bids.specs.Outcome.{ShowsOutcome}
 use Rattle.vk_bids.specs.Texts.{agreement_line, lane_bids_text, openings_text, sale_line}
 
--- the file begins with the lines of a board's head and of its seals, and the seat that it names as
--- the winner's is that of the seal at this position, if it names one
+-- the file begins with the lines of a board's head and of all seals that the head counts. With
+-- version 1, which names no reserve, that is 0. The seal at the position has the seat that the head
+-- names as the winner's, if it names one
 pub record BeginsWithFront (file : List ℕ) (front : Front) : Type 0 where
   pub behind : List ℕ
   pub file_is : file ≡ front_text front ++ behind
+  pub counted : length front.seals ≡ front.head.seals
+  pub unnamed : front.head.version ≢ 2 → front.head.reserve ≡ 0
   pub winner : IsPlaced front.seals front.head.winner front.position
 
 -- one line for each of the seals, with its seat and the word `same` or `differs`
