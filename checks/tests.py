@@ -109,8 +109,8 @@ def rows():
 
 
 def section():
-    head = ["", "`rt ci` runs all of these but the second, and ends with `N passed, 0 failed`. Of a program each line that it prints is",
-            "compared.", "",
+    head = ["", "`rt ci` runs all of these but the second, and ends with `N passed, 0 failed`. Of a program each line",
+            "that it prints is compared.", "",
             "| Kind | How many | Alone |", "|---|---|---|"]
     return "\n".join(head + [f"| {' | '.join(row)} |" for row in rows()]) + "\n"
 
