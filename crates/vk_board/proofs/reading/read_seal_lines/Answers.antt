@@ -34,6 +34,7 @@ loop-index-preserved g c = record {
       c.loop-index.invariant.right c.in_ok-seal.ensures.right);
   held = c.in_ok-seal.ensures.shelf.held ∙ c.loop-index.invariant.held;
   kept = c.in_ok-seal.ensures.shelf.causes ∙ c.loop-index.invariant.kept;
+  wants = c.in_ok-seal.ensures.wants ∙ c.loop-index.invariant.wants;
   file = record {
     name = c.in_ok-seal.ensures.file.name ∙ c.loop-index.invariant.file.name;
     size = c.in_ok-seal.ensures.file.size ∙ c.loop-index.invariant.file.size;

@@ -15,5 +15,6 @@ invariant-loop-index g l = record {
   right : EachAfter (IsSealAfter l.lanes) [] l.seals;
   held : g.S.Shelf.held l.shelf ≡ g.S.Shelf.held l.fn.shelf;
   kept : g.S.Shelf.faults l.shelf ≡ g.S.Shelf.faults l.fn.shelf;
+  wants : g.S.Shelf.wants l.shelf ≡ g.S.Shelf.wants l.fn.shelf;
   file : KeepsFile l.fn.lines l.lines;
 }
