@@ -1,6 +1,6 @@
 -- How a board is read, line by line. The laws say that this is exactly its text, and stops at the
 -- fault line.
-use Rattle.std.specs.Prelude.{ℕ, ◌+◌, ◌^◌, ◌-◌, ◌==◌, not, Bool, if◌then◌else◌, List, length, map, codes, Option, Some, None, option_map, Result, Ok, ◌≡◌, IfSome, IsOkAnd}
+use Rattle.std.specs.Prelude.{ℕ, ◌+◌, ◌^◌, ◌-◌, ◌==◌, not, Bool, if◌then◌else◌, List, length, map, codes, Option, Some, None, option_map, Result, Ok, ◌≡◌, ◌<◌, ◌⊎◌, IfSome, IsOkAnd}
 use Rattle.std.specs.List.{list_all}
 use Rattle.vk_residue.specs.Steps.{◌>>=◌, ◌>>?◌}
 use Rattle.vk_io.specs.Files.{Files}
@@ -138,3 +138,21 @@ abbrev pub HasRead : {X : Type 0} → (Rest → Result (X × Rest) ℕ) → Opti
     → LinesValue → Type 0
 HasRead read held old new =
     IfSome held (λ files. IsOkAnd (read (rest_of old files)) (λ part. part.1 ≡ rest_of new files))
+
+-- so many seals of so many lanes, and the line that begins the next
+abbrev pub next_seal_at : ℕ → ℕ → Rest → Result (ℕ × Rest) ℕ
+next_seal_at seals lanes rest = seal_lines_at seals lanes rest >>= λ before.
+    seat_at before.0 before.1
+
+-- a reader stands behind the line that begins one of so many seals, or behind a whole one
+abbrev pub IsAmongSeals : ℕ → ℕ → Option Files → LinesValue → LinesValue → Type 0
+IsAmongSeals seals lanes held old new =
+    (before : ℕ) × (before < seals) × (HasRead (next_seal_at before lanes) held old new
+    ⊎ HasRead (seal_lines_at (before + 1) lanes) held old new)
+
+-- a reader stands so among the seals behind a head
+abbrev pub IsAmongFront : Option Files → LinesValue → LinesValue → Type 0
+IsAmongFront held old new =
+    (head : Head) × (behind : LinesValue)
+    × IfSome held (λ files. head_at (rest_of old files) ≡ Ok (head, rest_of behind files))
+    × IsAmongSeals head.seals head.lanes held behind new

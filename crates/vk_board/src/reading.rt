@@ -6,7 +6,7 @@ ghost use Rattle.vk_lines.specs.Forms.{many_at};
 ghost use Rattle.vk_lines.specs.Lines.{KeepsFile, OnlyReads, ReadsPart, line_by};
 ghost use Rattle.vk_lines.specs.declared.errors.ReadErr.TheVariants.{Failed};
 ghost use Rattle.vk_board.specs.Values.{AreBytes, IsCom, IsVersion, IsReserve, IsWinner, IsHead, IsSealAfter, AreSealsOf, AreSeals, IsLaneLines};
-ghost use Rattle.vk_board.specs.Reading.{com_line, posted_line, seats_of, is_new_seat, seat_line, reserve_at, unsold_line, winner_line, head_at, seal_at, seal_lines_at, seals_at, lane_at, seat_at, lane_begun_at, wires_at, HasRead};
+ghost use Rattle.vk_board.specs.Reading.{com_line, posted_line, seats_of, is_new_seat, seat_line, reserve_at, unsold_line, winner_line, head_at, seal_at, seal_lines_at, seals_at, lane_at, seat_at, lane_begun_at, wires_at, HasRead, IsAmongSeals};
 
 use crate::board::{Head, LaneLines, SealLines};
 use std::alloc::Global;
@@ -172,6 +172,9 @@ pub fn read_seals<S: Shelf>(
     ensures shelf { OnlyReads S.held S.Shelf.faults ReadErr.Failed result shelf.old shelf.new }
     ensures wants { MayCause ReadErr.NoMemory result (S.Shelf.wants shelf.old)
         (S.Shelf.wants shelf.new) }
+    ensures behind { IsErrOf result ReadErr.NoMemory
+        → IsAmongSeals head.now.seals head.now.lanes (S.held shelf.old) lines.old lines.new
+        ⊎ Rose (S.Shelf.wants shelf.old) (S.Shelf.wants shelf.new) }
 {
     let seals = read_seal_lines(alloc, shelf, lines, head.seals, head.lanes)?;
     Ok(seals)
@@ -193,6 +196,9 @@ pub fn read_seal_lines<S: Shelf>(
     ensures shelf { OnlyReads S.held S.Shelf.faults ReadErr.Failed result shelf.old shelf.new }
     ensures wants { MayCause ReadErr.NoMemory result (S.Shelf.wants shelf.old)
         (S.Shelf.wants shelf.new) }
+    ensures behind { IsErrOf result ReadErr.NoMemory
+        → IsAmongSeals count lanes (S.held shelf.old) lines.old lines.new
+        ⊎ Rose (S.Shelf.wants shelf.old) (S.Shelf.wants shelf.new) }
 {
     let mut seals = Seq::new(alloc);
     for index in 0..count {
