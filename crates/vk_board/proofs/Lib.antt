@@ -7,3 +7,4 @@ pub mod Prices
 pub mod Winners
 pub mod Fronts
 pub mod FrontLaws
+pub mod Stops

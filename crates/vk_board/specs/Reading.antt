@@ -1,9 +1,10 @@
 -- How a board is read, line by line. The laws say that this is exactly its text, and stops at the
 -- fault line.
-use Rattle.std.specs.Prelude.{ℕ, ◌+◌, ◌^◌, ◌-◌, ◌==◌, not, Bool, if◌then◌else◌, List, length, map, codes, Option, Some, None, option_map, Result, Ok}
+use Rattle.std.specs.Prelude.{ℕ, ◌+◌, ◌^◌, ◌-◌, ◌==◌, not, Bool, if◌then◌else◌, List, length, map, codes, Option, Some, None, option_map, Result, Ok, ◌≡◌, ◌<◌, ◌⊎◌, IfSome, IsOkAnd}
 use Rattle.std.specs.List.{list_all}
 use Rattle.vk_residue.specs.Steps.{◌>>=◌, ◌>>?◌}
-use Rattle.vk_lines.specs.Lines.{Rest, line_by, end_at}
+use Rattle.vk_io.specs.Files.{Files}
+use Rattle.vk_lines.specs.Lines.{Rest, LinesValue, rest_of, line_by, end_at}
 use Rattle.vk_lines.specs.Forms.{many_at}
 use Rattle.vk_lines.specs.Tokens.{residue_of, word_of, number_token, number_line, id_line, digests_line, one_field, meets}
 use Rattle.vk_wire.specs.declared.wire.WireCom.{WireCom}
@@ -69,10 +70,14 @@ head_at rest =
     line_by (number_line (codes "price") 0 (2 ^ 64 - 1)) winner.1 >>= λ price.
     Ok (head_with version.0 auction.0 width.0 lanes.0 seals.0 reserve.0 winner.0 price.0, price.1)
 
+-- the line that begins a seal after these
+abbrev pub seat_at : List SealLines → Rest → Result (ℕ × Rest) ℕ
+seat_at before rest = line_by (seat_line (seats_of before)) rest
+
 -- a seal of so many lanes after these
 unfoldable pub seal_at : ℕ → List SealLines → Rest → Result (SealLines × Rest) ℕ
 seal_at lanes before rest =
-    line_by (seat_line (seats_of before)) rest >>= λ seat.
+    seat_at before rest >>= λ seat.
     many_at lanes (λ _. line_by (com_line (codes "x"))) seat.1 >>= λ coms.
     Ok (record { seat = seat.0; coms = coms.0 }, coms.1)
 
@@ -84,10 +89,20 @@ seal_lines_at seals lanes rest = many_at seals (seal_at lanes) rest
 abbrev pub seals_at : Head → Rest → Result (List SealLines × Rest) ℕ
 seals_at head rest = seal_lines_at head.seals head.lanes rest
 
+-- the line that begins the lane of that number
+abbrev pub lane_begun_at : ℕ → Rest → Result (ℕ × Rest) ℕ
+lane_begun_at lane rest = line_by (number_line (codes "lane") lane lane) rest
+
+-- the lane of that number as far as its wires, of which so many stand after the inputs
+unfoldable pub wires_at : ℕ → ℕ → Rest → Result (List WireCom × Rest) ℕ
+wires_at lane wires rest =
+    lane_begun_at lane rest >>= λ number.
+    many_at wires (λ _. line_by (com_line (codes "w"))) number.1
+
 -- the lane of that number, with so many wires after the inputs and so many rows
 unfoldable pub lane_at : ℕ → ℕ → ℕ → Rest → Result (LaneLines × Rest) ℕ
 lane_at lane wires rows rest =
-    line_by (number_line (codes "lane") lane lane) rest >>= λ number.
+    lane_begun_at lane rest >>= λ number.
     many_at wires (λ _. line_by (com_line (codes "w"))) number.1 >>= λ coms.
     many_at rows (λ _. line_by posted_line) coms.1 >>= λ posted.
     Ok (record { coms = coms.0; posted = posted.0 }, posted.1)
@@ -117,3 +132,27 @@ board_at shape rest =
     head_at rest >>= λ head.
     behind_at (frame_of shape head.0)
     (λ seals lanes. record { head = head.0; seals = seals; lanes = lanes }) head.1
+
+-- a reader stands behind a part that was read so, where the files are modelled
+abbrev pub HasRead : {X : Type 0} → (Rest → Result (X × Rest) ℕ) → Option Files → LinesValue
+    → LinesValue → Type 0
+HasRead read held old new =
+    IfSome held (λ files. IsOkAnd (read (rest_of old files)) (λ part. part.1 ≡ rest_of new files))
+
+-- so many seals of so many lanes, and the line that begins the next
+abbrev pub next_seal_at : ℕ → ℕ → Rest → Result (ℕ × Rest) ℕ
+next_seal_at seals lanes rest = seal_lines_at seals lanes rest >>= λ before.
+    seat_at before.0 before.1
+
+-- a reader stands behind the line that begins one of so many seals, or behind a whole one
+abbrev pub IsAmongSeals : ℕ → ℕ → Option Files → LinesValue → LinesValue → Type 0
+IsAmongSeals seals lanes held old new =
+    (before : ℕ) × (before < seals) × (HasRead (next_seal_at before lanes) held old new
+    ⊎ HasRead (seal_lines_at (before + 1) lanes) held old new)
+
+-- a reader stands so among the seals behind a head
+abbrev pub IsAmongFront : Option Files → LinesValue → LinesValue → Type 0
+IsAmongFront held old new =
+    (head : Head) × (behind : LinesValue)
+    × IfSome held (λ files. head_at (rest_of old files) ≡ Ok (head, rest_of behind files))
+    × IsAmongSeals head.seals head.lanes held behind new

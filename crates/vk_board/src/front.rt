@@ -1,8 +1,9 @@
 // What stands on a board before its first lane.
-ghost use Rattle.std.specs.Prelude.{◌≡◌, ◌⊎◌, IfErr, IfOk, IfSome};
+ghost use Rattle.std.specs.Prelude.{◌≡◌, ◌⊎◌, IfErr, IfOk, IfSome, IsErrOf};
+ghost use Rattle.vk_io.specs.Faults.{MayCause, Rose};
 ghost use Rattle.vk_lines.specs.Lines.{KeepsFile, OnlyReads, rest_of};
 ghost use Rattle.vk_board.specs.Values.{IsHead, AreSeals};
-ghost use Rattle.vk_board.specs.Reading.{seats_of};
+ghost use Rattle.vk_board.specs.Reading.{seats_of, IsAmongFront};
 ghost use Rattle.vk_lines.specs.Gives.{Gives};
 ghost use Rattle.vk_board.specs.Fronts.{IsFront, fault_of, front_of, front_at};
 ghost use Rattle.vk_board.specs.declared.front.FrontErr.TheVariants as refusal;
@@ -59,6 +60,11 @@ pub fn read_front<S: Shelf>(
     ensures file { KeepsFile lines.old lines.new }
     ensures shelf { OnlyReads S.held S.Shelf.faults (FrontErr.Unread ReadErr.Failed) result
         shelf.old shelf.new }
+    ensures wants { MayCause (FrontErr.Unread ReadErr.NoMemory) result (S.Shelf.wants shelf.old)
+        (S.Shelf.wants shelf.new) }
+    ensures behind { IsErrOf result (FrontErr.Unread ReadErr.NoMemory)
+        → IsAmongFront (S.held shelf.old) lines.old lines.new
+        ⊎ Rose (S.Shelf.wants shelf.old) (S.Shelf.wants shelf.new) }
 {
     let head = read_head(shelf, lines)?;
     let seals = read_seals(alloc, shelf, lines, &head)?;

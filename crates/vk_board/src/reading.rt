@@ -1,11 +1,12 @@
-ghost use Rattle.std.specs.Prelude.{length, true, ◌≡◌, ◌≤◌, ◌-◌, IfSome, IfOk};
+ghost use Rattle.std.specs.Prelude.{length, true, ◌≡◌, ◌≤◌, ◌-◌, ◌⊎◌, IfSome, IfOk, IsErrOf};
 ghost use Rattle.std.specs.List.{All};
 ghost use Rattle.vk_residue.specs.Residue.{IsResidue};
+ghost use Rattle.vk_io.specs.Faults.{Causes, MayCause, Rose};
 ghost use Rattle.vk_lines.specs.Forms.{many_at};
 ghost use Rattle.vk_lines.specs.Lines.{KeepsFile, OnlyReads, ReadsPart, line_by};
 ghost use Rattle.vk_lines.specs.declared.errors.ReadErr.TheVariants.{Failed};
 ghost use Rattle.vk_board.specs.Values.{AreBytes, IsCom, IsVersion, IsReserve, IsWinner, IsHead, IsSealAfter, AreSealsOf, AreSeals, IsLaneLines};
-ghost use Rattle.vk_board.specs.Reading.{com_line, posted_line, seats_of, is_new_seat, seat_line, reserve_at, unsold_line, winner_line, head_at, seal_at, seal_lines_at, seals_at, lane_at};
+ghost use Rattle.vk_board.specs.Reading.{com_line, posted_line, seats_of, is_new_seat, seat_line, reserve_at, unsold_line, winner_line, head_at, seal_at, seal_lines_at, seals_at, lane_at, seat_at, lane_begun_at, wires_at, HasRead, IsAmongSeals};
 
 use crate::board::{Head, LaneLines, SealLines};
 use std::alloc::Global;
@@ -27,6 +28,8 @@ pub fn read_head<S: Shelf>(shelf: &mut S, lines: &mut Lines) -> Result<Head, Rea
     ensures right { IfOk result IsHead }
     ensures file { KeepsFile lines.old lines.new }
     ensures shelf { OnlyReads S.held S.Shelf.faults ReadErr.Failed result shelf.old shelf.new }
+    ensures wants { Causes ReadErr.NoMemory result (S.Shelf.wants shelf.old)
+        (S.Shelf.wants shelf.new) }
 {
     let version = lines.read_number(shelf, b"vickrey-board", 1, 2)?;
     let auction = lines.read_id(shelf, b"auction")?;
@@ -102,6 +105,8 @@ fn read_reserve<S: Shelf>(shelf: &mut S, lines: &mut Lines, version: u64) -> Res
     ensures right { IfOk result (IsReserve version) }
     ensures file { KeepsFile lines.old lines.new }
     ensures shelf { OnlyReads S.held S.Shelf.faults ReadErr.Failed result shelf.old shelf.new }
+    ensures wants { Causes ReadErr.NoMemory result (S.Shelf.wants shelf.old)
+        (S.Shelf.wants shelf.new) }
 {
     if version != 2 {
         return Ok(0);
@@ -123,6 +128,8 @@ fn read_winner<S: Shelf>(
     ensures right { IfOk result (IsWinner version) }
     ensures file { KeepsFile lines.old lines.new }
     ensures shelf { OnlyReads S.held S.Shelf.faults ReadErr.Failed result shelf.old shelf.new }
+    ensures wants { Causes ReadErr.NoMemory result (S.Shelf.wants shelf.old)
+        (S.Shelf.wants shelf.new) }
 {
     lines.read_text(shelf)?;
     let winner = lines.found(winner_of(lines.text(), version));
@@ -163,6 +170,11 @@ pub fn read_seals<S: Shelf>(
     ensures right { IfOk result (AreSeals head.now) }
     ensures file { KeepsFile lines.old lines.new }
     ensures shelf { OnlyReads S.held S.Shelf.faults ReadErr.Failed result shelf.old shelf.new }
+    ensures wants { MayCause ReadErr.NoMemory result (S.Shelf.wants shelf.old)
+        (S.Shelf.wants shelf.new) }
+    ensures behind { IsErrOf result ReadErr.NoMemory
+        → IsAmongSeals head.now.seals head.now.lanes (S.held shelf.old) lines.old lines.new
+        ⊎ Rose (S.Shelf.wants shelf.old) (S.Shelf.wants shelf.new) }
 {
     let seals = read_seal_lines(alloc, shelf, lines, head.seals, head.lanes)?;
     Ok(seals)
@@ -182,6 +194,11 @@ pub fn read_seal_lines<S: Shelf>(
     ensures right { IfOk result (AreSealsOf count lanes) }
     ensures file { KeepsFile lines.old lines.new }
     ensures shelf { OnlyReads S.held S.Shelf.faults ReadErr.Failed result shelf.old shelf.new }
+    ensures wants { MayCause ReadErr.NoMemory result (S.Shelf.wants shelf.old)
+        (S.Shelf.wants shelf.new) }
+    ensures behind { IsErrOf result ReadErr.NoMemory
+        → IsAmongSeals count lanes (S.held shelf.old) lines.old lines.new
+        ⊎ Rose (S.Shelf.wants shelf.old) (S.Shelf.wants shelf.new) }
 {
     let mut seals = Seq::new(alloc);
     for index in 0..count {
@@ -205,6 +222,11 @@ fn read_seal<S: Shelf>(
     ensures right { IfOk result (IsSealAfter lanes before.now) }
     ensures file { KeepsFile lines.old lines.new }
     ensures shelf { OnlyReads S.held S.Shelf.faults ReadErr.Failed result shelf.old shelf.new }
+    ensures wants { MayCause ReadErr.NoMemory result (S.Shelf.wants shelf.old)
+        (S.Shelf.wants shelf.new) }
+    ensures behind { IsErrOf result ReadErr.NoMemory
+        → HasRead (seat_at before.now) (S.held shelf.old) lines.old lines.new
+        ⊎ Rose (S.Shelf.wants shelf.old) (S.Shelf.wants shelf.new) }
 {
     let seat = read_seat(shelf, lines, before)?;
     let coms = read_coms(alloc, shelf, lines, b"x", lanes)?;
@@ -236,6 +258,8 @@ fn read_seat<S: Shelf>(
     ensures new { IfOk result (λ seat. is_new_seat (seats_of before.now) seat ≡ true) }
     ensures file { KeepsFile lines.old lines.new }
     ensures shelf { OnlyReads S.held S.Shelf.faults ReadErr.Failed result shelf.old shelf.new }
+    ensures wants { Causes ReadErr.NoMemory result (S.Shelf.wants shelf.old)
+        (S.Shelf.wants shelf.new) }
 {
     lines.read_text(shelf)?;
     let seat = lines.found(seat_of(lines.text(), before));
@@ -276,7 +300,7 @@ fn is_new_seat(before: &[SealLines], seat: u16) -> bool
 /// Reads what a board says of the lane of that number, from 1: this many wires' commitments and
 /// this many rows' numbers. Malformed carries the number of the first line that isn't what its
 /// place demands.
-#[tactic(auto, unfolding(crate::specs::Reading::lane_at))]
+#[tactic(auto, unfolding(crate::specs::Reading::lane_at, crate::specs::Reading::wires_at))]
 pub fn read_lane<S: Shelf>(
     alloc: Global,
     shelf: &mut S,
@@ -290,6 +314,12 @@ pub fn read_lane<S: Shelf>(
     ensures right { IfOk result (IsLaneLines wires rows) }
     ensures file { KeepsFile lines.old lines.new }
     ensures shelf { OnlyReads S.held S.Shelf.faults ReadErr.Failed result shelf.old shelf.new }
+    ensures wants { MayCause ReadErr.NoMemory result (S.Shelf.wants shelf.old)
+        (S.Shelf.wants shelf.new) }
+    ensures behind { IsErrOf result ReadErr.NoMemory
+        → HasRead (lane_begun_at lane) (S.held shelf.old) lines.old lines.new
+        ⊎ HasRead (wires_at lane wires) (S.held shelf.old) lines.old lines.new
+        ⊎ Rose (S.Shelf.wants shelf.old) (S.Shelf.wants shelf.new) }
 {
     lines.read_number(shelf, b"lane", u64::from(lane), u64::from(lane))?;
     let coms = read_coms(alloc, shelf, lines, b"w", wires)?;
@@ -323,6 +353,10 @@ fn read_coms<S: Shelf>(
     ensures digests { IfOk result (All IsCom) }
     ensures file { KeepsFile lines.old lines.new }
     ensures shelf { OnlyReads S.held S.Shelf.faults ReadErr.Failed result shelf.old shelf.new }
+    ensures wants { MayCause ReadErr.NoMemory result (S.Shelf.wants shelf.old)
+        (S.Shelf.wants shelf.new) }
+    ensures first { IsErrOf result ReadErr.NoMemory
+        → (lines.new ≡ lines.old) ⊎ Rose (S.Shelf.wants shelf.old) (S.Shelf.wants shelf.new) }
 {
     let made = PhantomData;
     let coms = read_many(alloc, shelf, lines, &DigestsLine { word, made }, count)?;
@@ -342,6 +376,10 @@ fn read_posted<S: Shelf>(
     ensures right { IfOk result (All IsResidue) }
     ensures file { KeepsFile lines.old lines.new }
     ensures shelf { OnlyReads S.held S.Shelf.faults ReadErr.Failed result shelf.old shelf.new }
+    ensures wants { MayCause ReadErr.NoMemory result (S.Shelf.wants shelf.old)
+        (S.Shelf.wants shelf.new) }
+    ensures first { IsErrOf result ReadErr.NoMemory
+        → (lines.new ≡ lines.old) ⊎ Rose (S.Shelf.wants shelf.old) (S.Shelf.wants shelf.new) }
 {
     let posted = read_many(alloc, shelf, lines, &PostedLine, count)?;
     Ok(posted)
