@@ -2,7 +2,8 @@
 """checks/map.py [--check]: writes crates/README.md, the map of the crates, or says if it is out of date.
 
 All of it comes from crates.txt and the crates: their groups, the first lines of each crate's root file, what each stands on,
-what tests it, how long it is. The ways to the answers at its end are tried on the text: each file has to have those words.
+what tests it, how long it is. The ways to the answers at its end are tried on the text: each file has to have those words. And
+each crate that a line of crates.txt names has to be named by a source of the line's crate.
 """
 import os
 import re
@@ -16,6 +17,8 @@ WIDTH = 100
 TESTS = "Tests"
 FUNCTION = re.compile(r"^\s*(?:pub(?:\(\w+\))? )?(?:const |unsafe )*fn \w", re.MULTILINE)
 TEST = re.compile(r"^\s*#\[test\]", re.MULTILINE)
+# Where the sources of a crate are, and how their files end.
+SOURCES = (("src", ".rt"), ("specs", ".antt"), ("proofs", ".antt"))
 
 # What a stranger asks, the file that answers it, the words of it that do, and what is to be read there.
 QUESTIONS = (
@@ -157,6 +160,16 @@ def lost():
             yield f"checks/map.py: crates/{path} has no {words!r}: mend the way to this answer"
 
 
+def unnamed():
+    """What a line of crates.txt names and no source of the crate does."""
+    for _, _, crates in groups():
+        for crate, names in crates.items():
+            text = "\n".join(text for folder, ending in SOURCES for text in below(f"crates/{crate}/{folder}", ending))
+            for name in names:
+                if not re.search(rf"\b{name}\b", text):
+                    yield f"checks/map.py: crates.txt: no source of {crate} names {name}: take it from the line"
+
+
 def page():
     rooms = groups()
     edges = {crate: names for _, _, crates in rooms for crate, names in crates.items()}
@@ -186,7 +199,7 @@ def main(words):
     if words not in ([], ["--check"]):
         print(__doc__.split("\n")[0])
         return 2
-    faults, text = list(lost()), page()
+    faults, text = [*lost(), *unnamed()], page()
     if not words:
         with open(PAGE, "w", encoding="utf-8") as file:
             file.write(text)
