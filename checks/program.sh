@@ -114,15 +114,15 @@ case_of 2 "$usage" "vickrey: word 2 behind the command's name has to be an audit
   coin-part $id 17 8 "$share" none
 case_of 2 "$usage" "vickrey: word 2 behind the command's name has to be the name of a file, of 1 to 255 bytes, and not the word before it; $page" \
   coin-join coin coin
-case_of 2 "$usage" "vickrey: the first word names no command; $page" frobnicate
-case_of 2 "$usage" "vickrey: the first word names no command; $page"
-case_of 2 "$usage" "vickrey: this command has 3 or 4 words behind its name, and 2 are given; $page" announce $id 4
+case_of 2 "$usage" "vickrey 1.0: the first word names no command; $page" frobnicate
+case_of 2 "$usage" "vickrey 1.0: the first word names no command; $page"
+case_of 2 "$usage" "vickrey: words behind this command's name: 3 or 4 wanted, 2 given; $page" announce $id 4
 case_of 2 "$usage" "vickrey: word 4 behind the command's name has to be a reserve, a whole number below 2^WIDTH with no 0 in front; $page" announce $id 4 2 16
 case_of 2 "$usage" "vickrey: word 2 behind the command's name has to be a seat, a whole number from 1 to 65535 with no 0 in front; $page" \
   seal $id 0 15 4 2 "$seed" none none-either
 case_of 2 "$usage" "vickrey: word 8 behind the command's name has to be the name of a file, of 1 to 255 bytes, and not the word before it; $page" \
   seal $id 7 15 4 2 "$seed" none none
-case_of 2 "$usage" "vickrey: the first word names no command; $page" verify board challenge-0 "$(printf '\377')"
+case_of 2 "$usage" "vickrey 1.0: the first word names no command; $page" verify board challenge-0 "$(printf '\377')"
 head -n 14 board >"cut"
 case_of 4 'malformed cut line 15' '' verify cut challenge-0 reply-0
 truncate -s 1073741825 huge

@@ -1,14 +1,15 @@
 #!/usr/bin/env bash
 # dist/deb.sh OUT [PROGRAM]: makes a Debian package of this tree in the folder OUT, of the prebuilt
 # program of dist/, or of PROGRAM where one is named: what install.sh puts, at /usr. Its version is
-# the date of the last commit and that commit. It wants dpkg-deb and git.
+# the program's number, the date of the last commit and that commit. It wants dpkg-deb and git.
 set -eu
 [ $# -eq 1 ] || [ $# -eq 2 ] || { sed -n '2,4s/^# //p' "$0"; exit 2; }
 here=$(realpath "$(dirname "$0")/..")
 out=$(realpath "$1")
 work=$(mktemp -d)
 trap 'rm -rf "$work"' EXIT
-version=$(git -C "$here" log -1 --format=0~%cd.%h --date=format:%Y%m%d --abbrev=7)
+number=$(sed -n 's/^const VERSION: &str = "\(.*\)";$/\1/p' "$here/crates/vk_words/src/advice.rt")
+version=$number+$(git -C "$here" log -1 --format=%cd.%h --date=format:%Y%m%d --abbrev=7)
 SOURCE_DATE_EPOCH=$(git -C "$here" log -1 --format=%ct)
 export SOURCE_DATE_EPOCH
 

@@ -195,10 +195,10 @@ module _ (files : Files) (ledger : Option Ledger) (words : List (List ℕ)) (sta
       λ work. DoesWork status work (outside (stores (Some files) ledger) old) new in
       let done = subst (λ found. IfSome (work_of (Some files) ledger found) Does) is ended in
       not_two ends done.status_is
-      where
-        not_two : (status ≡ 0) ⊎ (status ≡ 3) → status ≡ 2 → ⊥
-        not_two (inl zero_is) two_is = omega arith
-        not_two (inr three_is) two_is = omega arith
+    where
+      not_two : (status ≡ 0) ⊎ (status ≡ 3) → status ≡ 2 → ⊥
+      not_two (inl zero_is) two_is = omega arith
+      not_two (inr three_is) two_is = omega arith
 
   -- what is promised of a command by its names is promised of its six words
   by_words : {P : Type 0} (file challenge reply other second verb : List ℕ)
@@ -208,11 +208,11 @@ module _ (files : Files) (ledger : Option Ledger) (words : List (List ℕ)) (sta
       → (command_words words ≡ Some (command (five file challenge reply other second)) → P) → P
   by_words {P} file challenge reply other second verb command is are ends holds =
       either (words_settled file challenge reply other second words verb command is are)
-      where
-        either : (command_words words ≡ None)
-            ⊎ (command_words words ≡ Some (command (five file challenge reply other second))) → P
-        either (inl none) = absurd (no_usage ends none)
-        either (inr some) = holds some
+    where
+      either : (command_words words ≡ None)
+          ⊎ (command_words words ≡ Some (command (five file challenge reply other second))) → P
+      either (inl none) = absurd (no_usage ends none)
+      either (inr some) = holds some
 
   module _ {Accepts : ExtractWords → Type 0} {PutsIt PutsClash : (names : ExtractWords) → Accepts names → Type 0}
       (verb : List ℕ) (command : ExtractWords → CommandWords) (exactly : PutsExactly words status command Accepts (λ names accepted. ((status ≡ 0) × PutsIt names accepted) ⊎ ((status ≡ 3) × PutsClash names accepted)))

@@ -210,17 +210,17 @@ differing_below number (first_bit ∷ first) (second_bit ∷ second) =
     subst (All P) (sym (differing_first number first_bit second_bit first second))
     (All-append P (number_here number first_bit second_bit) (differing (number + 1) first second)
     (here_below number (suc (length first)) first_bit second_bit (omega arith)) later)
-    where
-      here_below : (number more : ℕ) (first_bit second_bit : Bool) → 1 ≤ more
-          → All (λ n. n < number + more) (number_here number first_bit second_bit)
-      here_below number more false false some = All-nil (λ n. n < number + more)
-      here_below number more true true some = All-nil (λ n. n < number + more)
-      here_below number more false true some =
-          All-cons (λ n. n < number + more) number [] (omega arith)
-          (All-nil (λ n. n < number + more))
-      here_below number more true false some =
-          All-cons (λ n. n < number + more) number [] (omega arith)
-          (All-nil (λ n. n < number + more))
+  where
+    here_below : (number more : ℕ) (first_bit second_bit : Bool) → 1 ≤ more
+        → All (λ n. n < number + more) (number_here number first_bit second_bit)
+    here_below number more false false some = All-nil (λ n. n < number + more)
+    here_below number more true true some = All-nil (λ n. n < number + more)
+    here_below number more false true some =
+        All-cons (λ n. n < number + more) number [] (omega arith)
+        (All-nil (λ n. n < number + more))
+    here_below number more true false some =
+        All-cons (λ n. n < number + more) number [] (omega arith)
+        (All-nil (λ n. n < number + more))
 
 -- the digest that is opened twice is one of the wire's
 clash_digest : (place : Place) (digests : WireCom) (zero_shown one_shown : Shown)

@@ -95,17 +95,21 @@ kind_text Kind = codes "a kind of claims, which is uniform or matching"
 -- how many words stand behind a command's name
 abbrev pub many_text : (fewest most : ℕ) → List ℕ
 many_text fewest most =
-    if fewest == most then codes "vickrey: this command has " ++ decimal most
-    else ((codes "vickrey: this command has " ++ decimal fewest) ++ codes " or ") ++ decimal most
+    if fewest == most then codes "vickrey: words behind this command's name: " ++ decimal most
+    else ((codes "vickrey: words behind this command's name: " ++ decimal fewest) ++ codes " or ")
+    ++ decimal most
 
 abbrev pub count_text : (fewest most given : ℕ) → List ℕ
 count_text fewest most given =
-    ((many_text fewest most ++ codes " words behind its name, and ") ++ decimal given)
-    ++ codes " are given; see `man vickrey`\n"
+    ((many_text fewest most ++ codes " wanted, ") ++ decimal given)
+    ++ codes " given; see `man vickrey`\n"
 
--- the line of a hint. The word that names the command isn't counted
+-- the line of a hint, with the program's version where no command is named. The word that names the
+-- command isn't counted
 abbrev pub hint_text : Hint → List ℕ
-hint_text Command = codes "vickrey: the first word names no command; see `man vickrey`\n"
+hint_text Command =
+    (codes "vickrey " ++ codes "1.0")
+    ++ codes ": the first word names no command; see `man vickrey`\n"
 hint_text (Count fewest most given) = count_text (fewest - 1) (most - 1) (given - 1)
 hint_text (Word place kind) =
     (((codes "vickrey: word " ++ decimal place) ++ codes " behind the command's name has to be ")

@@ -8,6 +8,9 @@ use crate::hints::Hint;
 use crate::kinds::WordKind;
 use vk_text::ShortText;
 
+/// The version that the program says it is.
+const VERSION: &str = "1.0";
+
 /// What a word of the kind is.
 fn kind_text(kind: WordKind) -> &'static str
     ensures text { result.now ≡ kind_text kind }
@@ -40,7 +43,7 @@ fn many_line(fewest: u64, most: u64) -> ShortText
     ensures text { result ≡ many_text fewest most }
     ensures short { length result ≤ 100 }
 {
-    let line = ShortText::new().word("vickrey: this command has ");
+    let line = ShortText::new().word("vickrey: words behind this command's name: ");
     if fewest == most {
         return line.number(most);
     }
@@ -52,9 +55,9 @@ fn count_line(fewest: u64, most: u64, given: u64) -> ShortText
     ensures { result ≡ count_text fewest most given }
 {
     many_line(fewest, most)
-        .word(" words behind its name, and ")
+        .word(" wanted, ")
         .number(given)
-        .word(" are given; see `man vickrey`\n")
+        .word(" given; see `man vickrey`\n")
 }
 
 /// That a word isn't what it has to be.
@@ -74,9 +77,10 @@ pub fn hint_line(hint: Hint) -> ShortText
     ensures { result ≡ hint_text hint }
 {
     match hint {
-        Hint::Command => {
-            ShortText::new().word("vickrey: the first word names no command; see `man vickrey`\n")
-        }
+        Hint::Command => ShortText::new()
+            .word("vickrey ")
+            .word(VERSION)
+            .word(": the first word names no command; see `man vickrey`\n"),
         Hint::Count {
             fewest,
             most,

@@ -351,8 +351,8 @@ fn what_is_said_of_a_status(rt: HostRuntime) -> Result<(), Fail> {
 /// has to be, two names that are one, a reserve that isn't below 2^4; and the file that a fault is
 /// of.
 const ADVISED: &str =
-    "vickrey: this command has 3 or 4 words behind its name, and 2 are given; see `man vickrey`
-vickrey: the first word names no command; see `man vickrey`
+    "vickrey: words behind this command's name: 3 or 4 wanted, 2 given; see `man vickrey`
+vickrey 1.0: the first word names no command; see `man vickrey`
 vickrey: word 2 behind the command's name has to be a seat, a whole number from 1 to 65535 with no 0 in front; see `man vickrey`
 vickrey: word 3 behind the command's name has to be the name of a file, of 1 to 255 bytes, and not the word before it; see `man vickrey`
 vickrey: word 4 behind the command's name has to be a reserve, a whole number below 2^WIDTH with no 0 in front; see `man vickrey`
