@@ -377,6 +377,12 @@ class Chromium(Browser):
             self.ask("Input.dispatchKeyEvent", **down)
             self.ask("Input.dispatchKeyEvent", type="keyUp", **parts)
 
+    def downloaded(self, name, patience=PATIENCE):
+        data = super().downloaded(name, patience)
+        # Of more than ten files in a second Chromium drops some, and says nothing of that.
+        time.sleep(0.12)
+        return data
+
     def resize(self, width, height):
         self.ask(
             "Emulation.setDeviceMetricsOverride",
