@@ -1,9 +1,10 @@
 #!/usr/bin/env bash
 # checks/lint.sh: looks through scripts and pages by linters of Debian: flake8 (python3-flake8) with
 # the settings of .flake8, or pyflakes3 where that alone is there; node reads each file of
-# JavaScript; shellcheck; mandoc; and whether CHANGELOG.md has the digests of the page, of the
-# program on node and of the prebuilt one. It is no part of the gate. The last line says how many of
-# these parts passed and failed; one whose linter isn't there is named, and is neither.
+# JavaScript, and eslint those of the page, with the settings of page/.eslintrc.json; shellcheck;
+# mandoc; and whether CHANGELOG.md has the digests of the page, of the program on node and of the
+# prebuilt one, and README.md that of the page. It is no part of the gate. The last line says how
+# many of these parts passed and failed; one whose linter isn't there is named, and is neither.
 set -u
 cd "$(dirname "$0")/.." || exit 1
 passed=0
@@ -27,17 +28,21 @@ files() { git ls-files -- "$@"; }
 
 # each COMMAND..: the command on each file of standard input
 each() { local status=0 file; while read -r file; do "$@" "$file" || status=1; done; return $status; }
-# A file is a script, or the body of a function that a page runs
-read_by_node() { node --check "$1" 2>/dev/null || { echo '(async () => {'; cat "$1"; echo '})'; } | node --check -; }
-javascript() { files '*.js' | each read_by_node; }
+javascript() { files '*.js' | each node --check; }
+# Debian's eslint finds its own modules where another node than Debian's is installed, too
+page() { files 'page/*.js' 'page/trials/*.js' | NODE_PATH=/usr/share/nodejs:/usr/lib/nodejs xargs eslint -f unix; }
 shell() { files '*.sh' | xargs shellcheck; }
 
-# Each digest stands in CHANGELOG.md, in a line of its own
+# has FILE LINE: the line stands in the file
+has() { grep -qxF -- "$2" "$1" || { echo "$1 has no line '$2'"; return 1; }; }
+
+# Each digest stands in CHANGELOG.md, in a line of its own, and the page's in README.md too
 digests() {
   local line status=0
   while read -r line; do
-    grep -qxF -- "$line" CHANGELOG.md || { echo "CHANGELOG.md has no line '$line'"; status=1; }
+    has CHANGELOG.md "$line" || status=1
   done < <(cat page/*.sha256 portable/*.sha256 dist/*.sha256)
+  has README.md "$(cat page/*.sha256)" || status=1
   return $status
 }
 
@@ -49,6 +54,7 @@ else
   part Python pyflakes3 "${python[@]}"
 fi
 if command -v node >/dev/null; then part JavaScript javascript; else echo 'not tried: JavaScript: there is no node'; fi
+if command -v eslint >/dev/null; then part 'the scripts of the page' page; else echo 'not tried: the scripts of the page: there is no eslint'; fi
 if command -v shellcheck >/dev/null; then part Shell shell; else echo 'not tried: Shell: there is no shellcheck'; fi
 part 'the manual page' mandoc -Tlint docs/vickrey.1
 part 'the digests' digests

@@ -178,7 +178,8 @@ const Bid = (() => {
     find("seal-seat").value = "";
     find("seal-unit").textContent = announced ? `, in ${announced.unit.name}` : ", a whole number";
     hideReview();
-    find("announcement-on").textContent = announced ? "Go on" : "Go on without a file";
+    const [textContent, className] = announced ? ["Go on", ""] : ["Go on without a file", "small"];
+    Object.assign(find("announcement-on"), { textContent, className });
   }
 
   // ---- Is my bid held?

@@ -78,16 +78,26 @@ const Sell = (() => {
   }
 
   // The next house was saved, and is opened: what was made with it is handed out.
-  function saved() {
+  async function saved() {
     const { house, made, digest } = auction.next;
     Parts.unsaved.delete(auction);
     Object.assign(auction, { house, made, digest, next: null });
-    show(`House ${house.number} is saved.`);
+    await show(`House ${house.number} is saved.`);
     find("panel-sell").focus();
   }
 
-  function show(what) {
-    const { house, made, digest } = auction;
+  // Whether the announcement above all tools is that of a house.
+  const isAbove = ({ announcement }) => Archive.same(announcement, Announced.bytes() || []);
+
+  async function show(what) {
+    const open = auction;
+    const { house, made, digest } = open;
+    if (!isAbove(house)) {
+      await Announced.take(house.announcement);
+    }
+    if (open !== auction) {
+      return;
+    }
     const kept = Guard.remember(house.said.id, house.number, digest);
     showForms();
     SellForms.begin(house);
@@ -121,9 +131,13 @@ const Sell = (() => {
 
   function close() {
     if (auction) {
+      const { house } = auction;
       Parts.unsaved.delete(auction);
       auction.release();
       auction = null;
+      if (house && isAbove(house)) {
+        Announced.putAway();
+      }
     }
     clearForms();
     showForms();
@@ -162,7 +176,7 @@ const Sell = (() => {
     const made = await madeOf(house);
     if (opened === auction) {
       Object.assign(auction, { house, made, digest });
-      show(`House ${house.number} is open.`);
+      await show(`House ${house.number} is open.`);
     }
   }
 
@@ -177,7 +191,7 @@ const Sell = (() => {
     const bytes = new Uint8Array(await file.arrayBuffer());
     const digest = await Work.digestOf(bytes);
     if (auction && auction.next && auction.next.digest === digest) {
-      saved();
+      await saved();
     } else if (auction && auction.next) {
       throw new House.Unfit(OTHER);
     } else {

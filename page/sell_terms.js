@@ -1,7 +1,6 @@
-// page/sell_terms.js: what a seller types, or has in a file, becomes an announcement.
+// page/sell_terms.js: what a seller types becomes an announcement, where none stands above.
 const SellTerms = (() => {
-  const { find, typed, given, mark, goTo } = Fields;
-  const MOST_BYTES = 256 * 1024;
+  const { find, typed, mark, goTo } = Fields;
 
   // What isn't as it has to be, with the field that it stands in, if it is one.
   class Unfit extends Error {
@@ -99,30 +98,18 @@ const SellTerms = (() => {
     };
   }
 
-  async function fromFile(file) {
-    if (file.size > MOST_BYTES) {
-      throw new Unfit("The announcement is too long to be one.");
+  // The announcement that stands above all tools.
+  function above() {
+    if (Announced.now().kind !== "vickrey") {
+      throw new Unfit("No house takes an auction of this kind: only those of the kind vickrey.");
     }
-    const bytes = new Uint8Array(await file.arrayBuffer());
-    try {
-      if (Terms.read(bytes).kind !== "vickrey") {
-        throw new Unfit("No house takes an auction of this kind: only those of the kind vickrey.");
-      }
-    } catch (error) {
-      if (error instanceof Terms.FaultLine) {
-        const what = `line ${error.line} is the first one that isn't what it has to be`;
-        throw new Unfit(`The announcement can't be read: ${what}.`);
-      }
-      throw error;
-    }
-    return bytes;
+    return Announced.bytes();
   }
 
   // The bytes of the announcement; an Unfit where there is none.
-  async function read() {
-    const file = given("sell-terms-file");
-    if (file) {
-      return fromFile(file);
+  function read() {
+    if (Announced.now()) {
+      return above();
     }
     try {
       return Asked.bytesOf(Terms.write(typedTerms()));
@@ -134,5 +121,13 @@ const SellTerms = (() => {
     }
   }
 
-  return { Unfit, read };
+  // What is asked where an announcement stands above, and where none does.
+  function show(now) {
+    find("sell-terms-above").hidden = now === null;
+    find("sell-terms-typed").hidden = now !== null;
+  }
+
+  const begin = () => Announced.onChange(show);
+
+  return { Unfit, begin, read };
 })();

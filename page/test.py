@@ -31,8 +31,9 @@ from trials.desk import Desk
 from trials.hostile import HOSTILE, Listener
 from trials.kinds import KINDS
 from trials.made import Made
+from trials.pictures import take_pictures
 from trials.poor import POOR
-from trials.reach import REACH, take_pictures
+from trials.reach import REACH
 from trials.rehearse import REHEARSE
 from trials.sell import SELL
 from trials.sell_hostile import SELL_HOSTILE

@@ -6,6 +6,7 @@ import subprocess
 import sys
 import tarfile
 
+from .announced import take
 from .made import Said
 from .seller import LANES, NAMES, Seller
 
@@ -217,17 +218,15 @@ def terms_are_asked(desk):
         f"{name} none\n" for name in ("seals", "secrets", "board", "draw", "reply", "key")
     )
     rest += "place here\nseats 2\nseat 1 Ann\nseat 2 Ben\nend\n"
-    files = {
-        "units": (said.format("0" * 32, "uniform 2") + rest, "No house takes an auction of"),
-        "cut": ((said + rest).format("0" * 32, "vickrey")[:-4], "line 20 is the first one"),
-        "good": (said.format("0" * 32, "vickrey") + rest, None),
-    }
-    for name, (text, words) in files.items():
-        seller.put(name, text)
-        desk.browser.choose("#sell-terms-file", seller.path(name))
-        desk.browser.click("#sell-terms-run")
-        if words:
-            seller.says(words, "sell-terms")
+    kinds = {"units": "uniform 2", "good": "vickrey"}
+    for name, kind in kinds.items():
+        seller.put(name, said.format("0" * 32, kind) + rest)
+    take(desk, seller.path("units"))
+    desk.browser.click("#sell-terms-run")
+    seller.says("No house takes an auction of this kind", "sell-terms")
+    desk.browser.click("#announced-away")
+    take(desk, seller.path("good"))
+    desk.browser.click("#sell-terms-run")
     seller.keep()
     assert seller.save("announcement") == seller.bytes("good")
 
