@@ -224,9 +224,9 @@ const Sell = (() => {
     "This browser has seen a house of this auction: open its newest one. An auction that is " +
     "begun twice could answer two challenges.";
 
-  // A new auction, by its announcement.
-  async function announce(announcement) {
-    const house = House.following(House.begun(announcement), "", {});
+  // A new auction, by its announcement, with the private key to it if the page made that.
+  async function announce({ announcement, key }) {
+    const house = House.following(House.begun(announcement, key), "", {});
     const against = Guard.recall(house.said.id) ? BEGUN : await hold(house.said.id);
     if (against) {
       throw new House.Unfit(against);

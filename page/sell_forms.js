@@ -69,7 +69,7 @@ const SellForms = (() => {
     const place = places["sell-take"];
     const { turn } = place;
     place.follow(async () => {
-      const left = await Intake.put(rows, files);
+      const left = await Intake.put(steps.current().house, rows, files);
       await tried(place);
       if (turn !== place.turn) {
         return;
@@ -242,7 +242,7 @@ const SellForms = (() => {
 
   function start(wanted) {
     steps = wanted;
-    const announce = () => steps.announce(SellTerms.read());
+    const announce = async () => steps.announce(await SellTerms.read());
     const runs = [announce, take, (place) => steps.prove(place), draw, pack];
     TOOLS.forEach((id, at) => {
       places[id] = Parts.beginTool(id, doing(runs[at]));

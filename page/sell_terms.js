@@ -70,8 +70,11 @@ const SellTerms = (() => {
 
   const widthOf = (highest) => Math.max(1, highest.toString(2).length);
 
-  // The announcement of what is typed, with an id that is drawn here.
-  function typedTerms() {
+  const isEncrypted = () => find("sell-terms-encrypted").checked;
+
+  // The announcement of what is typed, with an id that is drawn here, and this key where one was
+  // made.
+  function typedTerms(key) {
     const name = readField("unit", Terms.textOf, "a text, as EUR");
     const decimals = readField("decimals", numberUpTo(9), "0 to 9");
     const unit = { unit: name, decimals };
@@ -88,7 +91,7 @@ const SellTerms = (() => {
       ...unit,
       auditors: readField("auditors", numberUpTo(16), "0 to 16"),
       deadlines: readTimes(),
-      key: readField("key", orNone(Terms.textOf), "a text, or none"),
+      key: key ? key.text : readField("key", orNone(Terms.textOf), "a text, or none"),
       place: readField("place", Terms.textOf, "a text: where everybody can look"),
       seats: readField(
         "seats",
@@ -103,16 +106,19 @@ const SellTerms = (() => {
     if (Announced.now().kind !== "vickrey") {
       throw new Unfit("No house takes an auction of this kind: only those of the kind vickrey.");
     }
-    return Announced.bytes();
+    return { announcement: Announced.bytes(), key: null };
   }
 
-  // The bytes of the announcement; an Unfit where there is none.
-  function read() {
+  // The bytes of the announcement, and the private key to it if one is made; an Unfit where there
+  // is none.
+  async function read() {
     if (Announced.now()) {
       return above();
     }
     try {
-      return Asked.bytesOf(Terms.write(typedTerms()));
+      const key = isEncrypted() ? await Locked.makeKey() : null;
+      const announcement = Asked.bytesOf(Terms.write(typedTerms(key)));
+      return { announcement, key: key && key.pem };
     } catch (error) {
       if (error instanceof Unfit && error.field) {
         goTo(error.field);
@@ -127,7 +133,19 @@ const SellTerms = (() => {
     find("sell-terms-typed").hidden = now !== null;
   }
 
-  const begin = () => Announced.onChange(show);
+  const showKey = () => {
+    find("sell-terms-key-box").hidden = isEncrypted();
+  };
+
+  function begin() {
+    const box = find("sell-terms-encrypted");
+    box.disabled = !Locked.isPossible();
+    box.defaultChecked = !box.disabled;
+    box.addEventListener("change", showKey);
+    find("sell-terms").addEventListener("reset", () => setTimeout(showKey));
+    showKey();
+    Announced.onChange(show);
+  }
 
   return { Unfit, begin, read };
 })();

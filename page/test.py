@@ -8,7 +8,7 @@ wants Debian's packages chromium and firefox-esr, and Python's standard library.
 
   --page      the page, if not page/vickrey.html
   --again     the page of the scripts as they are now, with the module of page/vickrey.html
-  --pictures  a folder for a picture of each tab: in light, in dark, and on a phone
+  --pictures  a folder for pictures of each step: light and dark, on a desk and on a phone
   --only      chromium or firefox alone
   --trial     only the trials whose names have this in them, or one of several with commas
 

@@ -2,11 +2,16 @@
 import os
 
 from .announced import take
-from .desk import Desk
-from .made import ID
+from .made import announcement
 from .rehearse import Reader, make_cheat, say_it
 from .seller import Seller
 from .use import ACCEPTED, TWO, announced
+
+# A key of nobody's, as an announcement has it
+KEY = (
+    "cms MFkwEwYHKoZIzj0CAQYIKoZIzj0DAQcDQgAEaxfR8uEsQkf4vOblY6RA8ncDfYEt6zOg9KE5RdiYwpZP40Li/hp/"
+    "m47n60p8D54WK84zV2sxXs7LtkBoN79R9Q=="
+)
 
 # Each look: its name, its width and height, and whether it is dark
 LOOKS = [
@@ -18,13 +23,24 @@ LOOKS = [
 ]
 WORKING = (1280, 800)
 
+# The five steps as page/README.md shows them: of a step that was taken, the part that tells
+STEPS = {
+    "1-announcement": "#announced",
+    "2-review": "#seal",
+    "3-kept": "#step-keep",
+    "4-looked": "#mine",
+    "5-checked": "#check",
+}
+STEP_SIZE = (720, 2400)
+
 
 def steps_of_a_bid(desk):
-    """The five steps, with an announcement."""
+    """The five steps, with an announcement that has a key."""
     made = desk.made
+    made.put("announcement-key", announcement(key=KEY))
     desk.open("bid")
     yield "1-announcement-none"
-    take(desk)
+    take(desk, "announcement-key")
     yield "1-announcement"
     desk.browser.click("#announcement-on")
     yield "2-bid"
@@ -34,6 +50,8 @@ def steps_of_a_bid(desk):
     desk.shown("keep")
     yield "3-keep"
     desk.keep(7)
+    yield "3-half-kept"
+    desk.save("keep", "secret-7.cms")
     yield "3-kept"
     desk.browser.click("#keep-on")
     yield "4-look"
@@ -130,15 +148,17 @@ def a_rehearsal(desk):
 SCENES = [steps_of_a_bid, other_files, for_auditors, steps_of_a_sale, a_rehearsal]
 
 
-def take_pictures(desk, folder, only=""):
-    """Each step in each look, as BROWSER-LOOK-STEP.png."""
+def take_pictures(desk, folder):
+    """Each step in each look, as BROWSER-LOOK-STEP.png; and those of page/README.md, as STEP.png."""
     browser = desk.browser
     for scene in SCENES:
         browser.resize(*WORKING)
         for step in scene(desk):
-            if only not in step:
-                continue
             at = desk.run("return scrollY")
+            if step in STEPS and browser.name == "Chromium":
+                browser.resize(*STEP_SIZE)
+                desk.run("document.activeElement.blur()")
+                browser.picture(os.path.join(folder, f"{step}.png"), part=STEPS[step])
             for look, width, height, dark in LOOKS:
                 browser.resize(width, height)
                 browser.paint(dark)

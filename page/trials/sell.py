@@ -8,9 +8,11 @@ import tarfile
 
 from .announced import take
 from .made import Said
-from .seller import LANES, NAMES, Seller
+from .seller import BIDS, LANES, NAMES, Seller
 
 HERE = os.path.dirname(os.path.abspath(__file__))
+# How what is handed in of each seat is named
+FILES = (("seal", ""), ("secret", ".cms"))
 CHECKER = os.path.join(HERE, "..", "..", "checker", "check.py")
 
 
@@ -173,6 +175,54 @@ def intake_is_told(desk):
     assert lines == ["seal-7", "seal-9", "seal-300"], lines
 
 
+def secrets_come_encrypted(desk):
+    """The page makes a key, which the house keeps; bidders encrypt to it in the page."""
+    seller = Seller(desk, "locked").open()
+    lines = seller.announce(encrypted=True)
+    assert lines[14].startswith("key cms "), lines
+    desk.browser.click("#tab-bid")
+    seller.seal_all()
+    for seat, bid in BIDS.items():
+        shown = desk.seal(seat_of=seat, bid=f"{bid // 100}.{bid % 100:02}")
+        assert shown.mood == "good", shown
+        for name in (f"secret-{seat}", f"seal-{seat}", f"secret-{seat}.cms"):
+            seller.save(name, "keep")
+    desk.browser.click("#tab-sell")
+    seller.put("changed", flipped(seller.bytes("secret-9.cms")))
+    shutil.copy(seller.path("secret-9.cms"), seller.path("right"))
+    shutil.copy(seller.path("changed"), seller.path("secret-9.cms"))
+    seller.hand_in(*[f"{kind}-{seat}{end}" for seat in BIDS for kind, end in FILES])
+    seller.says("of 3 seats 2 can be taken", "sell-take")
+    told = dict(seller.rows())["Seat 9"]
+    assert "secret-9 is encrypted, and the key of this house doesn't open it: ask Ben & Co" in told
+    shutil.copy(seller.path("right"), seller.path("secret-9.cms"))
+    seller.hand_in("secret-9.cms")
+    seller.says("of 3 seats 3 can be taken", "sell-take")
+    desk.browser.click("#sell-take-run")
+    house = seller.keep()
+    place = seller.unpack(house, "unpacked")
+    for seat in BIDS:
+        with open(os.path.join(place, f"secret-{seat}"), "rb") as file:
+            assert file.read() == seller.bytes(f"secret-{seat}"), seat
+        words = ["openssl", "cms", "-decrypt", "-inform", "DER", "-binary", "-inkey", "key.pem"]
+        words += ["-in", seller.path(f"secret-{seat}.cms")]
+        opened = subprocess.run(words, cwd=place, stdout=subprocess.PIPE, check=True).stdout
+        assert opened == seller.bytes(f"secret-{seat}"), seat
+    shutil.rmtree(place)
+    seller.prove()
+    assert "Seat 300 wins and pays 33.50 EUR." in desk.browser.text("#sell-work")
+    shutil.rmtree(goes_on(seller, seller.houses[-1], "board"))
+    seller.answer()
+    said = audited(seller, "--secret", seller.path("secret-9"), "--bits", "0110")
+    assert said.status == 0, said
+    assert "key.pem" not in os.listdir(seller.path("public"))
+
+
+def flipped(data):
+    """The same bytes with one of them changed."""
+    return data[:-30] + bytes([data[-30] ^ 1]) + data[-29:]
+
+
 def seat_is_left_out(desk):
     """A seat that is left out isn't on the board, and the audit says so by its option."""
     seller = Seller(desk).open()
@@ -231,4 +281,11 @@ def terms_are_asked(desk):
     assert seller.save("announcement") == seller.bytes("good")
 
 
-SELL = [auction_is_sold, auditors_draw, intake_is_told, seat_is_left_out, terms_are_asked]
+SELL = [
+    auction_is_sold,
+    auditors_draw,
+    intake_is_told,
+    secrets_come_encrypted,
+    seat_is_left_out,
+    terms_are_asked,
+]
