@@ -184,7 +184,17 @@ const Sell = (() => {
     "This isn't the house that was just made. Save that one, and open it; or close this auction, " +
     "and open another house.";
 
+  // What a file is that is no house: of a house no first line says anything.
+  async function otherFile(file) {
+    const look = await Kinds.look(file);
+    return look.kind === "other" ? "" : `You chose another file: ${Kinds.what(look)}.`;
+  }
+
   async function opened(file) {
+    const other = await otherFile(file);
+    if (other) {
+      throw new House.Unfit(`${other} Here the house belongs.`);
+    }
     if (file.size > House.MOST_BYTES) {
       throw new House.Unfit("It is no house: it is too long for one.");
     }

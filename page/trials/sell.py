@@ -7,10 +7,17 @@ import sys
 import tarfile
 
 from .announced import take
+from .kinds import CALLED, given
 from .made import Said
 from .seller import BIDS, LANES, NAMES, Seller
 
 HERE = os.path.dirname(os.path.abspath(__file__))
+# What belongs in the places of the draw
+DRAWN = {
+    "sell-draw-shares": "share-1",
+    "sell-draw-coin": "coin",
+    "sell-draw-challenge": "challenge-0110",
+}
 # How what is handed in of each seat is named
 FILES = (("seal", ""), ("secret", ".cms"))
 CHECKER = os.path.join(HERE, "..", "..", "checker", "check.py")
@@ -240,6 +247,29 @@ def seat_is_left_out(desk):
     assert said.status == 0, said
 
 
+def other_files_are_told(desk):
+    """Every kind of file in each of the seller's places, and what is said of it."""
+    seller = Seller(desk, "others").open()
+    for name, called in CALLED.items():
+        desk.browser.choose("#sell-house", desk.made.path(name))
+        wanted = f"You chose another file: {called}"
+        seller.says("It is no house" if name == "noise" else wanted)
+    seller.announce()
+    for name in CALLED.keys() - {"seal-7", "other-seal-7", "secret-7"}:
+        desk.browser.choose("#sell-take-files", desk.made.path(name))
+        desk.browser.wait(
+            "return document.getElementById('sell-take-work').textContent.includes(arguments[0])",
+            f"{name}: no seal and no secret.",
+        )
+    seller.take()
+    seller.prove()
+    cases = [[place, name] for place in DRAWN for name in CALLED]
+    for (place, name), (said, mood) in zip(cases, given(desk, cases, False)):
+        own = name == DRAWN[place]
+        assert ("You chose another file: " in said) != own, (place, name, said)
+        assert CALLED[name][2:] in said and (own or mood == "told odd"), (place, name, said, mood)
+
+
 def terms_are_asked(desk):
     """Each field that isn't of its form is named; an announcement as a file is taken as it is."""
     seller = Seller(desk).open()
@@ -287,5 +317,6 @@ SELL = [
     intake_is_told,
     secrets_come_encrypted,
     seat_is_left_out,
+    other_files_are_told,
     terms_are_asked,
 ]
