@@ -127,7 +127,7 @@ const Locked = (() => {
     return subtle().importKey("pkcs8", bytes, CURVE, false, ["deriveBits"]);
   }
 
-  // The key that wraps keys, which both sides come to, each from its own half and the other's point.
+  // The key that wraps keys: both sides come to it, each from its own half and the other's point.
   async function keyOfKeys(own, point) {
     const other = await subtle().importKey("raw", point, CURVE, false, []);
     const bits = await subtle().deriveBits({ name: "ECDH", public: other }, own, 256);

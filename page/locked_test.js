@@ -1,6 +1,6 @@
 #!/usr/bin/env node
-// page/locked_test.js: secrets that are encrypted by page/locked.js are opened by it and by openssl;
-// changed ones, and ones to another key, are opened by neither. It is no part of the gate.
+// page/locked_test.js: secrets that are encrypted by page/locked.js are opened by it and by
+// openssl; changed ones, and ones to another key, by neither. It is no part of the gate.
 "use strict";
 
 const { spawnSync } = require("child_process");

@@ -151,21 +151,21 @@ def intake_is_told(desk):
     ]
     seller.hand_in(*seller.all_files([9, 300]))
     seller.says("of 3 seats 2 can be taken", "sell-take")
-    for given, seat, words in cases:
+    for handed, seat, words in cases:
         folder = seller.path("given")
         shutil.rmtree(folder, ignore_errors=True)
         os.mkdir(folder)
         for name in seller.all_files({7, 9} - {seat}):
             shutil.copy(seller.path(name), os.path.join(folder, name))
-        kinds = ["seal", "secret"] if len(given) == 2 else [given[0].split("-")[0]]
-        for kind, name in zip(kinds, given):
+        kinds = ["seal", "secret"] if len(handed) == 2 else [handed[0].split("-")[0]]
+        for kind, name in zip(kinds, handed):
             shutil.copy(seller.path(name), os.path.join(folder, f"{kind}-{seat}"))
         names = sorted(os.path.join(folder, name) for name in os.listdir(folder))
         desk.browser.choose("#sell-take-files", *names)
         seller.says("of 3 seats 2 can be taken", "sell-take")
         for row, told in seller.rows():
             wanted = words if row == f"Seat {seat}" else good
-            assert wanted in told, (given, row, told, wanted)
+            assert wanted in told, (handed, row, told, wanted)
         desk.browser.click("#sell-take-run")
         seller.says(f"Nothing was taken: of 3 seats 1 can't be, {seat}.", "sell-take")
         assert seller.forms() == ["take"]
