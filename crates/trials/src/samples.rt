@@ -1,5 +1,5 @@
-// `sample 1` over files that stay as they are: what it says of the replies is what it reads, and
-// not what it wrote.
+// `sample 1` and `claim-sample` over files that stay as they are: what is said of the replies is
+// what is read, and not what was written.
 use crate::auctions::{push_run, status_of};
 use std::alloc::Global;
 use vk_cases::{Tried, Unreplayed, WatchedShelf, behind, read_cases, text_of, word_at};
@@ -20,14 +20,24 @@ const NAMES: [&str; 5] = [
     "sample-reply-2",
 ];
 
+/// Those of a sample's claim.
+const CLAIM_NAMES: [&str; 5] = [
+    "claim-board",
+    "claim-challenge-1",
+    "claim-reply-1",
+    "claim-challenge-2",
+    "claim-reply-2",
+];
+
 /// The files of a board of three lanes and one seal, whose bids are 0, 3 and 1.
 const LANES: &[u8] = b"lanes-board lanes-zeros lanes-reply-zeros lanes-ones lanes-reply-ones";
 
 /// How many calls fail in turn: the first ones that read a sample's files.
 const CALLS: u64 = 10;
 
-/// Tells what `sample 1` says over its own files, of which one is spoiled, and over files that
-/// others made; among these a board that has a right proof of another bid in each lane.
+/// Tells what `sample 1` says over its own files, of which one is spoiled, and what it and
+/// `claim-sample` say over files that others made; among these a board, and claim files of both
+/// kinds, that have a right proof of another value in each lane.
 pub fn try_samples<S: Shelf, W: Sink>(alloc: Global, shelf: &mut S, out: &mut W) -> Tried<()> {
     try_spoiled(alloc, out)?;
     try_given(alloc, shelf, out)?;
@@ -35,8 +45,8 @@ pub fn try_samples<S: Shelf, W: Sink>(alloc: Global, shelf: &mut S, out: &mut W)
     try_made(alloc, out)
 }
 
-/// Tells what is said over the files of each case of `samples`, which is `BOARD CHALLENGE REPLY
-/// CHALLENGE REPLY | TOLD`.
+/// Tells what is said over the files of each case of `samples`, which is `PUBLIC CHALLENGE REPLY
+/// CHALLENGE REPLY|WORDS|TOLD`.
 fn try_given<S: Shelf, W: Sink>(alloc: Global, shelf: &mut S, out: &mut W) -> Tried<()> {
     let cases = read_cases(alloc, shelf, "samples")?;
     for case in cases.as_slice().split(|byte| *byte == b'\n') {
@@ -52,20 +62,27 @@ fn try_given<S: Shelf, W: Sink>(alloc: Global, shelf: &mut S, out: &mut W) -> Tr
 fn given_text<S: Shelf>(alloc: Global, shelf: &mut S, case: &[u8]) -> Tried<Vec<u8>> {
     let mut parts = case.split(|byte| *byte == b'|');
     let sources = parts.next().ok_or(Unreplayed::NoCase)?;
-    let told = behind(parts.next().ok_or(Unreplayed::NoCase)?, 1);
+    let line = parts.next().ok_or(Unreplayed::NoCase)?;
+    let told = parts.next().ok_or(Unreplayed::NoCase)?;
     let mut files = MemShelf::new(alloc);
-    put_files(alloc, shelf, &mut files, sources)?;
-    sample_text(alloc, told, files)
+    put_files(alloc, shelf, &mut files, sources, names_of(line))?;
+    sample_text(alloc, told, line, files)
 }
 
-/// Puts the files of these names under the names of a sample.
+/// The names of the files that these words write.
+fn names_of(line: &[u8]) -> [&'static str; 5] {
+    if line == LINE { NAMES } else { CLAIM_NAMES }
+}
+
+/// Puts the files of these sources under these names.
 fn put_files<S: Shelf>(
     alloc: Global,
     shelf: &mut S,
     files: &mut MemShelf,
     sources: &[u8],
+    names: [&'static str; 5],
 ) -> Tried<()> {
-    for (name, place) in NAMES.iter().zip(0usize..=4) {
+    for (name, place) in names.iter().zip(0usize..=4) {
         let source = text_of(alloc, word_at(sources, place)?)?;
         let bytes = read_cases(alloc, shelf, source.as_str())?;
         files.put_file(name, bytes.as_slice())?;
@@ -98,7 +115,7 @@ fn push_reads<S: Shelf>(alloc: Global, text: &mut Vec<u8>, shelf: &mut S) -> Tri
 /// fails.
 fn is_read_fault<S: Shelf>(alloc: Global, shelf: &mut S, call: u64) -> Tried<bool> {
     let mut files = MemShelf::new(alloc);
-    put_files(alloc, shelf, &mut files, LANES)?;
+    put_files(alloc, shelf, &mut files, LANES, NAMES)?;
     files.fail_at(call)?;
     let mut out = MemSink::new(alloc);
     let status = status_of(
@@ -112,7 +129,7 @@ fn is_read_fault<S: Shelf>(alloc: Global, shelf: &mut S, call: u64) -> Tried<boo
 
 fn try_spoiled<W: Sink>(alloc: Global, out: &mut W) -> Tried<()> {
     let files = spoiled_files(alloc)?;
-    let text = sample_text(alloc, b"x begins sample-reply-2", files)?;
+    let text = sample_text(alloc, b"x begins sample-reply-2", LINE, files)?;
     out.put(text.as_slice())?;
     Ok(())
 }
@@ -146,14 +163,15 @@ fn write_sample(alloc: Global, files: &mut MemShelf) -> Tried<()> {
     Ok(())
 }
 
-/// What is told of the files, and what `sample 1` says over them.
-fn sample_text(alloc: Global, told: &[u8], files: MemShelf) -> Tried<Vec<u8>> {
+/// What is told of the files, and what these words say over them.
+fn sample_text(alloc: Global, told: &[u8], line: &[u8], files: MemShelf) -> Tried<Vec<u8>> {
     let mut text = Vec::new(alloc);
     push_sample(
         alloc,
         &mut text,
         &mut WatchedShelf::fixed(alloc, files),
         told,
+        line,
     )?;
     Ok(text)
 }
@@ -163,9 +181,10 @@ fn push_sample(
     text: &mut Vec<u8>,
     shelf: &mut WatchedShelf,
     told: &[u8],
+    line: &[u8],
 ) -> Tried<()> {
     push_line(text, told)?;
-    let out = push_run(alloc, text, shelf, LINE)?;
+    let out = push_run(alloc, text, shelf, line)?;
     text.extend_from_slice(out.bytes())?;
     Ok(())
 }
