@@ -6,6 +6,7 @@ mod ahead;
 mod faults;
 mod file_id;
 mod file_shelf;
+mod kinds;
 mod links;
 mod moves;
 mod named_ids;
@@ -15,6 +16,7 @@ mod outcome;
 mod pieces;
 mod store;
 mod store_names;
+mod told_names;
 
 pub use faults::FaultCount;
 pub use file_shelf::{FileShelf, NamedFault};
