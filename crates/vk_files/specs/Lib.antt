@@ -3,6 +3,7 @@ pub mod Store
 pub mod Moves
 pub mod Kinds
 pub mod Opening
+pub mod Outlets
 pub mod Links
 pub mod Ahead
 pub mod Counting

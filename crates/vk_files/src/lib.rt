@@ -13,6 +13,7 @@ mod named_ids;
 mod opening;
 mod out_sink;
 mod outcome;
+mod outlet;
 mod pieces;
 mod store;
 mod store_names;
@@ -20,4 +21,5 @@ mod told_names;
 
 pub use faults::FaultCount;
 pub use file_shelf::{FileShelf, NamedFault};
-pub use out_sink::OutSink;
+pub use out_sink::{OutSink, StandardOutput};
+pub use outlet::Outlet;
