@@ -3,7 +3,8 @@ use crate::faulty::Faulty;
 use crate::output::Output;
 use crate::plan::Plan;
 use crate::room::Room;
-use vk_files::{FileShelf, OutSink};
+use std::io::{PipeReader, PipeWriter};
+use vk_files::{FileShelf, OutSink, StandardOutput};
 
 /// The shelf and the output on trial. The shelf's calls go to the real files, but those that are
 /// planned to go wrong; what it reads and writes is really there.
@@ -13,7 +14,9 @@ pub struct Edge<'a> {
     pub plan: &'a Plan,
     pub output: &'a Output<'a>,
     pub shelf: FileShelf<'a, Faulty<'a, HostRuntime>>,
-    pub sink: OutSink<'a, Output<'a>>,
+    pub sink: OutSink<StandardOutput<'a, Output<'a>>>,
+    /// A pipe that a step made, both of whose ends are open.
+    pub pipe: Option<(PipeReader, PipeWriter)>,
     /// When a file was written last that a step named, in seconds and nanoseconds.
     pub noted: Option<(i64, i64)>,
 }
@@ -32,6 +35,7 @@ impl<'a> Edge<'a> {
             output,
             shelf: FileShelf::new(system, room.alloc, store),
             sink: OutSink::new(output),
+            pipe: None,
             noted: None,
         }
     }
