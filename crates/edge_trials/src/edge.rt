@@ -4,7 +4,7 @@ use crate::output::Output;
 use crate::plan::Plan;
 use crate::room::Room;
 use std::io::{PipeReader, PipeWriter};
-use vk_files::{FileShelf, OutSink, StandardOutput};
+use vk_files::{FileShelf, OutSink};
 
 /// The shelf and the output on trial. The shelf's calls go to the real files, but those that are
 /// planned to go wrong; what it reads and writes is really there.
@@ -14,7 +14,7 @@ pub struct Edge<'a> {
     pub plan: &'a Plan,
     pub output: &'a Output<'a>,
     pub shelf: FileShelf<'a, Faulty<'a, HostRuntime>>,
-    pub sink: OutSink<StandardOutput<'a, Output<'a>>>,
+    pub sink: OutSink<'a, Output<'a>>,
     /// A pipe that a step made, both of whose ends are open.
     pub pipe: Option<(PipeReader, PipeWriter)>,
     /// When a file was written last that a step named, in seconds and nanoseconds.

@@ -39,3 +39,6 @@ HasName name file = string_bytes file.name ≡ name
 -- and so was one that is kept open to be read
 abbrev pub IsKeptAs : {F : Type 0} → List ℕ → KeptFile F → Type 0
 IsKeptAs name kept = HasName name kept.named
+
+abbrev pub is_kept_as : {F : Type 0} → List ℕ → KeptFile F → Bool
+is_kept_as name kept = bytes_eq (string_bytes kept.named.name) name

@@ -4,6 +4,7 @@ pub mod Moves
 pub mod Kinds
 pub mod Opening
 pub mod Outlets
+pub mod Readings
 pub mod Links
 pub mod Ahead
 pub mod Counting

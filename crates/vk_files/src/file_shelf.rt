@@ -1,8 +1,9 @@
 ghost use Rattle.std.specs.Prelude.{◌≡◌, ◌≢◌, ◌<◌, ◌≤◌, false, true, length, None, Ok, Err, IfSome, IsSome, IsSomeAnd, is_some, IfOk, OnOk, OnErr};
-ghost use Rattle.std.specs.List.{HoldsAt};
+ghost use Rattle.std.specs.List.{HoldsAt, position};
 ghost use Rattle.std.specs.Io.KnownBytes.{Appends};
 ghost use Rattle.vk_io.specs.Faults.{Causes};
-ghost use Rattle.vk_files.specs.Identity.{HasName, IsKeptAs, is_named_otherwise, is_told};
+ghost use Rattle.vk_files.specs.Identity.{HasName, IsKeptAs, is_kept_as, is_named_otherwise, is_told};
+ghost use Rattle.vk_files.specs.Readings.{AtPlace, IsRead};
 
 use crate::ahead::Ahead;
 use crate::faults::FaultCount;
@@ -18,7 +19,7 @@ use crate::told_names::{is_told, tell};
 use std::alloc::Global;
 use std::fs::{Metadata, OpenFile};
 use std::io;
-use std::io::ErrorKind;
+use std::io::{ErrorKind, Read, Seek};
 use std::rt::Files;
 use vk_io::{OutsideErr, Shelf};
 use vk_residue::NoMemory;
@@ -39,6 +40,25 @@ struct NamedFile<F> {
 struct KeptFile<F> {
     named: NamedFile<F>,
     ahead: Ahead,
+}
+
+impl<F: Read + Seek> KeptFile<F> {
+    /// Reads from the file as a shelf does.
+    fn read(
+        &mut self,
+        at: u64,
+        into: &mut [u8],
+        faults: &mut FaultCount,
+    ) -> Result<usize, OutsideErr>
+        ensures bound { IfOk result (λ n. n ≤ length into.old) }
+        ensures named { self.new.named.name ≡ self.old.named.name }
+        ensures read { IsRead F.stream_position F.remaining at (length into.old) result into.new
+            self.old self.new }
+        ensures causes { Causes OutsideErr.Failed result faults.old faults.new }
+    {
+        let count = self.ahead.read(&mut self.named.file, at, into, faults)?;
+        Ok(count)
+    }
 }
 
 /// What went wrong with a file, for a person.
@@ -105,17 +125,15 @@ impl<'a, R: Files> FileShelf<'a, R> {
 
 impl<R: Files> FileShelf<'_, R> {
     /// The place of the file that is open under that name.
+    #[tactic(auto, using(crate::proofs::Kept::first_is_kept))]
     fn place_of(&self, name: &str) -> Option<usize>
         ensures place { IfSome result (λ place. place < length self.now.kept.items) }
         ensures name { IfSome result
             (λ place. HoldsAt (IsKeptAs name.now) self.now.kept.items place) }
+        ensures first { result ≡ position (is_kept_as name.now) self.now.kept.items }
     {
-        for (place, kept) in self.kept.iter().enumerate() {
-            if name == kept.named.name.as_str() {
-                return Some(place);
-            }
-        }
-        None
+        let place = place_under(&self.kept, name);
+        place
     }
 
     /// Closes the file that is open under that name, if there is one.
@@ -155,6 +173,9 @@ impl<R: Files> FileShelf<'_, R> {
             (λ found. IfSome found
             (λ place. HoldsAt (IsKeptAs name.now) self.new.kept.items place)) }
         ensures told { is_told self.old.told.items name.now ≡ true → IfOk result IsSome }
+        ensures open { IfSome (position (is_kept_as name.now) self.old.kept.items)
+            (λ place. (result ≡ Ok (Some place))
+            × (self.new.kept.items ≡ self.old.kept.items)) }
         ensures causes { Causes OutsideErr.Failed result self.old.faults self.new.faults }
         ensures wants { self.new.wants ≡ self.old.wants }
     {
@@ -364,18 +385,30 @@ impl<R: Files> FileShelf<'_, R> {
     /// Reads from the file under that name as a shelf does.
     fn read_part(&mut self, name: &str, at: u64, into: &mut [u8]) -> Result<usize, OutsideErr>
         ensures bound { IfOk result (λ n. n ≤ length into.old) }
+        ensures open { IfSome (position (is_kept_as name.now) self.old.kept.items)
+            (λ place. AtPlace place (IsRead R.File.stream_position R.File.remaining at
+            (length into.old) result into.new) self.old.kept.items self.new.kept.items) }
         ensures causes { Causes OutsideErr.Failed result self.old.faults self.new.faults }
         ensures wants { self.new.wants ≡ self.old.wants }
     {
         match self.opened(name)? {
             None => Ok(0),
             Some(place) => {
-                let KeptFile { named, ahead } = &mut self.kept[place];
-                let count = ahead.read(&mut named.file, at, into, &mut self.faults)?;
+                let count = self.kept[place].read(at, into, &mut self.faults)?;
                 Ok(count)
             }
         }
     }
+}
+
+/// The place of the file that is kept open under that name, if there is one.
+fn place_under<F>(kept: &[KeptFile<F>], name: &str) -> Option<usize>
+    ensures { result ≡ position (is_kept_as name.now) kept.now }
+{
+    let place = kept
+        .iter()
+        .position(|file| file.named.name.as_str() == name);
+    place
 }
 
 /// A file that may not be written is a fault.

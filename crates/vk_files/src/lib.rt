@@ -21,5 +21,4 @@ mod told_names;
 
 pub use faults::FaultCount;
 pub use file_shelf::{FileShelf, NamedFault};
-pub use out_sink::{OutSink, StandardOutput};
-pub use outlet::Outlet;
+pub use out_sink::OutSink;

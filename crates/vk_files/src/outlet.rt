@@ -4,10 +4,14 @@
 ghost use Rattle.std.specs.Prelude.{◌≢◌, ◌≤◌, length, IfOk, IfErr};
 ghost use Rattle.std.specs.IoError.{error_kind};
 ghost use Rattle.vk_io.specs.Files.{Modelled, Takes};
+ghost use Rattle.vk_files.specs.Counting.{CountsOnce};
 ghost use Rattle.vk_files.specs.Outlets.{TakesSome};
 
+use crate::faults::FaultCount;
+use crate::outcome::counted;
 use std::io;
 use std::io::ErrorKind;
+use vk_io::OutsideErr;
 
 /// Where printed bytes go. A call may take a part of what it is given. No call changes whether it
 /// is modelled.
@@ -47,7 +51,7 @@ fn take_again<O: Outlet>(outlet: &mut O, piece: &[u8]) -> io::Result<usize>
 
 /// Has the outlet take the whole piece. Refused, it took a first part of it. A call that takes
 /// nothing is an error.
-pub fn take_whole<O: Outlet>(outlet: &mut O, piece: &[u8]) -> io::Result<()>
+fn take_whole<O: Outlet>(outlet: &mut O, piece: &[u8]) -> io::Result<()>
     ensures taken { Modelled (Takes piece.now result) (O.taken outlet.old) (O.taken outlet.new) }
     ensures again { IfErr result (λ error. error_kind error ≢ ErrorKind.Interrupted) }
 {
@@ -61,4 +65,18 @@ pub fn take_whole<O: Outlet>(outlet: &mut O, piece: &[u8]) -> io::Result<()>
         done += count;
     }
     Ok(())
+}
+
+/// Has the outlet take the whole piece. Refused, it took a first part of it. An error is counted,
+/// once.
+pub fn put_counted<O: Outlet>(
+    outlet: &mut O,
+    piece: &[u8],
+    faults: &mut FaultCount,
+) -> Result<(), OutsideErr>
+    ensures taken { Modelled (Takes piece.now result) (O.taken outlet.old) (O.taken outlet.new) }
+    ensures counted { CountsOnce result faults.old faults.new }
+{
+    let taken = take_whole(outlet, piece);
+    counted(taken, faults)
 }
