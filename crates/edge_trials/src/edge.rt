@@ -3,6 +3,7 @@ use crate::faulty::Faulty;
 use crate::output::Output;
 use crate::plan::Plan;
 use crate::room::Room;
+use std::io::{PipeReader, PipeWriter};
 use vk_files::{FileShelf, OutSink};
 
 /// The shelf and the output on trial. The shelf's calls go to the real files, but those that are
@@ -14,6 +15,8 @@ pub struct Edge<'a> {
     pub output: &'a Output<'a>,
     pub shelf: FileShelf<'a, Faulty<'a, HostRuntime>>,
     pub sink: OutSink<'a, Output<'a>>,
+    /// A pipe that a step made, both of whose ends are open.
+    pub pipe: Option<(PipeReader, PipeWriter)>,
     /// When a file was written last that a step named, in seconds and nanoseconds.
     pub noted: Option<(i64, i64)>,
 }
@@ -32,6 +35,7 @@ impl<'a> Edge<'a> {
             output,
             shelf: FileShelf::new(system, room.alloc, store),
             sink: OutSink::new(output),
+            pipe: None,
             noted: None,
         }
     }

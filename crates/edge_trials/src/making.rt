@@ -1,9 +1,12 @@
 // Steps that make files, folders and links, beside the shelf.
+use crate::edge::Edge;
 use crate::room::{Room, done};
 use crate::steps::push;
 use std::fs::{OpenFile, OpenOptions, Permissions};
 use std::io::{Seek, SeekFrom, Write};
+use std::os::fd::AsRawFd;
 use std::os::unix::fs::{PermissionsExt, symlink};
+use std::rt::Files;
 use std::{fs, io};
 use vk_cases::{Tried, Unreplayed, number_at, word_at};
 
@@ -14,6 +17,18 @@ pub fn make(room: &Room<'_>, word: &str, step: &[u8], told: &mut Vec<u8>) -> Tri
     push(told, "made")
 }
 
+/// Makes a pipe, both of whose ends stay open, and a link to it.
+pub fn make_pipe(edge: &mut Edge<'_>, step: &[u8], told: &mut Vec<u8>) -> Tried<()> {
+    let room = edge.room;
+    let path = room.path(word_at(step, 1)?)?;
+    let (reader, writer) = done(room.rt.pipe())?;
+    let number = writer.as_raw_fd();
+    let target = format!(in room.alloc; "/proc/self/fd/{number}")?;
+    done(symlink(room.rt, target.as_str(), path.as_str()))?;
+    edge.pipe = Some((reader, writer));
+    push(told, "made")
+}
+
 fn make_at(room: &Room<'_>, path: &str, word: &str, step: &[u8]) -> Tried<()> {
     match word {
         "folder" => done(fs::create_dir(room.rt, path)),
@@ -21,6 +36,7 @@ fn make_at(room: &Room<'_>, path: &str, word: &str, step: &[u8]) -> Tried<()> {
         "link" => link(room, step, path),
         "hard" => hard_link(room, step, path),
         "large" => large(room, step, path),
+        "remove" => done(fs::remove_file(room.rt, path)),
         _ => Err(Unreplayed::NoCase),
     }
 }

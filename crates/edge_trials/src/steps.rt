@@ -1,6 +1,6 @@
 // The steps, and what is told of each.
 use crate::edge::Edge;
-use crate::making::make;
+use crate::making::{make, make_pipe};
 use crate::plan::{Call, Fault, Wrong};
 use crate::room::done;
 use crate::seeing::see;
@@ -15,6 +15,7 @@ use vk_io::{OutsideErr, Sink};
 /// - `folder PATH`, `file PATH TEXT`: a folder, or a file that everybody may read, is made.
 /// - `link PATH TARGET`, `hard PATH FILE`: a link to the target, and a second name of the file.
 /// - `large PATH LENGTH AT TEXT`: a file of zeros with the text at a place.
+/// - `pipe PATH`: a link to a pipe that is open at both ends. `remove PATH`: it is taken away.
 /// - `see PATH`, `mode PATH`: what the file holds, and who may use it.
 /// - `note PATH`, `since PATH`: whether the file was written since it was noted.
 ///
@@ -37,7 +38,10 @@ pub fn take_step(edge: &mut Edge<'_>, step: &[u8], told: &mut Vec<u8>) -> Tried<
 /// Takes a step of that word.
 fn take_word(edge: &mut Edge<'_>, word: &str, step: &[u8], told: &mut Vec<u8>) -> Tried<()> {
     match word {
-        "folder" | "file" | "link" | "hard" | "large" => make(edge.room, word, step, told),
+        "folder" | "file" | "link" | "hard" | "large" | "remove" => make(
+            edge.room, word, step, told,
+        ),
+        "pipe" => make_pipe(edge, step, told),
         "see" | "mode" | "note" | "since" => see(edge, word, step, told),
         "settle" => settle(edge, told),
         "why" => tell_fault(edge, step, told),

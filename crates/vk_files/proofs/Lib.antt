@@ -1,2 +1,4 @@
 pub mod Transfers
 pub mod Names
+pub mod Outlets
+pub mod Kept

@@ -1,5 +1,5 @@
 -- Which file it is that a name leads to.
-use Rattle.std.specs.Prelude.{◌≡◌, ℕ, List, Bool, false, Option, Some, None, not, ◌&&◌, ◌==◌}
+use Rattle.std.specs.Prelude.{◌≡◌, ℕ, List, Bool, String, false, Option, Some, None, not, ◌&&◌, ◌==◌}
 use Rattle.std.specs.List.{list_any}
 use Rattle.std.specs.Str.{bytes_eq}
 use Rattle.std.specs.String.{string_bytes}
@@ -28,6 +28,10 @@ abbrev pub is_named_otherwise : List NamedId → FileId → List ℕ → Bool
 is_named_otherwise opened id name =
     list_any (λ file. same_file file.id id && not (bytes_eq (string_bytes file.name) name)) opened
 
+-- the name is one of those that were told to be there
+abbrev pub is_told : {Z : Type 0} → (told : List (String Z)) → List ℕ → Bool
+is_told told name = list_any (λ other. bytes_eq (string_bytes other) name) told
+
 -- an open file was opened by that name
 abbrev pub HasName : {F : Type 0} → List ℕ → NamedFile F → Type 0
 HasName name file = string_bytes file.name ≡ name
@@ -35,3 +39,6 @@ HasName name file = string_bytes file.name ≡ name
 -- and so was one that is kept open to be read
 abbrev pub IsKeptAs : {F : Type 0} → List ℕ → KeptFile F → Type 0
 IsKeptAs name kept = HasName name kept.named
+
+abbrev pub is_kept_as : {F : Type 0} → List ℕ → KeptFile F → Bool
+is_kept_as name kept = bytes_eq (string_bytes kept.named.name) name

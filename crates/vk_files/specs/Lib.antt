@@ -1,7 +1,10 @@
 pub mod Identity
 pub mod Store
 pub mod Moves
+pub mod Kinds
 pub mod Opening
+pub mod Outlets
+pub mod Readings
 pub mod Links
 pub mod Ahead
 pub mod Counting

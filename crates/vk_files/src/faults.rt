@@ -56,6 +56,7 @@ fn reason_of(kind: ErrorKind) -> &'static str {
         ErrorKind::ReadOnlyFilesystem => "its file system is read-only",
         ErrorKind::FilesystemLoop => "its links lead in a circle",
         ErrorKind::InvalidInput => "it is no file whose bytes can be read",
+        ErrorKind::Unsupported => "it is no file that can be written",
         ErrorKind::StorageFull => "the disk is full",
         ErrorKind::QuotaExceeded => "the quota is used up",
         ErrorKind::FileTooLarge => "it would be larger than the system allows",

@@ -1,22 +1,25 @@
-ghost use Rattle.std.specs.Prelude.{◌≡◌, ◌≢◌, ◌<◌, ◌≤◌, false, length, None, Ok, Err, IfSome, IsSomeAnd, IfOk, OnOk, OnErr};
-ghost use Rattle.std.specs.List.{HoldsAt};
+ghost use Rattle.std.specs.Prelude.{◌≡◌, ◌≢◌, ◌<◌, ◌≤◌, false, true, length, None, Ok, Err, IfSome, IsSome, IsSomeAnd, is_some, IfOk, OnOk, OnErr};
+ghost use Rattle.std.specs.List.{HoldsAt, position};
 ghost use Rattle.std.specs.Io.KnownBytes.{Appends};
 ghost use Rattle.vk_io.specs.Faults.{Causes};
-ghost use Rattle.vk_files.specs.Identity.{HasName, IsKeptAs, is_named_otherwise};
+ghost use Rattle.vk_files.specs.Identity.{HasName, IsKeptAs, is_kept_as, is_named_otherwise, is_told};
+ghost use Rattle.vk_files.specs.Readings.{AtPlace, IsRead};
 
 use crate::ahead::Ahead;
 use crate::faults::FaultCount;
 use crate::file_id::FileId;
+use crate::kinds::{Kind, admit_to_write, file_length};
 use crate::links::end_of_links;
 use crate::moves::put_counted;
 use crate::named_ids::{NamedId, is_named_otherwise, note};
 use crate::opening::{length_of, make_to_write, open_to_read, open_to_write, synced};
 use crate::outcome::{counted, with_want};
 use crate::store::Store;
+use crate::told_names::{is_told, tell};
 use std::alloc::Global;
 use std::fs::{Metadata, OpenFile};
 use std::io;
-use std::io::ErrorKind;
+use std::io::{ErrorKind, Read, Seek};
 use std::rt::Files;
 use vk_io::{OutsideErr, Shelf};
 use vk_residue::NoMemory;
@@ -39,6 +42,25 @@ struct KeptFile<F> {
     ahead: Ahead,
 }
 
+impl<F: Read + Seek> KeptFile<F> {
+    /// Reads from the file as a shelf does.
+    fn read(
+        &mut self,
+        at: u64,
+        into: &mut [u8],
+        faults: &mut FaultCount,
+    ) -> Result<usize, OutsideErr>
+        ensures bound { IfOk result (λ n. n ≤ length into.old) }
+        ensures named { self.new.named.name ≡ self.old.named.name }
+        ensures read { IsRead F.stream_position F.remaining at (length into.old) result into.new
+            self.old self.new }
+        ensures causes { Causes OutsideErr.Failed result faults.old faults.new }
+    {
+        let count = self.ahead.read(&mut self.named.file, at, into, faults)?;
+        Ok(count)
+    }
+}
+
 /// What went wrong with a file, for a person.
 #[derive(Clone, Copy, Debug)]
 pub struct NamedFault<'a> {
@@ -54,6 +76,14 @@ pub struct NamedFault<'a> {
 /// written stays open too, until another is written or [`FileShelf::settle`] is called: it is
 /// synced then, so that its last error is told.
 ///
+/// A file of which a length was told is there: where nothing is there once it is read, that is a
+/// fault.
+///
+/// What is no regular file is a fault, and is not opened: a folder, a device, a pipe and a socket.
+/// Two devices may be written and not read, `/dev/null` and `/dev/full`. What is at a path is
+/// looked at just before it is opened. Whoever puts a pipe there between the two has the shelf
+/// wait for its other end.
+///
 /// Two kinds of file are not written, whatever the name that leads to them: those of the store, and
 /// those that were opened by another name before. To create or append to one is a fault, and leaves
 /// it as it was.
@@ -63,6 +93,7 @@ pub struct FileShelf<'a, R: Files> {
     alloc: Global,
     store: Store<'a, R>,
     opened: Vec<NamedId>,
+    told: Vec<String>,
     kept: Vec<KeptFile<R::File>>,
     written: Option<NamedFile<R::File>>,
     faults: FaultCount,
@@ -82,6 +113,7 @@ impl<'a, R: Files> FileShelf<'a, R> {
             alloc,
             store: Store::at(rt, alloc, store),
             opened: Vec::new(alloc),
+            told: Vec::new(alloc),
             kept: Vec::new(alloc),
             written: None,
             faults: FaultCount::new(),
@@ -93,17 +125,15 @@ impl<'a, R: Files> FileShelf<'a, R> {
 
 impl<R: Files> FileShelf<'_, R> {
     /// The place of the file that is open under that name.
+    #[tactic(auto, using(crate::proofs::Kept::first_is_kept))]
     fn place_of(&self, name: &str) -> Option<usize>
         ensures place { IfSome result (λ place. place < length self.now.kept.items) }
         ensures name { IfSome result
             (λ place. HoldsAt (IsKeptAs name.now) self.now.kept.items place) }
+        ensures first { result ≡ position (is_kept_as name.now) self.now.kept.items }
     {
-        for (place, kept) in self.kept.iter().enumerate() {
-            if name == kept.named.name.as_str() {
-                return Some(place);
-            }
-        }
-        None
+        let place = place_under(&self.kept, name);
+        place
     }
 
     /// Closes the file that is open under that name, if there is one.
@@ -135,23 +165,29 @@ impl<R: Files> FileShelf<'_, R> {
     }
 
     /// The place of the file under that name, which is opened where it isn't open. None where
-    /// nothing is there.
+    /// nothing is there; but where a length of it was told that is a fault.
     fn opened(&mut self, name: &str) -> Result<Option<usize>, OutsideErr>
         ensures place { IfOk result
             (λ found. IfSome found (λ place. place < length self.new.kept.items)) }
         ensures name { IfOk result
             (λ found. IfSome found
             (λ place. HoldsAt (IsKeptAs name.now) self.new.kept.items place)) }
+        ensures told { is_told self.old.told.items name.now ≡ true → IfOk result IsSome }
+        ensures open { IfSome (position (is_kept_as name.now) self.old.kept.items)
+            (λ place. (result ≡ Ok (Some place))
+            × (self.new.kept.items ≡ self.old.kept.items)) }
         ensures causes { Causes OutsideErr.Failed result self.old.faults self.new.faults }
         ensures wants { self.new.wants ≡ self.old.wants }
     {
         if let Some(place) = self.place_of(name) {
             return Ok(Some(place));
         }
-        match counted(open_to_read(self.rt, name), &mut self.faults)? {
+        let was_there = is_told(&self.told, name);
+        match counted(open_to_read(self.rt, name, was_there), &mut self.faults)? {
             None => Ok(None),
             Some(file) => {
                 let metadata = counted(file.metadata(), &mut self.faults)?;
+                counted(file_length(&metadata), &mut self.faults)?;
                 self.note(&metadata, name)?;
                 let place = self.keep(name, file)?;
                 Ok(Some(place))
@@ -159,8 +195,8 @@ impl<R: Files> FileShelf<'_, R> {
         }
     }
 
-    /// Notes by which name a file was opened. A device, a folder and a pipe have no bytes that
-    /// could be lost by another name, and are passed over.
+    /// Notes by which name a file was opened. A device has no bytes that could be lost by another
+    /// name, and is passed over.
     fn note(&mut self, metadata: &Metadata, name: &str) -> Result<(), NoMemory>
         ensures written { self.new.written ≡ self.old.written }
         ensures kept { self.new.faults ≡ self.old.faults }
@@ -222,6 +258,7 @@ impl<R: Files> FileShelf<'_, R> {
         let owned = String::from_str(self.alloc, name).map_err(NoMemory::from)?;
         let file = self.found_or_made(name, at_end)?;
         let metadata = counted(file.metadata(), &mut self.faults)?;
+        counted(admit_to_write(Kind::of(&metadata)), &mut self.faults)?;
         self.admit(&metadata, name)?;
         self.note(&metadata, name)?;
         if metadata.is_file() && !at_end {
@@ -332,21 +369,46 @@ impl<R: Files> FileShelf<'_, R> {
         })
     }
 
+    /// The length of the file under that name as a shelf tells it. That one was told is noted.
+    fn tell_length(&mut self, name: &str) -> Result<Option<u64>, OutsideErr>
+        ensures told { IfOk result
+            (λ length. is_told self.new.told.items name.now ≡ is_some length) }
+        ensures causes { Causes OutsideErr.Failed result self.old.faults self.new.faults }
+        ensures wants { self.new.wants ≡ self.old.wants }
+    {
+        self.close(name);
+        let length = counted(length_of(self.rt, name), &mut self.faults)?;
+        tell(self.alloc, &mut self.told, name, length.is_some())?;
+        Ok(length)
+    }
+
     /// Reads from the file under that name as a shelf does.
     fn read_part(&mut self, name: &str, at: u64, into: &mut [u8]) -> Result<usize, OutsideErr>
         ensures bound { IfOk result (λ n. n ≤ length into.old) }
+        ensures open { IfSome (position (is_kept_as name.now) self.old.kept.items)
+            (λ place. AtPlace place (IsRead R.File.stream_position R.File.remaining at
+            (length into.old) result into.new) self.old.kept.items self.new.kept.items) }
         ensures causes { Causes OutsideErr.Failed result self.old.faults self.new.faults }
         ensures wants { self.new.wants ≡ self.old.wants }
     {
         match self.opened(name)? {
             None => Ok(0),
             Some(place) => {
-                let KeptFile { named, ahead } = &mut self.kept[place];
-                let count = ahead.read(&mut named.file, at, into, &mut self.faults)?;
+                let count = self.kept[place].read(at, into, &mut self.faults)?;
                 Ok(count)
             }
         }
     }
+}
+
+/// The place of the file that is kept open under that name, if there is one.
+fn place_under<F>(kept: &[KeptFile<F>], name: &str) -> Option<usize>
+    ensures { result ≡ position (is_kept_as name.now) kept.now }
+{
+    let place = kept
+        .iter()
+        .position(|file| file.named.name.as_str() == name);
+    place
 }
 
 /// A file that may not be written is a fault.
@@ -369,8 +431,7 @@ impl<R: Files> Shelf for FileShelf<'_, R> {
     ghost length_gives = { λ _ _ _ _. Unit {0} };
 
     fn length(&mut self, name: &str) -> Result<Option<u64>, OutsideErr> {
-        self.close(name);
-        let length = counted(length_of(self.rt, name), &mut self.faults);
+        let length = self.tell_length(name);
         self.noted(name, length)
     }
 

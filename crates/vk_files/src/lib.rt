@@ -6,15 +6,18 @@ mod ahead;
 mod faults;
 mod file_id;
 mod file_shelf;
+mod kinds;
 mod links;
 mod moves;
 mod named_ids;
 mod opening;
 mod out_sink;
 mod outcome;
+mod outlet;
 mod pieces;
 mod store;
 mod store_names;
+mod told_names;
 
 pub use faults::FaultCount;
 pub use file_shelf::{FileShelf, NamedFault};

@@ -1,8 +1,8 @@
 ghost use Rattle.std.specs.Prelude.{◌≡◌};
 
 use crate::faults::FaultCount;
-use crate::moves::put_counted;
-use std::io::{self, Write};
+use crate::outlet::{Outlet, put_counted};
+use std::io;
 use vk_io::{OutsideErr, Sink};
 
 /// Standard output. What it took isn't modelled, and each error raises its count. It takes no
@@ -31,19 +31,19 @@ impl<'a, P: Print> OutSink<'a, P> {
     }
 }
 
-/// Standard output as a writer, each of whose writes is one call of the system.
+/// Standard output as an outlet, each of whose calls is one of the system.
 #[derive(Drop)]
 struct Printed<'a, P: Print> {
     to: &'a P,
 }
 
-impl<P: Print> Write for Printed<'_, P> {
-    fn write(&mut self, piece: &[u8]) -> io::Result<usize> {
-        self.to.write_some(piece)
-    }
+impl<P: Print> Outlet for Printed<'_, P> {
+    ghost use Rattle.std.specs.Prelude.{None};
 
-    fn flush(&mut self) -> io::Result<()> {
-        Ok(())
+    ghost taken = { λ _. None };
+
+    fn take_some(&mut self, piece: &[u8]) -> io::Result<usize> {
+        self.to.write_some(piece)
     }
 }
 

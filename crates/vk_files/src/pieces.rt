@@ -1,6 +1,7 @@
 //! Whole pieces from a reader, where a call that a signal interrupts is made again.
 
-ghost use Rattle.std.specs.Prelude.{◌<◌, ◌≤◌, length, take, IfOk};
+ghost use Rattle.std.specs.Prelude.{◌≢◌, ◌<◌, ◌≤◌, length, take, IfOk, IfErr};
+ghost use Rattle.std.specs.IoError.{error_kind};
 ghost use Rattle.std.specs.Io.KnownBytes.{Consumes, IsAtEnd, ReadConsumes};
 
 use std::io;
@@ -10,6 +11,7 @@ use std::io::{ErrorKind, Read};
 fn read_some<R: Read>(reader: &mut R, into: &mut [u8]) -> io::Result<usize>
     ensures bound { IfOk result (λ n. n ≤ length into.old) }
     ensures bytes { ReadConsumes (R.remaining reader.old) (R.remaining reader.new) result into.new }
+    ensures again { IfErr result (λ error. error_kind error ≢ ErrorKind.Interrupted) }
 {
     for _turn in 0..u64::MAX {
         match reader.read(into) {
@@ -21,7 +23,7 @@ fn read_some<R: Read>(reader: &mut R, into: &mut [u8]) -> io::Result<usize>
             }
         }
     }
-    Err(io::Error::from(ErrorKind::Interrupted))
+    Err(io::Error::from(ErrorKind::TimedOut))
 }
 
 /// Reads until `into` is full or the reader ends, and answers how many bytes it put there.
@@ -30,6 +32,7 @@ pub fn read_fully<R: Read>(reader: &mut R, into: &mut [u8]) -> io::Result<usize>
     ensures bytes { IfOk result
         (λ n. Consumes (R.remaining reader.old) (R.remaining reader.new) (take n into.new)) }
     ensures full { IfOk result (λ n. n < length into.old → IsAtEnd (R.remaining reader.new)) }
+    ensures again { IfErr result (λ error. error_kind error ≢ ErrorKind.Interrupted) }
 {
     let mut filled = 0;
     while filled < into.len() {
