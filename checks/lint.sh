@@ -1,10 +1,11 @@
 #!/usr/bin/env bash
-# checks/lint.sh: looks through scripts and pages by linters of Debian: flake8 (python3-flake8)
-# with the settings of .flake8, or pyflakes3 where that alone is there; eslint with those of
-# .eslintrc.json, and node reads each file of JavaScript; shellcheck; mandoc; and whether
-# CHANGELOG.md has the digests of the page, of the program on node and of the prebuilt one. It is
-# no part of the gate. The last line says how many of these parts passed and failed; one whose
-# linter isn't there is named, and is neither.
+# checks/lint.sh: looks through scripts and pages by linters of Debian: flake8 (python3-flake8) with
+# the settings of .flake8, or pyflakes3 where that alone is there; node reads each file of
+# JavaScript, and eslint does with the settings of .eslintrc.json, of the page with those of
+# page/.eslintrc.json; shellcheck; mandoc; and whether CHANGELOG.md has the digests of the page, of
+# the program on node and of the prebuilt one, and README.md that of the page. It is no part of the
+# gate. The last line says how many of these parts passed and failed; one whose linter isn't there
+# is named, and is neither.
 set -u
 cd "$(dirname "$0")/.." || exit 1
 passed=0
@@ -28,29 +29,20 @@ files() { git ls-files -- "$@"; }
 
 # each COMMAND..: the command on each file of standard input
 each() { local status=0 file; while read -r file; do "$@" "$file" || status=1; done; return $status; }
-# A trial of the page is the body of a function that a page runs; all else are scripts
-body() { printf '(async () => {' && cat "$1" && echo '})'; }
-read_by_node() { node --check "$1" 2>/dev/null || body "$1" | node --check -; }
-javascript() { files '*.js' | each read_by_node; }
-
-# The page's scripts become one, so each may use what the others name
-named() { xargs cat | sed -nE 's/^(async )?(const|let|class|function) (\w+).*/\3/p' | paste -sd ,; }
-linted_body() { body "$1" | eslint -f unix --stdin --stdin-filename "$1"; }
-linted() {
-  local names status=0
-  names=$(files 'page/*.js' ':!page/*/*' | named)
-  files '*.js' ':!page/trials' | xargs eslint -f unix --global "$names" || status=1
-  files 'page/trials/*.js' | each linted_body || status=1
-  return $status
-}
+javascript() { files '*.js' | each node --check; }
+linted() { files '*.js' | xargs eslint -f unix; }
 shell() { files '*.sh' | xargs shellcheck; }
 
-# Each digest stands in CHANGELOG.md, in a line of its own
+# has FILE LINE: the line stands in the file
+has() { grep -qxF -- "$2" "$1" || { echo "$1 has no line '$2'"; return 1; }; }
+
+# Each digest stands in CHANGELOG.md, in a line of its own, and the page's in README.md too
 digests() {
   local line status=0
   while read -r line; do
-    grep -qxF -- "$line" CHANGELOG.md || { echo "CHANGELOG.md has no line '$line'"; status=1; }
+    has CHANGELOG.md "$line" || status=1
   done < <(cat page/*.sha256 portable/*.sha256 dist/*.sha256)
+  has README.md "$(cat page/*.sha256)" || status=1
   return $status
 }
 

@@ -74,15 +74,12 @@ const Announced = (() => {
     return `${all.join(", ")}`;
   }
 
-  function digestShown() {
-    const digest = make("code", { className: "digest", textContent: state.digest });
-    return make("p", {}, "SHA-256 digest, which is published with it: ", digest);
-  }
-
   function showCard() {
     const { now } = state;
     find("announced-take").hidden = now !== null;
     find("announced-card").hidden = now === null;
+    find("announced-away").hidden = now === null;
+    find("announced-more").hidden = now === null;
     if (!now) {
       return;
     }
@@ -97,13 +94,17 @@ const Announced = (() => {
       line(`All that is public is at ${now.place}.`),
       line(`${many(now.seats.size, "seat")}, whose seals are taken in this order:`),
       make("ul", { className: "plain seats" }, ...seatRows(now)),
-      digestShown(),
     );
   }
 
-  function tell(mood, textContent) {
-    Object.assign(find("announced-told"), { className: `told ${mood}`, textContent });
+  function tell(mood, ...parts) {
+    find("announced-told").className = `told ${mood}`;
+    find("announced-told").replaceChildren(...parts);
   }
+
+  const TAKEN = "Taken: no tool asks for what it says. Compare its digest with the published one: ";
+
+  const digestShown = () => make("code", { className: "digest", textContent: state.digest });
 
   // ---- Taking one
 
@@ -113,7 +114,7 @@ const Announced = (() => {
     Amounts.setting.unit = announcement ? announcement.unit : Amounts.PLAIN;
     showCard();
     fillFields();
-    document.querySelectorAll("input[type=file]").forEach(Fields.tellFiles);
+    document.querySelectorAll(".file input").forEach(Fields.tellFiles);
     listeners.forEach((listener) => listener(announcement));
   }
 
@@ -131,7 +132,7 @@ const Announced = (() => {
       return false;
     }
     become(found, bytes, await Work.digestOf(bytes));
-    tell("good", "Taken: all tools have what it says. Compare its digest with the published one.");
+    tell("", TAKEN, digestShown());
     return true;
   }
 

@@ -18,7 +18,7 @@ import sys
 
 SCRIPTS = (
     "module", "work", "sentences", "kinds", "amounts", "fields", "announcement", "announced", "parts", "asked", "terms",
-    "archive", "keep", "way", "outcome", "points", "look", "check", "bid", "audit",
+    "archive", "locked", "keep", "way", "outcome", "points", "look", "check", "bid", "audit",
     "sell_house", "sell_guard", "sell_intake", "sell_view", "sell_terms", "sell_forms", "sell",
     "rehearsal_auction", "rehearsal_checks", "rehearsal_cheats", "rehearsal_find", "rehearsal", "page",
 )

@@ -10,7 +10,7 @@ const vm = require("vm");
 const { load, call } = require("./module.js");
 
 const SCRIPTS = [
-  "work", "sentences", "asked", "terms", "archive", "audit", "sell_house", "sell_guard",
+  "work", "sentences", "asked", "terms", "archive", "locked", "audit", "sell_house", "sell_guard",
   "sell_intake", "rehearsal_auction", "rehearsal_checks", "rehearsal_cheats",
 ];
 
@@ -125,20 +125,20 @@ async function intakeHolds(own) {
   const names = ["seal-3", "secret-1", "seal-1", "secret-3", "seal-2"];
   const files = names.map((name) => file(name, held[name]));
   const rows = Intake.rowsOf(first.said);
-  expect((await Intake.put(rows, files)).length === 0, "each file is for a seat");
+  expect((await Intake.put(first, rows, files)).length === 0, "each file is for a seat");
   await Intake.tryAll(null, first, rows);
   const faults = () => rows.map(({ fault }) => fault);
   const onlyTheSecond = (words) =>
     faults()[0] === "" && faults()[2] === "" && faults()[1].includes(words);
   expect(onlyTheSecond("there is no file secret-2"), "one is missing");
   const broken = auction.kept["secret-2"].slice(0, 300);
-  await Intake.put(rows, [file("secret-2", broken)]);
+  await Intake.put(first, rows, [file("secret-2", broken)]);
   await Intake.tryAll(null, first, rows);
   expect(onlyTheSecond("the secret can't be read: ask you"), "one is cut");
   const twice = [file("secret-2", held["secret-2"]), file("secret-2 (1)", broken)];
-  const [[, why]] = await Intake.put(rows, twice);
+  const [[, why]] = await Intake.put(first, rows, twice);
   expect(why.includes("a second secret of seat 2"), "one is there twice");
-  await Intake.put(rows, [file("secret-2", held["secret-2"])]);
+  await Intake.put(first, rows, [file("secret-2", held["secret-2"])]);
   await Intake.tryAll(null, first, rows);
   expect(rows.every((row) => !Intake.isWrong(row)), `all are right: ${faults()}`);
   expect(Intake.takenBy(first, rows).taken.join() === "1,2,3", "by ascending seat");

@@ -70,15 +70,31 @@ const Bid = (() => {
     const until = (name) =>
       now && now.deadlines[name] ? ` by ${Announcement.timeSaid(now.deadlines[name])}` : "";
     const place = now ? `: ${now.place}` : ", where the announcement says";
-    const isKey = now && now.key !== null;
-    const key = isKey ? `encrypted to the key ${now.key}` : "in person, or encrypted";
     return [
       `Publish seal-${seat}${until("seals")}${place}, signed or in person, so that all know ` +
         "that it is yours. It shows nothing of your bid.",
-      `When all seals are public, hand secret-${seat} to the auctioneer, and to nobody else, ` +
-        `${key}${until("secrets")}.`,
+      `When all seals are public, ${handed(seat, now)}${until("secrets")}.`,
       "When the board is public, look whether your seal stands on it: that is the next step.",
     ];
+  }
+
+  // How the secret goes to the auctioneer.
+  function handed(seat, now) {
+    if (keyPoint()) {
+      return (
+        `send secret-${seat}.cms to the auctioneer, by any way: it is your secret, encrypted so ` +
+        "that nobody else can open it. Send it"
+      );
+    }
+    const isKey = now && now.key !== null;
+    const key = isKey ? `encrypted to the key ${now.key}` : "in person, or encrypted";
+    return `hand secret-${seat} to the auctioneer, and to nobody else, ${key}`;
+  }
+
+  // The announced key, where it is one that this page encrypts to.
+  function keyPoint() {
+    const now = Announced.now();
+    return now && Locked.isPossible() ? Locked.pointOf(now.key) : null;
   }
 
   const isSaved = () => waiting.size === 0;
@@ -89,11 +105,11 @@ const Bid = (() => {
 
   function saved(name) {
     waiting.delete(name);
-    tellKept(isSaved() ? "good" : "odd", isSaved() ? "Both files are saved: go on." : holdsBack());
+    tellKept(isSaved() ? "good" : "odd", isSaved() ? "All is saved: go on." : holdsBack());
   }
 
   // Why one can't go on yet.
-  const holdsBack = () => `Save ${[...waiting].join(" and ")} before you go on.`;
+  const holdsBack = () => `Save ${Announcement.listed([...waiting])} before you go on.`;
 
   // Hands the two files on to the steps behind.
   function handOn(seat, { secret, seal }) {
@@ -108,12 +124,15 @@ const Bid = (() => {
     }
     const seat = answer.words[2];
     const { secret, seal } = answer.files;
-    const names = [`secret-${seat}`, `seal-${seat}`];
-    names.forEach((name) => waiting.add(name));
-    const cards = await Promise.all([
-      Keep.card(place, names[0], secret, SECRET, () => saved(names[0])),
-      Keep.card(place, names[1], seal, SEAL, () => saved(names[1])),
-    ]);
+    const point = keyPoint();
+    const files = [
+      [`secret-${seat}`, secret, SECRET],
+      [`seal-${seat}`, seal, SEAL],
+      ...(point ? [[`secret-${seat}.cms`, await Locked.lock(secret, point), LOCKED]] : []),
+    ];
+    files.forEach(([name]) => waiting.add(name));
+    const card = ([name, bytes, about]) => Keep.card(place, name, bytes, about, () => saved(name));
+    const cards = await Promise.all(files.map(card));
     const list = make("ol", { className: "hanging" }, ...nextSteps(seat).map(step));
     Parts.show(place, answer, [make("div", { className: "pair" }, ...cards), list]);
     tellKept("odd", holdsBack());
@@ -122,6 +141,7 @@ const Bid = (() => {
 
   const SECRET = "Yours alone: it has your bid, and opens the seal. It can't be had again.";
   const SEAL = "For everybody: it fixes your bid, and shows nothing of it.";
+  const LOCKED = "For the auctioneer: your secret, encrypted to the key that was announced.";
 
   // Two secrets that aren't saved would be one too many.
   function isFree() {
@@ -178,7 +198,8 @@ const Bid = (() => {
     find("seal-seat").value = "";
     find("seal-unit").textContent = announced ? `, in ${announced.unit.name}` : ", a whole number";
     hideReview();
-    find("announcement-on").textContent = announced ? "Go on" : "Go on without a file";
+    const [textContent, className] = announced ? ["Go on", ""] : ["Go on without a file", "small"];
+    Object.assign(find("announcement-on"), { textContent, className });
   }
 
   // ---- Is my bid held?

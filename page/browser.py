@@ -98,8 +98,8 @@ class Browser:
         """Says to the page that its reader wants dark colours, or light ones."""
         raise NotImplementedError
 
-    def picture(self, path, whole=False):
-        """Writes what is seen as a PNG file; the whole page, if so."""
+    def picture(self, path, whole=False, part=None):
+        """Writes what is seen as a PNG file; the whole page, or a part of it by its selector."""
         raise NotImplementedError
 
     def ask_to_end(self):
@@ -377,6 +377,12 @@ class Chromium(Browser):
             self.ask("Input.dispatchKeyEvent", **down)
             self.ask("Input.dispatchKeyEvent", type="keyUp", **parts)
 
+    def downloaded(self, name, patience=PATIENCE):
+        data = super().downloaded(name, patience)
+        # Of more than ten files in a second Chromium drops some, and says nothing of that.
+        time.sleep(0.12)
+        return data
+
     def resize(self, width, height):
         self.ask(
             "Emulation.setDeviceMetricsOverride",
@@ -390,11 +396,18 @@ class Chromium(Browser):
         wanted = {"name": "prefers-color-scheme", "value": "dark" if dark else "light"}
         self.ask("Emulation.setEmulatedMedia", features=[wanted])
 
-    def picture(self, path, whole=False):
+    def picture(self, path, whole=False, part=None):
         parameters = {"format": "png"}
-        if whole:
-            size = self.ask("Page.getLayoutMetrics")["cssContentSize"]
-            parameters.update(captureBeyondViewport=True, clip=dict(size, x=0, y=0, scale=1))
+        clip = dict(self.ask("Page.getLayoutMetrics")["cssContentSize"], x=0, y=0)
+        if part:
+            clip = self.run(
+                "const box = document.querySelector(arguments[0]).getBoundingClientRect();"
+                "const { width, height } = box;"
+                "return { x: box.x + scrollX, y: box.y + scrollY, width, height }",
+                part,
+            )
+        if whole or part:
+            parameters.update(captureBeyondViewport=True, clip=dict(clip, scale=1))
         said = self.ask("Page.captureScreenshot", **parameters)
         with open(path, "wb") as file:
             file.write(base64.b64decode(said["data"]))
@@ -602,8 +615,9 @@ class Firefox(Browser):
             "return matchMedia('(prefers-color-scheme: dark)').matches === arguments[0]", dark
         )
 
-    def picture(self, path, whole=False):
-        said = self.ask("WebDriver:TakeScreenshot", full=whole)
+    def picture(self, path, whole=False, part=None):
+        which = {"id": self.element(part)} if part else {"full": whole}
+        said = self.ask("WebDriver:TakeScreenshot", **which)
         with open(path, "wb") as file:
             file.write(base64.b64decode(said))
 

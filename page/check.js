@@ -32,7 +32,8 @@ const Check = (() => {
       return;
     }
     const head = Outcome.headOf(answer.head);
-    place.tell(good(`The board says: ${outcomeOf(head)}. Whether that is right, the check shows.`));
+    const title = `The board says: ${outcomeOf(head)}. Whether that is right, the check shows.`;
+    place.tell({ mood: "", title });
     const heads = ["What", "The board says"];
     const table = Parts.table("What the board publishes", heads, factRows(head));
     const about = [table, ...Parts.sealsOf(place, head), Parts.said(place, answer)];
@@ -231,7 +232,7 @@ const Check = (() => {
     const text = Points.report(front(answer, { what: head.what }), points, sentence.title);
     const name = `audit-${head.auction.slice(0, 8) || "report"}.txt`;
     const save = place.link(name, new TextEncoder().encode(text), "Save the report");
-    const copied = Keep.copyButton(sentence.title, "the verdict");
+    const copied = Keep.copyButton(sentence.title, "the verdict", "Copy the verdict");
     const doing = make("p", { className: "doing" }, save, " ", copied);
     Parts.show(place, answer, [...listShown(points), doing], sentence, joined ? [joined] : []);
     find("check-given").open = false;
@@ -299,9 +300,13 @@ const Check = (() => {
     await judge(place, { file, look }, challenge);
   }
 
-  // What is asked of auditors only where some draw the challenge.
+  // What is asked where auditors draw the challenge, and where one challenger does; both where
+  // nobody said which.
   function showAuditors(now) {
-    find("check-auditors").hidden = now !== null && now.auditors === 0;
+    const [few, many] = [now !== null && now.auditors > 0, now !== null && now.auditors === 0];
+    find("check-alone").hidden = few;
+    find("check-coin-box").hidden = many;
+    find("check-parts-box").hidden = many;
     find("check-left").hidden = now === null;
   }
 
@@ -309,6 +314,7 @@ const Check = (() => {
     box = new Parts.DigestBox("check", "board", "the board");
     box.chosen = report;
     Parts.beginTool("check", run);
+    Fields.beginAll("check");
     Announced.onChange(showAuditors);
   }
 

@@ -238,8 +238,9 @@ const Fields = (() => {
   // The field of the announcement, which stands above all tools.
   const above = () => find("announced-announcement");
 
-  // Gives dropped files to the fields of a form, by their first lines, in the order of their names.
-  async function share(form, files) {
+  // Gives files to the fields of a form, by their first lines, in the order of their names, and
+  // tells how many were taken.
+  async function share(form, files, tell = notice) {
     const order = new Intl.Collator("en", { numeric: true });
     const taken = new Map();
     const left = [];
@@ -256,7 +257,23 @@ const Fields = (() => {
     const names = left.slice(0, 5).join(", ");
     const why = form ? "by their first lines" : "since they belong on a tool of this page";
     const rest = left.length ? ` Not taken, ${why}: ${names}.` : "";
-    notice(`Taken: ${files.length - left.length} of ${files.length} files.${rest}`, rest && "bad");
+    tell(`Taken: ${files.length - left.length} of ${files.length} files.${rest}`, rest && "bad");
+  }
+
+  // A tool's field for all files at once gives them to the tool's other fields, and holds none.
+  function beginAll(tool) {
+    const field = find(`${tool}-all`);
+    const told = find(`${tool}-all-told`);
+    field.addEventListener("change", (event) => {
+      event.stopPropagation();
+      const files = [...field.files];
+      field.value = "";
+      if (files.length) {
+        share(field.form, files, (textContent, mood) => {
+          Object.assign(told, { textContent, className: `told ${mood}` });
+        });
+      }
+    });
   }
 
   const isFolder = (item) => Boolean(item.webkitGetAsEntry && item.webkitGetAsEntry()?.isDirectory);
@@ -304,6 +321,6 @@ const Fields = (() => {
 
   return {
     find, make, sized, quoted, notice, typed, given, mark, goTo, mayRun, copied, otherFile, give,
-    tellFiles, beginFile, beginDrops, isTooLong: (file) => file.size > MOST_BYTES,
+    tellFiles, beginFile, beginAll, beginDrops, isTooLong: (file) => file.size > MOST_BYTES,
   };
 })();

@@ -23,8 +23,8 @@ const Keep = (() => {
     }
   }
 
-  function copyButton(text, about) {
-    const button = make("button", { type: "button", className: "small copy", textContent: "Copy" });
+  function copyButton(text, about, textContent = "Copy") {
+    const button = make("button", { type: "button", className: "small copy", textContent });
     button.setAttribute("aria-label", `Copy ${about}`);
     button.addEventListener("click", async () => {
       const done = await copy(text);
@@ -49,6 +49,7 @@ const Keep = (() => {
     save.setAttribute("aria-label", `Save ${name}`);
     save.addEventListener("click", () => {
       Object.assign(state, { className: "good state-of-file", textContent: "Saved" });
+      save.classList.add("again");
       then();
     });
     const code = make("code", { className: "fingerprint", textContent: print });

@@ -25,6 +25,7 @@ const Kinds = (() => {
     [/^SQLite format 3\0/, "store", "an auctioneer's store"],
     [/^(-----BEGIN (SSH|PGP) SIGNATURE|untrusted comment: )/, "signature", "a signature"],
     [/^(age-encryption\.org\/|-----BEGIN (AGE|PGP) )/, "locked", "an encrypted file"],
+    [/^0[^]{1,4}\x06\x0b\x2a\x86H\x86\xf7\r\x01\x09\x10\x01\x17/, "locked", "an encrypted file"],
     [/^(PK\x03\x04|\x1f\x8b|7z\xbc\xaf)/, "packed", "a packed file"],
     [/^\s*<(!doctype|html)/i, "page", "a web page"],
   ];

@@ -161,6 +161,7 @@ const Look = (() => {
 
   function begin() {
     Parts.beginTool("mine", run);
+    Fields.beginAll("mine");
     Way.entering.check = handOn;
   }
 

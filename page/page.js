@@ -62,6 +62,7 @@ const Page = (() => {
   function tryModule() {
     Parts.moduleJob(new Parts.Place(find("module-work")), (digest) => {
       find("module-digest").textContent = digest;
+      performance.mark("ready");
     });
   }
 

@@ -354,7 +354,8 @@ const Parts = (() => {
   function checklist(items) {
     const rows = items.map(([state, what, note]) => {
       const shown = make("strong", { className: "state", textContent: STATES[state] });
-      return make("li", { className: state }, shown, ` ${what}`, note ? `: ${note}` : "");
+      const said = make("span", { textContent: note ? `${what}: ${note}` : what });
+      return make("li", { className: state }, shown, " ", said);
     });
     return make("ul", { className: "checklist" }, ...rows);
   }
@@ -551,10 +552,9 @@ const Parts = (() => {
   async function sealOf(file) {
     const text = await headOf(file, SEAL_BYTES);
     const fault = Kinds.faultOfSeal(text);
-    const damaged =
-      `You chose a damaged seal: line ${fault} isn't what it has to be. Get it again as a file. ` +
-      Kinds.NOTHING;
-    return { text, fault, other: fault ? damaged : null };
+    const damaged = `You chose a damaged seal: line ${fault} isn't what it has to be.`;
+    const other = fault ? `${damaged} Get it again as a file. ${Kinds.NOTHING}` : null;
+    return { text, fault, other };
   }
 
   // The seals of a board, each as a link that saves it as a file.

@@ -1,7 +1,7 @@
 // page/rehearsal.js: a whole auction to try, step by step, with the reader as one of its bidders.
 const Rehearsal = (() => {
   const { find, make, typed, mark } = Fields;
-  const { good, bad, odd } = Sentences;
+  const { good, bad } = Sentences;
   const { begin: beginAuction, sealAll, houseOf, play, challenged, draw, publish, reply } =
     RehearsalAuction;
   const { CHECKS } = RehearsalChecks;
@@ -157,9 +157,8 @@ const Rehearsal = (() => {
       : `${auction.outcome} All ${items.length} checks hold.`;
     return {
       told: [
-        paragraph("Anybody audits, with what is public and what was written down. "),
+        paragraph("Anybody audits, with what is public and what was written down."),
         Parts.checklist(items),
-        paragraph(make("strong", { textContent: verdict })),
       ],
       files: {},
       verdict: failed ? bad(verdict) : good(verdict),
@@ -210,8 +209,8 @@ const Rehearsal = (() => {
     done++;
     showSteps();
     showStep(name, found);
-    const more = STEPS[done] ? odd(`Step ${done} of ${STEPS.length} is done: ${name}.`) : null;
-    place.tell(found.verdict || more);
+    const title = `Step ${done} of ${STEPS.length} is done: ${name}.`;
+    place.tell(found.verdict || { mood: "", title });
     (done === 1 ? find("rehearsal-bid") : find("rehearsal-run")).focus();
   }
 
@@ -225,6 +224,7 @@ const Rehearsal = (() => {
   }
 
   function open() {
+    document.body.classList.add("rehearsing");
     find("rehearsal").hidden = false;
     find("rehearse").setAttribute("aria-expanded", "true");
     if (done === 0) {
@@ -239,6 +239,7 @@ const Rehearsal = (() => {
     });
     done = 0;
     place.clear();
+    document.body.classList.remove("rehearsing");
     find("rehearse").setAttribute("aria-expanded", "false");
     find("rehearse").focus();
   }

@@ -29,7 +29,8 @@ const RehearsalFind = (() => {
     const names = NAMES.filter((name) => auction.open[name]);
     const links = names.map((name) => place.link(name, auction.open[name]));
     const own = place.link("secret-2", auction.kept["secret-2"]);
-    return SellView.line(...[...links, own].flatMap((link) => [link, " "]));
+    const summary = make("summary", { textContent: "All its files, to save" });
+    return make("details", {}, summary, SellView.line(...links, own));
   }
 
   // A check that the reader can make: its button, and what came of it.

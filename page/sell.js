@@ -78,16 +78,26 @@ const Sell = (() => {
   }
 
   // The next house was saved, and is opened: what was made with it is handed out.
-  function saved() {
+  async function saved() {
     const { house, made, digest } = auction.next;
     Parts.unsaved.delete(auction);
     Object.assign(auction, { house, made, digest, next: null });
-    show(`House ${house.number} is saved.`);
+    await show(`House ${house.number} is saved.`);
     find("panel-sell").focus();
   }
 
-  function show(what) {
-    const { house, made, digest } = auction;
+  // Whether the announcement above all tools is that of a house.
+  const isAbove = ({ announcement }) => Archive.same(announcement, Announced.bytes() || []);
+
+  async function show(what) {
+    const open = auction;
+    const { house, made, digest } = open;
+    if (!isAbove(house)) {
+      await Announced.take(house.announcement);
+    }
+    if (open !== auction) {
+      return;
+    }
     const kept = Guard.remember(house.said.id, house.number, digest);
     showForms();
     SellForms.begin(house);
@@ -121,9 +131,13 @@ const Sell = (() => {
 
   function close() {
     if (auction) {
+      const { house } = auction;
       Parts.unsaved.delete(auction);
       auction.release();
       auction = null;
+      if (house && isAbove(house)) {
+        Announced.putAway();
+      }
     }
     clearForms();
     showForms();
@@ -162,7 +176,7 @@ const Sell = (() => {
     const made = await madeOf(house);
     if (opened === auction) {
       Object.assign(auction, { house, made, digest });
-      show(`House ${house.number} is open.`);
+      await show(`House ${house.number} is open.`);
     }
   }
 
@@ -170,14 +184,24 @@ const Sell = (() => {
     "This isn't the house that was just made. Save that one, and open it; or close this auction, " +
     "and open another house.";
 
+  // What a file is that is no house: of a house no first line says anything.
+  async function otherFile(file) {
+    const look = await Kinds.look(file);
+    return look.kind === "other" ? "" : `You chose another file: ${Kinds.what(look)}.`;
+  }
+
   async function opened(file) {
+    const other = await otherFile(file);
+    if (other) {
+      throw new House.Unfit(`${other} Here the house belongs.`);
+    }
     if (file.size > House.MOST_BYTES) {
       throw new House.Unfit("It is no house: it is too long for one.");
     }
     const bytes = new Uint8Array(await file.arrayBuffer());
     const digest = await Work.digestOf(bytes);
     if (auction && auction.next && auction.next.digest === digest) {
-      saved();
+      await saved();
     } else if (auction && auction.next) {
       throw new House.Unfit(OTHER);
     } else {
@@ -210,9 +234,9 @@ const Sell = (() => {
     "This browser has seen a house of this auction: open its newest one. An auction that is " +
     "begun twice could answer two challenges.";
 
-  // A new auction, by its announcement.
-  async function announce(announcement) {
-    const house = House.following(House.begun(announcement), "", {});
+  // A new auction, by its announcement, with the private key to it if the page made that.
+  async function announce({ announcement, key }) {
+    const house = House.following(House.begun(announcement, key), "", {});
     const against = Guard.recall(house.said.id) ? BEGUN : await hold(house.said.id);
     if (against) {
       throw new House.Unfit(against);

@@ -1,7 +1,7 @@
 // page/sell_forms.js: the forms of the tab Sell, one for each step, and what is asked of them.
 const SellForms = (() => {
   const { find, given, typed } = Fields;
-  const { bad, good } = Sentences;
+  const { bad, good, odd } = Sentences;
 
   const TOOLS = ["sell-terms", "sell-take", "sell-prove", "sell-draw", "sell-pack"];
   const places = {};
@@ -69,15 +69,16 @@ const SellForms = (() => {
     const place = places["sell-take"];
     const { turn } = place;
     place.follow(async () => {
-      const left = await Intake.put(rows, files);
+      const left = await Intake.put(steps.current().house, rows, files);
       await tried(place);
       if (turn !== place.turn) {
         return;
       }
       const ready = rows.filter((row) => row.fault === "" && !row.leftOut).length;
       const told = `Tried: of ${rows.length} seats ${ready} can be taken.`;
-      place.tell(left.length ? bad(`${told} Some files are for none, see below.`) : good(told));
-      place.result.replaceChildren(...Parts.paragraphs(left.map(([, why]) => `A file: ${why}.`)));
+      const mood = ready === rows.length ? good : odd;
+      place.tell(left.length ? bad(`${told} Some files are for none, see below.`) : mood(told));
+      place.result.replaceChildren(...left.map(([file, why]) => SellView.about(file, why)));
     });
   }
 
@@ -231,12 +232,8 @@ const SellForms = (() => {
   // Takes away what the forms hold and show.
   function clear() {
     TOOLS.forEach((id) => {
+      find(id).querySelectorAll(".held input").forEach((field) => Fields.give(field, []));
       find(id).reset();
-      find(id).querySelectorAll("input[type=file]").forEach((field) => {
-        if (field.files.length) {
-          Fields.give(field, []);
-        }
-      });
       places[id].clear();
     });
     rows = [];
@@ -250,6 +247,7 @@ const SellForms = (() => {
     TOOLS.forEach((id, at) => {
       places[id] = Parts.beginTool(id, doing(runs[at]));
     });
+    SellTerms.begin();
     takeFiles("sell-take", "sell-take-files", putFiles);
     find("sell-prove-anew").addEventListener("click", () => {
       find("sell-take").hidden = false;

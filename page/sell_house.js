@@ -6,18 +6,28 @@
 const House = (() => {
   const { bytesOf, textOf } = Asked;
   const MOST_BYTES = 16 * 1024 * 1024;
+  const KEY = "key.pem";
 
   // Why a file is no house that can be worked on here.
   class Unfit extends Error {}
 
   // A house: what was announced, with the bytes of the announcement; which seats are `taken`, an
   // array, or null before; which are left out; the seed and the bits once there are such; the
-  // digests of board and reply; further files by name; its number, and the digests of the earlier
-  // saved ones.
-  function begun(announcement) {
+  // digests of board and reply; further files by name, the private `key` among them if it has one;
+  // its number, and the digests of the earlier saved ones.
+  function begun(announcement, key = null) {
     const said = Terms.read(announcement);
     const none = { taken: null, leftOut: [], seed: null, bits: null, board: null, reply: null };
-    return { said, announcement, ...none, files: new Map(), number: 0, earlier: [] };
+    const files = new Map(key ? [[KEY, bytesOf(key)]] : []);
+    return { said, announcement, ...none, files, number: 0, earlier: [] };
+  }
+
+  // The private half of the key to which secrets are encrypted, as openssl takes it; or null.
+  const keyOf = ({ files }) => (files.has(KEY) ? textOf(files.get(KEY)) : null);
+
+  // The files of a house with those of these seats in the place of others.
+  function filesWith({ files }, others) {
+    return new Map([...(files.has(KEY) ? [[KEY, files.get(KEY)]] : []), ...others]);
   }
 
   function phaseOf(house) {
@@ -47,7 +57,7 @@ const House = (() => {
   // The files that the script reads, the script among them.
   function scriptFiles(house, more = []) {
     const files = { script: bytesOf(scriptOf(house, more)) };
-    house.files.forEach((bytes, name) => {
+    [...house.files].filter(([name]) => name !== KEY).forEach(([name, bytes]) => {
       files[name] = bytes;
     });
     return files;
@@ -172,6 +182,6 @@ const House = (() => {
 
   return {
     Unfit, MOST_BYTES, begun, phaseOf, challengeText, scriptOf, scriptFiles, pack, open, following,
-    nameOf,
+    nameOf, keyOf, filesWith,
   };
 })();

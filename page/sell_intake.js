@@ -43,12 +43,32 @@ const Intake = (() => {
 
   const seatIn = (seal) => Number((HEAD.exec(Asked.textOf(seal)) || [])[2]);
 
+  // What stands in the place of a secret that the house can't open.
+  const SHUT = new Uint8Array(0);
+
+  // The bytes of a file; where they are encrypted, those that are in it, or SHUT.
+  async function opened(house, bytes) {
+    const key = House.keyOf(house);
+    if (!Locked.isLocked(bytes)) {
+      return bytes;
+    }
+    try {
+      return key === null ? SHUT : await Locked.open(bytes, key);
+    } catch (error) {
+      if (error instanceof Locked.Unfit) {
+        return SHUT;
+      }
+      throw error;
+    }
+  }
+
   // Puts files into the rows; a sentence on each that is for none.
-  async function put(rows, files) {
+  async function put(house, rows, files) {
     const left = [];
     const filled = new Set();
     for (const file of files) {
-      const bytes = new Uint8Array(await file.slice(0, MOST_BYTES + 1).arrayBuffer());
+      const held = new Uint8Array(await file.slice(0, MOST_BYTES + 1).arrayBuffer());
+      const bytes = await opened(house, held);
       const place = placeOf(file.name, Asked.textOf(bytes.subarray(0, 256)));
       const row = place && rows.find(({ seat }) => seat === place.seat);
       const twice = row && filled.has(`${place.kind} ${row.seat}`);
@@ -77,6 +97,10 @@ const Intake = (() => {
     if (isLong(seal) || (secret && isLong(secret))) {
       return `one of the files is too long to be right: ask ${name} for both again`;
     }
+    if (secret === SHUT) {
+      const which = `secret-${seat} is encrypted, and the key of this house doesn't open it`;
+      return `${which}: ask ${name} for it again`;
+    }
     const held = seatIn(seal);
     if (!held) {
       return "the seal can't be read: get it from the public place again, as the file that it is";
@@ -104,7 +128,8 @@ const Intake = (() => {
       files.set(`seal-${seat}`, seal);
       files.set(`secret-${seat}`, secret);
     }
-    return { ...house, taken: rows.map(({ seat }) => seat), files };
+    const taken = rows.map(({ seat }) => seat);
+    return { ...house, taken, files: House.filesWith(house, files) };
   }
 
   // Has the program try the files of these rows, all in one house. A file that can't be read ends

@@ -1,7 +1,6 @@
-// page/sell_terms.js: what a seller types, or has in a file, becomes an announcement.
+// page/sell_terms.js: what a seller types becomes an announcement, where none stands above.
 const SellTerms = (() => {
-  const { find, typed, given, mark, goTo } = Fields;
-  const MOST_BYTES = 256 * 1024;
+  const { find, typed, mark, goTo } = Fields;
 
   // What isn't as it has to be, with the field that it stands in, if it is one.
   class Unfit extends Error {
@@ -71,8 +70,11 @@ const SellTerms = (() => {
 
   const widthOf = (highest) => Math.max(1, highest.toString(2).length);
 
-  // The announcement of what is typed, with an id that is drawn here.
-  function typedTerms() {
+  const isEncrypted = () => find("sell-terms-encrypted").checked;
+
+  // The announcement of what is typed, with an id that is drawn here, and this key where one was
+  // made.
+  function typedTerms(key) {
     const name = readField("unit", Terms.textOf, "a text, as EUR");
     const decimals = readField("decimals", numberUpTo(9), "0 to 9");
     const unit = { unit: name, decimals };
@@ -89,7 +91,7 @@ const SellTerms = (() => {
       ...unit,
       auditors: readField("auditors", numberUpTo(16), "0 to 16"),
       deadlines: readTimes(),
-      key: readField("key", orNone(Terms.textOf), "a text, or none"),
+      key: key ? key.text : readField("key", orNone(Terms.textOf), "a text, or none"),
       place: readField("place", Terms.textOf, "a text: where everybody can look"),
       seats: readField(
         "seats",
@@ -99,33 +101,24 @@ const SellTerms = (() => {
     };
   }
 
-  async function fromFile(file) {
-    if (file.size > MOST_BYTES) {
-      throw new Unfit("The announcement is too long to be one.");
+  // The announcement that stands above all tools.
+  function above() {
+    if (Announced.now().kind !== "vickrey") {
+      throw new Unfit("No house takes an auction of this kind: only those of the kind vickrey.");
     }
-    const bytes = new Uint8Array(await file.arrayBuffer());
-    try {
-      if (Terms.read(bytes).kind !== "vickrey") {
-        throw new Unfit("No house takes an auction of this kind: only those of the kind vickrey.");
-      }
-    } catch (error) {
-      if (error instanceof Terms.FaultLine) {
-        const what = `line ${error.line} is the first one that isn't what it has to be`;
-        throw new Unfit(`The announcement can't be read: ${what}.`);
-      }
-      throw error;
-    }
-    return bytes;
+    return { announcement: Announced.bytes(), key: null };
   }
 
-  // The bytes of the announcement; an Unfit where there is none.
+  // The bytes of the announcement, and the private key to it if one is made; an Unfit where there
+  // is none.
   async function read() {
-    const file = given("sell-terms-file");
-    if (file) {
-      return fromFile(file);
+    if (Announced.now()) {
+      return above();
     }
     try {
-      return Asked.bytesOf(Terms.write(typedTerms()));
+      const key = isEncrypted() ? await Locked.makeKey() : null;
+      const announcement = Asked.bytesOf(Terms.write(typedTerms(key)));
+      return { announcement, key: key && key.pem };
     } catch (error) {
       if (error instanceof Unfit && error.field) {
         goTo(error.field);
@@ -134,5 +127,25 @@ const SellTerms = (() => {
     }
   }
 
-  return { Unfit, read };
+  // What is asked where an announcement stands above, and where none does.
+  function show(now) {
+    find("sell-terms-above").hidden = now === null;
+    find("sell-terms-typed").hidden = now !== null;
+  }
+
+  const showKey = () => {
+    find("sell-terms-key-box").hidden = isEncrypted();
+  };
+
+  function begin() {
+    const box = find("sell-terms-encrypted");
+    box.disabled = !Locked.isPossible();
+    box.defaultChecked = !box.disabled;
+    box.addEventListener("change", showKey);
+    find("sell-terms").addEventListener("reset", () => setTimeout(showKey));
+    showKey();
+    Announced.onChange(show);
+  }
+
+  return { Unfit, begin, read };
 })();

@@ -7,6 +7,7 @@ const SellView = (() => {
 
   const line = (...parts) => make("p", { className: "doing" }, ...parts);
   const words = (...parts) => make("p", {}, ...parts);
+  const about = (file, why) => words(Fields.quoted(file.name), `: ${why}.`);
   const code = (textContent) => make("pre", { className: "publish", tabIndex: 0, textContent });
 
   // Marks how far the auction is: `phase` is what was done last, or nothing.
@@ -81,7 +82,6 @@ const SellView = (() => {
       ),
       line(place.link("announcement", house.announcement)),
       words("SHA-256 of the announcement: ", digestShown(digest)),
-      make("details", {}, make("summary", { textContent: "What is announced" }), terms(house.said)),
     ];
   }
 
@@ -141,7 +141,7 @@ const SellView = (() => {
     const label = make("label", { htmlFor: box.id }, box, ` Seat ${seat} is left out`);
     const head = make("strong", { textContent: `Seat ${seat}` });
     const parts = [head, ", ", make("bdi", { textContent: name })];
-    const told = make("p", { className: "told" });
+    const told = make("p", { className: "told of-a-seat" });
     if (fault !== null && !leftOut) {
       told.classList.add(fault ? "bad" : "good");
       told.textContent = fault ? `Not taken: ${fault}.` : `Taken on trial. Its seal is ${print}.`;
@@ -151,5 +151,5 @@ const SellView = (() => {
 
   const rowsShown = (rows) => make("ul", { className: "intake" }, ...rows.map(rowShown));
 
-  return { markSteps, outcomeOf, due, terms, handedOut, rowsShown, line, words, code };
+  return { markSteps, outcomeOf, due, terms, handedOut, rowsShown, line, words, about, code };
 })();

@@ -165,7 +165,7 @@ const Sentences = (() => {
     seal: ([line]) =>
       good(
         `Sealed for seat ${line.split(" ")[2]}.`,
-        "Save both files before you close this page: nothing of them is kept here.",
+        "Save all of them before you close this page: nothing of them is kept here.",
       ),
     confront: ([line]) =>
       good(

@@ -1,7 +1,7 @@
 #!/usr/bin/env node
-// page/terms_test.js VECTORS: reads the announcements in VECTORS/announcement, each of which has the
-// number of its fault line in the file `table`, or 0. What is read of a whole one is written again,
-// and has to be the same bytes. It is no part of the gate.
+// page/terms_test.js VECTORS: reads the announcements in VECTORS/announcement, each of which has
+// the number of its fault line in the file `table`, or 0. What is read of a whole one is written
+// again, and has to be the same bytes. It is no part of the gate.
 "use strict";
 
 const fs = require("fs");

@@ -8,7 +8,7 @@ wants Debian's packages chromium and firefox-esr, and Python's standard library.
 
   --page      the page, if not page/vickrey.html
   --again     the page of the scripts as they are now, with the module of page/vickrey.html
-  --pictures  a folder for a picture of each tab: in light, in dark, and on a phone
+  --pictures  a folder for pictures of each step: light and dark, on a desk and on a phone
   --only      chromium or firefox alone
   --trial     only the trials whose names have this in them, or one of several with commas
 
@@ -31,8 +31,9 @@ from trials.desk import Desk
 from trials.hostile import HOSTILE, Listener
 from trials.kinds import KINDS
 from trials.made import Made
+from trials.pictures import take_pictures
 from trials.poor import POOR
-from trials.reach import REACH, take_pictures
+from trials.reach import REACH
 from trials.rehearse import REHEARSE
 from trials.sell import SELL
 from trials.sell_hostile import SELL_HOSTILE

@@ -22,6 +22,7 @@ const Way = (() => {
       } else {
         button.removeAttribute("aria-current");
       }
+      button.parentElement.className = isBehind(state.at, step) ? "done" : "";
       const part = find(`step-${step}`);
       if (part) {
         part.hidden = step !== state.at;

@@ -33,29 +33,39 @@ const Work = (() => {
     }
   }
 
+  // The readers that are at work. Chromium collects one as garbage that nothing but its own promise
+  // leads to, and then that promise is never kept.
+  const readers = new Set();
+
   // The bytes of a file, part by part, into the same memory again and again.
   async function streamed(reader, put) {
+    readers.add(reader);
     let room = new ArrayBuffer(PART);
-    for (;;) {
-      const { done, value } = await reader.read(new Uint8Array(room));
-      if (done) {
-        return;
+    try {
+      for (;;) {
+        const { done, value } = await reader.read(new Uint8Array(room));
+        if (done) {
+          return;
+        }
+        put(value);
+        room = value.buffer;
       }
-      put(value);
-      room = value.buffer;
+    } finally {
+      readers.delete(reader);
     }
   }
 
-  // The same in a browser that can't read into memory that is there.
+  // The same of a short file, and in a browser that can't read into memory that is there.
   async function pieces(file, put) {
     for (let at = 0; at < file.size; at += PIECE) {
       put(new Uint8Array(await file.slice(at, at + PIECE).arrayBuffer()));
     }
   }
 
+  // What reads a long file; null for a short one, and where this browser can't.
   function readerOf(file) {
     try {
-      return file.stream().getReader({ mode: "byob" });
+      return file.size > PART ? file.stream().getReader({ mode: "byob" }) : null;
     } catch {
       return null;
     }

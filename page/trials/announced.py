@@ -60,9 +60,9 @@ def is_taken_by_file(desk):
         "3 auditors draw the challenge together: one bit for each of 4 lanes.",
         "every seal is public: 2096-12-01 12:00 UTC",
         "300 Zoë Müller",
-        desk.made.digest("announcement"),
     ):
         assert said in text, (said, text)
+    assert desk.made.digest("announcement") in desk.browser.text("#announced-told")
     desk.browser.click("#announced-away")
     fields_are(desk, False)
 

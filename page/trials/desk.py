@@ -5,10 +5,17 @@ import re
 HERE = os.path.dirname(os.path.abspath(__file__))
 
 
-def script(name):
-    """The body of a function that runs in the page, which stands beside this file."""
+def text_of(name):
+    """A script for the page, which stands beside this file."""
     with open(os.path.join(HERE, f"{name}.js"), encoding="utf-8") as file:
         return file.read()
+
+
+def script(name):
+    """The body of a function that calls the one of a script, with the arguments that it is given."""
+    first, *others = name.split("_")
+    called = first + "".join(word.capitalize() for word in others)
+    return f"{text_of(name)}\nreturn {called}(...arguments)"
 
 
 SHOWN = script("shown")

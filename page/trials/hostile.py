@@ -271,7 +271,7 @@ def drops_find_their_fields(desk):
     drop(desk, "#check", ["reply-0110", "board", "challenge-0110", "seal-9", "text"])
     notice = "const found = document.getElementById('notice'); return found.textContent"
     desk.browser.wait(f"{notice}.startsWith('Taken: 4 of 5')")
-    assert desk.run(chosen, "#check input[type=file]") == [
+    assert desk.run(chosen, "#check .file input") == [
         ["board"],
         ["challenge-0110"],
         ["reply-0110"],

@@ -66,10 +66,12 @@ PLACES = {
     "derive-board": ("the board", {"board", "board-reserve"}),
 }
 
+# What takes files of every kind, and gives them to the places of its tool
+ALL = {"check-all", "mine-all"}
+
 # The places of the tab Sell, which gives no verdict on an auction: its trials stand in sell.py
 SELLING = {
     "sell-house",
-    "sell-terms-file",
     "sell-take-files",
     "sell-draw-shares",
     "sell-draw-coin",
@@ -109,7 +111,8 @@ def all_places_are_tried(desk):
     found = desk.open().run(
         "return [...document.querySelectorAll('.tool input[type=file]')].map(({ id }) => id)"
     )
-    assert sorted(found) == sorted([*PLACES, *SELLING]), set(found) ^ {*PLACES, *SELLING}
+    known = {*PLACES, *ALL, *SELLING}
+    assert sorted(found) == sorted(known), set(found) ^ known
 
 
 def files_say_what_they_are(desk):
@@ -195,6 +198,37 @@ def files_of_two_auctions_are_no_verdict(desk):
     assert shown.mood == "odd", shown
 
 
+def all_files_are_chosen_at_once(desk):
+    """Each goes to its place by its first lines; what belongs nowhere there is named."""
+    held = (
+        "return Object.fromEntries([...document.querySelectorAll(`#${arguments[0]} .held input`)]"
+        ".map((field) => [field.id, [...field.files].map(({ name }) => name).sort()]))"
+    )
+    cases = {
+        "check": {
+            "check-board": ["board"],
+            "check-challenge": ["challenge-0110"],
+            "check-reply": ["reply-0110"],
+            "check-seals": ["seal-300", "seal-7", "seal-9"],
+            "check-secret": ["secret-9"],
+            "check-coin": ["coin"],
+        },
+        "mine": {
+            "mine-board": ["board"],
+            "mine-seal": ["seal-9"],
+            "mine-secret": ["secret-9"],
+        },
+    }
+    for tool, places in cases.items():
+        names = [name for files in places.values() for name in files]
+        desk.open("check" if tool == "check" else "step-look")
+        desk.browser.choose(f"#{tool}-all", *map(desk.made.path, [*names, "text"]))
+        told = f"return document.getElementById('{tool}-all-told').textContent"
+        desk.browser.wait(f"{told}.startsWith('Taken: {len(names)} of {len(names) + 1} files.')")
+        assert desk.run(told).endswith("Not taken, by their first lines: text."), desk.run(told)
+        assert desk.run(held, tool) == places, desk.run(held, tool)
+
+
 def mailed_files_are_told(desk):
     """A file whose line ends were changed on the way."""
     [[said, mood]] = given(desk.open(), [["mine-seal", "seal-7-mailed"]], False)
@@ -206,5 +240,6 @@ KINDS = [
     files_say_what_they_are,
     other_files_are_no_verdict,
     files_of_two_auctions_are_no_verdict,
+    all_files_are_chosen_at_once,
     mailed_files_are_told,
 ]

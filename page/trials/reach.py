@@ -1,6 +1,4 @@
 """Who can use the page: by keyboard, by a screen reader, in dark and in light, on a phone."""
-import os
-
 from .use import ACCEPTED, TWO, announced
 from .desk import script
 from .made import ID, LANES, WIDTH
@@ -107,8 +105,8 @@ def tabs_go_by_keys(desk):
         )
     desk.browser.press("Home", "ArrowRight", "Tab")
     assert desk.run("return document.activeElement.id") == "panel-check"
-    # The line that folds the files away, and the first of them.
-    desk.browser.press("Tab", "Tab")
+    # The line that folds the files away, the field for all of them, and the first of them.
+    desk.browser.press("Tab", "Tab", "Tab")
     assert desk.run("return document.activeElement.id") == "check-board"
 
 
@@ -149,22 +147,6 @@ def answers_are_told(desk):
     desk.use("check", **ACCEPTED)
     same, text = desk.run(f"return [window.region === {region}, window.region.textContent]")
     assert same and text.startswith("By itself this says nothing"), text
-
-
-def take_pictures(desk, folder):
-    """Each tab in light, in dark and on a phone, with answers in it."""
-    name = desk.browser.name.lower()
-    desk.open()
-    desk.browser.resize(1100, 900)
-    fill_all(desk)
-    for look, dark, width in (("light", False, 1100), ("dark", True, 1100), ("phone", False, 360)):
-        desk.browser.resize(width, 900 if width > 400 else 740)
-        desk.browser.paint(dark)
-        for tab in looks(desk):
-            desk.run("document.activeElement.blur(); scrollTo(0, 0)")
-            desk.browser.picture(os.path.join(folder, f"{name}-{look}-{tab}.png"), whole=True)
-    desk.browser.paint(False)
-    desk.browser.resize(1100, 900)
 
 
 REACH = [

@@ -70,7 +70,7 @@ def auction_is_rehearsed(desk):
     wanted = ["announcement", "seal-1", "seal-2", "seal-3", "secret-2", "board", "parts", "coin"]
     assert names == [*wanted, "challenge", "reply"], names
     verdict = "Seat 3 wins and pays 17.25 EUR. All 6 checks hold."
-    assert verdict in texts[-1], texts[-1]
+    assert texts[-1].count("ok") == 6 and "FAILED" not in texts[-1], texts[-1]
     assert reader.program("verify", "board", "challenge", "reply").text == "accepted\n"
     assert reader.program("coin-join", "coin", "joined").status == 0
     assert "\nbid 1725\n" in open(os.path.join(reader.folder, "secret-2"), encoding="ascii").read()

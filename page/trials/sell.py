@@ -6,10 +6,20 @@ import subprocess
 import sys
 import tarfile
 
+from .announced import take
+from .kinds import CALLED, given
 from .made import Said
-from .seller import LANES, NAMES, Seller
+from .seller import BIDS, LANES, NAMES, Seller
 
 HERE = os.path.dirname(os.path.abspath(__file__))
+# What belongs in the places of the draw
+DRAWN = {
+    "sell-draw-shares": "share-1",
+    "sell-draw-coin": "coin",
+    "sell-draw-challenge": "challenge-0110",
+}
+# How what is handed in of each seat is named
+FILES = (("seal", ""), ("secret", ".cms"))
 CHECKER = os.path.join(HERE, "..", "..", "checker", "check.py")
 
 
@@ -141,21 +151,21 @@ def intake_is_told(desk):
     ]
     seller.hand_in(*seller.all_files([9, 300]))
     seller.says("of 3 seats 2 can be taken", "sell-take")
-    for given, seat, words in cases:
+    for handed, seat, words in cases:
         folder = seller.path("given")
         shutil.rmtree(folder, ignore_errors=True)
         os.mkdir(folder)
         for name in seller.all_files({7, 9} - {seat}):
             shutil.copy(seller.path(name), os.path.join(folder, name))
-        kinds = ["seal", "secret"] if len(given) == 2 else [given[0].split("-")[0]]
-        for kind, name in zip(kinds, given):
+        kinds = ["seal", "secret"] if len(handed) == 2 else [handed[0].split("-")[0]]
+        for kind, name in zip(kinds, handed):
             shutil.copy(seller.path(name), os.path.join(folder, f"{kind}-{seat}"))
         names = sorted(os.path.join(folder, name) for name in os.listdir(folder))
         desk.browser.choose("#sell-take-files", *names)
         seller.says("of 3 seats 2 can be taken", "sell-take")
         for row, told in seller.rows():
             wanted = words if row == f"Seat {seat}" else good
-            assert wanted in told, (given, row, told, wanted)
+            assert wanted in told, (handed, row, told, wanted)
         desk.browser.click("#sell-take-run")
         seller.says(f"Nothing was taken: of 3 seats 1 can't be, {seat}.", "sell-take")
         assert seller.forms() == ["take"]
@@ -170,6 +180,54 @@ def intake_is_told(desk):
     with open(os.path.join(place, "script"), encoding="ascii") as file:
         lines = [line.split(" ")[2] for line in file if line.startswith("submit")]
     assert lines == ["seal-7", "seal-9", "seal-300"], lines
+
+
+def secrets_come_encrypted(desk):
+    """The page makes a key, which the house keeps; bidders encrypt to it in the page."""
+    seller = Seller(desk, "locked").open()
+    lines = seller.announce(encrypted=True)
+    assert lines[14].startswith("key cms "), lines
+    desk.browser.click("#tab-bid")
+    seller.seal_all()
+    for seat, bid in BIDS.items():
+        shown = desk.seal(seat_of=seat, bid=f"{bid // 100}.{bid % 100:02}")
+        assert shown.mood == "good", shown
+        for name in (f"secret-{seat}", f"seal-{seat}", f"secret-{seat}.cms"):
+            seller.save(name, "keep")
+    desk.browser.click("#tab-sell")
+    seller.put("changed", flipped(seller.bytes("secret-9.cms")))
+    shutil.copy(seller.path("secret-9.cms"), seller.path("right"))
+    shutil.copy(seller.path("changed"), seller.path("secret-9.cms"))
+    seller.hand_in(*[f"{kind}-{seat}{end}" for seat in BIDS for kind, end in FILES])
+    seller.says("of 3 seats 2 can be taken", "sell-take")
+    told = dict(seller.rows())["Seat 9"]
+    assert "secret-9 is encrypted, and the key of this house doesn't open it: ask Ben & Co" in told
+    shutil.copy(seller.path("right"), seller.path("secret-9.cms"))
+    seller.hand_in("secret-9.cms")
+    seller.says("of 3 seats 3 can be taken", "sell-take")
+    desk.browser.click("#sell-take-run")
+    house = seller.keep()
+    place = seller.unpack(house, "unpacked")
+    for seat in BIDS:
+        with open(os.path.join(place, f"secret-{seat}"), "rb") as file:
+            assert file.read() == seller.bytes(f"secret-{seat}"), seat
+        words = ["openssl", "cms", "-decrypt", "-inform", "DER", "-binary", "-inkey", "key.pem"]
+        words += ["-in", seller.path(f"secret-{seat}.cms")]
+        opened = subprocess.run(words, cwd=place, stdout=subprocess.PIPE, check=True).stdout
+        assert opened == seller.bytes(f"secret-{seat}"), seat
+    shutil.rmtree(place)
+    seller.prove()
+    assert "Seat 300 wins and pays 33.50 EUR." in desk.browser.text("#sell-work")
+    shutil.rmtree(goes_on(seller, seller.houses[-1], "board"))
+    seller.answer()
+    said = audited(seller, "--secret", seller.path("secret-9"), "--bits", "0110")
+    assert said.status == 0, said
+    assert "key.pem" not in os.listdir(seller.path("public"))
+
+
+def flipped(data):
+    """The same bytes with one of them changed."""
+    return data[:-30] + bytes([data[-30] ^ 1]) + data[-29:]
 
 
 def seat_is_left_out(desk):
@@ -187,6 +245,29 @@ def seat_is_left_out(desk):
     seller.answer("1" * LANES)
     said = audited(seller, "--left-out", "9", "--bits", "1" * LANES)
     assert said.status == 0, said
+
+
+def other_files_are_told(desk):
+    """Every kind of file in each of the seller's places, and what is said of it."""
+    seller = Seller(desk, "others").open()
+    for name, called in CALLED.items():
+        desk.browser.choose("#sell-house", desk.made.path(name))
+        wanted = f"You chose another file: {called}"
+        seller.says("It is no house" if name == "noise" else wanted)
+    seller.announce()
+    for name in CALLED.keys() - {"seal-7", "other-seal-7", "secret-7"}:
+        desk.browser.choose("#sell-take-files", desk.made.path(name))
+        desk.browser.wait(
+            "return document.getElementById('sell-take-work').textContent.includes(arguments[0])",
+            f"{name}: no seal and no secret.",
+        )
+    seller.take()
+    seller.prove()
+    cases = [[place, name] for place in DRAWN for name in CALLED]
+    for (place, name), (said, mood) in zip(cases, given(desk, cases, False)):
+        own = name == DRAWN[place]
+        assert ("You chose another file: " in said) != own, (place, name, said)
+        assert CALLED[name][2:] in said and (own or mood == "told odd"), (place, name, said, mood)
 
 
 def terms_are_asked(desk):
@@ -217,19 +298,25 @@ def terms_are_asked(desk):
         f"{name} none\n" for name in ("seals", "secrets", "board", "draw", "reply", "key")
     )
     rest += "place here\nseats 2\nseat 1 Ann\nseat 2 Ben\nend\n"
-    files = {
-        "units": (said.format("0" * 32, "uniform 2") + rest, "No house takes an auction of"),
-        "cut": ((said + rest).format("0" * 32, "vickrey")[:-4], "line 20 is the first one"),
-        "good": (said.format("0" * 32, "vickrey") + rest, None),
-    }
-    for name, (text, words) in files.items():
-        seller.put(name, text)
-        desk.browser.choose("#sell-terms-file", seller.path(name))
-        desk.browser.click("#sell-terms-run")
-        if words:
-            seller.says(words, "sell-terms")
+    kinds = {"units": "uniform 2", "good": "vickrey"}
+    for name, kind in kinds.items():
+        seller.put(name, said.format("0" * 32, kind) + rest)
+    take(desk, seller.path("units"))
+    desk.browser.click("#sell-terms-run")
+    seller.says("No house takes an auction of this kind", "sell-terms")
+    desk.browser.click("#announced-away")
+    take(desk, seller.path("good"))
+    desk.browser.click("#sell-terms-run")
     seller.keep()
     assert seller.save("announcement") == seller.bytes("good")
 
 
-SELL = [auction_is_sold, auditors_draw, intake_is_told, seat_is_left_out, terms_are_asked]
+SELL = [
+    auction_is_sold,
+    auditors_draw,
+    intake_is_told,
+    secrets_come_encrypted,
+    seat_is_left_out,
+    other_files_are_told,
+    terms_are_asked,
+]

@@ -117,7 +117,9 @@ class Seller:
 
     # Steps
 
-    def fill_terms(self, **others):
+    def fill_terms(self, encrypted=False, **others):
+        box = "const box = document.getElementById('sell-terms-encrypted');"
+        self.browser.run(f"{box} if (box.checked !== arguments[0]) box.click()", encrypted)
         fields = dict(
             unit="EUR",
             decimals=2,

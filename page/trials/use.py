@@ -50,7 +50,7 @@ def board_is_told(desk):
     """Digest, outcome and seals, as soon as a board is chosen."""
     desk.open().fill("check", board=["board"])
     shown = desk.shown("check-board")
-    assert shown.mood == "good", shown
+    assert shown.mood == "", "nothing was found out yet"
     desk.agrees(shown, board="board")
     assert shown.title.startswith("The board says: Seat 300 wins and pays 33."), shown
     text = desk.run("return document.getElementById('check-board-work').textContent")

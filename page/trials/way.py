@@ -1,8 +1,12 @@
 """A bidder's way in five steps, from the announcement to the check."""
+import base64
 import hashlib
+import os
+import subprocess
 
 from .announced import take
 from .desk import fault_of
+from .made import announcement
 
 STEP = "return document.querySelector('#way [aria-current=step]').textContent"
 STORED = (
@@ -14,6 +18,10 @@ STORED = (
 
 def inform(desk, step):
     assert desk.run(STEP) == step, desk.run(STEP)
+
+
+def openssl(*words):
+    return subprocess.run(["openssl", *words], capture_output=True, check=True).stdout
 
 
 def fingerprint(data):
@@ -73,6 +81,31 @@ def both_files_are_saved(desk):
     assert desk.run(STORED) == [0, 0, "", 0], "nothing is stored in the browser"
 
 
+def secrets_are_encrypted(desk):
+    """To the announced key: a third file, which openssl opens with the private half of it."""
+    made = desk.made
+    place = made.path("keys")
+    os.makedirs(place, exist_ok=True)
+    key = os.path.join(place, "key.pem")
+    words = ["genpkey", "-algorithm", "EC", "-pkeyopt", "ec_paramgen_curve:P-256", "-out", key]
+    openssl(*words)
+    public = openssl("pkey", "-in", key, "-pubout", "-outform", "DER")
+    made.put("announcement-key", announcement(key=f"cms {base64.b64encode(public).decode()}"))
+    take(desk.open("bid"), "announcement-key")
+    shown = desk.seal(seat_of="7", bid="0.20", seed=made.seeds[7])
+    assert shown.links == ["secret-7", "seal-7", "secret-7.cms"], shown.links
+    assert "send secret-7.cms to the auctioneer" in desk.browser.text("#keep-work")
+    desk.keep(7)
+    desk.browser.click("#keep-on")
+    inform(desk, "Keep")
+    assert desk.browser.text("#keep-told") == "Save secret-7.cms before you go on."
+    made.put("locked-7", desk.save("keep", "secret-7.cms"))
+    words = ["cms", "-decrypt", "-inform", "DER", "-binary", "-inkey", key]
+    assert openssl(*words, "-in", made.path("locked-7")) == made.bytes("secret-7")
+    desk.browser.click("#keep-on")
+    inform(desk, "Look")
+
+
 def a_second_bid_waits(desk):
     """Files that aren't saved aren't lost by another bid, unless they are thrown away."""
     take(desk.open("bid"))
@@ -89,4 +122,4 @@ def a_second_bid_waits(desk):
     assert shown.links == ["secret-9", "seal-9"], shown.links
 
 
-WAY = [bids_are_reviewed, both_files_are_saved, a_second_bid_waits]
+WAY = [bids_are_reviewed, both_files_are_saved, secrets_are_encrypted, a_second_bid_waits]

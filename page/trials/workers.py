@@ -4,7 +4,7 @@ They are watched from inside of the page, which DevTools alone can do: so in Chr
 """
 from contextlib import contextmanager
 
-from .desk import Desk, script
+from .desk import Desk, text_of
 from .poor import module_of, with_module
 from .use import ACCEPTED, named
 
@@ -15,7 +15,7 @@ SPARE = "return workers.indexOf(Parts.setting.queue.spare)"
 @contextmanager
 def watched(browser):
     """Each page that is opened here has its Workers noted."""
-    note = browser.ask("Page.addScriptToEvaluateOnNewDocument", source=script("watched"))
+    note = browser.ask("Page.addScriptToEvaluateOnNewDocument", source=text_of("watched"))
     try:
         yield
     finally:

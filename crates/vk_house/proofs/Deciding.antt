@@ -1,7 +1,7 @@
 -- The step of proving and of answering, once all tests but that of the seed have passed.
-use Rattle.std.proofs.Common.{◌≡◌, ℕ, zero, suc, ◌+◌, Bool, not, List, [], ◌∷◌, Option, Some, None, option_map, refl, sym, ap, ◌∙◌}
+use Rattle.std.proofs.Common.{◌≡◌, ℕ, zero, suc, ◌+◌, Bool, not, List, [], ◌∷◌, Option, Some, None, refl, sym, ap, ◌∙◌}
 use Rattle.std.specs.Bool.{then_some, beq}
-use Rattle.std.specs.Option.{IfSome, option_or}
+use Rattle.std.specs.Option.{option_or}
 use Rattle.std.specs.Str.{bytes_eq}
 use Rattle.std.specs.Cmp.{booleans_Decides}
 use Rattle.std.proofs.lemmas.Slice.Eq.{bytes_eq-Decides, slice_eq-Decides}
@@ -12,8 +12,8 @@ use Rattle.vk_keeper.specs.declared.auction.Phase.{Phase}
 use Rattle.vk_keeper.specs.declared.auction.Phase.TheVariants.{Taking, Proved, Answered}
 use Rattle.vk_keeper.specs.Auctions.{challenge_of}
 use Rattle.vk_keeper.specs.Joining.{first_of}
-use Rattle.vk_job.specs.Proofs.{dry_or, drawn_in, first_dry_from}
-use Rattle.vk_job.specs.Jobs.{dry_from, dry_in, tape_of, plan_of, sale_in}
+use Rattle.vk_job.specs.Proofs.{Dry, dry_or, drawn_in, first_dry_from}
+use Rattle.vk_job.specs.Jobs.{dry_from, dry_in, seed_in, tape_of, plan_of, sale_in}
 use Rattle.vk_house.specs.declared.errors.HouseErr.{HouseErr}
 use Rattle.vk_house.specs.declared.errors.HouseErr.TheVariants.{OtherSeed, OtherChallenge}
 use Rattle.vk_house.specs.Commands.{HouseCommand, Prove, Answer}
@@ -21,8 +21,8 @@ use Rattle.vk_house.specs.Replies.{Work, reply_to}
 use Rattle.vk_house.specs.Tests.{no_seals, other_seed, still_taking, other_length, other_than, other_challenge, dry_seed}
 use Rattle.vk_house.specs.Refusals.{refusal_of}
 use Rattle.vk_house.specs.Steps.{step_by, step_at, in_phase, phase_proved, phase_answered}
-use Rattle.vk_house.proofs.Passing.{test_passed}
-use Rattle.vk_house.specs.Deciding.{own_dry, phased, worked, work_step}
+use Rattle.vk_house.proofs.Passing.{test_passed, nothing_there}
+use Rattle.vk_house.specs.Deciding.{IsDryAtMost, own_dry, phased, worked, work_step}
 
 -- a phase has no part in which wires are dry
 dry_from_phase : (auction : Auction) (phase : Phase) (seed : List ℕ) (lane count : ℕ)
@@ -121,13 +121,14 @@ dry_by held (Answered kept challenge) seed same =
     ap (λ s. dry_seed (dry_in (in_phase held (Answered kept challenge)) s))
     (sym (same_seed kept seed same))
 
-pub prove_not_dry : (auction : Auction) (found : Option Auction) (phase : Option Phase)
-    (seed : List ℕ) → found ≡ Some auction → None ≡ other_seed seed auction.phase
-    → phase ≡ phase_proved seed auction.phase
+pub prove_unrefused : (auction : Auction) (found : Option Auction) (phase : Option Phase)
+    (asked seed : List ℕ) → found ≡ Some auction → None ≡ no_seals auction.seals
+    → None ≡ other_seed seed auction.phase → phase ≡ phase_proved seed auction.phase
     → own_dry (phased auction phase) ≡ None
-    → IfSome found (λ auction. dry_seed (dry_in auction seed) ≡ None)
-prove_not_dry auction found phase seed is same brings none =
-    rw is (dry_by auction auction.phase seed (sym same)
+    → refusal_of (Prove asked seed) found ≡ None
+prove_unrefused auction found phase asked seed is some same brings none =
+    rw is (prove_left asked seed auction (sym some) (sym same)
+    ∙ dry_by auction auction.phase seed (sym same)
     ∙ ap (λ p. own_dry (phased auction p)) (sym brings) ∙ none)
 
 -- ---- answering
@@ -164,21 +165,29 @@ answer_by held (Answered seed kept) asked challenge proved each same =
     ap (λ r. worked r auction None) (sym (answer_left asked challenge auction proved each same))
     ∙ same_step _ (Answer asked challenge) (Some auction) None auction refl
 
-no_other : (challenge : Challenge) (auction : Auction)
-    → other_than challenge (challenge_of auction.phase) ≡ None
-    → other_challenge challenge auction.phase ≡ None
-no_other challenge auction none = ap (option_map OtherChallenge) none
+-- a seed that may be dry refuses it at most
+dry_at_most : (dry : Option Dry) → IsDryAtMost (dry_seed dry)
+dry_at_most None = tt
+dry_at_most (Some dry) = tt
+
+pub answer_dry_at_most : (auction : Auction) (found : Option Auction) (asked : List ℕ)
+    (challenge : Challenge) → found ≡ Some auction → None ≡ still_taking auction.phase
+    → None ≡ other_length challenge auction.lanes
+    → None ≡ other_challenge challenge auction.phase
+    → IsDryAtMost (refusal_of (Answer asked challenge) found)
+answer_dry_at_most auction found asked challenge is proved each same =
+    rw (is, answer_left asked challenge auction (sym proved) (sym each) (sym same))
+    (dry_at_most (dry_in auction (seed_in auction)))
 
 pub answer_step : (auction : Auction) (found : Option Auction) (phase : Option Phase)
     (asked : List ℕ) (challenge : Challenge) → found ≡ Some auction
     → None ≡ still_taking auction.phase → None ≡ other_length challenge auction.lanes
-    → other_than challenge (challenge_of auction.phase) ≡ None
+    → None ≡ other_challenge challenge auction.phase
     → phase ≡ phase_answered challenge auction.phase
     → work_step auction phase ≡ step_at (Answer asked challenge) found
 answer_step auction found phase asked challenge is proved each same brings =
     ap (work_step auction) brings
-    ∙ answer_by auction auction.phase asked challenge (sym proved) (sym each)
-    (no_other challenge auction same)
+    ∙ answer_by auction auction.phase asked challenge (sym proved) (sym each) (sym same)
     ∙ ap (step_at (Answer asked challenge)) (sym is)
 
 pub kept_same : (bits kept : List Bool)
@@ -198,9 +207,10 @@ answered_by held (Answered seed kept) challenge proved same =
     ap (λ bits. Some (challenge_with bits)) (kept_same challenge.bits kept.bits same)
 
 pub answered_one : (auction : Auction) (phase : Option Phase) (challenge : Challenge)
-    → None ≡ still_taking auction.phase → other_than challenge (challenge_of auction.phase) ≡ None
+    → None ≡ still_taking auction.phase → None ≡ other_challenge challenge auction.phase
     → phase ≡ phase_answered challenge auction.phase
     → challenge_of (phased auction phase).phase ≡ Some challenge
 answered_one auction phase challenge proved same brings =
     ap (λ p. challenge_of (phased auction p).phase) brings
-    ∙ answered_by auction auction.phase challenge proved same
+    ∙ answered_by auction auction.phase challenge proved
+    (nothing_there OtherChallenge (other_than challenge (challenge_of auction.phase)) (sym same))

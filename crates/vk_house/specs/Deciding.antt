@@ -63,3 +63,11 @@ pub record IsDecisionOn (found : Option Auction) (decision : Decision) : Type 0 
 -- what is answered and kept, as a step
 abbrev pub step_of : Decision → Step
 step_of decision = record { reply = work_of decision.job; kept = decision.kept }
+
+-- ---- want of memory
+
+-- nothing refuses a command but perhaps a dry seed
+abbrev pub IsDryAtMost : Option HouseErr → Type 0
+IsDryAtMost None = Unit {0}
+IsDryAtMost (Some (house.DrySeed lane wire)) = Unit {0}
+IsDryAtMost (Some refusal) = ⊥

@@ -1,6 +1,6 @@
 //! `announce`, `announce_reserve` and `submit`: an auction begins, and takes seals.
 
-ghost use Rattle.std.specs.Prelude.{◌≡◌, ◌+◌, ◌<◌, ◌≤◌, ◌^◌, ℕ, IfNone, IfSome, IfOk, IsErrOf, List, Some, length, true, false};
+ghost use Rattle.std.specs.Prelude.{◌≡◌, ◌+◌, ◌<◌, ◌≤◌, ◌^◌, ℕ, IfNone, IfSome, IfOk, IsErrOf, List, None, Some, length, true, false};
 ghost use Rattle.std.specs.Result.{result_err};
 ghost use Rattle.vk_residue.specs.Limits.{IsSize};
 ghost use Rattle.vk_seal.specs.Values.{IsSeal, IsSecret};
@@ -9,6 +9,7 @@ ghost use Rattle.vk_house.specs.Commands.{announcing, Submit};
 ghost use Rattle.vk_house.specs.Deciding.{Decides};
 ghost use Rattle.vk_house.specs.Replies.{Done, Position};
 ghost use Rattle.vk_house.specs.Tests.{not_taking};
+ghost use Rattle.vk_house.specs.Refusals.{refusal_of};
 ghost use Rattle.vk_house.specs.Steps.{step_at};
 
 use crate::errors::HouseErr;
@@ -29,7 +30,8 @@ fn terms_of(reserve: Option<u64>) -> (u32, u64)
     }
 }
 
-/// The auction that begins with that reserve, if one is named, by what was found under the id.
+/// The auction that begins with that reserve, if one is named, by what was found under the id. It
+/// takes no memory.
 #[tactic(auto, unfolding(crate::specs::Steps::step_at, vk_keeper::specs::Joining::first_of))]
 pub fn decide_announce(
     alloc: Global,
@@ -45,6 +47,7 @@ pub fn decide_announce(
         (step_at (announcing id.now width lanes reserve) found) }
     ensures right { IfOk result IsAuction }
     ensures id { IfOk result (λ auction. auction.id ≡ id.now) }
+    ensures memory { IsErrOf result HouseErr.NoMemory → ⊥ }
 {
     if found.is_some() {
         return Err(HouseErr::Known);
@@ -84,7 +87,8 @@ pub struct Joined {
     pub position: u32,
 }
 
-/// What `submit` keeps and answers, by what was found under the id.
+/// What `submit` keeps and answers, by what was found under the id. A refusal is told whatever
+/// memory there is.
 #[tactic(auto, unfolding(crate::specs::Steps::step_at, vk_keeper::specs::Joining::first_of))]
 pub fn decide_submit(found: Option<Auction>, seal: Seal, secret: Secret) -> Result<Joined, HouseErr>
     requires found { IfSome found IsAuction }
@@ -99,6 +103,8 @@ pub fn decide_submit(found: Option<Auction>, seal: Seal, secret: Secret) -> Resu
     ensures id { (id : List ℕ) → IfSome found (λ auction. auction.id ≡ id)
         → IfOk result (λ joined. joined.auction.id ≡ id) }
     ensures inside { IsErrOf result HouseErr.KeeperFailed → ⊥ }
+    ensures memory { (id : List ℕ) → IsErrOf result HouseErr.NoMemory
+        → refusal_of (Submit id seal secret) found ≡ None }
 {
     let mut auction = found.ok_or(HouseErr::Unknown)?;
     check_taking(&auction.phase)?;

@@ -74,7 +74,7 @@ impl PhaseName {
     }
 }
 
-/// What `show` answers of the auction that was found.
+/// What `show` answers of the auction that was found. It takes no memory.
 #[tactic(auto, unfolding(crate::specs::Steps::step_at, vk_keeper::specs::Joining::first_of))]
 pub fn decide_show(found: Option<Auction>) -> Result<Standing, HouseErr>
     requires { IfSome found IsAuction }
@@ -82,6 +82,7 @@ pub fn decide_show(found: Option<Auction>) -> Result<Standing, HouseErr>
         → Decides (λ standing. record { reply = Stands standing; kept = None }) result
         (step_at (Show id) found) }
     ensures inside { IsErrOf result HouseErr.KeeperFailed → ⊥ }
+    ensures memory { IsErrOf result HouseErr.NoMemory → ⊥ }
 {
     let auction = found.ok_or(HouseErr::Unknown)?;
     let standing = Standing::of(&auction);

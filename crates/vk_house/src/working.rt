@@ -1,13 +1,13 @@
 //! `prove` and `answer`: the work on an auction whose seals are taken.
 
-ghost use Rattle.std.specs.Prelude.{◌≡◌, ◌≤◌, ℕ, IfSome, IfOk, IsErrOf, IsSome, List, None, Some, length};
+ghost use Rattle.std.specs.Prelude.{◌≡◌, ◌≤◌, ℕ, IfSome, IfOk, IsErrOf, IsSome, is_some, List, None, Some, length};
 ghost use Rattle.std.specs.Result.{result_err};
 ghost use Rattle.vk_reply.specs.Values.{IsChallenge};
 ghost use Rattle.vk_keeper.specs.Auctions.{IsAuction, seed_of, challenge_of};
-ghost use Rattle.vk_job.specs.Jobs.{dry_in};
 ghost use Rattle.vk_house.specs.Commands.{Prove, Answer};
-ghost use Rattle.vk_house.specs.Deciding.{Decides, IsDecisionOn, own_dry, work_step, step_of, phased};
-ghost use Rattle.vk_house.specs.Tests.{dry_seed, no_seals, other_seed, still_taking, other_length, other_than};
+ghost use Rattle.vk_house.specs.Deciding.{Decides, IsDecisionOn, IsDryAtMost, own_dry, work_step, step_of, phased};
+ghost use Rattle.vk_house.specs.Tests.{no_seals, other_seed, still_taking, other_length, other_than, other_challenge};
+ghost use Rattle.vk_house.specs.Refusals.{refusal_of};
 ghost use Rattle.vk_house.specs.Steps.{step_at, phase_proved, phase_answered};
 
 use crate::errors::HouseErr;
@@ -84,8 +84,8 @@ fn proved_phase(phase: &Phase, seed: &[u8; 32]) -> Option<Phase>
     }
 }
 
-/// What `prove` answers and keeps, by what was found under the id. A dry seed is told whatever
-/// memory there is.
+/// What `prove` answers and keeps, by what was found under the id. A refusal, a dry seed too, is
+/// told whatever memory there is.
 #[tactic(auto, unfolding(crate::specs::Steps::step_at, vk_keeper::specs::Joining::first_of))]
 pub fn decide_prove(
     alloc: Global,
@@ -97,8 +97,8 @@ pub fn decide_prove(
     ensures inside { IsErrOf result HouseErr.KeeperFailed → ⊥ }
     ensures on { IfOk result (IsDecisionOn found) }
     ensures seed { IfOk result (λ decision. seed_of decision.job.auction.phase ≡ Some seed.now) }
-    ensures memory { IsErrOf result HouseErr.NoMemory
-        → IfSome found (λ auction. dry_seed (dry_in auction seed.now) ≡ None) }
+    ensures memory { (id : List ℕ) → IsErrOf result HouseErr.NoMemory
+        → refusal_of (Prove id seed.now) found ≡ None }
 {
     let auction = found.ok_or(HouseErr::Unknown)?;
     check_seals(&auction)?;
@@ -141,23 +141,34 @@ fn copy_challenge(alloc: Global, challenge: &Challenge) -> Result<Challenge, NoM
     })
 }
 
-/// The challenge that is kept, where it is another one.
-fn other_kept(
-    alloc: Global,
-    phase: &Phase,
-    challenge: &Challenge,
-) -> Result<Option<Challenge>, NoMemory>
-    ensures { IfOk result (λ kept. kept ≡ other_than challenge.now (challenge_of phase.now)) }
+/// The auction, where no other challenge is kept of it. It takes no memory.
+fn check_challenge(auction: Auction, challenge: &Challenge) -> Result<Auction, HouseErr>
+    ensures other { result_err result ≡ other_challenge challenge.now auction.phase }
+    ensures same { IfOk result (λ checked. checked ≡ auction) }
+{
+    if !is_other(&auction.phase, challenge) {
+        return Ok(auction);
+    }
+    let Auction { phase, .. } = auction;
+    match phase {
+        Phase::Answered {
+            challenge: kept,
+            ..
+        } => Err(HouseErr::OtherChallenge { kept }),
+        _ => unreachable!(),
+    }
+}
+
+/// Whether another challenge is kept.
+fn is_other(phase: &Phase, challenge: &Challenge) -> bool
+    ensures { result ≡ is_some (other_than challenge.now (challenge_of phase.now)) }
 {
     match phase {
         Phase::Answered {
             challenge: kept,
             ..
-        } if kept.bits.as_slice() != challenge.bits.as_slice() => {
-            let copy = copy_challenge(alloc, kept)?;
-            Ok(Some(copy))
-        }
-        _ => Ok(None),
+        } => kept.bits.as_slice() != challenge.bits.as_slice(),
+        _ => false,
     }
 }
 
@@ -181,7 +192,8 @@ fn answered_phase(
     }
 }
 
-/// What `answer` answers and keeps, by what was found under the id.
+/// What `answer` answers and keeps, by what was found under the id. A refusal, but for a dry seed,
+/// is told whatever memory there is.
 #[tactic(auto, unfolding(crate::specs::Steps::step_at, vk_keeper::specs::Joining::first_of))]
 pub fn decide_answer(
     alloc: Global,
@@ -196,13 +208,13 @@ pub fn decide_answer(
     ensures on { IfOk result (IsDecisionOn found) }
     ensures answered { IfOk result
         (λ decision. challenge_of decision.job.auction.phase ≡ Some challenge.now) }
+    ensures memory { (id : List ℕ) → IsErrOf result HouseErr.NoMemory
+        → IsDryAtMost (refusal_of (Answer id challenge.now) found) }
 {
     let auction = found.ok_or(HouseErr::Unknown)?;
     check_proved(&auction.phase)?;
     check_length(&auction, challenge)?;
-    if let Some(kept) = other_kept(alloc, &auction.phase, challenge)? {
-        return Err(HouseErr::OtherChallenge { kept });
-    }
+    let auction = check_challenge(auction, challenge)?;
     let phase = answered_phase(alloc, &auction.phase, challenge)?;
     let decision = work_in(alloc, auction, phase);
     decision

@@ -9,3 +9,4 @@ pub mod TwoLaw
 pub mod Acceptance
 pub mod TwoValues
 pub mod Refusals
+pub mod Wanting

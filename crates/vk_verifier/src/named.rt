@@ -1,11 +1,12 @@
 // Files by their names, each from its first line on.
-ghost use Rattle.std.specs.Prelude.{◌≡◌, ℕ, List, IfSome};
+ghost use Rattle.std.specs.Prelude.{◌≡◌, ℕ, List, IfSome, IsErrOf};
 ghost use Rattle.std.specs.FinMap as map;
 ghost use Rattle.vk_io.specs.Faults.{Causes};
 ghost use Rattle.vk_io.specs.Files.{Files};
 ghost use Rattle.vk_lines.specs.Lines.{OnlyReads, Starts, rest_of};
 ghost use Rattle.vk_lines.specs.Gives.{Gives};
 ghost use Rattle.vk_verifier.specs.Verdicts.{begun_file, of_attempt, of_begun, three_rests, unread_file};
+ghost use Rattle.vk_verifier.specs.Wanting.{MemoryWasWanting};
 ghost use Rattle.vk_verifier.specs.Two.{of_two};
 ghost use Rattle.vk_verifier.specs.TwoBoards.{five_rests, named_rests};
 ghost use Rattle.vk_verifier.specs.Answers.{begun_answer};
@@ -84,10 +85,12 @@ impl OneReply<'_> {
 
 impl TwoReplies<'_> {
     /// Begins to read the files. Errs as for one challenge.
+    #[tactic(auto, using(crate::specs::Wanting::memory_was_wanting))]
     pub fn begin<S: Shelf>(&self, alloc: Global, shelf: &mut S) -> Result<TwoAttempts, VErr>
         ensures modelled { IfSome (S.held shelf.old)
             (λ files. Gives unread_file (λ two. of_two five_rests two files) result
             (named_rests files self.now)) }
+        ensures wanting { IsErrOf result VErr.NoMemory → MemoryWasWanting }
         ensures shelf { OnlyReads S.held S.Shelf.faults VErr.Failed result shelf.old shelf.new }
     {
         let board = begin(alloc, shelf, self.board, Part::Board)?;

@@ -1,5 +1,5 @@
 // Two replies side by side, behind a front.
-ghost use Rattle.std.specs.Prelude.{◌≡◌, ◌⊎◌, ◌≤◌, ◌<◌, ◌+◌, ℕ, Some, None, Result, Ok, IsSome, IsSomeAnd, IfSome, IfOk, IfErr, OnOk};
+ghost use Rattle.std.specs.Prelude.{◌≡◌, ◌⊎◌, ◌≤◌, ◌<◌, ◌+◌, ℕ, Some, None, Result, Ok, IsSome, IsSomeAnd, IfSome, IfOk, IfErr, OnOk, IsErrOf};
 ghost use Rattle.vk_io.specs.Faults.{Causes};
 ghost use Rattle.vk_io.specs.Files.{Files};
 ghost use Rattle.vk_lines.specs.Lines.{OnlyReads};
@@ -10,6 +10,7 @@ ghost use Rattle.vk_verifier.specs.declared.stage.Stage.TheVariants.{Running};
 ghost use Rattle.vk_verifier.specs.Statement.{IsStatement};
 ghost use Rattle.vk_verifier.specs.Behind.{Judges};
 ghost use Rattle.vk_verifier.specs.Answers.{start_answer, step_answer};
+ghost use Rattle.vk_verifier.specs.Wanting.{MemoryWasWanting};
 ghost use Rattle.vk_verifier.specs.Two.{GivesLane, GoesOn, Ahead, Rests, Refuses, BothAreAccepted, IsBase, IsTwoLane, IsCourse, IsRight, IsNextLane, IsOver, HasBase, ahead_on, ahead_by, ahead_behind, ahead_of, of_two, rests_of, finding_of, base_of, base_behind, base_in, given_of};
 
 use crate::answers::Fault;
@@ -44,6 +45,7 @@ impl Model for LaneChecker {
 impl LaneChecker {
     /// Reads both challenges and the heads of both replies; the file is read up to its first lane,
     /// and this is the statement of its front. Errs where the shelf fails, and for want of memory.
+    #[tactic(auto, using(crate::specs::Wanting::memory_was_wanting))]
     pub fn begin<S: Shelf>(
         alloc: Global,
         shelf: &mut S,
@@ -59,6 +61,7 @@ impl LaneChecker {
         ensures statement { IfOk result
             (λ checker. IfSome (base_of checker) (λ base. base.statement ≡ statement)) }
         ensures none_given { IfOk result (λ checker. given_of checker ≡ 0) }
+        ensures wanting { IsErrOf result OutsideErr.NoMemory → MemoryWasWanting }
         ensures shelf { OnlyReads S.held S.Shelf.faults OutsideErr.Failed result shelf.old
             shelf.new }
     {
@@ -82,6 +85,7 @@ impl LaneChecker {
     /// Gives the next lane, where both replies are accepted so far, and none where every lane was
     /// given or one of the replies has its fault in the lane or before it. What they come to is
     /// known then.
+    #[tactic(auto, using(crate::specs::Wanting::memory_was_wanting))]
     pub fn next_lane<S: Shelf>(
         self,
         alloc: Global,
@@ -93,6 +97,7 @@ impl LaneChecker {
         ensures none { IfOk result
             (λ next. next.1 ≡ None → IsOver next.0 × (given_of next.0 ≡ given_of self)) }
         ensures base { IfOk result (λ next. base_of next.0 ≡ base_of self) }
+        ensures wanting { IsErrOf result OutsideErr.NoMemory → MemoryWasWanting }
         ensures shelf { OnlyReads S.held S.Shelf.faults OutsideErr.Failed result shelf.old
             shelf.new }
     {

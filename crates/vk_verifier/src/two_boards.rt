@@ -1,5 +1,5 @@
 // Two replies to a board, side by side.
-ghost use Rattle.std.specs.Prelude.{◌≡◌, ℕ, Some, None, Result, Ok, Err, IsSomeAnd, IfSome, IfOk};
+ghost use Rattle.std.specs.Prelude.{◌≡◌, ℕ, Some, None, Result, Ok, Err, IsSomeAnd, IfSome, IfOk, IsErrOf};
 ghost use Rattle.vk_io.specs.Faults.{Causes};
 ghost use Rattle.vk_lines.specs.Lines.{OnlyReads, Rest};
 ghost use Rattle.vk_lines.specs.Gives.{Gives};
@@ -7,6 +7,7 @@ ghost use Rattle.vk_board.specs.declared.front.Front.{Front};
 ghost use Rattle.vk_board.specs.Fronts.{IsFront};
 ghost use Rattle.vk_verifier.specs.declared.answers.BoardVerdict.{BoardVerdict};
 ghost use Rattle.vk_verifier.specs.declared.two_boards.BoardStage.TheVariants.{Behind};
+ghost use Rattle.vk_verifier.specs.Wanting.{MemoryWasWanting};
 ghost use Rattle.vk_verifier.specs.Behind.{Judges};
 ghost use Rattle.vk_verifier.specs.Verdicts.{plan_of, unread_file};
 ghost use Rattle.vk_verifier.specs.Two.{BothAreAccepted, IsNextLane, IsOver, given_of, of_two};
@@ -64,7 +65,7 @@ impl TwoChecker {
     /// Begins the files, and reads the board before its first lane, both challenges and the heads
     /// of both replies. Errs where a file is missing or longer than 2^30 bytes, and names the first
     /// that is, in the order of the names; where the shelf fails; and for want of memory.
-    #[tactic(auto, using(crate::proofs::Attempts::two_on_begun, crate::proofs::Attempts::base_on_begun))]
+    #[tactic(auto, using(crate::proofs::Attempts::two_on_begun, crate::proofs::Attempts::base_on_begun, crate::specs::Wanting::memory_was_wanting))]
     pub fn start<S: Shelf>(
         alloc: Global,
         shelf: &mut S,
@@ -81,6 +82,7 @@ impl TwoChecker {
             (λ files. Gives unread_file (λ checker. board_base checker) result
             (base_on files board.now challenge1.now reply1.now challenge2.now reply2.now)) }
         ensures none_given { IfOk result (λ checker. board_given checker ≡ 0) }
+        ensures wanting { IsErrOf result VErr.NoMemory → MemoryWasWanting }
         ensures shelf { OnlyReads S.held S.Shelf.faults VErr.Failed result shelf.old shelf.new }
     {
         let names = TwoReplies {

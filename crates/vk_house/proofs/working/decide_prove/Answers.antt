@@ -1,6 +1,6 @@
 use Rattle.std.proofs.Common.{rules, subst}
 use Rattle.vk_house.specs.Deciding.{Decides, step_of}
-use Rattle.vk_house.proofs.Deciding.{prove_step, prove_not_dry}
+use Rattle.vk_house.proofs.Deciding.{prove_step, prove_unrefused}
 use Rattle.vk_house.proofs.working.decide_prove.Goals as goal
 
 pub returns-clause-decided : goal.returns-clause-decided
@@ -12,7 +12,7 @@ returns-clause-decided c = λ id.
     c.work_in-decision.ensures.decided
 
 pub returns-clause-memory : goal.returns-clause-memory
-returns-clause-memory c = λ is.
-    prove_not_dry c.in_ok-auction.auction c.args.found c.proved_phase-phase.result c.args.seed.now
-    (search rules) c.in_ok-check_seed.ensures c.proved_phase-phase.ensures
-    (c.work_in-decision.ensures.memory is)
+returns-clause-memory c = λ id is.
+    prove_unrefused c.in_ok-auction.auction c.args.found c.proved_phase-phase.result id
+    c.args.seed.now (search rules) c.in_ok-check_seals.ensures c.in_ok-check_seed.ensures
+    c.proved_phase-phase.ensures (c.work_in-decision.ensures.memory is)
