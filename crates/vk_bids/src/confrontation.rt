@@ -1,5 +1,5 @@
 // A bidder's secret against two replies to a board.
-ghost use Rattle.std.specs.Prelude.{◌≡◌, ◌<◌, ◌≤◌, ◌^◌, ℕ, List, All, IfOk, IfSome, Ok, Result, length};
+ghost use Rattle.std.specs.Prelude.{◌≡◌, ◌<◌, ◌≤◌, ◌^◌, ℕ, List, All, IfOk, IfSome, IsErrOf, Ok, Result, length};
 ghost use Rattle.std.specs.FinMap as map;
 ghost use Rattle.vk_io.specs.Faults.{Causes};
 ghost use Rattle.vk_io.specs.Files.{Files};
@@ -8,6 +8,7 @@ ghost use Rattle.vk_lines.specs.Lines.{OnlyReads, GivesReading, Rest, Starts, re
 ghost use Rattle.vk_seal.specs.Made.{seal_of};
 ghost use Rattle.vk_seal.specs.Values.{IsSecret};
 ghost use Rattle.vk_board.specs.Fronts.{IsFront};
+ghost use Rattle.vk_verifier.specs.Wanting.{MemoryWasWanting};
 ghost use Rattle.vk_bids.specs.Confrontation.{OpensSecretIn, Secret, board_seal, confrontation_named, confrontation_of, confronted_found, confronted_lane, confronted_lanes, fault_of, index_of_seat, match_of, matched_by, secret_at, secret_begun, secret_in};
 ghost use Rattle.vk_bids.specs.Extraction.{Shows};
 ghost use Rattle.vk_bids.specs.Outcome.{LaneShows};
@@ -105,6 +106,7 @@ pub fn confront<S: Shelf>(
     ensures modelled { IfSome (S.held shelf.old)
         (λ files. Gives fault_of (λ confrontation. confrontation) result
         (confrontation_named files names.now)) }
+    ensures wanting { IsErrOf result (ConfrontErr.Unread VErr.NoMemory) → MemoryWasWanting }
     ensures shelf { OnlyReads S.held S.Shelf.faults (ConfrontErr.Unread VErr.Failed) result
         shelf.old shelf.new }
 {
@@ -117,10 +119,12 @@ pub fn confront<S: Shelf>(
 }
 
 /// Begins to read the secret's file.
+#[tactic(auto, using(vk_verifier::specs::Wanting::memory_was_wanting))]
 fn begin_secret<S: Shelf>(alloc: Global, shelf: &mut S, name: &str) -> Result<Lines, ConfrontErr>
     ensures modelled { IfSome (S.held shelf.old) (λ files.
         Gives fault_of (λ lines. rest_of lines files) result
         (secret_begun (map.get files name.now))) }
+    ensures wanting { IsErrOf result (ConfrontErr.Unread VErr.NoMemory) → MemoryWasWanting }
     ensures shelf { OnlyReads S.held S.Shelf.faults (ConfrontErr.Unread VErr.Failed) result
         shelf.old shelf.new }
 {
@@ -146,6 +150,7 @@ fn begun(started: Result<Lines, StartErr>) -> Result<Lines, ConfrontErr>
 }
 
 /// The secret, or the fault line of its file.
+#[tactic(auto, using(vk_verifier::specs::Wanting::memory_was_wanting))]
 fn secret_of<S: Shelf>(
     alloc: Global,
     shelf: &mut S,
@@ -154,6 +159,7 @@ fn secret_of<S: Shelf>(
     ensures modelled { IfOk result (λ secret. IfSome (S.held shelf.old) (λ files.
         secret_in (secret_at (rest_of lines.old files)) ≡ secret)) }
     ensures right { IfOk result (λ secret. IfOk secret IsSecret) }
+    ensures wanting { IsErrOf result OutsideErr.NoMemory → MemoryWasWanting }
     ensures shelf { OnlyReads S.held S.Shelf.faults OutsideErr.Failed result shelf.old shelf.new }
 {
     let read = read_secret(alloc, shelf, lines);

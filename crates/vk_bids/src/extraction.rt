@@ -1,5 +1,5 @@
 // The extraction over files.
-ghost use Rattle.std.specs.Prelude.{◌≡◌, IfOk, IfSome};
+ghost use Rattle.std.specs.Prelude.{◌≡◌, IfOk, IfSome, IsErrOf};
 ghost use Rattle.vk_io.specs.Reads.{OnlyReads};
 ghost use Rattle.vk_lines.specs.Gives.{Gives};
 ghost use Rattle.vk_board.specs.Fronts.{front_with};
@@ -7,6 +7,7 @@ ghost use Rattle.vk_verifier.specs.Verdicts.{unread_file};
 ghost use Rattle.vk_verifier.specs.declared.two_boards.BoardStage.TheVariants.{Behind};
 ghost use Rattle.vk_verifier.specs.Two.{given_of};
 ghost use Rattle.vk_verifier.specs.TwoBoards.{IsBoardCourse, board_ahead, board_base, board_given};
+ghost use Rattle.vk_verifier.specs.Wanting.{MemoryWasWanting};
 ghost use Rattle.vk_bids.specs.Extraction.{AreOfFront, Shows, extraction_named, extraction_of, extraction_with};
 ghost use Rattle.vk_bids.specs.LaneExtraction.{OpensLanes};
 
@@ -56,6 +57,7 @@ pub fn extract<S: Shelf>(
     ensures modelled { IfSome (S.held shelf.old) (λ files.
         Gives unread_file (λ extraction. extraction) result (extraction_named files names.now)) }
     ensures shows { IfOk result Shows }
+    ensures wanting { IsErrOf result VErr.NoMemory → MemoryWasWanting }
     ensures shelf { OnlyReads S.held S.Shelf.faults VErr.Failed result shelf.old shelf.new }
 {
     let checker = begin(alloc, shelf, names)?;
@@ -74,6 +76,7 @@ pub(crate) fn begin<S: Shelf>(
         (λ checker. extraction_of (board_base checker) (board_ahead checker files)) result
         (extraction_named files names.now)) }
     ensures none_given { IfOk result (λ checker. board_given checker ≡ 0) }
+    ensures wanting { IsErrOf result VErr.NoMemory → MemoryWasWanting }
     ensures shelf { OnlyReads S.held S.Shelf.faults VErr.Failed result shelf.old shelf.new }
 {
     let checker = TwoChecker::start(
@@ -98,6 +101,7 @@ pub(crate) fn extract_rest<S: Shelf>(
     ensures modelled { IfOk result (λ extraction. IfSome (S.held shelf.old) (λ files.
         extraction_of (board_base checker) (board_ahead checker files) ≡ extraction)) }
     ensures shows { IfOk result Shows }
+    ensures wanting { IsErrOf result OutsideErr.NoMemory → MemoryWasWanting }
     ensures shelf { OnlyReads S.held S.Shelf.faults OutsideErr.Failed result shelf.old shelf.new }
 {
     match checker.into_course() {
@@ -124,6 +128,7 @@ fn extract_course<S: Shelf>(
         extraction_of (board_base (Behind course)) (board_ahead (Behind course) files)
         ≡ extraction)) }
     ensures shows { IfOk result Shows }
+    ensures wanting { IsErrOf result OutsideErr.NoMemory → MemoryWasWanting }
     ensures shelf { OnlyReads S.held S.Shelf.faults OutsideErr.Failed result shelf.old shelf.new }
 {
     let head = course.head;

@@ -1,8 +1,9 @@
 // What is gathered of the lanes that two replies give.
-ghost use Rattle.std.specs.Prelude.{◌≡◌, ◌≤◌, ◌++◌, Ok, Err, All, IfErr, IfOk, IfSome, OnErr, OnOk, false, true};
+ghost use Rattle.std.specs.Prelude.{◌≡◌, ◌≤◌, ◌++◌, Ok, Err, All, IfErr, IfOk, IfSome, IsErr, OnErr, OnOk, false, true};
 ghost use Rattle.std.specs.Option.{option_to_list};
 ghost use Rattle.vk_row.specs.Lanes.{IsAccepted};
 ghost use Rattle.vk_verifier.specs.Two.{IsTwoLane, base_of, given_of};
+ghost use Rattle.vk_verifier.specs.Wanting.{MemoryWasWanting};
 ghost use Rattle.vk_bids.specs.Gathering.{IsClashOf, IsLastLane, added, bids_of, lane_found};
 ghost use Rattle.vk_bids.specs.Opening.{IsCaseOf, LaneOpens};
 
@@ -36,6 +37,7 @@ pub fn with_lane(
     ensures clash { IfSome (base_of checker.now) (λ base.
         IfErr (added base.statement (given_of checker.now) lane.now before)
         (λ two. result ≡ Ok (Err two))) }
+    ensures wanting { IsErr result → MemoryWasWanting }
     ensures opens { IfSome (base_of checker.now)
         (λ base. IfOk before (All (LaneOpens base.statement))
         → IfOk result (λ after. IfOk after (All (LaneOpens base.statement)))) }
@@ -50,6 +52,7 @@ pub fn with_lane(
 }
 
 /// With the bids of the lane, or its first clash, which is answered whatever memory there is.
+#[tactic(auto, using(vk_verifier::specs::Wanting::memory_was_wanting))]
 fn with_more(
     alloc: Global,
     checker: &LaneChecker,
@@ -62,6 +65,7 @@ fn with_more(
     ensures clash { IfSome (base_of checker.now) (λ base.
         IfErr (lane_found base.statement (given_of checker.now) lane.now)
         (λ two. result ≡ Ok (Err two))) }
+    ensures wanting { IsErr result → MemoryWasWanting }
     ensures opens { IfSome (base_of checker.now) (λ base. All (LaneOpens base.statement) before
         → IfOk result (λ after. IfOk after (All (LaneOpens base.statement)))) }
 {

@@ -1,8 +1,9 @@
 // What two replies come to behind a front.
-ghost use Rattle.std.specs.Prelude.{◌≡◌, All, IfOk, IfSome, IsSomeAnd};
+ghost use Rattle.std.specs.Prelude.{◌≡◌, All, IfOk, IfSome, IsErrOf, IsSomeAnd};
 ghost use Rattle.vk_io.specs.Reads.{OnlyReads};
 ghost use Rattle.vk_verifier.specs.Statement.{IsStatement};
 ghost use Rattle.vk_verifier.specs.Two.{IsOver, ahead_of, base_of, finding_of, given_of, of_two};
+ghost use Rattle.vk_verifier.specs.Wanting.{MemoryWasWanting};
 ghost use Rattle.vk_bids.specs.LaneExtraction.{AreOf, AreOfBase, ComesTo, OpensLanes, lane_extraction, lane_extraction_behind, opened_of};
 ghost use Rattle.vk_bids.specs.Extractions.{found_by, given_by};
 ghost use Rattle.vk_bids.specs.Opening.{LaneOpens};
@@ -40,6 +41,7 @@ pub fn extract_behind<S: Shelf>(
         of_two (lane_extraction_behind statement) two files ≡ found)) }
     ensures opens { IfOk result OpensLanes }
     ensures statement { IfOk result (AreOf statement) }
+    ensures wanting { IsErrOf result OutsideErr.NoMemory → MemoryWasWanting }
     ensures shelf { OnlyReads S.held S.Shelf.faults OutsideErr.Failed result shelf.old shelf.new }
 {
     let checker = LaneChecker::begin(alloc, shelf, statement, two)?;
@@ -61,6 +63,7 @@ pub fn extract_lanes<S: Shelf>(
         lane_extraction (base_of checker) (ahead_of checker files) ≡ found)) }
     ensures opens { IfOk result OpensLanes }
     ensures statement { IfOk result (AreOfBase (base_of checker)) }
+    ensures wanting { IsErrOf result OutsideErr.NoMemory → MemoryWasWanting }
     ensures shelf { OnlyReads S.held S.Shelf.faults OutsideErr.Failed result shelf.old shelf.new }
 {
     let (checker, gathered) = gather(alloc, shelf, checker)?;
@@ -81,6 +84,7 @@ fn gather<S: Shelf>(
     ensures base { IfOk result (λ end. base_of end.0 ≡ base_of checker) }
     ensures opens { IfOk result
         (λ end. IfSome (base_of end.0) (λ base. IfOk end.1 (All (LaneOpens base.statement)))) }
+    ensures wanting { IsErrOf result OutsideErr.NoMemory → MemoryWasWanting }
     ensures shelf { OnlyReads S.held S.Shelf.faults OutsideErr.Failed result shelf.old shelf.new }
 {
     let mut checker = checker;
