@@ -1,5 +1,5 @@
 -- What was kept before auctions had a version and a reserve goes on as before, lifted.
-use Rattle.std.proofs.Common.{◌≡◌, ℕ, Bool, cond, List, [], ◌∷◌, map, Option, Some, None, option_map, unwrap_or, refl, sym, ap, ◌∙◌}
+use Rattle.std.proofs.Common.{◌≡◌, ℕ, ◌-◌, ◌++◌, length, slice_index, Bool, cond, List, [], ◌∷◌, map, Option, Some, None, option_map, unwrap_or, refl, sym, ap, ◌∙◌}
 use Rattle.std.specs.List.{All}
 use Rattle.std.specs.Option.{option_or}
 use Rattle.std.specs.Ordering.{eq_by_cmp, nat_cmp}
@@ -8,6 +8,10 @@ use Rattle.std.specs.FinMap.{get, insert, get-insert, same_map}
 use Rattle.std.proofs.lemmas.Cmp.{nat_list_cmp_total}
 use Rattle.std.proofs.lemmas.List.Elements.{All-head, All-tail}
 use Rattle.std.proofs.lemmas.Map.Lookups.{exact_bytes}
+use Rattle.vk_vickrey.specs.declared.sales.Sale.{Sale}
+use Rattle.vk_board.specs.Values.{head_with}
+use Rattle.vk_board.specs.Texts.{behind_text, board_text, head_text}
+use Rattle.vk_reply.specs.declared.challenge.Challenge.{Challenge}
 use Rattle.vk_keeper.specs.declared.auction.FirstAuction.{FirstAuction}
 use Rattle.vk_keeper.specs.declared.auction.Phase.{Phase}
 use Rattle.vk_keeper.specs.declared.auction.Auction.{Auction}
@@ -16,8 +20,10 @@ use Rattle.vk_keeper.specs.First.{FirstLedger, lifted, lifted_ledger}
 use Rattle.vk_keeper.specs.Joining.{first_of}
 use Rattle.vk_keeper.specs.Ledgers.{Ledger}
 use Rattle.vk_keeper.proofs.Firsts.{get_lifted, lifted_if}
-use Rattle.vk_job.specs.Jobs.{dry_in, proof_with, sale_in, values_of}
-use Rattle.vk_job.specs.Proofs.{ProofValue, source_of, first_dry_in}
+use Rattle.vk_job.specs.Jobs.{dry_in, proof_of, proof_with, sale_in, values_of}
+use Rattle.vk_job.specs.Outcome.{position_in, price_in}
+use Rattle.vk_job.specs.Proofs.{ProofValue, source_of, first_dry_in, lanes_in, reply_in, seal_lines_of}
+use Rattle.vk_job.specs.Published.{board_of, head_of, reply_of}
 use Rattle.vk_job.proofs.Held.{first_plan_is, first_values_are}
 use Rattle.vk_job.proofs.Sales.{sale_without}
 use Rattle.vk_house.specs.declared.errors.HouseErr.{HouseErr}
@@ -25,7 +31,7 @@ use Rattle.vk_house.specs.Commands.{HouseCommand, Announce, AnnounceReserve, Sub
 use Rattle.vk_house.specs.Tests.{still_taking, no_seals, other_seed, other_length, other_challenge, dry_seed}
 use Rattle.vk_house.specs.Replies.{HouseReply, Work, auctions}
 use Rattle.vk_house.specs.Steps.{Step, step_at, ledger_after, house_step, house_steps}
-use Rattle.vk_house.specs.Former.{FirstReply, FirstStep, first_auctions, first_outcome, first_proof, first_step_at, first_house_step, first_house_steps, lifted_outcome, lifted_reply}
+use Rattle.vk_house.specs.Former.{FirstReply, FirstStep, first_auctions, first_outcome, first_proof, first_seed, first_board, first_reply, first_step_at, first_house_step, first_house_steps, lifted_outcome, lifted_reply}
 use Rattle.vk_house.specs.Shaped as shaped
 
 -- ---- what is made of an auction
@@ -45,6 +51,28 @@ same_dry first seed = ap (λ proof. dry_seed (first_dry_in (source_of proof)))
 
 same_sale : (first : FirstAuction) → sale_in (lifted first) ≡ lifted_outcome (first_outcome first)
 same_sale first = sale_without (map (λ row. row.secret.bid) first.seals)
+
+-- ---- the files that are made of it
+
+-- the board of an auction with this sale and this proof
+abbrev board_with : FirstAuction → Sale → ProofValue → List ℕ
+board_with first sale proof =
+    head_text (head_with 1 first.id first.width first.lanes (length first.seals) 0
+    (option_map (λ position. slice_index (map (λ row. row.seal.seat) first.seals) (position - 1))
+    (position_in sale)) (price_in sale))
+    ++ behind_text (map seal_lines_of first.seals) (lanes_in proof)
+
+pub same_board : (first : FirstAuction) → board_of (lifted first) ≡ first_board first
+unfolding board_text head_text head_of
+same_board first =
+    ap (λ sale. board_with first sale (proof_of (lifted first))) (same_sale first)
+    ∙ ap (board_with first (lifted_outcome (first_outcome first)))
+    (same_proof first (first_seed first))
+
+pub same_shown : (first : FirstAuction) (challenge : Challenge)
+    → reply_of (lifted first) challenge ≡ first_reply first challenge
+same_shown first challenge =
+    ap (λ proof. reply_in proof challenge.bits) (same_proof first (first_seed first))
 
 -- ---- a step by what stands under the id
 

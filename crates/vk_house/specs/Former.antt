@@ -1,16 +1,21 @@
 -- The house from before auctions had a version and a reserve: the same table, over what was kept
 -- then.
-use Rattle.std.specs.Prelude.{ℕ, List, [], ◌∷◌, ◌++◌, length, map, Option, None}
+use Rattle.std.specs.Prelude.{ℕ, ◌-◌, List, [], ◌∷◌, ◌++◌, length, map, slice_index, codes, Option, None, unwrap_or}
 use Rattle.vk_vickrey.specs.declared.outcomes.VickreyOutcome.{VickreyOutcome}
 use Rattle.vk_vickrey.specs.declared.sales.Sale.{Sale}
 use Rattle.vk_vickrey.specs.declared.sales.Sale.TheVariants.{Sold}
 use Rattle.vk_vickrey.specs.VickreyPlans.{vickrey_plan, honest_values}
+use Rattle.vk_lines.specs.Forms.{line, spaced}
+use Rattle.vk_lines.specs.Tokens.{hex_text}
+use Rattle.vk_board.specs.Texts.{counted_text}
+use Rattle.vk_reply.specs.declared.challenge.Challenge.{Challenge}
 use Rattle.vk_keeper.specs.declared.auction.FirstAuction.{FirstAuction}
 use Rattle.vk_keeper.specs.declared.auction.Phase.TheVariants.{Taking}
+use Rattle.vk_keeper.specs.Auctions.{seed_of}
 use Rattle.vk_keeper.specs.First.{FirstLedger, lifted}
 use Rattle.vk_keeper.specs.Joining.{held_refusal}
 use Rattle.vk_job.specs.Outcome.{outcome_of}
-use Rattle.vk_job.specs.Proofs.{ProofValue, source_of, first_dry_in}
+use Rattle.vk_job.specs.Proofs.{ProofValue, source_of, first_dry_in, file_of, reply_in}
 use Rattle.vk_house.specs.declared.standing.PhaseName.{PhaseName}
 use Rattle.vk_house.specs.declared.standing.Standing.{Standing}
 use Rattle.vk_house.specs.Commands.{HouseCommand}
@@ -40,6 +45,34 @@ first_proof first seed =
       values = honest_values (length first.seals) first.width outcome.position outcome.price
           (first_bids first);
     }
+
+-- the seed that it kept
+abbrev pub first_seed : FirstAuction → List ℕ
+first_seed first = unwrap_or (seed_of first.phase) []
+
+-- the seat that won: an auction without a reserve sold always
+abbrev pub first_winner : FirstAuction → ℕ
+first_winner first =
+    slice_index (map (λ row. row.seal.seat) first.seals) ((first_outcome first).position - 1)
+
+-- what stood on its board before the seals: seven lines, and none of a reserve
+abbrev pub first_head_text : FirstAuction → List ℕ
+first_head_text first =
+    counted_text (codes "vickrey-board") 1
+    ++ (line (spaced (codes "auction" ∷ hex_text first.id ∷ []))
+    ++ (counted_text (codes "width") first.width
+    ++ (counted_text (codes "lanes") first.lanes
+    ++ (counted_text (codes "seals") (length first.seals)
+    ++ (counted_text (codes "winner") (first_winner first)
+    ++ counted_text (codes "price") (first_outcome first).price)))))
+
+-- the file of its board
+abbrev pub first_board : FirstAuction → List ℕ
+first_board first = file_of (first_head_text first) (first_proof first (first_seed first))
+
+-- the file of its reply to a challenge
+abbrev pub first_reply : FirstAuction → Challenge → List ℕ
+first_reply first challenge = reply_in (first_proof first (first_seed first)) challenge.bits
 
 -- how it stood
 pub record FirstStanding : Type 0 where

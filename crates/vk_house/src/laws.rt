@@ -7,9 +7,10 @@ ghost use Rattle.vk_keeper.specs.declared.auction.FirstAuction.{FirstAuction};
 ghost use Rattle.vk_keeper.specs.First.{FirstLedger, lifted, lifted_ledger};
 ghost use Rattle.vk_keeper.specs.Ledgers.{Ledger, IsLedger};
 ghost use Rattle.vk_job.specs.Jobs.{proof_with};
+ghost use Rattle.vk_job.specs.Published.{board_of, reply_of};
 ghost use Rattle.vk_house.specs.declared.errors.HouseErr.TheVariants.{DrySeed};
 ghost use Rattle.vk_house.specs.Commands.{HouseCommand, Answer, id_of, IsHouseCommand, NamesNoReserve};
-ghost use Rattle.vk_house.specs.Former.{first_house_steps, first_proof, lifted_reply};
+ghost use Rattle.vk_house.specs.Former.{first_house_steps, first_proof, first_board, first_reply, lifted_reply};
 ghost use Rattle.vk_house.specs.Replies.{HouseReply, Refused};
 ghost use Rattle.vk_house.specs.Steps.{house_step, house_steps, HouseCall};
 ghost use Rattle.vk_house.specs.Runs.{Event, HouseRun, events_of, alone};
@@ -69,7 +70,8 @@ pub fn kept_seeds_are_not_dry()
 
 /// A law of auctions that were kept before they had a version and a reserve: lifted, they go on as
 /// before. Whatever is asked then, if it names no reserve, is replied to as it was, and leaves the
-/// ledger that it left, lifted. What boards and replies are made from is the same too.
+/// ledger that it left, lifted. What boards and replies are made from is the same too, and so are
+/// the files of its board and of its replies, byte for byte.
 pub fn a_lifted_ledger_goes_on_as_before()
     ensures replies { (commands : List HouseCommand) (firsts : FirstLedger)
         → All NamesNoReserve commands
@@ -81,6 +83,9 @@ pub fn a_lifted_ledger_goes_on_as_before()
         ≡ lifted_ledger (first_house_steps firsts commands).1 }
     ensures proof { (first : FirstAuction) (seed : List ℕ)
         → proof_with (lifted first) seed ≡ first_proof first seed }
+    ensures board { (first : FirstAuction) → board_of (lifted first) ≡ first_board first }
+    ensures shown { (first : FirstAuction) (challenge : Challenge)
+        → reply_of (lifted first) challenge ≡ first_reply first challenge }
 {}
 
 /// A law: a ledger stays one, whatever the house is asked.
