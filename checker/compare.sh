@@ -234,9 +234,10 @@ sealed() {
   made seal $id 7 13 4 2 "${seed%7}" secret seal
   made seal $id 7 13 4 2 "${seed}7" secret seal
   for words in 'one one' 'one ./one' 'one folder' 'folder one' 'none/one one' 'house.sqlite seal' 'secret house.sqlite-wal' \
-      './house.sqlite seal' 'secret link' 'old seal' 'link other' '/dev/null /dev/null' '/dev/null /dev/../dev/null'; do
+      './house.sqlite seal' 'secret link' 'old seal' 'link other' 'pipe seal' 'secret pipe' '/dev/zero seal' \
+      '/dev/null /dev/null' '/dev/null /dev/../dev/null' '/dev/null /dev/full'; do
     case="files $words"
-    lay='mkdir folder; ln -s one link; seq 1000 >old; chmod 604 old'
+    lay='mkdir folder; ln -s one link; mkfifo pipe; seq 1000 >old; chmod 604 old'
     # shellcheck disable=SC2086
     made seal $id 7 13 4 2 "$seed" $words
   done

@@ -84,13 +84,20 @@ def same_file(name, other):
         return os.path.realpath(name) == os.path.realpath(other)
 
 
+def is_null_or_full(about):
+    """Whether it is `/dev/null` or `/dev/full`, the devices that may be written."""
+    return stat.S_ISCHR(about.st_mode) and about.st_rdev in (os.makedev(1, 3), os.makedev(1, 7))
+
+
 def write(name, lines, others=()):
     """Writes a file, for its owner alone where it is new. A store is left as it is, and so are the
-    other files of this run."""
+    other files of this run, and what is no regular file but for two devices."""
     stores = (store + end for store in (STORE, os.path.realpath(STORE)) for end in STORE_ENDS)
     kept = [*others, *map(os.fsencode, stores)]
-    # A device has no bytes that can be lost.
     is_device = os.path.exists(name) and not os.path.isfile(name)
+    if is_device and not is_null_or_full(os.stat(name)):
+        raise OSError("is no file that can be written")
+    # A device has no bytes that can be lost.
     if not is_device and any(same_file(name, other) for other in kept):
         raise OSError("may not be written")
     with open(os.open(name, os.O_WRONLY | os.O_CREAT | os.O_TRUNC, 0o600), "wb") as file:

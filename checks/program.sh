@@ -19,7 +19,7 @@ seed=$(printf '%064d' 7)
 case_of() {
   local status=$1 text=$2 error=$3
   shift 3
-  "$program" "$@" >out 2>err
+  timeout 60 "$program" "$@" >out 2>err
   local got=$?
   if [ "$got" = "$status" ] && [ "$(cat out)" = "$text" ] && [ "$(cat err)" = "$error" ]; then
     passed=$((passed + 1))
@@ -151,6 +151,21 @@ holds '' ls -A inner
 case_of 6 '' 'outside fault
 /dev/full: the disk is full' seal $id 7 15 4 2 "$seed" secret-3 /dev/full
 holds '' cmp secret-3 first
+
+# what is no regular file is neither read nor written, and no other end of a pipe is waited for
+mkfifo pipe
+ln -s pipe link
+for name in pipe link; do
+  case_of 6 '' "outside fault
+$name: it is no file that can be written" seal $id 7 15 4 2 "$seed" $name seal-3
+  case_of 6 '' "outside fault
+$name: it is no file whose bytes can be read" verify board challenge-0 $name
+done
+case_of 6 '' 'outside fault
+/dev/zero: it is no file that can be written' seal $id 7 15 4 2 "$seed" /dev/zero seal-3
+holds 'ls: cannot access '\''seal-3'\'': No such file or directory' ls seal-3
+case_of 0 'sealed seat 7 lanes 2' '' seal $id 7 15 4 2 "$seed" /dev/null seal-3
+holds '7 seal-3' wc -l seal-3
 
 # a full output: what was to be written is written, nothing is claimed to be printed
 "$program" seal $id 7 15 4 2 "$seed" secret-4 seal-4 >/dev/full 2>err
